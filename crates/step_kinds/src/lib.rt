@@ -1,13 +1,20 @@
-// A library with one function.
+//! The plain types of ntbsim's surface: sides and lanes, frames and names, the steps of a script and their answers,
+//! and the plan that a script declares.
+//!
+//! Contracts see a [`Frame`] and a [`Name`] as their lists of bytes, and [`Items`] as a list.
 #![tactic(auto)]
 
-ghost use Rattle.std.specs.Prelude.{◌≡◌};
-ghost use Rattle.step_kinds.specs.Echo.{echo_of};
+mod frame;
+mod items;
+mod names;
+mod plan;
+mod steps;
 
-// The `ensures` clause is the contract: what `echo` returns is `echo_of` of its argument, a definition
-// in `specs/Echo.antt`, which a caller's clause can cite too.
-pub fn echo(x: usize) -> usize
-    ensures { result ≡ echo_of x }
-{
-    x
-}
+pub use frame::Frame;
+pub use items::Items;
+pub use names::{LaneName, Name, Side};
+pub use plan::{Counters, DevPlan, Line, LineAnswer, PairPlan, Plan, SidePlan, Traffic};
+pub use steps::{Answer, Label, Step};
+
+#[cfg(test)]
+mod tests;

@@ -1,0 +1,64 @@
+//! Frames: what a lane carries.
+
+ghost use Rattle.std.specs.Prelude.{◌≡◌, ◌≤◌, ◌↔◌, [], length, vec_len, IfOk, IsTrue};
+
+use std::alloc::{AllocError, Global};
+use std::marker::Model;
+
+/// A list of at most 65,536 bytes. What a user sends has at least one. Contracts see the list.
+#[derive(Debug, Drop)]
+pub struct Frame {
+    bytes: Vec<u8>,
+}
+
+impl Model for Frame {
+    ghost use Rattle.std.specs.Prelude.{ℕ, List, ◌≤◌, length};
+
+    ghost Value = { List ℕ };
+
+    ghost view = { λ frame. frame.bytes.items };
+
+    ghost invariant = { λ frame. length frame.bytes.items ≤ 65536 };
+}
+
+impl Frame {
+    /// The frame of these bytes, of which there are at most 65,536. It takes no memory.
+    pub fn of_vec(bytes: Vec<u8>) -> Frame
+        requires { vec_len bytes ≤ 65536 }
+        ensures { result ≡ bytes.items }
+    {
+        Frame { bytes }
+    }
+
+    /// The number of its bytes.
+    pub fn len(&self) -> u32
+        ensures value { result ≡ length self.now }
+        ensures fits { result ≤ 65536 }
+    {
+        self.bytes.len() as u32
+    }
+
+    /// Whether it has no byte, which only a raw pair can deliver.
+    pub fn is_empty(&self) -> bool
+        ensures { IsTrue result ↔ (self.now ≡ []) }
+    {
+        self.bytes.is_empty()
+    }
+
+    /// Its bytes.
+    pub fn bytes(&self) -> &[u8]
+        ensures value { result.now ≡ self.now }
+        ensures fits { length result.now ≤ 65536 }
+    {
+        &self.bytes
+    }
+
+    /// A frame with the same bytes. The only error is want of memory.
+    pub fn copy_of(&self, alloc: Global) -> Result<Frame, AllocError>
+        ensures { IfOk result (λ copy. copy ≡ self.now) }
+    {
+        Ok(Frame {
+            bytes: Vec::from_slice(alloc, &self.bytes)?,
+        })
+    }
+}

@@ -1,0 +1,124 @@
+//! What a script declares: hosts in pairs, devices, the steps of a replay and the traffic of a threaded run.
+
+use crate::frame::Frame;
+use crate::items::Items;
+use crate::names::{LaneName, Name, Side};
+use crate::steps::{Answer, Step};
+
+/// One side of a pair, as it is declared.
+#[derive(Clone, Copy, Debug, PartialEq, Eq)]
+pub struct SidePlan {
+    /// The version of the transport that the side speaks.
+    pub version: u32,
+    /// The number of queues, 1 to 16.
+    pub queues: u32,
+    /// The number of translation windows that the side sends through, 1 to 4.
+    pub windows: u32,
+    /// The size in bytes of each window that the side sends through; the window lies in the peer's memory.
+    pub size: u64,
+    /// The size in bytes of the largest window that the side's own memory gives.
+    pub cap: u64,
+}
+
+/// A pair: two hosts joined by one bridge.
+#[derive(Drop)]
+pub struct PairPlan {
+    /// The pair's name.
+    pub name: Name,
+    /// Side A, of the first host.
+    pub a: SidePlan,
+    /// Side B, of the second host.
+    pub b: SidePlan,
+    /// The largest transfer unit in bytes, 16 to 65,536: no entry of a ring is longer.
+    pub mtu: u32,
+    /// Whether the pair starts with its link up, as after a whole handshake.
+    pub up: bool,
+    /// Whether all its posted writes are strict.
+    pub strict: bool,
+    /// Whether bytes and scratchpads may be written past the transport.
+    pub raw: bool,
+}
+
+/// A network device on one queue of one side.
+#[derive(Drop)]
+pub struct DevPlan {
+    /// The device's name.
+    pub name: Name,
+    /// The number of its pair.
+    pub pair: u32,
+    /// Its side of the pair.
+    pub side: Side,
+    /// Its queue.
+    pub queue: u32,
+    /// Its Ethernet address.
+    pub address: [u8; 6],
+    /// The device stops where fewer entries of its ring than these are free.
+    pub stop: u32,
+    /// The device wakes where at least these entries are free.
+    pub start: u32,
+}
+
+/// A step and the line of the script that it comes from, counted from 1.
+#[derive(Drop)]
+pub struct Line {
+    /// The line's number.
+    pub line: u32,
+    /// The step.
+    pub step: Step,
+}
+
+/// The answer to a step and the line of the script that the step comes from, counted from 1.
+#[derive(Drop)]
+pub struct LineAnswer {
+    /// The line's number.
+    pub line: u32,
+    /// The answer.
+    pub answer: Answer,
+}
+
+/// One item of the traffic of a threaded run.
+#[derive(Drop)]
+pub enum Traffic {
+    /// A frame to be sent on a lane.
+    Send {
+        /// The lane.
+        lane: LaneName,
+        /// The frame, of at least one byte.
+        frame: Frame,
+    },
+    /// One loss of a pair's link.
+    Break {
+        /// The number of the pair.
+        pair: u32,
+    },
+}
+
+/// What a script declares. Pairs and devices are numbered from 0 in their order here.
+#[derive(Drop)]
+pub struct Plan {
+    /// The pairs.
+    pub pairs: Items<PairPlan>,
+    /// The network devices.
+    pub devs: Items<DevPlan>,
+    /// The steps of a replay, macros replaced by their steps.
+    pub steps: Items<Line>,
+    /// The traffic of a threaded run.
+    pub traffic: Items<Traffic>,
+}
+
+/// The counters of a network device (`ntb_netdev` keeps the same in its statistics).
+#[derive(Clone, Copy, Debug, PartialEq, Eq)]
+pub struct Counters {
+    /// Frames that were taken to be sent.
+    pub tx: u64,
+    /// The bytes of these frames.
+    pub tx_bytes: u64,
+    /// Frames that were refused.
+    pub refused: u64,
+    /// Frames of at least 14 bytes that were delivered.
+    pub rx: u64,
+    /// The bytes of these frames.
+    pub rx_bytes: u64,
+    /// Shorter frames that were delivered.
+    pub short: u64,
+}
