@@ -1,2 +1,6 @@
+pub mod Kept
+pub mod Lane
+pub mod Law
 pub mod Order
 pub mod Ring
+pub mod Steps

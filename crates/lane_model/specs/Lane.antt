@@ -1,0 +1,128 @@
+-- One lane in one session: what its sender began, what is on its way, the ring in the receiver's memory, and how far
+-- each has come. `ntb_transport` moves frames in the same way: payload and header into a ring in the peer's memory,
+-- then the header's DONE flag and a doorbell, and an index written back once the receiver is done.
+use Rattle.std.specs.Prelude.{ℕ, zero, suc, ◌+◌, ◌-◌, ◌*◌, ◌/◌, ◌%◌, ◌^◌, Bool, List, [], ◌∷◌, ◌++◌, length, map, take, drop, slice_index_or, slice_set}
+use Rattle.lane_model.specs.Ring.{head_of, free_entries}
+use Rattle.lane_model.specs.declared.Phase.{Phase}
+
+-- What a sender puts into one entry of the ring: a frame's bytes, or the word that this end of the queue goes down.
+pub data Entry : Type 0 where
+  Carries : (bytes : List ℕ) → Entry
+  LinkDown : Entry
+
+abbrev pub bytes_of : Entry → List ℕ
+bytes_of (Carries bytes) = bytes
+bytes_of LinkDown = []
+
+-- A part of an entry that is written before its flags: a chunk of the payload, or a field of the header.
+pub data Field : Type 0 where
+  Chunk : (part : ℕ) → Field
+  Length : Field
+  Version : Field
+
+-- A posted write of a lane: a field of an entry, the flags of an entry (with LINK_DOWN where the entry says so), or the doorbell.
+pub data Mark : Type 0 where
+  Cell : (number : ℕ) → (field : Field) → Mark
+  Flag : (number : ℕ) → Mark
+  Bell : Mark
+
+-- A position of the ring: the payload at its beginning, and the three fields of the header at its end.
+pub record Place : Type 0 where
+  pub payload : List ℕ
+  pub len : ℕ
+  pub ver : ℕ
+  pub flags : ℕ
+
+abbrev pub blank : Place
+blank = record { payload = []; len = 0; ver = 0; flags = 0 }
+
+pub record Lane : Type 0 where
+  -- how many positions the ring has, and the most bytes that a payload takes
+  pub entries : ℕ
+  pub largest : ℕ
+  -- whether what is posted is on its way; once the link is lost it is not
+  pub up : Bool
+  -- the entries that the sender began in this session, numbered from 0, and the writes of the last one that are left to post
+  pub sent : List Entry
+  pub todo : List Mark
+  -- the writes in flight towards the receiver, and the numbers of the index writes in flight back to the sender
+  pub flight : List Mark
+  pub returning : List ℕ
+  -- the ring in the receiver's memory, and the index word in the sender's
+  pub ring : List Place
+  pub index_word : ℕ
+  -- how many entries have their flags landed, were taken whole, were cleared, had their index write posted and had it landed
+  pub flagged : ℕ
+  pub got : ℕ
+  pub cleared : ℕ
+  pub acked : ℕ
+  pub freed : ℕ
+  -- where the receiver stands with entry `got`, and how many parts of it were copied
+  pub phase : Phase
+  pub part : ℕ
+
+-- the bytes of a chunk; a payload is cut from its start, and the last chunk may be shorter
+abbrev pub chunk_size : ℕ
+chunk_size = 128
+
+-- how many chunks so many bytes are
+abbrev pub chunks_in : ℕ → ℕ
+chunks_in len = (len + chunk_size - 1) / chunk_size
+
+-- a chunk of a payload
+abbrev pub chunk_of : List ℕ → ℕ → List ℕ
+chunk_of bytes part = take chunk_size (drop (chunk_size * part) bytes)
+
+-- so many numbers from this one on
+abbrev pub count_from : ℕ → ℕ → List ℕ
+count_from from zero = []
+count_from from (suc more) = from ∷ count_from (suc from) more
+
+-- the writes of an entry: its chunks, its length and its version, then its flags, then the doorbell
+abbrev pub cells_of : ℕ → Entry → List Mark
+cells_of n entry = map (λ part. Cell n (Chunk part)) (count_from 0 (chunks_in (length (bytes_of entry)))) ++ Cell n Length ∷ Cell n Version ∷ []
+
+abbrev pub writes_of : ℕ → Entry → List Mark
+writes_of n entry = cells_of n entry ++ Flag n ∷ Bell ∷ []
+
+-- the flags of a header: DONE, and LINK_DOWN beside it
+abbrev pub done : ℕ
+done = 1
+
+abbrev pub flags_of : Entry → ℕ
+flags_of (Carries bytes) = done
+flags_of LinkDown = done + 2
+
+-- the version of a header is the entry's number in 32 bits
+abbrev pub version_of : ℕ → ℕ
+version_of n = n % 2 ^ 32
+
+-- entry n
+abbrev pub entry_of : Lane → ℕ → Entry
+entry_of lane n = slice_index_or lane.sent n LinkDown
+
+-- the position of entry n
+abbrev pub place_of : Lane → ℕ → Place
+place_of lane n = slice_index_or lane.ring (n % lane.entries) blank
+
+-- the ring with another place at the position of entry n
+abbrev pub ring_with : Lane → ℕ → Place → List Place
+ring_with lane n place = slice_set lane.ring (n % lane.entries) place
+
+-- bytes written over others from a place on
+abbrev pub overwritten : ℕ → List ℕ → List ℕ → List ℕ
+overwritten at bytes old = take at old ++ bytes ++ drop (at + length bytes) old
+
+-- a place with a field of entry n in it
+abbrev pub with_field : Place → ℕ → Entry → Field → Place
+with_field place n entry (Chunk part) =
+    record { payload = overwritten (chunk_size * part) (chunk_of (bytes_of entry) part) place.payload; len = place.len; ver = place.ver; flags = place.flags }
+with_field place n entry Length = record { payload = place.payload; len = length (bytes_of entry); ver = place.ver; flags = place.flags }
+with_field place n entry Version = record { payload = place.payload; len = place.len; ver = version_of n; flags = place.flags }
+
+abbrev pub with_flags : Place → ℕ → Place
+with_flags place flags = record { payload = place.payload; len = place.len; ver = place.ver; flags = flags }
+
+-- the free entries, as the sender counts them by its head and the index word in its memory
+abbrev pub free_in : Lane → ℕ
+free_in lane = free_entries lane.entries (head_of lane.entries (length lane.sent)) lane.index_word

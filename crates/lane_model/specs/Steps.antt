@@ -1,0 +1,50 @@
+-- The steps of a lane, each in closed form. Whether a step may be made is said elsewhere: here is what it changes.
+use Rattle.std.specs.Prelude.{ℕ, ◌+◌, ◌%◌, Bool, false, List, [], ◌∷◌, ◌++◌, length, if◌then◌else◌, nat_lt}
+use Rattle.lane_model.specs.Lane.{Entry, Mark, Cell, Flag, Bell, Lane, bytes_of, chunks_in, writes_of, flags_of, entry_of, place_of, ring_with, with_field, with_flags}
+use Rattle.lane_model.specs.declared.Phase.TheVariants.{Idle, Copying, Copied, Cleared}
+
+-- the sender begins an entry
+abbrev pub after_begin : Lane → Entry → Lane
+after_begin lane entry = record lane { sent = lane.sent ++ entry ∷ []; todo = writes_of (length lane.sent) entry }
+
+-- the sender posts the next write, `rest` being those behind it
+abbrev pub after_post : Lane → Mark → List Mark → Lane
+after_post lane mark rest = record lane { todo = rest; flight = (if lane.up then lane.flight ++ mark ∷ [] else lane.flight) }
+
+-- a write lands, `rest` being the others in flight
+abbrev pub after_landing : Lane → Mark → List Mark → Lane
+after_landing lane (Cell n field) rest = record lane { flight = rest; ring = ring_with lane n (with_field (place_of lane n) n (entry_of lane n) field) }
+after_landing lane (Flag n) rest = record lane { flight = rest; ring = ring_with lane n (with_flags (place_of lane n) (flags_of (entry_of lane n))); flagged = lane.flagged + 1 }
+after_landing lane Bell rest = record lane { flight = rest }
+
+-- the receiver finds a frame
+abbrev pub after_look : Lane → Lane
+after_look lane = record lane { phase = Copying; part = 0 }
+
+-- how many copies an entry takes: one for each chunk, and one where there is none
+abbrev pub more_to_copy : Lane → Bool
+more_to_copy lane = nat_lt (lane.part + 1) (chunks_in (length (bytes_of (entry_of lane lane.got))))
+
+-- the receiver copies the next part, and with the last one has the whole frame
+abbrev pub after_copy : Lane → Lane
+after_copy lane = if more_to_copy lane then record lane { part = lane.part + 1 } else record lane { got = lane.got + 1; phase = Copied }
+
+-- the receiver clears the flags
+abbrev pub after_clear : Lane → Lane
+after_clear lane = record lane { ring = ring_with lane lane.cleared (with_flags (place_of lane lane.cleared) 0); cleared = lane.cleared + 1; phase = Cleared }
+
+-- the receiver posts the index write
+abbrev pub after_ack : Lane → Lane
+after_ack lane = record lane { acked = lane.acked + 1; phase = Idle; returning = (if lane.up then lane.returning ++ lane.acked ∷ [] else lane.returning) }
+
+-- the index write of entry n lands, `rest` being those behind it
+abbrev pub after_index : Lane → ℕ → List ℕ → Lane
+after_index lane n rest = record lane { returning = rest; freed = n + 1; index_word = n % lane.entries }
+
+-- the link is lost: from now on nothing that is posted is on its way
+abbrev pub after_cut : Lane → Lane
+after_cut lane = record lane { up = false }
+
+-- what was in flight on the lost link is dropped
+abbrev pub after_drop : Lane → Lane
+after_drop lane = record lane { flight = []; returning = [] }
