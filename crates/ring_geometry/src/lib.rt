@@ -1,0 +1,177 @@
+//! Where the ring of a queue lies in its translation window: the queue's area, its entries, their headers and the
+//! index word, as the transport of the Linux NTB driver places them
+//! (Linux `Documentation/driver-api/ntb.rst`, `ntb_transport`).
+//!
+//! The queues of a side take its windows in turn. Each window is cut into equal areas, one for each queue that lies
+//! there. The last four bytes of an area are its index word, and what comes before is cut into entries of one size.
+//! An entry holds a payload and ends with a header.
+#![tactic(auto)]
+
+ghost use Rattle.std.specs.Prelude.{IsOk, IfOk, ◌%◌, ◌*◌, ◌+◌, ◌-◌, ◌/◌, ◌<◌, ◌^◌, ◌↔◌, ◌≡◌, ◌≤◌};
+ghost use Rattle.lane_model.specs.Ring.{free_entries};
+ghost use Rattle.ring_geometry.specs.Geometry.{
+    HasRing, entries_of, frame_size, header_of, index_of, max_payload_of, slot_of, window_of
+};
+
+use std::marker::Model;
+use thiserror::Error;
+
+pub mod laws;
+
+/// The numbers make no ring: there is no window, the queue is none of the side's, its area has no room for the index
+/// word, or an entry would have no room for its header and four bytes more.
+#[derive(Clone, Copy, Debug, PartialEq, Eq, Error)]
+#[error("no ring fits these numbers")]
+pub struct BadGeometry;
+
+/// The places of one queue's ring.
+#[derive(Drop)]
+pub struct Geometry {
+    window: u64,
+    windows: u32,
+    queues: u32,
+    queue: u32,
+    mtu: u32,
+    header: u32,
+    area_bytes: u64,
+    area_begin: u64,
+    frame_bytes: u32,
+    entries: u32,
+}
+
+impl Model for Geometry {
+    ghost use Rattle.ring_geometry.specs.Geometry.{Layout};
+
+    ghost Value = { Layout };
+
+    ghost use Rattle.ring_geometry.specs.Kept.{layout_of, IsKept};
+
+    ghost view = { layout_of };
+
+    ghost invariant = { IsKept };
+}
+
+impl Geometry {
+    /// Places the ring of the queue `queue` of `queues` on a side with `windows` translation windows.
+    ///
+    /// `window` is the size of the queue's window, `mtu` the largest entry and `header` the size of a header, each in
+    /// bytes. An entry is `mtu` bytes long, or half of what the area has for entries where that is less.
+    ///
+    /// # Errors
+    ///
+    /// [`BadGeometry`] where `windows` is 0, `queue` is not below `queues`, the area has no four bytes for the index
+    /// word, or an entry has not the header and four bytes more.
+    pub fn new(
+        window: u64,
+        windows: u32,
+        queues: u32,
+        queue: u32,
+        mtu: u32,
+        header: u32,
+    ) -> Result<Geometry, BadGeometry>
+        requires window { window ≤ 268435456 }
+        requires windows { windows ≤ 4 }
+        requires queues { queues ≤ 16 }
+        requires mtu { mtu ≤ 65536 }
+        requires header { header ≤ 16 }
+        ensures made { IfOk result (λ g. g ≡ record {
+            window = window; windows = windows; queues = queues; queue = queue; mtu = mtu; header = header
+        }) }
+        ensures exact { IsOk result ↔ HasRing (record {
+            window = window; windows = windows; queues = queues; queue = queue; mtu = mtu; header = header
+        }) }
+    {
+        if windows == 0 || queue >= queues {
+            return Err(BadGeometry);
+        }
+        let extra = if queue % windows < queues % windows { 1 } else { 0 };
+        let area_bytes = window / u64::from(queues / windows + extra);
+        if area_bytes < 4 {
+            return Err(BadGeometry);
+        }
+        let ring_bytes = (area_bytes - 4) as u32;
+        let frame_bytes = mtu.min(ring_bytes / 2);
+        if frame_bytes < header + 4 {
+            return Err(BadGeometry);
+        }
+        Ok(Geometry {
+            window,
+            windows,
+            queues,
+            queue,
+            mtu,
+            header,
+            area_bytes,
+            area_begin: area_bytes * u64::from(queue / windows),
+            frame_bytes,
+            entries: ring_bytes / frame_bytes,
+        })
+    }
+
+    /// How many entries the ring has: 2 at least.
+    pub fn entries(&self) -> u32
+        ensures { result ≡ entries_of self.now }
+    {
+        self.entries
+    }
+
+    /// The bytes of an entry, its header with it.
+    pub fn frame_size(&self) -> u32
+        ensures { result ≡ frame_size self.now }
+    {
+        self.frame_bytes
+    }
+
+    /// The most bytes of payload that an entry holds.
+    pub fn max_payload(&self) -> u32
+        ensures { result ≡ max_payload_of self.now }
+    {
+        self.frame_bytes - self.header
+    }
+
+    /// The number of the translation window that the ring lies in, from 0.
+    pub fn window_of(&self) -> u32
+        ensures { result ≡ window_of self.now }
+    {
+        self.queue % self.windows
+    }
+
+    /// Where the index word stands, in bytes from the beginning of the window. It is four bytes long.
+    pub fn index_at(&self) -> u64
+        ensures { result ≡ index_of self.now }
+    {
+        self.area_begin + self.area_bytes - 4
+    }
+
+    /// Where the entry `i` begins, in bytes from the beginning of the window.
+    pub fn slot_at(&self, i: u32) -> u64
+        requires { i < entries_of self.now }
+        ensures { result ≡ slot_of self.now i }
+    {
+        self.area_begin + u64::from(i) * u64::from(self.frame_bytes)
+    }
+
+    /// Where the header of the entry `i` begins, in bytes from the beginning of the window.
+    pub fn header_at(&self, i: u32) -> u64
+        requires { i < entries_of self.now }
+        ensures { result ≡ header_of self.now i }
+    {
+        self.slot_at(i) + u64::from(self.frame_bytes) - u64::from(self.header)
+    }
+
+    /// How many entries the sender may begin, by the next entry's position `head` and the index word's `tail`.
+    pub fn free(&self, head: u32, tail: u32) -> u32
+        requires head { head < entries_of self.now }
+        requires tail { tail < entries_of self.now }
+        ensures { result ≡ free_entries (entries_of self.now) head tail }
+    {
+        if head <= tail { tail - head } else { self.entries + tail - head }
+    }
+}
+
+/// The number that a header carries for the `n`th frame of a queue: its lowest 32 bits.
+pub fn ver_of(n: u64) -> u32
+    ensures { result ≡ n % 2 ^ 32 }
+{
+    (n & 0xffff_ffff) as u32
+}
