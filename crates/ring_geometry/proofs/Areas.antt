@@ -1,9 +1,9 @@
 -- Areas of a window: each lies within it, and two of different queues share nothing.
-use Rattle.std.proofs.Common.{◌≡◌, ◌≢◌, ℕ, ◌+◌, ◌*◌, ◌/◌, ◌%◌, ◌<◌, ◌≤◌, ◌⊎◌, cond, ltb, inl, inr, sym, ◌∙◌, ap, arith}
+use Rattle.std.proofs.Common.{◌≡◌, ◌≢◌, ℕ, ◌+◌, ◌*◌, ◌/◌, ◌%◌, ◌<◌, ◌≤◌, cond, ltb, inl, inr, ap, arith}
 use Rattle.std.proofs.Math.Nat.{mul-le-mul_left, mod-add-div, mul-div-le}
 use Rattle.std.proofs.lemmas.Nat.{mod_below}
-use Rattle.std.proofs.lemmas.Bool.{cases_lt, cases_order, lt-ltb, le-ltb}
-use Rattle.ring_geometry.specs.Geometry.{Layout, HasRing, window_of, queues_in_window, area, area_start}
+use Rattle.std.proofs.lemmas.Bool.{cases_lt, cases_order, lt-ltb}
+use Rattle.ring_geometry.specs.Geometry.{Layout, HasRing, window_of, queues_in_window, area, area_start, ring_bytes, frame_size, entries_of, slot_of}
 use Rattle.ring_geometry.specs.Laws.{IsSameSide, StandApart}
 
 -- an earlier quotient leaves room for the next
@@ -17,12 +17,12 @@ place_below queue queues windows p q =
     let a = mod-add-div queue windows in
     let b = mod-add-div queues windows in
     elim (cases_lt (queues / windows) (queue / windows)) [
-      inl h ↦ absurd (omega (arith, row_ends windows _ _ h, mod_below queues windows p))
-    | inr h ↦ elim (cases_lt (queue % windows) (queues % windows)) [
-        inl r ↦ rw lt-ltb (omega arith)
-      | inr r ↦ elim (cases_lt (queue / windows) (queues / windows)) [
-          inl s ↦ omega arith
-        | inr s ↦ let e : queue / windows ≡ queues / windows = omega arith in absurd (omega (arith, ap (λ x. windows * x) e))
+      | inl h ↦ absurd (omega (arith, row_ends windows _ _ h, mod_below queues windows p))
+      | inr h ↦ elim (cases_lt (queue % windows) (queues % windows)) [
+        | inl r ↦ rw lt-ltb (omega arith)
+        | inr r ↦ elim (cases_lt (queue / windows) (queues / windows)) [
+          | inl s ↦ omega arith
+          | inr s ↦ let e : queue / windows ≡ queues / windows = omega arith in absurd (omega (arith, ap (λ x. windows * x) e))
         ]
       ]
     ]
@@ -41,9 +41,9 @@ same_area k l e w =
 
 apart_at : (size a b : ℕ) → a ≢ b → StandApart (size * a) size (size * b) size
 apart_at size a b ne = elim (cases_order a b) [
-    inl e ↦ absurd (ne e)
+  | inl e ↦ absurd (ne e)
   | inr o ↦ elim o [ inl h ↦ inl (row_ends size a b h) | inr h ↦ inr (row_ends size b a h) ]
-  ]
+]
 
 quotients_differ : (a b n : ℕ) → a % n ≡ b % n → a ≢ b → a / n ≢ b / n
 quotients_differ a b n e ne q =
@@ -55,5 +55,16 @@ pub areas_apart : (k l : Layout) → HasRing k → HasRing l → IsSameSide k l 
     → StandApart (area_start k) (area k) (area_start l) (area l)
 areas_apart k l _ _ e w ne =
     let places : k.queue / k.windows ≢ l.queue / l.windows =
-      λ p. quotients_differ k.queue l.queue l.windows (rw e.windows at w) ne (rw e.windows at p) in
+    λ p. quotients_differ k.queue l.queue l.windows (rw e.windows at w) ne (rw e.windows at p) in
     rw (same_area k l e w) (apart_at (area l) (k.queue / k.windows) (l.queue / l.windows) places)
+
+-- an entry lies before the index word
+pub slot_in_area : (l : Layout) → HasRing l → (i : ℕ) → i < entries_of l → slot_of l i + frame_size l + 4 ≤ area_start l + area l
+slot_in_area l h i p =
+    let ends = row_ends (frame_size l) i (entries_of l) p in
+    let fits = mul-div-le (ring_bytes l) (frame_size l) in
+    let index = h.index_fits in
+    grind arith
+
+pub slot_in_window : (l : Layout) → HasRing l → (i : ℕ) → i < entries_of l → slot_of l i + frame_size l + 4 ≤ l.window
+slot_in_window l h i p = omega (arith, slot_in_area l h i p, area_in_window l h)

@@ -16,6 +16,11 @@ pub record Layout : Type 0 where
   -- the bytes of the header that ends each entry
   pub header : ℕ
 
+-- the layout of these numbers, in the record's order
+abbrev pub layout_with : ℕ → ℕ → ℕ → ℕ → ℕ → ℕ → Layout
+layout_with window windows queues queue mtu header =
+    record { window = window; windows = windows; queues = queues; queue = queue; mtu = mtu; header = header }
+
 -- the window of the queue: the queues take the windows in turn
 abbrev pub window_of : Layout → ℕ
 window_of l = l.queue % l.windows
@@ -66,3 +71,16 @@ pub record HasRing (l : Layout) : Type 0 where
   pub a_queue : l.queue < l.queues
   pub index_fits : 4 ≤ area l
   pub header_fits : l.header + 4 ≤ frame_size l
+
+-- the limits of the numbers that a `Geometry` takes
+pub record FitsLimits (l : Layout) : Type 0 where
+  pub window_fits : l.window ≤ 268435456
+  pub windows_fit : l.windows ≤ 4
+  pub queues_fit : l.queues ≤ 16
+  pub mtu_fits : l.mtu ≤ 65536
+  pub header_fits : l.header ≤ 16
+
+-- what every `Geometry` keeps
+pub record IsPlaced (l : Layout) : Type 0 where
+  pub ring : HasRing l
+  pub limits : FitsLimits l

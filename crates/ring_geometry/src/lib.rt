@@ -10,13 +10,24 @@
 ghost use Rattle.std.specs.Prelude.{IsOk, IfOk, ◌%◌, ◌*◌, ◌+◌, ◌-◌, ◌/◌, ◌<◌, ◌^◌, ◌↔◌, ◌≡◌, ◌≤◌};
 ghost use Rattle.lane_model.specs.Ring.{free_entries};
 ghost use Rattle.ring_geometry.specs.Geometry.{
-    HasRing, entries_of, frame_size, header_of, index_of, max_payload_of, slot_of, window_of
+  HasRing,
+  IsPlaced,
+  entries_of,
+  frame_size,
+  header_of,
+  index_of,
+  layout_with,
+  max_payload_of,
+  slot_of,
+  window_of,
 };
 
 use std::marker::Model;
 use thiserror::Error;
 
 pub mod laws;
+#[cfg(test)]
+mod tests;
 
 /// The numbers make no ring: there is no window, the queue is none of the side's, its area has no room for the index
 /// word, or an entry would have no room for its header and four bytes more.
@@ -25,7 +36,7 @@ pub mod laws;
 pub struct BadGeometry;
 
 /// The places of one queue's ring.
-#[derive(Drop)]
+#[derive(Clone, Copy, Debug, PartialEq, Eq)]
 pub struct Geometry {
     window: u64,
     windows: u32,
@@ -44,11 +55,15 @@ impl Model for Geometry {
 
     ghost Value = { Layout };
 
-    ghost use Rattle.ring_geometry.specs.Kept.{layout_of, IsKept};
+    ghost use Rattle.ring_geometry.specs.Kept.{inside_of, inside_of-layout_of, layout_of, IsKept};
 
     ghost view = { layout_of };
 
     ghost invariant = { IsKept };
+
+    ghost inverse = { inside_of };
+
+    ghost inverse_ok = { inside_of-layout_of };
 }
 
 impl Geometry {
@@ -74,17 +89,17 @@ impl Geometry {
         requires queues { queues ≤ 16 }
         requires mtu { mtu ≤ 65536 }
         requires header { header ≤ 16 }
-        ensures made { IfOk result (λ g. g ≡ record {
-            window = window; windows = windows; queues = queues; queue = queue; mtu = mtu; header = header
-        }) }
-        ensures exact { IsOk result ↔ HasRing (record {
-            window = window; windows = windows; queues = queues; queue = queue; mtu = mtu; header = header
-        }) }
+        ensures made { IfOk result (λ g. g ≡ layout_with window windows queues queue mtu header) }
+        ensures exact { IsOk result ↔ HasRing (layout_with window windows queues queue mtu header) }
     {
         if windows == 0 || queue >= queues {
             return Err(BadGeometry);
         }
-        let extra = if queue % windows < queues % windows { 1 } else { 0 };
+        let extra = if queue % windows < queues % windows {
+            1
+        } else {
+            0
+        };
         let area_bytes = window / u64::from(queues / windows + extra);
         if area_bytes < 4 {
             return Err(BadGeometry);
@@ -110,7 +125,8 @@ impl Geometry {
 
     /// How many entries the ring has: 2 at least.
     pub fn entries(&self) -> u32
-        ensures { result ≡ entries_of self.now }
+        ensures value { result ≡ entries_of self.now }
+        ensures placed { IsPlaced self.now }
     {
         self.entries
     }
@@ -138,7 +154,9 @@ impl Geometry {
 
     /// Where the index word stands, in bytes from the beginning of the window. It is four bytes long.
     pub fn index_at(&self) -> u64
-        ensures { result ≡ index_of self.now }
+        ensures value { result ≡ index_of self.now }
+        ensures within { result + 4 ≤ self.now.window }
+        ensures placed { IsPlaced self.now }
     {
         self.area_begin + self.area_bytes - 4
     }
@@ -146,7 +164,9 @@ impl Geometry {
     /// Where the entry `i` begins, in bytes from the beginning of the window.
     pub fn slot_at(&self, i: u32) -> u64
         requires { i < entries_of self.now }
-        ensures { result ≡ slot_of self.now i }
+        ensures value { result ≡ slot_of self.now i }
+        ensures within { result + frame_size self.now + 4 ≤ self.now.window }
+        ensures placed { IsPlaced self.now }
     {
         self.area_begin + u64::from(i) * u64::from(self.frame_bytes)
     }
@@ -154,7 +174,9 @@ impl Geometry {
     /// Where the header of the entry `i` begins, in bytes from the beginning of the window.
     pub fn header_at(&self, i: u32) -> u64
         requires { i < entries_of self.now }
-        ensures { result ≡ header_of self.now i }
+        ensures value { result ≡ header_of self.now i }
+        ensures within { result + self.now.header + 4 ≤ self.now.window }
+        ensures placed { IsPlaced self.now }
     {
         self.slot_at(i) + u64::from(self.frame_bytes) - u64::from(self.header)
     }
@@ -165,7 +187,11 @@ impl Geometry {
         requires tail { tail < entries_of self.now }
         ensures { result ≡ free_entries (entries_of self.now) head tail }
     {
-        if head <= tail { tail - head } else { self.entries + tail - head }
+        if head <= tail {
+            tail - head
+        } else {
+            self.entries + tail - head
+        }
     }
 }
 
