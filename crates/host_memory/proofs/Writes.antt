@@ -1,0 +1,42 @@
+-- A write leaves what stands apart from it.
+use Rattle.std.proofs.Common.{◌≡◌, ℕ, ◌+◌, ◌<◌, List, length, get_or, take, drop, sym, ◌∙◌, ap, lit<, arith}
+use Rattle.std.proofs.lemmas.Grind.{common_steps}
+use Rattle.std.proofs.lemmas.List.{places, same_lists, get_or-take, get_or-drop}
+use Rattle.byteorder.specs.Endian.{little_number}
+use Rattle.host_memory.specs.Memory.{written, bytes_at, word_at}
+use Rattle.host_memory.specs.Laws.{LiesIn, StandsApart}
+
+written_outside : (at : ℕ) (bytes mem : List ℕ) → LiesIn at bytes mem → (k d : ℕ) → StandsApart k 1 at (length bytes)
+    → get_or (written at bytes mem) k d ≡ get_or mem k d
+written_outside at bytes mem h k d apart = grind (arith, common_steps)
+
+length-written : (at : ℕ) (bytes mem : List ℕ) → LiesIn at bytes mem → length (written at bytes mem) ≡ length mem
+length-written at bytes mem h = grind (arith, common_steps)
+
+-- two memories of one length that agree on a stretch
+bytes_at_same : (from len : ℕ) (xs ys : List ℕ) → length xs ≡ length ys
+    → ((k d : ℕ) → k < len → get_or xs (from + k) d ≡ get_or ys (from + k) d) → bytes_at from len xs ≡ bytes_at from len ys
+bytes_at_same from len xs ys e same =
+    same_lists _ _ (grind (arith, places)) (λ k d h. let s = same k d in grind (arith, places))
+
+pub reads_elsewhere : (at : ℕ) (bytes mem : List ℕ) → LiesIn at bytes mem → (from len : ℕ)
+    → StandsApart from len at (length bytes) → bytes_at from len (written at bytes mem) ≡ bytes_at from len mem
+reads_elsewhere at bytes mem h from len apart =
+    bytes_at_same from len _ _ (length-written at bytes mem h)
+    (λ k d p. written_outside at bytes mem h (from + k) d (grind arith))
+
+-- a word is a number of four bytes
+little_number-take : (xs : List ℕ) → little_number 4 (take 4 xs) ≡ little_number 4 xs
+little_number-take xs =
+    let e0 = get_or-take 4 xs 0 0 (lit< tt) in
+    let e1 = get_or-take 4 xs 1 0 (lit< tt) in
+    let e2 = get_or-take 4 xs 2 0 (lit< tt) in
+    let e3 = get_or-take 4 xs 3 0 (lit< tt) in
+    cc
+
+pub word_elsewhere : (at : ℕ) (bytes mem : List ℕ) → LiesIn at bytes mem → (from : ℕ)
+    → StandsApart from 4 at (length bytes) → word_at from (written at bytes mem) ≡ word_at from mem
+word_elsewhere at bytes mem h from apart =
+    sym (little_number-take (drop from (written at bytes mem)))
+    ∙ ap (little_number 4) (reads_elsewhere at bytes mem h from 4 apart)
+    ∙ little_number-take (drop from mem)

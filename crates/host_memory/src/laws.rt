@@ -1,0 +1,46 @@
+//! What a write to memory does, address by address. Each function here does nothing: its clause is the law.
+
+ghost use Rattle.host_memory.specs.Laws.{
+  LengthStays,
+  OldOutside,
+  ReadsBack,
+  ReadsElsewhere,
+  WordElsewhere,
+  WordReadsBack,
+  WrittenInside,
+};
+
+/// Inside a write each byte is the written one.
+pub fn written_inside()
+    ensures { WrittenInside }
+{}
+
+/// Outside a write each byte is the old one.
+pub fn old_outside()
+    ensures { OldOutside }
+{}
+
+/// A write leaves the memory's length.
+pub fn length_stays()
+    ensures { LengthStays }
+{}
+
+/// A read at the place of a write gives what was written.
+pub fn reads_back()
+    ensures { ReadsBack }
+{}
+
+/// A read that shares no byte with a write gives what it gave before.
+pub fn reads_elsewhere()
+    ensures { ReadsElsewhere }
+{}
+
+/// A word is read back as it was written.
+pub fn word_reads_back()
+    ensures { WordReadsBack }
+{}
+
+/// A word that shares no byte with a write is what it was before.
+pub fn word_elsewhere()
+    ensures { WordElsewhere }
+{}
