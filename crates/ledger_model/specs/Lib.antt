@@ -1,3 +1,17 @@
 pub mod Both
 pub mod Device
+pub mod Examples
+pub mod Handshake
+pub mod Labels
+pub mod Ledger
+pub mod Laws
 pub mod Link
+pub mod LinkSteps
+pub mod Log
+pub mod Macros
+pub mod Next
+pub mod Outcome
+pub mod Receiving
+pub mod Registers
+pub mod Rings
+pub mod Sending

@@ -4,6 +4,8 @@
 //! It has definitions and laws alone, over lists and numbers, and the plain types that code and definitions share.
 #![tactic(auto)]
 
+pub mod laws;
+
 /// Where the link of a pair stands.
 #[derive(Clone, Copy, Debug, PartialEq, Eq)]
 pub enum LinkState {

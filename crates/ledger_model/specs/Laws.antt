@@ -1,0 +1,194 @@
+-- The laws of every log.
+use Rattle.std.specs.Prelude.{◌≡◌, ℕ, ◌+◌, ◌<◌, ◌==◌, Bool, true, false, ◌&&◌, Option, Some, None, List, [], ◌∷◌, ◌++◌, length, filter, not, if◌then◌else◌, ◌≤◌, ◌/◌, ◌%◌}
+use Rattle.std.specs.List.{AllByRecursion}
+use Rattle.step_kinds.specs.Bits.{has_bit}
+use Rattle.step_kinds.specs.Sides.{other_side}
+use Rattle.step_kinds.specs.Subject.{subject_of}
+use Rattle.step_kinds.specs.declared.names.LaneName.{LaneName}
+use Rattle.step_kinds.specs.declared.names.Side.{Side}
+use Rattle.step_kinds.specs.declared.plan.SidePlan.{SidePlan}
+use Rattle.step_kinds.specs.declared.plan.Plan.{Plan}
+use Rattle.step_kinds.specs.declared.steps.Answer.{Answer}
+use Rattle.step_kinds.specs.declared.steps.Answer.TheVariants.{LinkDown, NotReady, Closed, TooLong, Busy, Stopped, Again, Up}
+use Rattle.step_kinds.specs.declared.steps.Step.{Step}
+use Rattle.step_kinds.specs.declared.steps.Step.TheVariants.{Begin, QpDown, Xbegin, Offer, Check, Ready, Join, Spad, Poke}
+use Rattle.ledger_model.specs.Handshake.{word}
+use Rattle.ledger_model.specs.Ledger.{PairPart, side_of, lane_of, tally_of, link_up, sizes_of, side_plan, version_pad, queues_pad, windows_pad, high_pad, low_pad}
+use Rattle.ledger_model.specs.Log.{Answered, Memories, Numbered, log_of, ledger_of, accepted, delivered, room_in, up_at, landed_pad, last_look_empty}
+use Rattle.ledger_model.specs.Next.{pair_plan}
+
+-- In order and once
+
+-- the first list begins the second
+abbrev pub Begins : List Numbered → List Numbered → Type 0
+Begins xs ys = (rest : List Numbered) × (ys ≡ xs ++ rest)
+
+-- the frame at each place was answered with the number of that place
+abbrev pub NumberedFrom : ℕ → List Numbered → Type 0
+NumberedFrom n [] = Unit {0}
+NumberedFrom n (frame ∷ frames) = (frame.number ≡ n) × NumberedFrom (n + 1) frames
+
+-- what was delivered on the lane in the session is a prefix of what was accepted there, and both are numbered from 0 on
+pub record IsInOrder (plan : Plan) (log : List Answered) (lane : LaneName) (session : ℕ) : Type 0 where
+  pub prefix : Begins (delivered plan log lane session) (accepted plan log lane session)
+  pub accepted_numbers : NumberedFrom 0 (accepted plan log lane session)
+  pub delivered_numbers : NumberedFrom 0 (delivered plan log lane session)
+
+abbrev pub EveryLogIsInOrder : Type 0
+EveryLogIsInOrder = (plan : Plan) (memories : Memories) (steps : List Step) (lane : LaneName) (session : ℕ) → IsInOrder plan (log_of plan memories steps) lane session
+
+-- how often a number stands in a list of frames
+abbrev pub times_of : ℕ → List Numbered → ℕ
+times_of n [] = 0
+times_of n (frame ∷ frames) = (if frame.number == n then 1 else 0) + times_of n frames
+
+-- no number is delivered twice on a lane in a session
+abbrev pub EveryFrameComesOnce : Type 0
+EveryFrameComesOnce = (plan : Plan) (memories : Memories) (steps : List Step) (lane : LaneName) (session n : ℕ) →
+    times_of n (delivered plan (log_of plan memories steps) lane session) < 2
+
+-- Again and link down
+
+-- the lane on which a step begins an entry, where it is such a step
+abbrev pub lane_begun_by : Step → Option LaneName
+lane_begun_by (Begin pair side queue frame) = Some (record { pair = pair; from = side; queue = queue })
+lane_begun_by (QpDown pair side queue) = Some (record { pair = pair; from = side; queue = queue })
+lane_begun_by (Xbegin pair side queue dev dst kind payload) = Some (record { pair = pair; from = side; queue = queue })
+lane_begun_by step = None
+
+-- the entries of a lane's ring
+abbrev pub entries_in : Plan → LaneName → ℕ
+entries_in plan lane = (sizes_of (pair_plan plan lane.pair) lane.from lane.queue).entries
+
+-- the refusals that are tested before the ring's room
+abbrev pub refused_before_room : Answer → Bool
+refused_before_room LinkDown = true
+refused_before_room NotReady = true
+refused_before_room Closed = true
+refused_before_room (TooLong len largest) = true
+refused_before_room Busy = true
+refused_before_room Stopped = true
+refused_before_room answer = false
+
+abbrev pub is_again : Answer → Bool
+is_again (Again head tail) = true
+is_again answer = false
+
+-- the log of these steps goes on with this step and answer
+abbrev pub GoesOn : Plan → Memories → List Step → Step → Answer → Type 0
+GoesOn plan memories steps step answer = log_of plan memories (steps ++ step ∷ []) ≡ log_of plan memories steps ++ record { step = step; answer = answer } ∷ []
+
+-- `again` comes exactly where no refusal before it does and the ring has no room
+abbrev pub AgainWhereNoRoom : Type 0
+AgainWhereNoRoom = (plan : Plan) (memories : Memories) (steps : List Step) (step : Step) (answer : Answer) (lane : LaneName) →
+    lane_begun_by step ≡ Some lane → GoesOn plan memories steps step answer →
+    is_again answer ≡ (if refused_before_room answer then false else room_in (entries_in plan lane) (log_of plan memories steps) lane == 0)
+
+-- the steps that need a link
+abbrev pub needs_link : Step → Bool
+needs_link (Begin pair side queue frame) = true
+needs_link (QpDown pair side queue) = true
+needs_link (Xbegin pair side queue dev dst kind payload) = true
+needs_link (Offer pair side) = true
+needs_link (Check pair side) = true
+needs_link (Ready pair side queue) = true
+needs_link (Join pair side queue) = true
+needs_link step = false
+
+abbrev pub is_link_down : Answer → Bool
+is_link_down LinkDown = true
+is_link_down answer = false
+
+-- `linkdown` comes exactly on those, exactly where the last link step of the pair left it not up
+abbrev pub LinkDownWhereNotUp : Type 0
+LinkDownWhereNotUp = (plan : Plan) (memories : Memories) (steps : List Step) (step : Step) (answer : Answer) → GoesOn plan memories steps step answer →
+    is_link_down answer ≡ (needs_link step && not (up_at plan (subject_of step) (log_of plan memories steps)))
+
+-- Agreement
+
+-- a side that a script can declare
+pub record IsSide (side : SidePlan) : Type 0 where
+  pub a_version : 0 < side.version
+  pub few_versions : side.version < word
+  pub a_queue : 0 < side.queues
+  pub few_queues : side.queues ≤ 16
+  pub a_window : 0 < side.windows
+  pub few_windows : side.windows ≤ 4
+  pub a_size : 4096 ≤ side.size
+  pub a_cap : 4096 ≤ side.cap
+
+-- each pair of the plan has such sides
+abbrev pub HasSides : Plan → Type 0
+HasSides plan = (pair : ℕ) (side : Side) → pair < length plan.pairs → IsSide (side_plan (pair_plan plan pair) side)
+
+-- a step that an ordinary pair may see: nothing but the handshake writes the scratchpads below 12, and no bytes are poked
+abbrev pub IsOrdinary : Step → Type 0
+IsOrdinary (Spad pair side i value) = 12 ≤ i
+IsOrdinary (Poke pair side window offset bytes) = ⊥
+IsOrdinary step = Unit {0}
+
+-- all numbers of the peer stand in the side's scratchpads, landed in this session, and they agree with the side's own
+pub record Agrees (log : List Answered) (pair : ℕ) (side : Side) (own peer : SidePlan) : Type 0 where
+  pub version_landed : landed_pad log pair side version_pad ≡ Some peer.version
+  pub queues_landed : landed_pad log pair side queues_pad ≡ Some peer.queues
+  pub windows_landed : landed_pad log pair side windows_pad ≡ Some peer.windows
+  pub sizes_landed : (m : ℕ) → m < peer.windows →
+      (landed_pad log pair side (high_pad m) ≡ Some (peer.size / word)) × (landed_pad log pair side (low_pad m) ≡ Some (peer.size % word))
+  pub same_version : peer.version ≡ own.version
+  pub same_queues : peer.queues ≡ own.queues
+  pub same_windows : peer.windows ≡ own.windows
+  pub size_fits : peer.size ≤ own.cap
+
+abbrev pub UpMeansAgreement : Type 0
+UpMeansAgreement = (plan : Plan) (memories : Memories) (steps : List Step) (pair : ℕ) (side : Side) →
+    HasSides plan → pair < length plan.pairs → AllByRecursion IsOrdinary (steps ++ Check pair side ∷ []) → GoesOn plan memories steps (Check pair side) Up →
+    Agrees (log_of plan memories steps) pair side (side_plan (pair_plan plan pair) side) (side_plan (pair_plan plan pair) (other_side side))
+
+-- Quiet
+
+-- nothing is on its way to a receiver on a queue, and it has seen so since it last took the queue's doorbell
+pub record IsQuiet (log : List Answered) (now : PairPart) (pair : ℕ) (side : Side) (queue : ℕ) : Type 0 where
+  pub link : link_up now ≡ true
+  pub joined : has_bit (side_of now side).joined queue ≡ true
+  pub not_closed : has_bit (side_of now side).closed queue ≡ false
+  pub nothing_in_flight : (side_of now (other_side side)).flight ≡ []
+  pub nothing_to_post : (lane_of now (other_side side) queue).todo ≡ []
+  pub not_pending : has_bit (side_of now side).pending queue ≡ false
+  pub looked : last_look_empty log pair side queue ≡ true
+
+-- then all that was flagged was taken, and all that was accepted in the session was delivered
+pub record IsDone (plan : Plan) (log : List Answered) (now : PairPart) (lane : LaneName) : Type 0 where
+  pub all_taken : (lane_of now lane.from lane.queue).got ≡ (lane_of now lane.from lane.queue).flagged
+  pub all_flagged : (lane_of now lane.from lane.queue).flagged ≡ length (lane_of now lane.from lane.queue).sent
+  pub all_delivered : delivered plan log lane now.link.session ≡ accepted plan log lane now.link.session
+
+abbrev pub QuietMeansDone : Type 0
+QuietMeansDone = (plan : Plan) (memories : Memories) (steps : List Step) (pair : ℕ) (side : Side) (queue : ℕ) →
+    IsQuiet (log_of plan memories steps) (ledger_of plan memories steps pair) pair side queue →
+    IsDone plan (log_of plan memories steps) (ledger_of plan memories steps pair) (record { pair = pair; from = other_side side; queue = queue })
+
+-- Separate pairs
+
+abbrev pub steps_on : ℕ → List Step → List Step
+steps_on pair steps = filter (λ step. subject_of step == pair) steps
+
+abbrev pub made_on : ℕ → List Answered → List Answered
+made_on pair log = filter (λ made. subject_of made.step == pair) log
+
+-- the bytes of a pair's memories are those that the steps on it leave
+abbrev pub KeepsPairsApart : Memories → Type 0
+KeepsPairsApart memories = (log : List Answered) (pair : ℕ) → memories log pair ≡ memories (made_on pair log) pair
+
+-- the answers to the steps on a pair are those of the list without the other pairs' steps
+abbrev pub PairsAreSeparate : Type 0
+PairsAreSeparate = (plan : Plan) (memories : Memories) → KeepsPairsApart memories → (steps : List Step) (pair : ℕ) →
+    made_on pair (log_of plan memories steps) ≡ log_of plan memories (steps_on pair steps)
+
+-- Tallies and counters
+
+-- the ledger counts what the log has
+abbrev pub TalliesAreCounts : Type 0
+TalliesAreCounts = (plan : Plan) (memories : Memories) (steps : List Step) (lane : LaneName) (session : ℕ) →
+    let log = log_of plan memories steps in
+    tally_of (ledger_of plan memories steps lane.pair) lane.from lane.queue session
+    ≡ record { accepted = length (accepted plan log lane session); delivered = length (delivered plan log lane session) }

@@ -1,0 +1,155 @@
+-- The ledger of a cluster: what is so of each pair after the steps that were made. It knows lists, counts and labels, and no
+-- memory, address, flag or version word.
+use Rattle.std.specs.Prelude.{ℕ, ◌+◌, ◌==◌, Bool, List, [], ◌∷◌, ◌++◌, length, slice_index_or, if◌then◌else◌}
+use Rattle.step_kinds.specs.declared.names.Side.{Side}
+use Rattle.step_kinds.specs.declared.names.Side.TheVariants.{A, B}
+use Rattle.step_kinds.specs.declared.plan.Counters.{Counters}
+use Rattle.step_kinds.specs.declared.plan.SidePlan.{SidePlan}
+use Rattle.step_kinds.specs.declared.plan.PairPlan.{PairPlan}
+use Rattle.step_kinds.specs.declared.steps.Label.{Label}
+use Rattle.lane_model.specs.Ring.{head_of, tail_of, room_of}
+use Rattle.lane_model.specs.Lane.{Entry, LinkDown}
+use Rattle.lane_model.specs.declared.Phase.{Phase}
+use Rattle.ring_geometry.specs.Geometry.{Layout, entries_of, max_payload_of}
+use Rattle.ledger_model.specs.Both.{Both, at_side, with_side}
+use Rattle.ledger_model.specs.Link.{Link, is_up}
+
+-- A lane in the pair's session: its entries, the writes of the last one that are left to post, and how far each side is.
+-- The labels in flight stand with the side that posted them.
+pub record LanePart : Type 0 where
+  pub sent : List Entry
+  pub todo : List Label
+  pub flagged : ℕ
+  pub got : ℕ
+  pub cleared : ℕ
+  pub acked : ℕ
+  pub freed : ℕ
+  pub phase : Phase
+  pub part : ℕ
+
+-- One side of a pair: what it reached in the handshake, its scratchpads and doorbells, and its writes in flight. Sets of
+-- queues and of doorbells are the bits of a number.
+pub record SidePart : Type 0 where
+  pub up : Bool
+  pub ready : ℕ
+  pub joined : ℕ
+  pub closed : ℕ
+  pub offered : ℕ
+  pub pads : List ℕ
+  pub pending : ℕ
+  pub masked : ℕ
+  pub flight : List Label
+
+-- A network device on a queue.
+pub record DevPart : Type 0 where
+  pub stopped : Bool
+  pub counters : Counters
+
+-- The frames of a lane in a session that were accepted and delivered.
+pub record Tally : Type 0 where
+  pub accepted : ℕ
+  pub delivered : ℕ
+
+-- A pair. Lanes stand by the side that sends and the queue, devices by side and queue, tallies by lane and session.
+pub record PairPart : Type 0 where
+  pub link : Link
+  pub sides : Both SidePart
+  pub lanes : Both (ℕ → LanePart)
+  pub devs : Both (ℕ → DevPart)
+  pub tallies : Both (ℕ → ℕ → Tally)
+
+-- a function with another value at one number
+abbrev pub updated : {X : Type 0} → (ℕ → X) → ℕ → X → ℕ → X
+updated f k x = λ j. if j == k then x else f j
+
+abbrev pub side_of : PairPart → Side → SidePart
+side_of pair side = at_side pair.sides side
+
+abbrev pub lane_of : PairPart → Side → ℕ → LanePart
+lane_of pair from queue = at_side pair.lanes from queue
+
+abbrev pub dev_of : PairPart → Side → ℕ → DevPart
+dev_of pair side queue = at_side pair.devs side queue
+
+abbrev pub tally_of : PairPart → Side → ℕ → ℕ → Tally
+tally_of pair from queue session = at_side pair.tallies from queue session
+
+abbrev pub with_side_part : PairPart → Side → SidePart → PairPart
+with_side_part pair side part = record pair { sides = with_side pair.sides side part }
+
+abbrev pub with_lane : PairPart → Side → ℕ → LanePart → PairPart
+with_lane pair from queue part = record pair { lanes = with_side pair.lanes from (updated (at_side pair.lanes from) queue part) }
+
+abbrev pub with_dev : PairPart → Side → ℕ → DevPart → PairPart
+with_dev pair side queue part = record pair { devs = with_side pair.devs side (updated (at_side pair.devs side) queue part) }
+
+abbrev pub with_tally : PairPart → Side → ℕ → ℕ → Tally → PairPart
+with_tally pair from queue session tally =
+    record pair { tallies = with_side pair.tallies from (updated (at_side pair.tallies from) queue (updated (at_side pair.tallies from queue) session tally)) }
+
+-- whether the pair's link is up
+abbrev pub link_up : PairPart → Bool
+link_up pair = is_up pair.link.state
+
+-- a side posts a write: it is in flight where the link is up, and lost otherwise
+abbrev pub posts : PairPart → Side → Label → PairPart
+posts pair side label =
+    if link_up pair
+    then with_side_part pair side (record (side_of pair side) { flight = (side_of pair side).flight ++ label ∷ [] })
+    else pair
+
+-- the numbers of a lane's ring
+pub record Sizes : Type 0 where
+  -- positions of the ring, and the most bytes of a frame
+  pub entries : ℕ
+  pub largest : ℕ
+
+-- the bytes of a header
+abbrev pub header_bytes : ℕ
+header_bytes = 12
+
+abbrev pub side_plan : PairPlan → Side → SidePlan
+side_plan plan A = plan.a
+side_plan plan B = plan.b
+
+-- the ring of a lane lies in a window that its sender sends through, so the sender's numbers say how large it is
+abbrev pub layout_of : PairPlan → Side → ℕ → Layout
+layout_of plan from queue =
+    let own = side_plan plan from in
+    record { window = own.size; windows = own.windows; queues = own.queues; queue = queue; mtu = plan.mtu; header = header_bytes }
+
+abbrev pub sizes_of : PairPlan → Side → ℕ → Sizes
+sizes_of plan from queue = record { entries = entries_of (layout_of plan from queue); largest = max_payload_of (layout_of plan from queue) }
+
+-- the entries that are free for the sender, and what it reads of head and index word
+abbrev pub free_of : Sizes → LanePart → ℕ
+free_of sizes lane = room_of sizes.entries (length lane.sent) lane.freed
+
+abbrev pub head_in : Sizes → LanePart → ℕ
+head_in sizes lane = head_of sizes.entries (length lane.sent)
+
+abbrev pub tail_in : Sizes → LanePart → ℕ
+tail_in sizes lane = tail_of sizes.entries lane.freed
+
+-- entry n of a lane
+abbrev pub entry_in : LanePart → ℕ → Entry
+entry_in lane n = slice_index_or lane.sent n LinkDown
+
+-- the numbers of the scratchpads that the handshake uses
+abbrev pub version_pad : ℕ
+version_pad = 0
+
+abbrev pub links_pad : ℕ
+links_pad = 1
+
+abbrev pub queues_pad : ℕ
+queues_pad = 2
+
+abbrev pub windows_pad : ℕ
+windows_pad = 3
+
+abbrev pub high_pad : ℕ → ℕ
+high_pad m = 4 + (m + m)
+
+abbrev pub low_pad : ℕ → ℕ
+low_pad m = 5 + (m + m)

@@ -1,0 +1,184 @@
+-- The log of a run: each step with its answer. What follows reads a log alone, and no ledger.
+use Rattle.std.specs.Prelude.{ℕ, ◌+◌, ◌-◌, ◌==◌, Bool, true, false, ◌&&◌, Option, Some, None, List, [], ◌∷◌, ◌++◌, count_by, if◌then◌else◌}
+use Rattle.std.specs.List.{flat_map}
+use Rattle.step_kinds.specs.Bits.{has_bit}
+use Rattle.step_kinds.specs.Sides.{other_side}
+use Rattle.step_kinds.specs.declared.names.LaneName.{LaneName}
+use Rattle.step_kinds.specs.declared.names.Side.{Side}
+use Rattle.step_kinds.specs.declared.names.Side.TheVariants.{A, B}
+use Rattle.step_kinds.specs.declared.plan.Plan.{Plan}
+use Rattle.step_kinds.specs.declared.steps.Label.TheVariants.{Index, Pad}
+use Rattle.step_kinds.specs.declared.steps.Answer.{Answer}
+use Rattle.step_kinds.specs.declared.steps.Answer.TheVariants.{Ok as Done, OkSession, OkNumber, Landed, Empty, Delivered, Irq as IrqBits}
+use Rattle.step_kinds.specs.declared.steps.Step.{Step}
+use Rattle.step_kinds.specs.declared.steps.Step.TheVariants.{Train, Break, Begin, QpDown, Xbegin, Land, Look, Copy, Irq}
+use Rattle.ledger_model.specs.Device.{ethernet_frame}
+use Rattle.ledger_model.specs.Next.{Bytes, Ledger, start, outcome_in, ledger_after, pair_plan, dev_plan}
+
+pub record Answered : Type 0 where
+  pub step : Step
+  pub answer : Answer
+
+-- the bytes of the memories, as the log so far leaves them
+abbrev pub Memories : Type 0
+Memories = List Answered → ℕ → Bytes
+
+-- a step with its answer in a ledger
+abbrev pub answered : Plan → (ℕ → Bytes) → Ledger → Step → Answered
+answered plan bytes ledger step = record { step = step; answer = (outcome_in plan bytes ledger step).answer }
+
+-- the log of steps from a ledger on, and the ledger after them, where `before` is the log so far
+abbrev pub log_from : Plan → Memories → List Answered → Ledger → List Step → List Answered
+log_from plan memories before ledger [] = []
+log_from plan memories before ledger (step ∷ steps) =
+    let made = answered plan (memories before) ledger step in
+    made ∷ log_from plan memories (before ++ made ∷ []) (ledger_after plan (memories before) ledger step) steps
+
+abbrev pub ledger_from : Plan → Memories → List Answered → Ledger → List Step → Ledger
+ledger_from plan memories before ledger [] = ledger
+ledger_from plan memories before ledger (step ∷ steps) =
+    ledger_from plan memories (before ++ answered plan (memories before) ledger step ∷ []) (ledger_after plan (memories before) ledger step) steps
+
+-- the log of a list of steps, and the ledger after it
+abbrev pub log_of : Plan → Memories → List Step → List Answered
+log_of plan memories steps = log_from plan memories [] (start plan) steps
+
+abbrev pub ledger_of : Plan → Memories → List Step → Ledger
+ledger_of plan memories steps = ledger_from plan memories [] (start plan) steps
+
+-- Sessions
+
+abbrev pub same_side : Side → Side → Bool
+same_side A A = true
+same_side A B = false
+same_side B A = false
+same_side B B = true
+
+-- whether this begins a session of the pair
+abbrev pub trains : ℕ → Answered → Bool
+trains pair made = began made.step made.answer where
+  began : Step → Answer → Bool
+  began (Train p) (OkSession session) = p == pair
+  began step answer = false
+
+-- whether this ends one
+abbrev pub breaks : ℕ → Answered → Bool
+breaks pair made = ended made.step made.answer where
+  ended : Step → Answer → Bool
+  ended (Break p) Done = p == pair
+  ended step answer = false
+
+-- the session in which a pair starts
+abbrev pub first_session : Plan → ℕ → ℕ
+first_session plan pair = if (pair_plan plan pair).up then 1 else 0
+
+-- what was made while the pair was in a session, where it is now in session `now`
+abbrev pub made_in : ℕ → ℕ → ℕ → List Answered → List Answered
+made_in pair session now [] = []
+made_in pair session now (made ∷ log) =
+    let rest = made_in pair session (if trains pair made then now + 1 else now) log in
+    if now == session then made ∷ rest else rest
+
+-- what was made since the pair's session began, `kept` being what was made in it so far
+abbrev pub made_since : ℕ → List Answered → List Answered → List Answered
+made_since pair kept [] = kept
+made_since pair kept (made ∷ log) = made_since pair (if trains pair made then [] else kept ++ made ∷ []) log
+
+abbrev pub in_this_session : ℕ → List Answered → List Answered
+in_this_session pair log = made_since pair [] log
+
+-- whether the last link step of the pair that wasn't refused left it up, where it was so before
+abbrev pub up_after : ℕ → Bool → List Answered → Bool
+up_after pair now [] = now
+up_after pair now (made ∷ log) = up_after pair (if trains pair made then true else if breaks pair made then false else now) log
+
+abbrev pub up_at : Plan → ℕ → List Answered → Bool
+up_at plan pair log = up_after pair (pair_plan plan pair).up log
+
+-- Frames
+
+-- a frame and the number that it was answered with
+pub record Numbered : Type 0 where
+  pub number : ℕ
+  pub bytes : List ℕ
+
+-- whether a step on this pair, side and queue is one on the lane
+abbrev pub is_on : LaneName → ℕ → Side → ℕ → Bool
+is_on lane pair from queue = (pair == lane.pair) && (same_side from lane.from && (queue == lane.queue))
+
+-- the frame that this accepts on a lane
+abbrev pub accepts : Plan → LaneName → Answered → List Numbered
+accepts plan lane made = taken made.step made.answer where
+  taken : Step → Answer → List Numbered
+  taken (Begin pair side queue frame) (OkNumber n) = if is_on lane pair side queue then record { number = n; bytes = frame } ∷ [] else []
+  taken (Xbegin pair side queue dev dst kind payload) (OkNumber n) =
+      if is_on lane pair side queue then record { number = n; bytes = ethernet_frame dst (dev_plan plan.devs dev).address kind payload } ∷ [] else []
+  taken step answer = []
+
+-- the frame that this delivers on a lane
+abbrev pub delivers : LaneName → Answered → List Numbered
+delivers lane made = given made.step made.answer where
+  given : Step → Answer → List Numbered
+  given (Copy pair side queue) (Delivered n frame) = if is_on lane pair (other_side side) queue then record { number = n; bytes = frame } ∷ [] else []
+  given step answer = []
+
+-- what was accepted, and what was delivered, on a lane in a session
+abbrev pub accepted : Plan → List Answered → LaneName → ℕ → List Numbered
+accepted plan log lane session = flat_map (accepts plan lane) (made_in lane.pair session (first_session plan lane.pair) log)
+
+abbrev pub delivered : Plan → List Answered → LaneName → ℕ → List Numbered
+delivered plan log lane session = flat_map (delivers lane) (made_in lane.pair session (first_session plan lane.pair) log)
+
+-- Room
+
+-- whether this begins an entry of the lane
+abbrev pub takes_room : LaneName → Answered → Bool
+takes_room lane made = taken made.step made.answer where
+  taken : Step → Answer → Bool
+  taken (Begin pair side queue frame) (OkNumber n) = is_on lane pair side queue
+  taken (Xbegin pair side queue dev dst kind payload) (OkNumber n) = is_on lane pair side queue
+  taken (QpDown pair side queue) (OkNumber n) = is_on lane pair side queue
+  taken step answer = false
+
+-- whether this lands an index write of the lane, which its receiver posted
+abbrev pub gives_room : LaneName → Answered → Bool
+gives_room lane made = given made.step made.answer where
+  given : Step → Answer → Bool
+  given (Land pair side place) (Landed (Index queue n)) = is_on lane pair (other_side side) queue
+  given step answer = false
+
+-- the entries of a lane that are free after a log, of a ring with so many
+abbrev pub room_in : ℕ → List Answered → LaneName → ℕ
+room_in entries log lane =
+    let made = in_this_session lane.pair log in
+    entries - 1 + count_by (gives_room lane) made - count_by (takes_room lane) made
+
+-- Scratchpads
+
+-- the value that landed last in a scratchpad of a side, where it was `now`
+abbrev pub pad_after : ℕ → Side → ℕ → Option ℕ → List Answered → Option ℕ
+pad_after pair side i now [] = now
+pad_after pair side i now (made ∷ log) = pad_after pair side i (written made.step made.answer) log where
+  written : Step → Answer → Option ℕ
+  written (Land p from place) (Landed (Pad j value)) =
+      if (p == pair) && (same_side (other_side from) side && (j == i)) then Some value else now
+  written step answer = now
+
+-- the value that landed last in a scratchpad of a side since the pair's session began
+abbrev pub landed_pad : List Answered → ℕ → Side → ℕ → Option ℕ
+landed_pad log pair side i = pad_after pair side i None (in_this_session pair log)
+
+-- Looking
+
+-- whether the side's last look on the queue was empty and no doorbell of the queue was taken since, where it was so before
+abbrev pub saw_empty : ℕ → Side → ℕ → Bool → List Answered → Bool
+saw_empty pair side queue now [] = now
+saw_empty pair side queue now (made ∷ log) = saw_empty pair side queue (seen made.step made.answer) log where
+  seen : Step → Answer → Bool
+  seen (Look p s q) Empty = if (p == pair) && (same_side s side && (q == queue)) then true else now
+  seen (Look p s q) answer = if (p == pair) && (same_side s side && (q == queue)) then false else now
+  seen (Irq p s) (IrqBits bits) = if (p == pair) && (same_side s side && has_bit bits queue) then false else now
+  seen step answer = now
+
+abbrev pub last_look_empty : List Answered → ℕ → Side → ℕ → Bool
+last_look_empty log pair side queue = saw_empty pair side queue false (in_this_session pair log)
