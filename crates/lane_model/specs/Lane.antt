@@ -3,6 +3,10 @@
 -- then the header's DONE flag and a doorbell, and an index written back once the receiver is done.
 use Rattle.std.specs.Prelude.{ℕ, zero, suc, ◌+◌, ◌-◌, ◌*◌, ◌/◌, ◌%◌, ◌^◌, Bool, List, [], ◌∷◌, ◌++◌, length, map, take, drop, slice_index_or, slice_set}
 use Rattle.lane_model.specs.Ring.{head_of, free_entries}
+pub use Rattle.lane_model.specs.declared.Field.{Field}
+pub use Rattle.lane_model.specs.declared.Field.TheVariants.{Chunk, Length, Version}
+pub use Rattle.lane_model.specs.declared.Mark.{Mark}
+pub use Rattle.lane_model.specs.declared.Mark.TheVariants.{Cell, Flag, Bell}
 use Rattle.lane_model.specs.declared.Phase.{Phase}
 
 -- What a sender puts into one entry of the ring: a frame's bytes, or the word that this end of the queue goes down.
@@ -13,18 +17,6 @@ pub data Entry : Type 0 where
 abbrev pub bytes_of : Entry → List ℕ
 bytes_of (Carries bytes) = bytes
 bytes_of LinkDown = []
-
--- A part of an entry that is written before its flags: a chunk of the payload, or a field of the header.
-pub data Field : Type 0 where
-  Chunk : (part : ℕ) → Field
-  Length : Field
-  Version : Field
-
--- A posted write of a lane: a field of an entry, the flags of an entry (with LINK_DOWN where the entry says so), or the doorbell.
-pub data Mark : Type 0 where
-  Cell : (number : ℕ) → (field : Field) → Mark
-  Flag : (number : ℕ) → Mark
-  Bell : Mark
 
 -- A position of the ring: the payload at its beginning, and the three fields of the header at its end.
 pub record Place : Type 0 where

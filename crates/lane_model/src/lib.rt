@@ -16,3 +16,25 @@ pub enum Phase {
     /// The flags are cleared and the index is still to be written back.
     Cleared,
 }
+
+/// A part of an entry that is written before its flags.
+#[derive(Clone, Copy, Debug, PartialEq, Eq)]
+pub enum Field {
+    /// The bytes of the payload from 128 times `part` on, at most 128 of them.
+    Chunk { part: u32 },
+    /// The length in the header.
+    Length,
+    /// The version in the header.
+    Version,
+}
+
+/// A posted write of a lane.
+#[derive(Clone, Copy, Debug, PartialEq, Eq)]
+pub enum Mark {
+    /// A field of an entry.
+    Cell { number: u64, field: Field },
+    /// The flags of an entry: DONE, and LINK_DOWN where the entry says so.
+    Flag { number: u64 },
+    /// The doorbell.
+    Bell,
+}

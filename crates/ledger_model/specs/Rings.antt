@@ -11,7 +11,9 @@ use Rattle.step_kinds.specs.declared.steps.Answer.{Answer}
 use Rattle.step_kinds.specs.declared.steps.Answer.TheVariants.{Landed, Up, Cleared}
 use Rattle.step_kinds.specs.declared.steps.Step.{Step}
 use Rattle.step_kinds.specs.declared.steps.Step.TheVariants.{Land, Check, Clear}
-use Rattle.lane_model.specs.Lane.{Mark, Cell, Flag, Bell, Place, Lane, flags_of, with_field, with_flags, blank}
+use Rattle.lane_model.specs.declared.Mark.{Mark}
+use Rattle.lane_model.specs.declared.Mark.TheVariants.{Cell, Flag, Bell}
+use Rattle.lane_model.specs.Lane.{Place, Lane, flags_of, with_field, with_flags, blank}
 use Rattle.lane_model.specs.Law.{HoldsRingLaw}
 use Rattle.ring_geometry.specs.Geometry.{HasRing}
 use Rattle.ledger_model.specs.Labels.{mark_of, index_of, marks_of, indexes_of}
