@@ -6,14 +6,14 @@ use Rattle.std.proofs.lemmas.List.{length-take-le, length-map, map-append, get_o
 use Rattle.std.proofs.lemmas.Option.{slice_get_within, slice_get-map, get_or_from_slice_get, slice_get_read}
 use Rattle.lane_model.specs.Order.{relaxed, may_land}
 
--- a test that looks at no element holds of each element of a list, or the list is empty
+-- a test that gives each element one answer gives it for the list, unless that is empty
 list_all-same : (b : Bool) (xs : List ℕ) → list_all (λ _. b) xs ≡ (b || length xs == 0)
 list_all-same true [] = refl
 list_all-same false [] = refl
 list_all-same true (x ∷ xs) = list_all-same true xs
 list_all-same false (x ∷ xs) = sym (ne_eqb (suc (length xs)) 0 (λ e. omega arith))
 
--- the write at a place that is taken
+-- the write at a place within the list may land where it is relaxed or first
 pub may_land-within : (kinds : List ℕ) (place : ℕ) → place < length kinds → may_land kinds place ≡ (slice_index kinds place == relaxed || place == 0)
 may_land-within kinds place within =
     let tested : list_all (λ _. slice_index kinds place == relaxed) (take place kinds) ≡ (slice_index kinds place == relaxed || length (take place kinds) == 0) =
@@ -26,20 +26,20 @@ may_land-within kinds place within =
 pub may_land-past : (kinds : List ℕ) (place : ℕ) → length kinds ≤ place → may_land kinds place ≡ false
 may_land-past kinds place past = and_left _ _ (le-ltb place (length kinds) past)
 
--- the write behind so many others
+-- the same of the write behind those before it
 pub may_land-split : (before after : List ℕ) (write : ℕ) → may_land (before ++ write ∷ after) (length before) ≡ (write == relaxed || length before == 0)
 may_land-split before after write =
     may_land-within (before ++ write ∷ after) (length before) (omega (arith, length-append before (write ∷ after)))
     ∙ ap (λ kind. kind == relaxed || length before == 0) (get_or_at before write after 0 (length before) refl)
 
--- the write at a place, where each write has its kind by `order`
+-- the same of the write at a place, where each write has its kind by `order`
 pub may_land-map : {W : Type 0} (order : W → ℕ) (writes : List W) (place : ℕ) (write : W) → slice_get writes place ≡ Some write → may_land (map order writes) place ≡ (order write == relaxed || place == 0)
 may_land-map order writes place write at =
     let kind_at : slice_get (map order writes) place ≡ Some (order write) = slice_get-map order writes place ∙ ap (option_map order) at in
     may_land-within (map order writes) place (slice_get_within (map order writes) place (order write) kind_at)
     ∙ ap (λ kind. kind == relaxed || place == 0) (get_or_from_slice_get (map order writes) place (order write) 0 kind_at)
 
--- the write behind so many others, where each has its kind by `order`
+-- the same of the write behind those before it, where each write has its kind by `order`
 pub may_land-map_split : {W : Type 0} (order : W → ℕ) (before after : List W) (write : W) → may_land (map order (before ++ write ∷ after)) (length before) ≡ (order write == relaxed || length before == 0)
 may_land-map_split order before after write =
     let long : length (map order before) ≡ length before = length-map before order in

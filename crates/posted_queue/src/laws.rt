@@ -1,5 +1,5 @@
 //! Laws of landing, each the contract of a function that does nothing.
-ghost use Rattle.std.specs.Prelude.{ℕ, Bool, List, ◌∷◌, ◌++◌, ◌↔◌, IsTrue, length, map};
+ghost use Rattle.std.specs.Prelude.{◌≡◌, ℕ, Bool, false, List, ◌∷◌, ◌++◌, ◌↔◌, IsTrue, length, map, filter, remove};
 ghost use Rattle.lane_model.specs.Order.{may_land};
 ghost use Rattle.posted_queue.specs.Laws.{IsRelaxedOrFirst, LandsAmongKept};
 
@@ -17,4 +17,10 @@ pub fn lands_among_kept<W: Ordered>()
     ensures { (kept : W → Bool) (before after : List W) (write : W) → IsTrue (kept write)
         → IsTrue (may_land (map W.order (before ++ write ∷ after)) (length before))
         → LandsAmongKept W.order kept before write after }
+{}
+
+/// A write that is left out leaves those that are looked at alone when it lands.
+pub fn landing_leaves_others<W: Ordered>()
+    ensures { (kept : W → Bool) (before after : List W) (write : W) → kept write ≡ false
+        → filter kept (remove (before ++ write ∷ after) (length before)) ≡ filter kept (before ++ write ∷ after) }
 {}

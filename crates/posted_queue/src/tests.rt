@@ -80,4 +80,5 @@ fn room_is_promised_before_a_write_is_posted(rt: HostRuntime) -> Result<(), Fail
 fn laws_hold_at_a_type_of_writes() {
     laws::relaxed_or_first_lands();
     laws::lands_among_kept::<Numbered>();
+    laws::landing_leaves_others::<Numbered>();
 }
