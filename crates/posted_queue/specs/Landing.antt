@@ -5,7 +5,7 @@ use Rattle.posted_queue.specs.Flight.{Flight}
 use Rattle.posted_queue.specs.declared.LandAnswer.{LandAnswer}
 use Rattle.posted_queue.specs.declared.LandAnswer.TheVariants.{Landed, Blocked, Nothing}
 
--- the answer for the write at a place, if there is one: it landed where it may, else it is blocked
+-- the answer for the write at a place: nothing where there is none, else it landed if it may, and is blocked if not
 abbrev pub answer_for : {W : Type 0} → Option W → Bool → LandAnswer W
 answer_for None lands = Nothing
 answer_for (Some write) true = Landed write

@@ -97,7 +97,7 @@ impl<W: Ordered> Queue<W> {
         self.writes.get(place)
     }
 
-    /// Promises room for `more` writes, on top of what is promised already.
+    /// Promises room for `more` writes, on top of those that are promised already.
     ///
     /// An `Err` comes only from want of memory, and leaves the queue as it was.
     pub fn promise(&mut self, more: usize) -> Result<(), AllocError>
@@ -110,7 +110,7 @@ impl<W: Ordered> Queue<W> {
         Ok(())
     }
 
-    /// Gives back the promise of `count` writes, which are not posted after all.
+    /// Gives back the promise of `count` writes, which are not posted after all. So many must be promised.
     pub fn give_back(&mut self, count: usize)
         requires { count ≤ self.old.spare }
         ensures { self.new ≡ given_back self.old count }
@@ -118,7 +118,7 @@ impl<W: Ordered> Queue<W> {
         self.spare -= count;
     }
 
-    /// Posts a write behind all others, into room that was promised. It takes no memory.
+    /// Posts a write behind all others, into room that was promised for at least one more. It takes no memory.
     pub fn push(&mut self, write: W)
         requires { 0 < self.old.spare }
         ensures { self.new ≡ posted self.old write }
@@ -127,9 +127,15 @@ impl<W: Ordered> Queue<W> {
         self.spare -= 1;
     }
 
-    /// Lands the write at this place in flight, if it may pass each write before it: the write is taken out and
-    /// returned. Else it stays. At the front, a write always lands, in constant time; elsewhere the shorter side
-    /// of the queue moves.
+    /// Lands the write at this place in flight, counted from 0 for the one that was posted first. It is taken out and
+    /// returned if it may pass each write before it, as one at the front always may: relaxed writes may, strict ones
+    /// may not (PCI Express Base 4.0, section 2.4).
+    ///
+    /// [`LandAnswer::Blocked`] comes where it may not, and [`LandAnswer::Nothing`] where no more than `place` writes
+    /// are in flight. Both leave the queue as it was. What was promised stays promised.
+    ///
+    /// At the front this takes constant time. Elsewhere the shorter side of the queue moves, and no write before
+    /// the place is looked at.
     pub fn land(&mut self, place: usize) -> LandAnswer<W>
         ensures answer { result ≡ land_answer W.order self.old place }
         ensures after { self.new ≡ after_landing W.order self.old place }
