@@ -1,0 +1,15 @@
+//! The top call of ntbsim: it takes the words of a command line, a source and a sink, does all that the program does, and answers
+//! the exit status.
+#![tactic(auto)]
+
+mod engine;
+mod program;
+mod reader;
+mod script;
+mod spelling;
+mod texts;
+
+pub use program::run_program;
+
+#[cfg(test)]
+mod tests;
