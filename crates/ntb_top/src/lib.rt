@@ -10,6 +10,3 @@ mod spelling;
 mod texts;
 
 pub use program::run_program;
-
-#[cfg(test)]
-mod tests;

@@ -1,6 +1,9 @@
 //! What a script declares, as its lines are read one after another.
 
-use step_kinds::{Frame, Line, Name, PairPlan, Side, Step};
+ghost use Rattle.std.specs.Prelude.{◌<◌, length};
+
+use std::alloc::{AllocError, Global};
+use step_kinds::{Frame, Name, PairPlan, Side};
 
 /// The part of the script that a line stands in.
 #[derive(Clone, Copy, Debug, PartialEq, Eq)]
@@ -13,13 +16,50 @@ pub enum Part {
     Steps,
 }
 
-/// What the lines so far have given.
+/// A frame that a script sends: it has a byte.
 #[derive(Drop)]
-pub struct Script {
-    pub part: Part,
-    pub hosts: Vec<Name>,
-    pub pair: Option<PairPlan>,
-    pub steps: Vec<Line>,
+pub struct SentFrame {
+    pub frame: Frame,
+    ghost some_bytes: { 0 < length frame },
+}
+
+/// A step of the pair's one lane, which goes from side A to side B on queue 0.
+#[derive(Drop)]
+pub enum LaneStep {
+    /// A frame is begun.
+    Begin(SentFrame),
+    /// The next write is posted.
+    Post,
+    /// The write at a place of those in flight from a side lands.
+    Land(Side, u32),
+    /// The receiver looks for the next frame.
+    Look,
+    /// The receiver copies the next part.
+    Copy,
+    /// The receiver clears the flags.
+    Clear,
+    /// The receiver gives the entry back.
+    Ack,
+}
+
+/// A step and the line that it comes from, counted from 1.
+#[derive(Drop)]
+pub struct LineStep {
+    pub line: u32,
+    pub step: LaneStep,
+}
+
+/// One line of steps.
+#[derive(Drop)]
+pub enum Macro {
+    /// One step.
+    Step(LaneStep),
+    /// A frame is begun and all its writes are posted.
+    Send(SentFrame),
+    /// The first write in flight from a side lands, so many times.
+    LandAll(Side, u32),
+    /// A look, so many copies, a clear and an ack.
+    Receive(u32),
 }
 
 /// What one line gives.
@@ -39,29 +79,13 @@ pub enum Given {
     Steps(Macro),
 }
 
-/// One line of steps.
+/// What the lines so far have given.
 #[derive(Drop)]
-pub enum Macro {
-    /// A frame is begun and all its writes are posted.
-    Send(Frame),
-    /// A frame is begun.
-    Begin(Frame),
-    /// The next write is posted.
-    Post,
-    /// The write at a place of those in flight from a side lands.
-    Land(Side, u32),
-    /// The first write in flight from a side lands, so many times.
-    LandAll(Side, u32),
-    /// The receiver looks for the next frame.
-    Look,
-    /// The receiver copies the next part.
-    Copy,
-    /// The receiver clears the flags.
-    Clear,
-    /// The receiver gives the entry back.
-    Ack,
-    /// A look, so many copies, a clear and an ack.
-    Receive(u32),
+pub struct Script {
+    pub part: Part,
+    pub hosts: Vec<Name>,
+    pub pair: Option<PairPlan>,
+    pub steps: Vec<LineStep>,
 }
 
 /// The most steps that a script may have after macros are replaced by their steps.
@@ -74,69 +98,95 @@ pub const MOST_FRAME_BYTES: usize = 65_536;
 const CHUNK: u32 = 128;
 
 /// As many posts as a frame has writes: its chunks, length, version, flags and doorbell.
-pub fn writes_of(frame: &Frame) -> u32 {
-    frame.len().div_ceil(CHUNK) + 4
+fn posts_of(sent: &SentFrame) -> u32
+    ensures { result < 1000 }
+{
+    sent.frame.len().div_ceil(CHUNK) + 4
 }
 
 impl Macro {
     /// How many steps it is.
     pub fn len(&self) -> u32 {
         match self {
-            Macro::Send(frame) => 1 + writes_of(frame),
+            Macro::Step(_) => 1,
+            Macro::Send(frame) => 1 + posts_of(frame),
             Macro::LandAll(_, count) => *count,
             Macro::Receive(copies) => copies.saturating_add(3),
-            _ => 1,
         }
     }
 }
 
-/// A step of the pair's one lane, which goes from side A to side B on queue 0.
-pub fn lane_step(kind: LaneStep) -> Step {
-    let (pair, queue) = (0, 0);
-    match kind {
-        LaneStep::Begin(frame) => Step::Begin {
-            pair,
-            side: Side::A,
-            queue,
-            frame,
-        },
-        LaneStep::Post => Step::Post {
-            pair,
-            side: Side::A,
-            queue,
-        },
-        LaneStep::Land(side, place) => Step::Land { pair, side, place },
-        LaneStep::Look => Step::Look {
-            pair,
-            side: Side::B,
-            queue,
-        },
-        LaneStep::Copy => Step::Copy {
-            pair,
-            side: Side::B,
-            queue,
-        },
-        LaneStep::Clear => Step::Clear {
-            pair,
-            side: Side::B,
-            queue,
-        },
-        LaneStep::Ack => Step::Ack {
-            pair,
-            side: Side::B,
-            queue,
-        },
+impl Script {
+    /// Before any line.
+    pub fn empty(alloc: Global) -> Script {
+        Script {
+            part: Part::Header,
+            hosts: Vec::new(alloc),
+            pair: None,
+            steps: Vec::new(alloc),
+        }
     }
-}
 
-/// A step of the pair's one lane.
-#[derive(Drop)]
-pub enum LaneStep {
-    Begin(Frame),
-    Post,
-    Land(Side, u32),
-    Look,
-    Copy,
-    Clear,
-    Ack,
+    /// Whether a host of this name is declared.
+    pub fn has_host(&self, name: &[u8]) -> bool {
+        self.hosts.iter().any(|host| host.bytes() == name)
+    }
+
+    /// Whether a pair of this name is declared.
+    pub fn has_pair(&self, name: &[u8]) -> bool {
+        match &self.pair {
+            Some(pair) => pair.name.bytes() == name,
+            None => false,
+        }
+    }
+
+    /// Adds what line `line` gives. The only error is want of memory.
+    pub fn take(&mut self, line: u32, given: Given) -> Result<(), AllocError> {
+        match given {
+            Given::Nothing => {}
+            Given::Header => self.part = Part::Declarations,
+            Given::Host(name) => self.hosts.push(name)?,
+            Given::Pair(pair) => self.pair = Some(pair),
+            Given::StepsBegin => self.part = Part::Steps,
+            Given::Steps(steps) => self.take_steps(line, steps)?,
+        }
+        Ok(())
+    }
+
+    // Adds the steps of a line.
+    fn take_steps(&mut self, line: u32, steps: Macro) -> Result<(), AllocError> {
+        match steps {
+            Macro::Step(step) => self.take_step(line, step),
+            Macro::Send(frame) => {
+                let posts = posts_of(&frame);
+                self.take_step(line, LaneStep::Begin(frame))?;
+                for _ in 0..posts {
+                    self.take_step(line, LaneStep::Post)?;
+                }
+                Ok(())
+            }
+            Macro::LandAll(side, count) => {
+                for _ in 0..count {
+                    self.take_step(line, LaneStep::Land(side, 0))?;
+                }
+                Ok(())
+            }
+            Macro::Receive(copies) => self.take_receive(line, copies),
+        }
+    }
+
+    // Adds the steps of a receive.
+    fn take_receive(&mut self, line: u32, copies: u32) -> Result<(), AllocError> {
+        self.take_step(line, LaneStep::Look)?;
+        for _ in 0..copies {
+            self.take_step(line, LaneStep::Copy)?;
+        }
+        self.take_step(line, LaneStep::Clear)?;
+        self.take_step(line, LaneStep::Ack)
+    }
+
+    fn take_step(&mut self, line: u32, step: LaneStep) -> Result<(), AllocError> {
+        self.steps.push(LineStep { line, step })?;
+        Ok(())
+    }
 }

@@ -69,17 +69,16 @@ fn digits_of(digits: &[u8]) -> Option<u32> {
         if !digit.is_ascii_digit() {
             return None;
         }
-        value = value.checked_mul(10)?.checked_add(u32::from(*digit - b'0'))?;
+        value = value
+            .checked_mul(10)?
+            .checked_add(u32::from(*digit - b'0'))?;
     }
     Some(value)
 }
 
-/// The bytes that a word spells: an even number of hexadecimal digits, at least two, in either case. `None` where it spells none;
-/// the only error is want of memory.
+/// The bytes that a word spells: an even number of hexadecimal digits in either case. `None` where it spells none; the only
+/// error is want of memory.
 pub fn bytes_of(alloc: Global, word: &[u8]) -> Result<Option<Vec<u8>>, AllocError> {
-    if word.is_empty() {
-        return Ok(None);
-    }
     match hex::decode(alloc, word) {
         Ok(bytes) => Ok(Some(bytes)),
         Err(FromHexError::OutOfMemory) => Err(AllocError),
