@@ -1,1 +1,5 @@
 pub mod Reply
+pub mod Report
+pub mod Script
+pub mod Spelling
+pub mod Texts
