@@ -149,6 +149,24 @@ fields_make_whole place n entry fits each up = record {
   flags = up;
 }
 
+-- where an entry stands whole, each chunk of it stands
+pub chunk_of_whole : (place : Place) (n : ℕ) (entry : Entry) (part : ℕ) → StandsWhole place n entry → Stands place n entry (Chunk part)
+chunk_of_whole place n entry part whole =
+    let bytes = bytes_of entry in
+    let at = chunk_size * part in
+    let count = length (chunk_of bytes part) in
+    let a = length-chunk_of bytes part in
+    let b = length-take count (drop at place.payload) in
+    let c = length-drop at place.payload in
+    let d : min (length bytes) (length place.payload) ≡ length bytes = sym (length-take (length bytes) place.payload) ∙ ap length whole.payload in
+    same_lists (take count (drop at place.payload)) (chunk_of bytes part) (omega arith) (λ i dflt below.
+    get_or-take count (drop at place.payload) i dflt (omega arith)
+    ∙ get_or-drop at place.payload i dflt
+    ∙ sym (get_or-take (length bytes) place.payload (at + i) dflt (omega arith))
+    ∙ ap (λ w. get_or w (at + i) dflt) whole.payload
+    ∙ sym (get_or-drop at bytes i dflt)
+    ∙ sym (get_or-take chunk_size (drop at bytes) i dflt (omega arith)))
+
 -- an element of a list is its first or stands in the rest
 pub contains_cases : {X : Type 0} (y : X) (xs : List X) (x : X) → Contains (y ∷ xs) x → (y ≡ x) ⊎ Contains xs x
 contains_cases {X} y xs x h = go h.0 h.1 h.2

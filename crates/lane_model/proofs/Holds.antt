@@ -1,7 +1,6 @@
 -- The laws of specs/Kept.antt, one lemma for each.
 use Rattle.std.proofs.Common.{◌≡◌, ℕ, ◌≤◌, [], ◌∷◌, ◌++◌, length, ◌∙◌, ap, inl, inr, arith, le-ltb}
 use Rattle.std.proofs.lemmas.Bool.{cond-false, cases_lt, cases_Bool}
-use Rattle.lane_model.specs.Ring.{head_of, free_entries}
 use Rattle.lane_model.specs.Lane.{Lane}
 use Rattle.lane_model.specs.Law.{Sender, owner_of, entry_at}
 use Rattle.lane_model.specs.Kept.{LookSees, CopySees, FreshHolds, BeginKeeps, PostKeeps, LandCellKeeps, LandFlagKeeps, LandBellKeeps, FlagIsNext, CellIsAhead, NothingLeft, LookKeeps, CopyKeeps, ClearKeeps, AckKeeps, IndexKeeps, CutKeeps, DropKeeps, FreeIsRoom, IndexIsNext, EachHasOneOwner}
@@ -14,15 +13,10 @@ pub fresh_holds : FreshHolds
 fresh_holds lane fresh = ([], [], sender.fresh_holds lane fresh)
 
 pub free_is_room : FreeIsRoom
-free_is_room lane law =
-    let h = law.2 in
-    let low : lane.freed ≤ length lane.sent = omega arith in
-    ap (free_entries lane.entries (head_of lane.entries (length lane.sent))) h.index_word ∙ numbers.free_is_room lane.entries (length lane.sent) lane.freed h.two_entries low h.one_free
+free_is_room lane law = sender.free_is_room law.0 law.1 lane law.2
 
 pub begin_keeps : BeginKeeps
-begin_keeps lane entry no_todo free fits open_yet law =
-    let same = free_is_room lane law in
-    (law.0, law.1, sender.begin_keeps law.0 law.1 lane entry no_todo (omega arith) fits open_yet law.2)
+begin_keeps lane entry no_todo free fits open_yet law = (law.0, law.1, sender.begin_keeps law.0 law.1 lane entry no_todo free fits open_yet law.2)
 
 pub post_keeps : PostKeeps
 post_keeps lane mark rest front law = elim (cases_Bool lane.up) [

@@ -32,6 +32,7 @@ land_bell_keeps lost lost_back lane rest front h =
       flagged_first = h.flagged_first;
       one_free = h.one_free;
       phase_counts = same_counts lane.phase lane (after_landing lane Bell rest) refl refl refl (omega arith) h.phase_counts;
+      part_first = h.part_first;
       left = elim h.left [
         | inl none ↦ absurd (bell_in_front (drop lane.flagged lane.sent) lane.flagged coming (subst (AreLeft lane.flagged (drop lane.flagged lane.sent)) apart none))
         | inr bell ↦
@@ -145,6 +146,7 @@ land_flag_keeps lost lost_back lane n rest front h =
       flagged_first = omega arith;
       one_free = h.one_free;
       phase_counts = same_counts lane.phase lane after refl refl refl (omega arith) h.phase_counts;
+      part_first = h.part_first;
       left = inr (next.2, next.3, omega arith, next.4);
       last = h.last;
       none_lost = h.none_lost;
@@ -222,6 +224,7 @@ land_cell_keeps lost lost_back lane n field before behind middle h =
       flagged_first = h.flagged_first;
       one_free = h.one_free;
       phase_counts = same_counts lane.phase lane after refl refl refl (omega arith) h.phase_counts;
+      part_first = h.part_first;
       left = subst (AreLeftToLand lane) (sym left_now) (left_to_land_without lane before tail n field (subst (AreLeftToLand lane) apart h.left));
       last = h.last;
       none_lost = h.none_lost;

@@ -1,14 +1,15 @@
 -- The receiver's steps keep the law of the ring, and so do the landing of an index write and the loss of the link.
 use Rattle.std.proofs.Common.{◌≡◌, ℕ, suc, ◌+◌, ◌-◌, ◌%◌, ◌<◌, ◌≤◌, true, false, true≢false, List, [], ◌∷◌, ◌++◌, length, refl, sym, ap, ◌∙◌, subst, inl, inr, arith, append-nil, append_assoc, mod-lt, if◌then◌else◌}
 use native.Mathlib.Nat.{add-mod_right}
-use Rattle.std.proofs.lemmas.Bool.{cases_Bool, cases_eq, cond-true, cond-false}
-use Rattle.lane_model.specs.Lane.{Mark, Place, Lane, count_from, entry_of, place_of, with_flags}
+use Rattle.std.proofs.lemmas.Bool.{cases_Bool, cases_eq, cond-true, cond-false, ltb-true}
+use Rattle.lane_model.specs.Lane.{Chunk, Mark, Place, Lane, count_from, copies_of, entry_of, place_of, with_flags}
 use Rattle.lane_model.specs.Law.{PhaseCounts, Stands, StandsWhole, RingLaw}
 use Rattle.lane_model.specs.Kept.{SeesNext}
 use Rattle.lane_model.specs.Steps.{after_look, after_copy, after_clear, after_ack, after_index, after_cut, after_drop, more_to_copy}
 use Rattle.lane_model.specs.declared.Phase.{Phase}
 use Rattle.lane_model.specs.declared.Phase.TheVariants.{Idle, Copying, Copied, Cleared}
 use Rattle.lane_model.proofs.Numbers.{other_number, count_from-push, count_from-first, tail_after}
+use Rattle.lane_model.proofs.Chunks.{chunk_of_whole}
 use Rattle.lane_model.proofs.Ring.{place_same, place_other, each_place, length-ring_with}
 
 -- what an idle receiver reads, and what a copying one does
@@ -22,9 +23,11 @@ look_sees lost lost_back lane idle h =
 
 pub copy_sees : (lost : List Mark) (lost_back : List ℕ) (lane : Lane) → lane.phase ≡ Copying → RingLaw lost lost_back lane
     → (lane.got < lane.flagged) × StandsWhole (place_of lane lane.got) lane.got (entry_of lane lane.got)
+    × (lane.part < copies_of (entry_of lane lane.got)) × Stands (place_of lane lane.got) lane.got (entry_of lane lane.got) (Chunk lane.part)
 copy_sees lost lost_back lane copying h =
     let counts : PhaseCounts Copying lane = subst (λ p. PhaseCounts p lane) copying h.phase_counts in
-    (counts.2, h.whole lane.got h.cleared_first counts.2)
+    let whole = h.whole lane.got h.cleared_first counts.2 in
+    (counts.2, whole, h.part_first copying, chunk_of_whole (place_of lane lane.got) lane.got (entry_of lane lane.got) lane.part whole)
 
 -- the counts of a phase where only more flags landed
 pub same_counts : (phase : Phase) (lane next : Lane) → next.acked ≡ lane.acked → next.cleared ≡ lane.cleared → next.got ≡ lane.got → lane.flagged ≤ next.flagged
@@ -50,6 +53,7 @@ look_keeps lost lost_back lane idle more h =
       flagged_first = h.flagged_first;
       one_free = h.one_free;
       phase_counts = (counts.0, counts.1, more);
+      part_first = λ copying. omega arith;
       left = h.left;
       last = h.last;
       none_lost = h.none_lost;
@@ -64,8 +68,7 @@ look_keeps lost lost_back lane idle more h =
 pub copy_keeps : (lost : List Mark) (lost_back : List ℕ) (lane : Lane) → lane.phase ≡ Copying → RingLaw lost lost_back lane → RingLaw lost lost_back (after_copy lane)
 copy_keeps lost lost_back lane copying h =
     let counts : PhaseCounts Copying lane = subst (λ p. PhaseCounts p lane) copying h.phase_counts in
-    let one_part : RingLaw lost lost_back (record lane { part = lane.part + 1 }) =
-    record {
+    let one_part : more_to_copy lane ≡ true → RingLaw lost lost_back (record lane { part = lane.part + 1 }) = λ more. record {
       two_entries = h.two_entries;
       positions = h.positions;
       rooms = h.rooms;
@@ -77,6 +80,7 @@ copy_keeps lost lost_back lane copying h =
       flagged_first = h.flagged_first;
       one_free = h.one_free;
       phase_counts = same_counts lane.phase lane (record lane { part = lane.part + 1 }) refl refl refl (omega arith) h.phase_counts;
+      part_first = λ again. omega (arith, ltb-true _ _ more);
       left = h.left;
       last = h.last;
       none_lost = h.none_lost;
@@ -100,6 +104,7 @@ copy_keeps lost lost_back lane copying h =
       flagged_first = h.flagged_first;
       one_free = h.one_free;
       phase_counts = (counts.0, omega arith);
+      part_first = λ copying_still. absurd (cc copying_still);
       left = h.left;
       last = h.last;
       none_lost = h.none_lost;
@@ -111,7 +116,7 @@ copy_keeps lost lost_back lane copying h =
       down_is_last = h.down_is_last;
     } in
     elim (cases_Bool (more_to_copy lane)) [
-      | inl more ↦ subst (RingLaw lost lost_back) (sym (cond-true (more_to_copy lane) _ _ more)) one_part
+      | inl more ↦ subst (RingLaw lost lost_back) (sym (cond-true (more_to_copy lane) _ _ more)) (one_part more)
       | inr last ↦ subst (RingLaw lost lost_back) (sym (cond-false (more_to_copy lane) _ _ last)) the_last
     ]
 
@@ -134,6 +139,7 @@ clear_keeps lost lost_back lane copied h =
       flagged_first = h.flagged_first;
       one_free = h.one_free;
       phase_counts = (omega arith, omega arith);
+      part_first = λ copying. absurd (cc copying);
       left = h.left;
       last = h.last;
       none_lost = h.none_lost;
@@ -172,6 +178,7 @@ ack_keeps lost lost_back lane cleared up h =
       flagged_first = h.flagged_first;
       one_free = h.one_free;
       phase_counts = (omega arith, omega arith);
+      part_first = λ copying. absurd (cc copying);
       left = h.left;
       last = h.last;
       none_lost = h.none_lost;
@@ -204,6 +211,7 @@ ack_keeps_lost lost lost_back lane cleared down h =
       flagged_first = h.flagged_first;
       one_free = h.one_free;
       phase_counts = (omega arith, omega arith);
+      part_first = λ copying. absurd (cc copying);
       left = h.left;
       last = h.last;
       none_lost = λ up. absurd (true≢false (sym up ∙ down));
@@ -240,6 +248,7 @@ index_keeps lost lost_back lane n rest front h =
       flagged_first = h.flagged_first;
       one_free = omega arith;
       phase_counts = same_counts lane.phase lane (after_index lane n rest) refl refl refl (omega arith) h.phase_counts;
+      part_first = h.part_first;
       left = h.left;
       last = h.last;
       none_lost = h.none_lost;
@@ -264,6 +273,7 @@ cut_keeps lost lost_back lane h = record {
   flagged_first = h.flagged_first;
   one_free = h.one_free;
   phase_counts = same_counts lane.phase lane (after_cut lane) refl refl refl (omega arith) h.phase_counts;
+  part_first = h.part_first;
   left = h.left;
   last = h.last;
   none_lost = λ up. absurd (true≢false (sym up));
@@ -289,6 +299,7 @@ drop_keeps lost lost_back lane down h = record {
   flagged_first = h.flagged_first;
   one_free = h.one_free;
   phase_counts = same_counts lane.phase lane (after_drop lane) refl refl refl (omega arith) h.phase_counts;
+  part_first = h.part_first;
   left = h.left;
   last = h.last;
   none_lost = λ up. absurd (true≢false (sym up ∙ down));

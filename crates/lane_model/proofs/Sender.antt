@@ -3,11 +3,13 @@ use Rattle.std.proofs.Common.{◌≡◌, ℕ, ◌-◌, ◌<◌, ◌≤◌, true,
 use Rattle.std.proofs.lemmas.Bool.{cases_eq, cond-true, cond-false}
 use Rattle.std.proofs.lemmas.List.{drop_all, length_push, get_or_push, get_or_append_left}
 use Rattle.std.proofs.lemmas.List.Elements.{Contains-append_left, Contains-append_right}
-use Rattle.lane_model.specs.Ring.{tail_of, room_of}
-use Rattle.lane_model.specs.Lane.{Entry, LinkDown, Mark, Cell, Flag, Bell, blank, Lane, bytes_of, cells_of, writes_of, count_from, entry_of, place_of}
+use Rattle.lane_model.specs.Ring.{head_of, free_entries, tail_of, room_of}
+use Rattle.lane_model.specs.Lane.{Entry, LinkDown, Mark, Cell, Flag, Bell, blank, Lane, bytes_of, cells_of, writes_of, count_from, copies_of, entry_of, place_of, free_in}
 use Rattle.lane_model.specs.Law.{AreLeft, AreLeftToLand, PhaseCounts, Stands, StandsWhole, RingLaw}
 use Rattle.lane_model.specs.Steps.{after_begin, after_post}
 use Rattle.lane_model.specs.Kept.{IsFresh, IsOpen}
+use Rattle.lane_model.specs.declared.Phase.TheVariants.{Copying}
+use Rattle.lane_model.proofs.Numbers as numbers
 use Rattle.lane_model.proofs.Left.{left_to_land_more}
 use Rattle.lane_model.proofs.Receiver.{same_counts}
 
@@ -35,6 +37,7 @@ fresh_holds lane fresh =
       flagged_first = omega arith;
       one_free = omega arith;
       phase_counts = subst (λ p. PhaseCounts p lane) (sym fresh.phase) (acked ∙ sym cleared, cleared ∙ sym got);
+      part_first = λ copying. absurd (cc (fresh.phase, copying));
       left = inl (subst (λ es. AreLeft lane.flagged es ((lane.flight ++ []) ++ lane.todo)) (sym no_entries) no_marks);
       last = inl fresh.todo;
       none_lost = λ up. (refl, refl);
@@ -58,9 +61,16 @@ entry_before lane entry n below = get_or_append_left lane.sent (entry ∷ []) Li
 entry_last : (lane : Lane) (entry : Entry) (n : ℕ) → n ≡ length lane.sent → entry_of (after_begin lane entry) n ≡ entry
 entry_last lane entry n e = get_or_push lane.sent entry LinkDown n (sym e)
 
-pub begin_keeps : (lost : List Mark) (lost_back : List ℕ) (lane : Lane) (entry : Entry) → lane.todo ≡ [] → 0 < room_of lane.entries (length lane.sent) lane.freed
+-- head and index word show the entries that are free
+pub free_is_room : (lost : List Mark) (lost_back : List ℕ) (lane : Lane) → RingLaw lost lost_back lane → free_in lane ≡ room_of lane.entries (length lane.sent) lane.freed
+free_is_room lost lost_back lane h =
+    let low : lane.freed ≤ length lane.sent = omega arith in
+    ap (free_entries lane.entries (head_of lane.entries (length lane.sent))) h.index_word ∙ numbers.free_is_room lane.entries (length lane.sent) lane.freed h.two_entries low h.one_free
+
+pub begin_keeps : (lost : List Mark) (lost_back : List ℕ) (lane : Lane) (entry : Entry) → lane.todo ≡ [] → 0 < free_in lane
     → length (bytes_of entry) ≤ lane.largest → IsOpen lane → RingLaw lost lost_back lane → RingLaw lost lost_back (after_begin lane entry)
-begin_keeps lost lost_back lane entry no_todo room fits open_yet h =
+begin_keeps lost lost_back lane entry no_todo free fits open_yet h =
+    let room = free_is_room lost lost_back lane h in
     let one_more = length_push lane.sent entry in
     let next : Lane = after_begin lane entry in
     let coming : List Mark = lane.flight ++ lost in
@@ -83,6 +93,10 @@ begin_keeps lost lost_back lane entry no_todo room fits open_yet h =
       flagged_first = omega arith;
       one_free = omega arith;
       phase_counts = same_counts lane.phase lane next refl refl refl (omega arith) h.phase_counts;
+      part_first = λ copying.
+          let counts : PhaseCounts Copying lane = subst (λ p. PhaseCounts p lane) copying h.phase_counts in
+          let before : lane.got < length lane.sent = omega (arith, counts.2) in
+          subst (λ e. lane.part < copies_of e) (sym (entry_before lane entry lane.got before)) (h.part_first copying);
       left = left_to_land_more lane coming entry h.flagged_first (subst (AreLeftToLand lane) no_more h.left);
       last = inr (length lane.sent, [], sym one_more, ap (writes_of (length lane.sent)) (entry_last lane entry (length lane.sent) refl));
       none_lost = h.none_lost;
@@ -130,6 +144,7 @@ posted lost lost_now lost_back lane mark rest front same none h =
       flagged_first = h.flagged_first;
       one_free = h.one_free;
       phase_counts = same_counts lane.phase lane (after_post lane mark rest) refl refl refl (omega arith) h.phase_counts;
+      part_first = h.part_first;
       left = subst (AreLeftToLand lane) (sym same) h.left;
       last = elim h.last [
         | inl nothing ↦ absurd (cc (nothing, front))

@@ -78,7 +78,7 @@ pub fn look_sees()
     ensures { LookSees }
 {}
 
-/// A copying receiver has the whole entry before it.
+/// A copying receiver has the whole entry before it, and in it the part that it copies next.
 pub fn copy_sees()
     ensures { CopySees }
 {}
