@@ -1,6 +1,6 @@
 -- The doorbell register of one side: a set of pending bits and a set of masked bits, each kept as one number.
-use Rattle.std.specs.Prelude.{ℕ, bit_or}
-use Rattle.step_kinds.specs.Bits.{with_bit, without_bits}
+use Rattle.std.specs.Prelude.{ℕ}
+use Rattle.step_kinds.specs.Bits.{without_bits}
 
 pub record Doorbell : Type 0 where
   -- the bits that were rung and not yet taken
