@@ -1,8 +1,9 @@
 -- The difference of two sets of bits, bit by bit.
-use Rattle.std.proofs.Common.{◌≡◌, ℕ, ◌-◌, ◌^◌, ◌<◌, min, Bool, true, false, not, ◌&&◌, refl, inl, inr, arith}
+use Rattle.std.proofs.Common.{◌≡◌, ℕ, ◌-◌, ◌^◌, ◌<◌, min, Bool, true, false, not, ◌&&◌, refl, inl, inr, sym, ◌∙◌, ap, arith}
 use Rattle.std.specs.Int.{w32, bit_at, bit_not}
 use Rattle.std.specs.Prelude.{bit_and}
-use Rattle.std.proofs.lemmas.Nat.{and-not, and_comm}
+use Rattle.std.specs.Int.Bits.{and_self}
+use Rattle.std.proofs.lemmas.Nat.{and-not, and_assoc, and_comm, and_le_l}
 use Rattle.std.proofs.lemmas.Nat.Bits.{bit_at_and, bit_at_not, bit_at-lt, bit_at_above}
 use Rattle.std.proofs.lemmas.Bool.{cases_lt}
 use Rattle.std.proofs.lemmas.Bool.Decides.{nat_tests}
@@ -15,6 +16,17 @@ and_not_is bits others p q =
     let parts = and-not 32 others bits q p in
     let same = and_comm others bits in
     let turned = and_comm bits (4294967295 - others) in
+    omega arith
+
+-- what the code computes for the bits that a take leaves
+pub left_by_take : (bits others : ℕ) → bits < 2 ^ 32 → others < 2 ^ 32
+    → bit_and bits (4294967295 - bit_and bits (4294967295 - others)) ≡ bit_and bits others
+left_by_take bits others p q =
+    let taken = and_not_is bits others p q in
+    let whole = and_le_l bits others in
+    let left = and_not_is bits (bit_and bits (4294967295 - others)) p (omega (arith, and_le_l bits (4294967295 - others))) in
+    let again : bit_and bits (bit_and bits (4294967295 - others)) ≡ bit_and bits (4294967295 - others) =
+    sym (and_assoc (4294967295 - others) bits bits) ∙ ap (λ x. bit_and x (4294967295 - others)) (and_self bits) in
     omega arith
 
 pub has_bit-without_bits : (bits others : ℕ) → bits < 2 ^ 32 → others < 2 ^ 32 → (k : ℕ)

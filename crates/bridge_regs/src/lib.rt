@@ -4,7 +4,7 @@
 //! Sets of bits are numbers of 32 bits. No call takes memory.
 #![tactic(auto)]
 
-ghost use Rattle.std.specs.Prelude.{bit_or, length, replicate, slice_index, slice_set, ◌<◌, ◌≡◌};
+ghost use Rattle.std.specs.Prelude.{bit_and, bit_or, length, replicate, slice_index, slice_set, ◌<◌, ◌≡◌};
 ghost use Rattle.step_kinds.specs.Bits.{with_bit, without_bits};
 
 use std::marker::Model;
@@ -110,10 +110,11 @@ impl Bells {
     }
 
     /// Takes the pending bits that aren't masked: they are pending no more, and masked ones stay pending.
-    #[tactic(auto, using(crate::proofs::BitByBit::and_not_is))]
+    #[tactic(auto, using(crate::proofs::BitByBit::and_not_is, crate::proofs::BitByBit::left_by_take))]
     pub fn take(&mut self) -> u32
         ensures taken { result ≡ unmasked_pending self.old }
         ensures cleared { self.new ≡ with_pending self.old (without_bits self.old.pending result) }
+        ensures left { self.new.pending ≡ bit_and self.old.pending self.old.masked }
     {
         let taken = self.pending & !self.masked;
         self.pending &= !taken;
