@@ -118,7 +118,8 @@ impl Memory {
     }
 }
 
-/// A translation window: the part of a host's memory that the peer reaches, from its own offset 0 on.
+/// A translation window: the part of a host's memory that the peer reaches, from its own offset 0 on (a memory window
+/// of Linux `Documentation/driver-api/ntb.rst`).
 #[derive(Clone, Copy, Debug, PartialEq, Eq)]
 pub struct Window {
     /// The address of the part's first byte.
