@@ -1,9 +1,6 @@
 -- What is left of a source part way through its bytes.
-use Rattle.std.proofs.Common.{◌≡◌, ◌∙◌, ap, sym, subst, refl, ℕ, ◌+◌, ◌<◌, ◌≤◌, List, [], ◌++◌, length, take, drop, Option, Result, Ok, Err, Some, None, append_assoc, arith, length-append, inl, inr, ◌⊎◌}
-use Rattle.std.proofs.lemmas.List.{take-append-drop, append-nil, length-take}
-use Rattle.std.proofs.Math.Seq.{drop-append_seam}
-use Rattle.std.specs.Prelude.{IfSome}
-use Rattle.io_edges.specs.Streams.{Reads}
+use Rattle.std.proofs.Common.{◌∙◌, ap, sym, subst, ℕ, ◌+◌, ◌≤◌, List, ◌++◌, length, take, Option, Some, None, append_assoc, arith, length-append}
+use Rattle.std.proofs.lemmas.List.{length-take}
 use Rattle.io_edges.specs.Whole.{HasGiven, HasGivenAtMost}
 
 -- one part and then another

@@ -1,5 +1,5 @@
 -- What a sink holds part way through a list of bytes.
-use Rattle.std.proofs.Common.{◌≡◌, ◌∙◌, ap, sym, subst, refl, ℕ, ◌+◌, ◌-◌, ◌<◌, ◌≤◌, List, [], ◌++◌, length, take, drop, Option, Result, Ok, Err, Some, None, append_assoc, arith, length-append, length-drop}
+use Rattle.std.proofs.Common.{◌≡◌, ◌∙◌, ap, sym, subst, refl, ℕ, ◌-◌, ◌<◌, List, [], ◌++◌, length, take, drop, Option, Ok, Err, Some, None, append_assoc, arith, length-append, length-drop}
 use Rattle.std.proofs.lemmas.List.{take-append-drop, append-nil, take_all}
 use Rattle.std.proofs.Math.Seq.{take-append_seam}
 use Rattle.io_edges.specs.Streams.{Writes}

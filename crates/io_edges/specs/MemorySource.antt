@@ -1,5 +1,5 @@
 -- What a source in memory does at a read.
-use Rattle.std.specs.Prelude.{◌≡◌, ℕ, ◌≤◌, min, List, ◌++◌, length, take, drop, if◌then◌else◌, Result, Ok, Err}
+use Rattle.std.specs.Prelude.{◌≡◌, ℕ, min, List, ◌++◌, length, take, drop, if◌then◌else◌, Result, Ok, Err}
 use Rattle.io_edges.specs.Plan.{Plan, is_due, after_call, after_fault}
 use Rattle.io_edges.specs.declared.streams.Failed.{Failed}
 
