@@ -5,3 +5,9 @@ pub mod Steps
 pub mod LinkMoves
 pub mod LinkAnswers
 pub mod Separate
+pub mod Frames
+pub mod LaneSeen
+pub mod LaneMoves
+pub mod LaneNext
+pub mod InOrder
+pub mod Sessions

@@ -2,8 +2,11 @@
 
 ghost use Rattle.ledger_model.specs.Examples.{ExamplesHold};
 ghost use Rattle.ledger_model.specs.Laws.{
+  EveryFrameComesOnce,
+  EveryLogIsInOrder,
   LinkDownWhereNotUp,
   PairsAreSeparate,
+  TalliesAreCounts,
 };
 
 /// The definitions give the answers of worked examples.
@@ -11,9 +14,25 @@ pub fn examples_hold()
     ensures { ExamplesHold }
 {}
 
+/// In every log, what was delivered on a lane in a session is a prefix of what was accepted there, and both are numbered
+/// from 0 on.
+pub fn every_log_is_in_order()
+    ensures { EveryLogIsInOrder }
+{}
+
+/// In every log no frame of a lane and a session is delivered twice.
+pub fn every_frame_comes_once()
+    ensures { EveryFrameComesOnce }
+{}
+
 /// A step that needs the link is answered `linkdown` exactly where the last link step of the pair left it not up.
 pub fn link_down_where_not_up()
     ensures { LinkDownWhereNotUp }
+{}
+
+/// The ledger's tallies are the numbers of frames that the log accepted and delivered.
+pub fn tallies_are_counts()
+    ensures { TalliesAreCounts }
 {}
 
 /// The answers to the steps on one pair don't depend on the steps on other pairs.
