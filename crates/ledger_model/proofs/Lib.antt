@@ -11,3 +11,9 @@ pub mod LaneMoves
 pub mod LaneNext
 pub mod InOrder
 pub mod Sessions
+pub mod Flights
+pub mod Pairs
+pub mod RoomMoves
+pub mod Offers
+pub mod RoomNext
+pub mod Room

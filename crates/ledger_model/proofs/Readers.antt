@@ -10,7 +10,7 @@ use Rattle.step_kinds.specs.declared.steps.Answer.{Answer}
 use Rattle.step_kinds.specs.declared.steps.Answer.TheVariants.{Ok as Done, OkSession}
 use Rattle.step_kinds.specs.declared.steps.Step.{Step}
 use Rattle.step_kinds.specs.declared.steps.Step.TheVariants.{Train, Break}
-use Rattle.ledger_model.specs.Log.{Answered, trains, breaks, up_after, made_in}
+use Rattle.ledger_model.specs.Log.{Answered, trains, breaks, up_after, made_in, made_since}
 
 -- steps on another pair begin and end no session of this one
 pub trains-other : (k : ℕ) (step : Step) (answer : Answer) → (subject_of step ≡ k → ⊥) → trains k (record { step = step; answer = answer }) ≡ false
@@ -64,3 +64,9 @@ found_in-last read k session now log made =
     one : (b : Bool) → flat_map read (if b then made ∷ [] else []) ≡ (if b then read made else [])
     one true = append-nil (read made)
     one false = refl
+
+-- what was made since the session began, with one entry more
+pub made_since-last : (k : ℕ) (kept log : List Answered) (made : Answered)
+    → made_since k kept (log ++ made ∷ []) ≡ (if trains k made then [] else made_since k kept log ++ made ∷ [])
+made_since-last k kept [] made = refl
+made_since-last k kept (first ∷ log) made = made_since-last k (if trains k first then [] else kept ++ first ∷ []) log made

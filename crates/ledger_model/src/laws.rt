@@ -2,6 +2,7 @@
 
 ghost use Rattle.ledger_model.specs.Examples.{ExamplesHold};
 ghost use Rattle.ledger_model.specs.Laws.{
+  AgainWhereNoRoom,
   EveryFrameComesOnce,
   EveryLogIsInOrder,
   LinkDownWhereNotUp,
@@ -23,6 +24,11 @@ pub fn every_log_is_in_order()
 /// In every log no frame of a lane and a session is delivered twice.
 pub fn every_frame_comes_once()
     ensures { EveryFrameComesOnce }
+{}
+
+/// A step that begins an entry is answered `again` exactly where no refusal before it does and the ring has no room.
+pub fn again_where_no_room()
+    ensures { AgainWhereNoRoom }
 {}
 
 /// A step that needs the link is answered `linkdown` exactly where the last link step of the pair left it not up.
