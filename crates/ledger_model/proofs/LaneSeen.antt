@@ -54,7 +54,7 @@ on_or_off lane p side queue e = go lane.from side refl (cases_eq lane.queue queu
     go A B f c = inr (record { named = subst (λ x. (same_side B x && (queue == lane.queue)) ≡ false) (sym f) refl; placed = subst (λ x. (same_side B x && (lane.queue == queue)) ≡ false) (sym f) refl })
     go B A f c = inr (record { named = subst (λ x. (same_side A x && (queue == lane.queue)) ≡ false) (sym f) refl; placed = subst (λ x. (same_side A x && (lane.queue == queue)) ≡ false) (sym f) refl })
 
-same_side-refl : (side : Side) → same_side side side ≡ true
+pub same_side-refl : (side : Side) → same_side side side ≡ true
 same_side-refl A = refl
 same_side-refl B = refl
 

@@ -17,3 +17,8 @@ pub mod RoomMoves
 pub mod Offers
 pub mod RoomNext
 pub mod Room
+pub mod PendingBits
+pub mod Ticks
+pub mod LineMoves
+pub mod LineNext
+pub mod Quiet

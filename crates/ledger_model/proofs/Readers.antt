@@ -1,4 +1,5 @@
 -- What is read of a log, with one entry more at its end.
+use Rattle.step_kinds.specs.declared.names.Side.{Side}
 use Rattle.std.proofs.lemmas.List.{append-nil}
 use Rattle.std.proofs.lemmas.Grind.{flat_map-append}
 use Rattle.std.specs.List.{flat_map}
@@ -10,7 +11,7 @@ use Rattle.step_kinds.specs.declared.steps.Answer.{Answer}
 use Rattle.step_kinds.specs.declared.steps.Answer.TheVariants.{Ok as Done, OkSession}
 use Rattle.step_kinds.specs.declared.steps.Step.{Step}
 use Rattle.step_kinds.specs.declared.steps.Step.TheVariants.{Train, Break}
-use Rattle.ledger_model.specs.Log.{Answered, trains, breaks, up_after, made_in, made_since}
+use Rattle.ledger_model.specs.Log.{Answered, trains, breaks, up_after, made_in, made_since, saw_empty, last_look_empty}
 
 -- steps on another pair begin and end no session of this one
 pub trains-other : (k : ℕ) (step : Step) (answer : Answer) → (subject_of step ≡ k → ⊥) → trains k (record { step = step; answer = answer }) ≡ false
@@ -70,3 +71,18 @@ pub made_since-last : (k : ℕ) (kept log : List Answered) (made : Answered)
     → made_since k kept (log ++ made ∷ []) ≡ (if trains k made then [] else made_since k kept log ++ made ∷ [])
 made_since-last k kept [] made = refl
 made_since-last k kept (first ∷ log) made = made_since-last k (if trains k first then [] else kept ++ first ∷ []) log made
+
+-- what a side saw on a queue, with one entry more
+pub saw_empty-last : (k : ℕ) (side : Side) (queue : ℕ) (now : Bool) (log : List Answered) (made : Answered)
+    → saw_empty k side queue now (log ++ made ∷ []) ≡ saw_empty k side queue (saw_empty k side queue now log) (made ∷ [])
+saw_empty-last k side queue now [] made = refl
+saw_empty-last k side queue now (first ∷ log) made = saw_empty-last k side queue (saw_empty k side queue now (first ∷ [])) log made
+
+pub last_look-last : (k : ℕ) (side : Side) (queue : ℕ) (log : List Answered) (made : Answered)
+    → last_look_empty (log ++ made ∷ []) k side queue ≡ (if trains k made then false else saw_empty k side queue (last_look_empty log k side queue) (made ∷ []))
+last_look-last k side queue log made = ap (saw_empty k side queue false) (made_since-last k [] log made) ∙ go (trains k made)
+  where
+    go : (b : Bool) → saw_empty k side queue false (if b then [] else made_since k [] log ++ made ∷ [])
+        ≡ (if b then false else saw_empty k side queue (last_look_empty log k side queue) (made ∷ []))
+    go true = refl
+    go false = saw_empty-last k side queue false (made_since k [] log) made

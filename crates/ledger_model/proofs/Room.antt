@@ -121,11 +121,11 @@ still-other lane step r ne = record { takes_no = takes step r ne; gives_no = giv
     gives (Land p side place) (Landed (Index queue n)) ne = off p _ ne
     gives step r ne = refl
 
-fresh_part : (plan : PairPlan) (from : Side) (queue : ℕ) → lane_of (fresh_pair plan) from queue ≡ fresh_lane
+pub fresh_part : (plan : PairPlan) (from : Side) (queue : ℕ) → lane_of (fresh_pair plan) from queue ≡ fresh_lane
 fresh_part plan A queue = refl
 fresh_part plan B queue = refl
 
-fresh_flight : (plan : PairPlan) (s : Side) → (side_of (fresh_pair plan) s).flight ≡ []
+pub fresh_flight : (plan : PairPlan) (s : Side) → (side_of (fresh_pair plan) s).flight ≡ []
 fresh_flight plan s = go plan.up s
   where
     go : (up : Bool) (s : Side) → (at_side (if up then record { a = agreed_side plan.a plan.b; b = agreed_side plan.b plan.a } else both_of idle_side) s).flight ≡ []

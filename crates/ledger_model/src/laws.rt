@@ -7,6 +7,7 @@ ghost use Rattle.ledger_model.specs.Laws.{
   EveryLogIsInOrder,
   LinkDownWhereNotUp,
   PairsAreSeparate,
+  QuietMeansDone,
   TalliesAreCounts,
 };
 
@@ -44,4 +45,9 @@ pub fn tallies_are_counts()
 /// The answers to the steps on one pair don't depend on the steps on other pairs.
 pub fn pairs_are_separate()
     ensures { PairsAreSeparate }
+{}
+
+/// Where nothing is on its way to a receiver and it has seen so, all that was accepted in the session was delivered.
+pub fn quiet_means_done()
+    ensures { QuietMeansDone }
 {}
