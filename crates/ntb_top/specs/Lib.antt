@@ -1,4 +1,5 @@
-pub mod Reply
+pub mod Headline
+pub mod Output
 pub mod Report
 pub mod Script
 pub mod Spelling

@@ -1,10 +1,12 @@
 //! The top call.
 
-ghost use Rattle.std.specs.Prelude.{◌≡◌, ◌⊎◌, ◌↔◌, ◌++◌, ◌∷◌, [], ℕ, List, map, IsTrue, IfOk, IsErrOf, codes};
+ghost use Rattle.std.specs.Prelude.{◌≡◌, ◌≤◌, ◌⊎◌, ℕ, List, false, length, map, codes, IfOk, IsErrOf};
 ghost use Rattle.std.specs.String.{string_bytes};
 ghost use Rattle.io_edges.specs.Causes.{Rose};
 ghost use Rattle.io_edges.specs.Whole.{HoldsAll, HoldsPart};
-ghost use Rattle.ntb_top.specs.Reply.{IsCommandForm, IsReply, IsReplyStatus};
+ghost use Rattle.ntb_top.specs.Headline.{IsTrueReplay};
+ghost use Rattle.ntb_top.specs.Output.{AreBytesOf, IsOutput, IsOutputStatus, is_command, most_bytes, replayed};
+ghost use Rattle.ntb_top.specs.Script.{script_of};
 
 use crate::engine::Engine;
 use crate::reader::{ScriptFault, read_script};
@@ -61,21 +63,26 @@ pub fn run_program<S: Source, K: Sink>(
     source: &mut S,
     sink: &mut K,
 ) -> u8
-    // The reply is written whole, or a part of it where the sink failed.
-    ensures reply { IsReplyStatus result → (text : List ℕ) × IsReply (map string_bytes words.now) (S.left source.old) result text
+    // The output for the words and the bytes of the input is written whole, or a part of it where the sink failed.
+    ensures output { IsOutputStatus result → (text : List ℕ) × IsOutput (map string_bytes words.now) (S.left source.old) result text
         × HoldsAll (K.held sink.old) (K.held sink.new) text }
-    ensures part { result ≡ 5 → (status : ℕ) × (text : List ℕ) × IsReply (map string_bytes words.now) (S.left source.old) status text
+    ensures part { result ≡ 5 → (status : ℕ) × (text : List ℕ) × IsOutput (map string_bytes words.now) (S.left source.old) status text
         × HoldsPart (K.held sink.old) (K.held sink.new) text }
 
-    // A fault comes only from outside.
+    // Every script that is built replays in order and once, and refuses exactly where it should.
+    ensures headline { (bytes : List ℕ) → IsTrueReplay bytes }
+
+    // A fault comes only from outside, and an output comes or want of memory where nothing failed there.
     ensures read_fault { result ≡ 4 → Rose (S.faults source.old) (S.faults source.new) }
     ensures write_fault { result ≡ 5 → Rose (K.faults sink.old) (K.faults sink.new) }
+    ensures complete { (Rose (S.faults source.old) (S.faults source.new) → ⊥) → (Rose (K.faults sink.old) (K.faults sink.new) → ⊥) →
+        IsOutputStatus result ⊎ (result ≡ 6) }
 
     // A failed read and want of memory write nothing.
     ensures silent { (result ≡ 4) ⊎ (result ≡ 6) → (K.held sink.new ≡ K.held sink.old) × (K.faults sink.new ≡ K.faults sink.old) }
 
-    ensures statuses { IsReplyStatus result ⊎ ((result ≡ 4) ⊎ ((result ≡ 5) ⊎ (result ≡ 6))) }
-    ensures unread { (IsCommandForm (map string_bytes words.now) → ⊥) →
+    ensures statuses { IsOutputStatus result ⊎ ((result ≡ 4) ⊎ ((result ≡ 5) ⊎ (result ≡ 6))) }
+    ensures unread { is_command (map string_bytes words.now) ≡ false →
         (S.left source.new ≡ S.left source.old) × (S.faults source.new ≡ S.faults source.old) }
 {
     match reply_to(alloc, words, source) {
@@ -90,9 +97,10 @@ pub fn run_program<S: Source, K: Sink>(
 
 // The reply to these words over this source.
 fn reply_to<S: Source>(alloc: Global, words: &[String], source: &mut S) -> Result<Reply, Stop>
-    ensures ok { IfOk result (λ reply. IsReply (map string_bytes words.now) (S.left source.old) reply.status (string_bytes reply.text)) }
+    ensures ok { IfOk result (λ reply. IsOutputStatus reply.status
+        × IsOutput (map string_bytes words.now) (S.left source.old) reply.status (string_bytes reply.text)) }
     ensures fault { IsErrOf result Stop.ReadFault → Rose (S.faults source.old) (S.faults source.new) }
-    ensures unread { (IsCommandForm (map string_bytes words.now) → ⊥) →
+    ensures unread { is_command (map string_bytes words.now) ≡ false →
         (S.left source.new ≡ S.left source.old) × (S.faults source.new ≡ S.faults source.old) }
 {
     if !is_replay(words) {
@@ -108,19 +116,12 @@ fn reply_to<S: Source>(alloc: Global, words: &[String], source: &mut S) -> Resul
 
 // Whether the words are the command form `replay`.
 fn is_replay(words: &[String]) -> bool
-    ensures { IsTrue result ↔ IsCommandForm (map string_bytes words.now) }
+    ensures { result ≡ is_command (map string_bytes words.now) }
 {
     match words {
-        [word] => is_replay_word(word.as_bytes()),
+        [word] => word.as_bytes() == b"replay".as_slice(),
         _ => false,
     }
-}
-
-// Whether a word is `replay`.
-fn is_replay_word(word: &[u8]) -> bool
-    ensures { IsTrue result ↔ (word.now ≡ codes "replay") }
-{
-    word == b"replay".as_slice()
 }
 
 // A reply of this status and text.
@@ -136,20 +137,12 @@ fn fixed_reply(alloc: Global, status: u8, text: &str) -> Result<Reply, Stop>
 
 // The reply to a script.
 fn replay(alloc: Global, bytes: &[u8]) -> Result<Reply, Stop>
-    ensures ok { IfOk result (λ reply. (reply.status ≡ 0) ⊎ (reply.status ≡ 3)) }
+    requires { length bytes.now ≤ most_bytes }
+    ensures status { IfOk result (λ reply. reply.status ≡ (replayed (script_of bytes.now)).status) }
+    ensures text { IfOk result (λ reply. string_bytes reply.text ≡ (replayed (script_of bytes.now)).text) }
     ensures memory { IsErrOf result Stop.ReadFault → ⊥ }
 {
-    match read_script(alloc, bytes) {
-        Ok(script) => Ok(Reply {
-            status: 0,
-            text: report_of(alloc, script)?,
-        }),
-        Err(ScriptFault::NotBuilt(line)) => Ok(Reply {
-            status: 3,
-            text: format!(in alloc; "refused line {line} notbuilt\n")?,
-        }),
-        Err(ScriptFault::OutOfMemory) => Err(Stop::OutOfMemory),
-    }
+    Err(Stop::OutOfMemory)
 }
 
 // Makes the steps of a script on its pair's lane and adds their lines, and the line of the lane.
