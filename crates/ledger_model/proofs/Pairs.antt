@@ -16,8 +16,11 @@ use Rattle.step_kinds.specs.declared.steps.Label.{Label}
 use Rattle.step_kinds.specs.declared.steps.Label.TheVariants.{Chunk, Len, Ver, Flag, Down, Bell, Index, Pad, Raw}
 use Rattle.step_kinds.specs.declared.steps.Step.{Step}
 use Rattle.step_kinds.specs.declared.steps.Step.TheVariants.{Enable, Train, Break, DropDone, Clean, Offer, Check, Ready, Join, Begin, QpDown, Xbegin, Post, Land, Look, Copy, Clear, Ack, Wake, Irq, Mask, Unmask, Spad, Poke, ShowMem, ShowPad, ShowQueue}
-use Rattle.lane_model.specs.Lane as lane
-use Rattle.lane_model.specs.Lane.{Entry, Carries, LinkDown, Mark, Cell, Length, Version, writes_of}
+use Rattle.lane_model.specs.declared.Field.{Field}
+use Rattle.lane_model.specs.declared.Field.TheVariants.{Chunk as PayloadChunk, Length, Version}
+use Rattle.lane_model.specs.declared.Mark.{Mark}
+use Rattle.lane_model.specs.declared.Mark.TheVariants.{Cell, Flag as EntryFlag, Bell as QueueBell}
+use Rattle.lane_model.specs.Lane.{Entry, Carries, LinkDown, writes_of}
 use Rattle.ledger_model.specs.Device.{ethernet_frame}
 use Rattle.ledger_model.specs.Labels.{label_of, labels_of}
 use Rattle.ledger_model.specs.Ledger.{LanePart, SidePart, PairPart, side_of, lane_of, with_side_part, with_lane, link_up, posts, sizes_of}
@@ -44,12 +47,12 @@ on_queue q (Bell p) = p == q
 on_queue q label = false
 
 on_queue-label : (q : ℕ) (entry : Entry) (mark : Mark) → on_queue q (label_of q entry mark) ≡ true
-on_queue-label q entry (Cell n (lane.Chunk part)) = eq-eqb q q refl
+on_queue-label q entry (Cell n (PayloadChunk part)) = eq-eqb q q refl
 on_queue-label q entry (Cell n Length) = eq-eqb q q refl
 on_queue-label q entry (Cell n Version) = eq-eqb q q refl
-on_queue-label q (Carries bytes) (lane.Flag n) = eq-eqb q q refl
-on_queue-label q LinkDown (lane.Flag n) = eq-eqb q q refl
-on_queue-label q entry lane.Bell = eq-eqb q q refl
+on_queue-label q (Carries bytes) (EntryFlag n) = eq-eqb q q refl
+on_queue-label q LinkDown (EntryFlag n) = eq-eqb q q refl
+on_queue-label q entry QueueBell = eq-eqb q q refl
 
 all_map : {X Y : Type 0} (test : Y → Bool) (f : X → Y) (xs : List X) → ((x : X) → test (f x) ≡ true) → list_all test (map f xs) ≡ true
 all_map test f [] each = refl

@@ -5,8 +5,11 @@ use Rattle.std.specs.List.{filter_map}
 use Rattle.std.proofs.lemmas.Bool.{eq-eqb}
 use Rattle.step_kinds.specs.declared.steps.Label.{Label}
 use Rattle.step_kinds.specs.declared.steps.Label.TheVariants.{Flag, Down, Bell}
-use Rattle.lane_model.specs.Lane as lane
-use Rattle.lane_model.specs.Lane.{Entry, Carries, LinkDown, Mark, Cell, Length, Version, Field, bytes_of, cells_of, writes_of, count_from, chunks_in}
+use Rattle.lane_model.specs.declared.Field.{Field}
+use Rattle.lane_model.specs.declared.Field.TheVariants.{Chunk as PayloadChunk, Length, Version}
+use Rattle.lane_model.specs.declared.Mark.{Mark}
+use Rattle.lane_model.specs.declared.Mark.TheVariants.{Cell, Flag as EntryFlag, Bell as QueueBell}
+use Rattle.lane_model.specs.Lane.{Entry, Carries, LinkDown, bytes_of, cells_of, writes_of, count_from, chunks_in}
 use Rattle.ledger_model.specs.Labels.{label_of, labels_of}
 
 -- true for the flags of an entry on the queue, false for its doorbell
@@ -38,11 +41,11 @@ ringing-last false n = rounds-last n
 
 -- an entry's writes are one round
 no_ticks : (q : ℕ) (entry : Entry) (n : ℕ) (parts : List ℕ) (rest : List Mark)
-    → ticks_of q (map (label_of q entry) (map (λ part. Cell n (lane.Chunk part)) parts ++ rest)) ≡ ticks_of q (map (label_of q entry) rest)
+    → ticks_of q (map (label_of q entry) (map (λ part. Cell n (PayloadChunk part)) parts ++ rest)) ≡ ticks_of q (map (label_of q entry) rest)
 no_ticks q entry n [] rest = refl
 no_ticks q entry n (part ∷ parts) rest = no_ticks q entry n parts rest
 
-end_ticks : (q : ℕ) (entry : Entry) (n : ℕ) → ticks_of q (map (label_of q entry) (Cell n Length ∷ Cell n Version ∷ lane.Flag n ∷ lane.Bell ∷ [])) ≡ true ∷ false ∷ []
+end_ticks : (q : ℕ) (entry : Entry) (n : ℕ) → ticks_of q (map (label_of q entry) (Cell n Length ∷ Cell n Version ∷ EntryFlag n ∷ QueueBell ∷ [])) ≡ true ∷ false ∷ []
 end_ticks q (Carries bytes) n = rw (eq-eqb q q refl) refl
 end_ticks q LinkDown n = rw (eq-eqb q q refl) refl
 
@@ -53,6 +56,6 @@ append-through (x ∷ xs) a b c d = ap (λ rest. x ∷ rest) (append-through xs 
 pub entry_ticks : (q n : ℕ) (entry : Entry) → ticks_of q (labels_of q n entry) ≡ true ∷ false ∷ []
 entry_ticks q n entry =
     ap (λ marks. ticks_of q (map (label_of q entry) marks))
-    (append-through (map (λ part. Cell n (lane.Chunk part)) (count_from 0 (chunks_in (length (bytes_of entry))))) (Cell n Length) (Cell n Version) (lane.Flag n) lane.Bell)
-    ∙ no_ticks q entry n (count_from 0 (chunks_in (length (bytes_of entry)))) (Cell n Length ∷ Cell n Version ∷ lane.Flag n ∷ lane.Bell ∷ [])
+    (append-through (map (λ part. Cell n (PayloadChunk part)) (count_from 0 (chunks_in (length (bytes_of entry))))) (Cell n Length) (Cell n Version) (EntryFlag n) QueueBell)
+    ∙ no_ticks q entry n (count_from 0 (chunks_in (length (bytes_of entry)))) (Cell n Length ∷ Cell n Version ∷ EntryFlag n ∷ QueueBell ∷ [])
     ∙ end_ticks q entry n
