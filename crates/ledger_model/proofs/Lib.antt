@@ -5,3 +5,14 @@ pub mod Steps
 pub mod LinkMoves
 pub mod LinkAnswers
 pub mod Separate
+pub mod RingMarks
+pub mod RingHolds
+pub mod RingEnds
+pub mod RingLanes
+pub mod RingLandings
+pub mod RingPairs
+pub mod RingLinks
+pub mod RingSends
+pub mod RingLands
+pub mod RingTodos
+pub mod RingRuns
