@@ -11,8 +11,8 @@ pub mod RingEnds
 pub mod RingLanes
 pub mod RingLandings
 pub mod RingPairs
-pub mod RingLinks
-pub mod RingSends
-pub mod RingLands
+pub mod RingPairLinks
+pub mod RingPairLanes
+pub mod RingPairLandings
 pub mod RingTodos
 pub mod RingRuns

@@ -1,4 +1,4 @@
--- What changes at one end of a lane's pair, and the steps of the link, keep of the lane's ring.
+-- In a lane's view: what changes at one end, and the steps of the link, keep of the lane's ring.
 use Rattle.std.proofs.Common.{◌≡◌, ℕ, ◌<◌, ◌≤◌, ◌-◌, ◌+◌, ◌%◌, Bool, true, false, List, [], ◌∷◌, ◌++◌, length, map, zero, suc, refl, sym, ap, ◌∙◌, subst, inl, inr, ◌⊎◌, arith}
 use Rattle.std.specs.Prelude.{slice_index_or, None}
 use Rattle.std.specs.List.{AllByRecursion}

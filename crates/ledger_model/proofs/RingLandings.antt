@@ -1,4 +1,4 @@
--- What a landing keeps of a lane's ring: a write of the lane, an index write of it, or a write that isn't the lane's.
+-- In a lane's view: what the landing of a write of the lane, of an index write of it, or of another write keeps of its ring.
 use Rattle.std.proofs.Common.{◌≡◌, ℕ, suc, ◌+◌, ◌%◌, Bool, true, List, [], ◌∷◌, ◌++◌, take, drop, sym, ap, ◌∙◌, subst, inl, inr, ◌⊎◌}
 use Rattle.std.specs.Prelude.{slice_get, Some, None}
 use Rattle.std.specs.List.{AllByRecursion, remove}

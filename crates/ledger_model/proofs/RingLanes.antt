@@ -1,4 +1,4 @@
--- What the steps of a lane's sender and receiver keep of its ring.
+-- In a lane's view: what the steps of its sender and receiver keep of its ring.
 use Rattle.std.proofs.Common.{◌≡◌, ℕ, ◌<◌, ◌≤◌, ◌+◌, ◌%◌, ◌==◌, Bool, true, false, List, [], ◌∷◌, ◌++◌, length, refl, sym, ap, ◌∙◌, subst, inl, inr, ◌⊎◌, arith, mod-lt, length-set, get_or-set_same, get_or-set_other}
 use Rattle.std.specs.Prelude.{slice_index_or, slice_set, Option, Some, None, ◌≢◌}
 use Rattle.std.proofs.lemmas.Bool.{false≢true, both_ways, cases_eq, eq-eqb, eqb-false, cond-true, cond-false}

@@ -1,4 +1,4 @@
--- What the steps of the link and of the handshake keep of a lane's ring.
+-- On a pair: what the steps of the link and of the handshake keep of a lane's ring.
 use Rattle.std.proofs.Common.{◌≡◌, ℕ, zero, suc, ◌+◌, ◌≤◌, Bool, true, false, List, [], ◌∷◌, ◌++◌, refl, sym, ap, ◌∙◌, subst, inl, inr, arith}
 use Rattle.std.specs.Prelude.{if◌then◌else◌, Option, Some, None, ◌/◌, ◌%◌, ◌^◌, bit_or, slice_index_or}
 use Rattle.std.specs.List.{AllByRecursion, flat_map}

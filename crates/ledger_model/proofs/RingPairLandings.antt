@@ -1,4 +1,4 @@
--- What a landing, and a clear, keep of a lane's ring.
+-- On a pair: what a landing, and a clear, keep of a lane's ring.
 use Rattle.std.proofs.Common.{◌≡◌, ℕ, ◌+◌, ◌≤◌, ◌==◌, Bool, true, false, List, refl, sym, ap, ◌∙◌, subst, inl, inr, map, get_or-set_other}
 use Rattle.std.specs.Prelude.{if◌then◌else◌, Some, slice_get, slice_index, slice_set, ◌&&◌}
 use Rattle.std.proofs.lemmas.Bool.{cases_eq, eq-eqb, ne_eqb, cond-true, cond-false, and_left, and_right, and_from}
@@ -22,8 +22,8 @@ use Rattle.ledger_model.proofs.RingHolds.{End, end_of, view_of, RingHolds}
 use Rattle.ledger_model.proofs.RingLanes.{cleared_at, lane_clears}
 use Rattle.ledger_model.proofs.RingLandings.{taken_from, with_pad, PadAfter, sender_lands_other, sender_lands_cell, sender_lands_flag, sender_lands_bell, receiver_lands_other, receiver_lands_index}
 use Rattle.ledger_model.proofs.RingPairs.{side_cases, own_lane, other_queue, other_lane, Holds, seen_as}
-use Rattle.ledger_model.proofs.RingLinks.{same_own, same_peer}
-use Rattle.ledger_model.proofs.RingSends.{receiver_cases}
+use Rattle.ledger_model.proofs.RingPairLinks.{same_own, same_peer}
+use Rattle.ledger_model.proofs.RingPairLanes.{receiver_cases}
 
 -- the scratchpad of the link's bits after a landing at the peer
 abbrev pad_after : Label → List ℕ → ℕ

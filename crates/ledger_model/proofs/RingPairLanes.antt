@@ -1,4 +1,4 @@
--- What the steps of senders and receivers of a pair keep of a lane's ring.
+-- On a pair: what the steps of senders and receivers keep of a lane's ring.
 use Rattle.std.proofs.Common.{◌≡◌, ℕ, ◌+◌, ◌≤◌, ◌==◌, Bool, true, false, not, List, [], ◌∷◌, ◌++◌, length, refl, sym, ap, ◌∙◌, subst, inl, inr, arith}
 use Rattle.std.specs.Prelude.{Option, None, nat_lt}
 use Rattle.std.specs.List.{AllByRecursion}
@@ -27,7 +27,7 @@ use Rattle.ledger_model.proofs.RingHolds.{View, end_of, view_of, RingHolds, Todo
 use Rattle.ledger_model.proofs.RingEnds.{posted_to}
 use Rattle.ledger_model.proofs.RingLanes.{lane_begins, lane_posts, lane_loses, lane_looks, lane_copies_more, lane_copies_last, lane_acks, lane_acks_lost}
 use Rattle.ledger_model.proofs.RingPairs.{side_cases, twice, own_part, own_lane, other_queue, other_lane, peer_part, Holds, seen_as, own_posts, peer_posts, each_posts}
-use Rattle.ledger_model.proofs.RingLinks.{after_decided, closed_keeps, bit_is_in}
+use Rattle.ledger_model.proofs.RingPairLinks.{after_decided, closed_keeps, bit_is_in}
 
 -- Sending
 
