@@ -1,7 +1,7 @@
 -- A write leaves what stands apart from it.
 use Rattle.std.proofs.Common.{◌≡◌, ℕ, ◌+◌, ◌<◌, List, length, get_or, take, drop, sym, ◌∙◌, ap, lit<, arith}
 use Rattle.std.proofs.lemmas.Grind.{common_steps}
-use Rattle.std.proofs.lemmas.List.{places, same_lists, get_or-take, get_or-drop}
+use Rattle.std.proofs.lemmas.List.{places, same_lists, get_or-take}
 use Rattle.byteorder.specs.Endian.{little_number}
 use Rattle.host_memory.specs.Memory.{written, bytes_at, word_at}
 use Rattle.host_memory.specs.Laws.{LiesIn, StandsApart}

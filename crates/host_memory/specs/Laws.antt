@@ -1,5 +1,5 @@
 -- What a write to memory does, address by address.
-use Rattle.std.specs.Prelude.{◌≡◌, ℕ, ◌+◌, ◌-◌, ◌^◌, ◌<◌, ◌≤◌, ◌⊎◌, List, length, slice_index}
+use Rattle.std.specs.Prelude.{◌≡◌, ℕ, ◌+◌, ◌^◌, ◌<◌, ◌≤◌, ◌⊎◌, List, length, slice_index}
 use Rattle.host_memory.specs.Memory.{written, bytes_at, word_at, word_bytes}
 
 -- the bytes that are written lie in the memory

@@ -6,6 +6,9 @@
 ghost use Rattle.std.specs.Prelude.{
   IfOk,
   IsOk,
+  IsTrue,
+  [],
+  ◌↔◌,
   length,
   replicate,
   ◌+◌,
@@ -52,11 +55,19 @@ impl Memory {
         Ok(Memory { bytes })
     }
 
-    /// How many bytes the memory has.
+    /// How many bytes the memory has: fewer than 2^63.
     pub fn len(&self) -> u64
-        ensures { result ≡ length self.now }
+        ensures value { result ≡ length self.now }
+        ensures bound { result < 2 ^ 63 }
     {
         self.bytes.len() as u64
+    }
+
+    /// Whether the memory has no byte.
+    pub fn is_empty(&self) -> bool
+        ensures { IsTrue result ↔ (self.now ≡ []) }
+    {
+        self.bytes.is_empty()
     }
 
     /// Reads the bytes from the address `at` on into the whole of `out`.
@@ -107,7 +118,8 @@ impl Memory {
     }
 }
 
-/// A translation window: the part of a host's memory that the peer reaches, from its own offset 0 on.
+/// A translation window: the part of a host's memory that the peer reaches, from its own offset 0 on (a memory window
+/// of Linux `Documentation/driver-api/ntb.rst`).
 #[derive(Clone, Copy, Debug, PartialEq, Eq)]
 pub struct Window {
     /// The address of the part's first byte.

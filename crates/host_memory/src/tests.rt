@@ -5,6 +5,7 @@ use std::test::Fail;
 fn writes_are_read_back(rt: HostRuntime) -> Result<(), Fail> {
     let mut memory = Memory::new(rt.alloc(), 16)?;
     assert_eq!(rt; memory.len(), 16);
+    assert!(rt; !memory.is_empty());
     memory.write(3, &[1, 2, 3]);
     let mut out = [9u8; 5];
     memory.read(2, &mut out);

@@ -1,4 +1,6 @@
 -- What a step that may be refused comes to: its refusal in turn, or its answer and the new pair.
+use Rattle.ledger_model.specs.Link.{refused_where}
+use Rattle.ledger_model.specs.declared.LinkRefusal.{LinkRefusal}
 use Rattle.std.proofs.Common.{◌≡◌, Bool, true, false, Option, Some, None, refl}
 use Rattle.step_kinds.specs.declared.steps.Answer.{Answer}
 use Rattle.ledger_model.specs.Ledger.{PairPart}
@@ -37,3 +39,8 @@ decided_cases P Q old refusal answer new (Just {refusal = r} q) refused made = r
 pub passed : (b : Bool) (refusal : Answer) (later : Option Answer) → refuse_if b refusal later ≡ None → (b ≡ false) × (later ≡ None)
 passed true refusal later e = absurd (cc)
 passed false refusal later e = (refl, e)
+
+-- the same of a refusal of the link
+pub refused_passed : (b : Bool) (refusal : LinkRefusal) (later : Option LinkRefusal) → refused_where b refusal later ≡ None → (b ≡ false) × (later ≡ None)
+refused_passed true refusal later e = absurd (cc)
+refused_passed false refusal later e = (refl, e)

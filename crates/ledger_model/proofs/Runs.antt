@@ -100,3 +100,16 @@ answer_of plan memories steps step answer goes =
     (same_head _ _ (append_cancel_left (log_of plan memories steps) (record { step = step; answer = answer } ∷ [])
     (answered plan (memories (log_of plan memories steps)) (ledger_of plan memories steps) step ∷ [])
     (sym goes ∙ log_of-last plan memories steps step)))
+
+-- an invariant that is kept where another holds too
+pub kept_with : (plan : Plan) (k : ℕ) (Inv More : List Answered → PairPart → Type 0) → IsKept plan k Inv
+    → More [] (fresh_pair (pair_plan plan k))
+    → ((before : List Answered) (pair : PairPart) (step : Step) (bytes : Bytes) → subject_of step ≡ k → Inv before pair → More before pair
+    → More (before ++ made_by plan k bytes pair step ∷ []) (left_by plan k bytes pair step))
+    → ((before : List Answered) (pair : PairPart) (made : Answered) → (subject_of made.step ≡ k → ⊥) → Inv before pair → More before pair → More (before ++ made ∷ []) pair)
+    → IsKept plan k (λ log pair. Inv log pair × More log pair)
+kept_with plan k Inv More kept fresh own other = record {
+  fresh = (kept.fresh, fresh);
+  own = λ before pair step bytes e both. (kept.own before pair step bytes e both.0, own before pair step bytes e both.0 both.1);
+  other = λ before pair made ne both. (kept.other before pair made ne both.0, other before pair made ne both.0 both.1);
+}

@@ -1,0 +1,2 @@
+pub mod Doorbell
+pub mod Laws

@@ -1,0 +1,13 @@
+//! What doorbell and mask do, bit by bit. Each function here does nothing: its clause is the law.
+
+ghost use Rattle.bridge_regs.specs.Laws.{KeepsMasked, TakesUnmasked};
+
+/// A bit is taken exactly where it is pending and not masked.
+pub fn take_is_bit_by_bit()
+    ensures { TakesUnmasked }
+{}
+
+/// A bit stays pending over a take exactly where it was pending and is masked.
+pub fn masked_bits_stay()
+    ensures { KeepsMasked }
+{}

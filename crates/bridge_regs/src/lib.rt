@@ -1,0 +1,145 @@
+//! The registers of a bridge that both hosts of a pair reach: scratchpads, which hold one word each, and doorbells,
+//! whose bits one side rings and the other takes (Linux `Documentation/driver-api/ntb.rst`).
+//!
+//! Sets of bits are numbers of 32 bits. No call takes memory.
+#![tactic(auto)]
+
+ghost use Rattle.std.specs.Prelude.{bit_and, bit_or, length, replicate, slice_index, slice_set, ◌<◌, ◌≡◌};
+ghost use Rattle.step_kinds.specs.Bits.{with_bit, without_bits};
+
+use std::marker::Model;
+
+pub mod laws;
+#[cfg(test)]
+mod tests;
+
+/// The 16 scratchpads of one side, each a word of 32 bits.
+#[derive(Clone, Copy, Debug, PartialEq, Eq)]
+pub struct Pads {
+    words: [u32; 16],
+}
+
+impl Model for Pads {
+    ghost use Rattle.std.specs.Prelude.{List, ℕ};
+
+    ghost Value = { List ℕ };
+
+    ghost view = { λ pads. pads.words };
+
+    ghost inverse = { λ words. record { words = words } };
+}
+
+impl Pads {
+    /// All scratchpads hold 0.
+    pub fn new() -> Pads
+        ensures { result ≡ replicate 16 0 }
+    {
+        Pads { words: [0; 16] }
+    }
+
+    /// The word of the scratchpad `i`, counted from 0.
+    pub fn get(&self, i: u32) -> u32
+        requires { i < 16 }
+        ensures value { result ≡ slice_index self.now i }
+        ensures sixteen { length self.now ≡ 16 }
+    {
+        self.words[i as usize]
+    }
+
+    /// Puts `value` into the scratchpad `i`, counted from 0.
+    pub fn set(&mut self, i: u32, value: u32)
+        requires { i < 16 }
+        ensures changed { self.new ≡ slice_set self.old i value }
+        ensures sixteen { length self.new ≡ 16 }
+    {
+        self.words[i as usize] = value;
+    }
+}
+
+/// The doorbell of one side: the bits that the peer rang and the side has not yet taken, and the bits that the side
+/// has masked. There are 32 bits, from 0.
+#[derive(Clone, Copy, Debug, PartialEq, Eq)]
+pub struct Bells {
+    pending: u32,
+    masked: u32,
+}
+
+impl Model for Bells {
+    ghost use Rattle.bridge_regs.specs.Doorbell.{Doorbell};
+
+    ghost Value = { Doorbell };
+
+    ghost view = { λ bells. record { pending = bells.pending; masked = bells.masked } };
+
+    ghost inverse = { λ bell. record { pending = bell.pending; masked = bell.masked } };
+}
+
+impl Bells {
+    ghost use Rattle.bridge_regs.specs.Doorbell.{quiet, unmasked_pending, with_masked, with_pending};
+
+    /// No bit is pending and none is masked.
+    pub fn new() -> Bells
+        ensures { result ≡ quiet }
+    {
+        Bells {
+            pending: 0,
+            masked: 0,
+        }
+    }
+
+    /// Rings a bit: it is pending from now on, masked or not.
+    pub fn ring(&mut self, bit: u32)
+        requires { bit < 32 }
+        ensures { self.new ≡ with_pending self.old (with_bit self.old.pending bit) }
+    {
+        self.pending |= 1 << bit;
+    }
+
+    /// The pending bits, masked ones with them.
+    pub fn pending(&self) -> u32
+        ensures { result ≡ self.now.pending }
+    {
+        self.pending
+    }
+
+    /// The masked bits.
+    pub fn masked(&self) -> u32
+        ensures { result ≡ self.now.masked }
+    {
+        self.masked
+    }
+
+    /// Takes the pending bits that aren't masked: they are pending no more, and masked ones stay pending.
+    #[tactic(auto, using(crate::proofs::BitByBit::and_not_is, crate::proofs::BitByBit::left_by_take))]
+    pub fn take(&mut self) -> u32
+        ensures taken { result ≡ unmasked_pending self.old }
+        ensures cleared { self.new ≡ with_pending self.old (without_bits self.old.pending result) }
+        ensures left { self.new.pending ≡ bit_and self.old.pending self.old.masked }
+    {
+        let taken = self.pending & !self.masked;
+        self.pending &= !taken;
+        taken
+    }
+
+    /// Masks these bits too.
+    pub fn mask(&mut self, bits: u32)
+        ensures { self.new ≡ with_masked self.old (bit_or self.old.masked bits) }
+    {
+        self.masked |= bits;
+    }
+
+    /// Masks these bits no more. What is pending stays so.
+    #[tactic(auto, using(crate::proofs::BitByBit::and_not_is))]
+    pub fn unmask(&mut self, bits: u32)
+        ensures { self.new ≡ with_masked self.old (without_bits self.old.masked bits) }
+    {
+        self.masked &= !bits;
+    }
+
+    /// No bit is pending any more. What is masked stays so.
+    pub fn zero_pending(&mut self)
+        ensures { self.new ≡ with_pending self.old 0 }
+    {
+        self.pending = 0;
+    }
+}

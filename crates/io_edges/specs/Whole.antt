@@ -1,0 +1,28 @@
+-- What is left of a source, and what a sink holds, after many reads or writes, where it is told (`Some`).
+use Rattle.std.specs.Prelude.{◌≡◌, ℕ, ◌<◌, ◌≤◌, List, ◌++◌, length, take, Option, Some, None}
+
+-- These bytes were the front of the content, and what is left is the rest of it. Content that isn't told stays so.
+abbrev pub HasGiven : Option (List ℕ) → Option (List ℕ) → List ℕ → Type 0
+HasGiven None left bytes = left ≡ None
+HasGiven (Some content) left bytes = (rest : List ℕ) × (content ≡ bytes ++ rest) × (left ≡ Some rest)
+
+-- The source has given a front of its content, of at most so many bytes.
+abbrev pub HasGivenAtMost : ℕ → Option (List ℕ) → Option (List ℕ) → Type 0
+HasGivenAtMost most before left = (front : List ℕ) × (length front ≤ most) × HasGiven before left front
+
+-- The source has given a piece, which stands behind the bytes that were there.
+pub record AddsPiece (before left : Option (List ℕ)) (old new : List ℕ) : Type 0 where
+  pub piece : List ℕ
+  pub added : new ≡ old ++ piece
+  pub given : HasGiven before left piece
+
+-- All of the piece stands behind what was held.
+abbrev pub HoldsAll : Option (List ℕ) → Option (List ℕ) → List ℕ → Type 0
+HoldsAll None held piece = held ≡ None
+HoldsAll (Some content) held piece = held ≡ Some (content ++ piece)
+
+-- A part from the front of the piece, and not all of it, stands behind what was held.
+abbrev pub HoldsPart : Option (List ℕ) → Option (List ℕ) → List ℕ → Type 0
+HoldsPart None held piece = held ≡ None
+HoldsPart (Some content) held piece =
+    (count : ℕ) × (count < length piece) × (held ≡ Some (content ++ take count piece))

@@ -1,0 +1,202 @@
+//! The link of a pair: its state, the number of its session, and which sides have enabled it and are clean.
+//!
+//! The calls that enable and disable a link, and the event that tells of its loss, are those of Linux
+//! `Documentation/driver-api/ntb.rst`. Sessions and the clean bit of a side are this project's own: a link that was
+//! lost comes up again only after both sides have forgotten the session, and then in the next session. No call takes
+//! memory, and a refused call changes nothing.
+#![tactic(auto)]
+
+ghost use Rattle.std.specs.Prelude.{IfOk, ◌≡◌, ◌≤◌};
+ghost use Rattle.std.specs.Result.{result_err};
+ghost use Rattle.ledger_model.specs.Both.{at_side, with_side};
+ghost use Rattle.ledger_model.specs.Link.{
+  clean_refusal,
+  cleaned_link,
+  cut_link,
+  cut_refusal,
+  drop_refusal,
+  dropped_link,
+  enable_refusal,
+  enabled_link,
+  fresh_link,
+  last_session,
+  link_after,
+  train_refusal,
+  trained_link,
+};
+
+pub use ledger_model::{LinkRefusal, LinkState};
+use std::marker::Model;
+use step_kinds::Side;
+
+mod flags;
+#[cfg(test)]
+mod tests;
+
+use flags::Flags;
+
+/// The last session that a pair can have.
+const LAST_SESSION: u32 = 65535;
+
+/// The link of one pair.
+#[derive(Clone, Copy, Debug, PartialEq, Eq)]
+pub struct Link {
+    state: LinkState,
+    session: u32,
+    enabled: Flags,
+    clean: Flags,
+}
+
+impl Model for Link {
+    ghost use Rattle.ledger_model.specs.Link.{Link as PairLink};
+
+    ghost Value = { PairLink };
+
+    ghost use Rattle.link_state.specs.Kept.{IsNumbered, inside_of, link_of};
+
+    ghost view = { link_of };
+
+    ghost invariant = { IsNumbered };
+
+    ghost inverse = { inside_of };
+}
+
+impl Link {
+    /// The link of a pair before any step: down, with no session yet and both sides clean, or, where `up` holds, up
+    /// in session 1 and enabled by both sides.
+    pub fn fresh(up: bool) -> Link
+        ensures { result ≡ fresh_link up }
+    {
+        Link {
+            state: if up { LinkState::Up } else { LinkState::Down },
+            session: if up { 1 } else { 0 },
+            enabled: Flags::both(up),
+            clean: Flags::both(true),
+        }
+    }
+
+    /// Where the link stands.
+    pub fn state(&self) -> LinkState
+        ensures { result ≡ self.now.state }
+    {
+        self.state
+    }
+
+    /// The number of the session, from 1 to 65,535, and 0 before the first. It stays when the link is lost.
+    pub fn session(&self) -> u32
+        ensures value { result ≡ self.now.session }
+        ensures numbered { result ≤ last_session }
+    {
+        self.session
+    }
+
+    /// Whether the side has enabled the link since it was last lost.
+    pub fn enabled(&self, side: Side) -> bool
+        ensures { result ≡ at_side self.now.enabled side }
+    {
+        self.enabled.at(side)
+    }
+
+    /// Whether the side has forgotten the session that was lost.
+    pub fn clean(&self, side: Side) -> bool
+        ensures { result ≡ at_side self.now.clean side }
+    {
+        self.clean.at(side)
+    }
+
+    /// The side agrees to bring the link up.
+    ///
+    /// # Errors
+    ///
+    /// [`LinkRefusal::NotDown`] where the link isn't down, and else [`LinkRefusal::Dirty`] where the side is not
+    /// clean.
+    pub fn enable(&mut self, side: Side) -> Result<(), LinkRefusal>
+        ensures refusal { result_err result ≡ enable_refusal self.old side }
+        ensures after { self.new ≡ link_after (enable_refusal self.old side) self.old (enabled_link self.old side) }
+    {
+        if self.state != LinkState::Down {
+            return Err(LinkRefusal::NotDown);
+        }
+        if !self.clean.at(side) {
+            return Err(LinkRefusal::Dirty);
+        }
+        self.enabled.set(side);
+        Ok(())
+    }
+
+    /// The link comes up in the next session, whose number this answers.
+    ///
+    /// # Errors
+    ///
+    /// [`LinkRefusal::NotDown`] where the link isn't down, else [`LinkRefusal::NotEnabled`] where a side has not
+    /// enabled it, and else [`LinkRefusal::SessionsSpent`] where 65,535 sessions were used.
+    pub fn train(&mut self) -> Result<u32, LinkRefusal>
+        ensures refusal { result_err result ≡ train_refusal self.old }
+        ensures after { self.new ≡ link_after (train_refusal self.old) self.old (trained_link self.old) }
+        ensures session { IfOk result (λ session. session ≡ self.new.session) }
+    {
+        if self.state != LinkState::Down {
+            return Err(LinkRefusal::NotDown);
+        }
+        if !(self.enabled.at(Side::A) && self.enabled.at(Side::B)) {
+            return Err(LinkRefusal::NotEnabled);
+        }
+        if self.session == LAST_SESSION {
+            return Err(LinkRefusal::SessionsSpent);
+        }
+        self.state = LinkState::Up;
+        self.session += 1;
+        Ok(self.session)
+    }
+
+    /// The link is lost.
+    ///
+    /// # Errors
+    ///
+    /// [`LinkRefusal::NotUp`] where the link isn't up.
+    pub fn cut(&mut self) -> Result<(), LinkRefusal>
+        ensures refusal { result_err result ≡ cut_refusal self.old }
+        ensures after { self.new ≡ link_after (cut_refusal self.old) self.old (cut_link self.old) }
+    {
+        if self.state != LinkState::Up {
+            return Err(LinkRefusal::NotUp);
+        }
+        self.state = LinkState::Closing;
+        Ok(())
+    }
+
+    /// Nothing of the lost session is in flight any more: the link is down, no side has enabled it, and neither is
+    /// clean.
+    ///
+    /// # Errors
+    ///
+    /// [`LinkRefusal::NotClosing`] where the link isn't closing.
+    pub fn drop_done(&mut self) -> Result<(), LinkRefusal>
+        ensures refusal { result_err result ≡ drop_refusal self.old }
+        ensures after { self.new ≡ link_after (drop_refusal self.old) self.old (dropped_link self.old) }
+    {
+        if self.state != LinkState::Closing {
+            return Err(LinkRefusal::NotClosing);
+        }
+        self.state = LinkState::Down;
+        self.enabled = Flags::both(false);
+        self.clean = Flags::both(false);
+        Ok(())
+    }
+
+    /// The side has forgotten the lost session: it is clean.
+    ///
+    /// # Errors
+    ///
+    /// [`LinkRefusal::NotDown`] where the link isn't down.
+    pub fn cleaned(&mut self, side: Side) -> Result<(), LinkRefusal>
+        ensures refusal { result_err result ≡ clean_refusal self.old }
+        ensures after { self.new ≡ link_after (clean_refusal self.old) self.old (cleaned_link self.old side) }
+    {
+        if self.state != LinkState::Down {
+            return Err(LinkRefusal::NotDown);
+        }
+        self.clean.set(side);
+        Ok(())
+    }
+}

@@ -1,0 +1,80 @@
+//! Ethernet frames: two addresses of six bytes, the kind of the payload, and the payload.
+
+ghost use Rattle.std.specs.Prelude.{IfErr, IfOk, IsErr, drop, length, ◌<◌, ◌↔◌, ◌≡◌, ◌≤◌};
+ghost use Rattle.ledger_model.specs.Device.{ethernet_frame, ethernet_header};
+
+use std::alloc::{AllocError, Global};
+use step_kinds::Frame;
+use thiserror::Error;
+
+/// The bytes of the two addresses and the kind.
+const HEADER_BYTES: usize = 14;
+
+/// What stands in front of the payload of an Ethernet frame.
+#[derive(Clone, Copy, Debug, PartialEq, Eq)]
+pub struct Header {
+    /// The address of the device that the frame goes to.
+    pub dst: [u8; 6],
+    /// The address of the device that it comes from.
+    pub src: [u8; 6],
+    /// The kind of the payload.
+    pub kind: u16,
+}
+
+/// A frame has fewer than the 14 bytes of an Ethernet header.
+#[derive(Clone, Copy, Debug, PartialEq, Eq, Error)]
+#[error("a frame of {len} bytes has no Ethernet header")]
+pub struct Short {
+    /// The bytes that it has.
+    pub len: u32,
+}
+
+/// The Ethernet frame with these addresses and this kind, its high byte first, around a payload of at most 65,522
+/// bytes.
+///
+/// # Errors
+///
+/// [`AllocError`] where the machine has no memory left.
+pub fn encode(
+    alloc: Global,
+    dst: [u8; 6],
+    src: [u8; 6],
+    kind: u16,
+    payload: &[u8],
+) -> Result<Frame, AllocError>
+    requires { length payload.now ≤ 65522 }
+    ensures { IfOk result (λ frame. frame ≡ ethernet_frame dst src kind payload.now) }
+{
+    let mut bytes = Vec::with_capacity(alloc, HEADER_BYTES + payload.len())?;
+    bytes.extend_from_slice(&dst)?;
+    bytes.extend_from_slice(&src)?;
+    bytes.extend_from_slice(&kind.to_be_bytes())?;
+    bytes.extend_from_slice(payload)?;
+    Ok(Frame::of_vec(bytes))
+}
+
+/// Reads the addresses and the kind of an Ethernet frame of at most 65,536 bytes. Its payload is what follows the
+/// first 14 bytes.
+///
+/// # Errors
+///
+/// [`Short`], with the number of bytes, where these are fewer than 14.
+pub fn decode(bytes: &[u8]) -> Result<Header, Short>
+    requires { length bytes.now ≤ 65536 }
+    ensures exact { IsErr result ↔ (length bytes.now < ethernet_header) }
+    ensures short { IfErr result (λ short. short.len ≡ length bytes.now) }
+    ensures parts { IfOk result (λ header.
+        bytes.now ≡ ethernet_frame header.dst header.src header.kind (drop ethernet_header bytes.now)) }
+{
+    if bytes.len() < HEADER_BYTES {
+        return Err(Short {
+            len: bytes.len() as u32,
+        });
+    }
+    let mut dst = [0u8; 6];
+    dst.copy_from_slice(&bytes[..6]);
+    let mut src = [0u8; 6];
+    src.copy_from_slice(&bytes[6..12]);
+    let kind = u16::from_be_bytes([bytes[12], bytes[13]]);
+    Ok(Header { dst, src, kind })
+}

@@ -1,0 +1,13 @@
+//! A network device on one queue of a pair, after the way in which Linux `ntb_netdev` works: Ethernet frames written
+//! and read, and the flow of a device that stops where its ring runs full and goes on where there is room.
+#![tactic(auto)]
+
+mod ethernet;
+mod flow;
+pub mod laws;
+#[cfg(test)]
+mod tests;
+
+pub use ethernet::{Header, Short, decode, encode};
+pub use flow::Flow;
+pub use step_kinds::Counters;
