@@ -31,5 +31,4 @@ pub mod RingPairs
 pub mod RingPairLinks
 pub mod RingPairLanes
 pub mod RingPairLandings
-pub mod RingTodos
 pub mod RingRuns

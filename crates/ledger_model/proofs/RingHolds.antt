@@ -9,7 +9,7 @@ use Rattle.step_kinds.specs.declared.steps.Label.{Label}
 use Rattle.lane_model.specs.Lane.{LinkDown, Lane, blank}
 use Rattle.lane_model.specs.Law.{HoldsRingLaw}
 use Rattle.lane_model.specs.Ring.{tail_of}
-use Rattle.ledger_model.specs.Both.{Both, at_side}
+use Rattle.ledger_model.specs.Both.{at_side}
 use Rattle.ledger_model.specs.Handshake.{pad_in}
 use Rattle.ledger_model.specs.Labels.{marks_of, indexes_of}
 use Rattle.ledger_model.specs.Ledger.{LanePart, PairPart, Sizes, side_of, lane_of, entry_in, links_pad}
@@ -17,7 +17,7 @@ use Rattle.ledger_model.specs.Link.{is_up, is_down}
 use Rattle.ledger_model.specs.LinkSteps.{fresh_lane}
 use Rattle.ledger_model.specs.Rings.{RingPart}
 use Rattle.ledger_model.specs.declared.LinkState.{LinkState}
-use Rattle.ledger_model.proofs.RingMarks.{NoLinkPad, IsOnQueue}
+use Rattle.ledger_model.proofs.RingMarks.{NoLinkPad}
 
 -- an end of the lane: its side, its scratchpad of the link's bits, and what the link says of it
 pub record End : Type 0 where
@@ -74,10 +74,6 @@ lane_shown sizes q up flight back lane ring = record {
 
 abbrev pub shown : Sizes → ℕ → View → RingPart → Lane
 shown sizes q v ring = lane_shown sizes q (is_up v.state) v.sender.flight v.receiver.flight v.lane ring
-
--- what a lane has left to post is on its queue
-abbrev pub TodosAreOwn : Both (ℕ → LanePart) → Type 0
-TodosAreOwn lanes = (side : Side) (p : ℕ) → AllByRecursion (IsOnQueue p) (at_side lanes side p).todo
 
 -- the ring has its positions, each with room for the largest payload
 pub record IsSized (sizes : Sizes) (ring : RingPart) : Type 0 where

@@ -16,7 +16,8 @@ use Rattle.ledger_model.specs.Labels.{mark_of, index_of, marks_of, indexes_of}
 use Rattle.ledger_model.specs.Ledger.{LanePart, Sizes}
 use Rattle.ledger_model.specs.Link.{is_up}
 use Rattle.ledger_model.specs.Rings.{RingPart, with_mark, with_index}
-use Rattle.ledger_model.proofs.RingMarks.{NoLinkPad, is_link_pad, split_at, middle_none, middle_some, all_without, not_empty}
+use Rattle.ledger_model.proofs.RingMarks.{NoLinkPad, is_link_pad, split_whole, middle_some, first_some, all_without, not_empty}
+use Rattle.ledger_model.proofs.Flights.{filter_map-remove}
 use Rattle.ledger_model.proofs.RingHolds.{End, View, shown, IsSized, EndHolds, IsRunning, IsStarting, IsLive, RingHolds}
 use Rattle.ledger_model.proofs.RingLanes.{sized_by_law}
 
@@ -37,8 +38,8 @@ taken_holds own other_up place label at h = record {
   pad_once_up = h.pad_once_up;
   posted_once_up = elim h.posted_once_up [
     | inl all ↦
-        let split = split_at own.flight place label at in
-        inl (all_without NoLinkPad (take place own.flight) (drop (suc place) own.flight) label (subst (AllByRecursion NoLinkPad) split.whole all)).0
+        let split = split_whole own.flight place label at in
+        inl (all_without NoLinkPad (take place own.flight) (drop (suc place) own.flight) label (subst (AllByRecursion NoLinkPad) split all)).0
     | inr up ↦ inr up
   ];
 }
@@ -52,8 +53,8 @@ pad_holds own peer place label pad own_other at pad_is posts h = record {
     | inl same ↦ elim h.pad_once_up [ inl none ↦ inl (same ∙ none) | inr up ↦ inr up ]
     | inr link ↦ elim posts.posted_once_up [
       | inl all ↦
-          let split = split_at own.flight place label at in
-          let plain = (all_without NoLinkPad (take place own.flight) (drop (suc place) own.flight) label (subst (AllByRecursion NoLinkPad) split.whole all)).1 in
+          let split = split_whole own.flight place label at in
+          let plain = (all_without NoLinkPad (take place own.flight) (drop (suc place) own.flight) label (subst (AllByRecursion NoLinkPad) split all)).1 in
           absurd (both_ways (is_link_pad label) plain link)
       | inr up ↦ inr up
     ]
@@ -101,7 +102,7 @@ module _ (sizes : Sizes) (q : ℕ) (v : View) (ring : RingPart) (h : RingHolds s
 
   module _ (at : slice_get v.sender.flight place ≡ Some label) (pad_is : PadAfter v.receiver label pad) where
     whole : v.sender.flight ≡ take place v.sender.flight ++ label ∷ drop (suc place) v.sender.flight
-    whole = (split_at v.sender.flight place label at).whole
+    whole = split_whole v.sender.flight place label at
 
     -- a write that isn't the lane's
     pub sender_lands_other : mark_of q label ≡ None → RingHolds sizes q (SenderLanded v.lane) SenderRing
@@ -127,7 +128,7 @@ module _ (sizes : Sizes) (q : ℕ) (v : View) (ring : RingPart) (h : RingHolds s
         )))
       where
         same : marks_of q v.sender.flight ≡ marks_of q (remove v.sender.flight place)
-        same = ap (marks_of q) whole ∙ middle_none (mark_of q) (take place v.sender.flight) (drop (suc place) v.sender.flight) label none
+        same = sym (filter_map-remove (mark_of q) v.sender.flight place label at none)
 
     marks_apart : (mark : Mark) → mark_of q label ≡ Some mark
         → marks_of q v.sender.flight ≡ marks_of q (take place v.sender.flight) ++ mark ∷ marks_of q (drop (suc place) v.sender.flight)
@@ -158,14 +159,11 @@ module _ (sizes : Sizes) (q : ℕ) (v : View) (ring : RingPart) (h : RingHolds s
         (λ starting. absurd (not_fresh (Cell n field) e starting)))
 
     -- flags and doorbells land from the front
-    front : (mark : Mark) → mark_of q label ≡ Some mark → place ≡ 0 → marks_of q v.sender.flight ≡ mark ∷ marks_of q (remove v.sender.flight place)
-    front mark e first =
-        let none : take place v.sender.flight ≡ [] = (split_at v.sender.flight place label at).first first in
-        marks_apart mark e
-        ∙ ap (λ list. marks_of q list ++ mark ∷ marks_of q (drop (suc place) v.sender.flight)) none
-        ∙ ap (λ list. mark ∷ marks_of q (list ++ drop (suc place) v.sender.flight)) (sym none)
+    front : (mark : Mark) → mark_of q label ≡ Some mark → v.sender.flight ≡ label ∷ remove v.sender.flight place
+        → marks_of q v.sender.flight ≡ mark ∷ marks_of q (remove v.sender.flight place)
+    front mark e first = ap (marks_of q) first ∙ first_some (mark_of q) label (remove v.sender.flight place) mark e
 
-    pub sender_lands_flag : (n : ℕ) → mark_of q label ≡ Some (Flag n) → place ≡ 0
+    pub sender_lands_flag : (n : ℕ) → mark_of q label ≡ Some (Flag n) → v.sender.flight ≡ label ∷ remove v.sender.flight place
         → RingHolds sizes q (SenderLanded (record v.lane { flagged = v.lane.flagged + 1 })) SenderRing
     sender_lands_flag n e first =
         subst (λ mark. RingHolds sizes q (SenderLanded (record v.lane { flagged = v.lane.flagged + 1 })) (record { ring = with_mark sizes.entries v.lane ring.ring mark; index_word = ring.index_word }))
@@ -179,7 +177,8 @@ module _ (sizes : Sizes) (q : ℕ) (v : View) (ring : RingPart) (h : RingHolds s
         })
         (λ starting. absurd (not_fresh (Flag n) e starting)))
 
-    pub sender_lands_bell : mark_of q label ≡ Some Bell → place ≡ 0 → RingHolds sizes q (SenderLanded v.lane) SenderRing
+    pub sender_lands_bell : mark_of q label ≡ Some Bell → v.sender.flight ≡ label ∷ remove v.sender.flight place
+        → RingHolds sizes q (SenderLanded v.lane) SenderRing
     sender_lands_bell e first =
         subst (λ mark. RingHolds sizes q (SenderLanded v.lane) (record { ring = with_mark sizes.entries v.lane ring.ring mark; index_word = ring.index_word })) (sym e)
         (sender_lands at pad_is v.lane ring
@@ -248,11 +247,10 @@ module _ (sizes : Sizes) (q : ℕ) (v : View) (ring : RingPart) (h : RingHolds s
         )))
       where
         same : indexes_of q v.receiver.flight ≡ indexes_of q (remove v.receiver.flight place)
-        same =
-            ap (indexes_of q) (split_at v.receiver.flight place label at).whole
-            ∙ middle_none (index_of q) (take place v.receiver.flight) (drop (suc place) v.receiver.flight) label none
+        same = sym (filter_map-remove (index_of q) v.receiver.flight place label at none)
 
-    pub receiver_lands_index : (n : ℕ) → index_of q label ≡ Some n → place ≡ 0 → RingHolds sizes q (ReceiverLanded (record v.lane { freed = n + 1 })) ReceiverRing
+    pub receiver_lands_index : (n : ℕ) → index_of q label ≡ Some n → v.receiver.flight ≡ label ∷ remove v.receiver.flight place
+        → RingHolds sizes q (ReceiverLanded (record v.lane { freed = n + 1 })) ReceiverRing
     receiver_lands_index n e first =
         subst (λ index. RingHolds sizes q (ReceiverLanded (record v.lane { freed = n + 1 })) (record { ring = ring.ring; index_word = with_index sizes.entries ring.index_word index })) (sym e)
         (receiver_lands at pad_is (record v.lane { freed = n + 1 }) (record { ring = ring.ring; index_word = n % sizes.entries })
@@ -262,16 +260,7 @@ module _ (sizes : Sizes) (q : ℕ) (v : View) (ring : RingPart) (h : RingHolds s
           open_yet = running.open_yet;
           law = index_keeps (shown sizes q v ring) n (indexes_of q (remove v.receiver.flight place)) front_back running.law;
         })
-        (λ starting. absurd (not_empty (indexes_of q (take place v.receiver.flight)) (indexes_of q (drop (suc place) v.receiver.flight)) n (sym back_apart ∙ starting.no_indexes))))
+        (λ starting. absurd (cc (front_back, starting.no_indexes))))
       where
-        back_apart : indexes_of q v.receiver.flight ≡ indexes_of q (take place v.receiver.flight) ++ n ∷ indexes_of q (drop (suc place) v.receiver.flight)
-        back_apart =
-            ap (indexes_of q) (split_at v.receiver.flight place label at).whole
-            ∙ middle_some (index_of q) (take place v.receiver.flight) (drop (suc place) v.receiver.flight) label n e
-
         front_back : indexes_of q v.receiver.flight ≡ n ∷ indexes_of q (remove v.receiver.flight place)
-        front_back =
-            let none : take place v.receiver.flight ≡ [] = (split_at v.receiver.flight place label at).first first in
-            back_apart
-            ∙ ap (λ list. indexes_of q list ++ n ∷ indexes_of q (drop (suc place) v.receiver.flight)) none
-            ∙ ap (λ list. n ∷ indexes_of q (list ++ drop (suc place) v.receiver.flight)) (sym none)
+        front_back = ap (indexes_of q) first ∙ first_some (index_of q) label (remove v.receiver.flight place) n e

@@ -1,5 +1,5 @@
 -- On a pair: what a landing, and a clear, keep of a lane's ring.
-use Rattle.std.proofs.Common.{◌≡◌, ℕ, ◌+◌, ◌≤◌, ◌==◌, Bool, true, false, List, refl, sym, ap, ◌∙◌, subst, inl, inr, map, get_or-set_other}
+use Rattle.std.proofs.Common.{◌≡◌, ℕ, ◌+◌, ◌≤◌, ◌==◌, Bool, true, false, List, ◌∷◌, refl, sym, ap, ◌∙◌, subst, inl, inr, map, get_or-set_other}
 use Rattle.std.specs.Prelude.{if◌then◌else◌, Some, slice_get, slice_index, slice_set, ◌&&◌}
 use Rattle.std.proofs.lemmas.Bool.{cases_eq, eq-eqb, ne_eqb, cond-true, cond-false, and_left, and_right, and_from}
 use Rattle.step_kinds.specs.Sides.{other_side}
@@ -17,12 +17,14 @@ use Rattle.ledger_model.specs.Log.{same_side}
 use Rattle.ledger_model.specs.Receiving.{lane_to, is_copied}
 use Rattle.ledger_model.specs.Rings.{RingPart, with_mark, with_index}
 use Rattle.ledger_model.proofs.Steps.{landed, clearing}
-use Rattle.ledger_model.proofs.RingMarks.{strict_is_first}
+use Rattle.ledger_model.proofs.Flights.{strict_first}
+use Rattle.std.specs.List.{remove}
+use Rattle.ledger_model.proofs.LaneSeen.{same_side-refl}
 use Rattle.ledger_model.proofs.RingHolds.{End, end_of, view_of, RingHolds}
 use Rattle.ledger_model.proofs.RingLanes.{cleared_at, lane_clears}
 use Rattle.ledger_model.proofs.RingLandings.{taken_from, with_pad, PadAfter, sender_lands_other, sender_lands_cell, sender_lands_flag, sender_lands_bell, receiver_lands_other, receiver_lands_index}
 use Rattle.ledger_model.proofs.RingPairs.{side_cases, own_lane, other_queue, other_lane, Holds, seen_as}
-use Rattle.ledger_model.proofs.RingPairLinks.{same_own, same_peer}
+use Rattle.ledger_model.proofs.RingPairLinks.{same_peer}
 use Rattle.ledger_model.proofs.RingPairLanes.{receiver_cases}
 
 -- the scratchpad of the link's bits after a landing at the peer
@@ -115,7 +117,7 @@ module _ (sizes : Sizes) (from : Side) (q : ℕ) (ring : RingPart) (pair : PairP
 
   -- a write of the lane's sender lands
   own_lands : (label : Label) → slice_get (side_of pair from).flight place ≡ Some label → may_land (map (order_of is_strict) (side_of pair from).flight) place ≡ true → ByOwn label
-  own_lands label at may = go label at (strict_is_first is_strict (side_of pair from).flight place label at)
+  own_lands label at may = go label at (λ order. strict_first (order_of is_strict) (side_of pair from).flight place label at order may)
     where
       pads : List ℕ
       pads = (side_of pair (other_side from)).pads
@@ -130,7 +132,7 @@ module _ (sizes : Sizes) (from : Side) (q : ℕ) (ring : RingPart) (pair : PairP
       other_lanes p n ne = sym (cond-false (q == p) _ _ (ne_eqb q p (λ e. ne (sym e))))
 
       go : (label : Label) → slice_get (side_of pair from).flight place ≡ Some label
-          → (order_of is_strict label ≡ strict → may_land (map (order_of is_strict) (side_of pair from).flight) place ≡ true → place ≡ 0) → ByOwn label
+          → (order_of is_strict label ≡ strict → (side_of pair from).flight ≡ label ∷ remove (side_of pair from).flight place) → ByOwn label
       go (Chunk p n part) at first = elim (cases_eq p q) [
         | inl e ↦ sender_lands_cell sizes q (view_of pair from q) ring h place (Chunk p n part) (slice_index pads links_pad) at (inl refl) n (PayloadChunk part) (rw (eq-eqb p q e) refl)
         | inr ne ↦ sender_lands_other sizes q (view_of pair from q) ring h place (Chunk p n part) (slice_index pads links_pad) at (inl refl) (rw (ne_eqb p q ne) refl)
@@ -145,18 +147,18 @@ module _ (sizes : Sizes) (from : Side) (q : ℕ) (ring : RingPart) (pair : PairP
       ]
       go (Flag p n) at first = elim (cases_eq p q) [
         | inl e ↦ subst (λ lane. OwnAs (Flag p n) lane) (same_lanes p n e)
-            (sender_lands_flag sizes q (view_of pair from q) ring h place (Flag p n) (slice_index pads links_pad) at (inl refl) n (rw (eq-eqb p q e) refl) (first (flag_is_strict is_strict p n) may))
+            (sender_lands_flag sizes q (view_of pair from q) ring h place (Flag p n) (slice_index pads links_pad) at (inl refl) n (rw (eq-eqb p q e) refl) (first (flag_is_strict is_strict p n)))
         | inr ne ↦ subst (λ lane. OwnAs (Flag p n) lane) (other_lanes p n ne)
             (sender_lands_other sizes q (view_of pair from q) ring h place (Flag p n) (slice_index pads links_pad) at (inl refl) (rw (ne_eqb p q ne) refl))
       ]
       go (Down p n) at first = elim (cases_eq p q) [
         | inl e ↦ subst (λ lane. OwnAs (Down p n) lane) (same_lanes p n e)
-            (sender_lands_flag sizes q (view_of pair from q) ring h place (Down p n) (slice_index pads links_pad) at (inl refl) n (rw (eq-eqb p q e) refl) (first (down_is_strict is_strict p n) may))
+            (sender_lands_flag sizes q (view_of pair from q) ring h place (Down p n) (slice_index pads links_pad) at (inl refl) n (rw (eq-eqb p q e) refl) (first (down_is_strict is_strict p n)))
         | inr ne ↦ subst (λ lane. OwnAs (Down p n) lane) (other_lanes p n ne)
             (sender_lands_other sizes q (view_of pair from q) ring h place (Down p n) (slice_index pads links_pad) at (inl refl) (rw (ne_eqb p q ne) refl))
       ]
       go (Bell p) at first = elim (cases_eq p q) [
-        | inl e ↦ sender_lands_bell sizes q (view_of pair from q) ring h place (Bell p) (slice_index pads links_pad) at (inl refl) (rw (eq-eqb p q e) refl) (first (bell_is_strict is_strict p) may)
+        | inl e ↦ sender_lands_bell sizes q (view_of pair from q) ring h place (Bell p) (slice_index pads links_pad) at (inl refl) (rw (eq-eqb p q e) refl) (first (bell_is_strict is_strict p))
         | inr ne ↦ sender_lands_other sizes q (view_of pair from q) ring h place (Bell p) (slice_index pads links_pad) at (inl refl) (rw (ne_eqb p q ne) refl)
       ]
       go (Pad i value) at first =
@@ -167,7 +169,7 @@ module _ (sizes : Sizes) (from : Side) (q : ℕ) (ring : RingPart) (pair : PairP
   -- a write of the lane's receiver lands
   peer_lands : (label : Label) → slice_get (side_of pair (other_side from)).flight place ≡ Some label
       → may_land (map (order_of is_strict) (side_of pair (other_side from)).flight) place ≡ true → ByPeer label
-  peer_lands label at may = go label at (strict_is_first is_strict (side_of pair (other_side from)).flight place label at)
+  peer_lands label at may = go label at (λ order. strict_first (order_of is_strict) (side_of pair (other_side from)).flight place label at order may)
     where
       pads : List ℕ
       pads = (side_of pair from).pads
@@ -180,10 +182,10 @@ module _ (sizes : Sizes) (from : Side) (q : ℕ) (ring : RingPart) (pair : PairP
       other_lanes p n ne = sym (cond-false (q == p) _ _ (ne_eqb q p (λ e. ne (sym e))))
 
       go : (label : Label) → slice_get (side_of pair (other_side from)).flight place ≡ Some label
-          → (order_of is_strict label ≡ strict → may_land (map (order_of is_strict) (side_of pair (other_side from)).flight) place ≡ true → place ≡ 0) → ByPeer label
+          → (order_of is_strict label ≡ strict → (side_of pair (other_side from)).flight ≡ label ∷ remove (side_of pair (other_side from)).flight place) → ByPeer label
       go (Index p n) at first = elim (cases_eq p q) [
         | inl e ↦ subst (λ lane. PeerAs (Index p n) lane) (same_lanes p n e)
-            (receiver_lands_index sizes q (view_of pair from q) ring h place (Index p n) (slice_index pads links_pad) at (inl refl) n (rw (eq-eqb p q e) refl) (first (index_is_strict is_strict p n) may))
+            (receiver_lands_index sizes q (view_of pair from q) ring h place (Index p n) (slice_index pads links_pad) at (inl refl) n (rw (eq-eqb p q e) refl) (first (index_is_strict is_strict p n)))
         | inr ne ↦ subst (λ lane. PeerAs (Index p n) lane) (other_lanes p n ne)
             (receiver_lands_other sizes q (view_of pair from q) ring h place (Index p n) (slice_index pads links_pad) at (inl refl) (rw (ne_eqb p q ne) refl))
       ]
@@ -206,7 +208,7 @@ land_keeps sizes from q ring pair h is_strict side place label =
     side_cases (λ s. slice_get (side_of pair s).flight place ≡ Some label → may_land (map (order_of is_strict) (side_of pair s).flight) place ≡ true
     → Holds sizes from q (landed pair s place label) (landed_ring sizes from q (lane_of pair from q) ring s label)) from
     (λ at may.
-    subst (λ b. Holds sizes from q (landed pair from place label) (if b then by_own else by_peer)) (sym (same_own from))
+    subst (λ b. Holds sizes from q (landed pair from place label) (if b then by_own else by_peer)) (sym (same_side-refl from))
     (subst (λ v. RingHolds sizes q v by_own) (sym (own_landed pair from q place label)) (own_lands sizes from q ring pair h is_strict place label at may)))
     (λ at may.
     subst (λ b. Holds sizes from q (landed pair (other_side from) place label) (if b then by_own else by_peer)) (sym (same_peer from))
@@ -235,7 +237,7 @@ pub clear_keeps : (sizes : Sizes) (from : Side) (q : ℕ) (ring : RingPart) (pai
 clear_keeps sizes from q ring pair two h = receiver_cases from q
     (λ side s k. is_copied (lane_of pair s k).phase ≡ true → Holds sizes from q (with_lane pair s k (clear_of (lane_of pair s k))) (cleared_ring sizes from q ring s k (lane_of pair s k).cleared))
     (λ turn. subst (λ b. Holds sizes from q (with_lane pair from q (clear_of (lane_of pair from q))) (if b then cleared_at sizes ring (lane_of pair from q).cleared else ring))
-    (sym (and_from (same_side from from) (q == q) (same_own from) (eq-eqb q q refl)))
+    (sym (and_from (same_side from from) (q == q) (same_side-refl from) (eq-eqb q q refl)))
     (seen_as sizes from q (cleared_at sizes ring (lane_of pair from q).cleared) (with_lane pair from q (clear_of (lane_of pair from q)))
     (record (view_of pair from q) { lane = clear_of (lane_of pair from q) }) (own_lane pair from q (clear_of (lane_of pair from q)))
     (lane_clears sizes q (view_of pair from q) ring h two turn)))

@@ -1,8 +1,7 @@
 -- On a pair: what the steps of senders and receivers keep of a lane's ring.
 use Rattle.std.proofs.Common.{◌≡◌, ℕ, ◌+◌, ◌≤◌, ◌==◌, Bool, true, false, not, List, [], ◌∷◌, ◌++◌, length, refl, sym, ap, ◌∙◌, subst, inl, inr, arith}
 use Rattle.std.specs.Prelude.{Option, None, nat_lt}
-use Rattle.std.specs.List.{AllByRecursion}
-use Rattle.std.proofs.lemmas.Bool.{not-false, both_ways, cases_eq, ltb-false, cond_both, ne_eqb, true≢false}
+use Rattle.std.proofs.lemmas.Bool.{and_parts, not-false, both_ways, cases_eq, ltb-false, cond_both, ne_eqb, true≢false}
 use Rattle.step_kinds.specs.Bits.{has_bit, with_bit}
 use Rattle.step_kinds.specs.Sides.{other_side}
 use Rattle.step_kinds.specs.declared.names.Side.{Side}
@@ -23,11 +22,14 @@ use Rattle.ledger_model.specs.Sending.{is_empty_list, begin_refusal, xbegin_refu
 use Rattle.ledger_model.proofs.Outcomes.{passed}
 use Rattle.ledger_model.proofs.Steps.{closing, taken_frame, posting, post_cases, look_cases, copied_more, copied_last, ack_cases}
 use Rattle.ledger_model.proofs.RingMarks.{IsOnQueue, mark_of-other, index_of-lane, no_link_pad-lane}
-use Rattle.ledger_model.proofs.RingHolds.{View, end_of, view_of, RingHolds, TodosAreOwn}
+use Rattle.ledger_model.proofs.RingHolds.{View, end_of, view_of, RingHolds}
 use Rattle.ledger_model.proofs.RingEnds.{posted_to}
 use Rattle.ledger_model.proofs.RingLanes.{lane_begins, lane_posts, lane_loses, lane_looks, lane_copies_more, lane_copies_last, lane_acks, lane_acks_lost}
 use Rattle.ledger_model.proofs.RingPairs.{side_cases, twice, own_part, own_lane, other_queue, other_lane, peer_part, Holds, seen_as, own_posts, peer_posts, each_posts}
-use Rattle.ledger_model.proofs.RingPairLinks.{after_decided, closed_keeps, bit_is_in}
+use Rattle.ledger_model.proofs.RingPairLinks.{after_decided, closed_keeps}
+use Rattle.ledger_model.proofs.LaneNext.{has-with_same}
+use Rattle.ledger_model.proofs.Pairs.{WellMade, on_queue}
+use Rattle.std.specs.List.{list_all}
 
 -- Sending
 
@@ -162,7 +164,7 @@ module _ (size : Side → ℕ → Sizes) (from : Side) (q : ℕ) (ring : RingPar
       (own_part (with_lane pair from q lane) from q part
       ∙ ap (λ (v : View). record v { sender = record (end_of pair from) { closed = with_bit (side_of pair from).closed q } }) (own_lane pair from q lane))
       (lane_begins (size from q) q (view_of pair from q) ring h GoesDown (with_bit (side_of pair from).closed q) may.up may.joined may.not_closed may.not_busy may.room may.fits
-      (λ now. absurd (both_ways (has_bit (with_bit (side_of pair from).closed q) q) now (bit_is_in (side_of pair from).closed q)))))
+      (λ now. absurd (both_ways (has_bit (with_bit (side_of pair from).closed q) q) now (has-with_same (side_of pair from).closed q)))))
       (λ s k ne may.
       let lane = begun_lane k (lane_of pair s k) GoesDown in
       closed_keeps (size from q) from q ring (with_lane pair s k lane) (seen_as (size from q) from q ring (with_lane pair s k lane) (view_of pair from q) (other_queue pair from s q k lane ne) h) s k)
@@ -179,9 +181,10 @@ module _ (size : Side → ℕ → Sizes) (from : Side) (q : ℕ) (ring : RingPar
       (OkNumber (length (lane_of pair side queue).sent)) (closing pair side queue (size side queue)) h
       (λ none. closing_keeps side queue (qpdown_passes (size side queue) pair side queue none))
 
-  pub post_keeps : TodosAreOwn pair.lanes → (side : Side) (queue : ℕ) → Holds (size from q) from q (post_step pair side queue).after ring
-  post_keeps own side queue = post_cases (λ o. Holds (size from q) from q o.after ring) pair side queue h
-      (λ label rest front. made label rest side queue front (subst (AllByRecursion (IsOnQueue queue)) front (own side queue)).0)
+  pub post_keeps : WellMade pair → (side : Side) (queue : ℕ) → Holds (size from q) from q (post_step pair side queue).after ring
+  post_keeps made_well side queue = post_cases (λ o. Holds (size from q) from q o.after ring) pair side queue h
+      (λ label rest front.
+      made label rest side queue front (and_parts (on_queue queue label) (list_all (on_queue queue) rest) (ap (list_all (on_queue queue)) (sym front) ∙ made_well.todo side queue)).0)
     where
       this : (label : Label) (rest : List Label) → (lane_of pair from q).todo ≡ label ∷ rest → Holds (size from q) from q (posts (posting pair from q rest) from label) ring
       this label rest front =

@@ -1,10 +1,8 @@
 -- On a pair: what the steps of the link and of the handshake keep of a lane's ring.
-use Rattle.std.proofs.Common.{◌≡◌, ℕ, zero, suc, ◌+◌, ◌≤◌, Bool, true, false, List, [], ◌∷◌, ◌++◌, refl, sym, ap, ◌∙◌, subst, inl, inr, arith}
-use Rattle.std.specs.Prelude.{if◌then◌else◌, Option, Some, None, ◌/◌, ◌%◌, ◌^◌, bit_or, slice_index_or}
+use Rattle.std.proofs.Common.{◌≡◌, ℕ, zero, suc, ◌+◌, ◌≤◌, true, false, List, [], ◌∷◌, ◌++◌, refl, sym, ap, ◌∙◌, subst, inl, inr, arith}
+use Rattle.std.specs.Prelude.{if◌then◌else◌, Option, Some, None, ◌/◌, ◌%◌, slice_index_or}
 use Rattle.std.specs.List.{AllByRecursion, flat_map}
-use Rattle.std.proofs.lemmas.Bool.{not-false, and_parts, both_ways, eq-eqb, eqb-true, ne_eqb, false≢true, cases_Bool}
-use Rattle.std.specs.Int.{bit_at}
-use Rattle.std.proofs.lemmas.Nat.Bits.{bit_at_or, bit_at-pow_same, bit_at-lt}
+use Rattle.std.proofs.lemmas.Bool.{not-false, and_parts, both_ways, ne_eqb, false≢true, cases_Bool}
 use Rattle.step_kinds.specs.Bits.{has_bit, with_bit}
 use Rattle.step_kinds.specs.Sides.{other_side}
 use Rattle.step_kinds.specs.declared.names.Side.{Side}
@@ -20,15 +18,16 @@ use Rattle.ledger_model.specs.Both.{at_side}
 use Rattle.ledger_model.specs.Handshake.{word, offers, offer_step, ready_step, join_step, pad_in}
 use Rattle.ledger_model.specs.Labels.{mark_of, index_of}
 use Rattle.ledger_model.specs.Ledger.{PairPart, Sizes, side_of, lane_of, link_up, posts, side_plan, with_side_part, links_pad, windows_pad, queues_pad, version_pad, high_pad, low_pad}
-use Rattle.ledger_model.specs.Link.{is_up, is_down, is_closing, refused_where, enabled_link}
+use Rattle.ledger_model.specs.Link.{is_up, is_down, is_closing, enabled_link}
 use Rattle.ledger_model.specs.LinkSteps.{enable_step, train_step, break_step, drop_step, clean_step, fresh_lane}
 use Rattle.ledger_model.specs.Log.{same_side}
 use Rattle.ledger_model.specs.Outcome.{decided}
 use Rattle.ledger_model.specs.Rings.{RingPart}
-use Rattle.ledger_model.specs.declared.LinkRefusal.{LinkRefusal}
 use Rattle.ledger_model.specs.declared.LinkState.{LinkState}
 use Rattle.ledger_model.specs.declared.LinkState.TheVariants.{Down as IsDown, Up as IsUp, Closing as IsClosing}
-use Rattle.ledger_model.proofs.Outcomes.{passed}
+use Rattle.ledger_model.proofs.Outcomes.{passed, refused_passed}
+use Rattle.ledger_model.proofs.LaneNext.{has-with_kept}
+use Rattle.ledger_model.proofs.LaneSeen.{same_side-refl}
 use Rattle.ledger_model.proofs.Steps.{enable_cases, train_cases, break_cases, drop_cases, clean_cases, trained, dropped, cleaned, offering, next_offer, readied, ready_pad, joining, offer_cases}
 use Rattle.ledger_model.proofs.RingMarks.{NoLinkPad}
 use Rattle.ledger_model.proofs.RingHolds.{end_of, view_of}
@@ -42,30 +41,10 @@ pub after_decided : (P : PairPart → Type 0) (old : PairPart) (refusal : Option
 after_decided P old None answer new refused made = made refl
 after_decided P old (Some r) answer new refused made = refused
 
-link_passed : (b : Bool) (refusal : LinkRefusal) (later : Option LinkRefusal) → refused_where b refusal later ≡ None → (b ≡ false) × (later ≡ None)
-link_passed true refusal later e = absurd (cc)
-link_passed false refusal later e = (refl, e)
-
--- bits that are put into a set
-bit_stays_in : (bits j k : ℕ) → has_bit bits k ≡ true → has_bit (with_bit bits j) k ≡ true
-bit_stays_in bits j k has =
-    eq-eqb (bit_at (bit_or bits (2 ^ j)) k) 1
-    (let e = bit_at_or bits (2 ^ j) k in
-    let one = eqb-true (bit_at bits k) 1 has in
-    let small = bit_at-lt (2 ^ j) k in
-    omega arith)
-
-pub bit_is_in : (bits k : ℕ) → has_bit (with_bit bits k) k ≡ true
-bit_is_in bits k =
-    eq-eqb (bit_at (bit_or bits (2 ^ k)) k) 1
-    (let e = bit_at_or bits (2 ^ k) k in
-    let one = bit_at-pow_same k in
-    let small = bit_at-lt bits k in
-    omega arith)
-
+-- a bit that isn't in the larger set isn't in the smaller one
 pub bit_stays_out : (bits j k : ℕ) → has_bit (with_bit bits j) k ≡ false → has_bit bits k ≡ false
 bit_stays_out bits j k out = elim (cases_Bool (has_bit bits k)) [
-  | inl has ↦ absurd (both_ways (has_bit (with_bit bits j) k) out (bit_stays_in bits j k has))
+  | inl has ↦ absurd (both_ways (has_bit (with_bit bits j) k) out (has-with_kept bits k j has))
   | inr none ↦ none
 ]
 
@@ -76,8 +55,8 @@ module _ (sizes : Sizes) (from : Side) (q : ℕ) (ring : RingPart) (pair : PairP
   enable_keeps side =
       enable_cases (λ o. Holds sizes from q o.after ring) pair side (λ r no. h)
       (λ none.
-      let a = link_passed _ _ _ none in
-      let b = link_passed _ _ _ a.1 in
+      let a = refused_passed _ _ _ none in
+      let b = refused_passed _ _ _ a.1 in
       made side (not-false _ a.0) (not-false _ b.0))
     where
       own_link : (from : Side) → view_of (record pair { link = enabled_link pair.link from }) from q ≡ record (view_of pair from q) { sender = allowed (end_of pair from) }
@@ -102,8 +81,8 @@ module _ (sizes : Sizes) (from : Side) (q : ℕ) (ring : RingPart) (pair : PairP
   train_keeps =
       train_cases (λ o. Holds sizes from q o.after ring) pair (λ r no. h)
       (λ none.
-      let a = link_passed _ _ _ none in
-      let b = link_passed _ _ _ a.1 in
+      let a = refused_passed _ _ _ none in
+      let b = refused_passed _ _ _ a.1 in
       let both = and_parts pair.link.enabled.a pair.link.enabled.b (not-false _ b.0) in
       seen_as sizes from q ring (trained pair) (record (view_of pair from q) { state = IsUp; lane = fresh_lane }) (view from)
       (link_trains sizes q (view_of pair from q) ring h (not-false _ a.0) (each both.0 both.1 from) (each both.0 both.1 (other_side from))))
@@ -119,14 +98,14 @@ module _ (sizes : Sizes) (from : Side) (q : ℕ) (ring : RingPart) (pair : PairP
   pub break_keeps : Holds sizes from q (break_step pair).after ring
   break_keeps =
       break_cases (λ o. Holds sizes from q o.after ring) pair (λ r no. h)
-      (λ none. link_breaks sizes q (view_of pair from q) ring h (not-false _ (link_passed _ _ _ none).0))
+      (λ none. link_breaks sizes q (view_of pair from q) ring h (not-false _ (refused_passed _ _ _ none).0))
 
   pub drop_keeps : Holds sizes from q (drop_step pair).after ring
   drop_keeps =
       drop_cases (λ o. Holds sizes from q o.after ring) pair (λ r no. h)
       (λ none.
       seen_as sizes from q ring (dropped pair) (record (view_of pair from q) { state = IsDown; sender = emptied (end_of pair from); receiver = emptied (end_of pair (other_side from)) })
-      (view from) (link_drops sizes q (view_of pair from q) ring h (closing_not_up pair.link.state (not-false _ (link_passed _ _ _ none).0))))
+      (view from) (link_drops sizes q (view_of pair from q) ring h (closing_not_up pair.link.state (not-false _ (refused_passed _ _ _ none).0))))
     where
       view : (from : Side) → view_of (dropped pair) from q
           ≡ record (view_of pair from q) { state = IsDown; sender = emptied (end_of pair from); receiver = emptied (end_of pair (other_side from)) }
@@ -142,7 +121,7 @@ module _ (sizes : Sizes) (from : Side) (q : ℕ) (ring : RingPart) (pair : PairP
   clean_keeps side =
       clean_cases (λ o. Holds sizes from q o.after ring) pair side (λ r no. h)
       (λ none.
-      let down = not-false _ (link_passed _ _ _ none).0 in
+      let down = not-false _ (refused_passed _ _ _ none).0 in
       side_cases (λ s. Holds sizes from q (cleaned pair s) ring) from
       (seen_as sizes from q ring (cleaned pair from) (record (view_of pair from q) { sender = forgotten (end_of pair from); lane = lane_of (cleaned pair from) from q }) (own_view from)
       (sender_cleaned sizes q (view_of pair from q) ring h down (lane_of (cleaned pair from) from q)))
@@ -310,10 +289,6 @@ pad_posted sizes from q ring pair h side i value far = each_posts sizes from q r
 
 -- The check
 
-pub same_own : (from : Side) → same_side from from ≡ true
-same_own A = refl
-same_own B = refl
-
 pub same_peer : (from : Side) → same_side (other_side from) from ≡ false
 same_peer A = refl
 same_peer B = refl
@@ -326,7 +301,7 @@ pub check_keeps : (sizes : Sizes) (from : Side) (q : ℕ) (ring : RingPart) (pai
     → link_up pair ≡ true → (side_of pair side).up ≡ false → Holds sizes from q (with_side_part pair side (record (side_of pair side) { up = true })) (checked_ring sizes from ring side)
 check_keeps sizes from q ring pair two h side link =
     side_cases (λ s. (side_of pair s).up ≡ false → Holds sizes from q (with_side_part pair s (record (side_of pair s) { up = true })) (checked_ring sizes from ring s)) from
-    (λ not_yet. subst (λ b. Holds sizes from q (with_side_part pair from (record (side_of pair from) { up = true })) (if b then all_taken sizes ring else zeroed ring)) (sym (same_own from))
+    (λ not_yet. subst (λ b. Holds sizes from q (with_side_part pair from (record (side_of pair from) { up = true })) (if b then all_taken sizes ring else zeroed ring)) (sym (same_side-refl from))
     (seen_as sizes from q (all_taken sizes ring) (with_side_part pair from (record (side_of pair from) { up = true })) (record (view_of pair from q) { sender = raised (end_of pair from) })
     (own_part pair from q (record (side_of pair from) { up = true })) (sender_checks sizes q (view_of pair from q) ring two h link not_yet)))
     (λ not_yet.

@@ -1,7 +1,7 @@
 -- What a change of a pair is for the view of one of its lanes.
-use Rattle.std.proofs.Common.{◌≡◌, ℕ, Bool, [], ◌∷◌, ◌++◌, refl, sym, ap, subst}
+use Rattle.std.proofs.Common.{◌≡◌, ℕ, ◌==◌, Bool, [], ◌∷◌, ◌++◌, refl, sym, ap, subst}
 use Rattle.std.specs.Prelude.{None}
-use Rattle.std.proofs.lemmas.Bool.{eq-eqb, ne_eqb, cond_both}
+use Rattle.std.proofs.lemmas.Bool.{ne_eqb, and_right, cond_both}
 use Rattle.step_kinds.specs.Sides.{other_side}
 use Rattle.step_kinds.specs.declared.names.Side.{Side}
 use Rattle.step_kinds.specs.declared.names.Side.TheVariants.{A, B}
@@ -9,8 +9,10 @@ use Rattle.step_kinds.specs.declared.steps.Label.{Label}
 use Rattle.ledger_model.specs.Both.{at_side}
 use Rattle.ledger_model.specs.Handshake.{pad_in}
 use Rattle.ledger_model.specs.Labels.{mark_of, index_of}
-use Rattle.ledger_model.specs.Ledger.{LanePart, SidePart, PairPart, Sizes, side_of, lane_of, link_up, posts, with_side_part, with_lane, links_pad}
+use Rattle.ledger_model.specs.Ledger.{LanePart, SidePart, PairPart, Sizes, side_of, link_up, posts, with_side_part, with_lane, links_pad}
+use Rattle.ledger_model.specs.Log.{same_side}
 use Rattle.ledger_model.specs.Rings.{RingPart}
+use Rattle.ledger_model.proofs.LaneSeen.{lane-own, lane-off}
 use Rattle.ledger_model.proofs.RingHolds.{End, View, end_of, view_of, RingHolds}
 use Rattle.ledger_model.proofs.RingEnds.{posted_to, MayPost, sender_posts, receiver_posts}
 
@@ -63,21 +65,11 @@ module _ (pair : PairPart) where
       (peer_part from q (record (side_of pair (other_side from)) { pending = pending; masked = masked; offered = offered }))
       side
 
-  lane_same : (from : Side) (q : ℕ) (part : LanePart) → lane_of (with_lane pair from q part) from q ≡ part
-  lane_same A q part = rw (eq-eqb q q refl) refl
-  lane_same B q part = rw (eq-eqb q q refl) refl
-
   pub own_lane : (from : Side) (q : ℕ) (part : LanePart) → view_of (with_lane pair from q part) from q ≡ record (view_of pair from q) { lane = part }
-  own_lane from q part = ap (λ lane. record (view_of pair from q) { lane = lane }) (lane_same from q part)
-
-  lane_of_other_queue : (from side : Side) (q queue : ℕ) (part : LanePart) → (q ≡ queue → ⊥) → lane_of (with_lane pair side queue part) from q ≡ lane_of pair from q
-  lane_of_other_queue A A q queue part ne = rw (ne_eqb q queue ne) refl
-  lane_of_other_queue B B q queue part ne = rw (ne_eqb q queue ne) refl
-  lane_of_other_queue A B q queue part ne = refl
-  lane_of_other_queue B A q queue part ne = refl
+  own_lane from q part = ap (λ lane. record (view_of pair from q) { lane = lane }) (lane-own pair from q part)
 
   pub other_queue : (from side : Side) (q queue : ℕ) (part : LanePart) → (q ≡ queue → ⊥) → view_of (with_lane pair side queue part) from q ≡ view_of pair from q
-  other_queue from side q queue part ne = ap (λ lane. record (view_of pair from q) { lane = lane }) (lane_of_other_queue from side q queue part ne)
+  other_queue from side q queue part ne = ap (λ lane. record (view_of pair from q) { lane = lane }) (lane-off pair from side q queue part (and_right (same_side side from) (q == queue) (ne_eqb q queue ne)))
 
   pub other_lane : (from : Side) (q queue : ℕ) (part : LanePart) → view_of (with_lane pair (other_side from) queue part) from q ≡ view_of pair from q
   other_lane A q queue part = refl

@@ -35,14 +35,14 @@ use Rattle.ledger_model.specs.Rings.{RingPart, RingLawHolds, zero_place, fresh_r
 use Rattle.ledger_model.proofs.Outcomes.{passed}
 use Rattle.ledger_model.proofs.Runs.{made_by, left_by}
 use Rattle.ledger_model.proofs.Steps.{refuses, check_cases, land_cases, clear_cases, wake_cases, landed, clearing}
-use Rattle.ledger_model.proofs.RingHolds.{end_of, view_of, TodosAreOwn, IsSized, Forgets}
+use Rattle.ledger_model.proofs.RingHolds.{end_of, view_of, IsSized, Forgets}
 use Rattle.ledger_model.proofs.RingEnds.{law_at_start, tail_at_start}
 use Rattle.ledger_model.proofs.RingLanes.{cleared_at, not_one_down}
 use Rattle.ledger_model.proofs.RingPairLandings.{land_keeps, landed_ring, clear_keeps, cleared_ring}
 use Rattle.ledger_model.proofs.RingPairLinks.{enable_keeps, train_keeps, break_keeps, drop_keeps, clean_keeps, offer_keeps, ready_keeps, join_keeps, check_keeps, checked_ring, pad_posted}
 use Rattle.ledger_model.proofs.RingPairs.{Holds, seen_as, unseen_part}
 use Rattle.ledger_model.proofs.RingPairLanes.{begin_keeps, qpdown_keeps, xbegin_keeps, post_keeps, look_keeps, copy_keeps, ack_keeps}
-use Rattle.ledger_model.proofs.RingTodos.{todos_kept, fresh_todos}
+use Rattle.ledger_model.proofs.Pairs.{WellMade, well_made}
 
 -- Where a step leaves the ring as it was
 
@@ -89,9 +89,9 @@ module _ (plan : Plan) (name : LaneName) where
   OwnSizes = sizes_of Own name.from name.queue
 
   abbrev Kept : PairPart → RingPart → Type 0
-  Kept pair ring = TodosAreOwn pair.lanes × Holds OwnSizes name.from name.queue pair ring
+  Kept pair ring = WellMade pair × Holds OwnSizes name.from name.queue pair ring
 
-  module _ (pair : PairPart) (ring : RingPart) (bytes : Bytes) (two : 2 ≤ OwnSizes.entries) (own : TodosAreOwn pair.lanes) (h : Holds OwnSizes name.from name.queue pair ring) where
+  module _ (pair : PairPart) (ring : RingPart) (bytes : Bytes) (two : 2 ≤ OwnSizes.entries) (made : WellMade pair) (h : Holds OwnSizes name.from name.queue pair ring) where
     abbrev After : Step → Outcome → Type 0
     After step o = Holds OwnSizes name.from name.queue o.after (ring_next OwnSizes name (lane_of pair name.from name.queue) ring (record { step = step; answer = o.answer }))
 
@@ -126,7 +126,7 @@ module _ (plan : Plan) (name : LaneName) where
     step_keeps (Begin p side queue frame) e ordinary = begin_keeps Size name.from name.queue ring pair h side queue frame
     step_keeps (QpDown p side queue) e ordinary = qpdown_keeps Size name.from name.queue ring pair h side queue
     step_keeps (Xbegin p side queue dev dst kind payload) e ordinary = xbegin_keeps Size name.from name.queue ring pair h (dev_plan plan.devs dev) side queue dst kind payload
-    step_keeps (Post p side queue) e ordinary = post_keeps Size name.from name.queue ring pair h own side queue
+    step_keeps (Post p side queue) e ordinary = post_keeps Size name.from name.queue ring pair h made side queue
     step_keeps (Land p side place) e ordinary =
         land_cases (After (Land p side place)) Own pair side place (λ r no. refused (Land p side place) r no.is)
         (λ label at may.
@@ -171,7 +171,7 @@ module _ (plan : Plan) (name : LaneName) where
         same e =
             subst (λ s. Kept (if name.pair == s then left s else ledger name.pair) (next s)) e
             (subst (λ b. Kept (if b then left name.pair else ledger name.pair) (next name.pair)) (sym (eq-eqb name.pair name.pair refl)) (
-              todos_kept plan.devs Own (memories before name.pair) (ledger name.pair) h.0 step,
+              (well_made plan name.pair).own before (ledger name.pair) step (memories before name.pair) (sym e) h.0,
               step_keeps (ledger name.pair) ring (memories before name.pair) two h.0 h.1 step (sym e) (ordinary (sym e)),
             ))
 
@@ -268,7 +268,7 @@ ring_law_on_pair plan memories steps name ordinary has_ring sender_up receiver_u
     let sizes = sizes_of (pair_plan plan name.pair) name.from name.queue in
     let two : 2 ≤ sizes.entries = two_entries (layout_of (pair_plan plan name.pair) name.from name.queue) has_ring in
     let kept = run_keeps plan name memories two [] (start plan) (fresh_ring sizes (pair_plan plan name.pair).up) steps ordinary
-    (fresh_todos, holds_at_start sizes (pair_plan plan name.pair) name.from name.queue two (pair_plan plan name.pair).up) in
+    ((well_made plan name.pair).fresh, holds_at_start sizes (pair_plan plan name.pair) name.from name.queue two (pair_plan plan name.pair).up) in
     elim kept.1.session [
       | inl gone ↦ absurd (not_one_down _ _ sender_up receiver_up gone.one_down)
       | inr live ↦ elim live.stage [
