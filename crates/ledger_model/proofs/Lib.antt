@@ -22,3 +22,13 @@ pub mod Ticks
 pub mod LineMoves
 pub mod LineNext
 pub mod Quiet
+pub mod RingMarks
+pub mod RingHolds
+pub mod RingEnds
+pub mod RingLanes
+pub mod RingLandings
+pub mod RingPairs
+pub mod RingPairLinks
+pub mod RingPairLanes
+pub mod RingPairLandings
+pub mod RingRuns

@@ -10,6 +10,7 @@ ghost use Rattle.ledger_model.specs.Laws.{
   QuietMeansDone,
   TalliesAreCounts,
 };
+ghost use Rattle.ledger_model.specs.Rings.{RingLawHolds};
 
 /// The definitions give the answers of worked examples.
 pub fn examples_hold()
@@ -50,4 +51,9 @@ pub fn pairs_are_separate()
 /// Where nothing is on its way to a receiver and it has seen so, all that was accepted in the session was delivered.
 pub fn quiet_means_done()
     ensures { QuietMeansDone }
+{}
+
+/// Whenever both sides of an ordinary pair are up, the law of the ring holds of each of its lanes.
+pub fn ring_law_holds()
+    ensures { RingLawHolds }
 {}
