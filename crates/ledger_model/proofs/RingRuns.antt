@@ -20,18 +20,17 @@ use Rattle.step_kinds.specs.declared.steps.Label.{Label}
 use Rattle.step_kinds.specs.declared.steps.Step.{Step}
 use Rattle.step_kinds.specs.declared.steps.Step.TheVariants.{Enable, Train, Break, DropDone, Clean, Offer, Check, Ready, Join, Begin, QpDown, Xbegin, Post, Land, Look, Copy, Clear, Ack, Wake, Irq, Mask, Unmask, Spad, Poke, ShowMem, ShowPad, ShowQueue}
 use Rattle.lane_model.specs.Lane.{blank}
-use Rattle.lane_model.specs.Law.{HoldsRingLaw}
 use Rattle.ring_geometry.specs.Geometry.{Layout, HasRing, ring_bytes, frame_size, entries_of}
 use Rattle.ledger_model.specs.Both.{both_of}
-use Rattle.ledger_model.specs.Laws.{IsOrdinary}
+use Rattle.ledger_model.specs.Laws.{IsOrdinary, IsOrdinaryOn}
 use Rattle.ledger_model.specs.Ledger.{LanePart, PairPart, Sizes, side_of, lane_of, with_side_part, layout_of, sizes_of}
 use Rattle.ledger_model.specs.Link.{fresh_link}
 use Rattle.ledger_model.specs.LinkSteps.{fresh_lane}
-use Rattle.ledger_model.specs.Log.{Answered, Memories, answered, ledger_from, ledger_of, is_on, same_side}
+use Rattle.ledger_model.specs.Log.{Answered, Memories, answered, ledger_from, is_on, same_side}
 use Rattle.ledger_model.specs.Next.{Bytes, Ledger, pair_next, pair_plan, dev_plan, fresh_pair, agreed_side, idle_side, start, ledger_after}
 use Rattle.ledger_model.specs.Outcome.{Outcome}
 use Rattle.ledger_model.specs.Receiving.{lane_to}
-use Rattle.ledger_model.specs.Rings.{RingPart, RingLawHolds, zero_place, fresh_ring, ring_next, ring_from, ring_of, shown_lane}
+use Rattle.ledger_model.specs.Rings.{RingPart, RingLawHolds, zero_place, fresh_ring, ring_next, ring_from}
 use Rattle.ledger_model.proofs.Outcomes.{passed}
 use Rattle.ledger_model.proofs.Runs.{made_by, left_by}
 use Rattle.ledger_model.proofs.Steps.{refuses, check_cases, land_cases, clear_cases, wake_cases, landed, clearing}
@@ -72,14 +71,6 @@ module _ (sizes : Sizes) (name : LaneName) (lane : LanePart) (ring : RingPart) w
       ap (λ b. if b && (same_side (other_side side) name.from && (queue == name.queue)) then cleared_at sizes ring n else ring) (eq-eqb p name.pair e)
 
 -- Each step
-
--- a step on a pair is ordinary; those on other pairs may be any
-abbrev pub IsOrdinaryOn : ℕ → Step → Type 0
-IsOrdinaryOn k step = subject_of step ≡ k → IsOrdinary step
-
-all_on : (k : ℕ) (steps : List Step) → AllByRecursion IsOrdinary steps → AllByRecursion (IsOrdinaryOn k) steps
-all_on k [] all = tt
-all_on k (step ∷ steps) all = (λ e. all.0, all_on k steps all.1)
 
 module _ (plan : Plan) (name : LaneName) where
   abbrev Own : PairPlan
@@ -258,13 +249,8 @@ two_entries l h =
     let halves : ring_bytes l / 2 * 2 ≤ ring_bytes l = div-mul-le_self (ring_bytes l) 2 in
     (le-div_iff_mul-le {k = frame_size l} {x = 2} {y = ring_bytes l} some).1 (omega arith)
 
--- whatever is done to other pairs
-pub ring_law_on_pair : (plan : Plan) (memories : Memories) (steps : List Step) (name : LaneName) →
-    let pair = pair_plan plan name.pair in
-    let now = ledger_of plan memories steps name.pair in
-    AllByRecursion (IsOrdinaryOn name.pair) steps → HasRing (layout_of pair name.from name.queue) → (side_of now name.from).up ≡ true → (side_of now (other_side name.from)).up ≡ true →
-    HoldsRingLaw (shown_lane (sizes_of pair name.from name.queue) now (ring_of plan memories steps name) name.from name.queue)
-ring_law_on_pair plan memories steps name ordinary has_ring sender_up receiver_up =
+pub ring_law_holds : RingLawHolds
+ring_law_holds plan memories steps name ordinary has_ring sender_up receiver_up =
     let sizes = sizes_of (pair_plan plan name.pair) name.from name.queue in
     let two : 2 ≤ sizes.entries = two_entries (layout_of (pair_plan plan name.pair) name.from name.queue) has_ring in
     let kept = run_keeps plan name memories two [] (start plan) (fresh_ring sizes (pair_plan plan name.pair).up) steps ordinary
@@ -276,6 +262,3 @@ ring_law_on_pair plan memories steps name ordinary has_ring sender_up receiver_u
         | inr starting ↦ absurd (not_one_down _ _ sender_up receiver_up starting.one_down)
       ]
     ]
-
-pub ring_law_holds : RingLawHolds
-ring_law_holds plan memories steps name ordinary = ring_law_on_pair plan memories steps name (all_on name.pair steps ordinary)
