@@ -22,3 +22,7 @@ pub mod Ticks
 pub mod LineMoves
 pub mod LineNext
 pub mod Quiet
+pub mod Talk
+pub mod TalkNext
+pub mod Agreement
+pub mod UpMeans
