@@ -9,6 +9,7 @@ ghost use Rattle.ledger_model.specs.Laws.{
   PairsAreSeparate,
   QuietMeansDone,
   TalliesAreCounts,
+  UpMeansAgreement,
 };
 ghost use Rattle.ledger_model.specs.Rings.{RingLawHolds};
 
@@ -46,6 +47,11 @@ pub fn tallies_are_counts()
 /// The answers to the steps on one pair don't depend on the steps on other pairs.
 pub fn pairs_are_separate()
     ensures { PairsAreSeparate }
+{}
+
+/// A check that is answered `up` has found the peer's numbers in the scratchpads, all landed in the session, and they agree.
+pub fn up_means_agreement()
+    ensures { UpMeansAgreement }
 {}
 
 /// Where nothing is on its way to a receiver and it has seen so, all that was accepted in the session was delivered.
