@@ -99,7 +99,7 @@ dropped_up : (pair : PairPart) (closing : Bool) → (closing ≡ true → link_u
 dropped_up pair true down new e = e ∙ sym (down refl)
 dropped_up pair false down new e = refl
 
-closing-not_up : (state : LinkState) → is_closing state ≡ true → is_up state ≡ false
+pub closing-not_up : (state : LinkState) → is_closing state ≡ true → is_up state ≡ false
 closing-not_up IsDown e = refl
 closing-not_up IsUp e = absurd (true≢false (sym e))
 closing-not_up IsClosing e = refl

@@ -1,7 +1,7 @@
 -- On a pair: what the steps of senders and receivers keep of a lane's ring.
 use Rattle.std.proofs.Common.{◌≡◌, ℕ, ◌+◌, ◌≤◌, ◌==◌, Bool, true, false, not, List, [], ◌∷◌, ◌++◌, length, refl, sym, ap, ◌∙◌, subst, inl, inr, arith}
 use Rattle.std.specs.Prelude.{Option, None, nat_lt}
-use Rattle.std.proofs.lemmas.Bool.{and_parts, not-false, both_ways, cases_eq, ltb-false, cond_both, ne_eqb, true≢false}
+use Rattle.std.proofs.lemmas.Bool.{and_parts, not-false, both_ways, cases_eq, ltb-false, cond_both, ne_eqb}
 use Rattle.step_kinds.specs.Bits.{has_bit, with_bit}
 use Rattle.step_kinds.specs.Sides.{other_side}
 use Rattle.step_kinds.specs.declared.names.Side.{Side}
@@ -18,9 +18,9 @@ use Rattle.ledger_model.specs.Ledger.{LanePart, PairPart, Sizes, side_of, lane_o
 use Rattle.ledger_model.specs.Outcome.{refuse_if}
 use Rattle.ledger_model.specs.Receiving.{lane_to, copy_of, copy_step, look_step, look_refusal, ack_step, is_idle, is_copying, is_cleared}
 use Rattle.ledger_model.specs.Rings.{RingPart}
-use Rattle.ledger_model.specs.Sending.{is_empty_list, begin_refusal, xbegin_refusal, refuse_sender, refuse_busy, refuse_full, begun, begun_lane, begin_step, qpdown_step, xbegin_step, counts_refused, post_step}
+use Rattle.ledger_model.specs.Sending.{begin_refusal, xbegin_refusal, refuse_sender, refuse_busy, refuse_full, begun, begun_lane, begin_step, qpdown_step, xbegin_step, counts_refused, post_step}
 use Rattle.ledger_model.proofs.Outcomes.{passed}
-use Rattle.ledger_model.proofs.Steps.{closing, taken_frame, posting, post_cases, look_cases, copied_more, copied_last, ack_cases}
+use Rattle.ledger_model.proofs.Steps.{closing, empty_is, taken_frame, posting, post_cases, look_cases, copied_more, copied_last, ack_cases}
 use Rattle.ledger_model.proofs.RingMarks.{IsOnQueue, mark_of-other, index_of-lane, no_link_pad-lane}
 use Rattle.ledger_model.proofs.RingHolds.{View, end_of, view_of, RingHolds}
 use Rattle.ledger_model.proofs.RingEnds.{posted_to}
@@ -41,10 +41,6 @@ pub record Passes (sizes : Sizes) (pair : PairPart) (side : Side) (queue len : �
   pub not_busy : (lane_of pair side queue).todo ≡ []
   pub room : (free_of sizes (lane_of pair side queue) == 0) ≡ false
   pub fits : len ≤ sizes.largest
-
-empty_is : {X : Type 0} (xs : List X) → not (is_empty_list xs) ≡ false → xs ≡ []
-empty_is [] e = refl
-empty_is (x ∷ xs) e = absurd (true≢false e)
 
 begin_passes : (sizes : Sizes) (pair : PairPart) (side : Side) (queue len : ℕ) → begin_refusal sizes pair side queue len ≡ None → Passes sizes pair side queue len
 begin_passes sizes pair side queue len none =

@@ -2,7 +2,7 @@
 use Rattle.std.proofs.Common.{◌≡◌, ℕ, zero, suc, ◌+◌, ◌≤◌, true, false, List, [], ◌∷◌, ◌++◌, refl, sym, ap, ◌∙◌, subst, inl, inr, arith}
 use Rattle.std.specs.Prelude.{if◌then◌else◌, Option, Some, None, ◌/◌, ◌%◌, slice_index_or}
 use Rattle.std.specs.List.{AllByRecursion, flat_map}
-use Rattle.std.proofs.lemmas.Bool.{not-false, and_parts, both_ways, ne_eqb, false≢true, cases_Bool}
+use Rattle.std.proofs.lemmas.Bool.{not-false, and_parts, both_ways, ne_eqb, cases_Bool}
 use Rattle.step_kinds.specs.Bits.{has_bit, with_bit}
 use Rattle.step_kinds.specs.Sides.{other_side}
 use Rattle.step_kinds.specs.declared.names.Side.{Side}
@@ -18,13 +18,13 @@ use Rattle.ledger_model.specs.Both.{at_side}
 use Rattle.ledger_model.specs.Handshake.{word, offers, offer_step, ready_step, join_step, pad_in}
 use Rattle.ledger_model.specs.Labels.{mark_of, index_of}
 use Rattle.ledger_model.specs.Ledger.{PairPart, Sizes, side_of, lane_of, link_up, posts, side_plan, with_side_part, links_pad, windows_pad, queues_pad, version_pad, high_pad, low_pad}
-use Rattle.ledger_model.specs.Link.{is_up, is_down, is_closing, enabled_link}
+use Rattle.ledger_model.specs.Link.{is_up, is_down, enabled_link}
 use Rattle.ledger_model.specs.LinkSteps.{enable_step, train_step, break_step, drop_step, clean_step, fresh_lane}
 use Rattle.ledger_model.specs.Log.{same_side}
 use Rattle.ledger_model.specs.Outcome.{decided}
 use Rattle.ledger_model.specs.Rings.{RingPart}
-use Rattle.ledger_model.specs.declared.LinkState.{LinkState}
-use Rattle.ledger_model.specs.declared.LinkState.TheVariants.{Down as IsDown, Up as IsUp, Closing as IsClosing}
+use Rattle.ledger_model.specs.declared.LinkState.TheVariants.{Down as IsDown, Up as IsUp}
+use Rattle.ledger_model.proofs.LinkMoves.{closing-not_up}
 use Rattle.ledger_model.proofs.Outcomes.{passed, refused_passed}
 use Rattle.ledger_model.proofs.LaneNext.{has-with_kept}
 use Rattle.ledger_model.proofs.LaneSeen.{same_side-refl}
@@ -105,17 +105,12 @@ module _ (sizes : Sizes) (from : Side) (q : ℕ) (ring : RingPart) (pair : PairP
       drop_cases (λ o. Holds sizes from q o.after ring) pair (λ r no. h)
       (λ none.
       seen_as sizes from q ring (dropped pair) (record (view_of pair from q) { state = IsDown; sender = emptied (end_of pair from); receiver = emptied (end_of pair (other_side from)) })
-      (view from) (link_drops sizes q (view_of pair from q) ring h (closing_not_up pair.link.state (not-false _ (refused_passed _ _ _ none).0))))
+      (view from) (link_drops sizes q (view_of pair from q) ring h (closing-not_up pair.link.state (not-false _ (refused_passed _ _ _ none).0))))
     where
       view : (from : Side) → view_of (dropped pair) from q
           ≡ record (view_of pair from q) { state = IsDown; sender = emptied (end_of pair from); receiver = emptied (end_of pair (other_side from)) }
       view A = refl
       view B = refl
-
-      closing_not_up : (state : LinkState) → is_closing state ≡ true → is_up state ≡ false
-      closing_not_up IsDown e = refl
-      closing_not_up IsUp e = absurd (false≢true e)
-      closing_not_up IsClosing e = refl
 
   pub clean_keeps : (side : Side) → Holds sizes from q (clean_step pair side).after ring
   clean_keeps side =
