@@ -1,4 +1,5 @@
 -- A check that is answered `up` found the peer's whole offer, and it agrees.
+use Rattle.ledger_model.proofs.Offers.{all-append}
 use Rattle.std.proofs.Common.{◌≡◌, ℕ, zero, suc, ◌+◌, ◌<◌, ◌≤◌, ◌==◌, Bool, true, false, not, Option, Some, None, List, [], ◌∷◌, ◌++◌, length, take, drop, refl, sym, ap, ◌∙◌, inl, inr, ◌⊎◌, arith, append_assoc}
 use Rattle.std.specs.Prelude.{if◌then◌else◌, nat_lt, ◌/◌, ◌%◌, slice_index_or}
 use Rattle.std.specs.List.{list_all, flat_map}
@@ -18,7 +19,7 @@ abbrev label_offers : Label → Bool
 label_offers (Pad i value) = is_offer i
 label_offers label = false
 
-window_offers : (n : ℕ) → n < 4 → (is_offer (high_pad n) ≡ true) × (is_offer (low_pad n) ≡ true)
+pub window_offers : (n : ℕ) → n < 4 → (is_offer (high_pad n) ≡ true) × (is_offer (low_pad n) ≡ true)
 window_offers n few = (
   and_from (nat_lt (high_pad n) 12) (not (high_pad n == 1)) (lt-ltb (high_pad n) 12 (omega arith)) (ap not (ne_eqb (high_pad n) 1 (λ e. omega arith))),
   and_from (nat_lt (low_pad n) 12) (not (low_pad n == 1)) (lt-ltb (low_pad n) 12 (omega arith)) (ap not (ne_eqb (low_pad n) 1 (λ e. omega arith))),
@@ -35,12 +36,6 @@ windows-offer own n zero few = refl
 windows-offer own n (suc m) few =
     let here = window_offers n (omega arith) in
     and_from (is_offer (high_pad n)) _ here.0 (and_from (is_offer (low_pad n)) _ here.1 (windows-offer own (suc n) m (omega arith)))
-
-all-append : (test : Label → Bool) (xs ys : List Label) → list_all test xs ≡ true → list_all test ys ≡ true → list_all test (xs ++ ys) ≡ true
-all-append test [] ys a b = b
-all-append test (x ∷ xs) ys a b =
-    let parts = and_parts (test x) (list_all test xs) a in
-    and_from (test x) (list_all test (xs ++ ys)) parts.0 (all-append test xs ys parts.1 b)
 
 all-front : (test : Label → Bool) (xs ys : List Label) → list_all test (xs ++ ys) ≡ true → list_all test xs ≡ true
 all-front test [] ys a = refl

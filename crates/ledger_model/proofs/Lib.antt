@@ -1,4 +1,5 @@
 pub mod Agreement
+pub mod Basics
 pub mod Flights
 pub mod Frames
 pub mod InOrder
@@ -7,6 +8,7 @@ pub mod LaneNext
 pub mod LaneSeen
 pub mod LineMoves
 pub mod LineNext
+pub mod LineSteps
 pub mod LinkAnswers
 pub mod LinkMoves
 pub mod Offers

@@ -24,7 +24,7 @@ use Rattle.ledger_model.specs.Log.{same_side}
 use Rattle.ledger_model.specs.Outcome.{decided}
 use Rattle.ledger_model.specs.Rings.{RingPart}
 use Rattle.ledger_model.specs.declared.LinkState.TheVariants.{Down as IsDown, Up as IsUp}
-use Rattle.ledger_model.proofs.LinkMoves.{closing-not_up}
+use Rattle.ledger_model.proofs.Basics.{closing-not_up}
 use Rattle.ledger_model.proofs.Outcomes.{passed, refused_passed}
 use Rattle.ledger_model.proofs.LaneNext.{has-with_kept}
 use Rattle.ledger_model.proofs.LaneSeen.{same_side-refl}

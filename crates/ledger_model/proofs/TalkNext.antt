@@ -1,4 +1,6 @@
 -- Each step on a pair is one of the moves of the handshake as one of its sides hears it.
+use Rattle.ledger_model.proofs.LaneMoves.{trains-refused}
+use Rattle.ledger_model.proofs.Basics.{up-not_down, down-not_up}
 use Rattle.ledger_model.proofs.Talk.{offer_of, offers_in, Talk, talk_at, IsNew, IsSettled, settled-up, pad_next, IsMute, IsPolite, TalkMoves, Polite, Offers, Lands, Settles, Meets}
 use Rattle.ledger_model.proofs.Readers.{trains-other}
 use Rattle.ledger_model.specs.Laws.{IsOrdinary}
@@ -12,14 +14,12 @@ use Rattle.ledger_model.proofs.Outcomes.{refused_passed, passed}
 use Rattle.ledger_model.proofs.Offers.{is_pad}
 use Rattle.ledger_model.proofs.Flights.{strict_first, filter_map-last, filter_map-remove}
 use Rattle.ledger_model.specs.declared.LinkRefusal.TheVariants.{NotDown, Dirty, NotEnabled}
-use Rattle.ledger_model.specs.declared.LinkState.TheVariants.{Down as IsDown, Up as IsUp, Closing as IsClosing}
-use Rattle.ledger_model.specs.declared.LinkState.{LinkState}
 use Rattle.ledger_model.specs.Sending.{begun_lane}
 use Rattle.ledger_model.specs.Receiving.{lands_on, taken_out, lane_to}
 use Rattle.ledger_model.specs.Outcome.{Outcome}
 use Rattle.ledger_model.specs.Next.{Bytes, pair_plan, dev_plan}
-use Rattle.ledger_model.specs.Log.{Answered, trains}
-use Rattle.ledger_model.specs.Link.{is_up, is_down, Link, enabled_link}
+use Rattle.ledger_model.specs.Log.{Answered}
+use Rattle.ledger_model.specs.Link.{is_down, Link, enabled_link}
 use Rattle.ledger_model.specs.Ledger.{SidePart, PairPart, side_of, lane_of, link_up, posts, with_side_part, with_lane, sizes_of, side_plan}
 use Rattle.ledger_model.specs.Labels.{order_of}
 use Rattle.ledger_model.specs.Both.{at_side}
@@ -27,7 +27,7 @@ use Rattle.lane_model.specs.Order.{may_land}
 use Rattle.lane_model.specs.Lane.{LinkDown}
 use Rattle.step_kinds.specs.declared.steps.Step.TheVariants.{Enable, Train, Break, DropDone, Clean, Offer, Check, Ready, Join, Begin, QpDown, Xbegin, Post, Land, Look, Copy, Clear, Ack, Wake, Irq, Mask, Unmask, Spad, Poke, ShowMem, ShowPad, ShowQueue}
 use Rattle.step_kinds.specs.declared.steps.Step.{Step}
-use Rattle.step_kinds.specs.declared.steps.Answer.TheVariants.{OkSession, Landed, Joined, Idle, Offered, PeerDown, LinkDown as LinkIsDown}
+use Rattle.step_kinds.specs.declared.steps.Answer.TheVariants.{Landed, Joined, Idle, Offered, PeerDown, LinkDown as LinkIsDown}
 use Rattle.step_kinds.specs.declared.steps.Answer.{Answer}
 use Rattle.step_kinds.specs.declared.steps.Label.TheVariants.{Flag, Bell, Index, Pad, Raw}
 use Rattle.step_kinds.specs.declared.steps.Label.{Label}
@@ -130,12 +130,8 @@ polite-taken side pair s place label at none =
 
 -- Steps that write no scratchpad
 mute-refused : (k : ℕ) (side : Side) (step : Step) (r : Answer) → refuses r ≡ true → IsMute k side (record { step = step; answer = r })
-mute-refused k side step r is = record { trains_no = train step r is; lands_no = lands step r is }
+mute-refused k side step r is = record { trains_no = trains-refused k step r is; lands_no = lands step r is }
   where
-    train : (step : Step) (r : Answer) → refuses r ≡ true → trains k (record { step = step; answer = r }) ≡ false
-    train (Train p) (OkSession session) e = absurd (false≢true e)
-    train step r e = refl
-
     lands : (step : Step) (r : Answer) → refuses r ≡ true → (i : ℕ) (now : Option ℕ) → pad_next k side (record { step = step; answer = r }) i now ≡ now
     lands (Land p from place) (Landed label) e i now = absurd (false≢true e)
     lands step r e i now = refl
@@ -153,16 +149,6 @@ queue-no_offer queue label e = refl
 
 spad-no_offer : (i value : ℕ) → 12 ≤ i → offer_of (Pad i value) ≡ None
 spad-no_offer i value far = ap (λ b. if b && not (i == 1) then Some (Pad i value) else None) (le-ltb i 12 far)
-
-up-not_down : (state : LinkState) → is_up state ≡ true → is_down state ≡ false
-up-not_down IsUp e = refl
-up-not_down IsDown e = absurd (false≢true e)
-up-not_down IsClosing e = refl
-
-down-not_up : (state : LinkState) → is_down state ≡ true → is_up state ≡ false
-down-not_up IsDown e = refl
-down-not_up IsUp e = absurd (false≢true e)
-down-not_up IsClosing e = refl
 
 -- The link's steps
 

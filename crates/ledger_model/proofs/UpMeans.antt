@@ -2,7 +2,7 @@
 use Rattle.std.proofs.Common.{◌≡◌, ℕ, zero, suc, ◌+◌, ◌*◌, ◌<◌, ◌≤◌, ◌==◌, Bool, true, false, not, Option, Some, None, List, [], ◌∷◌, ◌++◌, refl, sym, ap, ◌∙◌, subst, arith}
 use Rattle.std.specs.Prelude.{if◌then◌else◌, nat_lt, ◌/◌, ◌%◌, find}
 use Rattle.std.specs.List.{AllByRecursion}
-use Rattle.std.proofs.lemmas.Bool.{false≢true, true≢false, eqb-true, eqb-false, ltb-false, lt-ltb, not-false, and_from, ne_eqb}
+use Rattle.std.proofs.lemmas.Bool.{false≢true, true≢false, eqb-true, eqb-false, ltb-false, not-false}
 use Rattle.step_kinds.specs.Sides.{other_side}
 use Rattle.step_kinds.specs.declared.names.Side.{Side}
 use Rattle.step_kinds.specs.declared.names.Side.TheVariants.{A, B}
@@ -20,7 +20,7 @@ use Rattle.ledger_model.specs.Ledger.{PairPart, SidePart, side_of, side_plan, li
 use Rattle.ledger_model.specs.Link.{is_up, fresh_link}
 use Rattle.ledger_model.specs.Log.{Answered, Memories, answered, log_from, log_of, ledger_of, landed_pad}
 use Rattle.ledger_model.specs.Next.{Ledger, fresh_pair, pair_plan, ledger_after, start, idle_side, agreed_side}
-use Rattle.ledger_model.proofs.Agreement.{offer-good, offer-version, offer-queues, offer-windows, offer-high, offer-low, whole_landed}
+use Rattle.ledger_model.proofs.Agreement.{offer-good, offer-version, offer-queues, offer-windows, offer-high, offer-low, whole_landed, window_offers}
 use Rattle.ledger_model.proofs.Outcomes.{passed}
 use Rattle.ledger_model.proofs.Pairs.{WellMade, well_made}
 use Rattle.ledger_model.proofs.Runs.{IsKept, kept_of, kept_with, answer_of, made_by, left_by}
@@ -134,12 +134,6 @@ first_fits part cap (suc more) some e = go (nat_lt cap (size_in part 0)) refl e
     go true is e = absurd (cc)
     go false is e = ltb-false cap (size_in part 0) is
 
-offer_low12 : (n : ℕ) → n < 4 → (is_offer (high_pad n) ≡ true) × (is_offer (low_pad n) ≡ true)
-offer_low12 n few = (
-  and_from (nat_lt (high_pad n) 12) (not (high_pad n == 1)) (lt-ltb (high_pad n) 12 (omega arith)) (ap not (ne_eqb (high_pad n) 1 (λ e. omega arith))),
-  and_from (nat_lt (low_pad n) 12) (not (low_pad n == 1)) (lt-ltb (low_pad n) 12 (omega arith)) (ap not (ne_eqb (low_pad n) 1 (λ e. omega arith))),
-)
-
 -- a check that has found so in a session agrees
 agrees : (k : ℕ) (side : Side) (own peer : SidePlan) (log : List Answered) (t : Talk) → IsSide own → IsSide peer → HasFound own t.mine (is_up t.link.state)
     → InSession k side peer log t → Agrees log k side own peer
@@ -172,10 +166,10 @@ agrees k side own peer log t own_side peer_side found session = record {
     windows_here = value windows_pad refl ∙ offer-windows peer
 
     high_here : (m : ℕ) → m < peer.windows → landed_pad log k side (high_pad m) ≡ Some (peer.size / word)
-    high_here m below = value (high_pad m) ((offer_low12 m (let f = peer_side.few_windows in omega arith)).0) ∙ offer-high peer m below
+    high_here m below = value (high_pad m) ((window_offers m (let f = peer_side.few_windows in omega arith)).0) ∙ offer-high peer m below
 
     low_here : (m : ℕ) → m < peer.windows → landed_pad log k side (low_pad m) ≡ Some (peer.size % word)
-    low_here m below = value (low_pad m) ((offer_low12 m (let f = peer_side.few_windows in omega arith)).1) ∙ offer-low peer m below
+    low_here m below = value (low_pad m) ((window_offers m (let f = peer_side.few_windows in omega arith)).1) ∙ offer-low peer m below
 
     pad_is : (i v : ℕ) → i < 16 → landed_pad log k side i ≡ Some v → pad_in t.mine i ≡ v
     pad_is i v small here = session.pads i small ∙ ap value_of here
