@@ -15,7 +15,7 @@ use Rattle.step_kinds.specs.declared.steps.Step.TheVariants.{Check}
 use Rattle.lane_model.specs.Lane.{count_from}
 use Rattle.ledger_model.specs.Both.{both_of}
 use Rattle.ledger_model.specs.Handshake.{word, offers, pad_in, size_in, refuse_larger, check_refusal, check_step}
-use Rattle.ledger_model.specs.Laws.{UpMeansAgreement, Agrees, IsSide, IsOrdinary}
+use Rattle.ledger_model.specs.Laws.{UpMeansAgreement, Agrees, IsSide, IsOrdinaryOn}
 use Rattle.ledger_model.specs.Ledger.{PairPart, SidePart, side_of, side_plan, link_up, version_pad, queues_pad, windows_pad, high_pad, low_pad}
 use Rattle.ledger_model.specs.Link.{is_up, fresh_link}
 use Rattle.ledger_model.specs.Log.{Answered, Memories, answered, log_from, log_of, ledger_of, landed_pad}
@@ -30,18 +30,19 @@ use Rattle.ledger_model.proofs.TalkNext.{talk_moves, mute-other, polite-same}
 
 -- Logs of ordinary steps
 
-abbrev AllOrdinary : List Answered → Type 0
-AllOrdinary log = AllByRecursion (λ made. IsOrdinary made.step) log
+-- of which those on the pair are so
+abbrev AllOrdinary : ℕ → List Answered → Type 0
+AllOrdinary k log = AllByRecursion (λ made. IsOrdinaryOn k made.step) log
 
 all-split : {X : Type 0} (P : X → Type 0) (xs : List X) (x : X) → AllByRecursion P (xs ++ x ∷ []) → AllByRecursion P xs × P x
 all-split P [] x all = (tt, all.0)
 all-split P (y ∷ xs) x all = let rest = all-split P xs x all.1 in ((all.0, rest.0), rest.1)
 
-log-ordinary : (plan : Plan) (memories : Memories) (before : List Answered) (ledger : Ledger) (steps : List Step) → AllByRecursion IsOrdinary steps
-    → AllOrdinary (log_from plan memories before ledger steps)
-log-ordinary plan memories before ledger [] all = tt
-log-ordinary plan memories before ledger (step ∷ steps) all =
-    (all.0, log-ordinary plan memories (before ++ answered plan (memories before) ledger step ∷ []) (ledger_after plan (memories before) ledger step) steps all.1)
+log-ordinary : (k : ℕ) (plan : Plan) (memories : Memories) (before : List Answered) (ledger : Ledger) (steps : List Step) → AllByRecursion (IsOrdinaryOn k) steps
+    → AllOrdinary k (log_from plan memories before ledger steps)
+log-ordinary k plan memories before ledger [] all = tt
+log-ordinary k plan memories before ledger (step ∷ steps) all =
+    (all.0, log-ordinary k plan memories (before ++ answered plan (memories before) ledger step ∷ []) (ledger_after plan (memories before) ledger step) steps all.1)
 
 -- The handshake in every log
 
@@ -70,16 +71,16 @@ fresh-talk plan k side peer = go plan.up side
     }
 
 pub talk_runs : (plan : Plan) (k : ℕ) (side : Side) → (side_plan (pair_plan plan k) (other_side side)).windows ≤ 4
-    → IsKept plan k (λ log pair. WellMade pair × (AllOrdinary log → Talks k side (side_plan (pair_plan plan k) (other_side side)) log (talk_at side pair)))
+    → IsKept plan k (λ log pair. WellMade pair × (AllOrdinary k log → Talks k side (side_plan (pair_plan plan k) (other_side side)) log (talk_at side pair)))
 talk_runs plan k side few =
-    kept_with plan k (λ log pair. WellMade pair) (λ log pair. AllOrdinary log → Talks k side peer log (talk_at side pair)) (well_made plan k)
+    kept_with plan k (λ log pair. WellMade pair) (λ log pair. AllOrdinary k log → Talks k side peer log (talk_at side pair)) (well_made plan k)
     (λ _. fresh-talk (pair_plan plan k) k side peer)
     (λ before pair step bytes e well talks all.
-    let both = all-split (λ made. IsOrdinary made.step) before (made_by plan k bytes pair step) all in
+    let both = all-split (λ made. IsOrdinaryOn k made.step) before (made_by plan k bytes pair step) all in
     talks-kept k side peer before (talk_at side pair) (made_by plan k bytes pair step) (talk_at side (left_by plan k bytes pair step)) (offer-good peer few)
-    (talk_moves plan k side bytes pair well step both.1 e) (talks both.0))
+    (talk_moves plan k side bytes pair well step (both.1 e) e) (talks both.0))
     (λ before pair made ne well talks all.
-    let both = all-split (λ made. IsOrdinary made.step) before made all in
+    let both = all-split (λ made. IsOrdinaryOn k made.step) before made all in
     talks-kept k side peer before (talk_at side pair) made (talk_at side pair) (offer-good peer few)
     (Polite (mute-other k side made.step made.answer ne) (polite-same (talk_at side pair))) (talks both.0))
   where
@@ -188,7 +189,7 @@ pub up_means_agreement : UpMeansAgreement
 up_means_agreement plan memories steps pair side sides within ordinary goes =
     let found = up_found (pair_plan plan pair) (ledger_of plan memories steps pair) side (answer_of plan memories steps (Check pair side) Up goes) in
     let peer_side = sides pair (other_side side) within in
-    let all = log-ordinary plan memories [] (start plan) steps ((all-split IsOrdinary steps (Check pair side) ordinary).0) in
+    let all = log-ordinary pair plan memories [] (start plan) steps ((all-split (IsOrdinaryOn pair) steps (Check pair side) ordinary).0) in
     let talks = (kept_of plan memories pair _ (talk_runs plan pair side peer_side.few_windows) steps).1 all in
     agrees pair side (side_plan (pair_plan plan pair) side) (side_plan (pair_plan plan pair) (other_side side)) (log_of plan memories steps)
     (talk_at side (ledger_of plan memories steps pair)) (sides pair side within) peer_side found (talks.session found.link found.not_yet)
