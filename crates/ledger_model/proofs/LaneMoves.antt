@@ -70,9 +70,14 @@ pub data Moves (plan : Plan) (lane : LaneName) (s : Seen) (made : Answered) (t :
       → ((session : ℕ) → t.tally session ≡ (if session == s.session then more_delivered (s.tally session) else s.tally session))
       → Moves plan lane s made t
 
+-- a refusal begins no session
+pub trains-refused : (k : ℕ) (step : Step) (r : Answer) → refuses r ≡ true → trains k (record { step = step; answer = r }) ≡ false
+trains-refused k (Train p) (OkSession session) e = absurd (false≢true e)
+trains-refused k step r e = refl
+
 -- a refusal is silent
 pub silent-refused : (plan : Plan) (lane : LaneName) (step : Step) (r : Answer) → refuses r ≡ true → IsSilent plan lane (record { step = step; answer = r })
-silent-refused plan lane step r is = record { accepts_none = accepts_no step r is; delivers_none = delivers_no step r is; trains_no = trains_none step r is }
+silent-refused plan lane step r is = record { accepts_none = accepts_no step r is; delivers_none = delivers_no step r is; trains_no = trains-refused lane.pair step r is }
   where
     accepts_no : (step : Step) (r : Answer) → refuses r ≡ true → accepts plan lane (record { step = step; answer = r }) ≡ []
     accepts_no (Begin p side queue frame) (OkNumber n) e = absurd (false≢true e)
@@ -82,10 +87,6 @@ silent-refused plan lane step r is = record { accepts_none = accepts_no step r i
     delivers_no : (step : Step) (r : Answer) → refuses r ≡ true → delivers lane (record { step = step; answer = r }) ≡ []
     delivers_no (Copy p side queue) (Delivered n frame) e = absurd (false≢true e)
     delivers_no step r e = refl
-
-    trains_none : (step : Step) (r : Answer) → refuses r ≡ true → trains lane.pair (record { step = step; answer = r }) ≡ false
-    trains_none (Train p) (OkSession session) e = absurd (false≢true e)
-    trains_none step r e = refl
 
 -- so is an entry on another pair
 pub silent-other : (plan : Plan) (lane : LaneName) (step : Step) (r : Answer) → (subject_of step ≡ lane.pair → ⊥) → IsSilent plan lane (record { step = step; answer = r })

@@ -1,4 +1,5 @@
 -- Each step on a pair is one of the moves of each of its lanes.
+use Rattle.ledger_model.proofs.Basics.{trained-lane, down-not_up}
 use Rattle.ledger_model.specs.declared.LinkRefusal.TheVariants.{NotDown}
 use Rattle.lane_model.specs.declared.Phase.TheVariants.{Copied}
 use Rattle.std.proofs.Common.{◌≡◌, ℕ, ◌+◌, ◌==◌, Bool, true, false, not, List, [], ◌∷◌, ◌++◌, length, refl, sym, ap, ◌∙◌, subst, inl, inr, arith, None}
@@ -23,20 +24,17 @@ use Rattle.lane_model.specs.Lane.{Entry, Carries, LinkDown, bytes_of}
 use Rattle.ledger_model.specs.Device.{ethernet_frame}
 use Rattle.ledger_model.specs.Ledger.{LanePart, SidePart, PairPart, Tally, side_of, lane_of, tally_of, posts, with_side_part, with_lane, with_tally, entry_in, sizes_of, Sizes}
 use Rattle.ledger_model.specs.Link.{is_up, is_down}
-use Rattle.ledger_model.specs.LinkSteps.{fresh_lane}
 use Rattle.ledger_model.specs.Log.{Answered, accepts, delivers, is_on, trains}
 use Rattle.ledger_model.specs.Next.{Bytes, pair_plan, dev_plan}
 use Rattle.ledger_model.specs.Outcome.{Outcome}
 use Rattle.ledger_model.specs.Receiving.{is_copying, lands_on, taken_out, lane_to, counts_delivered}
 use Rattle.ledger_model.specs.Sending.{begun, begun_lane}
-use Rattle.ledger_model.specs.declared.LinkState.{LinkState}
-use Rattle.ledger_model.specs.declared.LinkState.TheVariants.{Down as IsDown, Up as IsUp, Closing as IsClosing}
 use Rattle.ledger_model.proofs.Frames.{CarriesAt}
 use Rattle.ledger_model.proofs.LaneMoves.{Moves, Stays, Trains, Accepts, Closes, Delivers, IsKeptSo, IsSilent, more_accepted, more_delivered, silent-refused, kept-same}
 use Rattle.ledger_model.proofs.LaneSeen.{Seen, seen, IsOff, on_or_off, is_on-self, is_on-off, lane-off, lane-own, tally-off, tally-own, closed-same, posts-seen}
 use Rattle.ledger_model.proofs.Outcomes.{refused_passed}
 use Rattle.ledger_model.proofs.Runs.{made_by, left_by}
-use Rattle.ledger_model.proofs.Steps.{Refused, MaySend, enable_cases, train_cases, break_cases, drop_cases, clean_cases, offer_cases, check_cases, ready_cases, join_cases, begin_cases, qpdown_cases, xbegin_cases, post_cases, land_cases, look_cases, copy_cases, clear_cases, ack_cases, wake_cases, trained, cleaned, offering, next_offer, readied, ready_pad, joining, closing, taken_frame, posting, landed, acking, copied_last}
+use Rattle.ledger_model.proofs.Steps.{Refused, MaySend, enable_cases, train_cases, break_cases, drop_cases, clean_cases, offer_cases, check_cases, ready_cases, join_cases, begin_cases, qpdown_cases, xbegin_cases, post_cases, land_cases, look_cases, copy_cases, clear_cases, ack_cases, wake_cases, cleaned, offering, next_offer, readied, ready_pad, joining, closing, taken_frame, posting, landed, acking, copied_last}
 
 -- Bits of a set
 
@@ -133,11 +131,6 @@ closing-stays lane pair side queue part e = record {
 
 -- The steps
 
--- a lane in a new session
-fresh-own : (pair : PairPart) (from : Side) (q : ℕ) → lane_of (trained pair) from q ≡ fresh_lane
-fresh-own pair A q = refl
-fresh-own pair B q = refl
-
 -- the lane after a side forgot the session
 cleaned-kept : (lane : LaneName) (pair : PairPart) (side : Side) → is_up pair.link.state ≡ false → IsKeptSo (seen lane pair) (seen lane (cleaned pair side))
 cleaned-kept lane pair side down = go lane.from side
@@ -150,11 +143,6 @@ cleaned-kept lane pair side down = go lane.from side
     go A B = record { session = refl; up = λ e. e; closed = λ _ e. lost e; sent = refl; got = refl; copying = λ h now. absurd (false≢true now); tally = λ _. refl }
     go B A = record { session = refl; up = λ e. e; closed = λ _ e. lost e; sent = refl; got = refl; copying = λ h now. absurd (false≢true now); tally = λ _. refl }
     go B B = record { session = refl; up = λ e. e; closed = λ _ e. lost e; sent = refl; got = refl; copying = λ h now. h now; tally = λ _. refl }
-
-down-not_up : (state : LinkState) → is_down state ≡ true → is_up state ≡ false
-down-not_up IsDown e = refl
-down-not_up IsUp e = absurd (false≢true e)
-down-not_up IsClosing e = refl
 
 -- the tally of the session in which a lane is
 tally-now : (S now : ℕ) (more : Tally → Tally) (tally : ℕ → Tally) → (if S == now then more (tally now) else tally S) ≡ (if S == now then more (tally S) else tally S)
@@ -345,9 +333,9 @@ module _ (plan : Plan) (lane : LaneName) (bytes : Bytes) (pair : PairPart) where
       (λ _. Trains refl refl (eq-eqb p lane.pair e)
       (record {
         session = refl;
-        sent = ap (λ l. l.sent) (fresh-own pair lane.from lane.queue);
-        got = ap (λ l. l.got) (fresh-own pair lane.from lane.queue);
-        copying = ap (λ l. is_copying l.phase) (fresh-own pair lane.from lane.queue);
+        sent = ap (λ l. l.sent) (trained-lane pair lane.from lane.queue);
+        got = ap (λ l. l.got) (trained-lane pair lane.from lane.queue);
+        copying = ap (λ l. is_copying l.phase) (trained-lane pair lane.from lane.queue);
         tally = λ _. refl;
       }))
   moves_of (Break p) e =

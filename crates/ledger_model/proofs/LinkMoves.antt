@@ -1,8 +1,10 @@
 -- Which steps change a pair's link.
+use Rattle.ledger_model.specs.Both.{Both, at_side}
+use Rattle.ledger_model.proofs.Basics.{closing-not_up}
 use Rattle.ledger_model.proofs.Steps.{enable_cases, clean_cases, offer_cases, check_cases, ready_cases, join_cases, begin_cases, qpdown_cases, xbegin_cases, post_cases, land_cases, look_cases, copy_cases, clear_cases, ack_cases, wake_cases, offering, next_offer, readied, ready_pad, posting, acking}
 use Rattle.std.proofs.Common.{◌≡◌, ℕ, ◌+◌, Bool, true, false, not, Option, Some, None, List, [], ◌∷◌, refl, sym, ap, ◌∙◌, ◌++◌}
 use Rattle.std.specs.Prelude.{if◌then◌else◌, length}
-use Rattle.std.proofs.lemmas.Bool.{eq-eqb, true≢false}
+use Rattle.std.proofs.lemmas.Bool.{eq-eqb, true≢false, cond_both}
 use Rattle.step_kinds.specs.Subject.{subject_of}
 use Rattle.step_kinds.specs.declared.names.Side.{Side}
 use Rattle.step_kinds.specs.declared.plan.DevPlan.{DevPlan}
@@ -12,14 +14,12 @@ use Rattle.step_kinds.specs.declared.steps.Label.TheVariants.{Flag, Index, Pad, 
 use Rattle.step_kinds.specs.declared.steps.Answer.TheVariants.{Ok as Done, OkSession}
 use Rattle.step_kinds.specs.declared.steps.Step.{Step}
 use Rattle.step_kinds.specs.declared.steps.Step.TheVariants.{Enable, Train, Break, DropDone, Clean, Offer, Check, Ready, Join, Begin, QpDown, Xbegin, Post, Land, Look, Copy, Clear, Ack, Wake, Spad, Poke}
-use Rattle.ledger_model.specs.Ledger.{PairPart, link_up, posts, with_side_part, side_of, sizes_of}
+use Rattle.ledger_model.specs.Ledger.{PairPart, link_up, posts, with_side_part, side_of, sizes_of, LanePart, lane_of}
 use Rattle.ledger_model.specs.Link.{is_up, is_closing, train_refusal, cut_refusal, refused_where}
 use Rattle.ledger_model.specs.LinkSteps.{answer_of_refusal}
 use Rattle.ledger_model.specs.Next.{Bytes, pair_next, dev_plan}
 use Rattle.ledger_model.specs.Outcome.{decided}
 use Rattle.ledger_model.specs.Receiving.{lands_on, taken_out, lane_to}
-use Rattle.ledger_model.specs.declared.LinkState.{LinkState}
-use Rattle.ledger_model.specs.declared.LinkState.TheVariants.{Down as IsDown, Up as IsUp, Closing as IsClosing}
 use Rattle.ledger_model.specs.declared.LinkRefusal.{LinkRefusal}
 use Rattle.ledger_model.specs.declared.LinkRefusal.TheVariants.{NotDown, NotClosing}
 use Rattle.ledger_model.proofs.Readers.{up_step}
@@ -39,6 +39,16 @@ posts-link pair side label = go (link_up pair)
     go : (up : Bool) → (if up then with_side_part pair side (record (side_of pair side) { flight = (side_of pair side).flight ++ label ∷ [] }) else pair).link ≡ pair.link
     go true = refl
     go false = refl
+
+pub posts-state : (pair : PairPart) (side : Side) (label : Label) → (posts pair side label).link.state ≡ pair.link.state
+posts-state pair side label = ap (λ l. l.state) (posts-link pair side label)
+
+-- and its lanes
+posts-lanes : (pair : PairPart) (side : Side) (label : Label) → (posts pair side label).lanes ≡ pair.lanes
+posts-lanes pair side label = cond_both {A = PairPart} (link_up pair) _ _ (λ x. x.lanes ≡ pair.lanes) (λ _. refl) (λ _. refl)
+
+pub posts-lane : (pair : PairPart) (side : Side) (label : Label) (from : Side) (queue : ℕ) → lane_of (posts pair side label) from queue ≡ lane_of pair from queue
+posts-lane pair side label from queue = ap (λ (lanes : Both (ℕ → LanePart)). at_side lanes from queue) (posts-lanes pair side label)
 
 lands_on-link : (pair : PairPart) (side : Side) (label : Label) → (lands_on pair side label).link ≡ pair.link
 lands_on-link pair side (Flag queue n) = refl
@@ -98,11 +108,6 @@ dropped_up : (pair : PairPart) (closing : Bool) → (closing ≡ true → link_u
     → link_up (decided pair (answer_of_refusal (refused_where (not closing) NotClosing None)) Done new).after ≡ link_up pair
 dropped_up pair true down new e = e ∙ sym (down refl)
 dropped_up pair false down new e = refl
-
-closing-not_up : (state : LinkState) → is_closing state ≡ true → is_up state ≡ false
-closing-not_up IsDown e = refl
-closing-not_up IsUp e = absurd (true≢false (sym e))
-closing-not_up IsClosing e = refl
 
 -- whether the link is up after a step is what the log says
 pub up_kept : (devs : List DevPlan) (plan : PairPlan) (bytes : Bytes) (pair : PairPart) (step : Step) (k : ℕ) → subject_of step ≡ k

@@ -19,7 +19,7 @@ all_at test [] n x all here = here
 all_at test (y ∷ xs) zero x all here = (and_parts (test y) (list_all test xs) all).0
 all_at test (y ∷ xs) (suc n) x all here = all_at test xs n x ((and_parts (test y) (list_all test xs) all).1) here
 
-all-append : {X : Type 0} (test : X → Bool) (xs ys : List X) → list_all test xs ≡ true → list_all test ys ≡ true → list_all test (xs ++ ys) ≡ true
+pub all-append : {X : Type 0} (test : X → Bool) (xs ys : List X) → list_all test xs ≡ true → list_all test ys ≡ true → list_all test (xs ++ ys) ≡ true
 all-append test [] ys a b = b
 all-append test (x ∷ xs) ys a b =
     let parts = and_parts (test x) (list_all test xs) a in

@@ -1,4 +1,5 @@
 -- What holds of every pair at each moment: writes left to post are those of their queue's lane, and nothing is in flight on a link that is down.
+use Rattle.ledger_model.proofs.Basics.{up-not_down}
 use Rattle.lane_model.specs.declared.Phase.TheVariants.{Copied}
 use Rattle.ledger_model.specs.Both.{at_side, both_of}
 use Rattle.std.proofs.lemmas.Option.{none-some}
@@ -16,7 +17,6 @@ use Rattle.step_kinds.specs.declared.steps.Label.{Label}
 use Rattle.step_kinds.specs.declared.steps.Label.TheVariants.{Chunk, Len, Ver, Flag, Down, Bell, Index, Pad, Raw}
 use Rattle.step_kinds.specs.declared.steps.Step.{Step}
 use Rattle.step_kinds.specs.declared.steps.Step.TheVariants.{Enable, Train, Break, DropDone, Clean, Offer, Check, Ready, Join, Begin, QpDown, Xbegin, Post, Land, Look, Copy, Clear, Ack, Wake, Irq, Mask, Unmask, Spad, Poke, ShowMem, ShowPad, ShowQueue}
-use Rattle.lane_model.specs.declared.Field.{Field}
 use Rattle.lane_model.specs.declared.Field.TheVariants.{Chunk as PayloadChunk, Length, Version}
 use Rattle.lane_model.specs.declared.Mark.{Mark}
 use Rattle.lane_model.specs.declared.Mark.TheVariants.{Cell, Flag as EntryFlag, Bell as QueueBell}
@@ -24,13 +24,12 @@ use Rattle.lane_model.specs.Lane.{Entry, Carries, LinkDown, writes_of}
 use Rattle.ledger_model.specs.Device.{ethernet_frame}
 use Rattle.ledger_model.specs.Labels.{label_of, labels_of}
 use Rattle.ledger_model.specs.Ledger.{LanePart, SidePart, PairPart, side_of, lane_of, with_side_part, with_lane, link_up, posts, sizes_of}
-use Rattle.ledger_model.specs.Link.{is_up, is_down}
+use Rattle.ledger_model.specs.Link.{is_down}
 use Rattle.ledger_model.specs.Next.{Bytes, pair_plan, dev_plan, fresh_pair, agreed_side, idle_side}
 use Rattle.ledger_model.specs.Outcome.{Outcome}
 use Rattle.ledger_model.specs.Receiving.{lands_on, taken_out, lane_to}
 use Rattle.ledger_model.specs.Sending.{begun, begun_lane}
-use Rattle.ledger_model.specs.declared.LinkState.{LinkState}
-use Rattle.ledger_model.specs.declared.LinkState.TheVariants.{Down as IsDown, Up as IsUp, Closing as IsClosing}
+use Rattle.ledger_model.specs.declared.LinkState.TheVariants.{Down as IsDown}
 use Rattle.ledger_model.proofs.Flights.{flight-same}
 use Rattle.ledger_model.proofs.LaneSeen.{on_or_off, lane-off, lane-own}
 use Rattle.ledger_model.proofs.Runs.{IsKept, left_by}
@@ -80,11 +79,6 @@ made-lane pair side queue part made all = record {
 -- a side with the same writes in flight
 made-side : (pair : PairPart) (side : Side) (part : SidePart) → WellMade pair → part.flight ≡ (side_of pair side).flight → WellMade (with_side_part pair side part)
 made-side pair side part made e = record { todo = made.todo; down = λ s down. flight-same pair s side part e ∙ made.down s down }
-
-up-not_down : (state : LinkState) → is_up state ≡ true → is_down state ≡ false
-up-not_down IsUp e = refl
-up-not_down IsDown e = absurd (false≢true e)
-up-not_down IsClosing e = refl
 
 made-posts : (pair : PairPart) (side : Side) (label : Label) → WellMade pair → WellMade (posts pair side label)
 made-posts pair side label made = go (link_up pair) refl

@@ -1,4 +1,5 @@
 -- Where nothing is on its way to a receiver and it has seen so, all that was accepted was delivered.
+use Rattle.ledger_model.proofs.Basics.{other_other, fresh-lane, fresh-flight}
 use Rattle.std.proofs.Common.{◌≡◌, ℕ, ◌+◌, ◌==◌, Bool, true, false, ◌&&◌, List, [], ◌++◌, length, take, refl, sym, ap, ◌∙◌, subst, arith}
 use Rattle.std.specs.Prelude.{if◌then◌else◌}
 use Rattle.std.proofs.lemmas.Bool.{false≢true, ne_eqb}
@@ -7,8 +8,6 @@ use Rattle.step_kinds.specs.Bits.{has_bit}
 use Rattle.step_kinds.specs.Sides.{other_side}
 use Rattle.step_kinds.specs.Subject.{subject_of}
 use Rattle.step_kinds.specs.declared.names.LaneName.{LaneName}
-use Rattle.step_kinds.specs.declared.names.Side.{Side}
-use Rattle.step_kinds.specs.declared.names.Side.TheVariants.{A, B}
 use Rattle.step_kinds.specs.declared.plan.Plan.{Plan}
 use Rattle.step_kinds.specs.declared.plan.PairPlan.{PairPlan}
 use Rattle.step_kinds.specs.declared.steps.Answer.{Answer}
@@ -26,7 +25,6 @@ use Rattle.ledger_model.proofs.LineMoves.{line_at, IsLined, OnLine, evenly, even
 use Rattle.ledger_model.proofs.LineNext.{line_moves}
 use Rattle.ledger_model.proofs.Pairs.{WellMade, well_made}
 use Rattle.ledger_model.proofs.Readers.{trains-other}
-use Rattle.ledger_model.proofs.Room.{fresh_part, fresh_flight}
 use Rattle.ledger_model.proofs.Runs.{IsKept, kept_of, kept_with, made_by, left_by}
 use Rattle.ledger_model.proofs.Sessions.{LaneRun, lane_runs}
 use Rattle.ledger_model.proofs.Ticks.{ticks_of}
@@ -49,9 +47,9 @@ fresh_lined plan lane = record {
   ringing = false;
   left = 0;
   ticks =
-      ap (λ l. ticks_of lane.queue (side_of (fresh_pair plan) lane.from).flight ++ ticks_of lane.queue l.todo) (fresh_part plan lane.from lane.queue)
-      ∙ ap (λ flight. ticks_of lane.queue flight ++ []) (fresh_flight plan lane.from);
-  count = subst (λ l. l.flagged + 0 ≡ length l.sent) (sym (fresh_part plan lane.from lane.queue)) (omega arith);
+      ap (λ l. ticks_of lane.queue (side_of (fresh_pair plan) lane.from).flight ++ ticks_of lane.queue l.todo) (fresh-lane plan lane.from lane.queue)
+      ∙ ap (λ flight. ticks_of lane.queue flight ++ []) (fresh-flight plan lane.from);
+  count = subst (λ l. l.flagged + 0 ≡ length l.sent) (sym (fresh-lane plan lane.from lane.queue)) (omega arith);
 }
 
 pub line_runs : (plan : Plan) (lane : LaneName) → IsKept plan lane.pair (λ log pair. WellMade pair × (is_up pair.link.state ≡ true → OnLine lane log (line_at lane pair)))
@@ -65,10 +63,6 @@ line_runs plan lane =
     line-kept lane before (line_at lane pair) made (line_at lane pair)
     (evenly lane (line_at lane pair) (line_at lane pair) made refl (trains-other lane.pair made.step made.answer ne) (sees-other lane made.step made.answer ne)
     (even-same lane.queue (line_at lane pair))) on)
-
-other_other : (side : Side) → other_side (other_side side) ≡ side
-other_other A = refl
-other_other B = refl
 
 pub quiet_means_done : QuietMeansDone
 quiet_means_done plan memories steps pair side queue quiet = record {

@@ -3,7 +3,7 @@ use Rattle.step_kinds.specs.declared.names.Side.{Side}
 use Rattle.std.proofs.lemmas.List.{append-nil}
 use Rattle.std.proofs.lemmas.Grind.{flat_map-append}
 use Rattle.std.specs.List.{flat_map}
-use Rattle.std.proofs.Common.{◌≡◌, ℕ, Bool, true, false, List, [], ◌∷◌, ◌++◌, refl, ◌+◌, ◌==◌, ap, ◌∙◌}
+use Rattle.std.proofs.Common.{◌≡◌, ℕ, Bool, true, false, List, [], ◌∷◌, ◌++◌, refl, ◌+◌, ◌==◌, ap, ◌∙◌, Option, None}
 use Rattle.std.specs.Prelude.{if◌then◌else◌}
 use Rattle.std.proofs.lemmas.Bool.{ne_eqb}
 use Rattle.step_kinds.specs.Subject.{subject_of}
@@ -11,7 +11,7 @@ use Rattle.step_kinds.specs.declared.steps.Answer.{Answer}
 use Rattle.step_kinds.specs.declared.steps.Answer.TheVariants.{Ok as Done, OkSession}
 use Rattle.step_kinds.specs.declared.steps.Step.{Step}
 use Rattle.step_kinds.specs.declared.steps.Step.TheVariants.{Train, Break}
-use Rattle.ledger_model.specs.Log.{Answered, trains, breaks, up_after, made_in, made_since, saw_empty, last_look_empty}
+use Rattle.ledger_model.specs.Log.{Answered, trains, breaks, up_after, made_in, made_since, saw_empty, last_look_empty, pad_after, landed_pad}
 
 -- steps on another pair begin and end no session of this one
 pub trains-other : (k : ℕ) (step : Step) (answer : Answer) → (subject_of step ≡ k → ⊥) → trains k (record { step = step; answer = answer }) ≡ false
@@ -86,3 +86,17 @@ last_look-last k side queue log made = ap (saw_empty k side queue false) (made_s
         ≡ (if b then false else saw_empty k side queue (last_look_empty log k side queue) (made ∷ []))
     go true = refl
     go false = saw_empty-last k side queue false (made_since k [] log) made
+
+-- what landed in a scratchpad, with one entry more
+pub pad_after-last : (k : ℕ) (side : Side) (i : ℕ) (now : Option ℕ) (log : List Answered) (made : Answered)
+    → pad_after k side i now (log ++ made ∷ []) ≡ pad_after k side i (pad_after k side i now log) (made ∷ [])
+pad_after-last k side i now [] made = refl
+pad_after-last k side i now (first ∷ log) made = pad_after-last k side i (pad_after k side i now (first ∷ [])) log made
+
+pub landed_pad-last : (k : ℕ) (side : Side) (i : ℕ) (log : List Answered) (made : Answered)
+    → landed_pad (log ++ made ∷ []) k side i ≡ (if trains k made then None else pad_after k side i (landed_pad log k side i) (made ∷ []))
+landed_pad-last k side i log made = ap (pad_after k side i None) (made_since-last k [] log made) ∙ go (trains k made)
+  where
+    go : (b : Bool) → pad_after k side i None (if b then [] else made_since k [] log ++ made ∷ []) ≡ (if b then None else pad_after k side i (landed_pad log k side i) (made ∷ []))
+    go true = refl
+    go false = pad_after-last k side i None (made_since k [] log) made

@@ -1,5 +1,5 @@
 -- `again` comes exactly where the ring has no room.
-use Rattle.ledger_model.specs.LinkSteps.{fresh_lane}
+use Rattle.ledger_model.proofs.Basics.{fresh-lane, fresh-flight}
 use Rattle.std.proofs.Common.{◌≡◌, ℕ, ◌-◌, ◌==◌, Bool, true, false, not, ◌&&◌, Option, Some, None, List, [], length, refl, sym, ap, ◌∙◌, subst, arith}
 use Rattle.std.specs.Prelude.{if◌then◌else◌, nat_lt}
 use Rattle.std.proofs.lemmas.Bool.{false≢true, ne_eqb}
@@ -9,7 +9,6 @@ use Rattle.step_kinds.specs.Sides.{other_side}
 use Rattle.step_kinds.specs.Subject.{subject_of}
 use Rattle.step_kinds.specs.declared.names.LaneName.{LaneName}
 use Rattle.step_kinds.specs.declared.names.Side.{Side}
-use Rattle.step_kinds.specs.declared.names.Side.TheVariants.{A, B}
 use Rattle.step_kinds.specs.declared.plan.Plan.{Plan}
 use Rattle.step_kinds.specs.declared.plan.PairPlan.{PairPlan}
 use Rattle.step_kinds.specs.declared.plan.DevPlan.{DevPlan}
@@ -18,12 +17,11 @@ use Rattle.step_kinds.specs.declared.steps.Answer.{Answer}
 use Rattle.step_kinds.specs.declared.steps.Answer.TheVariants.{OkNumber, LinkDown, NotReady, Closed, TooLong, Busy, Stopped, Again, Landed}
 use Rattle.step_kinds.specs.declared.steps.Step.{Step}
 use Rattle.step_kinds.specs.declared.steps.Step.TheVariants.{Begin, QpDown, Xbegin, Land}
-use Rattle.ledger_model.specs.Both.{at_side, both_of}
 use Rattle.ledger_model.specs.Device.{ethernet_frame}
 use Rattle.ledger_model.specs.Laws.{AgainWhereNoRoom, lane_begun_by, refused_before_room, is_again, entries_in}
 use Rattle.ledger_model.specs.Ledger.{PairPart, Sizes, side_of, lane_of, dev_of, link_up, sizes_of, free_of, head_in, tail_in}
 use Rattle.ledger_model.specs.Log.{takes_room, gives_room, room_in, log_of, ledger_of, Memories}
-use Rattle.ledger_model.specs.Next.{Bytes, pair_next, pair_plan, dev_plan, fresh_pair, agreed_side, idle_side}
+use Rattle.ledger_model.specs.Next.{Bytes, pair_next, pair_plan, dev_plan, fresh_pair}
 use Rattle.ledger_model.specs.Outcome.{decided, refuse_if}
 use Rattle.ledger_model.specs.Sending.{is_empty_list, begun, refuse_sender, refuse_full, begin_refusal, xbegin_refusal, counts_refused, begin_refusal, refuse_busy}
 use Rattle.ledger_model.proofs.Pairs.{WellMade, well_made}
@@ -121,23 +119,10 @@ still-other lane step r ne = record { takes_no = takes step r ne; gives_no = giv
     gives (Land p side place) (Landed (Index queue n)) ne = off p _ ne
     gives step r ne = refl
 
-pub fresh_part : (plan : PairPlan) (from : Side) (queue : ℕ) → lane_of (fresh_pair plan) from queue ≡ fresh_lane
-fresh_part plan A queue = refl
-fresh_part plan B queue = refl
-
-pub fresh_flight : (plan : PairPlan) (s : Side) → (side_of (fresh_pair plan) s).flight ≡ []
-fresh_flight plan s = go plan.up s
-  where
-    go : (up : Bool) (s : Side) → (at_side (if up then record { a = agreed_side plan.a plan.b; b = agreed_side plan.b plan.a } else both_of idle_side) s).flight ≡ []
-    go true A = refl
-    go true B = refl
-    go false A = refl
-    go false B = refl
-
 fresh_counted : (plan : PairPlan) (lane : LaneName) → Counted lane [] (room_at lane (fresh_pair plan))
 fresh_counted plan lane =
     subst (λ t. Counted lane [] t)
-    (λ i. record { state = (fresh_pair plan).link.state; part = sym (fresh_part plan lane.from lane.queue) i; flight = sym (fresh_flight plan (other_side lane.from)) i })
+    (λ i. record { state = (fresh_pair plan).link.state; part = sym (fresh-lane plan lane.from lane.queue) i; flight = sym (fresh-flight plan (other_side lane.from)) i })
     (record {
       taken = refl;
       given = refl;

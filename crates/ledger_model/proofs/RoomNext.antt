@@ -1,8 +1,9 @@
 -- Each step on a pair is one of the moves of the room of each of its lanes.
+use Rattle.ledger_model.proofs.LaneMoves.{trains-refused}
+use Rattle.ledger_model.proofs.Basics.{trained-lane, other_other}
 use Rattle.ledger_model.proofs.Runs.{made_by, left_by}
 use Rattle.ledger_model.specs.Outcome.{Outcome}
 use Rattle.ledger_model.specs.Next.{Bytes, pair_plan, dev_plan}
-use Rattle.ledger_model.specs.LinkSteps.{fresh_lane}
 use Rattle.ledger_model.specs.Device.{ethernet_frame}
 use Rattle.step_kinds.specs.declared.plan.Plan.{Plan}
 use Rattle.step_kinds.specs.Subject.{subject_of}
@@ -11,12 +12,11 @@ use Rattle.ledger_model.specs.declared.LinkRefusal.TheVariants.{NotDown}
 use Rattle.ledger_model.proofs.Outcomes.{refused_passed}
 use Rattle.ledger_model.proofs.Offers.{is_pad, offer-is_pad}
 use Rattle.lane_model.specs.declared.Phase.TheVariants.{Idle as IsIdle, Copied}
-use Rattle.ledger_model.proofs.LinkMoves.{posts-link}
-use Rattle.ledger_model.specs.Both.{Both, at_side}
+use Rattle.ledger_model.proofs.LinkMoves.{posts-lane, posts-state}
 use Rattle.std.proofs.Common.{◌≡◌, ℕ, ◌+◌, ◌==◌, Bool, true, false, ◌&&◌, Some, None, [], ◌∷◌, ◌++◌, length, refl, sym, ap, ◌∙◌, subst, inl, inr, ◌⊎◌, arith, not}
 use Rattle.std.specs.Prelude.{slice_get, map}
 use Rattle.std.specs.List.{remove, cons_option, list_all}
-use Rattle.std.proofs.lemmas.Bool.{false≢true, true≢false, cases_eq, eq-eqb, ne_eqb, cond-true, cond-false, cond_both, both_ways, and_parts, not-false}
+use Rattle.std.proofs.lemmas.Bool.{false≢true, true≢false, cases_eq, eq-eqb, ne_eqb, cond-true, cond-false, both_ways, and_parts, not-false}
 use Rattle.std.proofs.lemmas.List.{length-append}
 use Rattle.step_kinds.specs.Sides.{other_side}
 use Rattle.step_kinds.specs.declared.names.LaneName.{LaneName}
@@ -26,7 +26,7 @@ use Rattle.step_kinds.specs.declared.plan.PairPlan.{PairPlan}
 use Rattle.step_kinds.specs.declared.steps.Label.{Label}
 use Rattle.step_kinds.specs.declared.steps.Label.TheVariants.{Flag, Down, Bell, Index, Pad, Raw, Chunk, Len, Ver}
 use Rattle.step_kinds.specs.declared.steps.Answer.{Answer}
-use Rattle.step_kinds.specs.declared.steps.Answer.TheVariants.{OkNumber, OkSession, Landed, Acked, Up, Joined, Idle, Ok as Done, Posted}
+use Rattle.step_kinds.specs.declared.steps.Answer.TheVariants.{OkNumber, Landed, Acked, Up, Joined, Idle, Ok as Done, Posted}
 use Rattle.step_kinds.specs.declared.steps.Step.{Step}
 use Rattle.step_kinds.specs.declared.steps.Step.TheVariants.{Train, Begin, QpDown, Xbegin, Land, Ack, Enable, Break, DropDone, Clean, Offer, Check, Ready, Join, Post, Look, Copy, Clear, Wake, Irq, Mask, Unmask, Spad, Poke, ShowMem, ShowPad, ShowQueue}
 use Rattle.lane_model.specs.Lane.{Entry, bytes_of, Carries, LinkDown}
@@ -41,7 +41,7 @@ use Rattle.ledger_model.proofs.Flights.{strict_first, flight-same, posts-lost, p
 use Rattle.ledger_model.proofs.LaneSeen.{IsOff, on_or_off, is_on-self, is_on-off, lane-off, lane-own}
 use Rattle.ledger_model.proofs.Pairs.{on_queue, WellMade}
 use Rattle.ledger_model.proofs.RoomMoves.{Room, room_at, Chain, IsStill, IsSteady, RoomMoves, Idles, Takes, Gives, Acks, Drops, Renews}
-use Rattle.ledger_model.proofs.Steps.{refuses, landed, acking, enable_cases, train_cases, break_cases, drop_cases, clean_cases, offer_cases, check_cases, ready_cases, join_cases, begin_cases, qpdown_cases, xbegin_cases, post_cases, land_cases, look_cases, copy_cases, clear_cases, ack_cases, wake_cases, trained, dropped, cleaned, offering, next_offer, readied, ready_pad, joining, closing, taken_frame, posting, looking, peer_down, clearing, copied_last}
+use Rattle.ledger_model.proofs.Steps.{refuses, landed, acking, enable_cases, train_cases, break_cases, drop_cases, clean_cases, offer_cases, check_cases, ready_cases, join_cases, begin_cases, qpdown_cases, xbegin_cases, post_cases, land_cases, look_cases, copy_cases, clear_cases, ack_cases, wake_cases, dropped, cleaned, offering, next_offer, readied, ready_pad, joining, closing, taken_frame, posting, looking, peer_down, clearing, copied_last}
 
 -- A change that takes and gives no room
 pub record IsCalm (lane : LaneName) (s t : Room) : Type 0 where
@@ -123,17 +123,11 @@ calm-flight lane pair after state part indexes = record {
   };
 }
 
-posts-state : (pair : PairPart) (side : Side) (label : Label) → (posts pair side label).link.state ≡ pair.link.state
-posts-state pair side label = ap (λ l. l.state) (posts-link pair side label)
-
-posts-lanes : (pair : PairPart) (side : Side) (label : Label) → (posts pair side label).lanes ≡ pair.lanes
-posts-lanes pair side label = cond_both {A = PairPart} (link_up pair) _ _ (λ x. x.lanes ≡ pair.lanes) (λ _. refl) (λ _. refl)
-
 calm-posts : (lane : LaneName) (pair : PairPart) (side : Side) (label : Label) → index_of lane.queue label ≡ None
     → IsCalm lane (room_at lane pair) (room_at lane (posts pair side label))
 calm-posts lane pair side label none =
     calm-flight lane pair (posts pair side label) (posts-state pair side label)
-    (ap (λ (lanes : Both (ℕ → LanePart)). at_side lanes lane.from lane.queue) (posts-lanes pair side label))
+    (posts-lane pair side label lane.from lane.queue)
     (posts-unread (index_of lane.queue) pair (other_side lane.from) side label none)
 
 calm-taken : (lane : LaneName) (pair : PairPart) (side : Side) (place : ℕ) (label : Label) → slice_get (side_of pair side).flight place ≡ Some label → index_of lane.queue label ≡ None
@@ -160,17 +154,13 @@ index-off lane side queue n off = elim (cases_eq queue lane.queue) [
     go true e = e
     go false e = refl
 
-other_other : (side : Side) → other_side (other_side side) ≡ side
-other_other A = refl
-other_other B = refl
-
 calm-posts_off : (lane : LaneName) (pair : PairPart) (side : Side) (queue n : ℕ) → IsOff lane (other_side side) queue
     → IsCalm lane (room_at lane pair) (room_at lane (posts pair side (Index queue n)))
 calm-posts_off lane pair side queue n off = elim (index-off lane side queue n off) [
   | inl none ↦ calm-posts lane pair side (Index queue n) none
   | inr same ↦
       calm-flight lane pair (posts pair side (Index queue n)) (posts-state pair side (Index queue n))
-      (ap (λ (lanes : Both (ℕ → LanePart)). at_side lanes lane.from lane.queue) (posts-lanes pair side (Index queue n)))
+      (posts-lane pair side (Index queue n) lane.from lane.queue)
       (ap (indexes_of lane.queue)
       (subst (λ s. (side_of (posts pair side (Index queue n)) (other_side s)).flight ≡ (side_of pair (other_side s)).flight) (sym same) (posts-across pair side (Index queue n))))
 ]
@@ -198,7 +188,7 @@ pad-no_index q label e = refl
 -- The steps
 
 still-refused : (lane : LaneName) (step : Step) (r : Answer) → refuses r ≡ true → IsStill lane (record { step = step; answer = r })
-still-refused lane step r is = record { takes_no = takes step r is; gives_no = gives step r is; trains_no = train step r is }
+still-refused lane step r is = record { takes_no = takes step r is; gives_no = gives step r is; trains_no = trains-refused lane.pair step r is }
   where
     takes : (step : Step) (r : Answer) → refuses r ≡ true → takes_room lane (record { step = step; answer = r }) ≡ false
     takes (Begin p side queue frame) (OkNumber n) e = absurd (false≢true e)
@@ -209,10 +199,6 @@ still-refused lane step r is = record { takes_no = takes step r is; gives_no = g
     gives : (step : Step) (r : Answer) → refuses r ≡ true → gives_room lane (record { step = step; answer = r }) ≡ false
     gives (Land p side place) (Landed label) e = absurd (false≢true e)
     gives step r e = refl
-
-    train : (step : Step) (r : Answer) → refuses r ≡ true → trains lane.pair (record { step = step; answer = r }) ≡ false
-    train (Train p) (OkSession session) e = absurd (false≢true e)
-    train step r e = refl
 
 -- an entry is begun
 begin-room : (lane : LaneName) (pair after : PairPart) (step : Step) (p : ℕ) (side : Side) (queue n : ℕ) (entry : Entry) → p ≡ lane.pair
@@ -275,7 +261,7 @@ ack-room lane pair p side queue e cleared = elim (on_or_off lane p (other_side s
     after = posts (acking pair side queue) side (Index queue old.acked)
 
     is : lane_of after (other_side side) queue ≡ part
-    is = ap (λ (lanes : Both (ℕ → LanePart)). at_side lanes (other_side side) queue) (posts-lanes (acking pair side queue) side (Index queue old.acked)) ∙ lane-own pair (other_side side) queue part
+    is = posts-lane (acking pair side queue) side (Index queue old.acked) (other_side side) queue ∙ lane-own pair (other_side side) queue part
 
     chain : Chain old → Chain part
     chain c = record {
@@ -372,11 +358,6 @@ module _ (lane : LaneName) (pair : PairPart) (p : ℕ) (side : Side) (place : �
   land-room (Ver queue n) at may = land-other (Ver queue n) at refl (λ q m x. absurd (cc)) refl
   land-room (Raw window offset len) at may = land-other (Raw window offset len) at refl (λ q m x. absurd (cc)) refl
 
--- a new session, a link that was dropped, and a side that forgets its session
-fresh-part : (pair : PairPart) (from : Side) (q : ℕ) → lane_of (trained pair) from q ≡ fresh_lane
-fresh-part pair A q = refl
-fresh-part pair B q = refl
-
 dropped-flight : (pair : PairPart) (s : Side) → (side_of (dropped pair) s).flight ≡ []
 dropped-flight pair A = refl
 dropped-flight pair B = refl
@@ -420,9 +401,9 @@ module _ (plan : Plan) (lane : LaneName) (bytes : Bytes) (pair : PairPart) (well
       (λ _. Idles (record { takes_no = refl; gives_no = refl; trains_no = refl }) refl (record { freed = refl; acked = refl; chain = λ c. c; indexes = refl; up = λ u. u }))
   room_moves (Train p) e =
       train_cases (To (Train p)) pair (λ r is. quiet (Train p) r is.is)
-      (λ none. Renews (eq-eqb p lane.pair e) (ap (λ l. l.sent) (fresh-part pair lane.from lane.queue)) (ap (λ l. l.freed) (fresh-part pair lane.from lane.queue))
-      (ap (λ l. l.acked) (fresh-part pair lane.from lane.queue))
-      (subst Chain (sym (fresh-part pair lane.from lane.queue)) (record { acked_cleared = omega arith; cleared_got = omega arith; copied = λ x. absurd (false≢true x); given = λ x. absurd (false≢true x) }))
+      (λ none. Renews (eq-eqb p lane.pair e) (ap (λ l. l.sent) (trained-lane pair lane.from lane.queue)) (ap (λ l. l.freed) (trained-lane pair lane.from lane.queue))
+      (ap (λ l. l.acked) (trained-lane pair lane.from lane.queue))
+      (subst Chain (sym (trained-lane pair lane.from lane.queue)) (record { acked_cleared = omega arith; cleared_got = omega arith; copied = λ x. absurd (false≢true x); given = λ x. absurd (false≢true x) }))
       (well.down (other_side lane.from) (not-false (is_down pair.link.state) ((refused_passed (not (is_down pair.link.state)) NotDown _ none).0))))
   room_moves (Break p) e =
       break_cases (To (Break p)) pair (λ r is. quiet (Break p) r is.is)

@@ -1,4 +1,5 @@
 -- The laws of a lane's frames: in order, once, and counted.
+use Rattle.ledger_model.proofs.Basics.{fresh-lane}
 use Rattle.ledger_model.specs.Receiving.{is_copying}
 use Rattle.std.proofs.lemmas.Bool.{false≢true}
 use Rattle.std.specs.List.{flat_map}
@@ -61,10 +62,6 @@ run-kept plan lane session log pair after made moves run = record {
         ∙ ap (λ n. flat_map read (made_in lane.pair session first log) ++ (if n == session then read made else [])) run.now
 
 -- before any step
-fresh_at : (plan : PairPlan) (from : Side) (queue : ℕ) → lane_of (fresh_pair plan) from queue ≡ fresh_lane
-fresh_at plan A queue = refl
-fresh_at plan B queue = refl
-
 no_tally_at : (plan : PairPlan) (from : Side) (queue session : ℕ) → tally_of (fresh_pair plan) from queue session ≡ no_tally
 no_tally_at plan A queue session = refl
 no_tally_at plan B queue session = refl
@@ -94,7 +91,7 @@ run-fresh plan lane session = record {
     pair = fresh_pair (pair_plan plan lane.pair)
 
     is : lane_of pair lane.from lane.queue ≡ fresh_lane
-    is = fresh_at (pair_plan plan lane.pair) lane.from lane.queue
+    is = fresh-lane (pair_plan plan lane.pair) lane.from lane.queue
 
 pub lane_runs : (plan : Plan) (lane : LaneName) (session : ℕ) → IsKept plan lane.pair (LaneRun plan lane session)
 lane_runs plan lane session = record {

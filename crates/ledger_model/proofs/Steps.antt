@@ -221,7 +221,7 @@ pub record MaySend (pair : PairPart) (side : Side) (queue : ℕ) : Type 0 where
   pub not_closed : has_bit (side_of pair side).closed queue ≡ false
   pub not_busy : (lane_of pair side queue).todo ≡ []
 
-empty_is : {X : Type 0} (xs : List X) → not (is_empty_list xs) ≡ false → xs ≡ []
+pub empty_is : {X : Type 0} (xs : List X) → not (is_empty_list xs) ≡ false → xs ≡ []
 empty_is [] e = refl
 empty_is (x ∷ xs) e = absurd (true≢false e)
 

@@ -5,11 +5,10 @@ use Rattle.std.specs.List.{filter_map}
 use Rattle.std.proofs.lemmas.Bool.{eq-eqb}
 use Rattle.step_kinds.specs.declared.steps.Label.{Label}
 use Rattle.step_kinds.specs.declared.steps.Label.TheVariants.{Flag, Down, Bell}
-use Rattle.lane_model.specs.declared.Field.{Field}
 use Rattle.lane_model.specs.declared.Field.TheVariants.{Chunk as PayloadChunk, Length, Version}
 use Rattle.lane_model.specs.declared.Mark.{Mark}
 use Rattle.lane_model.specs.declared.Mark.TheVariants.{Cell, Flag as EntryFlag, Bell as QueueBell}
-use Rattle.lane_model.specs.Lane.{Entry, Carries, LinkDown, bytes_of, cells_of, writes_of, count_from, chunks_in}
+use Rattle.lane_model.specs.Lane.{Entry, Carries, LinkDown, bytes_of, count_from, chunks_in}
 use Rattle.ledger_model.specs.Labels.{label_of, labels_of}
 
 -- true for the flags of an entry on the queue, false for its doorbell

@@ -9,7 +9,9 @@ ghost use Rattle.ledger_model.specs.Laws.{
   PairsAreSeparate,
   QuietMeansDone,
   TalliesAreCounts,
+  UpMeansAgreement,
 };
+ghost use Rattle.ledger_model.specs.Rings.{RingLawHolds};
 
 /// The definitions give the answers of worked examples.
 pub fn examples_hold()
@@ -47,7 +49,17 @@ pub fn pairs_are_separate()
     ensures { PairsAreSeparate }
 {}
 
+/// A check that is answered `up` has found the peer's numbers in the scratchpads, all landed in the session, and they agree.
+pub fn up_means_agreement()
+    ensures { UpMeansAgreement }
+{}
+
 /// Where nothing is on its way to a receiver and it has seen so, all that was accepted in the session was delivered.
 pub fn quiet_means_done()
     ensures { QuietMeansDone }
+{}
+
+/// Whenever both sides of an ordinary pair are up, the law of the ring holds of each of its lanes.
+pub fn ring_law_holds()
+    ensures { RingLawHolds }
 {}
