@@ -1,0 +1,57 @@
+-- Lemmas on the spelling of scripts.
+use Rattle.std.proofs.Common.{◌≡◌, ◌≢◌, ℕ, ◌+◌, ◌-◌, ◌*◌, ◌^◌, ◌<◌, ◌≤◌, ◌==◌, ◌&&◌, Bool, true, false, cond, if◌then◌else◌, Option, Some, None, List, [], ◌∷◌, length, get_or, take, drop, drop-cons, nat_lt, refl, ap, sym, ◌∙◌, arith, add-one, eq-eqb, zero, suc}
+use Rattle.std.proofs.lemmas.Bool.Decides.{nat_tests}
+use Rattle.std.proofs.lemmas.Grind.{common_steps}
+use Rattle.std.specs.List.{list_all}
+use Rattle.ntb_top.specs.Spelling.{is_comment, without_return, is_digit, value_from}
+
+-- the number that digits spell behind those that were read
+abbrev pub digits_from : ℕ → List ℕ → Option ℕ
+digits_from value digits =
+    if list_all is_digit digits && nat_lt (value_from value digits) (2 ^ 32) then Some (value_from value digits) else None
+
+-- the next byte decides whether a line is a comment
+pub comment-next : (s : List ℕ) (i : ℕ) → i < length s →
+    is_comment (drop i s) ≡ (if get_or s i 0 == 32 then is_comment (drop (i + 1) s) else get_or s i 0 == 35)
+comment-next s i h = rw (add-one, drop-cons s i 0) refl
+
+pub digits-next : (value : ℕ) (s : List ℕ) (i : ℕ) → i < length s → is_digit (get_or s i 0) ≡ true →
+    digits_from value (drop i s) ≡ digits_from (value * 10 + (get_or s i 0 - 48)) (drop (i + 1) s)
+digits-next value s i h e = rw (add-one, drop-cons s i 0) (rw e refl)
+
+pub digits-end : (value : ℕ) (s : List ℕ) (i : ℕ) → i < length s → is_digit (get_or s i 0) ≡ false →
+    digits_from value (drop i s) ≡ None
+digits-end value s i h e = rw (drop-cons s i 0) (rw e refl)
+
+pub value-grows : (value : ℕ) (digits : List ℕ) → value ≤ value_from value digits
+value-grows value [] = omega arith
+value-grows value (digit ∷ digits) = omega (arith, value-grows (value * 10 + (digit - 48)) digits)
+
+pub digits-too_large : (value : ℕ) (digits : List ℕ) → 2 ^ 32 ≤ value → digits_from value digits ≡ None
+digits-too_large value digits h = let most : 2 ^ 32 ≤ value_from value digits = omega (arith, value-grows value digits) in grind arith
+
+pub digits-past : (value : ℕ) (s : List ℕ) (i : ℕ) → i < length s → is_digit (get_or s i 0) ≡ true →
+    2 ^ 32 ≤ value * 10 + (get_or s i 0 - 48) → digits_from value (drop i s) ≡ None
+digits-past value s i h e large = digits-next value s i h e ∙ digits-too_large (value * 10 + (get_or s i 0 - 48)) (drop (i + 1) s) large
+
+pub digits-done : (value : ℕ) (s : List ℕ) (i : ℕ) → length s ≤ i → value < 2 ^ 32 → digits_from value (drop i s) ≡ Some value
+digits-done value s i h small = let none : drop i s ≡ [] = grind (arith, common_steps) in rw none (grind arith)
+
+pub without_return-returned : (s : List ℕ) (n : ℕ) → length s ≡ suc n → get_or s n 0 ≡ 13 → take n s ≡ without_return s
+without_return-returned [] n h e = absurd (omega arith)
+without_return-returned (b ∷ []) zero h e = rw (eq-eqb b 13 e) refl
+without_return-returned (b ∷ []) (suc n) h e = absurd (omega arith)
+without_return-returned (b ∷ c ∷ bytes) zero h e = absurd (omega arith)
+without_return-returned (b ∷ c ∷ bytes) (suc n) h e =
+    ap (λ more. b ∷ more) (without_return-returned (c ∷ bytes) n (omega arith) e)
+
+without_return-byte : (b : ℕ) → b ≢ 13 → b ∷ [] ≡ without_return (b ∷ [])
+without_return-byte b ne = grind (arith, nat_tests)
+
+pub without_return-plain : (s : List ℕ) (n : ℕ) → length s ≡ suc n → get_or s n 0 ≢ 13 → s ≡ without_return s
+without_return-plain [] n h ne = absurd (omega arith)
+without_return-plain (b ∷ []) zero h ne = without_return-byte b ne
+without_return-plain (b ∷ []) (suc n) h ne = absurd (omega arith)
+without_return-plain (b ∷ c ∷ bytes) zero h ne = absurd (omega arith)
+without_return-plain (b ∷ c ∷ bytes) (suc n) h ne =
+    ap (λ more. b ∷ more) (without_return-plain (c ∷ bytes) n (omega arith) ne)
