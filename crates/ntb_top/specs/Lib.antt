@@ -1,5 +1,6 @@
 pub mod Reply
 pub mod Report
 pub mod Script
+pub mod Seen
 pub mod Spelling
 pub mod Texts

@@ -192,11 +192,14 @@ abbrev pub steps_of : Script → List (List ℕ) → Option (List Step)
 steps_of script (word ∷ pair ∷ side ∷ words) = if has_pair script pair then steps_at word (side_of side) words else None
 steps_of script words = None
 
+-- steps that stand at line n
+abbrev pub at_line : ℕ → List Step → List Line
+at_line n steps = map (λ step. record { line = n; step = step }) steps
+
 -- the script with the steps of line n, as long as there are not too many
 abbrev pub with_steps : ℕ → Script → List Step → Option Script
 with_steps n script steps =
-    only_if (nat_le (length script.steps + length steps) most_steps)
-    (record script { steps = script.steps ++ map (λ step. record { line = n; step = step }) steps })
+    only_if (nat_le (length script.steps + length steps) most_steps) (record script { steps = script.steps ++ at_line n steps })
 
 abbrev pub step_line : ℕ → Script → List (List ℕ) → Option Script
 step_line n script [] = Some script

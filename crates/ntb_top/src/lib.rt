@@ -3,6 +3,8 @@
 #![tactic(auto)]
 
 mod engine;
+mod given;
+mod macros;
 mod program;
 mod reader;
 mod script;

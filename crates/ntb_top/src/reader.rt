@@ -3,9 +3,9 @@
 //! It has the shape that the whole grammar will have: one function of a line and of what the lines before it gave, which answers
 //! what the line gives or its first fault. So far each fault is the same: the line isn't built.
 
-use crate::script::{
-    Given, LaneStep, MOST_FRAME_BYTES, MOST_STEPS, Macro, Part, Script, SentFrame,
-};
+use crate::given::Given;
+use crate::macros::Macro;
+use crate::script::{LaneStep, MOST_FRAME_BYTES, MOST_STEPS, Part, Script, SentFrame};
 use crate::spelling::{
     bytes_of, is_comment, is_text, name_of, number_of, side_of, without_return, words_of,
 };
@@ -55,7 +55,7 @@ pub fn read_script(alloc: Global, bytes: &[u8]) -> Result<Script, ScriptFault> {
     for line in bytes.split(|byte| *byte == b'\n') {
         number = number.saturating_add(1);
         match line_of(alloc, &script, without_return(line)) {
-            Ok(given) => script.take(number, given)?,
+            Ok(given) => given.add_to(&mut script, number)?,
             Err(LineFault::NotBuilt) => return Err(ScriptFault::NotBuilt(number)),
             Err(LineFault::OutOfMemory) => return Err(ScriptFault::OutOfMemory),
         }
@@ -209,7 +209,7 @@ fn step_of(alloc: Global, before: &Script, words: &[&[u8]]) -> Result<Given, Lin
         return Ok(Given::Nothing);
     }
     let step = macro_of(alloc, before, words)?.ok_or(LineFault::NotBuilt)?;
-    if step.len() as usize > MOST_STEPS.saturating_sub(before.steps.len()) {
+    if step.len() > MOST_STEPS.saturating_sub(before.steps.len()) {
         return Err(LineFault::NotBuilt);
     }
     Ok(Given::Steps(step))
