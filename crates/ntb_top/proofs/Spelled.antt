@@ -1,9 +1,10 @@
 -- Lemmas on the spelling of scripts.
-use Rattle.std.proofs.Common.{◌≡◌, ◌≢◌, ℕ, ◌+◌, ◌-◌, ◌*◌, ◌^◌, ◌<◌, ◌≤◌, ◌==◌, ◌&&◌, Bool, true, false, cond, if◌then◌else◌, Option, Some, None, List, [], ◌∷◌, length, get_or, take, drop, drop-cons, nat_lt, refl, ap, sym, ◌∙◌, arith, add-one, eq-eqb, zero, suc}
+use Rattle.std.proofs.Common.{◌≡◌, ◌≢◌, ℕ, ◌+◌, ◌-◌, ◌*◌, ◌^◌, ◌<◌, ◌≤◌, ◌==◌, ◌&&◌, Bool, true, false, cond, if◌then◌else◌, Option, Some, None, List, [], ◌∷◌, length, get_or, take, drop, drop-cons, nat_lt, refl, ap, sym, ◌∙◌, arith, add-one, eq-eqb, zero, suc, Bor, MatchOption, option_map}
 use Rattle.std.proofs.lemmas.Bool.Decides.{nat_tests}
 use Rattle.std.proofs.lemmas.Grind.{common_steps}
 use Rattle.std.specs.List.{list_all}
-use Rattle.ntb_top.specs.Spelling.{is_comment, without_return, is_digit, value_from}
+use Rattle.std.specs.Str.{bytes_eq}
+use Rattle.ntb_top.specs.Spelling.{is_comment, without_return, is_digit, value_from, behind}
 
 -- the number that digits spell behind those that were read
 abbrev pub digits_from : ℕ → List ℕ → Option ℕ
@@ -55,3 +56,29 @@ without_return-plain (b ∷ []) (suc n) h ne = absurd (omega arith)
 without_return-plain (b ∷ c ∷ bytes) zero h ne = absurd (omega arith)
 without_return-plain (b ∷ c ∷ bytes) (suc n) h ne =
     ap (λ more. b ∷ more) (without_return-plain (c ∷ bytes) n (omega arith) ne)
+
+found-next : (same more : Bool) (x y : Option (List ℕ)) → (same && more) ≡ true → (more ≡ true → x ≡ y) → (if same then x else None) ≡ y
+found-next true more x y h f = f h
+found-next false more x y h f = cc
+
+missing-next : (same more : Bool) (x : Option (List ℕ)) → (same && more) ≡ false → (more ≡ false → x ≡ None) → (if same then x else None) ≡ None
+missing-next true more x h f = f h
+missing-next false more x h f = refl
+
+behind-found : (key word : List ℕ) → bytes_eq (take (length key) word) key ≡ true → behind key word ≡ Some (drop (length key) word)
+behind-found [] word h = refl
+behind-found (k ∷ key) [] h = cc
+behind-found (k ∷ key) (b ∷ word) h = found-next (b == k) (bytes_eq (take (length key) word) key) _ _ h (λ e. behind-found key word e)
+
+behind-missing : (key word : List ℕ) → bytes_eq (take (length key) word) key ≡ false → behind key word ≡ None
+behind-missing [] word h = cc
+behind-missing (k ∷ key) [] h = refl
+behind-missing (k ∷ key) (b ∷ word) h = missing-next (b == k) (bytes_eq (take (length key) word) key) _ h (λ e. behind-missing key word e)
+
+-- what a call that strips a prefix finds
+pub behind-stripped : (key word : List ℕ) (found : Option (Bor (List ℕ))) →
+    MatchOption found (bytes_eq (take (length key) word) key ≡ false)
+      (λ rest. (bytes_eq (take (length key) word) key ≡ true) × (rest.now ≡ drop (length key) word) × (length rest.now + length key ≡ length word)) →
+    option_map (λ rest. rest.now) found ≡ behind key word
+behind-stripped key word None h = sym (behind-missing key word h)
+behind-stripped key word (Some rest) h = ap (λ bytes. let found : Option (List ℕ) = Some bytes in found) h.1 ∙ sym (behind-found key word h.0)

@@ -17,7 +17,9 @@ use Rattle.ntb_top.specs.declared.macros.Repeated.{Repeated}
 use Rattle.ntb_top.specs.declared.macros.Repeated.TheVariants as repeated
 use Rattle.ntb_top.specs.declared.given.Given.{Given}
 use Rattle.ntb_top.specs.declared.given.Given.TheVariants as given
-use Rattle.ntb_top.specs.Script.{Part, Header, Declarations, Steps, Script, at_line}
+use Rattle.ntb_top.specs.declared.options.Options as code_options
+use Rattle.ntb_top.specs.Script.{Part, Header, Declarations, Steps, Script, Options, at_line}
+use denote.Ref.{Bor}
 
 abbrev pub part_seen : code_part.Part → Part
 part_seen part.Header = Header
@@ -44,6 +46,14 @@ steps_seen steps = map line_seen steps
 -- what the code keeps of a script
 abbrev pub script_seen : code.Script → Script
 script_seen script = record { part = part_seen script.part; hosts = script.hosts.items; pair = script.pair; steps = steps_seen script.steps.items }
+
+-- words, by what they point to
+abbrev pub words_seen : List (Bor (List ℕ)) → List (List ℕ)
+words_seen words = map (λ word. word.now) words
+
+-- what the code keeps of the options of a pair
+abbrev pub options_seen : code_options.Options → Options
+options_seen options = record { up = options.up; strict = options.strict; size = options.size; mtu = options.mtu }
 
 -- a step that a macro makes many times
 abbrev pub repeated_seen : Repeated → Step

@@ -5,6 +5,7 @@
 mod engine;
 mod given;
 mod macros;
+mod options;
 mod program;
 mod reader;
 mod script;

@@ -2,6 +2,7 @@
 
 ghost use Rattle.std.specs.Prelude.{◌≡◌, ◌^◌, ◌&&◌, ◌||◌, Some, None, map, option_map, nat_lt, IfOk, if◌then◌else◌};
 ghost use Rattle.std.specs.List.{list_all};
+ghost use Rattle.std.specs.Str.{bytes_eq};
 ghost use Rattle.ntb_top.specs.Spelling as spec;
 
 use hex::FromHexError;
@@ -15,6 +16,20 @@ pub fn words_of(alloc: Global, line: &[u8]) -> Result<Vec<&[u8]>, AllocError>
     line.split(|byte| *byte == b' ')
         .filter(|word| !word.is_empty())
         .collect(alloc)
+}
+
+/// Whether a word is this text.
+pub fn is_word(word: &[u8], text: &str) -> bool
+    ensures { result ≡ bytes_eq word.now text.now }
+{
+    word == text.as_bytes()
+}
+
+/// What a word has behind a key, where it begins with that key.
+pub fn behind<'a>(key: &str, word: &'a [u8]) -> Option<&'a [u8]>
+    ensures { option_map (λ rest. rest.now) result ≡ spec.behind key.now word.now }
+{
+    word.strip_prefix(key.as_bytes())
 }
 
 /// A line without the carriage return that may end it.
@@ -116,6 +131,18 @@ fn digits_of(digits: &[u8]) -> Option<u32>
             .checked_add(u32::from(*digit - b'0'))?;
     }
     Some(value)
+}
+
+/// The number that a word spells, where it lies from `least` to `most`.
+pub fn number_between(word: &[u8], least: u32, most: u32) -> Option<u32>
+    ensures { result ≡ spec.number_between word.now least most }
+{
+    let number = number_of(word)?;
+    if number >= least && number <= most {
+        Some(number)
+    } else {
+        None
+    }
 }
 
 /// The bytes that a word spells: an even number of hexadecimal digits in either case. `None` where it spells none; the only
