@@ -1,10 +1,13 @@
 -- Lemmas on the spelling of scripts.
-use Rattle.std.proofs.Common.{◌≡◌, ◌≢◌, ℕ, ◌+◌, ◌-◌, ◌*◌, ◌^◌, ◌<◌, ◌≤◌, ◌==◌, ◌&&◌, Bool, true, false, cond, if◌then◌else◌, Option, Some, None, List, [], ◌∷◌, length, get_or, take, drop, drop-cons, nat_lt, refl, ap, sym, ◌∙◌, arith, add-one, eq-eqb, zero, suc, Bor, MatchOption, option_map}
+use Rattle.std.proofs.Common.{◌≡◌, ◌≢◌, ℕ, ◌+◌, ◌-◌, ◌*◌, ◌^◌, ◌<◌, ◌≤◌, ◌==◌, ◌&&◌, Bool, true, false, cond, if◌then◌else◌, Option, Some, None, List, [], ◌∷◌, length, get_or, take, drop, drop-cons, nat_lt, refl, ap, sym, ◌∙◌, arith, add-one, eq-eqb, zero, suc, Bor, MatchOption, option_map, map}
 use Rattle.std.proofs.lemmas.Bool.Decides.{nat_tests}
 use Rattle.std.proofs.lemmas.Grind.{common_steps}
-use Rattle.std.specs.List.{list_all}
+use Rattle.std.specs.List.{list_all, position_or_len}
+use Rattle.std.proofs.lemmas.List.Splits.{slice_split_none, slice_split_first}
+use Rattle.std.proofs.lemmas.List.Sums.{fails_before_first}
+use borrow.Author.Tests.{ltb-true, ltb-false}
 use Rattle.std.specs.Str.{bytes_eq}
-use Rattle.ntb_top.specs.Spelling.{is_comment, without_return, is_digit, value_from, behind}
+use Rattle.ntb_top.specs.Spelling.{is_comment, without_return, is_digit, value_from, behind, lines_of}
 
 -- the number that digits spell behind those that were read
 abbrev pub digits_from : ℕ → List ℕ → Option ℕ
@@ -82,3 +85,32 @@ pub behind-stripped : (key word : List ℕ) (found : Option (Bor (List ℕ))) �
     option_map (λ rest. rest.now) found ≡ behind key word
 behind-stripped key word None h = sym (behind-missing key word h)
 behind-stripped key word (Some rest) h = ap (λ bytes. let found : Option (List ℕ) = Some bytes in found) h.1 ∙ sym (behind-found key word h.0)
+
+-- the first line, where no line feed is found
+pub lines-one : (s : List ℕ) → length s ≤ position_or_len (λ b. b == 10) s → lines_of s ≡ without_return s ∷ []
+lines-one s h =
+    ap (map without_return) (slice_split_none (λ b. b == 10) s (λ k d below. fails_before_first (λ b. b == 10) s k d (omega arith)))
+
+-- the first line, and those behind its line feed
+pub lines-more : (s : List ℕ) → position_or_len (λ b. b == 10) s < length s →
+    lines_of s ≡ without_return (take (position_or_len (λ b. b == 10) s) s) ∷ lines_of (drop (position_or_len (λ b. b == 10) s + 1) s)
+lines-more s h = ap (map without_return) (slice_split_first (λ b. b == 10) s 0 h)
+
+pub lines-found : (s : List ℕ) (end : ℕ) →
+    Some end ≡ (if nat_lt (position_or_len (λ b. b == 10) s) (length s) then Some (position_or_len (λ b. b == 10) s) else None) →
+    lines_of s ≡ without_return (take end s) ∷ lines_of (drop (end + 1) s)
+lines-found s end h = found (nat_lt (position_or_len (λ b. b == 10) s) (length s)) refl h where
+  found : (test : Bool) → nat_lt (position_or_len (λ b. b == 10) s) (length s) ≡ test →
+      Some end ≡ (if test then Some (position_or_len (λ b. b == 10) s) else None) →
+      lines_of s ≡ without_return (take end s) ∷ lines_of (drop (end + 1) s)
+  found true e h = let same : end ≡ position_or_len (λ b. b == 10) s = cc in rw same (lines-more s (ltb-true _ _ e))
+  found false e h = cc
+
+pub lines-not_found : (s : List ℕ) →
+    None ≡ (if nat_lt (position_or_len (λ b. b == 10) s) (length s) then Some (position_or_len (λ b. b == 10) s) else None) →
+    lines_of s ≡ without_return s ∷ []
+lines-not_found s h = missed (nat_lt (position_or_len (λ b. b == 10) s) (length s)) refl h where
+  missed : (test : Bool) → nat_lt (position_or_len (λ b. b == 10) s) (length s) ≡ test →
+      None ≡ (if test then Some (position_or_len (λ b. b == 10) s) else None) → lines_of s ≡ without_return s ∷ []
+  missed true e h = cc
+  missed false e h = lines-one s (omega (arith, ltb-false _ _ e))

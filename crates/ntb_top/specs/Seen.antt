@@ -1,5 +1,5 @@
 -- How what the code keeps of a script is seen by the definition of what a script means.
-use Rattle.std.specs.Prelude.{◌≡◌, ℕ, ◌+◌, ◌≤◌, Option, Some, None, List, [], ◌∷◌, ◌++◌, length, map, replicate}
+use Rattle.std.specs.Prelude.{◌≡◌, ℕ, ◌+◌, ◌≤◌, Option, Some, None, option_map, Result, Ok, Err, List, [], ◌∷◌, ◌++◌, length, map, replicate}
 use Rattle.step_kinds.specs.declared.names.Side.TheVariants.{A, B}
 use Rattle.step_kinds.specs.declared.plan.Line.{Line}
 use Rattle.step_kinds.specs.declared.steps.Step.{Step}
@@ -18,7 +18,9 @@ use Rattle.ntb_top.specs.declared.macros.Repeated.TheVariants as repeated
 use Rattle.ntb_top.specs.declared.given.Given.{Given}
 use Rattle.ntb_top.specs.declared.given.Given.TheVariants as given
 use Rattle.ntb_top.specs.declared.options.Options as code_options
-use Rattle.ntb_top.specs.Script.{Part, Header, Declarations, Steps, Script, Options, at_line}
+use Rattle.ntb_top.specs.Script.{Part, Header, Declarations, Steps, Script, Options, at_line, most_steps}
+use Rattle.ntb_top.specs.declared.reader.ScriptFault.{ScriptFault}
+use Rattle.ntb_top.specs.declared.reader.ScriptFault.TheVariants.{NotBuilt, OutOfMemory}
 use denote.Ref.{Bor}
 
 abbrev pub part_seen : code_part.Part → Part
@@ -76,3 +78,22 @@ with_given n script (given.Host name) = record script { hosts = script.hosts ++ 
 with_given n script (given.Pair pair) = record script { pair = Some pair }
 with_given n script given.StepsBegin = record script { part = Steps }
 with_given n script (given.Steps steps) = record script { steps = script.steps ++ at_line n (macro_steps steps) }
+
+-- the code gives what a line gives, whatever the line's number is
+abbrev pub Gives : (ℕ → Option Script) → code.Script → Option Given → Type 0
+Gives line before result = (n : ℕ) → line n ≡ option_map (with_given n (script_seen before)) result
+
+-- what a line gives are no steps, or no more than a script may have after so many
+abbrev pub StepsFit : ℕ → Option Given → Type 0
+StepsFit before None = Unit {0}
+StepsFit before (Some given.Nothing) = Unit {0}
+StepsFit before (Some given.Header) = Unit {0}
+StepsFit before (Some (given.Host name)) = Unit {0}
+StepsFit before (Some (given.Pair pair)) = Unit {0}
+StepsFit before (Some given.StepsBegin) = Unit {0}
+StepsFit before (Some (given.Steps steps)) = before + length (macro_steps steps) ≤ most_steps
+
+-- a fault of a script that reads so: want of memory, or the number of the first line that isn't built
+abbrev pub IsScriptFault : Result Script ℕ → ScriptFault → Type 0
+IsScriptFault read OutOfMemory = Unit {0}
+IsScriptFault read (NotBuilt n) = read ≡ Err n

@@ -17,6 +17,11 @@ without_return (b ∷ c ∷ bytes) = b ∷ without_return (c ∷ bytes)
 abbrev pub lines_of : List ℕ → List (List ℕ)
 lines_of bytes = map without_return (slice_split (λ b. b == 10) bytes)
 
+-- the lines behind a line feed, where one was found
+abbrev pub lines_left : Option (List ℕ) → List (List ℕ)
+lines_left None = []
+lines_left (Some bytes) = lines_of bytes
+
 abbrev pub is_filled : List ℕ → Bool
 is_filled [] = false
 is_filled (b ∷ bytes) = true

@@ -1,6 +1,6 @@
 //! How the words of a script are spelled: lines and words, names, sides, numbers and bytes.
 
-ghost use Rattle.std.specs.Prelude.{◌≡◌, ◌^◌, ◌&&◌, ◌||◌, Some, None, map, option_map, nat_lt, IfOk, if◌then◌else◌};
+ghost use Rattle.std.specs.Prelude.{◌≡◌, ◌<◌, ◌∷◌, length, IfSome, ◌^◌, ◌&&◌, ◌||◌, Some, None, map, option_map, nat_lt, IfOk, if◌then◌else◌};
 ghost use Rattle.std.specs.List.{list_all};
 ghost use Rattle.std.specs.Str.{bytes_eq};
 ghost use Rattle.ntb_top.specs.Spelling as spec;
@@ -8,6 +8,17 @@ ghost use Rattle.ntb_top.specs.Spelling as spec;
 use hex::FromHexError;
 use std::alloc::{AllocError, Global};
 use step_kinds::{Name, Side};
+
+/// The first line of these bytes, and what stands behind its line feed, where it has one.
+pub fn first_line(bytes: &[u8]) -> (&[u8], Option<&[u8]>)
+    ensures lines { spec.lines_of bytes.now ≡ result.0.now ∷ spec.lines_left (option_map (λ rest. rest.now) result.1) }
+    ensures shorter { IfSome result.1 (λ rest. length rest.now < length bytes.now) }
+{
+    match bytes.iter().position(|byte| *byte == b'\n') {
+        Some(end) => (without_return(&bytes[..end]), Some(&bytes[end + 1..])),
+        None => (without_return(bytes), None),
+    }
+}
 
 /// The words of a line: what stands between its spaces.
 pub fn words_of(alloc: Global, line: &[u8]) -> Result<Vec<&[u8]>, AllocError>
