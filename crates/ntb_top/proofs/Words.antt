@@ -1,7 +1,7 @@
 -- Lists of words of a known length, as a match on a slice of words sees them.
 use Rattle.std.proofs.Common.{◌≡◌, ℕ, ◌+◌, ◌-◌, ◌<◌, ◌≤◌, List, [], ◌∷◌, length, get_or, take, drop, length-drop, refl, ap, arith, Bor, None}
 use Rattle.std.proofs.lemmas.List.{take_all}
-use Rattle.ntb_top.specs.Script.{Script, steps_of, declaration_line}
+use Rattle.ntb_top.specs.Script.{Script, steps_of}
 use Rattle.ntb_top.specs.Seen.{words_seen}
 
 -- what a read past the end would give
@@ -21,13 +21,6 @@ words-two (a ∷ []) d h k = absurd (omega arith)
 words-two (a ∷ b ∷ []) d h k = refl
 words-two (a ∷ b ∷ c ∷ words) d h k = absurd (omega arith)
 
-pub words-from_three : (words : List (Bor (List ℕ))) (d : Bor (List ℕ)) → 3 ≤ length words →
-    words_seen words ≡ (get_or words 0 d).now ∷ (get_or words 1 d).now ∷ (get_or words 2 d).now ∷ words_seen (drop 3 words)
-words-from_three [] d h = absurd (omega arith)
-words-from_three (a ∷ []) d h = absurd (omega arith)
-words-from_three (a ∷ b ∷ []) d h = absurd (omega arith)
-words-from_three (a ∷ b ∷ c ∷ words) d h = refl
-
 pub words-from_four : (words : List (Bor (List ℕ))) (d : Bor (List ℕ)) → 4 ≤ length words →
     words_seen words ≡ (get_or words 0 d).now ∷ (get_or words 1 d).now ∷ (get_or words 2 d).now ∷ (get_or words 3 d).now ∷ words_seen (drop 4 words)
 words-from_four [] d h = absurd (omega arith)
@@ -45,11 +38,3 @@ words-below_three script [] h = refl
 words-below_three script (a ∷ []) h = refl
 words-below_three script (a ∷ b ∷ []) h = refl
 words-below_three script (a ∷ b ∷ c ∷ words) h = absurd (omega arith)
-
-pub words-three : (script : Script) (words : List (Bor (List ℕ))) → 3 ≤ length words → length words < 4 →
-    declaration_line script (words_seen words) ≡ None
-words-three script [] h k = absurd (omega arith)
-words-three script (a ∷ []) h k = absurd (omega arith)
-words-three script (a ∷ b ∷ []) h k = absurd (omega arith)
-words-three script (a ∷ b ∷ c ∷ []) h k = refl
-words-three script (a ∷ b ∷ c ∷ e ∷ words) h k = absurd (omega arith)
