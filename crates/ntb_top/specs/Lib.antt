@@ -2,5 +2,6 @@ pub mod Headline
 pub mod Output
 pub mod Report
 pub mod Script
+pub mod Seen
 pub mod Spelling
 pub mod Texts
