@@ -1,3 +1,4 @@
+pub mod Drives
 pub mod Reply
 pub mod Report
 pub mod Script

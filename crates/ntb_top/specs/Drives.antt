@@ -1,0 +1,54 @@
+-- The ledger of a script's one pair, as the lane of the engine shows it: the lane goes from side A to side B on queue 0, in session 1 of a
+-- pair that was declared up.
+use Rattle.std.specs.Prelude.{◌≡◌, ℕ, Bool, true, false, List, [], map}
+use Rattle.step_kinds.specs.Bits.{has_bit}
+use Rattle.step_kinds.specs.declared.names.Side.{Side}
+use Rattle.step_kinds.specs.declared.names.Side.TheVariants.{A, B}
+use Rattle.step_kinds.specs.declared.plan.PairPlan.{PairPlan}
+use Rattle.step_kinds.specs.declared.steps.Label.{Label}
+use Rattle.step_kinds.specs.declared.steps.Label.TheVariants.{Index}
+use Rattle.lane_model.specs.Kept.{IsOpen}
+use Rattle.lane_model.specs.Lane.{Carries, Lane}
+use Rattle.lane_model.specs.Law.{HoldsRingLaw}
+use Rattle.lane_model.specs.declared.Mark.{Mark}
+use Rattle.lane_core.specs.Calls.{LaneValue}
+use Rattle.ledger_model.specs.Labels.{label_of}
+use Rattle.ledger_model.specs.Ledger.{LanePart, PairPart, Tally, side_of, lane_of, tally_of, sizes_of}
+use Rattle.ledger_model.specs.Link.{is_up}
+
+-- the label of a write of a lane that carries frames alone
+abbrev pub frame_label : Mark → Label
+frame_label mark = label_of 0 (Carries []) mark
+
+-- a lane's part in the ledger is that of the model's lane
+pub record IsPartOf (part : LanePart) (lane : Lane) : Type 0 where
+  pub sent : part.sent ≡ lane.sent
+  pub todo : part.todo ≡ map frame_label lane.todo
+  pub flagged : part.flagged ≡ lane.flagged
+  pub got : part.got ≡ lane.got
+  pub cleared : part.cleared ≡ lane.cleared
+  pub acked : part.acked ≡ lane.acked
+  pub freed : part.freed ≡ lane.freed
+  pub phase : part.phase ≡ lane.phase
+  pub parts : part.part ≡ lane.part
+
+-- the lane shows the pair, of which so many frames were accepted and delivered
+pub record Shows (value : LaneValue) (plan : PairPlan) (now : PairPart) (taken given : ℕ) : Type 0 where
+  pub queue : value.queue ≡ 0
+  pub is_strict : value.is_strict ≡ plan.strict
+  pub entries : value.lane.entries ≡ (sizes_of plan A 0).entries
+  pub largest : value.lane.largest ≡ (sizes_of plan A 0).largest
+  pub lane_up : value.lane.up ≡ true
+  pub link_up : is_up now.link.state ≡ true
+  pub session : now.link.session ≡ 1
+  pub joined_a : has_bit (side_of now A).joined 0 ≡ true
+  pub joined_b : has_bit (side_of now B).joined 0 ≡ true
+  pub open_a : has_bit (side_of now A).closed 0 ≡ false
+  pub open_b : has_bit (side_of now B).closed 0 ≡ false
+  pub lane : IsPartOf (lane_of now A 0) value.lane
+  pub flight : (side_of now A).flight ≡ map frame_label value.lane.flight
+  pub returning : (side_of now B).flight ≡ map (Index 0) value.lane.returning
+  pub tally : tally_of now A 0 1 ≡ record { accepted = taken; delivered = given }
+  pub other_tally : tally_of now B 0 1 ≡ record { accepted = 0; delivered = 0 }
+  pub law : HoldsRingLaw value.lane
+  pub only_frames : IsOpen value.lane
