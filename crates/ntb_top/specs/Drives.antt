@@ -1,6 +1,6 @@
 -- The ledger of a script's one pair, as the lane of the engine shows it: the lane goes from side A to side B on queue 0, in session 1 of a
 -- pair that was declared up.
-use Rattle.std.specs.Prelude.{◌≡◌, ℕ, Bool, true, false, List, [], map}
+use Rattle.std.specs.Prelude.{◌≡◌, ℕ, Bool, true, false, List, [], length, map}
 use Rattle.step_kinds.specs.Bits.{has_bit}
 use Rattle.step_kinds.specs.declared.names.Side.{Side}
 use Rattle.step_kinds.specs.declared.names.Side.TheVariants.{A, B}
@@ -32,7 +32,7 @@ pub record IsPartOf (part : LanePart) (lane : Lane) : Type 0 where
   pub phase : part.phase ≡ lane.phase
   pub parts : part.part ≡ lane.part
 
--- the lane shows the pair, of which so many frames were accepted and delivered
+-- the lane shows the pair, of which so many frames were accepted and delivered: all that were begun, and all that were taken whole
 pub record Shows (value : LaneValue) (plan : PairPlan) (now : PairPart) (taken given : ℕ) : Type 0 where
   pub queue : value.queue ≡ 0
   pub is_strict : value.is_strict ≡ plan.strict
@@ -50,5 +50,7 @@ pub record Shows (value : LaneValue) (plan : PairPlan) (now : PairPart) (taken g
   pub returning : (side_of now B).flight ≡ map (Index 0) value.lane.returning
   pub tally : tally_of now A 0 1 ≡ record { accepted = taken; delivered = given }
   pub other_tally : tally_of now B 0 1 ≡ record { accepted = 0; delivered = 0 }
+  pub taken_all : taken ≡ length value.lane.sent
+  pub given_all : given ≡ value.lane.got
   pub law : HoldsRingLaw value.lane
   pub only_frames : IsOpen value.lane

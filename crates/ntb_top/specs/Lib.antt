@@ -1,4 +1,5 @@
 pub mod Drives
+pub mod Moves
 pub mod Reply
 pub mod Report
 pub mod Script

@@ -1,0 +1,4 @@
+pub mod Landing
+pub mod Marks
+pub mod Receiving
+pub mod Sending

@@ -1,0 +1,1 @@
+-- Receiving: the lane answers as the ledger does, and then shows the pair after the step.

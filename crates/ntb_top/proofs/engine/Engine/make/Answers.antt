@@ -1,0 +1,1 @@
+use Rattle.ntb_top.proofs.Landing as landing
