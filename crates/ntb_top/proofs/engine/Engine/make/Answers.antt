@@ -1,1 +1,1 @@
-use Rattle.ntb_top.proofs.Landing as landing
+use Rattle.ntb_top.proofs.Receiving as receiving
