@@ -1,0 +1,2 @@
+pub mod LandingLemmas
+pub mod LawLemmas
