@@ -1,8 +1,8 @@
 -- What holds of every lane: each step keeps the law of the ring, and what the two sides read from it.
 use Rattle.std.specs.Prelude.{◌≡◌, ◌≢◌, ℕ, ◌%◌, ◌<◌, ◌≤◌, true, false, List, [], ◌∷◌, ◌++◌, length, Contains}
 use Rattle.lane_model.specs.Ring.{tail_of, room_of}
-use Rattle.lane_model.specs.Lane.{Entry, LinkDown, Field, Mark, Cell, Flag, Bell, Lane, bytes_of, cells_of, entry_of, place_of, free_in}
-use Rattle.lane_model.specs.Law.{HoldsRingLaw, StandsWhole, Sender, owner_of, owner_at}
+use Rattle.lane_model.specs.Lane.{Entry, LinkDown, Field, Chunk, Mark, Cell, Flag, Bell, Lane, bytes_of, copies_of, cells_of, entry_of, place_of, free_in}
+use Rattle.lane_model.specs.Law.{HoldsRingLaw, Stands, StandsWhole, Sender, owner_of, owner_at}
 use Rattle.lane_model.specs.Steps.{after_begin, after_post, after_landing, after_look, after_copy, after_clear, after_ack, after_index, after_cut, after_drop}
 use Rattle.lane_model.specs.declared.Phase.TheVariants.{Idle, Copying, Copied, Cleared}
 
@@ -84,9 +84,10 @@ pub record SeesNext (lane : Lane) : Type 0 where
 abbrev pub LookSees : Type 0
 LookSees = (lane : Lane) → lane.phase ≡ Idle → HoldsRingLaw lane → SeesNext lane
 
--- what a copying receiver reads: the entry, whole
+-- what a copying receiver reads: the entry, whole, and of it the part that it copies next
 abbrev pub CopySees : Type 0
 CopySees = (lane : Lane) → lane.phase ≡ Copying → HoldsRingLaw lane → (lane.got < lane.flagged) × StandsWhole (place_of lane lane.got) lane.got (entry_of lane lane.got)
+    × (lane.part < copies_of (entry_of lane lane.got)) × Stands (place_of lane lane.got) lane.got (entry_of lane lane.got) (Chunk lane.part)
 
 -- what lands next: the flags of the first entry that has none, the index write of the first entry not given back,
 -- and fields of entries that have no flags yet

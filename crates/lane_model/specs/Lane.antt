@@ -1,7 +1,7 @@
 -- One lane in one session: what its sender began, what is on its way, the ring in the receiver's memory, and how far
 -- each has come. `ntb_transport` moves frames in the same way: payload and header into a ring in the peer's memory,
 -- then the header's DONE flag and a doorbell, and an index written back once the receiver is done.
-use Rattle.std.specs.Prelude.{ℕ, zero, suc, ◌+◌, ◌-◌, ◌*◌, ◌/◌, ◌%◌, ◌^◌, Bool, List, [], ◌∷◌, ◌++◌, length, map, take, drop, slice_index_or, slice_set}
+use Rattle.std.specs.Prelude.{ℕ, zero, suc, ◌+◌, ◌-◌, ◌*◌, ◌/◌, ◌%◌, ◌^◌, max, Bool, List, [], ◌∷◌, ◌++◌, length, map, take, drop, slice_index_or, slice_set}
 use Rattle.lane_model.specs.Ring.{head_of, free_entries}
 pub use Rattle.lane_model.specs.declared.Field.{Field}
 pub use Rattle.lane_model.specs.declared.Field.TheVariants.{Chunk, Length, Version}
@@ -60,6 +60,10 @@ chunk_size = 128
 -- how many chunks so many bytes are
 abbrev pub chunks_in : ℕ → ℕ
 chunks_in len = (len + chunk_size - 1) / chunk_size
+
+-- how many copies an entry takes: one for each chunk, and one where there is none
+abbrev pub copies_of : Entry → ℕ
+copies_of entry = max 1 (chunks_in (length (bytes_of entry)))
 
 -- a chunk of a payload
 abbrev pub chunk_of : List ℕ → ℕ → List ℕ

@@ -4,7 +4,7 @@
 -- strict lanes at once: only which landings may happen tells them apart.
 use Rattle.std.specs.Prelude.{◌≡◌, ℕ, suc, ◌+◌, ◌-◌, ◌*◌, ◌%◌, ◌<◌, ◌≤◌, true, List, [], ◌∷◌, ◌++◌, length, drop, take, slice_index_or, if◌then◌else◌, nat_lt, ◌⊎◌, Contains}
 use Rattle.lane_model.specs.Ring.{tail_of}
-use Rattle.lane_model.specs.Lane.{Entry, LinkDown, Field, Chunk, Length, Version, Mark, Cell, Flag, Bell, Place, blank, Lane, bytes_of, chunk_of, chunk_size, count_from, cells_of, writes_of, flags_of, version_of, entry_of, place_of}
+use Rattle.lane_model.specs.Lane.{Entry, LinkDown, Field, Chunk, Length, Version, Mark, Cell, Flag, Bell, Place, blank, Lane, bytes_of, chunk_of, chunk_size, count_from, copies_of, cells_of, writes_of, flags_of, version_of, entry_of, place_of}
 use Rattle.lane_model.specs.declared.Phase.{Phase}
 use Rattle.lane_model.specs.declared.Phase.TheVariants.{Idle, Copying, Copied, Cleared}
 
@@ -52,7 +52,7 @@ pub record StandsWhole (place : Place) (n : ℕ) (entry : Entry) : Type 0 where
 -- The law, `lost` being the writes that were posted, or were in flight, when the link was lost and will not land any more, and
 -- `lost_back` the same of index writes.
 pub record RingLaw (lost : List Mark) (lost_back : List ℕ) (lane : Lane) : Type 0 where
-  -- the ring has its positions, each with room for the largest payload, and each frame has a byte and fits
+  -- the ring has its positions, each with room for the largest payload, and each frame fits
   pub two_entries : 2 ≤ lane.entries
   pub positions : length lane.ring ≡ lane.entries
   pub rooms : (k : ℕ) → k < lane.entries → length (slice_index_or lane.ring k blank).payload ≡ lane.largest
@@ -65,6 +65,8 @@ pub record RingLaw (lost : List Mark) (lost_back : List ℕ) (lane : Lane) : Typ
   pub flagged_first : lane.flagged ≤ length lane.sent
   pub one_free : length lane.sent + 1 ≤ lane.freed + lane.entries
   pub phase_counts : PhaseCounts lane.phase lane
+  -- a copying receiver has a copy left to make
+  pub part_first : lane.phase ≡ Copying → lane.part < copies_of (entry_of lane lane.got)
   -- what the sender began lands in this order, fields alone excepted
   pub left : AreLeftToLand lane (lane.flight ++ lost ++ lane.todo)
   pub last : EndTheLast lane

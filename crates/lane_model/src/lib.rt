@@ -4,6 +4,8 @@
 //! and laws alone, over lists and numbers. It knows nothing of pairs, bytes in a window or objects of a program.
 #![tactic(auto)]
 
+pub mod laws;
+
 /// Where a receiver stands with the frame at the front of its ring.
 #[derive(Clone, Copy, Debug, PartialEq, Eq)]
 pub enum Phase {

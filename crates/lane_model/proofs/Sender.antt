@@ -1,0 +1,188 @@
+-- The sender's steps keep the law of the ring, which holds at the start of a session.
+use Rattle.std.proofs.Common.{◌≡◌, ℕ, ◌-◌, ◌<◌, ◌≤◌, true, false, true≢false, List, [], ◌∷◌, ◌++◌, length, drop, get_or, refl, sym, ap, ◌∙◌, subst, inl, inr, arith, append-nil, append_assoc, mod-eq_of_lt, if◌then◌else◌, Contains}
+use Rattle.std.proofs.lemmas.Bool.{cases_eq, cond-true, cond-false}
+use Rattle.std.proofs.lemmas.List.{drop_all, length_push, get_or_push, get_or_append_left}
+use Rattle.std.proofs.lemmas.List.Elements.{Contains-append_left, Contains-append_right}
+use Rattle.lane_model.specs.Ring.{head_of, free_entries, tail_of, room_of}
+use Rattle.lane_model.specs.Lane.{Entry, LinkDown, Mark, Cell, Flag, Bell, blank, Lane, bytes_of, cells_of, writes_of, count_from, copies_of, entry_of, place_of, free_in}
+use Rattle.lane_model.specs.Law.{AreLeft, AreLeftToLand, PhaseCounts, Stands, StandsWhole, RingLaw}
+use Rattle.lane_model.specs.Steps.{after_begin, after_post}
+use Rattle.lane_model.specs.Kept.{IsFresh, IsOpen}
+use Rattle.lane_model.specs.declared.Phase.TheVariants.{Copying}
+use Rattle.lane_model.proofs.Numbers as numbers
+use Rattle.lane_model.proofs.Left.{left_to_land_more}
+use Rattle.lane_model.proofs.Receiver.{same_counts}
+
+pub fresh_holds : (lane : Lane) → IsFresh lane → RingLaw [] [] lane
+fresh_holds lane fresh =
+    let none_sent : length lane.sent ≡ 0 = ap length fresh.sent in
+    let no_marks : (lane.flight ++ []) ++ lane.todo ≡ [] = append-nil-twice lane.flight lane.todo fresh.flight fresh.todo in
+    let no_entries : drop lane.flagged lane.sent ≡ [] = drop_all lane.flagged lane.sent (omega arith) in
+    let none_back : 0 ≡ lane.acked - lane.freed = omega (arith, fresh.acked, fresh.freed) in
+    let acked = fresh.acked in
+    let cleared = fresh.cleared in
+    let got = fresh.got in
+    let flagged = fresh.flagged in
+    let freed = fresh.freed in
+    let two = fresh.two_entries in
+    record {
+      two_entries = fresh.two_entries;
+      positions = fresh.positions;
+      rooms = λ k below. subst (λ j. length (get_or lane.ring j blank).payload ≡ lane.largest) (mod-eq_of_lt below) (fresh.rooms k below);
+      fits = λ n below. absurd (omega arith);
+      freed_first = omega arith;
+      acked_first = omega arith;
+      cleared_first = omega arith;
+      got_first = omega arith;
+      flagged_first = omega arith;
+      one_free = omega arith;
+      phase_counts = subst (λ p. PhaseCounts p lane) (sym fresh.phase) (acked ∙ sym cleared, cleared ∙ sym got);
+      part_first = λ copying. absurd (cc (fresh.phase, copying));
+      left = inl (subst (λ es. AreLeft lane.flagged es ((lane.flight ++ []) ++ lane.todo)) (sym no_entries) no_marks);
+      last = inl fresh.todo;
+      none_lost = λ up. (refl, refl);
+      whole = λ n low high. absurd (omega arith);
+      empty = λ n low high. fresh.no_flags n;
+      landed = λ n field low high among. absurd (omega arith);
+      returning = append-nil lane.returning ∙ fresh.returning ∙ ap (count_from lane.freed) none_back;
+      index_word = fresh.index_word ∙ ap (tail_of lane.entries) (sym freed);
+      down_is_last = λ n below down. absurd (omega arith);
+    }
+  where
+    append-nil-twice : (a b : List Mark) → a ≡ [] → b ≡ [] → (a ++ []) ++ b ≡ []
+    append-nil-twice a b p q = append-nil-both (a ++ []) b (append-nil a ∙ p) q
+      where
+        append-nil-both : (c d : List Mark) → c ≡ [] → d ≡ [] → c ++ d ≡ []
+        append-nil-both c d r s = ap (λ w. w ++ d) r ∙ s
+
+entry_before : (lane : Lane) (entry : Entry) (n : ℕ) → n < length lane.sent → entry_of (after_begin lane entry) n ≡ entry_of lane n
+entry_before lane entry n below = get_or_append_left lane.sent (entry ∷ []) LinkDown n below
+
+entry_last : (lane : Lane) (entry : Entry) (n : ℕ) → n ≡ length lane.sent → entry_of (after_begin lane entry) n ≡ entry
+entry_last lane entry n e = get_or_push lane.sent entry LinkDown n (sym e)
+
+-- head and index word show the entries that are free
+pub free_is_room : (lost : List Mark) (lost_back : List ℕ) (lane : Lane) → RingLaw lost lost_back lane → free_in lane ≡ room_of lane.entries (length lane.sent) lane.freed
+free_is_room lost lost_back lane h =
+    let low : lane.freed ≤ length lane.sent = omega arith in
+    ap (free_entries lane.entries (head_of lane.entries (length lane.sent))) h.index_word ∙ numbers.free_is_room lane.entries (length lane.sent) lane.freed h.two_entries low h.one_free
+
+pub begin_keeps : (lost : List Mark) (lost_back : List ℕ) (lane : Lane) (entry : Entry) → lane.todo ≡ [] → 0 < free_in lane
+    → length (bytes_of entry) ≤ lane.largest → IsOpen lane → RingLaw lost lost_back lane → RingLaw lost lost_back (after_begin lane entry)
+begin_keeps lost lost_back lane entry no_todo free fits open_yet h =
+    let room = free_is_room lost lost_back lane h in
+    let one_more = length_push lane.sent entry in
+    let next : Lane = after_begin lane entry in
+    let coming : List Mark = lane.flight ++ lost in
+    let writes : List Mark = writes_of (length lane.sent) entry in
+    let no_more : coming ++ lane.todo ≡ coming = ap (λ w. coming ++ w) no_todo ∙ append-nil coming in
+    record {
+      two_entries = h.two_entries;
+      positions = h.positions;
+      rooms = h.rooms;
+      fits = λ n below. elim (cases_eq n (length lane.sent)) [
+        | inl new ↦ subst (λ e. length (bytes_of e) ≤ lane.largest) (sym (entry_last lane entry n new)) fits
+        | inr old ↦
+            let before : n < length lane.sent = omega arith in
+            subst (λ e. length (bytes_of e) ≤ lane.largest) (sym (entry_before lane entry n before)) (h.fits n before)
+      ];
+      freed_first = h.freed_first;
+      acked_first = h.acked_first;
+      cleared_first = h.cleared_first;
+      got_first = h.got_first;
+      flagged_first = omega arith;
+      one_free = omega arith;
+      phase_counts = same_counts lane.phase lane next refl refl refl (omega arith) h.phase_counts;
+      part_first = λ copying.
+          let counts : PhaseCounts Copying lane = subst (λ p. PhaseCounts p lane) copying h.phase_counts in
+          let before : lane.got < length lane.sent = omega (arith, counts.2) in
+          subst (λ e. lane.part < copies_of e) (sym (entry_before lane entry lane.got before)) (h.part_first copying);
+      left = left_to_land_more lane coming entry h.flagged_first (subst (AreLeftToLand lane) no_more h.left);
+      last = inr (length lane.sent, [], sym one_more, ap (writes_of (length lane.sent)) (entry_last lane entry (length lane.sent) refl));
+      none_lost = h.none_lost;
+      whole = λ n low high.
+          let before : n < length lane.sent = omega arith in
+          subst (StandsWhole (place_of lane n) n) (sym (entry_before lane entry n before)) (h.whole n low high);
+      empty = h.empty;
+      landed = λ n field low high among. elim (cases_eq n (length lane.sent)) [
+        | inl new ↦
+            let of_entry : Contains (cells_of n entry) (Cell n field) = subst (λ e. Contains (cells_of n e) (Cell n field)) (entry_last lane entry n new) among in
+            let of_last : Contains (cells_of (length lane.sent) entry) (Cell n field) = subst (λ m. Contains (cells_of m entry) (Cell n field)) new of_entry in
+            inl (Contains-append_right coming writes (Cell n field) (Contains-append_left (cells_of (length lane.sent) entry) (Flag (length lane.sent) ∷ Bell ∷ []) (Cell n field) of_last))
+        | inr old ↦
+            let before : n < length lane.sent = omega arith in
+            let same = entry_before lane entry n before in
+            elim (h.landed n field low before (subst (λ e. Contains (cells_of n e) (Cell n field)) same among)) [
+              | inl comes ↦ inl (Contains-append_left coming writes (Cell n field) (subst (λ w. Contains w (Cell n field)) no_more comes))
+              | inr stands ↦ inr (subst (λ e. Stands (place_of lane n) n e field) (sym same) stands)
+            ]
+      ];
+      returning = h.returning;
+      index_word = h.index_word;
+      down_is_last = λ n below down. elim (cases_eq n (length lane.sent)) [
+        | inl new ↦ omega arith
+        | inr old ↦
+            let before : n < length lane.sent = omega arith in
+            absurd (open_yet n before (sym (entry_before lane entry n before) ∙ down))
+      ];
+    }
+
+-- posting changes neither what is left to land nor its order
+posted : (lost lost_now : List Mark) (lost_back : List ℕ) (lane : Lane) (mark : Mark) (rest : List Mark) → lane.todo ≡ mark ∷ rest
+    → ((after_post lane mark rest).flight ++ lost_now) ++ rest ≡ (lane.flight ++ lost) ++ lane.todo → (lane.up ≡ true → (lost_now ≡ []) × (lost_back ≡ []))
+    → RingLaw lost lost_back lane → RingLaw lost_now lost_back (after_post lane mark rest)
+posted lost lost_now lost_back lane mark rest front same none h =
+    record {
+      two_entries = h.two_entries;
+      positions = h.positions;
+      rooms = h.rooms;
+      fits = h.fits;
+      freed_first = h.freed_first;
+      acked_first = h.acked_first;
+      cleared_first = h.cleared_first;
+      got_first = h.got_first;
+      flagged_first = h.flagged_first;
+      one_free = h.one_free;
+      phase_counts = same_counts lane.phase lane (after_post lane mark rest) refl refl refl (omega arith) h.phase_counts;
+      part_first = h.part_first;
+      left = subst (AreLeftToLand lane) (sym same) h.left;
+      last = elim h.last [
+        | inl nothing ↦ absurd (cc (nothing, front))
+        | inr ending ↦ inr (ending.0, ending.1 ++ mark ∷ [], ending.2, ending.3 ∙ ap (λ w. ending.1 ++ w) front ∙ sym (append_assoc ending.1 (mark ∷ []) rest))
+      ];
+      none_lost = none;
+      whole = h.whole;
+      empty = h.empty;
+      landed = λ n field low high among. elim (h.landed n field low high among) [
+        | inl comes ↦ inl (subst (λ w. Contains w (Cell n field)) (sym same) comes)
+        | inr stands ↦ inr stands
+      ];
+      returning = h.returning;
+      index_word = h.index_word;
+      down_is_last = h.down_is_last;
+    }
+
+pub post_keeps : (lost : List Mark) (lost_back : List ℕ) (lane : Lane) (mark : Mark) (rest : List Mark) → lane.todo ≡ mark ∷ rest → lane.up ≡ true
+    → RingLaw lost lost_back lane → RingLaw lost lost_back (after_post lane mark rest)
+post_keeps lost lost_back lane mark rest front up h =
+    let none : lost ≡ [] = (h.none_lost up).0 in
+    let now : (if lane.up then lane.flight ++ mark ∷ [] else lane.flight) ≡ lane.flight ++ mark ∷ [] = cond-true lane.up _ _ up in
+    posted lost lost lost_back lane mark rest front
+    (ap (λ w. (w ++ lost) ++ rest) now
+    ∙ ap (λ w. w ++ rest) (ap (λ w. (lane.flight ++ mark ∷ []) ++ w) none ∙ append-nil (lane.flight ++ mark ∷ []))
+    ∙ append_assoc lane.flight (mark ∷ []) rest
+    ∙ ap (λ w. lane.flight ++ w) (sym front)
+    ∙ ap (λ w. w ++ lane.todo) (sym (ap (λ w. lane.flight ++ w) none ∙ append-nil lane.flight)))
+    h.none_lost h
+
+-- on a lost link the write is lost behind the others
+pub post_keeps_lost : (lost : List Mark) (lost_back : List ℕ) (lane : Lane) (mark : Mark) (rest : List Mark) → lane.todo ≡ mark ∷ rest → lane.up ≡ false
+    → RingLaw lost lost_back lane → RingLaw (lost ++ mark ∷ []) lost_back (after_post lane mark rest)
+post_keeps_lost lost lost_back lane mark rest front down h =
+    let now : (if lane.up then lane.flight ++ mark ∷ [] else lane.flight) ≡ lane.flight = cond-false lane.up _ _ down in
+    posted lost (lost ++ mark ∷ []) lost_back lane mark rest front
+    (ap (λ w. (w ++ (lost ++ mark ∷ [])) ++ rest) now
+    ∙ ap (λ w. w ++ rest) (sym (append_assoc lane.flight lost (mark ∷ [])))
+    ∙ append_assoc (lane.flight ++ lost) (mark ∷ []) rest
+    ∙ ap (λ w. (lane.flight ++ lost) ++ w) (sym front))
+    (λ up. absurd (true≢false (sym up ∙ down))) h

@@ -1,0 +1,5 @@
+use Rattle.lane_model.proofs.Holds.{copy_keeps}
+use Rattle.lane_model.proofs.laws.copy_keeps.Goals as goal
+
+pub returns : goal.returns
+returns c = copy_keeps
