@@ -1,26 +1,14 @@
 -- What contracts see of a lane, and what its fields keep beside that.
-use Rattle.std.specs.Prelude.{◌≡◌, ℕ, ◌+◌, ◌*◌, ◌^◌, ◌<◌, ◌≤◌, List, length, map, take, vec_len, vec_capacity, All}
-use Rattle.step_kinds.specs.declared.frame.Frame.{Frame}
-use Rattle.lane_model.specs.Lane as model
-use Rattle.lane_model.specs.Lane.{Place, Lane, bytes_of, entry_of, chunk_size}
+use Rattle.std.specs.Prelude.{◌≡◌, ℕ, ◌*◌, ◌^◌, ◌≤◌, List, length, map, take, vec_capacity, All}
+use Rattle.lane_model.specs.Lane.{Lane, bytes_of, entry_of, chunk_size}
 use Rattle.lane_model.specs.Law.{HoldsRingLaw}
-use Rattle.lane_model.specs.declared.Mark.{Mark}
 use Rattle.lane_model.specs.declared.Phase.{Phase}
-use Rattle.lane_model.specs.declared.Phase.TheVariants.{Idle, Copying, Copied, Cleared}
+use Rattle.lane_model.specs.declared.Phase.TheVariants.{Idle, Copying}
 use Rattle.lane_core.specs.Calls.{LaneValue}
-use Rattle.lane_core.specs.declared.entry.Entry.{Entry}
-use Rattle.lane_core.specs.declared.entry.Entry.TheVariants.{Carries, LinkDown}
-use Rattle.lane_core.specs.declared.place.Place as code
+use Rattle.lane_core.specs.Parts.{entry_seen, place_seen}
 use Rattle.lane_core.specs.declared.write.Write.{Write}
 use Rattle.lane_core.specs.declared.write.IndexWrite.{IndexWrite}
 use Rattle.lane_core.specs.declared.lane.Lane.TheInside.{Inside}
-
-abbrev pub entry_seen : Entry → model.Entry
-entry_seen (Carries frame) = model.Carries frame
-entry_seen LinkDown = model.LinkDown
-
-abbrev pub place_seen : code.Place → Place
-place_seen place = record { payload = place.payload.items; len = place.len; ver = place.ver; flags = place.flags }
 
 abbrev pub lane_seen : Inside → Lane
 lane_seen l =
@@ -51,12 +39,10 @@ abbrev pub index_room : Phase → ℕ
 index_room Idle = 0
 index_room phase = 1
 
--- the parts of the entry that were copied so far stand in the buffer, which has room for the whole entry
-abbrev pub Buffers : Phase → Inside → Type 0
-Buffers Copying l =
-    let bytes = bytes_of (entry_of (lane_seen l) l.got) in
-    (l.copied.items ≡ take (chunk_size * l.part) bytes) × (chunk_size * l.part < length bytes) × (length bytes ≤ vec_capacity l.copied)
-Buffers phase l = Unit {0}
+-- while an entry is copied, the parts copied so far stand in the buffer, which has room for the whole entry
+pub record Buffers (phase : Phase) (part : ℕ) (bytes copied : List ℕ) (capacity : ℕ) : Type 0 where
+  pub items : phase ≡ Copying → copied ≡ take (chunk_size * part) bytes
+  pub room : phase ≡ Copying → length bytes ≤ capacity
 
 pub record IsKept (l : Inside) : Type 0 where
   pub law : HoldsRingLaw (lane_seen l)
@@ -65,4 +51,4 @@ pub record IsKept (l : Inside) : Type 0 where
   pub orders : All (λ (write : Write). write.strict ≡ l.strict) l.flight.writes
   pub room : length l.todo.items ≤ l.flight.spare
   pub index_room : index_room l.phase ≤ l.returning.spare
-  pub buffers : Buffers l.phase l
+  pub buffers : Buffers l.phase l.part (bytes_of (entry_of (lane_seen l) l.got)) l.copied.items (vec_capacity l.copied)

@@ -1,5 +1,8 @@
 //! Entries of a lane.
 
+ghost use Rattle.std.specs.Prelude.{◌≡◌, ◌≤◌, length};
+ghost use Rattle.lane_model.specs.Lane.{bytes_of, chunks_in, flags_of};
+
 use crate::place::{CHUNK, DONE, LINK_DOWN};
 use step_kinds::Frame;
 
@@ -11,8 +14,13 @@ pub enum Entry {
 }
 
 impl Entry {
+    ghost use Rattle.lane_core.specs.Parts.{entry_seen};
+
     /// The bytes that it carries.
-    pub fn bytes(&self) -> &[u8] {
+    pub fn bytes(&self) -> &[u8]
+        ensures value { result.now ≡ bytes_of (entry_seen self.now) }
+        ensures fits { length result.now ≤ 65536 }
+    {
         match self {
             Entry::Carries(frame) => frame.bytes(),
             Entry::LinkDown => &[],
@@ -20,7 +28,9 @@ impl Entry {
     }
 
     /// The flags of its header.
-    pub fn flags(&self) -> u32 {
+    pub fn flags(&self) -> u32
+        ensures { result ≡ flags_of (entry_seen self.now) }
+    {
         match self {
             Entry::Carries(_) => DONE,
             Entry::LinkDown => DONE | LINK_DOWN,
@@ -28,7 +38,10 @@ impl Entry {
     }
 
     /// How many chunks its bytes are.
-    pub fn chunks(&self) -> u32 {
+    pub fn chunks(&self) -> u32
+        ensures value { result ≡ chunks_in (length (bytes_of (entry_seen self.now))) }
+        ensures few { result ≤ 512 }
+    {
         self.bytes().len().div_ceil(CHUNK) as u32
     }
 }

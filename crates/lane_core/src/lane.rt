@@ -2,15 +2,17 @@
 
 ghost use Rattle.std.specs.Prelude.{◌≡◌, ◌<◌, ◌≤◌, ◌^◌, length, false, IfOk, OnErr};
 ghost use Rattle.lane_model.specs.Kept.{IsOpen};
-ghost use Rattle.lane_model.specs.Lane.{Carries, LinkDown};
+ghost use Rattle.lane_model.specs.Lane.{Carries, LinkDown, bytes_of};
 ghost use Rattle.lane_model.specs.Law.{HoldsRingLaw};
 ghost use Rattle.lane_model.specs.Steps.{after_cut, after_drop};
+ghost use Rattle.lane_core.specs.Parts.{entry_seen};
 
 use crate::answers::{Begun, LaneCopy, LaneLand, LaneLook};
 use crate::entry::Entry;
-use crate::place::{CHUNK, DONE, LINK_DOWN, Place};
-use crate::write::{IndexWrite, Write};
-use lane_model::{Field, Mark, Phase};
+use crate::place::{Place, Shown};
+use crate::ring::{copy_chunk, free_between, label, position_of, store, zeroed_ring};
+use crate::write::{IndexWrite, Write, fill_todo, landed_flags, post};
+use lane_model::{Mark, Phase};
 use posted_queue::{LandAnswer, Queue};
 use std::alloc::{AllocError, Global};
 use std::collections::VecDeque;
@@ -74,10 +76,7 @@ impl Lane {
         ensures fresh { IfOk result (λ lane. lane ≡ fresh_value queue strict entries max) }
         ensures law { IfOk result (λ lane. HoldsRingLaw lane.lane) }
     {
-        let mut ring = Vec::with_capacity(alloc, entries as usize)?;
-        for _ in 0..entries {
-            ring.push(Place::zeroed(alloc, max)?)?;
-        }
+        let ring = zeroed_ring(alloc, entries, max)?;
         Ok(Lane {
             alloc,
             queue,
@@ -136,35 +135,34 @@ impl Lane {
         self.begin_entry(Entry::LinkDown)
     }
 
-    // Begins an entry that fits the ring, after the tests that don't depend on it.
-    fn begin_entry(&mut self, entry: Entry) -> Result<Begun, AllocError> {
+    // Begins an entry that fits the ring, after the test that speaks of frames alone.
+    fn begin_entry(&mut self, entry: Entry) -> Result<Begun, AllocError>
+        requires fits { length (bytes_of (entry_seen entry)) ≤ self.old.lane.largest }
+        requires open { IsOpen self.old.lane }
+        requires few { length self.old.lane.sent < 2 ^ 46 }
+        ensures answer { IfOk result (λ begun. begun ≡ down_answer self.old.lane) }
+        ensures after { IfOk result (λ begun. self.new ≡ with_lane self.old (after_beginning self.old.lane (entry_seen entry) begun)) }
+        ensures err { OnErr result (self.new ≡ self.old) }
+        ensures law { HoldsRingLaw self.new.lane }
+    {
         if !self.todo.is_empty() {
             return Ok(Begun::Busy);
         }
         let number = self.sent.len() as u64;
-        let head = (number % u64::from(self.entries)) as u32;
-        if self.free(head) == 0 {
+        let head = position_of(self.entries, number);
+        if free_between(self.entries, head, self.index_word) == 0 {
             return Ok(Begun::NoRoom {
                 head,
                 tail: self.index_word,
             });
         }
-        let chunks = entry.chunks();
+        let writes = entry.chunks() as usize + 4;
         self.sent.reserve(1)?;
-        self.todo.reserve(chunks as usize + 4)?;
-        self.flight.promise(chunks as usize + 4)?;
-        fill_todo(&mut self.todo, number, chunks);
+        self.todo.reserve(writes)?;
+        self.flight.promise(writes)?;
+        fill_todo(&mut self.todo, number, &entry);
         self.sent.push_reserved(entry);
         Ok(Begun::Ok { number })
-    }
-
-    // The free entries, by the head and the index word.
-    fn free(&self, head: u32) -> u32 {
-        if head <= self.index_word {
-            self.index_word - head
-        } else {
-            self.entries + self.index_word - head
-        }
     }
 
     /// Posts the next write of the entry that was begun last. `None` exactly where no write is left. Once the link was cut the
@@ -175,43 +173,9 @@ impl Lane {
         ensures law { HoldsRingLaw self.new.lane }
     {
         let mark = self.todo.pop_front()?;
-        if self.up {
-            self.flight.push(Write {
-                mark,
-                strict: self.strict,
-            });
-        } else {
-            self.flight.give_back(1);
-        }
-        Some(self.label_of(mark))
-    }
-
-    // The label of a write of the lane.
-    fn label_of(&self, mark: Mark) -> Label {
-        let queue = self.queue;
-        match mark {
-            Mark::Cell {
-                number,
-                field: Field::Chunk { part },
-            } => Label::Chunk {
-                queue,
-                number,
-                part,
-            },
-            Mark::Cell {
-                number,
-                field: Field::Length,
-            } => Label::Len { queue, number },
-            Mark::Cell {
-                number,
-                field: Field::Version,
-            } => Label::Ver { queue, number },
-            Mark::Flag { number } => match &self.sent[number as usize] {
-                Entry::Carries(_) => Label::Flag { queue, number },
-                Entry::LinkDown => Label::Down { queue, number },
-            },
-            Mark::Bell => Label::Bell { queue },
-        }
+        let strict = self.strict;
+        post(&mut self.flight, self.up, Write { mark, strict });
+        Some(label(self.queue, &self.sent, mark))
     }
 
     /// Lands the write at a place of those in flight towards the receiver, counted from 0 for the one that was posted first:
@@ -224,33 +188,11 @@ impl Lane {
         match self.flight.land(place) {
             LandAnswer::Nothing => LaneLand::Nothing,
             LandAnswer::Blocked => LaneLand::Blocked,
-            LandAnswer::Landed(write) => {
-                self.store(write.mark);
-                LaneLand::Landed(self.label_of(write.mark))
+            LandAnswer::Landed(Write { mark, .. }) => {
+                store(&mut self.ring, self.entries, &self.sent, mark);
+                self.flagged += landed_flags(mark);
+                LaneLand::Landed(label(self.queue, &self.sent, mark))
             }
-        }
-    }
-
-    // Stores what a write writes into the ring.
-    fn store(&mut self, mark: Mark) {
-        match mark {
-            Mark::Cell { number, field } => {
-                let entry = &self.sent[number as usize];
-                let position = (number % u64::from(self.entries)) as usize;
-                let place = &mut self.ring[position];
-                match field {
-                    Field::Chunk { part } => place.put_chunk(part, entry.bytes()),
-                    Field::Length => place.len = entry.bytes().len() as u32,
-                    Field::Version => place.ver = (number % (1 << 32)) as u32,
-                }
-            }
-            Mark::Flag { number } => {
-                let flags = self.sent[number as usize].flags();
-                let position = (number % u64::from(self.entries)) as usize;
-                self.ring[position].flags = flags;
-                self.flagged += 1;
-            }
-            Mark::Bell => {}
         }
     }
 
@@ -265,7 +207,7 @@ impl Lane {
             LandAnswer::Nothing => LaneLand::Nothing,
             LandAnswer::Blocked => LaneLand::Blocked,
             LandAnswer::Landed(IndexWrite { number }) => {
-                self.index_word = (number % u64::from(self.entries)) as u32;
+                self.index_word = position_of(self.entries, number);
                 self.freed = number + 1;
                 LaneLand::Landed(Label::Index {
                     queue: self.queue,
@@ -285,27 +227,24 @@ impl Lane {
         ensures err { OnErr result (self.new ≡ self.old) }
         ensures law { HoldsRingLaw self.new.lane }
     {
-        if self.phase != Phase::Idle {
+        let Phase::Idle = self.phase else {
             return Ok(LaneLook::OutOfTurn);
+        };
+        let number = self.got;
+        let place = &self.ring[position_of(self.entries, number) as usize];
+        match place.shows() {
+            Shown::Nothing => Ok(LaneLook::Empty),
+            Shown::LinkDown => Ok(LaneLook::PeerDown),
+            Shown::Frame => {
+                let len = place.len;
+                let buffer = Vec::with_capacity(self.alloc, len as usize)?;
+                self.returning.promise(1)?;
+                self.copied = buffer;
+                self.phase = Phase::Copying;
+                self.part = 0;
+                Ok(LaneLook::Ready { number, len })
+            }
         }
-        let position = (self.got % u64::from(self.entries)) as usize;
-        let place = &self.ring[position];
-        if place.flags & DONE == 0 {
-            return Ok(LaneLook::Empty);
-        }
-        if place.flags & LINK_DOWN != 0 {
-            return Ok(LaneLook::PeerDown);
-        }
-        let len = place.len;
-        let buffer = Vec::with_capacity(self.alloc, len as usize)?;
-        self.returning.promise(1)?;
-        self.copied = buffer;
-        self.phase = Phase::Copying;
-        self.part = 0;
-        Ok(LaneLook::Ready {
-            number: self.got,
-            len,
-        })
     }
 
     /// Copies the next 128 bytes of the frame that was found, the last part shorter. The last copy answers the whole frame.
@@ -315,21 +254,16 @@ impl Lane {
         ensures after { self.new ≡ with_lane self.old (after_copying self.old.lane) }
         ensures law { HoldsRingLaw self.new.lane }
     {
-        if self.phase != Phase::Copying {
+        let Phase::Copying = self.phase else {
             return LaneCopy::OutOfTurn;
-        }
+        };
         let number = self.got;
         let part = self.part;
-        let position = (number % u64::from(self.entries)) as usize;
-        let place = &self.ring[position];
-        let at = part as usize * CHUNK;
-        let len = place.len as usize;
-        if at + CHUNK < len {
-            extend_reserved(&mut self.copied, &place.payload[at..at + CHUNK]);
+        let place = &self.ring[position_of(self.entries, number) as usize];
+        if copy_chunk(&mut self.copied, place, part) {
             self.part += 1;
             return LaneCopy::Part { number, part };
         }
-        extend_reserved(&mut self.copied, &place.payload[at..len]);
         let bytes = mem::replace(&mut self.copied, Vec::new(self.alloc));
         self.got += 1;
         self.phase = Phase::Copied;
@@ -346,12 +280,11 @@ impl Lane {
         ensures after { self.new ≡ with_lane self.old (after_clearing self.old.lane) }
         ensures law { HoldsRingLaw self.new.lane }
     {
-        if self.phase != Phase::Copied {
+        let Phase::Copied = self.phase else {
             return None;
-        }
+        };
         let number = self.cleared;
-        let position = (number % u64::from(self.entries)) as usize;
-        self.ring[position].flags = 0;
+        self.ring[position_of(self.entries, number) as usize].flags = 0;
         self.cleared += 1;
         self.phase = Phase::Cleared;
         Some(number)
@@ -364,15 +297,11 @@ impl Lane {
         ensures after { self.new ≡ with_lane self.old (after_acking self.old.lane) }
         ensures law { HoldsRingLaw self.new.lane }
     {
-        if self.phase != Phase::Cleared {
+        let Phase::Cleared = self.phase else {
             return None;
-        }
+        };
         let number = self.acked;
-        if self.up {
-            self.returning.push(IndexWrite { number });
-        } else {
-            self.returning.give_back(1);
-        }
+        post(&mut self.returning, self.up, IndexWrite { number });
         self.acked += 1;
         self.phase = Phase::Idle;
         Some(number)
@@ -394,32 +323,5 @@ impl Lane {
     {
         self.flight.discard();
         self.returning.discard();
-    }
-}
-
-// The writes of entry `number`, with so many chunks, behind those that are left to post, in room that was reserved.
-fn fill_todo(todo: &mut VecDeque<Mark>, number: u64, chunks: u32) {
-    for part in 0..chunks {
-        todo.push_back_reserved(Mark::Cell {
-            number,
-            field: Field::Chunk { part },
-        });
-    }
-    todo.push_back_reserved(Mark::Cell {
-        number,
-        field: Field::Length,
-    });
-    todo.push_back_reserved(Mark::Cell {
-        number,
-        field: Field::Version,
-    });
-    todo.push_back_reserved(Mark::Flag { number });
-    todo.push_back_reserved(Mark::Bell);
-}
-
-// Adds bytes to a vector that has room for them.
-fn extend_reserved(out: &mut Vec<u8>, bytes: &[u8]) {
-    for byte in bytes {
-        out.push_reserved(*byte);
     }
 }

@@ -13,6 +13,7 @@ mod answers;
 mod entry;
 mod lane;
 mod place;
+mod ring;
 mod write;
 
 pub use answers::{Begun, LaneCopy, LaneLand, LaneLook};

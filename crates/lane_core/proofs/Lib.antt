@@ -1,0 +1,5 @@
+pub mod Bytes
+pub mod Landing
+pub mod Parts
+pub mod Storing
+pub mod Writes
