@@ -2,8 +2,8 @@
 use Rattle.std.proofs.Common.{◌≡◌, ℕ, ◌%◌, ◌<◌, List, length, map, get_or, set, sym, ap, ◌∙◌, arith}
 use Rattle.std.proofs.lemmas.List.{get_or-map, length-map, map-set}
 use Rattle.lane_model.specs.Lane as model
-use Rattle.lane_model.specs.Lane.{blank}
-use Rattle.lane_core.specs.Parts.{entry_in, entry_seen, place_in, place_seen}
+use Rattle.lane_model.specs.Lane.{blank, ring_with, place_of, with_flags}
+use Rattle.lane_core.specs.Parts.{entry_in, entry_seen, place_in, place_seen, with_flags_at}
 use Rattle.lane_core.specs.declared.entry.Entry.{Entry}
 use Rattle.lane_core.specs.declared.place.Place.{Place}
 
@@ -26,3 +26,7 @@ place_stored ring n position new default change at within changed =
     map-set place_seen ring position new
     ∙ ap (λ place. set (map place_seen ring) position place) (changed ∙ ap change (sym (place_read ring n position default at within)))
     ∙ ap (λ k. set (map place_seen ring) k (change (place_in (map place_seen ring) n))) (at ∙ ap (λ count. n % count) (sym (length-map ring place_seen)))
+
+-- flags put at a position of a lane's ring
+pub with_flags_at-is : (lane : model.Lane) (n flags : ℕ) → length lane.ring ≡ lane.entries → with_flags_at lane.ring n flags ≡ ring_with lane n (with_flags (place_of lane n) flags)
+with_flags_at-is lane n flags positions = ap (λ count. set lane.ring (n % count) (with_flags (get_or lane.ring (n % count) blank) flags)) positions

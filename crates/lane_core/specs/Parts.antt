@@ -30,6 +30,10 @@ entry_in sent n = slice_index_or sent n model.LinkDown
 abbrev pub place_in : List model.Place → ℕ → model.Place
 place_in ring n = slice_index_or ring (n % length ring) blank
 
+-- the ring with other flags at the position of entry n
+abbrev pub with_flags_at : List model.Place → ℕ → ℕ → List model.Place
+with_flags_at ring n flags = slice_set ring (n % length ring) (with_flags (place_in ring n) flags)
+
 -- a write finds its place and its entry
 abbrev pub CanStore : List model.Place → List model.Entry → Mark → Type 0
 CanStore ring sent (Cell n field) =
@@ -40,7 +44,7 @@ CanStore ring sent Bell = Unit {0}
 -- the ring after a write has landed in it
 abbrev pub ring_after : List model.Place → List model.Entry → Mark → List model.Place
 ring_after ring sent (Cell n field) = slice_set ring (n % length ring) (with_field (place_in ring n) n (entry_in sent n) field)
-ring_after ring sent (Flag n) = slice_set ring (n % length ring) (with_flags (place_in ring n) (flags_of (entry_in sent n)))
+ring_after ring sent (Flag n) = with_flags_at ring n (flags_of (entry_in sent n))
 ring_after ring sent Bell = ring
 
 -- how many entries have their flags landed by a write

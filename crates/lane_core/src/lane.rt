@@ -10,7 +10,7 @@ ghost use Rattle.lane_core.specs.Parts.{entry_seen};
 use crate::answers::{Begun, LaneCopy, LaneLand, LaneLook};
 use crate::entry::Entry;
 use crate::place::{Place, Shown};
-use crate::ring::{copy_chunk, free_between, label, position_of, store, zeroed_ring};
+use crate::ring::{copy_chunk, free_between, label, position_of, put_flags, store, zeroed_ring};
 use crate::write::{IndexWrite, Write, fill_todo, landed_flags, post};
 use lane_model::{Mark, Phase};
 use posted_queue::{LandAnswer, Queue};
@@ -284,7 +284,7 @@ impl Lane {
             return None;
         };
         let number = self.cleared;
-        self.ring[position_of(self.entries, number) as usize].flags = 0;
+        put_flags(&mut self.ring, self.entries, number, 0);
         self.cleared += 1;
         self.phase = Phase::Cleared;
         Some(number)

@@ -7,7 +7,7 @@ ghost use Rattle.lane_model.specs.Ring.{free_entries};
 ghost use Rattle.ledger_model.specs.Labels.{label_of};
 ghost use Rattle.lane_core.specs.Calls.{number_of};
 ghost use Rattle.lane_core.specs.Fresh.{zero_place};
-ghost use Rattle.lane_core.specs.Parts.{entry_in, entry_seen, place_seen, CanStore, IsKnown, ring_after};
+ghost use Rattle.lane_core.specs.Parts.{entry_in, entry_seen, place_seen, CanStore, IsKnown, ring_after, with_flags_at};
 
 use crate::entry::Entry;
 use crate::place::{CHUNK, Place};
@@ -59,11 +59,21 @@ pub fn store(ring: &mut [Place], entries: u32, sent: &[Entry], mark: Mark)
             place.put(number, &sent[number as usize], field);
         }
         Mark::Flag { number } => {
-            let place = &mut ring[position_of(entries, number) as usize];
-            place.flags = sent[number as usize].flags();
+            let flags = sent[number as usize].flags();
+            put_flags(ring, entries, number, flags);
         }
         Mark::Bell => {}
     }
+}
+
+/// Puts these flags into the place of the entry of this number.
+pub fn put_flags(ring: &mut [Place], entries: u32, number: u64, flags: u32)
+    requires some { 0 < entries }
+    requires ring { length ring.old ≡ entries }
+    ensures { map place_seen ring.new ≡ with_flags_at (map place_seen ring.old) number flags }
+{
+    let place = &mut ring[position_of(entries, number) as usize];
+    place.flags = flags;
 }
 
 /// Copies chunk `part` of the frame that stands in a place behind what was copied before, in room that was reserved, and answers

@@ -1,7 +1,7 @@
 use Rattle.std.proofs.Common.{◌%◌, length, map, get_or, sym, ap, ◌∙◌, arith, refl}
-use Rattle.lane_model.specs.Lane.{with_field, with_flags, flags_of}
+use Rattle.lane_model.specs.Lane.{with_field, flags_of}
 use Rattle.lane_model.specs.declared.Mark.TheVariants.{Cell, Flag}
-use Rattle.lane_core.specs.Parts.{CanStore, entry_in, entry_seen, place_seen}
+use Rattle.lane_core.specs.Parts.{CanStore, entry_in, entry_seen, place_seen, with_flags_at}
 use Rattle.lane_core.proofs.Storing.{entry_read, place_stored}
 use Rattle.lane_core.specs.declared.place.Place.{Place}
 use Rattle.lane_core.proofs.ring.store.Goals as goal
@@ -24,9 +24,4 @@ returns-in-Flag c =
     let n = c.in-Flag.number in
     let can : CanStore (map place_seen c.args.ring.now) sent (Flag n) = rw c.in-Flag.is at c.requires.can in
     let entry = entry_read c.args.sent.now n c.index-sent-number-in-Flag.result can.1 c.index-sent-number-in-Flag.is in
-    let old : Place = get_or c.args.ring.now c.position_of-in-Flag.result c.index-ring-position_of-in-Flag.result in
-    let new : Place = record old { flags = c.flags-place.result } in
-    rw c.in-Flag.is
-    (place_stored c.args.ring.now n c.position_of-in-Flag.result new c.index-ring-position_of-in-Flag.result (λ place. with_flags place (flags_of (entry_in sent n)))
-    (c.position_of-in-Flag.ensures.value ∙ ap (λ count. n % count) (sym c.requires.ring)) (omega arith)
-    (ap (λ flags. with_flags (place_seen old) flags) (c.flags-place.ensures ∙ ap flags_of (sym entry))))
+    rw c.in-Flag.is (c.put_flags.ensures ∙ ap (with_flags_at (map place_seen c.args.ring.now) n) (c.flags-flags.ensures ∙ ap flags_of (sym entry)))

@@ -1,0 +1,3 @@
+use Rattle.lane_core.proofs.Landing.{lands}
+use Rattle.lane_core.proofs.lane.Lane.land.Goals as goal
+
