@@ -1,11 +1,12 @@
 -- Landing: what the queue of writes in flight answers is what the model's lane answers, and the ring law holds after it.
-use Rattle.std.proofs.Common.{◌≡◌, ℕ, suc, ◌+◌, ◌*◌, ◌%◌, ◌<◌, ◌≤◌, ◌⊎◌, Bool, true, false, List, [], ◌∷◌, ◌++◌, Option, Some, None, length, map, take, drop, get_or, set, slice_get, refl, sym, ap, ◌∙◌, subst, inl, inr, arith, mod-lt, All, Contains}
+use Rattle.std.proofs.Common.{◌≡◌, ℕ, zero, suc, ◌+◌, ◌*◌, ◌%◌, ◌<◌, ◌≤◌, ◌⊎◌, Bool, true, false, List, [], ◌∷◌, ◌++◌, Option, Some, None, length, map, take, drop, get_or, set, slice_get, option_map, refl, sym, ap, ◌∙◌, subst, inl, inr, arith, mod-lt, All, Contains}
 use Rattle.std.specs.List.{remove}
-use Rattle.std.proofs.lemmas.Bool.{cond-true, cond-false, eqb-true, or_cases}
-use Rattle.std.proofs.lemmas.List.Elements.{All-head, All-tail}
-use Rattle.std.proofs.lemmas.Option.{none-some, same_Some, slice_get_within, get_or_from_slice_get}
+use Rattle.std.proofs.lemmas.Bool.{cases_lt, cond-true, cond-false, eqb-true, or_cases}
+use Rattle.std.proofs.lemmas.List.{length-map}
+use Rattle.std.proofs.lemmas.List.Elements.{All-head, All-same, All-tail}
+use Rattle.std.proofs.lemmas.Option.{none-some, same_Some, slice_get-map, slice_get_within, get_or_from_slice_get}
 use Rattle.lane_model.specs.Order.{relaxed, strict, may_land}
-use Rattle.lane_model.specs.Lane.{Lane, blank, bytes_of, cells_of, chunk_size, chunks_in, entry_of, flags_of, with_field, with_flags}
+use Rattle.lane_model.specs.Lane.{Lane, Place, blank, bytes_of, cells_of, chunk_size, chunks_in, entry_of, flags_of, with_field, with_flags}
 use Rattle.lane_model.specs.Law.{HoldsRingLaw}
 use Rattle.lane_model.specs.Steps.{after_landing, after_index}
 use Rattle.lane_model.specs.declared.Field.{Field}
@@ -14,14 +15,18 @@ use Rattle.lane_model.specs.declared.Mark.{Mark}
 use Rattle.lane_model.specs.declared.Mark.TheVariants.{Cell, Flag, Bell}
 use Rattle.lane_model.proofs.Chunks.{field_among}
 use Rattle.lane_model.proofs.Holds.{land_cell_keeps, land_flag_keeps, land_bell_keeps, cell_is_ahead, flag_is_next, index_is_next, index_keeps}
-use Rattle.posted_queue.specs.Landing.{answer_for}
+use Rattle.posted_queue.specs.Flight.{Flight}
+use Rattle.posted_queue.specs.Landing.{answer_for, land_answer as queue_answer, after_landing as queue_after}
 use Rattle.posted_queue.specs.declared.LandAnswer.TheVariants.{Landed as QueueLanded, Blocked as QueueBlocked, Nothing as QueueNothing}
-use Rattle.posted_queue.proofs.LandingLemmas.{may_land-map}
+use Rattle.posted_queue.proofs.LandingLemmas.{may_land-map, may_land-past}
 use Rattle.posted_queue.proofs.LawLemmas.{split-at_place}
 use Rattle.lane_core.specs.Calls.{LaneValue, order_of_mark, may_land_in, land_answer, land_found, after_land, after_found, label_in}
 use Rattle.lane_core.specs.Parts.{BeginsWithin, CanStore, IsKnown, flags_landed, ring_after}
+use Rattle.lane_core.specs.Seen.{IsKept, lane_seen, value_seen}
 use Rattle.lane_core.specs.declared.answers.LaneLand.TheVariants.{Landed, Blocked, Nothing}
+use Rattle.lane_core.specs.declared.lane.Lane.TheInside.{Inside}
 use Rattle.lane_core.specs.declared.write.Write.{Write}
+use Rattle.lane_core.proofs.Parts.{All-remove, map-remove}
 
 -- What the queue answers
 
@@ -84,7 +89,7 @@ bell_is_strict : (is_strict : Bool) → order_of_mark is_strict Bell ≡ relaxed
 bell_is_strict true e = omega (arith, e)
 bell_is_strict false e = omega (arith, e)
 
-first_apart : {X : Type 0} (xs : List X) (x : X) → slice_get xs 0 ≡ Some x → xs ≡ x ∷ remove xs 0
+pub first_apart : {X : Type 0} (xs : List X) (x : X) → slice_get xs 0 ≡ Some x → xs ≡ x ∷ remove xs 0
 first_apart [] x found = absurd (none-some x found)
 first_apart (y ∷ ys) x found = ap (λ z. z ∷ ys) (same_Some y x found)
 
@@ -177,3 +182,70 @@ landed_is lane rest Bell positions = ap (λ count. record lane { flight = rest; 
   where
     none_left : (count : ℕ) → count ≡ count + 0
     none_left count = omega arith
+
+-- a lane whose writes in flight, ring and count are those after a landing
+pub landed_lane : (lane : Lane) (flight rest : List Mark) (ring : List Place) (flagged : ℕ) (mark : Mark) → length lane.ring ≡ lane.entries → flight ≡ rest
+    → ring ≡ ring_after lane.ring lane.sent mark → flagged ≡ lane.flagged + flags_landed mark → record lane { flight = flight; ring = ring; flagged = flagged } ≡ after_landing lane mark rest
+landed_lane lane flight rest ring flagged mark positions same_flight same_ring same_count =
+    ap (λ (marks : List Mark). record lane { flight = marks; ring = ring; flagged = flagged }) same_flight
+    ∙ ap (λ (places : List Place). record lane { flight = rest; ring = places; flagged = flagged }) same_ring
+    ∙ ap (λ (count : ℕ). record lane { flight = rest; ring = ring_after lane.ring lane.sent mark; flagged = count }) same_count
+    ∙ sym (landed_is lane rest mark positions)
+
+pub answer_nothing : (value : LaneValue) (place : ℕ) → slice_get value.lane.flight place ≡ None → land_answer value place ≡ Nothing
+answer_nothing value place found = ap (land_found value place) found
+
+pub after_nothing : (value : LaneValue) (place : ℕ) → slice_get value.lane.flight place ≡ None → after_land value place ≡ value.lane
+after_nothing value place found = ap (after_found value place) found
+
+-- no write lands from past the end
+pub past_the_end : {W : Type 0} (order : W → ℕ) (writes : List W) (place : ℕ) → slice_get writes place ≡ None → may_land (map order writes) place ≡ false
+past_the_end order writes place found =
+    let count = length-map writes order in
+    elim (cases_lt place (length writes)) [
+      | inl within ↦ absurd (within_some writes place within found)
+      | inr past ↦ may_land-past (map order writes) place (omega arith)
+    ]
+  where
+    within_some : {X : Type 0} (xs : List X) (i : ℕ) → i < length xs → slice_get xs i ≡ None → ⊥
+    within_some [] i within none = omega arith
+    within_some (x ∷ xs) zero within none = cc none
+    within_some (x ∷ xs) (suc i) within none = within_some xs i (omega arith) none
+
+-- what is known of a lane where the queue answers that a write landed
+pub record HasLanded (l : Inside) (place : ℕ) (mark : Mark) (flight : Flight Write) : Type 0 where
+  pub found : slice_get (lane_seen l).flight place ≡ Some mark
+  pub may : may_land_in (value_seen l) place ≡ true
+  pub lands : Lands (lane_seen l) place mark
+  pub marks : map (λ (w : Write). w.mark) flight.writes ≡ remove (lane_seen l).flight place
+  pub orders : All (λ (w : Write). w.strict ≡ l.strict) flight.writes
+  pub spare : flight.spare ≡ l.flight.spare
+
+abbrev order_of_write : Write → ℕ
+order_of_write w = order_of_mark w.strict w.mark
+
+pub has_landed : (l : Inside) (place : ℕ) (write : Write) (flight : Flight Write) → QueueLanded write ≡ queue_answer order_of_write l.flight place → flight ≡ queue_after order_of_write l.flight place
+    → IsKept l → HasLanded l place write.mark flight
+has_landed l place write flight answer after kept =
+    let was = was_landed _ _ write answer in
+    let found : slice_get (lane_seen l).flight place ≡ Some write.mark = slice_get-map (λ (w : Write). w.mark) l.flight.writes place ∙ ap (option_map (λ (w : Write). w.mark)) was.0 in
+    let may : may_land_in (value_seen l) place ≡ true = ap (λ kinds. may_land kinds place) (sym (kinds_seen l.strict l.flight.writes kept.orders)) ∙ was.1 in
+    let now = after ∙ cond-true _ _ _ was.1 in
+    let writes : flight.writes ≡ remove l.flight.writes place = ap (λ (f : Flight Write). f.writes) now in
+    record {
+      found = found;
+      may = may;
+      lands = lands (lane_seen l) l.strict place write.mark found may kept.law;
+      marks = ap (map (λ (w : Write). w.mark)) writes ∙ map-remove (λ (w : Write). w.mark) l.flight.writes place;
+      orders = All-same (λ (w : Write). w.strict ≡ l.strict) flight.writes _ writes (All-remove (λ (w : Write). w.strict ≡ l.strict) l.flight.writes place kept.orders);
+      spare = ap (λ (f : Flight Write). f.spare) now;
+    }
+
+-- and where it answers that a write is blocked
+pub is_held_back : (l : Inside) (place : ℕ) → QueueBlocked ≡ queue_answer order_of_write l.flight place → All (λ (w : Write). w.strict ≡ l.strict) l.flight.writes
+    → (land_answer (value_seen l) place ≡ Blocked) × (after_land (value_seen l) place ≡ lane_seen l)
+is_held_back l place answer orders =
+    let was = was_blocked _ _ answer in
+    let found : slice_get (lane_seen l).flight place ≡ Some was.0.mark = slice_get-map (λ (w : Write). w.mark) l.flight.writes place ∙ ap (option_map (λ (w : Write). w.mark)) was.1 in
+    let waits : may_land_in (value_seen l) place ≡ false = ap (λ kinds. may_land kinds place) (sym (kinds_seen l.strict l.flight.writes orders)) ∙ was.2 in
+    (answer_blocked (value_seen l) place was.0.mark found waits, after_blocked (value_seen l) place was.0.mark found waits)
