@@ -1,9 +1,9 @@
 -- Index writes that land: what their queue answers is what the model's lane answers, and the ring law holds after it.
-use Rattle.std.proofs.Common.{◌≡◌, ℕ, inl, inr, ◌<◌, true, false, List, [], ◌∷◌, Some, None, length, map, option_map, slice_get, refl, sym, ap, ◌∙◌, subst, arith}
+use Rattle.std.proofs.Common.{◌≡◌, ℕ, inl, inr, ◌<◌, ◌==◌, true, false, List, [], ◌∷◌, Some, None, length, map, option_map, slice_get, refl, sym, ap, ◌∙◌, subst, arith}
 use Rattle.std.specs.List.{remove}
-use Rattle.std.proofs.lemmas.Bool.{cond-true, cond-false, eqb-true, or_cases}
+use Rattle.std.proofs.lemmas.Bool.{cond-true, cond-false, false≢true, eqb-true, or_cases}
 use Rattle.std.proofs.lemmas.Option.{slice_get-map}
-use Rattle.lane_model.specs.Order.{strict, may_land}
+use Rattle.lane_model.specs.Order.{relaxed, strict, may_land}
 use Rattle.lane_model.specs.Lane.{Lane}
 use Rattle.lane_model.specs.Law.{HoldsRingLaw}
 use Rattle.lane_model.specs.Steps.{after_index}
@@ -34,9 +34,9 @@ kinds_seen (w ∷ writes) = ap (λ kinds. 1 ∷ kinds) (kinds_seen writes)
 
 -- so the first alone may land
 is_first : (numbers : List ℕ) (place n : ℕ) → slice_get numbers place ≡ Some n → may_land (map (λ m. strict) numbers) place ≡ true → place ≡ 0
-is_first numbers place n found may = elim (or_cases _ _ (sym (may_land-map (λ m. strict) numbers place n found) ∙ may)) [
-  | inl e ↦ absurd (cc e)
-  | inr e ↦ eqb-true _ _ e
+is_first numbers place n found may = elim (or_cases (strict == relaxed) (place == 0) (sym (may_land-map (λ m. strict) numbers place n found) ∙ may)) [
+  | inl e ↦ absurd (false≢true e)
+  | inr e ↦ eqb-true place 0 e
 ]
 
 -- what is known of a lane where the queue answers that an index write landed
