@@ -1,4 +1,6 @@
+pub mod Beginning
 pub mod Bytes
+pub mod Copying
 pub mod Landing
 pub mod Looking
 pub mod Parts
