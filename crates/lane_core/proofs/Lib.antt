@@ -5,5 +5,6 @@ pub mod Landing
 pub mod Looking
 pub mod Parts
 pub mod Returning
+pub mod Starting
 pub mod Storing
 pub mod Writes
