@@ -1,12 +1,14 @@
 -- The ledger of a script's one pair, as the lane of the engine shows it: the lane goes from side A to side B on queue 0, in session 1 of a
 -- pair that was declared up.
-use Rattle.std.specs.Prelude.{◌≡◌, ℕ, Bool, true, false, List, [], length, map}
+use Rattle.std.specs.Prelude.{◌≡◌, ℕ, ◌+◌, ◌≤◌, Bool, true, false, List, [], length, map}
 use Rattle.step_kinds.specs.Bits.{has_bit}
 use Rattle.step_kinds.specs.declared.names.Side.{Side}
 use Rattle.step_kinds.specs.declared.names.Side.TheVariants.{A, B}
 use Rattle.step_kinds.specs.declared.plan.PairPlan.{PairPlan}
+use Rattle.step_kinds.specs.declared.steps.Answer.{Answer}
 use Rattle.step_kinds.specs.declared.steps.Label.{Label}
 use Rattle.step_kinds.specs.declared.steps.Label.TheVariants.{Index}
+use Rattle.step_kinds.specs.declared.steps.Step.{Step}
 use Rattle.lane_model.specs.Kept.{IsOpen}
 use Rattle.lane_model.specs.Lane.{Carries, Lane}
 use Rattle.lane_model.specs.Law.{HoldsRingLaw}
@@ -15,6 +17,9 @@ use Rattle.lane_core.specs.Calls.{LaneValue}
 use Rattle.ledger_model.specs.Labels.{label_of}
 use Rattle.ledger_model.specs.Ledger.{LanePart, PairPart, Tally, side_of, lane_of, tally_of, sizes_of}
 use Rattle.ledger_model.specs.Link.{is_up}
+use Rattle.ledger_model.specs.Next.{Bytes, pair_next}
+use Rattle.ntb_top.specs.Script.{side_with}
+use Rattle.ntb_top.specs.declared.engine.Engine.{Engine}
 
 -- the label of a write of a lane that carries frames alone
 abbrev pub frame_label : Mark → Label
@@ -54,3 +59,24 @@ pub record Shows (value : LaneValue) (plan : PairPlan) (now : PairPart) (taken g
   pub given_all : given ≡ value.lane.got
   pub law : HoldsRingLaw value.lane
   pub only_frames : IsOpen value.lane
+
+-- the engine's lane shows the pair, and the engine counts its frames
+abbrev pub EngineShows : Engine → PairPlan → PairPart → Type 0
+EngineShows engine plan now = Shows engine.lane plan now engine.accepted engine.delivered
+
+-- whatever pair the engine shows, the step is answered as the ledger answers it, and then the engine shows the pair after it; at most
+-- one entry more was begun
+pub record IsMade (step : Step) (answer : Answer) (old new : Engine) : Type 0 where
+  pub as_the_ledger : (plan : PairPlan) (bytes : Bytes) (now : PairPart) → EngineShows old plan now →
+      (answer ≡ (pair_next [] plan bytes now step).answer) × EngineShows new plan (pair_next [] plan bytes now step).after
+  pub one_more : length new.lane.lane.sent ≤ length old.lane.lane.sent + 1
+
+-- a pair that a script can declare: sides of one window and one queue, and a link that is up
+pub record IsBuiltPair (plan : PairPlan) : Type 0 where
+  pub side_a : plan.a ≡ side_with plan.a.size
+  pub side_b : plan.b ≡ plan.a
+  pub up : plan.up ≡ true
+  pub least_size : 4096 ≤ plan.a.size
+  pub most_size : plan.a.size ≤ 1048576
+  pub least_mtu : 16 ≤ plan.mtu
+  pub most_mtu : plan.mtu ≤ 65536

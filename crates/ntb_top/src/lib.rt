@@ -5,6 +5,7 @@
 mod engine;
 mod program;
 mod reader;
+mod report;
 mod script;
 mod spelling;
 mod texts;

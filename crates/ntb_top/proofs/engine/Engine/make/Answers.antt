@@ -1,1 +1,0 @@
-use Rattle.ntb_top.proofs.Receiving as receiving
