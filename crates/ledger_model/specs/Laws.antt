@@ -127,6 +127,10 @@ IsOrdinary (Spad pair side i value) = 12 ≤ i
 IsOrdinary (Poke pair side window offset bytes) = ⊥
 IsOrdinary step = Unit {0}
 
+-- the steps on a pair are such; those on other pairs may be any
+abbrev pub IsOrdinaryOn : ℕ → Step → Type 0
+IsOrdinaryOn pair step = subject_of step ≡ pair → IsOrdinary step
+
 -- all numbers of the peer stand in the side's scratchpads, landed in this session, and they agree with the side's own
 pub record Agrees (log : List Answered) (pair : ℕ) (side : Side) (own peer : SidePlan) : Type 0 where
   pub version_landed : landed_pad log pair side version_pad ≡ Some peer.version

@@ -18,7 +18,7 @@ use Rattle.lane_model.specs.Law.{HoldsRingLaw}
 use Rattle.ring_geometry.specs.Geometry.{HasRing}
 use Rattle.ledger_model.specs.Labels.{mark_of, index_of, marks_of, indexes_of}
 use Rattle.ledger_model.specs.Ledger.{LanePart, PairPart, Sizes, side_of, lane_of, link_up, entry_in, layout_of, sizes_of}
-use Rattle.ledger_model.specs.Laws.{IsOrdinary}
+use Rattle.ledger_model.specs.Laws.{IsOrdinaryOn}
 use Rattle.ledger_model.specs.Log.{Answered, Memories, answered, ledger_of, is_on, same_side}
 use Rattle.ledger_model.specs.Next.{Ledger, start, ledger_after, pair_plan}
 
@@ -116,5 +116,5 @@ abbrev pub RingLawHolds : Type 0
 RingLawHolds = (plan : Plan) (memories : Memories) (steps : List Step) (name : LaneName) →
     let pair = pair_plan plan name.pair in
     let now = ledger_of plan memories steps name.pair in
-    AllByRecursion IsOrdinary steps → HasRing (layout_of pair name.from name.queue) → (side_of now name.from).up ≡ true → (side_of now (other_side name.from)).up ≡ true →
+    AllByRecursion (IsOrdinaryOn name.pair) steps → HasRing (layout_of pair name.from name.queue) → (side_of now name.from).up ≡ true → (side_of now (other_side name.from)).up ≡ true →
     HoldsRingLaw (shown_lane (sizes_of pair name.from name.queue) now (ring_of plan memories steps name) name.from name.queue)
