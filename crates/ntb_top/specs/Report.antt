@@ -31,11 +31,15 @@ abbrev pub side_text : Side → List ℕ
 side_text A = codes "A"
 side_text B = codes "B"
 
--- the line of what a lane accepted and delivered in a session, where either isn't nothing
+-- the line of what a lane accepted and delivered in a session
+abbrev pub counts_text : List ℕ → Side → ℕ → ℕ → ℕ → ℕ → List ℕ
+counts_text name from queue session taken given =
+    line_of (with_one (with_one (with_one (with_one (codes "lane " ++ name ++ 32 ∷ side_text from) queue) session ++ codes " accepted") taken ++ codes " delivered") given)
+
+-- that line where either isn't nothing
 abbrev pub counts_line : List ℕ → Side → ℕ → ℕ → ℕ → ℕ → List ℕ
 counts_line name from queue session taken given =
-    if (taken == 0) && (given == 0) then []
-    else line_of (with_one (with_one (with_one (with_one (codes "lane " ++ name ++ 32 ∷ side_text from) queue) session ++ codes " accepted") taken ++ codes " delivered") given)
+    if (taken == 0) && (given == 0) then [] else counts_text name from queue session taken given
 
 abbrev pub lane_line : Plan → List Answered → PairPlan → LaneName → ℕ → List ℕ
 lane_line plan log pair lane session =

@@ -84,3 +84,29 @@ answer_text (Irq bits) = with_one (codes "irq") bits
 answer_text (Mem bytes) = codes "mem " ++ encode_lower bytes
 answer_text (PadValue value) = with_one (codes "pad") value
 answer_text (QueueShown count label) = with_one (codes "queue") count ++ 32 ∷ shown_text label
+
+-- an answer whose text is one word
+abbrev pub IsOneWord : Answer → Type 0
+IsOneWord (OkSession _) = ⊥
+IsOneWord (OkNumber _) = ⊥
+IsOneWord (Offered _) = ⊥
+IsOneWord (Version _ _) = ⊥
+IsOneWord (Queues _ _) = ⊥
+IsOneWord (Windows _ _) = ⊥
+IsOneWord (Size _ _) = ⊥
+IsOneWord (TooLong _ _) = ⊥
+IsOneWord (Again _ _) = ⊥
+IsOneWord (Posted _) = ⊥
+IsOneWord (Landed _) = ⊥
+IsOneWord (VerDiffers _ _) = ⊥
+IsOneWord (Long _ _) = ⊥
+IsOneWord (ReadyFrame _ _) = ⊥
+IsOneWord (Copied _ _) = ⊥
+IsOneWord (Delivered _ _) = ⊥
+IsOneWord (Cleared _) = ⊥
+IsOneWord (Acked _) = ⊥
+IsOneWord (Irq _) = ⊥
+IsOneWord (Mem _) = ⊥
+IsOneWord (PadValue _) = ⊥
+IsOneWord (QueueShown _ _) = ⊥
+IsOneWord _ = Unit {0}
