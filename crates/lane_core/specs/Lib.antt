@@ -1,0 +1,4 @@
+pub mod Calls
+pub mod Fresh
+pub mod Parts
+pub mod Seen

@@ -1,51 +1,23 @@
-//! Stub.
+//! One lane in one session, as a pure state: a sender, a receiver, the posted writes between them, and the ring that they
+//! share.
+//!
+//! The sender begins entries and posts their writes, the bridge lands these in any order that PCI Express allows (Base 4.0,
+//! section 2.4), and the receiver looks for the next entry by its flags, copies it in parts, clears the flags and writes an index
+//! back (`ntb_transport` moves frames in this way). After each call the law of the ring holds, so that what is copied is the entry
+//! that was begun, whole.
+//!
+//! Contracts see a [`Lane`] as the model's lane, with its queue and whether its writes are strict beside it.
 #![tactic(auto)]
 
-ghost use Rattle.std.specs.Prelude.{◌≤◌, ◌<◌, length};
-
 mod answers;
+mod entry;
+mod lane;
+mod place;
+mod ring;
+mod write;
 
 pub use answers::{Begun, LaneCopy, LaneLand, LaneLook};
-use std::alloc::{AllocError, Global};
-use step_kinds::{Frame, Label};
+pub use lane::Lane;
 
-#[derive(Drop)]
-pub struct Lane {
-    queue: u32,
-}
-
-impl Lane {
-    pub fn new(_alloc: Global, queue: u32, entries: u32, max: u32, strict: bool) -> Result<Lane, AllocError>
-        requires two_entries { 2 ≤ entries }
-        requires a_byte { 1 ≤ max }
-        requires fits { max ≤ 65536 }
-    {
-        Ok(Lane { queue })
-    }
-    pub fn begin(&mut self, frame: Frame) -> Result<Begun, AllocError>
-        requires some_bytes { 0 < length frame }
-    {
-        Ok(Begun::Busy)
-    }
-    pub fn post(&mut self) -> Option<Label> {
-        None
-    }
-    pub fn land(&mut self, place: usize) -> LaneLand {
-        LaneLand::Nothing
-    }
-    pub fn land_index(&mut self, place: usize) -> LaneLand {
-        LaneLand::Nothing
-    }
-    pub fn look(&mut self) -> Result<LaneLook, AllocError> {
-        Ok(LaneLook::Empty)
-    }
-    pub fn copy(&mut self) -> LaneCopy {
-        LaneCopy::OutOfTurn
-    }
-    pub fn clear(&mut self) -> Option<u64> {
-        None
-    }
-    pub fn ack(&mut self) -> Option<u64> {
-        None
-    }
-}
+#[cfg(test)]
+mod tests;

@@ -1,4 +1,6 @@
+pub mod Drives
 pub mod Headline
+pub mod Moves
 pub mod Output
 pub mod Report
 pub mod Script

@@ -8,6 +8,7 @@ mod macros;
 mod options;
 mod program;
 mod reader;
+mod report;
 mod script;
 mod spelling;
 mod texts;

@@ -8,13 +8,10 @@ ghost use Rattle.ntb_top.specs.Headline.{IsTrueReplay};
 ghost use Rattle.ntb_top.specs.Output.{AreBytesOf, IsOutput, IsOutputStatus, is_command, most_bytes, replayed};
 ghost use Rattle.ntb_top.specs.Script.{script_of};
 
-use crate::engine::Engine;
 use crate::reader::{ScriptFault, read_script};
-use crate::script::{LineStep, Script};
-use crate::texts::{push_answer_line, push_lane_line};
+use crate::report::report_of;
 use io_edges::{ReadError, Sink, Source, read_all, write_all};
 use std::alloc::{AllocError, Global};
-use step_kinds::PairPlan;
 
 /// The most bytes of a script.
 const MOST_BYTES: usize = 16_777_216;
@@ -143,38 +140,4 @@ fn replay(alloc: Global, bytes: &[u8]) -> Result<Reply, Stop>
     ensures memory { IsErrOf result Stop.ReadFault → ⊥ }
 {
     Err(Stop::OutOfMemory)
-}
-
-// Makes the steps of a script on its pair's lane and adds their lines, and the line of the lane.
-fn push_steps(
-    alloc: Global,
-    text: &mut String,
-    pair: &PairPlan,
-    steps: Vec<LineStep>,
-) -> Result<(), AllocError> {
-    let mut engine = match Engine::new(alloc, pair)? {
-        Some(engine) => engine,
-        None => return Ok(()),
-    };
-    for made in steps {
-        let answer = engine.make(made.step)?;
-        push_answer_line(alloc, text, made.line, &answer)?;
-    }
-    push_lane_line(text, pair.name.bytes(), engine.accepted, engine.delivered)
-}
-
-// The report of a script: each step's answer, the lane's counts, and the end.
-fn report_of(alloc: Global, script: Script) -> Result<String, AllocError> {
-    let Script {
-        part: _,
-        hosts: _,
-        pair,
-        steps,
-    } = script;
-    let mut text = String::new(alloc);
-    if let Some(pair) = &pair {
-        push_steps(alloc, &mut text, pair, steps)?;
-    }
-    text.push_str("end\n")?;
-    Ok(text)
 }

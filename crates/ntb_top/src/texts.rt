@@ -10,7 +10,10 @@ ghost use Rattle.ntb_top.specs.Texts.{answer_text, label_text, IsOneWord};
 use std::alloc::{AllocError, Global};
 use step_kinds::{Answer, Frame, Label};
 
-/// Adds the line of an answer to a step of script line `line`.
+#[cfg(test)]
+mod tests;
+
+/// Adds the line of an answer to a step of script line `line`. The only error is want of memory.
 pub fn push_answer_line(
     alloc: Global,
     text: &mut String,
@@ -24,7 +27,7 @@ pub fn push_answer_line(
     text.push_str("\n")
 }
 
-/// Adds the text of an answer: what is more than a word and numbers here, the rest by its number of numbers.
+/// Adds the text of an answer: a word, and then its numbers, its label or its bytes.
 fn push_answer(alloc: Global, text: &mut String, answer: &Answer) -> Result<(), AllocError>
     ensures { OnOk result (string_bytes text.new ≡ string_bytes text.old ++ answer_text answer.now) }
 {
@@ -158,7 +161,9 @@ fn push_label(text: &mut String, before: &str, label: &Label) -> Result<(), Allo
     }
 }
 
-/// Adds the line of the lane from side A on queue 0 in session 1, where a frame was accepted or delivered.
+/// Adds the line of the lane from side A on queue 0 in session 1 of a pair, with the numbers of frames that it accepted and
+/// delivered; where both are 0 it adds nothing. Each byte of the pair's name stands for the character of that number, so a name
+/// in ASCII is written as it is. The only error is want of memory.
 #[tactic(auto, using(crate::proofs::TextLemmas::encode_utf8_all_ascii))]
 pub fn push_lane_line(
     text: &mut String,

@@ -1,0 +1,10 @@
+pub mod Beginning
+pub mod Bytes
+pub mod Copying
+pub mod Landing
+pub mod Looking
+pub mod Parts
+pub mod Returning
+pub mod Starting
+pub mod Storing
+pub mod Writes

@@ -1,0 +1,63 @@
+use Rattle.std.proofs.Common.{◌≡◌, ℕ, ◌+◌, ◌*◌, ◌<◌, ap, ◌∙◌, sym, subst, arith, length, take, Vec, Global}
+use Rattle.std.proofs.lemmas.Bool.{cond-true}
+use Rattle.std.proofs.lemmas.List.{length-map}
+use Rattle.lane_model.specs.Lane.{chunk_size}
+use Rattle.lane_model.specs.Law.{HoldsRingLaw}
+use Rattle.lane_model.proofs.Holds.{copy_keeps}
+use Rattle.lane_core.specs.Calls.{LaneValue, copy_answer}
+use Rattle.lane_core.specs.Parts.{place_seen}
+use Rattle.lane_core.specs.Seen.{lane_seen}
+use Rattle.lane_core.proofs.Copying.{answer_whole, bytes_at, copies_from, is_whole, more_left}
+use Rattle.lane_core.proofs.Looking.{read_place}
+use Rattle.lane_core.proofs.lane.Lane.copy.Goals as goal
+
+pub invariant_of-self : goal.invariant_of-self
+invariant_of-self c =
+    let kept = c.self.invariant in
+    let old = c.self.inside in
+    let place = c.index-place.result.now in
+    let count = length-map old.ring.items place_seen in
+    let here = read_place old old.got c.position_of.result place c.position_of.ensures.value (omega arith) c.index-place.ensures in
+    let copies = copies_from old place c.copy_chunk.new.copied.items here c.in-Copying.is kept c.copy_chunk.ensures.copied in
+    let more : chunk_size * (old.part + 1) < place.len = c.copy_chunk.ensures.more.0 c.if-copy_chunk.true in
+    let law = copy_keeps (lane_seen old) c.in-Copying.is kept.law in
+    record {
+      law = subst HoldsRingLaw (cond-true _ _ _ (more_left (lane_seen old) (omega (arith, more, copies.len)))) law;
+      few = kept.few;
+      small = kept.small;
+      orders = kept.orders;
+      room = kept.room;
+      index_room = kept.index_room;
+      buffers = record {
+        items = λ e. copies.copied ∙ ap (λ n. take n (bytes_at old)) (next_chunk old.part);
+        room = λ e. rw c.copy_chunk.ensures.capacity (kept.buffers.room e);
+      };
+    }
+  where
+    next_chunk : (part : ℕ) → chunk_size * part + chunk_size ≡ chunk_size * (part + 1)
+    next_chunk part = omega arith
+
+pub returns-then-copy_chunk-clause-law : goal.returns-then-copy_chunk-clause-law
+returns-then-copy_chunk-clause-law c = (invariant_of-self c).law
+
+pub of_vec-requires : goal.of_vec-requires
+of_vec-requires c =
+    let old = c.self.inside in
+    let place = c.index-place.result.now in
+    let count = length-map old.ring.items place_seen in
+    let here = read_place old old.got c.position_of.result place c.position_of.ensures.value (omega arith) c.index-place.ensures in
+    let copies = copies_from old place c.copy_chunk.new.copied.items here c.in-Copying.is c.self.invariant c.copy_chunk.ensures.copied in
+    let bytes = ap (λ (v : Vec ℕ Global). v.items) c.replace-bytes.ensures.value in
+    let whole = is_whole old place c.copy_chunk.new.copied.items c.replace-bytes.result.items c.copy_chunk.result copies bytes c.copy_chunk.ensures.more.1 c.if-copy_chunk.false in
+    omega (arith, whole.small, c.replace-bytes.result.ok.0)
+
+pub returns-clause-answer : goal.returns-clause-answer
+returns-clause-answer c =
+    let old = c.self.inside in
+    let place = c.index-place.result.now in
+    let count = length-map old.ring.items place_seen in
+    let here = read_place old old.got c.position_of.result place c.position_of.ensures.value (omega arith) c.index-place.ensures in
+    let copies = copies_from old place c.copy_chunk.new.copied.items here c.in-Copying.is c.self.invariant c.copy_chunk.ensures.copied in
+    let bytes = c.of_vec.ensures ∙ ap (λ (v : Vec ℕ Global). v.items) c.replace-bytes.ensures.value in
+    let whole = is_whole old place c.copy_chunk.new.copied.items c.of_vec.result c.copy_chunk.result copies bytes c.copy_chunk.ensures.more.1 c.if-copy_chunk.false in
+    answer_whole old c.of_vec.result c.in-Copying.is whole ∙ ap (λ (value : LaneValue). copy_answer value.lane) c.self.view_is

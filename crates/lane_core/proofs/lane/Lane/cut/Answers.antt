@@ -1,0 +1,16 @@
+use Rattle.lane_model.proofs.Holds.{cut_keeps}
+use Rattle.lane_core.specs.Seen.{lane_seen}
+use Rattle.lane_core.proofs.lane.Lane.cut.Goals as goal
+
+pub invariant_of-self : goal.invariant_of-self
+invariant_of-self c =
+    let kept = c.self.invariant in
+    record {
+      law = cut_keeps (lane_seen c.self.inside) kept.law;
+      few = kept.few;
+      small = kept.small;
+      orders = kept.orders;
+      room = kept.room;
+      index_room = kept.index_room;
+      buffers = kept.buffers;
+    }

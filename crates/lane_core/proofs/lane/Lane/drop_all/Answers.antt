@@ -1,0 +1,23 @@
+use Rattle.std.proofs.Common.{ap, ◌∙◌, arith}
+use Rattle.lane_model.proofs.Holds.{drop_keeps}
+use Rattle.lane_core.specs.Calls.{LaneValue}
+use Rattle.lane_core.specs.Seen.{lane_seen}
+use Rattle.lane_core.proofs.lane.Lane.drop_all.Goals as goal
+
+pub invariant_of-self : goal.invariant_of-self
+invariant_of-self c =
+    let kept = c.self.invariant in
+    let law = drop_keeps (lane_seen c.self.inside) (ap (λ (value : LaneValue). value.lane.up) c.self.view_is ∙ c.requires) kept.law in
+    rw (c.discard.ensures, c.discard-2.ensures)
+    (record {
+      law = law;
+      few = kept.few;
+      small = kept.small;
+      orders = λ k d below. absurd (omega arith);
+      room = kept.room;
+      index_room = kept.index_room;
+      buffers = kept.buffers;
+    })
+
+pub returns-clause-law : goal.returns-clause-law
+returns-clause-law c = (invariant_of-self c).law

@@ -1,0 +1,173 @@
+-- What the calls of a lane answer, and the lane after them.
+use Rattle.std.specs.Prelude.{ℕ, ◌+◌, ◌==◌, Bool, true, false, not, Option, Some, None, List, [], ◌∷◌, ◌++◌, length, map, remove, slice_get, if◌then◌else◌, nat_lt}
+use Rattle.step_kinds.specs.declared.steps.Label.{Label}
+use Rattle.step_kinds.specs.declared.steps.Label.TheVariants.{Index}
+use Rattle.lane_model.specs.Lane.{Entry, Carries, LinkDown, Lane, bytes_of, entry_of, free_in}
+use Rattle.lane_model.specs.Order.{relaxed, strict, may_land}
+use Rattle.lane_model.specs.Ring.{head_of}
+use Rattle.lane_model.specs.Steps.{after_begin, after_post, after_landing, after_look, more_to_copy, after_copy, after_clear, after_ack, after_index, after_cut, after_drop}
+use Rattle.lane_model.specs.declared.Mark.{Mark}
+use Rattle.lane_model.specs.declared.Mark.TheVariants.{Cell, Flag, Bell}
+use Rattle.lane_model.specs.declared.Phase.{Phase}
+use Rattle.lane_model.specs.declared.Phase.TheVariants.{Idle, Copying, Copied, Cleared}
+use Rattle.ledger_model.specs.Labels.{label_of}
+use Rattle.lane_core.specs.declared.answers.Begun.{Begun}
+use Rattle.lane_core.specs.declared.answers.Begun.TheVariants.{Ok as Began, TooLong, Busy, NoRoom}
+use Rattle.lane_core.specs.declared.answers.LaneLand.{LaneLand}
+use Rattle.lane_core.specs.declared.answers.LaneLand.TheVariants.{Landed, Blocked, Nothing}
+use Rattle.lane_core.specs.declared.answers.LaneLook.{LaneLook}
+use Rattle.lane_core.specs.declared.answers.LaneLook.TheVariants.{Ready, Empty, PeerDown, OutOfTurn as LookOutOfTurn}
+use Rattle.lane_core.specs.declared.answers.LaneCopy.{LaneCopy}
+use Rattle.lane_core.specs.declared.answers.LaneCopy.TheVariants.{Part, Whole, OutOfTurn as CopyOutOfTurn}
+
+-- the model's lane, with its queue and whether its writes are strict
+pub record LaneValue : Type 0 where
+  pub queue : ℕ
+  pub is_strict : Bool
+  pub lane : Lane
+
+-- the same with another lane
+abbrev pub with_lane : LaneValue → Lane → LaneValue
+with_lane value lane = record { queue = value.queue; is_strict = value.is_strict; lane = lane }
+
+abbrev pub is_empty_list : {X : Type 0} → List X → Bool
+is_empty_list [] = true
+is_empty_list (x ∷ xs) = false
+
+-- Beginning
+
+abbrev pub has_room : Lane → Begun
+has_room lane = if free_in lane == 0 then NoRoom (head_of lane.entries (length lane.sent)) lane.index_word else Began (length lane.sent)
+
+abbrev pub down_answer : Lane → Begun
+down_answer lane = if is_empty_list lane.todo then has_room lane else Busy
+
+abbrev pub begin_answer : Lane → ℕ → Begun
+begin_answer lane len = if nat_lt lane.largest len then TooLong len lane.largest else down_answer lane
+
+-- an entry is in the lane where the answer says that it was begun
+abbrev pub after_beginning : Lane → Entry → Begun → Lane
+after_beginning lane entry (Began n) = after_begin lane entry
+after_beginning lane entry answer = lane
+
+-- Posting
+
+-- the number of the entry that a write belongs to, where it has one
+abbrev pub number_of : Mark → ℕ
+number_of (Cell n field) = n
+number_of (Flag n) = n
+number_of Bell = 0
+
+-- the label of a write of the lane
+abbrev pub label_in : ℕ → Lane → Mark → Label
+label_in queue lane mark = label_of queue (entry_of lane (number_of mark)) mark
+
+abbrev pub first_label : ℕ → Lane → List Mark → Option Label
+first_label queue lane [] = None
+first_label queue lane (mark ∷ rest) = Some (label_in queue lane mark)
+
+abbrev pub post_answer : LaneValue → Option Label
+post_answer value = first_label value.queue value.lane value.lane.todo
+
+abbrev pub after_first_post : Lane → List Mark → Lane
+after_first_post lane [] = lane
+after_first_post lane (mark ∷ rest) = after_post lane mark rest
+
+abbrev pub after_posting : Lane → Lane
+after_posting lane = after_first_post lane lane.todo
+
+-- Landing
+
+-- the order of a write: on a strict lane all are strict, elsewhere the fields of an entry are relaxed
+abbrev pub order_of_mark : Bool → Mark → ℕ
+order_of_mark true mark = strict
+order_of_mark false (Cell n field) = relaxed
+order_of_mark false mark = strict
+
+abbrev pub may_land_in : LaneValue → ℕ → Bool
+may_land_in value place = may_land (map (order_of_mark value.is_strict) value.lane.flight) place
+
+abbrev pub land_found : LaneValue → ℕ → Option Mark → LaneLand
+land_found value place None = Nothing
+land_found value place (Some mark) = if may_land_in value place then Landed (label_in value.queue value.lane mark) else Blocked
+
+abbrev pub land_answer : LaneValue → ℕ → LaneLand
+land_answer value place = land_found value place (slice_get value.lane.flight place)
+
+abbrev pub after_found : LaneValue → ℕ → Option Mark → Lane
+after_found value place None = value.lane
+after_found value place (Some mark) = if may_land_in value place then after_landing value.lane mark (remove value.lane.flight place) else value.lane
+
+abbrev pub after_land : LaneValue → ℕ → Lane
+after_land value place = after_found value place (slice_get value.lane.flight place)
+
+-- index writes are strict on every lane
+abbrev pub may_land_index : Lane → ℕ → Bool
+may_land_index lane place = may_land (map (λ n. strict) lane.returning) place
+
+abbrev pub index_found : LaneValue → ℕ → Option ℕ → LaneLand
+index_found value place None = Nothing
+index_found value place (Some n) = if may_land_index value.lane place then Landed (Index value.queue n) else Blocked
+
+abbrev pub land_index_answer : LaneValue → ℕ → LaneLand
+land_index_answer value place = index_found value place (slice_get value.lane.returning place)
+
+abbrev pub after_index_found : Lane → ℕ → Option ℕ → Lane
+after_index_found lane place None = lane
+after_index_found lane place (Some n) = if may_land_index lane place then after_index lane n (remove lane.returning place) else lane
+
+abbrev pub after_land_index : Lane → ℕ → Lane
+after_land_index lane place = after_index_found lane place (slice_get lane.returning place)
+
+-- Receiving
+
+abbrev pub is_idle : Phase → Bool
+is_idle Idle = true
+is_idle phase = false
+
+abbrev pub is_copying : Phase → Bool
+is_copying Copying = true
+is_copying phase = false
+
+abbrev pub is_copied : Phase → Bool
+is_copied Copied = true
+is_copied phase = false
+
+abbrev pub is_cleared : Phase → Bool
+is_cleared Cleared = true
+is_cleared phase = false
+
+abbrev pub look_at : ℕ → Entry → LaneLook
+look_at n (Carries bytes) = Ready n (length bytes)
+look_at n LinkDown = PeerDown
+
+abbrev pub look_answer : Lane → LaneLook
+look_answer lane =
+    if is_idle lane.phase
+    then (if lane.flagged == lane.got then Empty else look_at lane.got (entry_of lane lane.got))
+    else LookOutOfTurn
+
+abbrev pub after_looking : Lane → LaneLook → Lane
+after_looking lane (Ready n len) = after_look lane
+after_looking lane answer = lane
+
+abbrev pub copy_answer : Lane → LaneCopy
+copy_answer lane =
+    if is_copying lane.phase
+    then (if more_to_copy lane then Part lane.got lane.part else Whole lane.got (bytes_of (entry_of lane lane.got)))
+    else CopyOutOfTurn
+
+abbrev pub after_copying : Lane → Lane
+after_copying lane = if is_copying lane.phase then after_copy lane else lane
+
+abbrev pub clear_answer : Lane → Option ℕ
+clear_answer lane = if is_copied lane.phase then Some lane.cleared else None
+
+abbrev pub after_clearing : Lane → Lane
+after_clearing lane = if is_copied lane.phase then after_clear lane else lane
+
+abbrev pub ack_answer : Lane → Option ℕ
+ack_answer lane = if is_cleared lane.phase then Some lane.acked else None
+
+abbrev pub after_acking : Lane → Lane
+after_acking lane = if is_cleared lane.phase then after_ack lane else lane

@@ -1,0 +1,54 @@
+-- What contracts see of a lane, and what its fields keep beside that.
+use Rattle.std.specs.Prelude.{◌≡◌, ℕ, ◌*◌, ◌^◌, ◌≤◌, List, length, map, take, vec_capacity, All}
+use Rattle.lane_model.specs.Lane.{Lane, bytes_of, entry_of, chunk_size}
+use Rattle.lane_model.specs.Law.{HoldsRingLaw}
+use Rattle.lane_model.specs.declared.Phase.{Phase}
+use Rattle.lane_model.specs.declared.Phase.TheVariants.{Idle, Copying}
+use Rattle.lane_core.specs.Calls.{LaneValue}
+use Rattle.lane_core.specs.Parts.{entry_seen, place_seen}
+use Rattle.lane_core.specs.declared.write.Write.{Write}
+use Rattle.lane_core.specs.declared.write.IndexWrite.{IndexWrite}
+use Rattle.lane_core.specs.declared.lane.Lane.TheInside.{Inside}
+
+abbrev pub lane_seen : Inside → Lane
+lane_seen l =
+    record {
+      entries = l.entries;
+      largest = l.largest;
+      up = l.up;
+      sent = map entry_seen l.sent.items;
+      todo = l.todo.items;
+      flight = map (λ (write : Write). write.mark) l.flight.writes;
+      returning = map (λ (write : IndexWrite). write.number) l.returning.writes;
+      ring = map place_seen l.ring.items;
+      index_word = l.index_word;
+      flagged = l.flagged;
+      got = l.got;
+      cleared = l.cleared;
+      acked = l.acked;
+      freed = l.freed;
+      phase = l.phase;
+      part = l.part;
+    }
+
+abbrev pub value_seen : Inside → LaneValue
+value_seen l = record { queue = l.queue; is_strict = l.strict; lane = lane_seen l }
+
+-- room for the index write of the entry that the receiver is at
+abbrev pub index_room : Phase → ℕ
+index_room Idle = 0
+index_room phase = 1
+
+-- while an entry is copied, the parts copied so far stand in the buffer, which has room for the whole entry
+pub record Buffers (phase : Phase) (part : ℕ) (bytes copied : List ℕ) (capacity : ℕ) : Type 0 where
+  pub items : phase ≡ Copying → copied ≡ take (chunk_size * part) bytes
+  pub room : phase ≡ Copying → length bytes ≤ capacity
+
+pub record IsKept (l : Inside) : Type 0 where
+  pub law : HoldsRingLaw (lane_seen l)
+  pub few : length l.sent.items ≤ 2 ^ 46
+  pub small : l.largest ≤ 65536
+  pub orders : All (λ (write : Write). write.strict ≡ l.strict) l.flight.writes
+  pub room : length l.todo.items ≤ l.flight.spare
+  pub index_room : index_room l.phase ≤ l.returning.spare
+  pub buffers : Buffers l.phase l.part (bytes_of (entry_of (lane_seen l) l.got)) l.copied.items (vec_capacity l.copied)

@@ -1,0 +1,327 @@
+//! A lane.
+
+ghost use Rattle.std.specs.Prelude.{◌≡◌, ◌<◌, ◌≤◌, ◌^◌, length, false, IfOk, OnErr};
+ghost use Rattle.lane_model.specs.Kept.{IsOpen};
+ghost use Rattle.lane_model.specs.Lane.{Carries, LinkDown, bytes_of};
+ghost use Rattle.lane_model.specs.Law.{HoldsRingLaw};
+ghost use Rattle.lane_model.specs.Steps.{after_cut, after_drop};
+ghost use Rattle.lane_core.specs.Parts.{entry_seen};
+
+use crate::answers::{Begun, LaneCopy, LaneLand, LaneLook};
+use crate::entry::Entry;
+use crate::place::{Place, Shown};
+use crate::ring::{copy_chunk, free_between, label, position_of, put_flags, store, zeroed_ring};
+use crate::write::{IndexWrite, Write, fill_todo, landed_flags, post};
+use lane_model::{Mark, Phase};
+use posted_queue::{LandAnswer, Queue};
+use std::alloc::{AllocError, Global};
+use std::collections::VecDeque;
+use std::marker::Model;
+use std::mem;
+use step_kinds::{Frame, Label};
+
+/// One lane in one session. Entries and frames are numbered from 0.
+#[derive(Drop)]
+pub struct Lane {
+    alloc: Global,
+    queue: u32,
+    entries: u32,
+    largest: u32,
+    strict: bool,
+    up: bool,
+    sent: Vec<Entry>,
+    todo: VecDeque<Mark>,
+    flight: Queue<Write>,
+    returning: Queue<IndexWrite>,
+    ring: Vec<Place>,
+    index_word: u32,
+    flagged: u64,
+    got: u64,
+    cleared: u64,
+    acked: u64,
+    freed: u64,
+    phase: Phase,
+    part: u32,
+    copied: Vec<u8>,
+}
+
+impl Model for Lane {
+    ghost use Rattle.lane_core.specs.Calls.{LaneValue};
+
+    ghost Value = { LaneValue };
+
+    ghost use Rattle.lane_core.specs.Seen.{value_seen, IsKept};
+
+    ghost view = { value_seen };
+
+    ghost invariant = { IsKept };
+}
+
+impl Lane {
+    ghost use Rattle.lane_core.specs.Calls.{with_lane, begin_answer, down_answer, after_beginning, post_answer, after_posting, land_answer, after_land, land_index_answer, after_land_index, look_answer, after_looking, copy_answer, after_copying, clear_answer, after_clearing, ack_answer, after_acking};
+    ghost use Rattle.lane_core.specs.Fresh.{fresh_value};
+
+    /// A lane at the start of its session, in a ring of `entries` zeroed positions with payloads of up to `max` bytes. On a
+    /// `strict` lane no write passes another; else the fields of an entry may pass any write.
+    pub fn new(
+        alloc: Global,
+        queue: u32,
+        entries: u32,
+        max: u32,
+        strict: bool,
+    ) -> Result<Lane, AllocError>
+        requires two_entries { 2 ≤ entries }
+        requires a_byte { 1 ≤ max }
+        requires fits { max ≤ 65536 }
+        ensures fresh { IfOk result (λ lane. lane ≡ fresh_value queue strict entries max) }
+        ensures law { IfOk result (λ lane. HoldsRingLaw lane.lane) }
+    {
+        let ring = zeroed_ring(alloc, entries, max)?;
+        Ok(Lane {
+            alloc,
+            queue,
+            entries,
+            largest: max,
+            strict,
+            up: true,
+            sent: Vec::new(alloc),
+            todo: VecDeque::new(alloc),
+            flight: Queue::new(alloc),
+            returning: Queue::new(alloc),
+            ring,
+            index_word: entries - 1,
+            flagged: 0,
+            got: 0,
+            cleared: 0,
+            acked: 0,
+            freed: 0,
+            phase: Phase::Idle,
+            part: 0,
+            copied: Vec::new(alloc),
+        })
+    }
+
+    /// Begins to send a frame. `TooLong`, `Busy` and `NoRoom` come in this order, and change nothing; else the frame has the
+    /// next number and all its writes are left to post. The only error is want of memory, and then nothing changes: room for
+    /// the later calls of this frame is taken here.
+    pub fn begin(&mut self, frame: Frame) -> Result<Begun, AllocError>
+        requires some_bytes { 0 < length frame }
+        requires open { IsOpen self.old.lane }
+        requires few { length self.old.lane.sent < 2 ^ 46 }
+        ensures answer { IfOk result (λ begun. begun ≡ begin_answer self.old.lane (length frame)) }
+        ensures after { IfOk result (λ begun. self.new ≡ with_lane self.old (after_beginning self.old.lane (Carries frame) begun)) }
+        ensures err { OnErr result (self.new ≡ self.old) }
+        ensures law { HoldsRingLaw self.new.lane }
+    {
+        if frame.len() > self.largest {
+            return Ok(Begun::TooLong {
+                len: frame.len(),
+                max: self.largest,
+            });
+        }
+        self.begin_entry(Entry::Carries(frame))
+    }
+
+    /// Begins a link-down entry. `Busy` and `NoRoom` come in this order, and change nothing. After it no entry may be begun.
+    /// The only error is want of memory, and then nothing changes.
+    pub fn down(&mut self) -> Result<Begun, AllocError>
+        requires open { IsOpen self.old.lane }
+        requires few { length self.old.lane.sent < 2 ^ 46 }
+        ensures answer { IfOk result (λ begun. begun ≡ down_answer self.old.lane) }
+        ensures after { IfOk result (λ begun. self.new ≡ with_lane self.old (after_beginning self.old.lane LinkDown begun)) }
+        ensures err { OnErr result (self.new ≡ self.old) }
+        ensures law { HoldsRingLaw self.new.lane }
+    {
+        self.begin_entry(Entry::LinkDown)
+    }
+
+    // Begins an entry that fits the ring, after the test that speaks of frames alone.
+    fn begin_entry(&mut self, entry: Entry) -> Result<Begun, AllocError>
+        requires fits { length (bytes_of (entry_seen entry)) ≤ self.old.lane.largest }
+        requires open { IsOpen self.old.lane }
+        requires few { length self.old.lane.sent < 2 ^ 46 }
+        ensures answer { IfOk result (λ begun. begun ≡ down_answer self.old.lane) }
+        ensures after { IfOk result (λ begun. self.new ≡ with_lane self.old (after_beginning self.old.lane (entry_seen entry) begun)) }
+        ensures err { OnErr result (self.new ≡ self.old) }
+        ensures law { HoldsRingLaw self.new.lane }
+    {
+        if !self.todo.is_empty() {
+            return Ok(Begun::Busy);
+        }
+        let number = self.sent.len() as u64;
+        let head = position_of(self.entries, number);
+        if free_between(self.entries, head, self.index_word) == 0 {
+            return Ok(Begun::NoRoom {
+                head,
+                tail: self.index_word,
+            });
+        }
+        let writes = entry.chunks() as usize + 4;
+        self.sent.reserve(1)?;
+        self.todo.reserve(writes)?;
+        self.flight.promise(writes)?;
+        fill_todo(&mut self.todo, number, &entry);
+        self.sent.push_reserved(entry);
+        Ok(Begun::Ok { number })
+    }
+
+    /// Posts the next write of the entry that was begun last. `None` exactly where no write is left. Once the link was cut the
+    /// write is lost, and the label is answered all the same.
+    pub fn post(&mut self) -> Option<Label>
+        ensures answer { result ≡ post_answer self.old }
+        ensures after { self.new ≡ with_lane self.old (after_posting self.old.lane) }
+        ensures law { HoldsRingLaw self.new.lane }
+    {
+        let mark = self.todo.pop_front()?;
+        let strict = self.strict;
+        post(&mut self.flight, self.up, Write { mark, strict });
+        Some(label(self.queue, &self.sent, mark))
+    }
+
+    /// Lands the write at a place of those in flight towards the receiver, counted from 0 for the one that was posted first:
+    /// `Nothing` past their end, `Blocked` where it may not pass one before it, and neither changes anything.
+    pub fn land(&mut self, place: usize) -> LaneLand
+        ensures answer { result ≡ land_answer self.old place }
+        ensures after { self.new ≡ with_lane self.old (after_land self.old place) }
+        ensures law { HoldsRingLaw self.new.lane }
+    {
+        match self.flight.land(place) {
+            LandAnswer::Nothing => LaneLand::Nothing,
+            LandAnswer::Blocked => LaneLand::Blocked,
+            LandAnswer::Landed(Write { mark, .. }) => {
+                store(&mut self.ring, self.entries, &self.sent, mark);
+                self.flagged += landed_flags(mark);
+                LaneLand::Landed(label(self.queue, &self.sent, mark))
+            }
+        }
+    }
+
+    /// Lands the index write at a place of those in flight back to the sender: `Nothing` past their end, `Blocked` behind
+    /// another, and neither changes anything.
+    pub fn land_index(&mut self, place: usize) -> LaneLand
+        ensures answer { result ≡ land_index_answer self.old place }
+        ensures after { self.new ≡ with_lane self.old (after_land_index self.old.lane place) }
+        ensures law { HoldsRingLaw self.new.lane }
+    {
+        match self.returning.land(place) {
+            LandAnswer::Nothing => LaneLand::Nothing,
+            LandAnswer::Blocked => LaneLand::Blocked,
+            LandAnswer::Landed(IndexWrite { number }) => {
+                self.index_word = position_of(self.entries, number);
+                self.freed = number + 1;
+                LaneLand::Landed(Label::Index {
+                    queue: self.queue,
+                    number,
+                })
+            }
+        }
+    }
+
+    /// Looks for the next entry by the flags of its position. `OutOfTurn` where the receiver is still at another entry,
+    /// `Empty` where the flags lack DONE, `PeerDown` at a link-down entry, each time again; none of them changes anything. Else
+    /// the frame is there to be copied. The only error is want of memory, and then nothing changes: room for the later calls of
+    /// this frame is taken here.
+    pub fn look(&mut self) -> Result<LaneLook, AllocError>
+        ensures answer { IfOk result (λ look. look ≡ look_answer self.old.lane) }
+        ensures after { IfOk result (λ look. self.new ≡ with_lane self.old (after_looking self.old.lane look)) }
+        ensures err { OnErr result (self.new ≡ self.old) }
+        ensures law { HoldsRingLaw self.new.lane }
+    {
+        let Phase::Idle = self.phase else {
+            return Ok(LaneLook::OutOfTurn);
+        };
+        let number = self.got;
+        let place = &self.ring[position_of(self.entries, number) as usize];
+        match place.shows() {
+            Shown::Nothing => Ok(LaneLook::Empty),
+            Shown::LinkDown => Ok(LaneLook::PeerDown),
+            Shown::Frame => {
+                let len = place.len;
+                let buffer = Vec::with_capacity(self.alloc, len as usize)?;
+                self.returning.promise(1)?;
+                self.copied = buffer;
+                self.phase = Phase::Copying;
+                self.part = 0;
+                Ok(LaneLook::Ready { number, len })
+            }
+        }
+    }
+
+    /// Copies the next 128 bytes of the frame that was found, the last part shorter. The last copy answers the whole frame.
+    /// `OutOfTurn` where no frame is being copied, and then nothing changes.
+    pub fn copy(&mut self) -> LaneCopy
+        ensures answer { result ≡ copy_answer self.old.lane }
+        ensures after { self.new ≡ with_lane self.old (after_copying self.old.lane) }
+        ensures law { HoldsRingLaw self.new.lane }
+    {
+        let Phase::Copying = self.phase else {
+            return LaneCopy::OutOfTurn;
+        };
+        let number = self.got;
+        let part = self.part;
+        let place = &self.ring[position_of(self.entries, number) as usize];
+        if copy_chunk(&mut self.copied, place, part) {
+            self.part += 1;
+            return LaneCopy::Part { number, part };
+        }
+        let bytes = mem::replace(&mut self.copied, Vec::new(self.alloc));
+        self.got += 1;
+        self.phase = Phase::Copied;
+        LaneCopy::Whole {
+            number,
+            frame: Frame::of_vec(bytes),
+        }
+    }
+
+    /// Clears the flags of the frame that was copied, and answers its number. `None` exactly where no frame was just copied, and
+    /// then nothing changes.
+    pub fn clear(&mut self) -> Option<u64>
+        ensures answer { result ≡ clear_answer self.old.lane }
+        ensures after { self.new ≡ with_lane self.old (after_clearing self.old.lane) }
+        ensures law { HoldsRingLaw self.new.lane }
+    {
+        let Phase::Copied = self.phase else {
+            return None;
+        };
+        let number = self.cleared;
+        put_flags(&mut self.ring, self.entries, number, 0);
+        self.cleared += 1;
+        self.phase = Phase::Cleared;
+        Some(number)
+    }
+
+    /// Posts the index write that gives the cleared frame's entry back, and answers the frame's number. `None` exactly where no
+    /// flags were just cleared, and then nothing changes. Once the link was cut the write is lost.
+    pub fn ack(&mut self) -> Option<u64>
+        ensures answer { result ≡ ack_answer self.old.lane }
+        ensures after { self.new ≡ with_lane self.old (after_acking self.old.lane) }
+        ensures law { HoldsRingLaw self.new.lane }
+    {
+        let Phase::Cleared = self.phase else {
+            return None;
+        };
+        let number = self.acked;
+        post(&mut self.returning, self.up, IndexWrite { number });
+        self.acked += 1;
+        self.phase = Phase::Idle;
+        Some(number)
+    }
+
+    /// The link is lost: what is posted from now on is lost. What is in flight may still land.
+    pub fn cut(&mut self)
+        ensures after { self.new ≡ with_lane self.old (after_cut self.old.lane) }
+        ensures law { HoldsRingLaw self.new.lane }
+    {
+        self.up = false;
+    }
+
+    /// Drops all that is in flight in both directions on a lost link.
+    pub fn drop_all(&mut self)
+        requires { self.old.lane.up ≡ false }
+        ensures after { self.new ≡ with_lane self.old (after_drop self.old.lane) }
+        ensures law { HoldsRingLaw self.new.lane }
+    {
+        self.flight.discard();
+        self.returning.discard();
+    }
+}

@@ -1,0 +1,82 @@
+-- The ledger of a script's one pair, as the lane of the engine shows it: the lane goes from side A to side B on queue 0, in session 1 of a
+-- pair that was declared up.
+use Rattle.std.specs.Prelude.{◌≡◌, ℕ, ◌+◌, ◌≤◌, Bool, true, false, List, [], length, map}
+use Rattle.step_kinds.specs.Bits.{has_bit}
+use Rattle.step_kinds.specs.declared.names.Side.{Side}
+use Rattle.step_kinds.specs.declared.names.Side.TheVariants.{A, B}
+use Rattle.step_kinds.specs.declared.plan.PairPlan.{PairPlan}
+use Rattle.step_kinds.specs.declared.steps.Answer.{Answer}
+use Rattle.step_kinds.specs.declared.steps.Label.{Label}
+use Rattle.step_kinds.specs.declared.steps.Label.TheVariants.{Index}
+use Rattle.step_kinds.specs.declared.steps.Step.{Step}
+use Rattle.lane_model.specs.Kept.{IsOpen}
+use Rattle.lane_model.specs.Lane.{Carries, Lane}
+use Rattle.lane_model.specs.Law.{HoldsRingLaw}
+use Rattle.lane_model.specs.declared.Mark.{Mark}
+use Rattle.lane_core.specs.Calls.{LaneValue}
+use Rattle.ledger_model.specs.Labels.{label_of}
+use Rattle.ledger_model.specs.Ledger.{LanePart, PairPart, Tally, side_of, lane_of, tally_of, sizes_of}
+use Rattle.ledger_model.specs.Link.{is_up}
+use Rattle.ledger_model.specs.Next.{Bytes, pair_next}
+use Rattle.ntb_top.specs.Script.{side_with}
+use Rattle.ntb_top.specs.declared.engine.Engine.{Engine}
+
+-- the label of a write of a lane that carries frames alone
+abbrev pub frame_label : Mark → Label
+frame_label mark = label_of 0 (Carries []) mark
+
+-- a lane's part in the ledger is that of the model's lane
+pub record IsPartOf (part : LanePart) (lane : Lane) : Type 0 where
+  pub sent : part.sent ≡ lane.sent
+  pub todo : part.todo ≡ map frame_label lane.todo
+  pub flagged : part.flagged ≡ lane.flagged
+  pub got : part.got ≡ lane.got
+  pub cleared : part.cleared ≡ lane.cleared
+  pub acked : part.acked ≡ lane.acked
+  pub freed : part.freed ≡ lane.freed
+  pub phase : part.phase ≡ lane.phase
+  pub parts : part.part ≡ lane.part
+
+-- the lane shows the pair, of which so many frames were accepted and delivered: all that were begun, and all that were taken whole
+pub record Shows (value : LaneValue) (plan : PairPlan) (now : PairPart) (taken given : ℕ) : Type 0 where
+  pub queue : value.queue ≡ 0
+  pub is_strict : value.is_strict ≡ plan.strict
+  pub entries : value.lane.entries ≡ (sizes_of plan A 0).entries
+  pub largest : value.lane.largest ≡ (sizes_of plan A 0).largest
+  pub lane_up : value.lane.up ≡ true
+  pub link_up : is_up now.link.state ≡ true
+  pub session : now.link.session ≡ 1
+  pub joined_a : has_bit (side_of now A).joined 0 ≡ true
+  pub joined_b : has_bit (side_of now B).joined 0 ≡ true
+  pub open_a : has_bit (side_of now A).closed 0 ≡ false
+  pub open_b : has_bit (side_of now B).closed 0 ≡ false
+  pub lane : IsPartOf (lane_of now A 0) value.lane
+  pub flight : (side_of now A).flight ≡ map frame_label value.lane.flight
+  pub returning : (side_of now B).flight ≡ map (Index 0) value.lane.returning
+  pub tally : tally_of now A 0 1 ≡ record { accepted = taken; delivered = given }
+  pub other_tally : tally_of now B 0 1 ≡ record { accepted = 0; delivered = 0 }
+  pub taken_all : taken ≡ length value.lane.sent
+  pub given_all : given ≡ value.lane.got
+  pub law : HoldsRingLaw value.lane
+  pub only_frames : IsOpen value.lane
+
+-- the engine's lane shows the pair, and the engine counts its frames
+abbrev pub EngineShows : Engine → PairPlan → PairPart → Type 0
+EngineShows engine plan now = Shows engine.lane plan now engine.accepted engine.delivered
+
+-- whatever pair the engine shows, the step is answered as the ledger answers it, and then the engine shows the pair after it; at most
+-- one entry more was begun
+pub record IsMade (step : Step) (answer : Answer) (old new : Engine) : Type 0 where
+  pub as_the_ledger : (plan : PairPlan) (bytes : Bytes) (now : PairPart) → EngineShows old plan now →
+      (answer ≡ (pair_next [] plan bytes now step).answer) × EngineShows new plan (pair_next [] plan bytes now step).after
+  pub one_more : length new.lane.lane.sent ≤ length old.lane.lane.sent + 1
+
+-- a pair that a script can declare: sides of one window and one queue, and a link that is up
+pub record IsBuiltPair (plan : PairPlan) : Type 0 where
+  pub side_a : plan.a ≡ side_with plan.a.size
+  pub side_b : plan.b ≡ plan.a
+  pub up : plan.up ≡ true
+  pub least_size : 4096 ≤ plan.a.size
+  pub most_size : plan.a.size ≤ 1048576
+  pub least_mtu : 16 ≤ plan.mtu
+  pub most_mtu : plan.mtu ≤ 65536

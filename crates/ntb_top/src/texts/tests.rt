@@ -1,0 +1,154 @@
+use super::*;
+use std::process::Abort;
+use std::test::Fail;
+
+/// Asserts that the line of an answer is the number 7 and these words.
+fn assert_line(
+    rt: &impl Abort,
+    alloc: Global,
+    answer: &Answer,
+    words: &str,
+) -> Result<(), AllocError> {
+    let mut text = String::new(alloc);
+    push_answer_line(alloc, &mut text, 7, answer)?;
+    let expected = format!(in alloc; "7 {words}\n")?;
+    assert_eq!(rt; text.as_str(), expected.as_str());
+    Ok(())
+}
+
+#[test]
+fn answers_of_one_word(rt: HostRuntime) -> Result<(), Fail> {
+    let cases = [
+        (Answer::Ok, "ok"),
+        (Answer::NotDown, "notdown"),
+        (Answer::Dirty, "dirty"),
+        (Answer::NotEnabled, "notenabled"),
+        (Answer::Spent, "spent"),
+        (Answer::NotUp, "notup"),
+        (Answer::NotClosing, "notclosing"),
+        (Answer::LinkDown, "linkdown"),
+        (Answer::Already, "already"),
+        (Answer::NotYet, "notyet"),
+        (Answer::Up, "up"),
+        (Answer::NotChecked, "notchecked"),
+        (Answer::NotReady, "notready"),
+        (Answer::Joined, "joined"),
+        (Answer::Closed, "closed"),
+        (Answer::Busy, "busy"),
+        (Answer::Stopped, "stopped"),
+        (Answer::Idle, "idle"),
+        (Answer::Nothing, "nothing"),
+        (Answer::Blocked, "blocked"),
+        (Answer::OutOfTurn, "outofturn"),
+        (Answer::Empty, "empty"),
+        (Answer::PeerDown, "peerdown"),
+        (Answer::Awake, "awake"),
+    ];
+    for (answer, words) in &cases {
+        assert_line(&rt, rt.alloc(), answer, words)?;
+    }
+    Ok(())
+}
+
+#[test]
+fn answers_with_numbers(rt: HostRuntime) -> Result<(), Fail> {
+    let (len, max) = (1012, 1011);
+    let (seen, cap) = (8192, 4096);
+    let number = 0;
+    let cases = [
+        (Answer::OkSession { session: 3 }, "ok 3"),
+        (Answer::OkNumber { number: 3 }, "ok 3"),
+        (Answer::Offered { index: 4 }, "offered 4"),
+        (Answer::Version { seen: 3, own: 4 }, "version 3 4"),
+        (Answer::Queues { seen: 2, own: 1 }, "queues 2 1"),
+        (Answer::Windows { seen: 2, own: 1 }, "windows 2 1"),
+        (Answer::Size { seen, cap }, "size 8192 4096"),
+        (Answer::TooLong { len, max }, "toolong 1012 1011"),
+        (Answer::Again { head: 3, tail: 3 }, "again 3 3"),
+        (Answer::VerDiffers { seen: 7, own: 0 }, "verdiffers 7 0"),
+        (Answer::Long { len, max }, "long 1012 1011"),
+        (Answer::ReadyFrame { number, len: 300 }, "ready 0 300"),
+        (Answer::Copied { number, part: 1 }, "copied 0 1"),
+        (Answer::Cleared { number }, "cleared 0"),
+        (Answer::Acked { number }, "acked 0"),
+        (Answer::Irq { bits: 1 }, "irq 1"),
+        (Answer::PadValue { value: 7 }, "pad 7"),
+    ];
+    for (answer, words) in &cases {
+        assert_line(&rt, rt.alloc(), answer, words)?;
+    }
+    Ok(())
+}
+
+/// A label of each form, and its text.
+fn labels() -> [(Label, &'static str); 9] {
+    let (queue, number) = (0, 1);
+    let (window, offset, len) = (0, 1011, 12);
+    [
+        (
+            Label::Chunk {
+                queue,
+                number,
+                part: 2,
+            },
+            "chunk 0 1 2",
+        ),
+        (Label::Len { queue, number }, "len 0 1"),
+        (Label::Ver { queue, number }, "ver 0 1"),
+        (Label::Flag { queue, number }, "flag 0 1"),
+        (Label::Down { queue, number }, "down 0 1"),
+        (Label::Bell { queue }, "bell 0"),
+        (Label::Index { queue, number }, "index 0 1"),
+        (Label::Pad { index: 4, value: 0 }, "pad 4 0"),
+        (
+            Label::Raw {
+                window,
+                offset,
+                len,
+            },
+            "raw 0 1011 12",
+        ),
+    ]
+}
+
+#[test]
+fn labels_of_posted_writes(rt: HostRuntime) -> Result<(), Fail> {
+    for (label, words) in labels() {
+        let posted = format!(in rt.alloc(); "posted {words}")?;
+        assert_line(&rt, rt.alloc(), &Answer::Posted { label }, posted.as_str())?;
+        let landed = format!(in rt.alloc(); "landed {words}")?;
+        assert_line(&rt, rt.alloc(), &Answer::Landed { label }, landed.as_str())?;
+        let shown = format!(in rt.alloc(); "queue 1 {words}")?;
+        let label = Some(label);
+        let answer = Answer::QueueShown { count: 1, label };
+        assert_line(&rt, rt.alloc(), &answer, shown.as_str())?;
+    }
+    let label = None;
+    let answer = Answer::QueueShown { count: 0, label };
+    assert_line(&rt, rt.alloc(), &answer, "queue 0 -")?;
+    Ok(())
+}
+
+#[test]
+fn frames_and_memory(rt: HostRuntime) -> Result<(), Fail> {
+    let number = 0;
+    let frame = Frame::of_vec([0x61u8, 0xff].to_vec(rt.alloc())?);
+    let answer = Answer::Delivered { number, frame };
+    assert_line(&rt, rt.alloc(), &answer, "frame 0 61ff")?;
+    let frame = Frame::of_vec(Vec::new(rt.alloc()));
+    let answer = Answer::Delivered { number, frame };
+    assert_line(&rt, rt.alloc(), &answer, "frame 0 -")?;
+    let bytes = Frame::of_vec([0x00u8, 0xff].to_vec(rt.alloc())?);
+    assert_line(&rt, rt.alloc(), &Answer::Mem { bytes }, "mem 00ff")?;
+    Ok(())
+}
+
+#[test]
+fn lanes_with_and_without_frames(rt: HostRuntime) -> Result<(), Fail> {
+    let mut text = String::new(rt.alloc());
+    push_lane_line(&mut text, b"p0", 0, 0)?;
+    assert_eq!(rt; text.as_str(), "");
+    push_lane_line(&mut text, b"p0", 3, 2)?;
+    assert_eq!(rt; text.as_str(), "lane p0 A 0 1 accepted 3 delivered 2\n");
+    Ok(())
+}
