@@ -1,3 +1,4 @@
+pub mod Built
 pub mod CountsLemmas
 pub mod Landing
 pub mod Making

@@ -1,6 +1,6 @@
 -- The ledger of a script's one pair, as the lane of the engine shows it: the lane goes from side A to side B on queue 0, in session 1 of a
 -- pair that was declared up.
-use Rattle.std.specs.Prelude.{◌≡◌, ℕ, ◌+◌, ◌≤◌, Bool, true, false, List, [], length, map}
+use Rattle.std.specs.Prelude.{◌≡◌, ℕ, ◌+◌, ◌<◌, ◌≤◌, Bool, true, false, List, [], All, length, map}
 use Rattle.step_kinds.specs.Bits.{has_bit}
 use Rattle.step_kinds.specs.declared.names.Side.{Side}
 use Rattle.step_kinds.specs.declared.names.Side.TheVariants.{A, B}
@@ -80,3 +80,4 @@ pub record IsBuiltPair (plan : PairPlan) : Type 0 where
   pub most_size : plan.a.size ≤ 1048576
   pub least_mtu : 16 ≤ plan.mtu
   pub most_mtu : plan.mtu ≤ 65536
+  pub ascii_name : All (λ byte. byte < 128) plan.name

@@ -1,3 +1,4 @@
+pub mod Built
 pub mod Drives
 pub mod Headline
 pub mod Moves
