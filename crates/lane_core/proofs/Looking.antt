@@ -1,5 +1,5 @@
 -- What a receiver reads in the place of its next entry.
-use Rattle.std.proofs.Common.{◌≡◌, ℕ, ◌%◌, ◌==◌, ◌<◌, ◌≤◌, true, false, List, length, map, get_or, refl, sym, ap, ◌∙◌, subst, inl, inr, arith}
+use Rattle.std.proofs.Common.{◌≡◌, ℕ, ◌%◌, ◌==◌, ◌<◌, false, List, length, map, get_or, refl, sym, ap, ◌∙◌, inl, inr, arith}
 use Rattle.std.proofs.lemmas.Bool.{cases_lt, cond-true, cond-false, eq-eqb, ne_eqb}
 use Rattle.std.proofs.lemmas.List.{get_or-map}
 use Rattle.lane_model.specs.Lane as model
@@ -11,7 +11,6 @@ use Rattle.lane_model.proofs.Holds.{look_sees}
 use Rattle.lane_core.specs.Calls.{is_idle, look_answer, look_at}
 use Rattle.lane_core.specs.Parts.{place_seen}
 use Rattle.lane_core.specs.Seen.{lane_seen}
-use Rattle.lane_core.specs.declared.answers.LaneLook.{LaneLook}
 use Rattle.lane_core.specs.declared.answers.LaneLook.TheVariants.{Ready, Empty, PeerDown, OutOfTurn}
 use Rattle.lane_core.specs.declared.lane.Lane.TheInside.{Inside}
 use Rattle.lane_core.specs.declared.place.Place.{Place}

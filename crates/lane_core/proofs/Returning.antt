@@ -4,7 +4,6 @@ use Rattle.std.specs.List.{remove}
 use Rattle.std.proofs.lemmas.Bool.{cond-true, cond-false, false≢true, eqb-true, or_cases}
 use Rattle.std.proofs.lemmas.Option.{slice_get-map}
 use Rattle.lane_model.specs.Order.{relaxed, strict, may_land}
-use Rattle.lane_model.specs.Lane.{Lane}
 use Rattle.lane_model.specs.Law.{HoldsRingLaw}
 use Rattle.lane_model.specs.Steps.{after_index}
 use Rattle.lane_model.proofs.Holds.{index_is_next, index_keeps}
@@ -14,7 +13,7 @@ use Rattle.posted_queue.specs.declared.LandAnswer.TheVariants.{Landed as QueueLa
 use Rattle.posted_queue.proofs.LandingLemmas.{may_land-map}
 use Rattle.step_kinds.specs.declared.steps.Label.TheVariants.{Index}
 use Rattle.lane_core.specs.Calls.{may_land_index, land_index_answer, index_found, after_land_index, after_index_found}
-use Rattle.lane_core.specs.Seen.{IsKept, lane_seen, value_seen}
+use Rattle.lane_core.specs.Seen.{lane_seen, value_seen}
 use Rattle.lane_core.specs.declared.answers.LaneLand.TheVariants.{Landed, Blocked, Nothing}
 use Rattle.lane_core.specs.declared.lane.Lane.TheInside.{Inside}
 use Rattle.lane_core.specs.declared.write.IndexWrite.{IndexWrite}

@@ -1,4 +1,4 @@
-use Rattle.std.proofs.Common.{◌≡◌, ◌≤◌, length, ap, ◌∙◌, sym, subst, arith, map, List}
+use Rattle.std.proofs.Common.{◌≤◌, ap, ◌∙◌, sym, subst, arith, map, List}
 use Rattle.std.proofs.lemmas.List.{with_items_is}
 use Rattle.lane_model.specs.Lane.{Place}
 use Rattle.lane_model.specs.Law.{HoldsRingLaw}

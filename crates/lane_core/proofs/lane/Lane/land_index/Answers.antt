@@ -1,11 +1,9 @@
-use Rattle.std.proofs.Common.{◌≡◌, ◌%◌, ap, ◌∙◌, sym, subst, arith}
+use Rattle.std.proofs.Common.{◌≡◌, ap, ◌∙◌, sym, subst, arith}
 use Rattle.std.proofs.lemmas.List.{length-map}
 use Rattle.lane_core.specs.Parts.{entry_seen}
-use Rattle.lane_model.specs.Law.{HoldsRingLaw}
-use Rattle.lane_model.specs.Steps.{after_index}
 use Rattle.step_kinds.specs.declared.steps.Label.TheVariants.{Index}
 use Rattle.lane_core.specs.Calls.{LaneValue, with_lane, land_index_answer, after_land_index}
-use Rattle.lane_core.specs.Seen.{lane_seen, value_seen}
+use Rattle.lane_core.specs.Seen.{value_seen}
 use Rattle.lane_core.specs.declared.answers.LaneLand.TheVariants.{Landed, Blocked, Nothing}
 use Rattle.lane_core.proofs.Returning.{has_returned, none_returned, blocked_return}
 use Rattle.lane_core.proofs.lane.Lane.land_index.Goals as goal
