@@ -27,6 +27,14 @@ returns-in-Nothing-clause-after c =
     let none = none_returned old c.args.place c.land.new.self c.in-Nothing.ensures.answer c.in-Nothing.ensures.after in
     rw none.0.same (subst (λ (value : LaneValue). value_seen old ≡ with_lane value (after_land_index value.lane c.args.place)) c.self.view_is (ap (with_lane (value_seen old)) (sym none.0.after)))
 
+pub invariant_of-self-in-Blocked : goal.invariant_of-self-in-Blocked
+invariant_of-self-in-Blocked c =
+    let held = blocked_return c.self.inside c.args.place c.land.new.self c.in-Blocked.ensures.answer c.in-Blocked.ensures.after in
+    rw held.0.same c.self.invariant
+
+pub returns-in-Blocked-clause-law : goal.returns-in-Blocked-clause-law
+returns-in-Blocked-clause-law c = (invariant_of-self-in-Blocked c).law
+
 pub returns-in-Blocked-clause-answer : goal.returns-in-Blocked-clause-answer
 returns-in-Blocked-clause-answer c =
     let held = blocked_return c.self.inside c.args.place c.land.new.self c.in-Blocked.ensures.answer c.in-Blocked.ensures.after in
