@@ -79,19 +79,23 @@ pub none_returned : (l : Inside) (place : ℕ) (returning : Flight IndexWrite) �
     → returning ≡ queue_after order_of_index l.returning place → IsUnmoved l place returning × (land_index_answer (value_seen l) place ≡ Nothing)
 none_returned l place returning answer after =
     let was = was_nothing _ _ answer in
-    let found : slice_get (lane_seen l).returning place ≡ None = slice_get-map number_of_write l.returning.writes place ∙ ap (option_map number_of_write) was in
-    (record {
-      same = after ∙ cond-false _ _ _ (past_the_end order_of_index l.returning.writes place was);
-      after = ap (after_index_found (lane_seen l) place) found;
-    }, ap (index_found (value_seen l) place) found)
+    let found : slice_get (lane_seen l).returning place ≡ None = slice_get-map number_of_write l.returning.writes place ∙ ap (option_map number_of_write) was in (
+      record {
+        same = after ∙ cond-false _ _ _ (past_the_end order_of_index l.returning.writes place was);
+        after = ap (after_index_found (lane_seen l) place) found;
+      },
+      ap (index_found (value_seen l) place) found,
+    )
 
 pub blocked_return : (l : Inside) (place : ℕ) (returning : Flight IndexWrite) → QueueBlocked ≡ queue_answer order_of_index l.returning place
     → returning ≡ queue_after order_of_index l.returning place → IsUnmoved l place returning × (land_index_answer (value_seen l) place ≡ Blocked)
 blocked_return l place returning answer after =
     let was = was_blocked _ _ answer in
     let found : slice_get (lane_seen l).returning place ≡ Some was.0.number = slice_get-map number_of_write l.returning.writes place ∙ ap (option_map number_of_write) was.1 in
-    let waits : may_land_index (lane_seen l) place ≡ false = ap (λ kinds. may_land kinds place) (sym (kinds_seen l.returning.writes)) ∙ was.2 in
-    (record {
-      same = after ∙ cond-false _ _ _ was.2;
-      after = ap (after_index_found (lane_seen l) place) found ∙ cond-false _ _ _ waits;
-    }, ap (index_found (value_seen l) place) found ∙ cond-false _ _ _ waits)
+    let waits : may_land_index (lane_seen l) place ≡ false = ap (λ kinds. may_land kinds place) (sym (kinds_seen l.returning.writes)) ∙ was.2 in (
+      record {
+        same = after ∙ cond-false _ _ _ was.2;
+        after = ap (after_index_found (lane_seen l) place) found ∙ cond-false _ _ _ waits;
+      },
+      ap (index_found (value_seen l) place) found ∙ cond-false _ _ _ waits,
+    )

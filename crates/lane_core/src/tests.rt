@@ -178,7 +178,10 @@ fn a_frame_there_and_back(rt: HostRuntime) -> Result<(), Fail> {
         (Call::Post, "Some(Flag { queue: 0, number: 0 })"),
         (Call::Post, "Some(Bell { queue: 0 })"),
         (Call::Post, "None"),
-        (Call::Land(0), "Landed(Chunk { queue: 0, number: 0, part: 0 })"),
+        (
+            Call::Land(0),
+            "Landed(Chunk { queue: 0, number: 0, part: 0 })",
+        ),
         (Call::Land(0), "Landed(Len { queue: 0, number: 0 })"),
         (Call::Land(0), "Landed(Ver { queue: 0, number: 0 })"),
         (Call::Land(0), "Landed(Flag { queue: 0, number: 0 })"),
@@ -241,9 +244,18 @@ fn relaxed_fields_pass_others(rt: HostRuntime) -> Result<(), Fail> {
     let calls = [
         (Call::Begin(300), "Ok { number: 0 }"),
         (Call::Posts(7), "Some(Bell { queue: 0 })"),
-        (Call::Land(2), "Landed(Chunk { queue: 0, number: 0, part: 2 })"),
-        (Call::Land(0), "Landed(Chunk { queue: 0, number: 0, part: 0 })"),
-        (Call::Land(0), "Landed(Chunk { queue: 0, number: 0, part: 1 })"),
+        (
+            Call::Land(2),
+            "Landed(Chunk { queue: 0, number: 0, part: 2 })",
+        ),
+        (
+            Call::Land(0),
+            "Landed(Chunk { queue: 0, number: 0, part: 0 })",
+        ),
+        (
+            Call::Land(0),
+            "Landed(Chunk { queue: 0, number: 0, part: 1 })",
+        ),
         (Call::Land(0), "Landed(Len { queue: 0, number: 0 })"),
         (Call::Land(0), "Landed(Ver { queue: 0, number: 0 })"),
         (Call::Land(0), "Landed(Flag { queue: 0, number: 0 })"),
@@ -266,7 +278,10 @@ fn relaxed_fields_pass_others(rt: HostRuntime) -> Result<(), Fail> {
         (Call::Posts(5), "Some(Bell { queue: 0 })"),
         (Call::Begin(2), "Ok { number: 1 }"),
         (Call::Posts(5), "Some(Bell { queue: 0 })"),
-        (Call::Land(5), "Landed(Chunk { queue: 0, number: 1, part: 0 })"),
+        (
+            Call::Land(5),
+            "Landed(Chunk { queue: 0, number: 1, part: 0 })",
+        ),
         (Call::Lands(4), "Landed(Flag { queue: 0, number: 0 })"),
         (Call::Receive, "0 with 3, Some(0)"),
         (Call::Look, "Empty"),

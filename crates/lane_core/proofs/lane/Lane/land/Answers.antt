@@ -82,19 +82,19 @@ label-requires c =
 
 -- the lane after the landing is the model's
 lane_after : (c : goal.After-label) → record (lane_seen c.self.inside) {
-      flight = map (λ (w : Write). w.mark) c.land.new.self.writes;
-      ring = map place_seen (with_items c.self.inside.ring c.store.new.ring).items;
-      flagged = c.self.inside.flagged + c.landed_flags.result
-    } ≡ after_landing (lane_seen c.self.inside) c.in-Landed.field-0.mark (remove (lane_seen c.self.inside).flight c.args.place)
+  flight = map (λ (w : Write). w.mark) c.land.new.self.writes;
+  ring = map place_seen (with_items c.self.inside.ring c.store.new.ring).items;
+  flagged = c.self.inside.flagged + c.landed_flags.result;
+} ≡ after_landing (lane_seen c.self.inside) c.in-Landed.field-0.mark (remove (lane_seen c.self.inside).flight c.args.place)
 lane_after c =
     let old = c.self.inside in
     let mark = c.in-Landed.field-0.mark in
     let landed = has_landed old c.args.place c.in-Landed.field-0 c.land.new.self c.in-Landed.ensures.answer c.in-Landed.ensures.after c.self.invariant in
     let ring =
-        ap (map place_seen) (with_items_is old.ring c.store.new.ring (omega arith))
-        ∙ c.store.ensures
-        ∙ ap (λ (places : List Place). ring_after (map place_seen places) (map entry_seen c.deref.result.now) mark) c.deref_mut.ensures.value
-        ∙ ap (λ (entries : List Entry). ring_after (map place_seen old.ring.items) (map entry_seen entries) mark) c.deref.ensures.value in
+    ap (map place_seen) (with_items_is old.ring c.store.new.ring (omega arith))
+    ∙ c.store.ensures
+    ∙ ap (λ (places : List Place). ring_after (map place_seen places) (map entry_seen c.deref.result.now) mark) c.deref_mut.ensures.value
+    ∙ ap (λ (entries : List Entry). ring_after (map place_seen old.ring.items) (map entry_seen entries) mark) c.deref.ensures.value in
     landed_lane (lane_seen old) _ _ _ _ mark c.self.invariant.law.2.positions landed.marks ring (ap (λ count. old.flagged + count) c.landed_flags.ensures)
 
 pub invariant_of-self-in-Landed : goal.invariant_of-self-in-Landed
