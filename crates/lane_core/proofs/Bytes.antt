@@ -1,5 +1,5 @@
 -- Bytes of a payload: a chunk of it, and a payload after a chunk was written.
-use Rattle.std.proofs.Common.{◌≡◌, ℕ, ◌+◌, ◌-◌, ◌*◌, ◌<◌, ◌≤◌, min, List, ◌++◌, length, take, drop, sym, ap, ◌∙◌, arith, append_assoc, length-take, length-drop, drop-drop}
+use Rattle.std.proofs.Common.{◌≡◌, ℕ, ◌+◌, ◌-◌, ◌*◌, ◌≤◌, min, List, ◌++◌, length, take, drop, sym, ap, ◌∙◌, arith, append_assoc, length-take, length-drop, drop-drop}
 use Rattle.std.proofs.lemmas.List.{take_min, drop-take, take-take}
 use borrow.Rule.Slice.PartMut.{put_mid}
 use Rattle.lane_model.specs.Lane.{chunk_of, chunk_size, overwritten}

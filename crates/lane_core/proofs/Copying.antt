@@ -1,5 +1,5 @@
 -- What a copying receiver reads, and what it has copied.
-use Rattle.std.proofs.Common.{◌≡◌, ℕ, ◌+◌, ◌*◌, ◌<◌, ◌≤◌, Bool, true, false, IsTrue, List, ◌++◌, length, take, drop, refl, sym, ap, ◌∙◌, inl, inr, arith, lt-ltb, le-ltb}
+use Rattle.std.proofs.Common.{◌≡◌, ℕ, ◌+◌, ◌*◌, ◌<◌, ◌≤◌, Bool, true, false, IsTrue, List, ◌++◌, length, take, drop, sym, ap, ◌∙◌, inl, inr, arith, lt-ltb, le-ltb}
 use Rattle.std.proofs.lemmas.Bool.{cases_lt, cond-true, cond-false, false≢true}
 use Rattle.std.proofs.lemmas.List.{take-take, drop-take, take-append-drop, take_all}
 use Rattle.lane_model.specs.Lane as model

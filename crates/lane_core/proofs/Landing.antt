@@ -1,20 +1,20 @@
 -- Landing: what the queue of writes in flight answers is what the model's lane answers, and the ring law holds after it.
-use Rattle.std.proofs.Common.{◌≡◌, ℕ, zero, suc, ◌+◌, ◌*◌, ◌%◌, ◌<◌, ◌≤◌, ◌⊎◌, Bool, true, false, List, [], ◌∷◌, ◌++◌, Option, Some, None, length, map, take, drop, get_or, set, slice_get, option_map, refl, sym, ap, ◌∙◌, subst, inl, inr, arith, mod-lt, All, Contains}
+use Rattle.std.proofs.Common.{◌≡◌, ℕ, zero, suc, ◌+◌, ◌%◌, ◌<◌, ◌≤◌, ◌⊎◌, Bool, true, false, List, [], ◌∷◌, Option, Some, None, length, map, take, drop, get_or, set, slice_get, option_map, refl, sym, ap, ◌∙◌, subst, inl, inr, arith, mod-lt, All, Contains}
 use Rattle.std.specs.List.{remove}
 use Rattle.std.proofs.lemmas.Bool.{cases_lt, cond-true, cond-false, eqb-true, or_cases}
 use Rattle.std.proofs.lemmas.List.{length-map}
 use Rattle.std.proofs.lemmas.List.Elements.{All-head, All-same, All-tail}
 use Rattle.std.proofs.lemmas.Option.{none-some, same_Some, slice_get-map, slice_get_within, get_or_from_slice_get}
-use Rattle.lane_model.specs.Order.{relaxed, strict, may_land}
-use Rattle.lane_model.specs.Lane.{Lane, Place, blank, bytes_of, cells_of, chunk_size, chunks_in, entry_of, flags_of, with_field, with_flags}
+use Rattle.lane_model.specs.Order.{relaxed, may_land}
+use Rattle.lane_model.specs.Lane.{Lane, Place, blank, bytes_of, cells_of, entry_of, flags_of, with_field, with_flags}
 use Rattle.lane_model.specs.Law.{HoldsRingLaw}
-use Rattle.lane_model.specs.Steps.{after_landing, after_index}
+use Rattle.lane_model.specs.Steps.{after_landing}
 use Rattle.lane_model.specs.declared.Field.{Field}
 use Rattle.lane_model.specs.declared.Field.TheVariants.{Chunk, Length, Version}
 use Rattle.lane_model.specs.declared.Mark.{Mark}
 use Rattle.lane_model.specs.declared.Mark.TheVariants.{Cell, Flag, Bell}
 use Rattle.lane_model.proofs.Chunks.{field_among}
-use Rattle.lane_model.proofs.Holds.{land_cell_keeps, land_flag_keeps, land_bell_keeps, cell_is_ahead, flag_is_next, index_is_next, index_keeps}
+use Rattle.lane_model.proofs.Holds.{land_cell_keeps, land_flag_keeps, land_bell_keeps, cell_is_ahead, flag_is_next}
 use Rattle.posted_queue.specs.Flight.{Flight}
 use Rattle.posted_queue.specs.Landing.{answer_for, land_answer as queue_answer, after_landing as queue_after}
 use Rattle.posted_queue.specs.declared.LandAnswer.TheVariants.{Landed as QueueLanded, Blocked as QueueBlocked, Nothing as QueueNothing}

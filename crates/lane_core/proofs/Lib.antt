@@ -5,6 +5,7 @@ pub mod Landing
 pub mod Looking
 pub mod Parts
 pub mod Returning
+pub mod Sent
 pub mod Starting
 pub mod Storing
 pub mod Writes

@@ -1,9 +1,8 @@
 -- What a lane keeps beside what contracts see of it.
-use Rattle.std.proofs.Common.{◌≡◌, ℕ, suc, ◌*◌, ◌≤◌, Bool, true, false, if◌then◌else◌, List, [], ◌∷◌, ◌++◌, length, map, take, drop, refl, sym, ap, ◌∙◌, All}
+use Rattle.std.proofs.Common.{◌≡◌, ℕ, suc, Bool, true, false, if◌then◌else◌, List, [], ◌∷◌, ◌++◌, map, take, drop, refl, sym, ap, ◌∙◌, All}
 use Rattle.std.specs.List.{remove}
 use Rattle.std.proofs.lemmas.List.{map_push, map-append, take-map, drop-map}
 use Rattle.std.proofs.lemmas.List.Elements.{All-append, All-drop, All-push, All-same, All-take}
-use Rattle.lane_model.specs.Lane.{chunk_size}
 use Rattle.lane_model.specs.declared.Phase.{Phase}
 use Rattle.lane_model.specs.declared.Phase.TheVariants.{Copying}
 use Rattle.lane_model.specs.declared.Mark.{Mark}

@@ -4,7 +4,6 @@ use Rattle.std.specs.List.{remove}
 use Rattle.std.proofs.lemmas.Bool.{cond-true, cond-false, false≢true, eqb-true, or_cases}
 use Rattle.std.proofs.lemmas.Option.{slice_get-map}
 use Rattle.lane_model.specs.Order.{relaxed, strict, may_land}
-use Rattle.lane_model.specs.Lane.{Lane}
 use Rattle.lane_model.specs.Law.{HoldsRingLaw}
 use Rattle.lane_model.specs.Steps.{after_index}
 use Rattle.lane_model.proofs.Holds.{index_is_next, index_keeps}
@@ -14,7 +13,7 @@ use Rattle.posted_queue.specs.declared.LandAnswer.TheVariants.{Landed as QueueLa
 use Rattle.posted_queue.proofs.LandingLemmas.{may_land-map}
 use Rattle.step_kinds.specs.declared.steps.Label.TheVariants.{Index}
 use Rattle.lane_core.specs.Calls.{may_land_index, land_index_answer, index_found, after_land_index, after_index_found}
-use Rattle.lane_core.specs.Seen.{IsKept, lane_seen, value_seen}
+use Rattle.lane_core.specs.Seen.{lane_seen, value_seen}
 use Rattle.lane_core.specs.declared.answers.LaneLand.TheVariants.{Landed, Blocked, Nothing}
 use Rattle.lane_core.specs.declared.lane.Lane.TheInside.{Inside}
 use Rattle.lane_core.specs.declared.write.IndexWrite.{IndexWrite}
@@ -80,19 +79,23 @@ pub none_returned : (l : Inside) (place : ℕ) (returning : Flight IndexWrite) �
     → returning ≡ queue_after order_of_index l.returning place → IsUnmoved l place returning × (land_index_answer (value_seen l) place ≡ Nothing)
 none_returned l place returning answer after =
     let was = was_nothing _ _ answer in
-    let found : slice_get (lane_seen l).returning place ≡ None = slice_get-map number_of_write l.returning.writes place ∙ ap (option_map number_of_write) was in
-    (record {
-      same = after ∙ cond-false _ _ _ (past_the_end order_of_index l.returning.writes place was);
-      after = ap (after_index_found (lane_seen l) place) found;
-    }, ap (index_found (value_seen l) place) found)
+    let found : slice_get (lane_seen l).returning place ≡ None = slice_get-map number_of_write l.returning.writes place ∙ ap (option_map number_of_write) was in (
+      record {
+        same = after ∙ cond-false _ _ _ (past_the_end order_of_index l.returning.writes place was);
+        after = ap (after_index_found (lane_seen l) place) found;
+      },
+      ap (index_found (value_seen l) place) found,
+    )
 
 pub blocked_return : (l : Inside) (place : ℕ) (returning : Flight IndexWrite) → QueueBlocked ≡ queue_answer order_of_index l.returning place
     → returning ≡ queue_after order_of_index l.returning place → IsUnmoved l place returning × (land_index_answer (value_seen l) place ≡ Blocked)
 blocked_return l place returning answer after =
     let was = was_blocked _ _ answer in
     let found : slice_get (lane_seen l).returning place ≡ Some was.0.number = slice_get-map number_of_write l.returning.writes place ∙ ap (option_map number_of_write) was.1 in
-    let waits : may_land_index (lane_seen l) place ≡ false = ap (λ kinds. may_land kinds place) (sym (kinds_seen l.returning.writes)) ∙ was.2 in
-    (record {
-      same = after ∙ cond-false _ _ _ was.2;
-      after = ap (after_index_found (lane_seen l) place) found ∙ cond-false _ _ _ waits;
-    }, ap (index_found (value_seen l) place) found ∙ cond-false _ _ _ waits)
+    let waits : may_land_index (lane_seen l) place ≡ false = ap (λ kinds. may_land kinds place) (sym (kinds_seen l.returning.writes)) ∙ was.2 in (
+      record {
+        same = after ∙ cond-false _ _ _ was.2;
+        after = ap (after_index_found (lane_seen l) place) found ∙ cond-false _ _ _ waits;
+      },
+      ap (index_found (value_seen l) place) found ∙ cond-false _ _ _ waits,
+    )

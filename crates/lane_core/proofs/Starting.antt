@@ -52,19 +52,19 @@ pub started : (entries largest : ℕ) (sent : List Entry) (todo : List Mark) (fl
       todo = todo;
       flight = map (λ (w : Write). w.mark) flight.writes;
       returning = map (λ (w : IndexWrite). w.number) returning.writes;
-      ring = map place_seen ring
+      ring = map place_seen ring;
     })
 started entries largest sent todo flight returning ring two no_sent no_todo no_flight no_returning zeroed =
     let at_ring = subst (λ (places : List Place). HoldsRingLaw (record (fresh_lane entries largest) { ring = places })) (sym zeroed) (fresh_law entries largest two) in
     let at_returning = subst (λ (f : Flight IndexWrite). HoldsRingLaw (record (fresh_lane entries largest) { ring = map place_seen ring; returning = map (λ (w : IndexWrite). w.number) f.writes })) (sym no_returning) at_ring in
     let at_flight =
-        subst
-        (λ (f : Flight Write). HoldsRingLaw (record (fresh_lane entries largest) { ring = map place_seen ring; returning = map (λ (w : IndexWrite). w.number) returning.writes; flight = map (λ (w : Write). w.mark) f.writes }))
-        (sym no_flight) at_returning in
+    subst
+    (λ (f : Flight Write). HoldsRingLaw (record (fresh_lane entries largest) { ring = map place_seen ring; returning = map (λ (w : IndexWrite). w.number) returning.writes; flight = map (λ (w : Write). w.mark) f.writes }))
+    (sym no_flight) at_returning in
     let at_todo =
-        subst
-        (λ (marks : List Mark). HoldsRingLaw (record (fresh_lane entries largest) { ring = map place_seen ring; returning = map (λ (w : IndexWrite). w.number) returning.writes; flight = map (λ (w : Write). w.mark) flight.writes; todo = marks }))
-        (sym no_todo) at_flight in
+    subst
+    (λ (marks : List Mark). HoldsRingLaw (record (fresh_lane entries largest) { ring = map place_seen ring; returning = map (λ (w : IndexWrite). w.number) returning.writes; flight = map (λ (w : Write). w.mark) flight.writes; todo = marks }))
+    (sym no_todo) at_flight in
     subst
     (λ (es : List Entry). HoldsRingLaw (record (fresh_lane entries largest) { ring = map place_seen ring; returning = map (λ (w : IndexWrite). w.number) returning.writes; flight = map (λ (w : Write). w.mark) flight.writes; todo = todo; sent = map entry_seen es }))
     (sym no_sent) at_todo

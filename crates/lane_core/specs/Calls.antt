@@ -1,11 +1,11 @@
 -- What the calls of a lane answer, and the lane after them.
-use Rattle.std.specs.Prelude.{ℕ, ◌+◌, ◌==◌, Bool, true, false, not, Option, Some, None, List, [], ◌∷◌, ◌++◌, length, map, remove, slice_get, if◌then◌else◌, nat_lt}
+use Rattle.std.specs.Prelude.{ℕ, ◌==◌, Bool, true, false, Option, Some, None, List, [], ◌∷◌, length, map, remove, slice_get, if◌then◌else◌, nat_lt}
 use Rattle.step_kinds.specs.declared.steps.Label.{Label}
 use Rattle.step_kinds.specs.declared.steps.Label.TheVariants.{Index}
 use Rattle.lane_model.specs.Lane.{Entry, Carries, LinkDown, Lane, bytes_of, entry_of, free_in}
 use Rattle.lane_model.specs.Order.{relaxed, strict, may_land}
 use Rattle.lane_model.specs.Ring.{head_of}
-use Rattle.lane_model.specs.Steps.{after_begin, after_post, after_landing, after_look, more_to_copy, after_copy, after_clear, after_ack, after_index, after_cut, after_drop}
+use Rattle.lane_model.specs.Steps.{after_begin, after_post, after_landing, after_look, more_to_copy, after_copy, after_clear, after_ack, after_index}
 use Rattle.lane_model.specs.declared.Mark.{Mark}
 use Rattle.lane_model.specs.declared.Mark.TheVariants.{Cell, Flag, Bell}
 use Rattle.lane_model.specs.declared.Phase.{Phase}

@@ -1,5 +1,5 @@
 -- The parts of a lane as the model sees them, and what a landing writes into the ring.
-use Rattle.std.specs.Prelude.{ℕ, ◌*◌, ◌%◌, ◌<◌, ◌≤◌, List, length, map, slice_index_or, slice_set}
+use Rattle.std.specs.Prelude.{ℕ, ◌*◌, ◌%◌, ◌<◌, ◌≤◌, List, length, slice_index_or, slice_set}
 use Rattle.lane_model.specs.Lane as model
 use Rattle.lane_model.specs.Lane.{blank, bytes_of, chunk_size, flags_of, with_field, with_flags}
 use Rattle.lane_model.specs.declared.Field.{Field}

@@ -3,7 +3,7 @@
 use step_kinds::{Frame, Label};
 
 /// What came of beginning an entry.
-#[derive(Debug, Drop)]
+#[derive(Debug, PartialEq, Eq, Drop)]
 pub enum Begun {
     /// The entry was begun and has this number.
     Ok { number: u64 },
@@ -16,7 +16,7 @@ pub enum Begun {
 }
 
 /// What came of landing a write.
-#[derive(Debug, Drop)]
+#[derive(Debug, PartialEq, Eq, Drop)]
 pub enum LaneLand {
     /// The write of this label landed.
     Landed(Label),
@@ -27,7 +27,7 @@ pub enum LaneLand {
 }
 
 /// What came of looking for the next entry.
-#[derive(Debug, Drop)]
+#[derive(Debug, PartialEq, Eq, Drop)]
 pub enum LaneLook {
     /// A frame of this number, and of this length in bytes, stands at the front of the ring.
     Ready { number: u64, len: u32 },

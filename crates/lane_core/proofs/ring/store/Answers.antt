@@ -1,4 +1,4 @@
-use Rattle.std.proofs.Common.{◌%◌, length, map, get_or, sym, ap, ◌∙◌, arith, refl}
+use Rattle.std.proofs.Common.{◌%◌, map, get_or, sym, ap, ◌∙◌, arith}
 use Rattle.lane_model.specs.Lane.{with_field, flags_of}
 use Rattle.lane_model.specs.declared.Mark.TheVariants.{Cell, Flag}
 use Rattle.lane_core.specs.Parts.{CanStore, entry_in, entry_seen, place_seen, with_flags_at}

@@ -1,4 +1,4 @@
-use Rattle.std.proofs.Common.{◌≡◌, ap, ◌∙◌, sym, subst, arith, map, List, ℕ}
+use Rattle.std.proofs.Common.{ap, ◌∙◌, sym, subst, arith, map, List, ℕ}
 use Rattle.lane_model.specs.Law.{HoldsRingLaw}
 use Rattle.lane_model.specs.Steps.{after_ack}
 use Rattle.lane_model.specs.declared.Phase.TheVariants.{Idle}

@@ -2,7 +2,7 @@ use Rattle.std.proofs.Common.{◌≡◌, ◌<◌, ◌≤◌, ◌^◌, [], ◌∷
 use Rattle.std.proofs.lemmas.Bool.{eqb-true}
 use Rattle.std.proofs.lemmas.List.{length-map, length_push, nil_from_length}
 use Rattle.lane_model.specs.Kept.{IsOpen}
-use Rattle.lane_model.specs.Lane.{bytes_of, free_in, writes_of}
+use Rattle.lane_model.specs.Lane.{bytes_of, writes_of}
 use Rattle.lane_model.specs.Law.{HoldsRingLaw}
 use Rattle.lane_model.proofs.Holds.{begin_keeps}
 use Rattle.lane_core.specs.Calls.{LaneValue}

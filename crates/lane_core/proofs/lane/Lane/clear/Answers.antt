@@ -1,4 +1,4 @@
-use Rattle.std.proofs.Common.{◌≡◌, ◌≤◌, length, ap, ◌∙◌, sym, subst, arith, map, List}
+use Rattle.std.proofs.Common.{◌≤◌, ap, ◌∙◌, sym, subst, arith, map, List}
 use Rattle.std.proofs.lemmas.List.{with_items_is}
 use Rattle.lane_model.specs.Lane.{Place}
 use Rattle.lane_model.specs.Law.{HoldsRingLaw}
@@ -17,10 +17,10 @@ invariant_of-self c =
     let kept = c.self.invariant in
     let old = c.self.inside in
     let ring =
-        ap (map place_seen) (with_items_is old.ring c.put_flags.new.ring (omega arith))
-        ∙ c.put_flags.ensures
-        ∙ ap (λ places. with_flags_at (map place_seen places) old.cleared 0) c.deref_mut.ensures.value
-        ∙ with_flags_at-is (lane_seen old) old.cleared 0 kept.law.2.positions in
+    ap (map place_seen) (with_items_is old.ring c.put_flags.new.ring (omega arith))
+    ∙ c.put_flags.ensures
+    ∙ ap (λ places. with_flags_at (map place_seen places) old.cleared 0) c.deref_mut.ensures.value
+    ∙ with_flags_at-is (lane_seen old) old.cleared 0 kept.law.2.positions in
     record {
       law = subst (λ (places : List Place). HoldsRingLaw (record (after_clear (lane_seen old)) { ring = places })) (sym ring) (clear_keeps (lane_seen old) c.in-Copied.is kept.law);
       few = kept.few;

@@ -1,14 +1,18 @@
-use Rattle.std.proofs.Common.{◌≡◌, ℕ, ◌+◌, ◌*◌, ◌<◌, ap, ◌∙◌, sym, subst, arith, length, take, Vec, Global}
-use Rattle.std.proofs.lemmas.Bool.{cond-true}
+use Rattle.std.proofs.Common.{◌≡◌, ℕ, ◌+◌, ◌*◌, ◌<◌, ◌≤◌, ap, ◌∙◌, sym, subst, arith, take, Vec, Global}
+use Rattle.std.proofs.lemmas.Bool.{cond-false, cond-true}
 use Rattle.std.proofs.lemmas.List.{length-map}
 use Rattle.lane_model.specs.Lane.{chunk_size}
 use Rattle.lane_model.specs.Law.{HoldsRingLaw}
+use Rattle.lane_model.specs.Steps.{more_to_copy}
+use Rattle.lane_model.specs.declared.Phase.{Phase}
+use Rattle.lane_model.specs.declared.Phase.TheVariants.{Copied}
 use Rattle.lane_model.proofs.Holds.{copy_keeps}
-use Rattle.lane_core.specs.Calls.{LaneValue, copy_answer}
+use Rattle.lane_core.specs.Calls.{LaneValue, with_lane, after_copying, copy_answer, is_copying}
 use Rattle.lane_core.specs.Parts.{place_seen}
-use Rattle.lane_core.specs.Seen.{lane_seen}
-use Rattle.lane_core.proofs.Copying.{answer_whole, bytes_at, copies_from, is_whole, more_left}
+use Rattle.lane_core.specs.Seen.{index_room, lane_seen, value_seen}
+use Rattle.lane_core.proofs.Copying.{IsWhole, answer_whole, bytes_at, copies_from, is_whole, more_left}
 use Rattle.lane_core.proofs.Looking.{read_place}
+use Rattle.lane_core.proofs.Parts.{not_copying}
 use Rattle.lane_core.proofs.lane.Lane.copy.Goals as goal
 
 pub invariant_of-self : goal.invariant_of-self
@@ -51,13 +55,40 @@ of_vec-requires c =
     let whole = is_whole old place c.copy_chunk.new.copied.items c.replace-bytes.result.items c.copy_chunk.result copies bytes c.copy_chunk.ensures.more.1 c.if-copy_chunk.false in
     omega (arith, whole.small, c.replace-bytes.result.ok.0)
 
-pub returns-clause-answer : goal.returns-clause-answer
-returns-clause-answer c =
+-- the last copy has the whole entry
+copied_whole : (c : goal.After-of_vec) → IsWhole c.self.inside c.of_vec.result
+copied_whole c =
     let old = c.self.inside in
     let place = c.index-place.result.now in
     let count = length-map old.ring.items place_seen in
     let here = read_place old old.got c.position_of.result place c.position_of.ensures.value (omega arith) c.index-place.ensures in
     let copies = copies_from old place c.copy_chunk.new.copied.items here c.in-Copying.is c.self.invariant c.copy_chunk.ensures.copied in
     let bytes = c.of_vec.ensures ∙ ap (λ (v : Vec ℕ Global). v.items) c.replace-bytes.ensures.value in
-    let whole = is_whole old place c.copy_chunk.new.copied.items c.of_vec.result c.copy_chunk.result copies bytes c.copy_chunk.ensures.more.1 c.if-copy_chunk.false in
-    answer_whole old c.of_vec.result c.in-Copying.is whole ∙ ap (λ (value : LaneValue). copy_answer value.lane) c.self.view_is
+    is_whole old place c.copy_chunk.new.copied.items c.of_vec.result c.copy_chunk.result copies bytes c.copy_chunk.ensures.more.1 c.if-copy_chunk.false
+
+pub invariant_of-self-2 : goal.invariant_of-self-2
+invariant_of-self-2 c =
+    let kept = c.self.invariant in
+    let old = c.self.inside in
+    let law = copy_keeps (lane_seen old) c.in-Copying.is kept.law in
+    record {
+      law = subst HoldsRingLaw (cond-false _ _ _ (copied_whole c).last) law;
+      few = kept.few;
+      small = kept.small;
+      orders = kept.orders;
+      room = kept.room;
+      index_room = subst (λ (phase : Phase). index_room phase ≤ old.returning.spare) c.in-Copying.is kept.index_room;
+      buffers = not_copying Copied old.part _ _ _ (λ e. cc e);
+    }
+
+pub returns-clause-law : goal.returns-clause-law
+returns-clause-law c = (invariant_of-self-2 c).law
+
+pub returns-clause-answer : goal.returns-clause-answer
+returns-clause-answer c = answer_whole c.self.inside c.of_vec.result c.in-Copying.is (copied_whole c) ∙ ap (λ (value : LaneValue). copy_answer value.lane) c.self.view_is
+
+pub returns-clause-after : goal.returns-clause-after
+returns-clause-after c =
+    let old = c.self.inside in
+    let after = cond-true (is_copying old.phase) _ (lane_seen old) (ap is_copying c.in-Copying.is) ∙ cond-false (more_to_copy (lane_seen old)) _ _ (copied_whole c).last in
+    ap (with_lane (value_seen old)) (sym after) ∙ ap (λ (value : LaneValue). with_lane value (after_copying value.lane)) c.self.view_is

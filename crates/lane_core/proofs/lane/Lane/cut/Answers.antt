@@ -14,3 +14,6 @@ invariant_of-self c =
       index_room = kept.index_room;
       buffers = kept.buffers;
     }
+
+pub returns-clause-law : goal.returns-clause-law
+returns-clause-law c = (invariant_of-self c).law

@@ -1,21 +1,20 @@
-use Rattle.std.proofs.Common.{◌≡◌, ◌+◌, List, None, Some, length, map, option_map, slice_get, true, ap, ◌∙◌, sym, subst, arith}
+use Rattle.std.proofs.Common.{◌≡◌, ◌+◌, List, None, length, map, option_map, slice_get, ap, ◌∙◌, sym, subst, arith}
 use Rattle.std.specs.List.{remove}
 use Rattle.std.specs.Vec.{with_items}
-use Rattle.std.proofs.lemmas.Bool.{cond-true, cond-false}
+use Rattle.std.proofs.lemmas.Bool.{cond-false}
 use Rattle.std.proofs.lemmas.List.{length-map, with_items_is}
 use Rattle.std.proofs.lemmas.Option.{slice_get-map}
 use Rattle.lane_model.specs.Law.{HoldsRingLaw}
-use Rattle.lane_model.specs.Order.{may_land}
 use Rattle.lane_model.specs.Steps.{after_landing}
 use Rattle.ledger_model.specs.Labels.{label_of}
-use Rattle.lane_core.specs.Calls.{LaneValue, with_lane, land_answer, after_land, number_of, order_of_mark, may_land_in}
+use Rattle.lane_core.specs.Calls.{LaneValue, with_lane, land_answer, after_land, number_of, order_of_mark}
 use Rattle.lane_core.specs.Parts.{IsKnown, entry_in, entry_seen, place_seen, ring_after}
 use Rattle.lane_core.specs.Seen.{lane_seen, value_seen}
 use Rattle.lane_core.specs.declared.answers.LaneLand.TheVariants.{Landed, Blocked, Nothing}
 use Rattle.lane_core.specs.declared.entry.Entry.{Entry}
 use Rattle.lane_core.specs.declared.place.Place.{Place}
 use Rattle.lane_core.specs.declared.write.Write.{Write}
-use Rattle.lane_core.proofs.Landing.{was_nothing, was_blocked, was_landed, has_landed, is_held_back, landed_lane, past_the_end, answer_nothing, after_nothing, answer_landed, after_landed}
+use Rattle.lane_core.proofs.Landing.{was_nothing, was_blocked, has_landed, is_held_back, landed_lane, past_the_end, answer_nothing, after_nothing, answer_landed, after_landed}
 use Rattle.lane_core.proofs.lane.Lane.land.Goals as goal
 
 pub invariant_of-self : goal.invariant_of-self
@@ -83,19 +82,19 @@ label-requires c =
 
 -- the lane after the landing is the model's
 lane_after : (c : goal.After-label) → record (lane_seen c.self.inside) {
-      flight = map (λ (w : Write). w.mark) c.land.new.self.writes;
-      ring = map place_seen (with_items c.self.inside.ring c.store.new.ring).items;
-      flagged = c.self.inside.flagged + c.landed_flags.result
-    } ≡ after_landing (lane_seen c.self.inside) c.in-Landed.field-0.mark (remove (lane_seen c.self.inside).flight c.args.place)
+  flight = map (λ (w : Write). w.mark) c.land.new.self.writes;
+  ring = map place_seen (with_items c.self.inside.ring c.store.new.ring).items;
+  flagged = c.self.inside.flagged + c.landed_flags.result;
+} ≡ after_landing (lane_seen c.self.inside) c.in-Landed.field-0.mark (remove (lane_seen c.self.inside).flight c.args.place)
 lane_after c =
     let old = c.self.inside in
     let mark = c.in-Landed.field-0.mark in
     let landed = has_landed old c.args.place c.in-Landed.field-0 c.land.new.self c.in-Landed.ensures.answer c.in-Landed.ensures.after c.self.invariant in
     let ring =
-        ap (map place_seen) (with_items_is old.ring c.store.new.ring (omega arith))
-        ∙ c.store.ensures
-        ∙ ap (λ (places : List Place). ring_after (map place_seen places) (map entry_seen c.deref.result.now) mark) c.deref_mut.ensures.value
-        ∙ ap (λ (entries : List Entry). ring_after (map place_seen old.ring.items) (map entry_seen entries) mark) c.deref.ensures.value in
+    ap (map place_seen) (with_items_is old.ring c.store.new.ring (omega arith))
+    ∙ c.store.ensures
+    ∙ ap (λ (places : List Place). ring_after (map place_seen places) (map entry_seen c.deref.result.now) mark) c.deref_mut.ensures.value
+    ∙ ap (λ (entries : List Entry). ring_after (map place_seen old.ring.items) (map entry_seen entries) mark) c.deref.ensures.value in
     landed_lane (lane_seen old) _ _ _ _ mark c.self.invariant.law.2.positions landed.marks ring (ap (λ count. old.flagged + count) c.landed_flags.ensures)
 
 pub invariant_of-self-in-Landed : goal.invariant_of-self-in-Landed

@@ -1,11 +1,9 @@
-use Rattle.std.proofs.Common.{◌≡◌, ◌%◌, ap, ◌∙◌, sym, subst, arith}
+use Rattle.std.proofs.Common.{◌≡◌, ap, ◌∙◌, sym, subst, arith}
 use Rattle.std.proofs.lemmas.List.{length-map}
 use Rattle.lane_core.specs.Parts.{entry_seen}
-use Rattle.lane_model.specs.Law.{HoldsRingLaw}
-use Rattle.lane_model.specs.Steps.{after_index}
 use Rattle.step_kinds.specs.declared.steps.Label.TheVariants.{Index}
 use Rattle.lane_core.specs.Calls.{LaneValue, with_lane, land_index_answer, after_land_index}
-use Rattle.lane_core.specs.Seen.{lane_seen, value_seen}
+use Rattle.lane_core.specs.Seen.{value_seen}
 use Rattle.lane_core.specs.declared.answers.LaneLand.TheVariants.{Landed, Blocked, Nothing}
 use Rattle.lane_core.proofs.Returning.{has_returned, none_returned, blocked_return}
 use Rattle.lane_core.proofs.lane.Lane.land_index.Goals as goal
@@ -28,6 +26,14 @@ returns-in-Nothing-clause-after c =
     let old = c.self.inside in
     let none = none_returned old c.args.place c.land.new.self c.in-Nothing.ensures.answer c.in-Nothing.ensures.after in
     rw none.0.same (subst (λ (value : LaneValue). value_seen old ≡ with_lane value (after_land_index value.lane c.args.place)) c.self.view_is (ap (with_lane (value_seen old)) (sym none.0.after)))
+
+pub invariant_of-self-in-Blocked : goal.invariant_of-self-in-Blocked
+invariant_of-self-in-Blocked c =
+    let held = blocked_return c.self.inside c.args.place c.land.new.self c.in-Blocked.ensures.answer c.in-Blocked.ensures.after in
+    rw held.0.same c.self.invariant
+
+pub returns-in-Blocked-clause-law : goal.returns-in-Blocked-clause-law
+returns-in-Blocked-clause-law c = (invariant_of-self-in-Blocked c).law
 
 pub returns-in-Blocked-clause-answer : goal.returns-in-Blocked-clause-answer
 returns-in-Blocked-clause-answer c =

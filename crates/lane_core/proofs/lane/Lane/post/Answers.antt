@@ -1,4 +1,4 @@
-use Rattle.std.proofs.Common.{◌≡◌, ◌++◌, [], ◌∷◌, length, ap, ◌∙◌, sym, subst, arith, map, List}
+use Rattle.std.proofs.Common.{length, ap, ◌∙◌, sym, subst, arith, map, List}
 use Rattle.std.proofs.lemmas.List.{length-map}
 use Rattle.lane_model.specs.Law.{HoldsRingLaw}
 use Rattle.lane_model.specs.Steps.{after_post}
