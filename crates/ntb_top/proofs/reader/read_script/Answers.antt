@@ -1,7 +1,7 @@
-use Rattle.std.proofs.Common.{◌≡◌, ◌+◌, ◌≤◌, ap, sym, ◌∙◌, arith, length, vec_len, option_map, Option, List, ℕ, Bor}
-use Rattle.ntb_top.specs.Seen.{script_seen, with_given}
-use Rattle.ntb_top.specs.Script.{read_lines, script_of, line_gives}
-use Rattle.ntb_top.specs.Spelling.{lines_left, lines_of}
+use Rattle.std.proofs.Common.{◌≡◌, ◌+◌, ◌≤◌, ap, sym, ◌∙◌, arith, length, option_map, Option, List, ℕ, Bor}
+use Rattle.ntb_top.specs.Seen.{script_seen}
+use Rattle.ntb_top.specs.Script.{read_lines}
+use Rattle.ntb_top.specs.Spelling.{lines_left}
 use Rattle.ntb_top.proofs.Reading.{left_len, left-shorter, read-on, steps-few}
 use Rattle.ntb_top.proofs.reader.read_script.Goals as goal
 

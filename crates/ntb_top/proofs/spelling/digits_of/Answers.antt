@@ -1,6 +1,5 @@
-use Rattle.std.proofs.Common.{◌≡◌, ◌<◌, ◌≤◌, ◌+◌, ◌*◌, ◌-◌, ◌^◌, get_or, length, true, sym, ◌∙◌, arith}
-use Rattle.ntb_top.specs.Spelling.{is_digit}
-use Rattle.ntb_top.proofs.Spelled.{digits_from, digits-past, digits-done, digits-next, digits-end}
+use Rattle.std.proofs.Common.{sym, ◌∙◌, arith}
+use Rattle.ntb_top.proofs.Spelled.{digits-past, digits-done}
 use Rattle.ntb_top.proofs.spelling.digits_of.Goals as goal
 
 pub returns-in_err-checked_mul : goal.returns-in_err-checked_mul

@@ -1,9 +1,8 @@
-use Rattle.std.proofs.Common.{◌≡◌, ◌==◌, ◌∷◌, ◌+◌, Some, None, length, nat_lt, if◌then◌else◌, rules, ap, sym, ◌∙◌}
+use Rattle.std.proofs.Common.{◌≡◌, ◌==◌, ◌+◌, Some, None, length, nat_lt, if◌then◌else◌, rules}
 use borrow.Author.Tests.{tests}
 use Rattle.std.proofs.lemmas.Iterator.{YieldsList-from_slice}
 use Rattle.std.proofs.lemmas.Iterator.Search.{position_from_yields_List}
 use Rattle.std.specs.List.{position_or_len}
-use Rattle.ntb_top.specs.Spelling as spec
 use Rattle.ntb_top.proofs.Spelled.{lines-found, lines-not_found}
 use Rattle.ntb_top.proofs.Words.{rest-whole}
 use Rattle.ntb_top.proofs.spelling.first_line.Goals as goal

@@ -1,4 +1,4 @@
-use Rattle.std.proofs.Common.{◌≡◌, ◌<◌, ◌≤◌, ◌+◌, ◌-◌, get_or, length, suc, add-one, arith, [], ◌∷◌, List, ℕ, refl}
+use Rattle.std.proofs.Common.{◌≡◌, ◌-◌, length, arith, [], ◌∷◌, List, ℕ, refl}
 use Rattle.ntb_top.specs.Spelling.{without_return}
 use Rattle.ntb_top.proofs.Spelled.{without_return-returned, without_return-plain}
 use Rattle.ntb_top.proofs.spelling.without_return.Goals as goal
