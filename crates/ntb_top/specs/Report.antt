@@ -49,7 +49,7 @@ last_session_of plan log pair = first_session plan pair + count_by (trains pair)
 abbrev pub pair_lines : Plan → List Answered → ℕ → PairPlan → List ℕ
 pair_lines plan log k pair =
     flat_map (λ from. flat_map (λ queue. flat_map (λ session. lane_line plan log pair (record { pair = k; from = from; queue = queue }) session)
-      (count_from 1 (last_session_of plan log k))) (count_from 0 (min pair.a.queues pair.b.queues))) (A ∷ B ∷ [])
+    (count_from 1 (last_session_of plan log k))) (count_from 0 (min pair.a.queues pair.b.queues))) (A ∷ B ∷ [])
 
 abbrev pub pairs_lines : Plan → List Answered → ℕ → List PairPlan → List ℕ
 pairs_lines plan log k [] = []
