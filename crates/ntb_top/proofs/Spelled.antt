@@ -81,7 +81,7 @@ behind-missing (k ∷ key) (b ∷ word) h = missing-next (b == k) (bytes_eq (tak
 -- what a call that strips a prefix finds
 pub behind-stripped : (key word : List ℕ) (found : Option (Bor (List ℕ))) →
     MatchOption found (bytes_eq (take (length key) word) key ≡ false)
-      (λ rest. (bytes_eq (take (length key) word) key ≡ true) × (rest.now ≡ drop (length key) word) × (length rest.now + length key ≡ length word)) →
+    (λ rest. (bytes_eq (take (length key) word) key ≡ true) × (rest.now ≡ drop (length key) word) × (length rest.now + length key ≡ length word)) →
     option_map (λ rest. rest.now) found ≡ behind key word
 behind-stripped key word None h = sym (behind-missing key word h)
 behind-stripped key word (Some rest) h = ap (λ bytes. let found : Option (List ℕ) = Some bytes in found) h.1 ∙ sym (behind-found key word h.0)

@@ -89,7 +89,12 @@ fn push_step(steps: &mut Vec<LineStep>, line: u32, step: LaneStep) -> Result<(),
 }
 
 // Adds a step so many times.
-fn push_repeated(steps: &mut Vec<LineStep>, line: u32, repeated: Repeated, count: u32) -> Result<(), AllocError>
+fn push_repeated(
+    steps: &mut Vec<LineStep>,
+    line: u32,
+    repeated: Repeated,
+    count: u32,
+) -> Result<(), AllocError>
     ensures { OnOk result (steps_seen steps.new.items ≡ steps_seen steps.old.items ++ at_line line (replicate count (repeated_seen repeated))) }
 {
     for _ in 0..count {

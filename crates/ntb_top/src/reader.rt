@@ -13,8 +13,8 @@ use crate::macros::Macro;
 use crate::options::Options;
 use crate::script::{LaneStep, MOST_FRAME_BYTES, MOST_STEPS, Part, Script, SentFrame};
 use crate::spelling::{
-    bytes_of, first_line, is_comment, is_text, is_word, name_of, number_between, number_of, side_of,
-    words_of,
+    bytes_of, first_line, is_comment, is_text, is_word, name_of, number_between, number_of,
+    side_of, words_of,
 };
 use std::alloc::{AllocError, Global};
 use step_kinds::{Frame, Side};
@@ -38,21 +38,20 @@ impl From<AllocError> for ScriptFault {
     }
 }
 
-/// Reads a script of at most 16,777,216 bytes.
+/// Reads a script. Lines are counted up to 2^32 - 1, which a script of at most 16,777,216 bytes doesn't reach.
 ///
 /// The error is `NotBuilt` with the number of the first line that isn't built, or want of memory.
 pub fn read_script(alloc: Global, bytes: &[u8]) -> Result<Script, ScriptFault>
-    requires { length bytes.now ≤ 16777216 }
-    ensures ok { IfOk result (λ script. spec.script_of bytes.now ≡ Ok (script_seen script)) }
+    ensures ok { length bytes.now ≤ 16777216 → IfOk result (λ script. spec.script_of bytes.now ≡ Ok (script_seen script)) }
+    ensures refused { length bytes.now ≤ 16777216 → IfErr result (IsScriptFault (spec.script_of bytes.now)) }
     ensures few { IfOk result (λ script. vec_len script.steps ≤ 1000000) }
-    ensures refused { IfErr result (IsScriptFault (spec.script_of bytes.now)) }
 {
     let mut script = Script::empty(alloc);
     let mut number = 0u32;
     let mut left = Some(bytes);
     while let Some(rest) = left {
         let (line, behind) = first_line(rest);
-        number += 1;
+        number = number.saturating_add(1);
         match line_of(alloc, &script, line)? {
             Some(given) => given.add_to(&mut script, number)?,
             None => return Err(ScriptFault::NotBuilt(number)),
@@ -86,9 +85,7 @@ fn is_skipped(part: Part, line: &[u8]) -> bool
 
 // What a line of these words gives.
 fn given_of(alloc: Global, before: &Script, words: &[&[u8]]) -> Result<Option<Given>, AllocError>
-    ensures gives {
-        IfOk result (Gives (λ n. spec.words_line n (part_seen before.now.part) (script_seen before.now) (words_seen words.now)) before.now)
-    }
+    ensures gives { IfOk result (Gives (λ n. spec.words_line n (part_seen before.now.part) (script_seen before.now) (words_seen words.now)) before.now) }
     ensures few { IfOk result (StepsFit (vec_len before.now.steps)) }
 {
     match before.part {
@@ -161,16 +158,8 @@ fn host_of(before: &Script, word: &[u8]) -> Option<Given>
 }
 
 // A pair: at most one, of two declared hosts.
-fn pair_of(
-    before: &Script,
-    name: &[u8],
-    a: &[u8],
-    b: &[u8],
-    words: &[&[u8]],
-) -> Option<Given>
-    ensures gives {
-        Gives (λ n. spec.pair_line (script_seen before.now) name.now a.now b.now (words_seen words.now)) before.now result
-    }
+fn pair_of(before: &Script, name: &[u8], a: &[u8], b: &[u8], words: &[&[u8]]) -> Option<Given>
+    ensures gives { Gives (λ n. spec.pair_line (script_seen before.now) name.now a.now b.now (words_seen words.now)) before.now result }
     ensures few { (steps : ℕ) → StepsFit steps result }
 {
     if before.pair.is_some() || !before.has_host(a) || !before.has_host(b) || a == b {
@@ -244,11 +233,7 @@ fn landing_of(word: &[u8], side: Side, rest: &[&[u8]]) -> Option<Macro>
 }
 
 // A macro of the sending side.
-fn sender_macro_of(
-    alloc: Global,
-    word: &[u8],
-    rest: &[&[u8]],
-) -> Result<Option<Macro>, AllocError>
+fn sender_macro_of(alloc: Global, word: &[u8], rest: &[&[u8]]) -> Result<Option<Macro>, AllocError>
     ensures { IfOk result (λ steps. option_map macro_steps steps ≡ spec.sender_steps word.now (words_seen rest.now)) }
 {
     if is_word(word, "send") {

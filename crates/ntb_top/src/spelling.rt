@@ -128,9 +128,7 @@ pub fn number_of(word: &[u8]) -> Option<u32>
 
 // The value of decimal digits, below 2^32.
 fn digits_of(digits: &[u8]) -> Option<u32>
-    ensures {
-        result ≡ (if list_all spec.is_digit digits.now && nat_lt (spec.value_from 0 digits.now) (2 ^ 32) then Some (spec.value_from 0 digits.now) else None)
-    }
+    ensures { result ≡ (if list_all spec.is_digit digits.now && nat_lt (spec.value_from 0 digits.now) (2 ^ 32) then Some (spec.value_from 0 digits.now) else None) }
 {
     let mut value = 0u32;
     for digit in digits {

@@ -7,9 +7,9 @@ use Rattle.ntb_top.proofs.reader.read_script.Given as goal
 
 abbrev pub invariant-loop-left : goal.invariant-loop-left
 invariant-loop-left l = record {
-  counted : l.number + left_len l.left ≤ length l.fn.bytes + 1;
+  counted : length l.fn.bytes ≤ 16777216 → l.number + left_len l.left ≤ length l.fn.bytes + 1;
   few : vec_len l.script.steps ≤ 1000000;
-  same : read_lines (l.number + 1) (script_seen l.script) (lines_left (option_map (λ rest. rest.now) l.left)) ≡ script_of l.fn.bytes;
+  same : length l.fn.bytes ≤ 16777216 → read_lines (l.number + 1) (script_seen l.script) (lines_left (option_map (λ rest. rest.now) l.left)) ≡ script_of l.fn.bytes;
 }
 
 abbrev pub decreases-loop-left : goal.decreases-loop-left

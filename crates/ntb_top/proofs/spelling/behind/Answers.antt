@@ -1,4 +1,4 @@
-use Rattle.std.proofs.Common.{sym, ap, ◌∙◌}
+use Rattle.std.proofs.Common.{ap, ◌∙◌}
 use Rattle.ntb_top.specs.Spelling as spec
 use Rattle.ntb_top.proofs.Spelled.{behind-stripped}
 use Rattle.ntb_top.proofs.spelling.behind.Goals as goal

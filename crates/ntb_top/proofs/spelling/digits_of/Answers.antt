@@ -1,12 +1,11 @@
-use Rattle.std.proofs.Common.{◌≡◌, ◌<◌, ◌≤◌, ◌+◌, ◌*◌, ◌-◌, ◌^◌, get_or, length, true, sym, ◌∙◌, arith}
-use Rattle.ntb_top.specs.Spelling.{is_digit}
-use Rattle.ntb_top.proofs.Spelled.{digits_from, digits-past, digits-done, digits-next, digits-end}
+use Rattle.std.proofs.Common.{sym, ◌∙◌, arith}
+use Rattle.ntb_top.proofs.Spelled.{digits-past, digits-done}
 use Rattle.ntb_top.proofs.spelling.digits_of.Goals as goal
 
 pub returns-in_err-checked_mul : goal.returns-in_err-checked_mul
 returns-in_err-checked_mul c =
     let past = digits-past c.loop-digit.value c.args.digits.now c.loop-digit.digit-index (omega arith)
-        (sym c.if-not-is_digit.ensures) (omega (arith, c.in_err-checked_mul.ensures)) in
+    (sym c.if-not-is_digit.ensures) (omega (arith, c.in_err-checked_mul.ensures)) in
     c.from_residual.ensures ∙ sym past ∙ c.loop-digit.invariant.same
 
 pub returns-in_err-value : goal.returns-in_err-value
@@ -14,7 +13,7 @@ returns-in_err-value c =
     let a = c.in_ok-checked_mul.ensures in
     let b = c.from.ensures in
     let past = digits-past c.loop-digit.value c.args.digits.now c.loop-digit.digit-index (omega arith)
-        (sym c.if-not-is_digit.ensures) (omega (arith, c.in_err-value.ensures, c.in_ok-checked_mul.ensures, c.from.ensures)) in
+    (sym c.if-not-is_digit.ensures) (omega (arith, c.in_err-value.ensures, c.in_ok-checked_mul.ensures, c.from.ensures)) in
     c.from_residual-in_err-value.ensures ∙ sym past ∙ c.loop-digit.invariant.same
 
 pub returns : goal.returns
