@@ -1,10 +1,12 @@
 -- The ledger of a script's one pair, as the lane of the engine shows it: the lane goes from side A to side B on queue 0, in session 1 of a
 -- pair that was declared up.
-use Rattle.std.specs.Prelude.{◌≡◌, ℕ, ◌+◌, ◌≤◌, Bool, true, false, List, [], length, map}
+use Rattle.std.specs.Prelude.{◌≡◌, ℕ, ◌+◌, ◌<◌, ◌≤◌, Bool, true, false, List, [], ◌∷◌, ◌++◌, length, map, All}
 use Rattle.step_kinds.specs.Bits.{has_bit}
 use Rattle.step_kinds.specs.declared.names.Side.{Side}
 use Rattle.step_kinds.specs.declared.names.Side.TheVariants.{A, B}
+use Rattle.step_kinds.specs.declared.plan.Line.{Line}
 use Rattle.step_kinds.specs.declared.plan.PairPlan.{PairPlan}
+use Rattle.step_kinds.specs.declared.plan.Plan.{Plan}
 use Rattle.step_kinds.specs.declared.steps.Answer.{Answer}
 use Rattle.step_kinds.specs.declared.steps.Label.{Label}
 use Rattle.step_kinds.specs.declared.steps.Label.TheVariants.{Index}
@@ -80,3 +82,8 @@ pub record IsBuiltPair (plan : PairPlan) : Type 0 where
   pub most_size : plan.a.size ≤ 1048576
   pub least_mtu : 16 ≤ plan.mtu
   pub most_mtu : plan.mtu ≤ 65536
+  pub ascii_name : All (λ byte. byte < 128) plan.name
+
+-- the plan of one pair and the steps on it
+abbrev pub plan_of_pair : PairPlan → List Line → Plan
+plan_of_pair pair steps = record { pairs = pair ∷ []; devs = []; steps = steps; traffic = [] }
