@@ -2,7 +2,10 @@ pub mod CountsLemmas
 pub mod Landing
 pub mod Making
 pub mod Marks
+pub mod Reading
 pub mod Receiving
 pub mod Reporting
 pub mod Sending
+pub mod Spelled
 pub mod TextLemmas
+pub mod Words

@@ -12,7 +12,7 @@ use Rattle.step_kinds.specs.declared.plan.Plan.{Plan}
 use Rattle.step_kinds.specs.declared.steps.Step.{Step}
 use Rattle.step_kinds.specs.declared.steps.Step.TheVariants.{Begin, Post, Land, Look, Copy, Clear, Ack}
 use Rattle.ledger_model.specs.Macros.{send, land_all, receive}
-use Rattle.ntb_top.specs.Spelling.{lines_of, words_of, is_comment, is_text, is_name, side_of, number_of, bytes_of}
+use Rattle.ntb_top.specs.Spelling.{lines_of, words_of, is_comment, is_text, is_name, side_of, number_of, bytes_of, only_if, number_between, behind}
 
 -- the part of a script that a line stands in
 pub data Part : Type 0 where
@@ -35,15 +35,6 @@ most_steps = 1000000
 
 abbrev pub most_frame_bytes : ℕ
 most_frame_bytes = 65536
-
--- a value where a test holds
-abbrev pub only_if : {X : Type 0} → Bool → X → Option X
-only_if true x = Some x
-only_if false x = None
-
--- the number that a word spells, from the least to the most
-abbrev pub number_between : List ℕ → ℕ → ℕ → Option ℕ
-number_between word least most = option_and_then (λ n. only_if (nat_le least n && nat_le n most) n) (number_of word)
 
 -- Declarations
 
@@ -71,12 +62,6 @@ is_size size = nat_le 4096 size && (nat_le size 1048576 && (size % 4096 == 0))
 
 abbrev pub is_mtu : ℕ → Bool
 is_mtu mtu = nat_le 16 mtu && nat_le mtu 65536
-
--- what a word has behind a key
-abbrev pub behind : List ℕ → List ℕ → Option (List ℕ)
-behind [] word = Some word
-behind (k ∷ key) [] = None
-behind (k ∷ key) (b ∷ word) = if k == b then behind key word else None
 
 abbrev pub with_size : Options → Option ℕ → Option Options
 with_size options None = None
@@ -192,11 +177,14 @@ abbrev pub steps_of : Script → List (List ℕ) → Option (List Step)
 steps_of script (word ∷ pair ∷ side ∷ words) = if has_pair script pair then steps_at word (side_of side) words else None
 steps_of script words = None
 
+-- steps that stand at line n
+abbrev pub at_line : ℕ → List Step → List Line
+at_line n steps = map (λ step. record { line = n; step = step }) steps
+
 -- the script with the steps of line n, as long as there are not too many
 abbrev pub with_steps : ℕ → Script → List Step → Option Script
 with_steps n script steps =
-    only_if (nat_le (length script.steps + length steps) most_steps)
-    (record script { steps = script.steps ++ map (λ step. record { line = n; step = step }) steps })
+    only_if (nat_le (length script.steps + length steps) most_steps) (record script { steps = script.steps ++ at_line n steps })
 
 abbrev pub step_line : ℕ → Script → List (List ℕ) → Option Script
 step_line n script [] = Some script

@@ -1,6 +1,6 @@
 -- How a script is spelled: lines and words, names, sides, numbers and bytes. Bytes are numbers: 10 is a line feed, 13 a carriage
 -- return, 32 a space and 35 a number sign.
-use Rattle.std.specs.Prelude.{ℕ, ◌+◌, ◌-◌, ◌*◌, ◌^◌, ◌==◌, Bool, true, false, not, ◌&&◌, ◌||◌, Option, Some, None, List, [], ◌∷◌, length, map, filter, slice_index, nat_lt, nat_le, if◌then◌else◌}
+use Rattle.std.specs.Prelude.{ℕ, ◌+◌, ◌-◌, ◌*◌, ◌^◌, ◌==◌, Bool, true, false, not, ◌&&◌, ◌||◌, Option, Some, None, List, [], ◌∷◌, length, map, filter, option_and_then, nat_lt, nat_le, if◌then◌else◌}
 use Rattle.std.specs.List.{slice_split, list_all}
 use Rattle.std.specs.Result.{result_ok}
 use Rattle.hex.specs.Hex.{decode_of}
@@ -16,6 +16,11 @@ without_return (b ∷ c ∷ bytes) = b ∷ without_return (c ∷ bytes)
 -- the lines of a script: each ends with a line feed, which the last may lack
 abbrev pub lines_of : List ℕ → List (List ℕ)
 lines_of bytes = map without_return (slice_split (λ b. b == 10) bytes)
+
+-- the lines behind a line feed, where one was found
+abbrev pub lines_left : Option (List ℕ) → List (List ℕ)
+lines_left None = []
+lines_left (Some bytes) = lines_of bytes
 
 abbrev pub is_filled : List ℕ → Bool
 is_filled [] = false
@@ -68,3 +73,18 @@ number_of word = if list_all is_digit word && (is_plain word && nat_lt (value_fr
 -- the bytes that a word spells by pairs of hexadecimal digits
 abbrev pub bytes_of : List ℕ → Option (List ℕ)
 bytes_of word = result_ok (decode_of word)
+
+-- a value where a test holds
+abbrev pub only_if : {X : Type 0} → Bool → X → Option X
+only_if true x = Some x
+only_if false x = None
+
+-- the number that a word spells, from the least to the most
+abbrev pub number_between : List ℕ → ℕ → ℕ → Option ℕ
+number_between word least most = option_and_then (λ n. only_if (nat_le least n && nat_le n most) n) (number_of word)
+
+-- what a word has behind a key
+abbrev pub behind : List ℕ → List ℕ → Option (List ℕ)
+behind [] word = Some word
+behind (k ∷ key) [] = None
+behind (k ∷ key) (b ∷ word) = if b == k then behind key word else None

@@ -3,6 +3,9 @@
 #![tactic(auto)]
 
 mod engine;
+mod given;
+mod macros;
+mod options;
 mod program;
 mod reader;
 mod report;

@@ -1,37 +1,23 @@
 //! The reader of a script, line by line.
 //!
 //! It has the shape that the whole grammar will have: one function of a line and of what the lines before it gave, which answers
-//! what the line gives or its first fault. So far each fault is the same: the line isn't built.
+//! what the line gives, or that it isn't built.
 
-use crate::script::{
-    Given, LaneStep, MOST_FRAME_BYTES, MOST_STEPS, Macro, Part, Script, SentFrame,
-};
+ghost use Rattle.std.specs.Prelude.{◌≡◌, ◌≤◌, ◌&&◌, not, ◌∷◌, [], ℕ, Ok, length, option_map, vec_len, IfOk, IfErr};
+ghost use Rattle.ntb_top.specs.Script as spec;
+ghost use Rattle.ntb_top.specs.Spelling.{is_comment};
+ghost use Rattle.ntb_top.specs.Seen.{part_seen, script_seen, step_seen, macro_steps, words_seen, Gives, IsScriptFault, StepsFit};
+
+use crate::given::Given;
+use crate::macros::Macro;
+use crate::options::Options;
+use crate::script::{LaneStep, MOST_FRAME_BYTES, MOST_STEPS, Part, Script, SentFrame};
 use crate::spelling::{
-    bytes_of, is_comment, is_text, name_of, number_of, side_of, without_return, words_of,
+    bytes_of, first_line, is_comment, is_text, is_word, name_of, number_between, number_of,
+    side_of, words_of,
 };
-use std::alloc::{AllocError, AllocFailed, Global};
-use step_kinds::{Frame, Name, PairPlan, Side, SidePlan};
-
-/// Why a line gives nothing.
-#[derive(Clone, Copy, Debug, PartialEq, Eq)]
-pub enum LineFault {
-    /// The line isn't built.
-    NotBuilt,
-    /// Want of memory.
-    OutOfMemory,
-}
-
-impl From<AllocError> for LineFault {
-    fn from(_: AllocError) -> LineFault {
-        LineFault::OutOfMemory
-    }
-}
-
-impl<T: Drop> From<AllocFailed<T>> for LineFault {
-    fn from(_: AllocFailed<T>) -> LineFault {
-        LineFault::OutOfMemory
-    }
-}
+use std::alloc::{AllocError, Global};
+use step_kinds::{Frame, Side};
 
 /// Why a script can't be read.
 #[derive(Clone, Copy, Debug, PartialEq, Eq)]
@@ -43,199 +29,236 @@ pub enum ScriptFault {
 }
 
 impl From<AllocError> for ScriptFault {
+    ghost use Rattle.ntb_top.specs.declared.reader.ScriptFault.TheVariants.{OutOfMemory};
+
+    ghost from_gives = { λ _ fault. fault ≡ OutOfMemory };
+
     fn from(_: AllocError) -> ScriptFault {
         ScriptFault::OutOfMemory
     }
 }
 
-/// Reads a script.
-pub fn read_script(alloc: Global, bytes: &[u8]) -> Result<Script, ScriptFault> {
+/// Reads a script. Lines are counted up to 2^32 - 1, which a script of at most 16,777,216 bytes doesn't reach.
+///
+/// The error is `NotBuilt` with the number of the first line that isn't built, or want of memory.
+pub fn read_script(alloc: Global, bytes: &[u8]) -> Result<Script, ScriptFault>
+    ensures ok { length bytes.now ≤ 16777216 → IfOk result (λ script. spec.script_of bytes.now ≡ Ok (script_seen script)) }
+    ensures refused { length bytes.now ≤ 16777216 → IfErr result (IsScriptFault (spec.script_of bytes.now)) }
+    ensures few { IfOk result (λ script. vec_len script.steps ≤ 1000000) }
+{
     let mut script = Script::empty(alloc);
     let mut number = 0u32;
-    for line in bytes.split(|byte| *byte == b'\n') {
+    let mut left = Some(bytes);
+    while let Some(rest) = left {
+        let (line, behind) = first_line(rest);
         number = number.saturating_add(1);
-        match line_of(alloc, &script, without_return(line)) {
-            Ok(given) => script.take(number, given)?,
-            Err(LineFault::NotBuilt) => return Err(ScriptFault::NotBuilt(number)),
-            Err(LineFault::OutOfMemory) => return Err(ScriptFault::OutOfMemory),
+        match line_of(alloc, &script, line)? {
+            Some(given) => given.add_to(&mut script, number)?,
+            None => return Err(ScriptFault::NotBuilt(number)),
         }
+        left = behind;
     }
     Ok(script)
 }
 
-/// What a line gives, after what the lines before it gave, or its first fault.
-pub fn line_of(alloc: Global, before: &Script, line: &[u8]) -> Result<Given, LineFault> {
-    if before.part != Part::Header && is_comment(line) {
-        return Ok(Given::Nothing);
+// What a line gives after what the lines before it gave. `None` where it isn't built; the only error is want of memory.
+fn line_of(alloc: Global, before: &Script, line: &[u8]) -> Result<Option<Given>, AllocError>
+    ensures gives { IfOk result (Gives (λ n. spec.line_gives n (script_seen before.now) line.now) before.now) }
+    ensures few { IfOk result (StepsFit (vec_len before.now.steps)) }
+{
+    if is_skipped(before.part, line) {
+        return Ok(Some(Given::Nothing));
     }
     if !is_text(line) {
-        return Err(LineFault::NotBuilt);
+        return Ok(None);
     }
     let words = words_of(alloc, line)?;
+    given_of(alloc, before, &words)
+}
+
+// Whether a line is a comment and not the first line.
+fn is_skipped(part: Part, line: &[u8]) -> bool
+    ensures { result ≡ (not (spec.is_header (part_seen part)) && is_comment line.now) }
+{
+    part != Part::Header && is_comment(line)
+}
+
+// What a line of these words gives.
+fn given_of(alloc: Global, before: &Script, words: &[&[u8]]) -> Result<Option<Given>, AllocError>
+    ensures gives { IfOk result (Gives (λ n. spec.words_line n (part_seen before.now.part) (script_seen before.now) (words_seen words.now)) before.now) }
+    ensures few { IfOk result (StepsFit (vec_len before.now.steps)) }
+{
     match before.part {
-        Part::Header => header_of(&words),
-        Part::Declarations => declaration_of(before, &words),
-        Part::Steps => step_of(alloc, before, &words),
+        Part::Header => Ok(header_of(words)),
+        Part::Declarations => Ok(declaration_of(before, words)),
+        Part::Steps => step_of(alloc, before, words),
     }
 }
 
 // Line 1.
-fn header_of(words: &[&[u8]]) -> Result<Given, LineFault> {
+fn header_of(words: &[&[u8]]) -> Option<Given>
+    ensures gives { (before : Script) → Gives (λ n. spec.header_line (script_seen before) (words_seen words.now)) before result }
+    ensures few { (steps : ℕ) → StepsFit steps result }
+{
     match words {
-        [b"ntb", b"1"] => Ok(Given::Header),
-        _ => Err(LineFault::NotBuilt),
-    }
-}
-
-// A line before the steps.
-fn declaration_of(before: &Script, words: &[&[u8]]) -> Result<Given, LineFault> {
-    match words {
-        [] => Ok(Given::Nothing),
-        [b"host", name] => host_of(before, name),
-        [b"pair", name, a, b, options @ ..] => pair_of(before, name, a, b, options),
-        [b"steps"] => Ok(Given::StepsBegin),
-        _ => Err(LineFault::NotBuilt),
-    }
-}
-
-// A host: at most two, with names of their own.
-fn host_of(before: &Script, word: &[u8]) -> Result<Given, LineFault> {
-    match name_of(word) {
-        Some(name) if before.hosts.len() < 2 && !before.has_host(word) => Ok(Given::Host(name)),
-        _ => Err(LineFault::NotBuilt),
-    }
-}
-
-// A pair: at most one, of two declared hosts, up, with sides of one window and one queue.
-fn pair_of(
-    before: &Script,
-    name: &[u8],
-    a: &[u8],
-    b: &[u8],
-    words: &[&[u8]],
-) -> Result<Given, LineFault> {
-    if before.pair.is_some() || a == b || !before.has_host(a) || !before.has_host(b) {
-        return Err(LineFault::NotBuilt);
-    }
-    let name = name_of(name).ok_or(LineFault::NotBuilt)?;
-    let options = options_of(words).ok_or(LineFault::NotBuilt)?;
-    Ok(Given::Pair(plan_of(name, options)))
-}
-
-// The options of a pair.
-#[derive(Clone, Copy)]
-struct Options {
-    up: bool,
-    strict: bool,
-    size: Option<u32>,
-    mtu: Option<u32>,
-}
-
-// The options that these words spell, each at most once. So far a pair has to be declared up.
-fn options_of(words: &[&[u8]]) -> Option<Options> {
-    let mut options = Options {
-        up: false,
-        strict: false,
-        size: None,
-        mtu: None,
-    };
-    for word in words {
-        options = with_option(options, word)?;
-    }
-    if options.up { Some(options) } else { None }
-}
-
-// The options with one more.
-fn with_option(options: Options, word: &[u8]) -> Option<Options> {
-    match word {
-        b"up" if !options.up => Some(Options {
-            up: true,
-            ..options
-        }),
-        b"strict" if !options.strict => Some(Options {
-            strict: true,
-            ..options
-        }),
-        [b's', b'i', b'z', b'e', b'=', digits @ ..] if options.size.is_none() => {
-            let size = number_of(digits)?;
-            if (4096..=1_048_576).contains(&size) && size % 4096 == 0 {
-                Some(Options {
-                    size: Some(size),
-                    ..options
-                })
-            } else {
-                None
-            }
-        }
-        [b'm', b't', b'u', b'=', digits @ ..] if options.mtu.is_none() => {
-            let mtu = number_of(digits)?;
-            if (16..=65_536).contains(&mtu) {
-                Some(Options {
-                    mtu: Some(mtu),
-                    ..options
-                })
-            } else {
-                None
-            }
-        }
+        [word, version] if is_word(word, "ntb") && is_word(version, "1") => Some(Given::Header),
         _ => None,
     }
 }
 
-// The pair of this name with these options.
-fn plan_of(name: Name, options: Options) -> PairPlan {
-    let size = u64::from(options.size.unwrap_or(65_536));
-    let side = SidePlan {
-        version: 4,
-        queues: 1,
-        windows: 1,
-        size,
-        cap: size,
-    };
-    PairPlan {
-        name,
-        a: side,
-        b: side,
-        mtu: options.mtu.unwrap_or(65_536),
-        up: options.up,
-        strict: options.strict,
-        raw: false,
+// A line before the steps.
+fn declaration_of(before: &Script, words: &[&[u8]]) -> Option<Given>
+    ensures gives { Gives (λ n. spec.declaration_line (script_seen before.now) (words_seen words.now)) before.now result }
+    ensures few { (steps : ℕ) → StepsFit steps result }
+{
+    match words {
+        [] => Some(Given::Nothing),
+        [word] => steps_begin_of(word),
+        [word, name] => {
+            if is_word(word, "host") {
+                host_of(before, name)
+            } else {
+                None
+            }
+        }
+        [_, _, _] => None,
+        [word, name, a, b, options @ ..] => {
+            if is_word(word, "pair") {
+                pair_of(before, name, a, b, options)
+            } else {
+                None
+            }
+        }
     }
+}
+
+// The line before the steps.
+fn steps_begin_of(word: &[u8]) -> Option<Given>
+    ensures gives { (before : Script) → Gives (λ n. spec.declaration_line (script_seen before) (word.now ∷ [])) before result }
+    ensures few { (steps : ℕ) → StepsFit steps result }
+{
+    if is_word(word, "steps") {
+        Some(Given::StepsBegin)
+    } else {
+        None
+    }
+}
+
+// A host: at most two, with names of their own.
+fn host_of(before: &Script, word: &[u8]) -> Option<Given>
+    ensures gives { Gives (λ n. spec.host_line (script_seen before.now) word.now) before.now result }
+    ensures few { (steps : ℕ) → StepsFit steps result }
+{
+    let name = name_of(word)?;
+    if before.hosts.len() < 2 && !before.has_host(word) {
+        Some(Given::Host(name))
+    } else {
+        None
+    }
+}
+
+// A pair: at most one, of two declared hosts.
+fn pair_of(before: &Script, name: &[u8], a: &[u8], b: &[u8], words: &[&[u8]]) -> Option<Given>
+    ensures gives { Gives (λ n. spec.pair_line (script_seen before.now) name.now a.now b.now (words_seen words.now)) before.now result }
+    ensures few { (steps : ℕ) → StepsFit steps result }
+{
+    if before.pair.is_some() || !before.has_host(a) || !before.has_host(b) || a == b {
+        return None;
+    }
+    let name = name_of(name)?;
+    let options = Options::of_words(words)?;
+    Some(Given::Pair(options.plan(name)))
 }
 
 // A line of steps.
-fn step_of(alloc: Global, before: &Script, words: &[&[u8]]) -> Result<Given, LineFault> {
+fn step_of(alloc: Global, before: &Script, words: &[&[u8]]) -> Result<Option<Given>, AllocError>
+    ensures gives { IfOk result (Gives (λ n. spec.step_line n (script_seen before.now) (words_seen words.now)) before.now) }
+    ensures few { IfOk result (StepsFit (vec_len before.now.steps)) }
+{
     if words.is_empty() {
-        return Ok(Given::Nothing);
+        return Ok(Some(Given::Nothing));
     }
-    let step = macro_of(alloc, before, words)?.ok_or(LineFault::NotBuilt)?;
-    if step.len() as usize > MOST_STEPS.saturating_sub(before.steps.len()) {
-        return Err(LineFault::NotBuilt);
+    match macro_of(alloc, before, words)? {
+        Some(steps) if before.steps.len().saturating_add(steps.len()) <= MOST_STEPS => {
+            Ok(Some(Given::Steps(steps)))
+        }
+        _ => Ok(None),
     }
-    Ok(Given::Steps(step))
 }
 
-// The macro that a line of steps spells. The lane goes from side A to side B on queue 0; writes of both sides land.
-fn macro_of(alloc: Global, before: &Script, words: &[&[u8]]) -> Result<Option<Macro>, AllocError> {
+// The macro that a line of steps spells.
+fn macro_of(alloc: Global, before: &Script, words: &[&[u8]]) -> Result<Option<Macro>, AllocError>
+    ensures { IfOk result (λ steps. option_map macro_steps steps ≡ spec.steps_of (script_seen before.now) (words_seen words.now)) }
+{
     match words {
-        [word, pair, side, rest @ ..] if before.has_pair(pair) => match (*word, side_of(side)) {
-            (b"send", Some(Side::A)) => Ok(frame_of(alloc, rest)?.map(Macro::Send)),
-            (b"begin", Some(Side::A)) => Ok(frame_of(alloc, rest)?.map(begin_of)),
-            (word, Some(side)) => Ok(plain_macro_of(word, side, rest)),
-            (_, None) => Ok(None),
+        [word, pair, side, rest @ ..] => match side_of(side) {
+            Some(side) if before.has_pair(pair) => macro_at(alloc, word, side, rest),
+            _ => Ok(None),
         },
         _ => Ok(None),
     }
 }
 
-fn begin_of(sent: SentFrame) -> Macro {
+// The macro of a side. The lane goes from side A to side B; writes of both sides land.
+fn macro_at(
+    alloc: Global,
+    word: &[u8],
+    side: Side,
+    rest: &[&[u8]],
+) -> Result<Option<Macro>, AllocError>
+    ensures { IfOk result (λ steps. option_map macro_steps steps ≡ spec.steps_at word.now (Some side) (words_seen rest.now)) }
+{
+    if let Some(landing) = landing_of(word, side, rest) {
+        return Ok(Some(landing));
+    }
+    match side {
+        Side::A => sender_macro_of(alloc, word, rest),
+        Side::B => Ok(receiver_macro_of(word, rest)),
+    }
+}
+
+// A landing, or many.
+fn landing_of(word: &[u8], side: Side, rest: &[&[u8]]) -> Option<Macro>
+    ensures { option_map macro_steps result ≡ spec.land_steps word.now side (words_seen rest.now) }
+{
+    match rest {
+        [place] if is_word(word, "land") => {
+            Some(Macro::Step(LaneStep::Land(side, number_of(place)?)))
+        }
+        [count] if is_word(word, "landall") => {
+            Some(Macro::LandAll(side, number_between(count, 1, 1_000_000)?))
+        }
+        _ => None,
+    }
+}
+
+// A macro of the sending side.
+fn sender_macro_of(alloc: Global, word: &[u8], rest: &[&[u8]]) -> Result<Option<Macro>, AllocError>
+    ensures { IfOk result (λ steps. option_map macro_steps steps ≡ spec.sender_steps word.now (words_seen rest.now)) }
+{
+    if is_word(word, "send") {
+        Ok(frame_of(alloc, rest)?.map(Macro::Send))
+    } else if is_word(word, "begin") {
+        Ok(frame_of(alloc, rest)?.map(begin_of))
+    } else if is_word(word, "post") {
+        Ok(on_queue(rest, LaneStep::Post))
+    } else {
+        Ok(None)
+    }
+}
+
+fn begin_of(sent: SentFrame) -> Macro
+    ensures { macro_steps result ≡ step_seen (LaneStep.Begin sent) ∷ [] }
+{
     Macro::Step(LaneStep::Begin(sent))
 }
 
 // The frame behind the queue: at least one byte, and at most as many as a frame may have.
-fn frame_of(alloc: Global, rest: &[&[u8]]) -> Result<Option<SentFrame>, AllocError> {
+fn frame_of(alloc: Global, rest: &[&[u8]]) -> Result<Option<SentFrame>, AllocError>
+    ensures { IfOk result (λ sent. option_map (λ sent. sent.frame) sent ≡ spec.frame_of (words_seen rest.now)) }
+{
     match rest {
-        [b"0", hex] => match bytes_of(alloc, hex)? {
+        [queue, hex] if is_word(queue, "0") => match bytes_of(alloc, hex)? {
             Some(bytes) if !bytes.is_empty() && bytes.len() <= MOST_FRAME_BYTES => {
                 let frame = Frame::of_vec(bytes);
                 Ok(Some(SentFrame { frame }))
@@ -246,26 +269,44 @@ fn frame_of(alloc: Global, rest: &[&[u8]]) -> Result<Option<SentFrame>, AllocErr
     }
 }
 
-// A macro without a frame.
-fn plain_macro_of(word: &[u8], side: Side, rest: &[&[u8]]) -> Option<Macro> {
-    match (word, side, rest) {
-        (b"post", Side::A, [b"0"]) => Some(Macro::Step(LaneStep::Post)),
-        (b"land", _, [place]) => Some(Macro::Step(LaneStep::Land(side, number_of(place)?))),
-        (b"landall", _, [count]) => Some(Macro::LandAll(
-            side,
-            number_between(count, 1, 1_000_000)?,
-        )),
-        (b"look", Side::B, [b"0"]) => Some(Macro::Step(LaneStep::Look)),
-        (b"copy", Side::B, [b"0"]) => Some(Macro::Step(LaneStep::Copy)),
-        (b"clear", Side::B, [b"0"]) => Some(Macro::Step(LaneStep::Clear)),
-        (b"ack", Side::B, [b"0"]) => Some(Macro::Step(LaneStep::Ack)),
-        (b"recv", Side::B, [b"0"]) => Some(Macro::Receive(1)),
-        (b"recv", Side::B, [b"0", copies]) => number_between(copies, 1, 512).map(Macro::Receive),
+// A macro of the receiving side.
+fn receiver_macro_of(word: &[u8], rest: &[&[u8]]) -> Option<Macro>
+    ensures { option_map macro_steps result ≡ spec.receiver_steps word.now (words_seen rest.now) }
+{
+    if is_word(word, "look") {
+        on_queue(rest, LaneStep::Look)
+    } else if is_word(word, "copy") {
+        on_queue(rest, LaneStep::Copy)
+    } else if is_word(word, "clear") {
+        on_queue(rest, LaneStep::Clear)
+    } else if is_word(word, "ack") {
+        on_queue(rest, LaneStep::Ack)
+    } else if is_word(word, "recv") {
+        receive_of(rest)
+    } else {
+        None
+    }
+}
+
+// A receive, of one copy where nothing else is said.
+fn receive_of(rest: &[&[u8]]) -> Option<Macro>
+    ensures { option_map macro_steps result ≡ spec.receive_steps (words_seen rest.now) }
+{
+    match rest {
+        [queue] if is_word(queue, "0") => Some(Macro::Receive(1)),
+        [queue, copies] if is_word(queue, "0") => {
+            Some(Macro::Receive(number_between(copies, 1, 512)?))
+        }
         _ => None,
     }
 }
 
-// The number that a word spells, where it lies in this range.
-fn number_between(word: &[u8], least: u32, most: u32) -> Option<u32> {
-    number_of(word).filter(|number| *number >= least && *number <= most)
+// A step where nothing but queue 0 stands behind the side.
+fn on_queue(rest: &[&[u8]], step: LaneStep) -> Option<Macro>
+    ensures { option_map macro_steps result ≡ spec.on_queue (words_seen rest.now) (step_seen step ∷ []) }
+{
+    match rest {
+        [queue] if is_word(queue, "0") => Some(Macro::Step(step)),
+        _ => None,
+    }
 }
