@@ -1,6 +1,6 @@
 -- The report of a pair's steps: one answer more, and the counts of the one lane.
 use Rattle.std.proofs.Common.{◌≡◌, ℕ, suc, ◌+◌, ◌==◌, ◌≤◌, Bool, true, false, List, [], ◌∷◌, ◌++◌, length, map, min, refl, sym, ap, ◌∙◌, subst, arith, append-nil, append_assoc, if◌then◌else◌}
-use Rattle.std.specs.Prelude.{count_by}
+use Rattle.std.specs.Prelude.{count_by, Option, Some, None, codes}
 use Rattle.std.specs.List.{flat_map}
 use Rattle.std.proofs.lemmas.Bool.{cond-true, eq-eqb}
 use Rattle.std.proofs.lemmas.List.{map-append, length_push}
@@ -21,7 +21,8 @@ use Rattle.ledger_model.specs.Next.{Bytes, Ledger, pair_next, pair_plan, outcome
 use Rattle.ledger_model.proofs.Runs.{log_of-last}
 use Rattle.ledger_model.proofs.Sessions.{tallies_are_counts}
 use Rattle.ntb_top.specs.Drives.{Shows, EngineShows, IsMade, IsBuiltPair, plan_of_pair}
-use Rattle.ntb_top.specs.Report.{answer_line, answer_lines, counts_line, lane_line, last_session_of, pair_lines, pairs_lines, no_memories, log_of_plan, counted_report}
+use Rattle.ntb_top.specs.Report.{answer_line, answer_lines, counts_line, lane_line, last_session_of, pair_lines, pairs_lines, no_memories, log_of_plan, counted_report, line_of, report_of}
+use Rattle.ntb_top.specs.Script.{Script, plan_of}
 use Rattle.ntb_top.specs.Seen.{step_seen, line_seen, steps_seen}
 use Rattle.ntb_top.specs.declared.engine.Engine.{Engine}
 use Rattle.ntb_top.specs.declared.script.LaneStep.{LaneStep}
@@ -216,3 +217,12 @@ all_reported pair steps done engine start text more name built all named made lo
     ∙ ap (λ (w : List ℕ). text ++ w) (sym (counts_shown pair steps engine built whole.shows))
     ∙ ap (λ (w : List ℕ). w ++ pairs_lines plan log 0 (pair ∷ [])) whole.answers
     ∙ append_assoc start (answer_lines (steps_seen steps) log) (pairs_lines plan log 0 (pair ∷ []))
+
+-- the report of a script with a pair, and of one without
+pub report_with : (script : Script) (pair : PairPlan) → script.pair ≡ Some pair → counted_report (plan_of_pair pair script.steps) ++ line_of (codes "end") ≡ report_of (plan_of script)
+report_with script pair e = ap (λ (p : Option PairPlan). report_of (plan_of (record script { pair = p }))) (sym e)
+
+pub report_without : (script : Script) → script.pair ≡ None → script.steps ≡ [] → line_of (codes "end") ≡ report_of (plan_of script)
+report_without script e none =
+    ap (λ (steps : List Line). report_of (plan_of (record script { pair = None; steps = steps }))) (sym none)
+    ∙ ap (λ (p : Option PairPlan). report_of (plan_of (record script { pair = p }))) (sym e)

@@ -2,9 +2,11 @@
 
 ghost use Rattle.std.specs.Prelude.{◌≡◌, ◌++◌, ◌≤◌, OnOk, IfOk, vec_len};
 ghost use Rattle.std.specs.String.{string_bytes};
-ghost use Rattle.ntb_top.specs.Drives.{IsBuiltPair, plan_of_pair};
+ghost use Rattle.ntb_top.specs.Drives.{IsBuiltPair, IsBuiltScript, plan_of_pair};
+ghost use Rattle.ntb_top.specs.Report as spec;
 ghost use Rattle.ntb_top.specs.Report.{counted_report};
-ghost use Rattle.ntb_top.specs.Seen.{steps_seen};
+ghost use Rattle.ntb_top.specs.Script.{plan_of};
+ghost use Rattle.ntb_top.specs.Seen.{script_seen, steps_seen};
 
 use crate::engine::Engine;
 use crate::script::{LineStep, Script};
@@ -13,7 +15,10 @@ use std::alloc::{AllocError, Global};
 use step_kinds::PairPlan;
 
 /// The report of a script: each step's answer, the lane's counts, and the end. The only error is want of memory.
-pub fn report_of(alloc: Global, script: Script) -> Result<String, AllocError> {
+pub fn report_of(alloc: Global, script: Script) -> Result<String, AllocError>
+    requires { IsBuiltScript (script_seen script) }
+    ensures { IfOk result (λ text. string_bytes text ≡ spec.report_of (plan_of (script_seen script))) }
+{
     let Script {
         part: _,
         hosts: _,
