@@ -1,10 +1,12 @@
 -- The ledger of a script's one pair, as the lane of the engine shows it: the lane goes from side A to side B on queue 0, in session 1 of a
 -- pair that was declared up.
-use Rattle.std.specs.Prelude.{◌≡◌, ℕ, ◌+◌, ◌<◌, ◌≤◌, Bool, true, false, List, [], All, length, map}
+use Rattle.std.specs.Prelude.{◌≡◌, ℕ, ◌+◌, ◌<◌, ◌≤◌, Bool, true, false, Option, None, List, [], ◌∷◌, ◌++◌, length, map, All, IfSome}
 use Rattle.step_kinds.specs.Bits.{has_bit}
 use Rattle.step_kinds.specs.declared.names.Side.{Side}
 use Rattle.step_kinds.specs.declared.names.Side.TheVariants.{A, B}
+use Rattle.step_kinds.specs.declared.plan.Line.{Line}
 use Rattle.step_kinds.specs.declared.plan.PairPlan.{PairPlan}
+use Rattle.step_kinds.specs.declared.plan.Plan.{Plan}
 use Rattle.step_kinds.specs.declared.steps.Answer.{Answer}
 use Rattle.step_kinds.specs.declared.steps.Label.{Label}
 use Rattle.step_kinds.specs.declared.steps.Label.TheVariants.{Index}
@@ -18,7 +20,7 @@ use Rattle.ledger_model.specs.Labels.{label_of}
 use Rattle.ledger_model.specs.Ledger.{LanePart, PairPart, Tally, side_of, lane_of, tally_of, sizes_of}
 use Rattle.ledger_model.specs.Link.{is_up}
 use Rattle.ledger_model.specs.Next.{Bytes, pair_next}
-use Rattle.ntb_top.specs.Script.{side_with}
+use Rattle.ntb_top.specs.Script.{Script, side_with, most_steps}
 use Rattle.ntb_top.specs.declared.engine.Engine.{Engine}
 
 -- the label of a write of a lane that carries frames alone
@@ -81,3 +83,13 @@ pub record IsBuiltPair (plan : PairPlan) : Type 0 where
   pub least_mtu : 16 ≤ plan.mtu
   pub most_mtu : plan.mtu ≤ 65536
   pub ascii_name : All (λ byte. byte < 128) plan.name
+
+-- the plan of one pair and the steps on it
+abbrev pub plan_of_pair : PairPlan → List Line → Plan
+plan_of_pair pair steps = record { pairs = pair ∷ []; devs = []; steps = steps; traffic = [] }
+
+-- a script that can be read: a pair that can be declared, and at most a million steps, none of them without a pair
+pub record IsBuiltScript (script : Script) : Type 0 where
+  pub pair : IfSome script.pair IsBuiltPair
+  pub few : length script.steps ≤ most_steps
+  pub no_pair : script.pair ≡ None → script.steps ≡ []

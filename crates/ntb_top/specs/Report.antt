@@ -66,5 +66,9 @@ no_memories log pair side at len = []
 abbrev pub log_of_plan : Plan → List Answered
 log_of_plan plan = log_of plan no_memories (map (λ line. line.step) plan.steps)
 
+-- the report but for its last line
+abbrev pub counted_report : Plan → List ℕ
+counted_report plan = answer_lines plan.steps (log_of_plan plan) ++ pairs_lines plan (log_of_plan plan) 0 plan.pairs
+
 abbrev pub report_of : Plan → List ℕ
-report_of plan = answer_lines plan.steps (log_of_plan plan) ++ pairs_lines plan (log_of_plan plan) 0 plan.pairs ++ line_of (codes "end")
+report_of plan = counted_report plan ++ line_of (codes "end")
