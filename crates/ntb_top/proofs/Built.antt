@@ -4,11 +4,11 @@ use Rattle.std.specs.Prelude.{option_and_then, nat_le, nat_lt, unwrap_or, codes,
 use Rattle.std.specs.List.{AllByRecursion, list_all, list_any}
 use Rattle.std.specs.Str.{bytes_eq}
 use Rattle.std.proofs.lemmas.Bool.{leb-true, false≢true}
+use Rattle.std.proofs.lemmas.List.{length-append, length-map}
 use Rattle.std.proofs.lemmas.List.Elements.{All-from_recursion}
 use Rattle.step_kinds.specs.declared.plan.PairPlan.{PairPlan}
 use Rattle.step_kinds.specs.declared.steps.Step.{Step}
-use Rattle.ntb_top.specs.Built.{IsBuiltScript}
-use Rattle.ntb_top.specs.Drives.{IsBuiltPair}
+use Rattle.ntb_top.specs.Drives.{IsBuiltPair, IsBuiltScript}
 use Rattle.ntb_top.specs.Script.{Part, Header, Declarations, Steps, Script, Options, nothing_read, is_size, is_mtu, is_header, has_host, has_pair, no_options, with_option, with_size, with_mtu, options_from, options_of, pair_with, pair_line, host_line, declaration_line, steps_at, steps_of, with_steps, step_line, header_line, words_line, line_gives, go_on, read_lines, script_of, most_steps, at_line}
 use Rattle.ntb_top.specs.Spelling.{behind, only_if, is_letter, is_digit, is_name, is_comment, is_text, words_of, side_of, number_of, lines_of}
 
@@ -113,7 +113,13 @@ pair_built name options named h =
     let size = size_range options.size h.ranges.size in
     let mtu = mtu_range options.mtu h.ranges.mtu in
     record {
-      side_a = refl; side_b = refl; up = h.up; least_size = size.0; most_size = size.1; least_mtu = mtu.0; most_mtu = mtu.1;
+      side_a = refl;
+      side_b = refl;
+      up = h.up;
+      least_size = size.0;
+      most_size = size.1;
+      least_mtu = mtu.0;
+      most_mtu = mtu.1;
       ascii_name = All-from_recursion (λ c. c < 128) name (name_below name named);
     }
 
@@ -128,18 +134,18 @@ pair_line_built script name a b words h =
     if_cond (is_none script.pair && (is_name name && hosts)) with_pair None IsBuiltScript
     (λ e. let parts = both (is_none script.pair) (is_name name && hosts) e in
     let named = both (is_name name) hosts parts.1 in
-    let no_steps = h.steps_on_a_pair (none_given script.pair parts.0) in
+    let no_steps = h.no_pair (none_given script.pair parts.0) in
     if_then (options_of words) (λ options. Some (record script { pair = Some (pair_with name options) })) IsUpOptions IsBuiltScript (options_built words)
-    (λ options k. record { pair = pair_built name options named.0 k; steps_on_a_pair = λ e. no_steps }))
+    (λ options k. record { pair = pair_built name options named.0 k; few = h.few; no_pair = λ e. no_steps }))
     (λ e. tt)
 
 declaration_built : (script : Script) (words : List (List ℕ)) → IsBuiltScript script → IfSome (declaration_line script words) IsBuiltScript
 declaration_built script [] h = h
-declaration_built script (word ∷ []) h = if_only (bytes_eq word (codes "steps")) (record script { part = Steps }) IsBuiltScript (λ e. record { pair = h.pair; steps_on_a_pair = h.steps_on_a_pair })
+declaration_built script (word ∷ []) h = if_only (bytes_eq word (codes "steps")) (record script { part = Steps }) IsBuiltScript (λ e. record { pair = h.pair; few = h.few; no_pair = h.no_pair })
 declaration_built script (word ∷ name ∷ []) h =
     if_cond (bytes_eq word (codes "host")) (host_line script name) None IsBuiltScript
     (λ e. if_only (is_name name && (nat_lt (length script.hosts) 2 && not (has_host script name))) (record script { hosts = script.hosts ++ name ∷ [] }) IsBuiltScript
-    (λ k. record { pair = h.pair; steps_on_a_pair = h.steps_on_a_pair }))
+    (λ k. record { pair = h.pair; few = h.few; no_pair = h.no_pair }))
     (λ e. tt)
 declaration_built script (word ∷ name ∷ a ∷ []) h = tt
 declaration_built script (word ∷ name ∷ a ∷ b ∷ words) h =
@@ -161,8 +167,15 @@ step_built n script (word ∷ pair ∷ []) h = tt
 step_built n script (word ∷ pair ∷ side ∷ words) h =
     if_then (steps_of script (word ∷ pair ∷ side ∷ words)) (with_steps n script) (λ steps. has_pair script pair ≡ true) IsBuiltScript
     (if_cond (has_pair script pair) (steps_at word (side_of side) words) None (λ steps. has_pair script pair ≡ true) (λ e. always (steps_at word (side_of side) words) e) (λ e. tt))
-    (λ steps named. if_only (nat_le (length script.steps + length steps) most_steps) (record script { steps = script.steps ++ at_line n steps }) IsBuiltScript (λ e. record { pair = h.pair; steps_on_a_pair = λ none. absurd (false≢true (sym (no_pair_named script pair none) ∙ named)) }))
+    (λ steps named. if_only (nat_le (length script.steps + length steps) most_steps) (record script { steps = script.steps ++ at_line n steps }) IsBuiltScript (λ e. record {
+      pair = h.pair;
+      few = fits steps (leb-true (length script.steps + length steps) most_steps e);
+      no_pair = λ none. absurd (false≢true (sym (no_pair_named script pair none) ∙ named));
+    }))
   where
+    fits : (steps : List Step) → length script.steps + length steps ≤ most_steps → length (script.steps ++ at_line n steps) ≤ most_steps
+    fits steps h = rw (length-append, length-map) h
+
     always : (o : Option (List Step)) → has_pair script pair ≡ true → IfSome o (λ steps. has_pair script pair ≡ true)
     always None e = tt
     always (Some steps) e = e
@@ -173,7 +186,7 @@ header_built : (script : Script) (words : List (List ℕ)) → IsBuiltScript scr
 header_built script [] h = tt
 header_built script (word ∷ []) h = tt
 header_built script (word ∷ version ∷ []) h =
-    if_only (bytes_eq word (codes "ntb") && bytes_eq version (codes "1")) (record script { part = Declarations }) IsBuiltScript (λ e. record { pair = h.pair; steps_on_a_pair = h.steps_on_a_pair })
+    if_only (bytes_eq word (codes "ntb") && bytes_eq version (codes "1")) (record script { part = Declarations }) IsBuiltScript (λ e. record { pair = h.pair; few = h.few; no_pair = h.no_pair })
 header_built script (word ∷ version ∷ more ∷ words) h = tt
 
 words_built : (n : ℕ) (part : Part) (script : Script) (words : List (List ℕ)) → IsBuiltScript script → IfSome (words_line n part script words) IsBuiltScript
@@ -199,4 +212,4 @@ lines_built n script (line ∷ lines) h =
 
 -- a script that is read is built
 pub script_built : (bytes : List ℕ) (script : Script) → script_of bytes ≡ Ok script → IsBuiltScript script
-script_built bytes script e = subst (λ (r : Result Script ℕ). IfOk r IsBuiltScript) e (lines_built 1 nothing_read (lines_of bytes) (record { pair = tt; steps_on_a_pair = λ none. refl }))
+script_built bytes script e = subst (λ (r : Result Script ℕ). IfOk r IsBuiltScript) e (lines_built 1 nothing_read (lines_of bytes) (record { pair = tt; few = omega arith; no_pair = λ none. refl }))

@@ -174,15 +174,15 @@ land_at value plan now taken given place (Some mark) there h law =
     let lane = value.lane in
     let labelled = ap (λ queue. label_in queue lane mark) h.queue ∙ label_in_open lane mark h.only_frames h.law (found_among lane place mark there) in
     let same : may_land_in value place ≡ may_land (map (order_of plan.strict) (side_of now A).flight) place =
-        ap (λ (is_strict : Bool). may_land (map (order_of_mark is_strict) lane.flight) place) h.is_strict
-        ∙ ap (λ (kinds : List ℕ). may_land kinds place) (sym (orders_of_labels plan.strict lane.flight))
-        ∙ ap (λ (labels : List Label). may_land (map (order_of plan.strict) labels) place) (sym h.flight) in
+    ap (λ (is_strict : Bool). may_land (map (order_of_mark is_strict) lane.flight) place) h.is_strict
+    ∙ ap (λ (kinds : List ℕ). may_land kinds place) (sym (orders_of_labels plan.strict lane.flight))
+    ∙ ap (λ (labels : List Label). may_land (map (order_of plan.strict) labels) place) (sym h.flight) in
     let next : Lane = after_landing lane mark (remove lane.flight place) in
     let new : PairPart = lands_on (taken_out now A place) A (frame_label mark) in
     let P : LaneLand → Lane → Outcome → Type 0 = λ land after made.
-        HoldsRingLaw after → (landed_answer land ≡ made.answer) × Shows (calls.with_lane value after) plan made.after taken given in
+    HoldsRingLaw after → (landed_answer land ≡ made.answer) × Shows (calls.with_lane value after) plan made.after taken given in
     subst (λ (may : Bool). P (if may_land_in value place then WriteLanded (label_in value.queue lane mark) else WriteBlocked)
-      (if may_land_in value place then next else lane) (decided now (refuse_if (not may) Blocked None) (Landed (frame_label mark)) new)) same
+    (if may_land_in value place then next else lane) (decided now (refuse_if (not may) Blocked None) (Landed (frame_label mark)) new)) same
     (land_cases P now new lane next (label_in value.queue lane mark) (frame_label mark) (may_land_in value place)
     (λ may lands. (ap Landed labelled, landed_shows value plan now taken given mark place h lands))
     (λ waits. (refl, h))) law
@@ -192,7 +192,7 @@ pub land_shows : (value : LaneValue) (plan : PairPlan) (now : PairPart) (taken g
     → (landed_answer (land_answer value place) ≡ (land_step plan now A place).answer) × Shows (calls.with_lane value (after_land value place)) plan (land_step plan now A place).after taken given
 land_shows value plan now taken given place h law =
     subst (λ (found : Option Label). (landed_answer (land_answer value place) ≡ (land_found plan now A place found).answer)
-      × Shows (calls.with_lane value (after_land value place)) plan (land_found plan now A place found).after taken given)
+    × Shows (calls.with_lane value (after_land value place)) plan (land_found plan now A place found).after taken given)
     (sym (ap (λ (labels : List Label). slice_get labels place) h.flight ∙ slice_get-map frame_label value.lane.flight place))
     (land_at value plan now taken given place (slice_get value.lane.flight place) refl h law)
 
@@ -243,14 +243,14 @@ land_index_at value plan now taken given place None h law = (refl, h)
 land_index_at value plan now taken given place (Some n) h law =
     let lane = value.lane in
     let same : may_land_index lane place ≡ may_land (map (order_of plan.strict) (side_of now B).flight) place =
-        ap (λ (kinds : List ℕ). may_land kinds place) (sym (orders_of_indexes plan.strict lane.returning))
-        ∙ ap (λ (labels : List Label). may_land (map (order_of plan.strict) labels) place) (sym h.returning) in
+    ap (λ (kinds : List ℕ). may_land kinds place) (sym (orders_of_indexes plan.strict lane.returning))
+    ∙ ap (λ (labels : List Label). may_land (map (order_of plan.strict) labels) place) (sym h.returning) in
     let next : Lane = after_index lane n (remove lane.returning place) in
     let new : PairPart = lands_on (taken_out now B place) B (Index 0 n) in
     let P : LaneLand → Lane → Outcome → Type 0 = λ land after made.
-        HoldsRingLaw after → (landed_answer land ≡ made.answer) × Shows (calls.with_lane value after) plan made.after taken given in
+    HoldsRingLaw after → (landed_answer land ≡ made.answer) × Shows (calls.with_lane value after) plan made.after taken given in
     subst (λ (may : Bool). P (if may_land_index lane place then WriteLanded (Index value.queue n) else WriteBlocked)
-      (if may_land_index lane place then next else lane) (decided now (refuse_if (not may) Blocked None) (Landed (Index 0 n)) new)) same
+    (if may_land_index lane place then next else lane) (decided now (refuse_if (not may) Blocked None) (Landed (Index 0 n)) new)) same
     (land_cases P now new lane next (Index value.queue n) (Index 0 n) (may_land_index lane place)
     (λ may lands. (ap (λ (queue : ℕ). Landed (Index queue n)) h.queue, index_shows value plan now taken given place n h lands))
     (λ waits. (refl, h))) law
@@ -260,6 +260,6 @@ pub land_index_shows : (value : LaneValue) (plan : PairPlan) (now : PairPart) (t
     → (landed_answer (land_index_answer value place) ≡ (land_step plan now B place).answer) × Shows (calls.with_lane value (after_land_index value.lane place)) plan (land_step plan now B place).after taken given
 land_index_shows value plan now taken given place h law =
     subst (λ (found : Option Label). (landed_answer (land_index_answer value place) ≡ (land_found plan now B place found).answer)
-      × Shows (calls.with_lane value (after_land_index value.lane place)) plan (land_found plan now B place found).after taken given)
+    × Shows (calls.with_lane value (after_land_index value.lane place)) plan (land_found plan now B place found).after taken given)
     (sym (ap (λ (labels : List Label). slice_get labels place) h.returning ∙ slice_get-map (Index 0) value.lane.returning place))
     (land_index_at value plan now taken given place (slice_get value.lane.returning place) h law)

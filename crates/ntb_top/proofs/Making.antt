@@ -34,7 +34,7 @@ use Rattle.ntb_top.proofs.Receiving.{look_shows, copy_shows, clear_shows, ack_sh
 made_so : (step : Step) (answer made : Answer) (old : Engine) (lane : LaneValue) (next : Lane) (accepted delivered : ℕ)
     → answer ≡ made → lane ≡ with_lane old.lane next → HoldsRingLaw lane.lane → length next.sent ≤ length old.lane.lane.sent + 1
     → (HoldsRingLaw next → (plan : PairPlan) (bytes : Bytes) (now : PairPart) → EngineShows old plan now
-      → (made ≡ (pair_next [] plan bytes now step).answer) × Shows (with_lane old.lane next) plan (pair_next [] plan bytes now step).after accepted delivered)
+    → (made ≡ (pair_next [] plan bytes now step).answer) × Shows (with_lane old.lane next) plan (pair_next [] plan bytes now step).after accepted delivered)
     → IsMade step answer old (record { lane = lane; accepted = accepted; delivered = delivered })
 made_so step answer made old lane next accepted delivered answered after law more shows =
     let known : HoldsRingLaw next = subst (λ (value : LaneValue). HoldsRingLaw value.lane) after law in
@@ -66,11 +66,13 @@ begin_made old frame begun found lane accepted few same_begun answered_found aft
     (after ∙ ap (λ (b : Begun). with_lane old.lane (after_beginning old.lane.lane (Carries frame) b)) answered_found)
     law (begun_one old.lane.lane (Carries frame) answer)
     (λ known plan bytes now h.
-        let both = begin_shows old.lane plan now old.accepted old.delivered frame h known in
-        let all = h.taken_all in
-        let same : taken_after answer old.accepted ≡ accepted = sym (counted (omega arith) ∙ ap (λ (b : Begun). taken_after b old.accepted) answered) in
-        (both.0, subst (λ (taken : ℕ). Shows (with_lane old.lane (after_beginning old.lane.lane (Carries frame) answer)) plan
-          (pair_next [] plan bytes now (Begin 0 A 0 frame)).after taken old.delivered) same both.1))
+    let both = begin_shows old.lane plan now old.accepted old.delivered frame h known in
+    let all = h.taken_all in
+    let same : taken_after answer old.accepted ≡ accepted = sym (counted (omega arith) ∙ ap (λ (b : Begun). taken_after b old.accepted) answered) in (
+      both.0,
+      subst (λ (taken : ℕ). Shows (with_lane old.lane (after_beginning old.lane.lane (Carries frame) answer)) plan
+          (pair_next [] plan bytes now (Begin 0 A 0 frame)).after taken old.delivered) same both.1,
+    ))
 
 posted_same : (lane : Lane) (marks : List Mark) → length (after_first_post lane marks).sent ≤ length lane.sent + 1
 posted_same lane [] = omega arith
@@ -145,13 +147,15 @@ copy_made old copy lane delivered few answered after law counted =
     made_so (Copy 0 B 0) (copied_answer copy) (copied_answer answer) old lane (after_copying old.lane.lane) old.accepted delivered
     (ap copied_answer answered) after law (copied_same old.lane.lane)
     (λ known plan bytes now h.
-        let both = copy_shows old.lane plan now old.accepted old.delivered h known in
-        let all = h.given_all in
-        let within = h.law.2.got_first in
-        let begun = h.law.2.flagged_first in
-        let same : given_after answer old.delivered ≡ delivered = sym (counted (omega arith) ∙ ap (λ (c : LaneCopy). given_after c old.delivered) answered) in
-        (both.0, subst (λ (given : ℕ). Shows (with_lane old.lane (after_copying old.lane.lane)) plan
-          (pair_next [] plan bytes now (Copy 0 B 0)).after old.accepted given) same both.1))
+    let both = copy_shows old.lane plan now old.accepted old.delivered h known in
+    let all = h.given_all in
+    let within = h.law.2.got_first in
+    let begun = h.law.2.flagged_first in
+    let same : given_after answer old.delivered ≡ delivered = sym (counted (omega arith) ∙ ap (λ (c : LaneCopy). given_after c old.delivered) answered) in (
+      both.0,
+      subst (λ (given : ℕ). Shows (with_lane old.lane (after_copying old.lane.lane)) plan
+          (pair_next [] plan bytes now (Copy 0 B 0)).after old.accepted given) same both.1,
+    ))
 
 cleared_same : (lane : Lane) → length (after_clearing lane).sent ≤ length lane.sent + 1
 cleared_same lane = cond_both (is_copied lane.phase) _ lane (λ (next : Lane). length next.sent ≤ length lane.sent + 1) (λ turn. omega arith) (λ turn. omega arith)

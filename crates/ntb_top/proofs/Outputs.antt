@@ -46,7 +46,7 @@ pub long_output : (words : List (List ℕ)) (input : Option (List ℕ)) (status 
 long_output words input status text command long h =
     let bytes = long_bytes input long in
     let first : output_of words bytes.0 ≡ cond (nat_lt most_bytes (length bytes.0)) too_long (replayed (script_of bytes.0)) =
-        ap (λ b. cond b (cond (nat_lt most_bytes (length bytes.0)) too_long (replayed (script_of bytes.0))) usage) command in
+    ap (λ b. cond b (cond (nat_lt most_bytes (length bytes.0)) too_long (replayed (script_of bytes.0))) usage) command in
     let chosen : output_of words bytes.0 ≡ too_long = first ∙ ap (λ b. cond b too_long (replayed (script_of bytes.0))) bytes.2 in
     (inr (inr (inr h.0)), record { bytes = bytes.0; read = bytes.1; same_status = h.0 ∙ sym (ap (λ o. o.status) chosen); same_text = h.1 ∙ sym (ap (λ o. o.text) chosen) })
 

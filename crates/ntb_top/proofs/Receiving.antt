@@ -141,20 +141,20 @@ look_shows value plan now taken given h law =
     let entry = entry_of lane lane.got in
     let same : entry_in part part.got ≡ entry = same_entry part.sent lane.sent part.got lane.got h.lane.sent h.lane.got part refl refl lane refl refl in
     let P : LaneLook → Outcome → Type 0 = λ look made.
-        HoldsRingLaw (after_looking lane look) → (looked_answer look ≡ made.answer) × Shows (calls.with_lane value (after_looking lane look)) plan made.after taken given in
+    HoldsRingLaw (after_looking lane look) → (looked_answer look ≡ made.answer) × Shows (calls.with_lane value (after_looking lane look)) plan made.after taken given in
     let found : Entry → Outcome = λ (there : Entry). look_at now B 0 part there in
     subst (λ (refusal : Option Answer). P (look_answer lane) (decided now refusal (found (entry_in part part.got)).answer (found (entry_in part part.got)).after))
     (sym (may_look value plan now taken given h))
     (subst (λ (there : Entry). P (look_answer lane) (decided now
-        (refuse_if (not (calls.is_idle lane.phase)) OutOfTurn (refuse_if (lane.flagged == lane.got) Empty None)) (found there).answer (found there).after))
+    (refuse_if (not (calls.is_idle lane.phase)) OutOfTurn (refuse_if (lane.flagged == lane.got) Empty None)) (found there).answer (found there).after))
     (sym same)
     (look_cases P now (calls.look_at lane.got entry) (found entry) (calls.is_idle lane.phase) (lane.flagged == lane.got)
     (λ turn. (refl, h)) (λ nothing. (refl, h))
     (λ other.
-        let apart = eqb-false lane.flagged lane.got other in
-        let within = h.law.2.got_first in
-        let begun = h.law.2.flagged_first in
-        found_shows value plan now taken given entry (h.only_frames lane.got (omega arith)) h)))
+    let apart = eqb-false lane.flagged lane.got other in
+    let within = h.law.2.got_first in
+    let begun = h.law.2.flagged_first in
+    found_shows value plan now taken given entry (h.only_frames lane.got (omega arith)) h)))
     law
 
 -- Copying
@@ -227,7 +227,7 @@ whole_shows value plan now taken given len h law =
       };
       flight = h.flight;
       returning = h.returning;
-      tally = 
+      tally =
           tally_here now.tallies.a now.link.session _ h.session
           ∙ ap (λ (session : ℕ). let tally = tally_of now A 0 session in record tally { delivered = tally.delivered + 1 }) h.session
           ∙ ap (λ (tally : Tally). record tally { delivered = tally.delivered + 1 }) h.tally;
@@ -266,17 +266,17 @@ copy_shows value plan now taken given h law =
       after = counts_delivered (with_lane now A 0 (record part { got = part.got + 1; phase = Copied })) B 0 (length bytes);
     } in
     let P : LaneCopy → Lane → Outcome → Type 0 = λ copy after made.
-        HoldsRingLaw after → (copied_answer copy ≡ made.answer) × Shows (calls.with_lane value after) plan made.after taken (given_after copy given) in
+    HoldsRingLaw after → (copied_answer copy ≡ made.answer) × Shows (calls.with_lane value after) plan made.after taken (given_after copy given) in
     let refusal : Bool → Option Answer = λ (is_copying : Bool). refuse_if (not is_copying) OutOfTurn None in
     subst (λ (is_copying : Bool). P (copy_answer lane) (after_copying lane)
-      (decided now (refusal is_copying) (copy_of now B 0 part (bytes_of (entry_in part part.got))).answer (copy_of now B 0 part (bytes_of (entry_in part part.got))).after))
+    (decided now (refusal is_copying) (copy_of now B 0 part (bytes_of (entry_in part part.got))).answer (copy_of now B 0 part (bytes_of (entry_in part part.got))).after))
     (sym (ap receiving.is_copying h.lane.phase ∙ same_copying lane.phase))
     (subst (λ (there : List ℕ). P (copy_answer lane) (after_copying lane)
-      (decided now (refusal (calls.is_copying lane.phase)) (copy_of now B 0 part there).answer (copy_of now B 0 part there).after))
+    (decided now (refusal (calls.is_copying lane.phase)) (copy_of now B 0 part there).answer (copy_of now B 0 part there).after))
     (sym same)
     (subst (λ (at : ℕ). P (copy_answer lane) (after_copying lane)
-      (decided now (refusal (calls.is_copying lane.phase)) (if nat_lt (at + 1) (chunks_in (length bytes)) then some else all).answer
-        (if nat_lt (at + 1) (chunks_in (length bytes)) then some else all).after))
+    (decided now (refusal (calls.is_copying lane.phase)) (if nat_lt (at + 1) (chunks_in (length bytes)) then some else all).answer
+    (if nat_lt (at + 1) (chunks_in (length bytes)) then some else all).after))
     (sym h.lane.parts)
     (copy_cases P now lane next last (Part lane.got lane.part) (Whole lane.got bytes) some all (calls.is_copying lane.phase) (more_to_copy lane)
     (λ turn. (refl, h))
@@ -341,7 +341,7 @@ clear_shows value plan now taken given h law =
     let part = lane_of now A 0 in
     let new : PairPart = with_lane now A 0 (record part { cleared = part.cleared + 1; phase = Cleared }) in
     let P : Option ℕ → Lane → Outcome → Type 0 = λ number after made.
-        HoldsRingLaw after → (cleared_answer number ≡ made.answer) × Shows (calls.with_lane value after) plan made.after taken given in
+    HoldsRingLaw after → (cleared_answer number ≡ made.answer) × Shows (calls.with_lane value after) plan made.after taken given in
     subst (λ (is_copied : Bool). P (clear_answer lane) (after_clearing lane) (decided now (refuse_if (not is_copied) OutOfTurn None) (ClearedFrame part.cleared) new))
     (sym (ap receiving.is_copied h.lane.phase ∙ same_copied lane.phase))
     (turn_cases P now new lane (after_clear lane) lane.cleared (ClearedFrame part.cleared) (calls.is_copied lane.phase)
@@ -379,7 +379,7 @@ acked_shows value plan now taken given h law =
         parts = h.lane.parts;
       };
       flight = h.flight;
-      returning = 
+      returning =
           ap (λ (flight : List Label). flight ++ Index 0 (lane_of now A 0).acked ∷ []) h.returning
           ∙ ap (λ (n : ℕ). map (Index 0) value.lane.returning ++ Index 0 n ∷ []) h.lane.acked
           ∙ sym (map-append (Index 0) value.lane.returning (value.lane.acked ∷ []));
@@ -401,18 +401,18 @@ ack_shows value plan now taken given h law =
     let put : PairPart = with_lane now A 0 (record part { acked = part.acked + 1; phase = Idle }) in
     let new : PairPart = posts put B (Index 0 part.acked) in
     let moved : after_ack lane ≡ record lane { acked = lane.acked + 1; phase = Idle; returning = lane.returning ++ lane.acked ∷ [] } =
-        ap (λ (returning : List ℕ). record lane { acked = lane.acked + 1; phase = Idle; returning = returning }) (cond-true lane.up _ _ h.lane_up) in
+    ap (λ (returning : List ℕ). record lane { acked = lane.acked + 1; phase = Idle; returning = returning }) (cond-true lane.up _ _ h.lane_up) in
     let P : Option ℕ → Lane → Outcome → Type 0 = λ number after made.
-        HoldsRingLaw after → (acked_answer number ≡ made.answer) × Shows (calls.with_lane value after) plan made.after taken given in
+    HoldsRingLaw after → (acked_answer number ≡ made.answer) × Shows (calls.with_lane value after) plan made.after taken given in
     subst (λ (is_cleared : Bool). P (ack_answer lane) (after_acking lane) (decided now (refuse_if (not is_cleared) OutOfTurn None) (Acked part.acked) new))
     (sym (ap receiving.is_cleared h.lane.phase ∙ same_cleared lane.phase))
     (turn_cases P now new lane (after_ack lane) lane.acked (Acked part.acked) (calls.is_cleared lane.phase)
     (λ turn. (refl, h))
     (λ done. (
-        ap Acked (sym h.lane.acked),
-        subst (λ (next : Lane). Shows (calls.with_lane value next) plan new taken given) (sym moved)
-        (subst (λ (pair : PairPart). Shows (calls.with_lane value (record lane { acked = lane.acked + 1; phase = Idle; returning = lane.returning ++ lane.acked ∷ [] })) plan pair taken given)
-        (sym (posts_up put B (Index 0 part.acked) h.link_up))
-        (acked_shows value plan now taken given h (subst HoldsRingLaw moved done))),
+      ap Acked (sym h.lane.acked),
+      subst (λ (next : Lane). Shows (calls.with_lane value next) plan new taken given) (sym moved)
+          (subst (λ (pair : PairPart). Shows (calls.with_lane value (record lane { acked = lane.acked + 1; phase = Idle; returning = lane.returning ++ lane.acked ∷ [] })) plan pair taken given)
+          (sym (posts_up put B (Index 0 part.acked) h.link_up))
+          (acked_shows value plan now taken given h (subst HoldsRingLaw moved done))),
     )))
     law

@@ -93,13 +93,13 @@ one_done pair all lines old new start text more line answer h made longer =
     let steps_more = map-append (λ (at : Line). at.step) lines (line_seen line ∷ []) in
     let answer_is : answer ≡ (outcome_in plan bytes ledger step).answer = both.0 ∙ sym (ap (λ o. o.answer) outcome) in
     let pair_is : ledger_after plan bytes ledger step 0 ≡ (pair_next [] pair (bytes 0) (ledger 0) step).after =
-        cond-true (0 == subject_of step) _ _ (eq-eqb 0 (subject_of step) (sym on_zero)) ∙ ap (λ o. o.after) outcome in
+    cond-true (0 == subject_of step) _ _ (eq-eqb 0 (subject_of step) (sym on_zero)) ∙ ap (λ o. o.after) outcome in
     record {
       shows =
           subst (λ (now : PairPart). EngineShows new pair now)
           (sym (ap (λ (ss : List Step). ledger_of plan no_memories ss 0) steps_more
-            ∙ ap (λ (f : Ledger). f 0) (ledger_from-last plan no_memories [] (begin_of plan) steps step)
-            ∙ pair_is))
+          ∙ ap (λ (f : Ledger). f 0) (ledger_from-last plan no_memories [] (begin_of plan) steps step)
+          ∙ pair_is))
           both.1;
       answers =
           longer
@@ -107,9 +107,9 @@ one_done pair all lines old new start text more line answer h made longer =
           ∙ append_assoc start (answer_lines lines log) (answer_line line.line answer)
           ∙ ap (λ (w : List ℕ). start ++ w)
           (ap (λ (a : Answer). answer_lines lines log ++ answer_line line.line a) answer_is
-            ∙ sym (answer_lines-last lines log (line_seen line) (answered plan bytes ledger step) (length-log plan no_memories [] (begin_of plan) lines))
-            ∙ ap (λ (l : List Answered). answer_lines (lines ++ line_seen line ∷ []) l)
-            (sym (log_of-last plan no_memories steps step) ∙ ap (λ (ss : List Step). log_of plan no_memories ss) (sym steps_more)));
+          ∙ sym (answer_lines-last lines log (line_seen line) (answered plan bytes ledger step) (length-log plan no_memories [] (begin_of plan) lines))
+          ∙ ap (λ (l : List Answered). answer_lines (lines ++ line_seen line ∷ []) l)
+          (sym (log_of-last plan no_memories steps step) ∙ ap (λ (ss : List Step). log_of plan no_memories ss) (sym steps_more)));
     }
 
 -- the same of the code's steps, of which the engine has begun no more entries than there are
@@ -127,7 +127,7 @@ one_made pair all done old new start text more line answer h made longer =
     record {
       few = omega arith;
       shown = subst (λ (lines : List Line). AreDone pair (steps_seen all) lines new start more) (sym (map-append line_seen done (line ∷ [])))
-      (one_done pair (steps_seen all) (steps_seen done) old new start text more line answer h.shown made longer);
+          (one_done pair (steps_seen all) (steps_seen done) old new start text more line answer h.shown made longer);
     }
 
 -- The counts of the lane
@@ -170,11 +170,11 @@ one_line plan log pair taken given a b c d =
     let first = lane_line plan log pair (record { pair = 0; from = A; queue = 0 }) 1 in
     let other = lane_line plan log pair (record { pair = 0; from = B; queue = 0 }) 1 in
     let nothing : other ≡ [] =
-        ap (λ (n : ℕ). counts_line pair.name B 0 1 n (length (delivered plan log (record { pair = 0; from = B; queue = 0 }) 1))) c
-        ∙ ap (λ (n : ℕ). counts_line pair.name B 0 1 0 n) d in
+    ap (λ (n : ℕ). counts_line pair.name B 0 1 n (length (delivered plan log (record { pair = 0; from = B; queue = 0 }) 1))) c
+    ∙ ap (λ (n : ℕ). counts_line pair.name B 0 1 0 n) d in
     let something : first ≡ counts_line pair.name A 0 1 taken given =
-        ap (λ (n : ℕ). counts_line pair.name A 0 1 n (length (delivered plan log (record { pair = 0; from = A; queue = 0 }) 1))) a
-        ∙ ap (λ (n : ℕ). counts_line pair.name A 0 1 taken n) b in
+    ap (λ (n : ℕ). counts_line pair.name A 0 1 n (length (delivered plan log (record { pair = 0; from = A; queue = 0 }) 1))) a
+    ∙ ap (λ (n : ℕ). counts_line pair.name A 0 1 taken n) b in
     ap (λ (w : List ℕ). ((first ++ []) ++ []) ++ (((w ++ []) ++ []) ++ [])) nothing
     ∙ append-nil ((first ++ []) ++ []) ∙ append-nil (first ++ []) ∙ append-nil first ∙ something
 
@@ -194,10 +194,10 @@ counts_shown pair steps engine built h =
     let first = tally_parts _ _ _ _ (sym (tallies_are_counts plan no_memories taken_steps (record { pair = 0; from = A; queue = 0 }) 1) ∙ h.tally) in
     let other = tally_parts _ _ _ _ (sym (tallies_are_counts plan no_memories taken_steps (record { pair = 0; from = B; queue = 0 }) 1) ∙ h.other_tally) in
     let sessions : last_session_of plan log 0 ≡ 1 =
-        ap (λ (up : Bool). (if up then 1 else 0) + count_by (trains 0) log) built.up
-        ∙ ap (λ (n : ℕ). 1 + n) (no_trains plan no_memories [] (begin_of plan) steps) in
+    ap (λ (up : Bool). (if up then 1 else 0) + count_by (trains 0) log) built.up
+    ∙ ap (λ (n : ℕ). 1 + n) (no_trains plan no_memories [] (begin_of plan) steps) in
     let queues : min pair.a.queues pair.b.queues ≡ 1 =
-        ap (λ side. min pair.a.queues side.queues) built.side_b ∙ ap (λ side. min side.queues side.queues) built.side_a in
+    ap (λ side. min pair.a.queues side.queues) built.side_b ∙ ap (λ side. min side.queues side.queues) built.side_a in
     append-nil (lines_at plan log pair (min pair.a.queues pair.b.queues) (last_session_of plan log 0))
     ∙ ap (λ (n : ℕ). lines_at plan log pair n (last_session_of plan log 0)) queues
     ∙ ap (λ (n : ℕ). lines_at plan log pair 1 n) sessions
@@ -211,7 +211,7 @@ all_reported pair steps done engine start text more name built all named made lo
     let plan : Plan = plan_of_pair pair (steps_seen steps) in
     let log : List Answered = log_of_plan plan in
     let whole : AreDone pair (steps_seen steps) (steps_seen steps) engine start text =
-        subst (λ (ds : List LineStep). AreDone pair (steps_seen steps) (steps_seen ds) engine start text) all made.shown in
+    subst (λ (ds : List LineStep). AreDone pair (steps_seen steps) (steps_seen ds) engine start text) all made.shown in
     longer
     ∙ ap (λ (n : List ℕ). text ++ counts_line n A 0 1 engine.accepted engine.delivered) named
     ∙ ap (λ (w : List ℕ). text ++ w) (sym (counts_shown pair steps engine built whole.shows))

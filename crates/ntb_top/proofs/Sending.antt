@@ -150,16 +150,16 @@ begin_shows value plan now taken given frame h =
     let lane = value.lane in
     let new = begun now A 0 frame in
     let P : Begun → Outcome → Type 0 = λ begun made.
-        HoldsRingLaw (after_beginning lane (Carries frame) begun)
-        → (begun_answer begun ≡ made.answer) × Shows (calls.with_lane value (after_beginning lane (Carries frame) begun)) plan made.after (taken_after begun taken) given in
+    HoldsRingLaw (after_beginning lane (Carries frame) begun)
+    → (begun_answer begun ≡ made.answer) × Shows (calls.with_lane value (after_beginning lane (Carries frame) begun)) plan made.after (taken_after begun taken) given in
     subst (λ (refusal : Option Answer). P (begin_answer lane (length frame)) (decided now refusal (OkNumber (length (lane_of now A 0).sent)) new))
     (sym (refusal_read value plan now taken given (length frame) h))
     (subst (λ (n : ℕ). P (begin_answer lane (length frame))
-      (decided now
-        (refuse_if (nat_lt lane.largest (length frame)) (TooLong (length frame) lane.largest)
-        (refuse_if (not (calls.is_empty_list lane.todo)) Busy
-        (refuse_if (free_in lane == 0) (Again (head_of lane.entries (length lane.sent)) lane.index_word) None)))
-        (OkNumber n) new))
+    (decided now
+    (refuse_if (nat_lt lane.largest (length frame)) (TooLong (length frame) lane.largest)
+    (refuse_if (not (calls.is_empty_list lane.todo)) Busy
+    (refuse_if (free_in lane == 0) (Again (head_of lane.entries (length lane.sent)) lane.index_word) None)))
+    (OkNumber n) new))
     (sym (ap length h.lane.sent))
     (begin_cases P now new (length frame) lane.largest (head_of lane.entries (length lane.sent)) lane.index_word (length lane.sent)
     (nat_lt lane.largest (length frame)) (calls.is_empty_list lane.todo) (free_in lane == 0)
@@ -225,16 +225,15 @@ post_at value plan now taken given [] front h law = (refl, h)
 post_at value plan now taken given (mark ∷ rest) front h law =
     let lane = value.lane in
     let among : Contains (lane.flight ++ lane.todo) mark =
-        Contains-append_right lane.flight lane.todo mark (subst (λ marks. Contains marks mark) (sym front) (contains_first mark rest)) in
+    Contains-append_right lane.flight lane.todo mark (subst (λ marks. Contains marks mark) (sym front) (contains_first mark rest)) in
     let labelled = label_in_open lane mark h.only_frames h.law among in
     let put : PairPart = with_lane now A 0 (record (lane_of now A 0) { todo = map frame_label rest }) in
-    let moved = post_up lane mark rest h.lane_up in
-    (
+    let moved = post_up lane mark rest h.lane_up in (
       ap Posted (ap (λ queue. calls.label_in queue lane mark) h.queue ∙ labelled),
       subst (λ (next : Lane). Shows (calls.with_lane value next) plan (posts put A (frame_label mark)) taken given) (sym moved)
-      (subst (λ (pair : PairPart). Shows (calls.with_lane value (record lane { todo = rest; flight = lane.flight ++ mark ∷ [] })) plan pair taken given)
-      (sym (posts_up put A (frame_label mark) h.link_up))
-      (posted_shows value plan now taken given mark rest h (subst HoldsRingLaw moved law))),
+          (subst (λ (pair : PairPart). Shows (calls.with_lane value (record lane { todo = rest; flight = lane.flight ++ mark ∷ [] })) plan pair taken given)
+          (sym (posts_up put A (frame_label mark) h.link_up))
+          (posted_shows value plan now taken given mark rest h (subst HoldsRingLaw moved law))),
     )
 
 pub post_shows : (value : LaneValue) (plan : PairPlan) (now : PairPart) (taken given : ℕ) → Shows value plan now taken given
@@ -242,6 +241,6 @@ pub post_shows : (value : LaneValue) (plan : PairPlan) (now : PairPart) (taken g
     → (posted_answer (post_answer value) ≡ (post_step now A 0).answer) × Shows (calls.with_lane value (after_posting value.lane)) plan (post_step now A 0).after taken given
 post_shows value plan now taken given h law =
     subst (λ (labels : List Label). (posted_answer (post_answer value) ≡ (post_first now A 0 labels).answer)
-      × Shows (calls.with_lane value (after_posting value.lane)) plan (post_first now A 0 labels).after taken given)
+    × Shows (calls.with_lane value (after_posting value.lane)) plan (post_first now A 0 labels).after taken given)
     (sym h.lane.todo)
     (post_at value plan now taken given value.lane.todo refl h law)

@@ -1,4 +1,3 @@
-pub mod Built
 pub mod Drives
 pub mod Headline
 pub mod Moves

@@ -139,5 +139,15 @@ fn replay(alloc: Global, bytes: &[u8]) -> Result<Reply, Stop>
     ensures text { IfOk result (λ reply. string_bytes reply.text ≡ (replayed (script_of bytes.now)).text) }
     ensures memory { IsErrOf result Stop.ReadFault → ⊥ }
 {
-    Err(Stop::OutOfMemory)
+    match read_script(alloc, bytes) {
+        Ok(script) => Ok(Reply {
+            status: 0,
+            text: report_of(alloc, script)?,
+        }),
+        Err(ScriptFault::NotBuilt(line)) => Ok(Reply {
+            status: 3,
+            text: format!(in alloc; "refused line {line} notbuilt\n")?,
+        }),
+        Err(ScriptFault::OutOfMemory) => Err(Stop::OutOfMemory),
+    }
 }

@@ -32,5 +32,5 @@ returns c =
     let ascii = subst (λ (name : List ℕ). All (λ byte. byte < 128) name) (sym named) c.requires.built.ascii_name in
     on_ok_weaker c.push_lane_line.result
     (λ longer. all_reported c.args.pair.now c.args.steps.items c.loop-made.yielded c.loop-made.engine (string_bytes c.args.text.now) (string_bytes c.loop-made.text)
-      (string_bytes c.push_lane_line.new.text) c.bytes.result.now c.requires.built all named c.loop-made.invariant longer)
+    (string_bytes c.push_lane_line.new.text) c.bytes.result.now c.requires.built all named c.loop-made.invariant longer)
     (c.push_lane_line.ensures.ascii ascii)
