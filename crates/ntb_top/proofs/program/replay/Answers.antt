@@ -22,5 +22,5 @@ report_of-requires c = script_built c.args.bytes.now _ (c.in-Ok.ensures.ok c.req
 pub returns-in_ok-format-in-Err-NotBuilt-clause-text : goal.returns-in_ok-format-in-Err-NotBuilt-clause-text
 returns-in_ok-format-in-Err-NotBuilt-clause-text c =
     let read : script_of c.args.bytes.now ≡ Err c.in-Err-NotBuilt.line =
-        subst (λ (fault : ScriptFault). IsScriptFault (script_of c.args.bytes.now) fault) c.in-Err-NotBuilt.field-0-is (c.in-Err-NotBuilt.ensures.refused c.requires) in
+    subst (λ (fault : ScriptFault). IsScriptFault (script_of c.args.bytes.now) fault) c.in-Err-NotBuilt.field-0-is (c.in-Err-NotBuilt.ensures.refused c.requires) in
     c.in_ok-format-in-Err-NotBuilt.ensures.ok ∙ refused_text c.in-Err-NotBuilt.line ∙ ap (λ (r : Result Script ℕ). (replayed r).text) (sym read)
