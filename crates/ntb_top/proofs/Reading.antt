@@ -1,12 +1,12 @@
 -- Lemmas on the lines of a script that are still to be read.
-use Rattle.std.proofs.Common.{◌≡◌, ℕ, ◌+◌, ◌<◌, ◌≤◌, IfSome, Option, Some, None, Result, Ok, Err, List, [], ◌∷◌, length, map, option_map, vec_len, refl, ap, subst, sym, ◌∙◌, arith, Bor, length-append}
+use Rattle.std.proofs.Common.{◌≡◌, ℕ, ◌+◌, ◌<◌, ◌≤◌, IfSome, Option, Some, None, Result, Err, List, ◌∷◌, length, option_map, vec_len, ap, subst, sym, ◌∙◌, arith, Bor, length-append}
 use Rattle.std.proofs.lemmas.List.{length-map}
 use Rattle.ntb_top.specs.declared.script.Script as code
 use Rattle.ntb_top.specs.declared.given.Given.{Given}
 use Rattle.ntb_top.specs.declared.given.Given.TheVariants.{Nothing, Header, Host, Pair, StepsBegin, Steps}
 use Rattle.ntb_top.specs.Script.{Script, line_gives, read_lines, go_on, most_steps}
 use Rattle.ntb_top.specs.Spelling.{lines_of}
-use Rattle.ntb_top.specs.Seen.{script_seen, with_given, macro_steps, line_seen, StepsFit}
+use Rattle.ntb_top.specs.Seen.{script_seen, with_given, line_seen, StepsFit}
 
 -- how much is left to be read
 abbrev pub left_len : Option (Bor (List ℕ)) → ℕ

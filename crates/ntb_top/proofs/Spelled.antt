@@ -1,5 +1,5 @@
 -- Lemmas on the spelling of scripts.
-use Rattle.std.proofs.Common.{◌≡◌, ◌≢◌, ℕ, ◌+◌, ◌-◌, ◌*◌, ◌^◌, ◌<◌, ◌≤◌, ◌==◌, ◌&&◌, Bool, true, false, cond, if◌then◌else◌, Option, Some, None, List, [], ◌∷◌, length, get_or, take, drop, drop-cons, nat_lt, refl, ap, sym, ◌∙◌, arith, add-one, eq-eqb, zero, suc, Bor, MatchOption, option_map, map}
+use Rattle.std.proofs.Common.{◌≡◌, ◌≢◌, ℕ, ◌+◌, ◌-◌, ◌*◌, ◌^◌, ◌<◌, ◌≤◌, ◌==◌, ◌&&◌, Bool, true, false, if◌then◌else◌, Option, Some, None, List, [], ◌∷◌, length, get_or, take, drop, drop-cons, nat_lt, refl, ap, sym, ◌∙◌, arith, add-one, eq-eqb, zero, suc, Bor, MatchOption, option_map, map}
 use Rattle.std.proofs.lemmas.Bool.Decides.{nat_tests}
 use Rattle.std.proofs.lemmas.Grind.{common_steps}
 use Rattle.std.specs.List.{list_all, position_or_len}

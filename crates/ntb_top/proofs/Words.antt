@@ -1,5 +1,5 @@
 -- Lists of words of a known length, as a match on a slice of words sees them.
-use Rattle.std.proofs.Common.{◌≡◌, ℕ, ◌+◌, ◌-◌, ◌<◌, ◌≤◌, List, [], ◌∷◌, length, get_or, take, drop, length-drop, refl, ap, arith, Bor, None}
+use Rattle.std.proofs.Common.{◌≡◌, ℕ, ◌-◌, ◌<◌, ◌≤◌, List, [], ◌∷◌, length, get_or, take, drop, length-drop, refl, arith, Bor, None}
 use Rattle.std.proofs.lemmas.List.{take_all}
 use Rattle.ntb_top.specs.Script.{Script, steps_of}
 use Rattle.ntb_top.specs.Seen.{words_seen}

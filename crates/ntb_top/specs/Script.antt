@@ -1,6 +1,6 @@
 -- What a script means, as far as its lines are built: what each line gives after those before it, and the plan that all of them
 -- declare. A line that gives nothing isn't built.
-use Rattle.std.specs.Prelude.{◌≡◌, ℕ, ◌+◌, ◌-◌, ◌*◌, ◌/◌, ◌%◌, ◌==◌, Bool, true, false, not, ◌&&◌, ◌||◌, Option, Some, None, Result, Ok, Err, List, [], ◌∷◌, ◌++◌, length, map, replicate, nat_lt, nat_le, is_some, is_none, unwrap_or, option_and_then, option_to_list, codes, if◌then◌else◌}
+use Rattle.std.specs.Prelude.{ℕ, ◌+◌, ◌%◌, ◌==◌, Bool, true, false, not, ◌&&◌, Option, Some, None, Result, Ok, Err, List, [], ◌∷◌, ◌++◌, length, map, nat_lt, nat_le, is_some, is_none, unwrap_or, option_and_then, option_to_list, codes, if◌then◌else◌}
 use Rattle.std.specs.Str.{bytes_eq}
 use Rattle.std.specs.List.{list_any}
 use Rattle.step_kinds.specs.declared.names.Side.{Side}

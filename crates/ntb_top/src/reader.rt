@@ -310,3 +310,6 @@ fn on_queue(rest: &[&[u8]], step: LaneStep) -> Option<Macro>
         _ => None,
     }
 }
+
+#[cfg(test)]
+mod tests;
