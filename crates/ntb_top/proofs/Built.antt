@@ -1,7 +1,7 @@
 -- What every script that is read has: a pair that can be declared, and no steps without one.
-use Rattle.std.proofs.Common.{◌≡◌, ℕ, ◌+◌, ◌<◌, ◌≤◌, Bool, true, false, ◌&&◌, ◌||◌, not, Option, Some, None, Result, Ok, Err, List, [], ◌∷◌, ◌++◌, length, All, IfOk, IfSome, refl, ap, sym, ◌∙◌, arith, cond, subst}
+use Rattle.std.proofs.Common.{◌≡◌, ℕ, ◌+◌, ◌<◌, ◌≤◌, Bool, true, false, ◌&&◌, ◌||◌, not, Option, Some, None, Result, Ok, List, [], ◌∷◌, ◌++◌, length, IfOk, IfSome, refl, sym, ◌∙◌, arith, cond, subst}
 use Rattle.std.specs.Prelude.{option_and_then, nat_le, nat_lt, unwrap_or, codes, is_none, is_some}
-use Rattle.std.specs.List.{AllByRecursion, list_all, list_any}
+use Rattle.std.specs.List.{AllByRecursion, list_all}
 use Rattle.std.specs.Str.{bytes_eq}
 use Rattle.std.proofs.lemmas.Bool.{leb-true, false≢true}
 use Rattle.std.proofs.lemmas.List.{length-append, length-map}

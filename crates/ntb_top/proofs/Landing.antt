@@ -1,5 +1,5 @@
 -- Landing: the lane answers as the ledger does, and then shows the pair after the step.
-use Rattle.std.proofs.Common.{◌≡◌, ℕ, ◌+◌, Bool, true, false, not, List, [], ◌∷◌, ◌++◌, Option, Some, None, length, map, slice_get, option_map, refl, sym, ap, ◌∙◌, subst, Contains, if◌then◌else◌}
+use Rattle.std.proofs.Common.{◌≡◌, ℕ, ◌+◌, Bool, true, false, not, List, ◌++◌, Option, Some, None, map, slice_get, option_map, refl, sym, ap, ◌∙◌, subst, Contains, if◌then◌else◌}
 use Rattle.std.specs.List.{remove}
 use Rattle.std.proofs.lemmas.Option.{slice_get-map, slice_get_within, get_or_from_slice_get}
 use Rattle.std.proofs.lemmas.List.Elements.{Contains-append_left}
@@ -7,11 +7,10 @@ use Rattle.step_kinds.specs.declared.names.Side.TheVariants.{A, B}
 use Rattle.step_kinds.specs.declared.plan.PairPlan.{PairPlan}
 use Rattle.step_kinds.specs.declared.steps.Label.{Label}
 use Rattle.step_kinds.specs.declared.steps.Label.TheVariants.{Index}
-use Rattle.step_kinds.specs.declared.steps.Answer.{Answer}
 use Rattle.step_kinds.specs.declared.steps.Answer.TheVariants.{Landed, Blocked}
 use Rattle.lane_model.specs.Lane.{Lane, Place}
 use Rattle.lane_model.specs.Law.{HoldsRingLaw}
-use Rattle.lane_model.specs.Order.{strict, may_land}
+use Rattle.lane_model.specs.Order.{may_land}
 use Rattle.lane_model.specs.Steps.{after_landing, after_index}
 use Rattle.lane_model.specs.declared.Field.TheVariants.{Chunk, Length, Version}
 use Rattle.lane_model.specs.declared.Mark.{Mark}
@@ -19,12 +18,12 @@ use Rattle.lane_model.specs.declared.Mark.TheVariants.{Cell, Flag, Bell}
 use Rattle.lane_core.specs.Calls as calls
 use Rattle.lane_core.specs.Calls.{LaneValue, label_in, order_of_mark, may_land_in, may_land_index, land_answer, after_land, after_found, land_index_answer, after_land_index, index_found, after_index_found}
 use Rattle.lane_core.specs.declared.answers.LaneLand.{LaneLand}
-use Rattle.lane_core.specs.declared.answers.LaneLand.TheVariants.{Landed as WriteLanded, Blocked as WriteBlocked, Nothing as NothingThere}
+use Rattle.lane_core.specs.declared.answers.LaneLand.TheVariants.{Landed as WriteLanded, Blocked as WriteBlocked}
 use Rattle.ledger_model.specs.Labels.{order_of}
-use Rattle.ledger_model.specs.Ledger.{PairPart, side_of, lane_of}
+use Rattle.ledger_model.specs.Ledger.{PairPart, side_of}
 use Rattle.ledger_model.specs.Outcome.{Outcome, refuse_if, decided}
 use Rattle.ledger_model.specs.Receiving.{land_step, land_found, lands_on, taken_out}
-use Rattle.ntb_top.specs.Drives.{Shows, IsPartOf, frame_label}
+use Rattle.ntb_top.specs.Drives.{Shows, frame_label}
 use Rattle.ntb_top.specs.Moves.{landed_answer}
 use Rattle.ntb_top.proofs.Marks.{map-remove, orders_of_labels, orders_of_indexes, label_in_open}
 

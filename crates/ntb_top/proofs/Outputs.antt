@@ -1,5 +1,5 @@
 -- The outputs that don't depend on a script, and the laws of every replayed log.
-use Rattle.std.proofs.Common.{◌≡◌, ℕ, ◌+◌, ◌<◌, Bool, true, false, Option, Some, None, Result, Ok, Err, List, [], ◌∷◌, ◌++◌, length, replicate, IfOk, IfSome, refl, ap, sym, ◌∙◌, inl, inr, arith, cond, ltb}
+use Rattle.std.proofs.Common.{◌≡◌, ℕ, ◌+◌, ◌<◌, true, false, Option, Some, None, Result, Ok, Err, List, [], length, replicate, IfOk, IfSome, refl, ap, sym, ◌∙◌, inl, inr, arith, cond}
 use Rattle.std.proofs.Common.{Global, Vec}
 use Rattle.std.specs.Prelude.{IsErrOf}
 use Rattle.std.specs.String.{string_bytes}
@@ -8,13 +8,13 @@ use Rattle.io_edges.specs.declared.whole.ReadError.TheVariants.{TooLong}
 use Rattle.ntb_top.specs.declared.program.Reply.{Reply}
 use Rattle.ntb_top.specs.declared.program.Stop.{Stop}
 use Rattle.std.proofs.lemmas.List.{length-replicate}
-use Rattle.std.specs.Prelude.{codes, nat_lt}
+use Rattle.std.specs.Prelude.{nat_lt}
 use Rattle.std.proofs.lemmas.Bool.{lt-ltb}
 use Rattle.ledger_model.proofs.LinkAnswers.{link_down_where_not_up}
 use Rattle.ledger_model.proofs.Room.{again_where_no_room}
 use Rattle.ledger_model.proofs.Sessions.{every_frame_comes_once, every_log_is_in_order}
-use Rattle.ntb_top.specs.Headline.{IsTrueReplay, IsTrueLog}
-use Rattle.ntb_top.specs.Output.{Output, AreBytesOf, IsOutput, IsOutputStatus, is_command, most_bytes, output_of, replayed, too_long, usage}
+use Rattle.ntb_top.specs.Headline.{IsTrueReplay}
+use Rattle.ntb_top.specs.Output.{AreBytesOf, IsOutput, IsOutputStatus, is_command, most_bytes, output_of, replayed, too_long, usage}
 use Rattle.ntb_top.specs.Report.{no_memories}
 use Rattle.ntb_top.specs.Script.{script_of, plan_of}
 

@@ -1,5 +1,5 @@
 -- Receiving: the lane answers as the ledger does, and then shows the pair after the step.
-use Rattle.std.proofs.Common.{◌≡◌, ◌≢◌, ℕ, ◌+◌, ◌<◌, ◌==◌, Bool, true, false, not, List, [], ◌∷◌, ◌++◌, Option, Some, None, length, map, refl, sym, ap, ◌∙◌, subst, arith, if◌then◌else◌}
+use Rattle.std.proofs.Common.{◌≡◌, ◌≢◌, ℕ, ◌+◌, ◌==◌, Bool, true, false, not, List, [], ◌∷◌, ◌++◌, Option, Some, None, length, map, refl, sym, ap, ◌∙◌, subst, arith, if◌then◌else◌}
 use Rattle.std.specs.Prelude.{nat_lt}
 use Rattle.std.proofs.lemmas.Bool.{cond-true, eqb-false}
 use Rattle.std.proofs.lemmas.List.{map-append}
@@ -9,23 +9,23 @@ use Rattle.step_kinds.specs.declared.plan.PairPlan.{PairPlan}
 use Rattle.step_kinds.specs.declared.steps.Label.{Label}
 use Rattle.step_kinds.specs.declared.steps.Label.TheVariants.{Index}
 use Rattle.step_kinds.specs.declared.steps.Answer.{Answer}
-use Rattle.step_kinds.specs.declared.steps.Answer.TheVariants.{NotReady, Closed, OutOfTurn, Empty, ReadyFrame, PeerDown, Copied as CopiedPart, Delivered, Cleared as ClearedFrame, Acked}
+use Rattle.step_kinds.specs.declared.steps.Answer.TheVariants.{NotReady, Closed, OutOfTurn, Empty, ReadyFrame, Copied as CopiedPart, Delivered, Cleared as ClearedFrame, Acked}
 use Rattle.lane_model.specs.Lane.{Entry, Carries, LinkDown, Lane, bytes_of, chunks_in, entry_of}
 use Rattle.lane_model.specs.Law.{HoldsRingLaw}
-use Rattle.lane_model.specs.Steps.{after_look, after_copy, after_clear, after_ack, more_to_copy}
+use Rattle.lane_model.specs.Steps.{after_look, after_clear, after_ack, more_to_copy}
 use Rattle.lane_model.specs.declared.Phase.{Phase}
 use Rattle.lane_model.specs.declared.Phase.TheVariants.{Idle, Copying, Copied, Cleared}
 use Rattle.lane_core.specs.Calls as calls
 use Rattle.lane_core.specs.Calls.{LaneValue, look_answer, after_looking, copy_answer, after_copying, clear_answer, after_clearing, ack_answer, after_acking}
 use Rattle.lane_core.specs.declared.answers.LaneLook.{LaneLook}
-use Rattle.lane_core.specs.declared.answers.LaneLook.TheVariants.{Ready, Empty as NothingStands, OutOfTurn as LookOutOfTurn}
+use Rattle.lane_core.specs.declared.answers.LaneLook.TheVariants.{Empty as NothingStands, OutOfTurn as LookOutOfTurn}
 use Rattle.lane_core.specs.declared.answers.LaneCopy.{LaneCopy}
 use Rattle.lane_core.specs.declared.answers.LaneCopy.TheVariants.{Part, Whole, OutOfTurn as CopyOutOfTurn}
 use Rattle.ledger_model.specs.Ledger.{LanePart, PairPart, Tally, side_of, lane_of, tally_of, with_lane, with_side_part, posts, entry_in}
 use Rattle.ledger_model.specs.Outcome.{Outcome, refuse_if, decided}
 use Rattle.ledger_model.specs.Receiving as receiving
 use Rattle.ledger_model.specs.Receiving.{look_step, look_refusal, look_at, copy_step, copy_of, counts_delivered, clear_step, ack_step}
-use Rattle.ntb_top.specs.Drives.{Shows, IsPartOf, frame_label}
+use Rattle.ntb_top.specs.Drives.{Shows}
 use Rattle.ntb_top.specs.Moves.{looked_answer, copied_answer, cleared_answer, acked_answer, given_after}
 use Rattle.ntb_top.proofs.Sending.{refuse_not, posts_up, tally_here}
 

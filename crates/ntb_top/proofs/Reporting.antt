@@ -1,12 +1,11 @@
 -- The report of a pair's steps: one answer more, and the counts of the one lane.
-use Rattle.std.proofs.Common.{◌≡◌, ℕ, suc, ◌+◌, ◌==◌, ◌≤◌, Bool, true, false, List, [], ◌∷◌, ◌++◌, length, map, min, refl, sym, ap, ◌∙◌, subst, arith, append-nil, append_assoc, if◌then◌else◌}
+use Rattle.std.proofs.Common.{◌≡◌, ℕ, suc, ◌+◌, ◌==◌, ◌≤◌, Bool, false, List, [], ◌∷◌, ◌++◌, length, map, min, refl, sym, ap, ◌∙◌, subst, arith, append-nil, append_assoc, if◌then◌else◌}
 use Rattle.std.specs.Prelude.{count_by, Option, Some, None, codes}
 use Rattle.std.specs.List.{flat_map}
 use Rattle.std.proofs.lemmas.Bool.{cond-true, eq-eqb}
 use Rattle.std.proofs.lemmas.List.{map-append, length_push}
 use Rattle.std.proofs.lemmas.List.Sums.{sum_by-cons}
 use Rattle.step_kinds.specs.Subject.{subject_of}
-use Rattle.step_kinds.specs.declared.names.LaneName.{LaneName}
 use Rattle.step_kinds.specs.declared.names.Side.{Side}
 use Rattle.step_kinds.specs.declared.names.Side.TheVariants.{A, B}
 use Rattle.step_kinds.specs.declared.plan.Line.{Line}
@@ -15,13 +14,13 @@ use Rattle.step_kinds.specs.declared.plan.Plan.{Plan}
 use Rattle.step_kinds.specs.declared.steps.Answer.{Answer}
 use Rattle.step_kinds.specs.declared.steps.Step.{Step}
 use Rattle.lane_model.specs.Lane.{count_from}
-use Rattle.ledger_model.specs.Ledger.{PairPart, Tally, tally_of}
+use Rattle.ledger_model.specs.Ledger.{PairPart, Tally}
 use Rattle.ledger_model.specs.Log.{Answered, Memories, answered, log_from, ledger_from, log_of, ledger_of, trains, accepted, delivered}
 use Rattle.ledger_model.specs.Next.{Bytes, Ledger, pair_next, pair_plan, outcome_in, ledger_after, start as begin_of}
 use Rattle.ledger_model.proofs.Runs.{log_of-last}
 use Rattle.ledger_model.proofs.Sessions.{tallies_are_counts}
-use Rattle.ntb_top.specs.Drives.{Shows, EngineShows, IsMade, IsBuiltPair, plan_of_pair}
-use Rattle.ntb_top.specs.Report.{answer_line, answer_lines, counts_line, lane_line, last_session_of, pair_lines, pairs_lines, no_memories, log_of_plan, counted_report, line_of, report_of}
+use Rattle.ntb_top.specs.Drives.{EngineShows, IsMade, IsBuiltPair, plan_of_pair}
+use Rattle.ntb_top.specs.Report.{answer_line, answer_lines, counts_line, lane_line, last_session_of, pairs_lines, no_memories, log_of_plan, counted_report, line_of, report_of}
 use Rattle.ntb_top.specs.Script.{Script, plan_of}
 use Rattle.ntb_top.specs.Seen.{step_seen, line_seen, steps_seen}
 use Rattle.ntb_top.specs.declared.engine.Engine.{Engine}

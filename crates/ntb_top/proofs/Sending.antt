@@ -1,18 +1,18 @@
 -- Beginning and posting: the lane answers as the ledger does, and then shows the pair after the step.
-use Rattle.std.proofs.Common.{◌≡◌, ◌≢◌, ℕ, suc, ◌+◌, ◌<◌, ◌≤◌, ◌==◌, Bool, true, false, not, List, [], ◌∷◌, ◌++◌, Option, Some, None, length, map, refl, sym, ap, ◌∙◌, subst, inl, inr, arith, Contains, if◌then◌else◌}
+use Rattle.std.proofs.Common.{◌≡◌, ℕ, ◌+◌, ◌<◌, ◌==◌, Bool, true, false, not, List, [], ◌∷◌, ◌++◌, Option, None, length, map, refl, sym, ap, ◌∙◌, subst, inl, inr, arith, Contains, if◌then◌else◌}
 use Rattle.std.specs.Prelude.{nat_lt}
 use Rattle.std.proofs.lemmas.Bool.{cases_eq, cond-true, eq-eqb}
 use Rattle.std.proofs.lemmas.List.{map-append, length_push, get_or_push, get_or_append_left}
-use Rattle.std.proofs.lemmas.List.Elements.{Contains-append_left, Contains-append_right}
+use Rattle.std.proofs.lemmas.List.Elements.{Contains-append_right}
 use Rattle.step_kinds.specs.Bits.{has_bit}
 use Rattle.step_kinds.specs.declared.names.Side.{Side}
-use Rattle.step_kinds.specs.declared.names.Side.TheVariants.{A, B}
+use Rattle.step_kinds.specs.declared.names.Side.TheVariants.{A}
 use Rattle.step_kinds.specs.declared.plan.PairPlan.{PairPlan}
 use Rattle.step_kinds.specs.declared.steps.Label.{Label}
 use Rattle.step_kinds.specs.declared.steps.Answer.{Answer}
 use Rattle.step_kinds.specs.declared.steps.Answer.TheVariants.{OkNumber, LinkDown as NoLink, NotReady, Closed, TooLong, Busy, Again, Posted}
 use Rattle.lane_model.specs.Kept.{IsOpen}
-use Rattle.lane_model.specs.Lane.{Entry, Carries, LinkDown, Lane, entry_of, free_in, writes_of}
+use Rattle.lane_model.specs.Lane.{Entry, Carries, LinkDown, Lane, free_in, writes_of}
 use Rattle.lane_model.specs.Law.{HoldsRingLaw}
 use Rattle.lane_model.specs.Ring.{head_of, tail_of, room_of}
 use Rattle.lane_model.specs.Steps.{after_begin, after_post}
@@ -24,11 +24,11 @@ use Rattle.lane_core.specs.Calls.{LaneValue, begin_answer, after_beginning, firs
 use Rattle.lane_core.specs.declared.answers.Begun.{Begun}
 use Rattle.lane_core.specs.declared.answers.Begun.TheVariants.{Ok as Began, TooLong as FrameTooLong, Busy as LaneBusy, NoRoom}
 use Rattle.ledger_model.specs.Labels.{label_of}
-use Rattle.ledger_model.specs.Ledger.{LanePart, PairPart, Sizes, Tally, side_of, lane_of, tally_of, sizes_of, with_lane, with_side_part, link_up, posts}
+use Rattle.ledger_model.specs.Ledger.{PairPart, Tally, side_of, lane_of, tally_of, sizes_of, with_lane, with_side_part, link_up, posts}
 use Rattle.ledger_model.specs.Outcome.{Outcome, refuse_if, decided}
 use Rattle.ledger_model.specs.Sending as sending
 use Rattle.ledger_model.specs.Sending.{refuse_sender, refuse_long, refuse_busy, refuse_full, begin_refusal, begin_step, begun, post_step, post_first}
-use Rattle.ntb_top.specs.Drives.{Shows, IsPartOf, frame_label}
+use Rattle.ntb_top.specs.Drives.{Shows, frame_label}
 use Rattle.ntb_top.specs.Moves.{begun_answer, posted_answer, taken_after}
 use Rattle.ntb_top.proofs.Marks.{is_empty-map, labels_of_frame, label_in_open}
 

@@ -1,8 +1,7 @@
 -- The ledger of a script's one pair, as the lane of the engine shows it: the lane goes from side A to side B on queue 0, in session 1 of a
 -- pair that was declared up.
-use Rattle.std.specs.Prelude.{◌≡◌, ℕ, ◌+◌, ◌<◌, ◌≤◌, Bool, true, false, Option, None, List, [], ◌∷◌, ◌++◌, length, map, All, IfSome}
+use Rattle.std.specs.Prelude.{◌≡◌, ℕ, ◌+◌, ◌<◌, ◌≤◌, true, false, None, List, [], ◌∷◌, length, map, All, IfSome}
 use Rattle.step_kinds.specs.Bits.{has_bit}
-use Rattle.step_kinds.specs.declared.names.Side.{Side}
 use Rattle.step_kinds.specs.declared.names.Side.TheVariants.{A, B}
 use Rattle.step_kinds.specs.declared.plan.Line.{Line}
 use Rattle.step_kinds.specs.declared.plan.PairPlan.{PairPlan}
@@ -17,7 +16,7 @@ use Rattle.lane_model.specs.Law.{HoldsRingLaw}
 use Rattle.lane_model.specs.declared.Mark.{Mark}
 use Rattle.lane_core.specs.Calls.{LaneValue}
 use Rattle.ledger_model.specs.Labels.{label_of}
-use Rattle.ledger_model.specs.Ledger.{LanePart, PairPart, Tally, side_of, lane_of, tally_of, sizes_of}
+use Rattle.ledger_model.specs.Ledger.{LanePart, PairPart, side_of, lane_of, tally_of, sizes_of}
 use Rattle.ledger_model.specs.Link.{is_up}
 use Rattle.ledger_model.specs.Next.{Bytes, pair_next}
 use Rattle.ntb_top.specs.Script.{Script, side_with, most_steps}

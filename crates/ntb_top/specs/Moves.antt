@@ -1,6 +1,5 @@
 -- The steps of the one lane and what its calls answer, as the ledger has them.
 use Rattle.std.specs.Prelude.{ℕ, ◌+◌, Option, Some, None}
-use Rattle.step_kinds.specs.declared.names.Side.TheVariants.{A, B}
 use Rattle.step_kinds.specs.declared.steps.Answer.{Answer}
 use Rattle.step_kinds.specs.declared.steps.Answer.TheVariants.{OkNumber, TooLong, Busy, Again, Idle, Posted, Nothing, Blocked, Landed, OutOfTurn, Empty, PeerDown, ReadyFrame, Copied, Delivered, Cleared, Acked}
 use Rattle.step_kinds.specs.declared.steps.Label.{Label}

@@ -4,7 +4,7 @@ use Rattle.std.specs.Fmt.{decimal}
 use Rattle.ntb_top.proofs.Built.{script_built}
 use Rattle.ntb_top.specs.Output.{replayed, refused}
 use Rattle.ntb_top.specs.Script.{Script, script_of}
-use Rattle.ntb_top.specs.Seen.{script_seen, IsScriptFault}
+use Rattle.ntb_top.specs.Seen.{IsScriptFault}
 use Rattle.ntb_top.specs.declared.reader.ScriptFault.{ScriptFault}
 use Rattle.ntb_top.proofs.program.replay.Goals as goal
 

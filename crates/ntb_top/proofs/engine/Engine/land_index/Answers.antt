@@ -1,5 +1,3 @@
-use Rattle.std.proofs.Common.{subst, sym}
-use Rattle.step_kinds.specs.declared.steps.Answer.{Answer}
 use Rattle.ntb_top.proofs.Making.{land_index_made}
 use Rattle.ntb_top.proofs.engine.Engine.land_index.Goals as goal
 
