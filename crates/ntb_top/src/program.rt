@@ -151,3 +151,6 @@ fn replay(alloc: Global, bytes: &[u8]) -> Result<Reply, Stop>
         Err(ScriptFault::OutOfMemory) => Err(Stop::OutOfMemory),
     }
 }
+
+#[cfg(test)]
+mod tests;
