@@ -17,7 +17,7 @@ pub record Flow : Type 0 where
   pub start : ℕ
   pub stopped : Bool
 
--- whether it is stopped after a frame was taken that left so many entries free
+-- whether it is stopped after a frame was accepted that left so many entries free
 abbrev pub stopped_after_send : Flow → ℕ → Bool
 stopped_after_send flow free = flow.stopped || nat_lt free flow.stop
 
@@ -28,9 +28,9 @@ stays_stopped flow free = flow.stopped && nat_lt free flow.start
 abbrev pub no_counts : Counters
 no_counts = record { tx = 0; tx_bytes = 0; refused = 0; rx = 0; rx_bytes = 0; short = 0 }
 
--- a frame of so many bytes was taken to be sent
-abbrev pub count_taken : Counters → ℕ → Counters
-count_taken c len = record { tx = c.tx + 1; tx_bytes = c.tx_bytes + len; refused = c.refused; rx = c.rx; rx_bytes = c.rx_bytes; short = c.short }
+-- a frame of so many bytes was accepted
+abbrev pub count_accepted : Counters → ℕ → Counters
+count_accepted c len = record { tx = c.tx + 1; tx_bytes = c.tx_bytes + len; refused = c.refused; rx = c.rx; rx_bytes = c.rx_bytes; short = c.short }
 
 -- a frame was refused
 abbrev pub count_refused : Counters → Counters

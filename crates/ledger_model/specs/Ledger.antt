@@ -1,6 +1,8 @@
 -- The ledger of a cluster: what is so of each pair after the steps that were made. It knows lists, counts and labels, and no
 -- memory, address, flag or version word.
-use Rattle.std.specs.Prelude.{ℕ, ◌+◌, ◌==◌, Bool, List, [], ◌∷◌, ◌++◌, length, slice_index_or, if◌then◌else◌}
+use Rattle.std.specs.Prelude.{ℕ, ◌+◌, ◌-◌, ◌*◌, ◌==◌, ◌&&◌, min, Bool, List, [], ◌∷◌, ◌++◌, length, slice_index_or, if◌then◌else◌}
+use Rattle.step_kinds.specs.Limits.{most_frame_bytes}
+use Rattle.step_kinds.specs.Sides.{other_side}
 use Rattle.step_kinds.specs.declared.names.Side.{Side}
 use Rattle.step_kinds.specs.declared.names.Side.TheVariants.{A, B}
 use Rattle.step_kinds.specs.declared.plan.Counters.{Counters}
@@ -14,18 +16,31 @@ use Rattle.ring_geometry.specs.Geometry.{Layout, entries_of, max_payload_of}
 use Rattle.ledger_model.specs.Both.{Both, at_side, with_side}
 use Rattle.ledger_model.specs.Link.{Link, is_up}
 
--- A lane in the pair's session: its entries, the writes of the last one that are left to post, and how far each side is.
--- The labels in flight stand with the side that posted them.
+-- A lane in the pair's session: what its sender began, what its receiver found, and how far each is. The labels in flight
+-- stand with the side that posted them.
 pub record LanePart : Type 0 where
+  -- the entries that were begun, those of the last frame that are not begun yet, and the writes of the entry begun last
+  -- that are left to post
   pub sent : List Entry
+  pub waiting : List Entry
   pub todo : List Label
+  -- how many frames and link-down entries were begun
+  pub told : ℕ
+  -- how many entries have their flags landed, were taken whole, were cleared, acknowledged and given back
   pub flagged : ℕ
   pub got : ℕ
   pub cleared : ℕ
   pub acked : ℕ
   pub freed : ℕ
+  -- where the receiver stands with entry `got`, how many parts of it were copied, its length and how many entries of its frame
+  -- follow it, as the receiver found them
   pub phase : Phase
   pub part : ℕ
+  pub len : ℕ
+  pub left : ℕ
+  -- the bytes copied so far of the frame under way, and how many frames were delivered
+  pub gathered : List ℕ
+  pub done : ℕ
 
 -- One side of a pair: what it reached in the handshake, its scratchpads and doorbells, and its writes in flight. Sets of
 -- queues and of doorbells are the bits of a number.
@@ -39,6 +54,8 @@ pub record SidePart : Type 0 where
   pub pending : ℕ
   pub masked : ℕ
   pub flight : List Label
+  -- the bytes of the raw writes among them, in order
+  pub poked : List (List ℕ)
 
 -- A network device on a queue.
 pub record DevPart : Type 0 where
@@ -98,35 +115,68 @@ posts pair side label =
     then with_side_part pair side (record (side_of pair side) { flight = (side_of pair side).flight ++ label ∷ [] })
     else pair
 
--- the numbers of a lane's ring
-pub record Sizes : Type 0 where
-  -- slots of the ring, and the most bytes of a frame
-  pub entries : ℕ
-  pub largest : ℕ
-
--- the bytes of a header
-abbrev pub header_bytes : ℕ
-header_bytes = 12
+-- the same of a raw write and its bytes
+abbrev pub posts_raw : PairPart → Side → Label → List ℕ → PairPart
+posts_raw pair side label bytes =
+    if link_up pair
+    then with_side_part pair side
+    (record (side_of pair side) { flight = (side_of pair side).flight ++ label ∷ []; poked = (side_of pair side).poked ++ bytes ∷ [] })
+    else pair
 
 abbrev pub side_plan : PairPlan → Side → SidePlan
 side_plan plan A = plan.a
 side_plan plan B = plan.b
 
--- the ring of a lane lies in a window that its sender sends through, so the sender's numbers say how large it is
+-- the version that a pair speaks: 5 where both sides declare it, else 4
+abbrev pub agreed_version : PairPlan → ℕ
+agreed_version plan = if plan.a.version == 5 && plan.b.version == 5 then 5 else 4
+
+-- the bytes of a header: version, length and flags, and on version 5 the number of entries that follow before them
+abbrev pub header_bytes : PairPlan → ℕ
+header_bytes plan = if agreed_version plan == 5 then 16 else 12
+
+-- where a side's rings lie in a window of so many bytes, by the side's own numbers
+abbrev pub layout_in : PairPlan → Side → ℕ → ℕ → Layout
+layout_in plan side size queue =
+    let own = side_plan plan side in
+    record { window = size; windows = own.windows; queues = own.queues; queue = queue; mtu = plan.mtu; header = header_bytes plan }
+
+-- the ring that a side sends to on a queue: it lies in a window that the side sends through
 abbrev pub layout_of : PairPlan → Side → ℕ → Layout
-layout_of plan from queue =
-    let own = side_plan plan from in
-    record { window = own.size; windows = own.windows; queues = own.queues; queue = queue; mtu = plan.mtu; header = header_bytes }
+layout_of plan from queue = layout_in plan from (side_plan plan from).size queue
+
+-- the ring that a side receives in on a queue: it lies in a window that the peer sends through
+abbrev pub layout_to : PairPlan → Side → ℕ → Layout
+layout_to plan side queue = layout_in plan side (side_plan plan (other_side side)).size queue
+
+-- the numbers of a lane's ring
+pub record Sizes : Type 0 where
+  -- slots of the ring, the most bytes of an entry's payload, and the most bytes of a frame
+  pub entries : ℕ
+  pub largest : ℕ
+  pub most : ℕ
+
+-- a frame is one entry on version 4; on version 5 it may take all the entries that a ring has free at most
+abbrev pub most_bytes : PairPlan → ℕ → ℕ → ℕ
+most_bytes plan entries largest = if agreed_version plan == 5 then min most_frame_bytes ((entries - 1) * largest) else largest
+
+abbrev pub sizes_in : PairPlan → Layout → Sizes
+sizes_in plan layout =
+    record { entries = entries_of layout; largest = max_payload_of layout; most = most_bytes plan (entries_of layout) (max_payload_of layout) }
 
 abbrev pub sizes_of : PairPlan → Side → ℕ → Sizes
-sizes_of plan from queue = record { entries = entries_of (layout_of plan from queue); largest = max_payload_of (layout_of plan from queue) }
+sizes_of plan from queue = sizes_in plan (layout_of plan from queue)
 
--- the entries that are free for the sender, and what it reads of head and index word
+-- the entries that a lane's sender has begun or keeps waiting, those that are free for it, and what it reads of head and
+-- index word
+abbrev pub begun_in : LanePart → ℕ
+begun_in lane = length lane.sent + length lane.waiting
+
 abbrev pub free_of : Sizes → LanePart → ℕ
-free_of sizes lane = room_of sizes.entries (length lane.sent) lane.freed
+free_of sizes lane = room_of sizes.entries (begun_in lane) lane.freed
 
 abbrev pub head_in : Sizes → LanePart → ℕ
-head_in sizes lane = head_of sizes.entries (length lane.sent)
+head_in sizes lane = head_of sizes.entries (begun_in lane)
 
 abbrev pub tail_in : Sizes → LanePart → ℕ
 tail_in sizes lane = tail_of sizes.entries lane.freed

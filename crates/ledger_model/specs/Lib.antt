@@ -1,4 +1,5 @@
 pub mod Both
+pub mod Declared
 pub mod Device
 pub mod Examples
 pub mod Handshake
@@ -10,6 +11,8 @@ pub mod Log
 pub mod Macros
 pub mod Next
 pub mod Outcome
+pub mod Pieces
+pub mod Reading
 pub mod Receiving
 pub mod Registers
 pub mod Rings

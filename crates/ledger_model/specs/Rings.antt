@@ -24,7 +24,7 @@ pub record RingPart : Type 0 where
 
 -- a slot of which all bytes are zero
 abbrev pub zeroed_slot : ℕ → Slot
-zeroed_slot largest = record { payload = replicate largest 0; len = 0; ver = 0; flags = 0 }
+zeroed_slot largest = record { payload = replicate largest 0; left = 0; ver = 0; len = 0; flags = 0 }
 
 -- before any step; on a pair that starts up the index word says that no entry is taken
 abbrev pub fresh_ring : Sizes → Bool → RingPart
@@ -44,7 +44,7 @@ with_index entries word (Some n) = n % entries
 
 -- a slot whose header is zeroed
 abbrev pub without_header : Slot → Slot
-without_header place = record { payload = place.payload; len = 0; ver = 0; flags = 0 }
+without_header slot = record { payload = slot.payload; left = 0; ver = 0; len = 0; flags = 0 }
 
 -- what a step does to the ring of a lane, the lane being as it was before the step
 abbrev pub ring_next : Sizes → LaneName → LanePart → RingPart → Answered → RingPart

@@ -1,0 +1,4 @@
+pub mod Examples
+pub mod Memory
+pub mod Stores
+pub mod Targets
