@@ -1,4 +1,3 @@
-pub mod Examples
-pub mod Memory
+pub mod Addresses
+pub mod Headers
 pub mod Stores
-pub mod Targets

@@ -1,7 +1,5 @@
-//! What the memories of a pair show: the stores that landed writes, checks and clears make, and each byte as the last one
-//! that was stored there.
+//! Rings as bytes: where slots, headers and index words stand in the memories of a pair, what their bytes say, and what was
+//! stored in a memory.
 //!
-//! It has definitions alone, over lists and numbers, and worked examples by which they can be read.
+//! It has definitions alone, over lists and numbers. It knows no ledger and no log.
 #![tactic(auto)]
-
-pub mod examples;

@@ -2,14 +2,7 @@
 -- stopped where the ring runs full and started again where there is room.
 use Rattle.std.specs.Prelude.{ℕ, ◌+◌, ◌/◌, ◌%◌, Bool, ◌&&◌, ◌||◌, List, ◌∷◌, ◌++◌, nat_lt, if◌then◌else◌}
 use Rattle.step_kinds.specs.declared.plan.Counters.{Counters}
-
--- the bytes of the two addresses and the kind in front of an Ethernet payload
-abbrev pub ethernet_header : ℕ
-ethernet_header = 14
-
--- an Ethernet frame: destination and source, the kind with its high byte first, and the payload
-abbrev pub ethernet_frame : List ℕ → List ℕ → ℕ → List ℕ → List ℕ
-ethernet_frame dst src kind payload = dst ++ src ++ kind / 256 ∷ kind % 256 ∷ payload
+use Rattle.plan_model.specs.Ethernet.{ethernet_header}
 
 -- when a device stops and when it goes on, in free entries of its ring
 pub record Flow : Type 0 where

@@ -13,7 +13,7 @@ use Rattle.step_kinds.specs.declared.steps.Step.{Step}
 use Rattle.step_kinds.specs.declared.steps.Step.TheVariants.{Enable, Train, Break, DropDone, Clean, Offer, Check, Ready, Join, Begin, QpDown, Xbegin, Post, Land, Look, Copy, Ack, Wake, Irq, Mask, Unmask, ShowQueue, ShowPad}
 use Rattle.ledger_model.specs.Ledger.{tally_of}
 use Rattle.ledger_model.specs.Log.{Memories, ledger_of, log_of}
-use Rattle.ledger_model.specs.Macros.{send, xmit, land_all, receive, offer_all}
+use Rattle.plan_model.specs.Macros.{send, xmit, land_all, receive, offer_all}
 
 -- a side of one window and one queue with 4,096 bytes
 abbrev pub small_side : SidePlan

@@ -11,8 +11,10 @@ use Rattle.step_kinds.specs.declared.steps.Label.TheVariants.{Pad}
 use Rattle.step_kinds.specs.declared.steps.Answer.{Answer}
 use Rattle.step_kinds.specs.declared.steps.Answer.TheVariants.{Ok as Done, LinkDown, Already, Offered, NotYet, Version, Queues, Windows, Size, Up, NotChecked, NotReady, Joined}
 use Rattle.lane_model.specs.Lane.{count_from}
-use Rattle.ledger_model.specs.Ledger.{SidePart, PairPart, side_of, with_side_part, link_up, posts, side_plan, version_pad, links_pad, queues_pad, windows_pad, high_pad, low_pad}
+use Rattle.ledger_model.specs.Ledger.{SidePart, PairPart, side_of, with_side_part, link_up, posts}
 use Rattle.ledger_model.specs.Outcome.{Outcome, refuse_if, decided}
+use Rattle.plan_model.specs.Pads.{version_pad, links_pad, queues_pad, windows_pad, high_pad, low_pad}
+use Rattle.plan_model.specs.Plans.{side_plan}
 
 -- a scratchpad has 32 bits, so a window's size takes two
 abbrev pub word : ℕ

@@ -15,6 +15,7 @@ use Rattle.lane_model.specs.declared.Phase.{Phase}
 use Rattle.ring_geometry.specs.Geometry.{Layout, entries_of, max_payload_of}
 use Rattle.ledger_model.specs.Both.{Both, at_side, with_side}
 use Rattle.ledger_model.specs.Link.{Link, is_up}
+use Rattle.plan_model.specs.Sizes.{Sizes}
 
 -- A lane in the pair's session: what its sender began, what its receiver found, and how far each is. The labels in flight
 -- stand with the side that posted them.
@@ -85,6 +86,10 @@ side_of pair side = at_side pair.sides side
 abbrev pub lane_of : PairPart → Side → ℕ → LanePart
 lane_of pair from queue = at_side pair.lanes from queue
 
+-- the lane that a side receives on a queue
+abbrev pub lane_to : PairPart → Side → ℕ → LanePart
+lane_to pair side queue = lane_of pair (other_side side) queue
+
 abbrev pub dev_of : PairPart → Side → ℕ → DevPart
 dev_of pair side queue = at_side pair.devs side queue
 
@@ -123,50 +128,6 @@ posts_raw pair side label bytes =
     (record (side_of pair side) { flight = (side_of pair side).flight ++ label ∷ []; poked = (side_of pair side).poked ++ bytes ∷ [] })
     else pair
 
-abbrev pub side_plan : PairPlan → Side → SidePlan
-side_plan plan A = plan.a
-side_plan plan B = plan.b
-
--- the version that a pair speaks: 5 where both sides declare it, else 4
-abbrev pub agreed_version : PairPlan → ℕ
-agreed_version plan = if plan.a.version == 5 && plan.b.version == 5 then 5 else 4
-
--- the bytes of a header: version, length and flags, and on version 5 the number of entries that follow before them
-abbrev pub header_bytes : PairPlan → ℕ
-header_bytes plan = if agreed_version plan == 5 then 16 else 12
-
--- where a side's rings lie in a window of so many bytes, by the side's own numbers
-abbrev pub layout_in : PairPlan → Side → ℕ → ℕ → Layout
-layout_in plan side size queue =
-    let own = side_plan plan side in
-    record { window = size; windows = own.windows; queues = own.queues; queue = queue; mtu = plan.mtu; header = header_bytes plan }
-
--- the ring that a side sends to on a queue: it lies in a window that the side sends through
-abbrev pub layout_of : PairPlan → Side → ℕ → Layout
-layout_of plan from queue = layout_in plan from (side_plan plan from).size queue
-
--- the ring that a side receives in on a queue: it lies in a window that the peer sends through
-abbrev pub layout_to : PairPlan → Side → ℕ → Layout
-layout_to plan side queue = layout_in plan side (side_plan plan (other_side side)).size queue
-
--- the numbers of a lane's ring
-pub record Sizes : Type 0 where
-  -- slots of the ring, the most bytes of an entry's payload, and the most bytes of a frame
-  pub entries : ℕ
-  pub largest : ℕ
-  pub most : ℕ
-
--- a frame is one entry on version 4; on version 5 it may take all the entries that a ring has free at most
-abbrev pub most_bytes : PairPlan → ℕ → ℕ → ℕ
-most_bytes plan entries largest = if agreed_version plan == 5 then min most_frame_bytes ((entries - 1) * largest) else largest
-
-abbrev pub sizes_in : PairPlan → Layout → Sizes
-sizes_in plan layout =
-    record { entries = entries_of layout; largest = max_payload_of layout; most = most_bytes plan (entries_of layout) (max_payload_of layout) }
-
-abbrev pub sizes_of : PairPlan → Side → ℕ → Sizes
-sizes_of plan from queue = sizes_in plan (layout_of plan from queue)
-
 -- the entries that a lane's sender has begun or keeps waiting, those that are free for it, and what it reads of head and
 -- index word
 abbrev pub begun_in : LanePart → ℕ
@@ -184,22 +145,3 @@ tail_in sizes lane = tail_of sizes.entries lane.freed
 -- entry n of a lane
 abbrev pub entry_in : LanePart → ℕ → Entry
 entry_in lane n = slice_index_or lane.sent n GoesDown
-
--- the numbers of the scratchpads that the handshake uses
-abbrev pub version_pad : ℕ
-version_pad = 0
-
-abbrev pub links_pad : ℕ
-links_pad = 1
-
-abbrev pub queues_pad : ℕ
-queues_pad = 2
-
-abbrev pub windows_pad : ℕ
-windows_pad = 3
-
-abbrev pub high_pad : ℕ → ℕ
-high_pad m = 4 + (m + m)
-
-abbrev pub low_pad : ℕ → ℕ
-low_pad m = 5 + (m + m)

@@ -1,5 +1,4 @@
 pub mod Both
-pub mod Declared
 pub mod Device
 pub mod Examples
 pub mod Handshake
@@ -8,7 +7,6 @@ pub mod Ledger
 pub mod Link
 pub mod LinkSteps
 pub mod Log
-pub mod Macros
 pub mod Next
 pub mod Outcome
 pub mod Pieces

@@ -12,11 +12,11 @@ use Rattle.step_kinds.specs.declared.steps.Answer.{Answer}
 use Rattle.step_kinds.specs.declared.steps.Answer.TheVariants.{Ok as Done, OkSession, OkNumber, Landed, Empty, Delivered, Irq as IrqBits}
 use Rattle.step_kinds.specs.declared.steps.Step.{Step}
 use Rattle.step_kinds.specs.declared.steps.Step.TheVariants.{Train, Break, Begin, QpDown, Xbegin, Land, Look, Copy, Irq}
-use Rattle.ledger_model.specs.Device.{ethernet_frame}
-use Rattle.ledger_model.specs.Ledger.{sizes_of}
-use Rattle.ledger_model.specs.Pieces.{pieces_in}
-use Rattle.ledger_model.specs.Reading.{Bytes}
-use Rattle.ledger_model.specs.Next.{Ledger, start, outcome_in, ledger_after, pair_plan, dev_plan}
+use Rattle.byte_model.specs.Headers.{Bytes}
+use Rattle.ledger_model.specs.Next.{Ledger, start, outcome_in, ledger_after}
+use Rattle.plan_model.specs.Ethernet.{ethernet_frame}
+use Rattle.plan_model.specs.Plans.{pair_plan, dev_plan}
+use Rattle.plan_model.specs.Sizes.{sizes_of, pieces_in}
 
 pub record Answered : Type 0 where
   pub step : Step

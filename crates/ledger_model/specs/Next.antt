@@ -15,14 +15,17 @@ use Rattle.lane_model.specs.Lane.{count_from}
 use Rattle.ledger_model.specs.Both.{both_of}
 use Rattle.ledger_model.specs.Device.{no_counts}
 use Rattle.ledger_model.specs.Handshake.{word, offers, offer_step, check_step, ready_step, join_step}
-use Rattle.ledger_model.specs.Ledger.{SidePart, DevPart, Tally, PairPart, updated, sizes_of}
+use Rattle.ledger_model.specs.Ledger.{SidePart, DevPart, Tally, PairPart, updated}
 use Rattle.ledger_model.specs.Link.{fresh_link}
 use Rattle.ledger_model.specs.LinkSteps.{fresh_lane, enable_step, train_step, break_step, drop_step, clean_step}
 use Rattle.ledger_model.specs.Outcome.{Outcome}
-use Rattle.ledger_model.specs.Reading.{Bytes, Reading, reading_of}
+use Rattle.byte_model.specs.Headers.{Bytes}
+use Rattle.ledger_model.specs.Reading.{Reading, reading_of}
 use Rattle.ledger_model.specs.Receiving.{land_step, look_step, copy_step, clear_step, ack_step}
 use Rattle.ledger_model.specs.Registers.{irq_step, mask_step, unmask_step, spad_step, poke_step, show_mem_step, show_pad_step, show_queue_step}
 use Rattle.ledger_model.specs.Sending.{begin_step, qpdown_step, xbegin_step, post_step, wake_step}
+use Rattle.plan_model.specs.Sizes.{sizes_of}
+use Rattle.plan_model.specs.Plans.{pair_plan, dev_plan}
 
 -- The start of a pair
 
@@ -72,18 +75,6 @@ fresh_pair plan =
 
 -- The answer to a step on a pair, and the pair after it
 
-abbrev pub no_side : SidePlan
-no_side = record { version = 0; queues = 0; windows = 0; size = 0; cap = 0 }
-
-abbrev pub no_pair : PairPlan
-no_pair = record { name = []; a = no_side; b = no_side; mtu = 0; up = false; strict = false; raw = false; class_a = replicate 16 0; class_b = replicate 16 0 }
-
-abbrev pub no_dev : DevPlan
-no_dev = record { name = []; pair = 0; side = A; queue = 0; address = []; stop = 0; start = 0 }
-
-abbrev pub dev_plan : List DevPlan → ℕ → DevPlan
-dev_plan devs k = slice_index_or devs k no_dev
-
 -- the outcome of a step by what it reads of rings; `bytes` are what memories show
 abbrev pub read_next : List DevPlan → PairPlan → Reading → Bytes → PairPart → Step → Outcome
 read_next devs plan reading bytes pair (Enable p side) = enable_step pair side
@@ -123,9 +114,6 @@ pair_next devs plan bytes pair step = read_next devs plan (reading_of plan bytes
 -- the pairs by their numbers
 abbrev pub Ledger : Type 0
 Ledger = ℕ → PairPart
-
-abbrev pub pair_plan : Plan → ℕ → PairPlan
-pair_plan plan k = slice_index_or plan.pairs k no_pair
 
 -- the ledger before any step
 abbrev pub start : Plan → Ledger

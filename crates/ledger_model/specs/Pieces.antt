@@ -1,10 +1,7 @@
 -- A frame cut into pieces, one for each entry that it takes. Where a frame fits one slot it is one piece.
-use Rattle.std.specs.Prelude.{ℕ, ◌+◌, ◌-◌, ◌*◌, ◌/◌, List, length, map, take, drop}
+use Rattle.std.specs.Prelude.{ℕ, ◌-◌, ◌*◌, List, length, map, take, drop}
 use Rattle.lane_model.specs.Lane.{Entry, Carries, count_from}
-
--- how many pieces of so many bytes a frame of so many bytes takes
-abbrev pub pieces_in : ℕ → ℕ → ℕ
-pieces_in largest len = (len + largest - 1) / largest
+use Rattle.plan_model.specs.Sizes.{pieces_in}
 
 -- piece k of a frame: pieces are cut from the frame's start, and the last one may be shorter
 abbrev pub piece_of : ℕ → List ℕ → ℕ → Entry

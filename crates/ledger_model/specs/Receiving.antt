@@ -14,11 +14,12 @@ use Rattle.lane_model.specs.Lane.{chunks_in}
 use Rattle.lane_model.specs.declared.Phase.{Phase}
 use Rattle.lane_model.specs.declared.Phase.TheVariants.{Idle, Copying, Copied, Cleared}
 use Rattle.ledger_model.specs.Device.{count_delivered}
-use Rattle.ledger_model.specs.Labels.{order_of}
-use Rattle.ledger_model.specs.Ledger.{LanePart, SidePart, PairPart, side_of, lane_of, dev_of, tally_of, with_side_part, with_lane, with_dev, with_tally}
+use Rattle.ledger_model.specs.Ledger.{LanePart, SidePart, PairPart, side_of, lane_of, lane_to, dev_of, tally_of, with_side_part, with_lane, with_dev, with_tally}
 use Rattle.ledger_model.specs.Outcome.{Outcome, refuse_if, decided}
-use Rattle.ledger_model.specs.Reading.{Reading, Found, NoEntry, ALinkDownEntry, AnotherVersion, TooManyBytes, AnEntry}
+use Rattle.byte_model.specs.Headers.{Found, NoEntry, ALinkDownEntry, AnotherVersion, TooManyBytes, AnEntry}
+use Rattle.ledger_model.specs.Reading.{Reading}
 use Rattle.ledger_model.specs.Sending.{posts_through}
+use Rattle.plan_model.specs.Orders.{order_of}
 
 -- What a landed write changes at the peer of the side that posted it. Fields of entries and raw bytes change memory alone.
 abbrev pub lands_on : PairPart → Side → Label → PairPart
@@ -77,10 +78,6 @@ is_copied phase = false
 abbrev pub is_cleared : Phase → Bool
 is_cleared Cleared = true
 is_cleared phase = false
-
--- the lane that a side receives on a queue
-abbrev pub lane_to : PairPart → Side → ℕ → LanePart
-lane_to pair side queue = lane_of pair (other_side side) queue
 
 -- the queue is closed on a side
 abbrev pub closes : PairPart → Side → ℕ → PairPart

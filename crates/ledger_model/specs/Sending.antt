@@ -7,12 +7,14 @@ use Rattle.step_kinds.specs.declared.steps.Label.{Label}
 use Rattle.step_kinds.specs.declared.steps.Answer.{Answer}
 use Rattle.step_kinds.specs.declared.steps.Answer.TheVariants.{OkNumber, LinkDown, NotReady, Closed, TooLong, Busy, Stopped, Again, Idle, Posted, Awake}
 use Rattle.lane_model.specs.Lane.{Entry, GoesDown}
-use Rattle.ledger_model.specs.Device.{Flow, ethernet_frame, stopped_after_send, stays_stopped, count_accepted, count_refused}
+use Rattle.ledger_model.specs.Device.{Flow, stopped_after_send, stays_stopped, count_accepted, count_refused}
 use Rattle.ledger_model.specs.Labels.{labels_of}
-use Rattle.ledger_model.specs.Ledger.{LanePart, DevPart, PairPart, Sizes, side_of, lane_of, dev_of, tally_of, with_side_part, with_lane, with_dev, with_tally, link_up, posts, head_in}
-use Rattle.ledger_model.specs.Pieces.{pieces_in, pieces_of}
+use Rattle.ledger_model.specs.Ledger.{LanePart, DevPart, PairPart, side_of, lane_of, dev_of, tally_of, with_side_part, with_lane, with_dev, with_tally, link_up, posts, head_in}
+use Rattle.ledger_model.specs.Pieces.{pieces_of}
 use Rattle.ledger_model.specs.Reading.{Reading}
 use Rattle.ledger_model.specs.Outcome.{Outcome, refuse_if, decided}
+use Rattle.plan_model.specs.Ethernet.{ethernet_frame}
+use Rattle.plan_model.specs.Sizes.{Sizes, pieces_in}
 
 abbrev pub is_empty_list : {X : Type 0} → List X → Bool
 is_empty_list [] = true

@@ -1,5 +1,5 @@
 use Rattle.std.proofs.Common.{refl}
-use Rattle.byte_model.proofs.examples.examples_hold.Goals as goal
+use Rattle.memory_model.proofs.examples.examples_hold.Goals as goal
 
 pub returns : goal.returns
 returns c =

@@ -9,9 +9,8 @@ use Rattle.step_kinds.specs.declared.plan.DevPlan.{DevPlan}
 use Rattle.step_kinds.specs.declared.plan.Plan.{Plan}
 use Rattle.step_kinds.specs.declared.steps.Step.{Step}
 use Rattle.step_kinds.specs.declared.steps.Step.TheVariants.{Enable, Train, Break, DropDone, Clean, Offer, Check, Ready, Join, Begin, QpDown, Xbegin, Post, Land, Look, Copy, Clear, Ack, Wake, Irq, Mask, Unmask, Spad, Poke, ShowMem, ShowPad, ShowQueue}
-use Rattle.ledger_model.specs.Device.{ethernet_header}
-use Rattle.ledger_model.specs.Ledger.{side_plan}
-use Rattle.ledger_model.specs.Next.{pair_plan, dev_plan}
+use Rattle.plan_model.specs.Ethernet.{ethernet_header}
+use Rattle.plan_model.specs.Plans.{side_plan, pair_plan, dev_plan}
 
 -- Pairs
 
@@ -94,7 +93,7 @@ pub record IsDeviceOn (plan : Plan) (pair : ℕ) (side : Side) (queue dev : ℕ)
 -- an Ethernet payload: with its header it is a frame
 pub record IsPayload (dst : List ℕ) (kind : ℕ) (payload : List ℕ) : Type 0 where
   pub address : length dst ≡ 6
-  pub kind : kind < 2 ^ 16
+  pub small_kind : kind < 2 ^ 16
   pub some : 0 < length payload
   pub fits : length payload + ethernet_header ≤ most_frame_bytes
 

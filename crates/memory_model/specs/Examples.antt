@@ -10,8 +10,8 @@ use Rattle.step_kinds.specs.declared.steps.Step.{Step}
 use Rattle.step_kinds.specs.declared.steps.Step.TheVariants.{Enable, Train, Break, DropDone, Clean, Check, Ready, Join, Begin, Post, Land, Look, Copy, Clear, Ack, Spad, Poke, ShowMem, ShowQueue}
 use Rattle.ledger_model.specs.Examples.{small_side, small_pair, relaxed_pair, plan_of, letter, sent_answers, landed_answers, received_answers}
 use Rattle.ledger_model.specs.Log.{log_of}
-use Rattle.ledger_model.specs.Macros.{send, land_all, receive, offer_all}
-use Rattle.byte_model.specs.Memory.{memory_of}
+use Rattle.memory_model.specs.Memory.{memory_of}
+use Rattle.plan_model.specs.Macros.{send, land_all, receive, offer_all}
 
 -- the answers to these steps on one pair
 abbrev pub answers : PairPlan → List Step → List Answer

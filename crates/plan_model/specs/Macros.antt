@@ -5,9 +5,8 @@ use Rattle.step_kinds.specs.declared.plan.PairPlan.{PairPlan}
 use Rattle.step_kinds.specs.declared.steps.Step.{Step}
 use Rattle.step_kinds.specs.declared.steps.Step.TheVariants.{Offer, Begin, Xbegin, Post, Land, Look, Copy, Clear, Ack}
 use Rattle.lane_model.specs.Lane.{chunks_in, count_from}
-use Rattle.ledger_model.specs.Device.{ethernet_header}
-use Rattle.ledger_model.specs.Ledger.{agreed_version, sizes_of}
-use Rattle.ledger_model.specs.Pieces.{pieces_in}
+use Rattle.plan_model.specs.Ethernet.{ethernet_header}
+use Rattle.plan_model.specs.Sizes.{agreed_version, sizes_of, pieces_in}
 
 -- As many posts as a frame of so many bytes has writes: for each of its entries the chunks, length, version, flags and
 -- doorbell. On version 4 a frame is one entry, also where it is too long.

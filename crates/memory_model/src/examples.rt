@@ -1,6 +1,6 @@
 //! Worked examples of the definitions.
 
-ghost use Rattle.byte_model.specs.Examples.{ExamplesHold};
+ghost use Rattle.memory_model.specs.Examples.{ExamplesHold};
 
 /// The definitions give what the worked examples say.
 pub fn examples_hold()
