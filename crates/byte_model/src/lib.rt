@@ -3,3 +3,5 @@
 //!
 //! It has definitions alone, over lists and numbers. It knows no ledger and no log.
 #![tactic(auto)]
+
+pub mod examples;

@@ -1,5 +1,6 @@
 pub mod Declared
 pub mod Ethernet
+pub mod Examples
 pub mod Laws
 pub mod Macros
 pub mod Orders

@@ -4,4 +4,5 @@
 //! It has definitions and a few laws of them, over lists and numbers. It knows no ledger, no memory and no log.
 #![tactic(auto)]
 
+pub mod examples;
 pub mod laws;
