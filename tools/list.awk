@@ -6,7 +6,8 @@ function list_answers(number,    words, count, place, step, answer) {
         answer = line[at++]
         sub(/^[0-9]+ /, "", answer)
         step = step_of(words, count, place)
-        printf "         %s%s\n", step == words[1] ? "" : sprintf("%-6s  ", step), plain(cut(answer, 16, 12))
+        step = step == words[1] ? "" : sprintf("%-6s  ", step)
+        printf "         %s%s\n", step, plain(cut(answer, 16, 12))
     }
 }
 
