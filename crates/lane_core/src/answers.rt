@@ -2,9 +2,8 @@
 
 use step_kinds::{Frame, Label};
 
-/// What came of beginning an entry. `ntb_transport` answers a full ring with `-EAGAIN` and gives a frame that is too
-/// long back with `-EIO`; the order of the tests, and that an entry is posted whole before the next is begun, are this
-/// project's own.
+/// What came of beginning an entry. `ntb_transport` answers a full ring with `-EAGAIN`, and a frame that is too long with
+/// `-EMSGSIZE` (older kernels: `-EIO`); that an entry is posted whole before the next is begun is this project's own.
 #[derive(Debug, PartialEq, Eq, Drop)]
 pub enum Begun {
     /// The entry was begun and has this number, counted from 0 in the session.

@@ -122,8 +122,7 @@ impl Lane {
     ///
     /// # Errors
     ///
-    /// [`AllocError`] from want of memory alone, and then nothing changes. Room for all later calls for this frame is
-    /// taken here.
+    /// [`AllocError`] from want of memory alone, and then nothing changes. Room for the frame's posts is taken here.
     pub fn begin(&mut self, frame: Frame) -> Result<Begun, AllocError>
         requires some_bytes { 0 < length frame }
         requires open { IsOpen self.old.lane }
@@ -264,8 +263,8 @@ impl Lane {
     ///
     /// # Errors
     ///
-    /// [`AllocError`] from want of memory alone, and then nothing changes. Room for the later calls for this frame is
-    /// taken here.
+    /// [`AllocError`] from want of memory alone, and then nothing changes. Room for the frame's copies and its index
+    /// write is taken here.
     pub fn look(&mut self) -> Result<LaneLook, AllocError>
         ensures answer { IfOk result (λ look. look ≡ look_answer self.old.lane) }
         ensures after { IfOk result (λ look. self.new ≡ with_lane self.old (after_looking self.old.lane look)) }
