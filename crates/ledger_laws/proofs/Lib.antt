@@ -38,3 +38,4 @@ pub mod Talk
 pub mod TalkNext
 pub mod Ticks
 pub mod UpMeans
+pub mod walk

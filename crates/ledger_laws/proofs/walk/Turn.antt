@@ -1,0 +1,249 @@
+-- What a step can be for a lane: one constructor for each kind of thing that can happen to it, with what the step has passed in
+-- a record, and with the sight after it in closed form. Steps on other lanes of the pair arrive as resting, as another lane's
+-- write that is said or lands, or as a queue that is shut.
+use Rattle.std.specs.Prelude.{◌≡◌, ℕ, ◌+◌, ◌-◌, ◌%◌, ◌==◌, ◌≤◌, Bool, true, false, Option, Some, None, List, [], ◌∷◌, ◌++◌, length, map, remove, replicate, slice_get, slice_set, slice_index, slice_index_or, nat_lt, bit_and, if◌then◌else◌}
+use Rattle.step_kinds.specs.Bits.{has_bit, with_bit, without_bits}
+use Rattle.step_kinds.specs.declared.names.LaneName.{LaneName}
+use Rattle.step_kinds.specs.declared.plan.Plan.{Plan}
+use Rattle.step_kinds.specs.declared.plan.SidePlan.{SidePlan}
+use Rattle.step_kinds.specs.declared.steps.Label.{Label}
+use Rattle.step_kinds.specs.declared.steps.Label.TheVariants.{Chunk, Len, Ver, Flag, Down, Bell, Index, Pad}
+use Rattle.lane_model.specs.Lane.{Carries, GoesDown, Slot, blank_slot, bytes_of, chunks_in, with_flags}
+use Rattle.lane_model.specs.Order.{may_land}
+use Rattle.lane_model.specs.declared.Field.{Field}
+use Rattle.lane_model.specs.declared.Phase.TheVariants.{Idle, Copying, Copied, Cleared}
+use Rattle.lane_model.specs.declared.Write.TheVariants.{Data, Flag as EntryFlag}
+use Rattle.ledger_model.specs.Handshake.{offers, check_refusal}
+use Rattle.ledger_model.specs.Labels.{order_of, write_of, index_of}
+use Rattle.ledger_model.specs.Ledger.{LanePart, Sizes, Tally, entry_in, free_of, links_pad, side_plan, sizes_of, updated}
+use Rattle.ledger_model.specs.Link.{is_up, is_down, is_closing}
+use Rattle.ledger_model.specs.LinkSteps.{fresh_lane, forgotten_by_sender, forgotten_by_receiver}
+use Rattle.ledger_model.specs.Log.{Answered}
+use Rattle.ledger_model.specs.Next.{pair_plan}
+use Rattle.ledger_model.specs.Receiving.{is_idle, is_copying, is_copied, is_cleared}
+use Rattle.ledger_model.specs.Rings.{RingPart, with_write, with_index, without_header}
+use Rattle.ledger_model.specs.Sending.{begun_lane}
+use Rattle.ledger_model.specs.declared.LinkState.TheVariants.{Down as LinkIsDown, Up as LinkIsUp, Closing}
+use Rattle.ledger_laws.specs.Laws.{IsOrdinary}
+use Rattle.ledger_laws.proofs.walk.Sight.{End, Sight, Role, Sender, Receiver, peer_of, end_at, with_end, side_at, flight_with, part_of}
+use Rattle.ledger_laws.proofs.walk.Tells.{News, no_news, Tells}
+
+-- What a step has passed
+
+pub record MayEnable (s : Sight) (e : Role) : Type 0 where
+  pub down : is_down s.state ≡ true
+  pub clean : (end_at s e).clean ≡ true
+
+pub record MayTrain (s : Sight) : Type 0 where
+  pub down : is_down s.state ≡ true
+  pub sender : s.sender.enabled ≡ true
+  pub receiver : s.receiver.enabled ≡ true
+
+-- the handshake, `own` being the side's numbers
+pub record MayOffer (own : SidePlan) (s : Sight) (e : Role) : Type 0 where
+  pub up : is_up s.state ≡ true
+  pub more : ((end_at s e).offered == length (offers own)) ≡ false
+
+pub record MayCheck (own : SidePlan) (s : Sight) (e : Role) : Type 0 where
+  pub up : is_up s.state ≡ true
+  pub not_yet : (end_at s e).up ≡ false
+  pub passes : check_refusal own (part_of (end_at s e)) (is_up s.state) ≡ None
+
+pub record MayReady (s : Sight) (e : Role) : Type 0 where
+  pub up : is_up s.state ≡ true
+  pub checked : (end_at s e).up ≡ true
+
+pub record MayJoin (s : Sight) (e : Role) (queue : ℕ) : Type 0 where
+  pub up : is_up s.state ≡ true
+  pub ready : has_bit (end_at s e).ready queue ≡ true
+  pub asked : has_bit (slice_index (end_at s e).pads links_pad) queue ≡ true
+
+-- an entry of so many bytes is begun on queue `q`
+pub record MayBegin (sizes : Sizes) (q : ℕ) (s : Sight) (len : ℕ) : Type 0 where
+  pub up : is_up s.state ≡ true
+  pub joined : has_bit s.sender.joined q ≡ true
+  pub not_closed : has_bit s.sender.closed q ≡ false
+  pub not_busy : s.lane.todo ≡ []
+  pub room : (free_of sizes s.lane == 0) ≡ false
+  pub fits : len ≤ sizes.largest
+
+-- a write of a lane on this queue
+abbrev pub on_queue : ℕ → Label → Bool
+on_queue q (Chunk p n part) = p == q
+on_queue q (Len p n) = p == q
+on_queue q (Ver p n) = p == q
+on_queue q (Flag p n) = p == q
+on_queue q (Down p n) = p == q
+on_queue q (Bell p) = p == q
+on_queue q label = false
+
+pub record MayPost (q : ℕ) (s : Sight) (label : Label) (rest : List Label) : Type 0 where
+  pub next : s.lane.todo ≡ label ∷ rest
+  pub own : on_queue q label ≡ true
+
+-- not a write of this lane, where this end posts it
+abbrev pub IsForeign : ℕ → Role → Label → Type 0
+IsForeign q Sender label = write_of q label ≡ None
+IsForeign q Receiver label = index_of q label ≡ None
+
+-- whether a label writes a scratchpad of the handshake
+abbrev pub is_handshake : Label → Bool
+is_handshake (Pad i value) = nat_lt i 12
+is_handshake label = false
+
+-- what an end says beside its lane; on an ordinary pair it writes no scratchpad of the handshake by hand
+pub record IsAside (q : ℕ) (made : Answered) (e : Role) (label : Label) : Type 0 where
+  pub foreign : IsForeign q e label
+  pub no_handshake : IsOrdinary made.step → is_handshake label ≡ false
+
+-- the write at a place lands
+pub record MayLand (strict_pair : Bool) (s : Sight) (e : Role) (place : ℕ) (label : Label) : Type 0 where
+  pub there : slice_get (end_at s e).flight place ≡ Some label
+  pub may : may_land (map (order_of strict_pair) (end_at s e).flight) place ≡ true
+
+pub record MayLook (q : ℕ) (s : Sight) : Type 0 where
+  pub joined : has_bit s.receiver.joined q ≡ true
+  pub not_closed : has_bit s.receiver.closed q ≡ false
+  pub idle : is_idle s.lane.phase ≡ true
+
+-- What a step leaves
+
+-- an end posts a write
+abbrev pub posted : Role → Label → Sight → Sight
+posted e label s = with_end s e (record (end_at s e) { flight = flight_with s.state (end_at s e).flight label })
+
+-- a write of an end is taken out of those in flight
+abbrev pub taken : Role → ℕ → Sight → Sight
+taken e place s = with_end s e (record (end_at s e) { flight = remove (end_at s e).flight place })
+
+-- an end forgets its session
+abbrev pub cleaned_end : End → End
+cleaned_end own = record own { up = false; ready = 0; joined = 0; closed = 0; offered = 0; pads = replicate 16 0; pending = 0; clean = true }
+
+abbrev pub forgotten_lane : Role → LanePart → LanePart
+forgotten_lane Sender lane = forgotten_by_sender lane
+forgotten_lane Receiver lane = forgotten_by_receiver lane
+
+abbrev pub dropped_end : End → End
+dropped_end own = record own { flight = []; clean = false; enabled = false }
+
+abbrev pub more_accepted : Tally → Tally
+more_accepted tally = record tally { accepted = tally.accepted + 1 }
+
+abbrev pub more_delivered : Tally → Tally
+more_delivered tally = record tally { delivered = tally.delivered + 1 }
+
+-- What a step tells
+
+-- a receiver that has looked, and found something
+abbrev pub looked_news : Bool → News
+looked_news looked = record no_news { sees = λ saw. if looked then false else saw }
+
+-- an index write of the lane lands
+abbrev pub gives_landed : ℕ → Role → Label → Bool
+gives_landed q Receiver (Index p n) = p == q
+gives_landed q e label = false
+
+-- a scratchpad of the peer is written
+abbrev pub pads_landed : Role → Label → Role → ℕ → Option ℕ → Option ℕ
+pads_landed Sender (Pad i value) Receiver j now = if i == j then Some value else now
+pads_landed Receiver (Pad i value) Sender j now = if i == j then Some value else now
+pads_landed e label f j now = now
+
+abbrev pub ring_landed : ℕ → Role → Label → LanePart → Sizes → RingPart → RingPart
+ring_landed q Sender label lane sizes ring = record { ring = with_write sizes.entries lane ring.ring (write_of q label); index_word = ring.index_word }
+ring_landed q Receiver label lane sizes ring = record { ring = ring.ring; index_word = with_index sizes.entries ring.index_word (index_of q label) }
+
+abbrev pub landed_news : ℕ → Role → Label → LanePart → News
+landed_news q e label lane = record no_news { gives = gives_landed q e label; pads = pads_landed e label; ring = ring_landed q e label lane }
+
+abbrev pub ring_checked : Role → Sizes → RingPart → RingPart
+ring_checked Sender sizes ring = record { ring = ring.ring; index_word = sizes.entries - 1 }
+ring_checked Receiver sizes ring = record { ring = map without_header ring.ring; index_word = ring.index_word }
+
+-- the flags at the slot of entry n are cleared
+abbrev pub ring_cleared : ℕ → Sizes → RingPart → RingPart
+ring_cleared n sizes ring = record {
+  ring = slice_set ring.ring (n % sizes.entries) (with_flags (slice_index_or ring.ring (n % sizes.entries) blank_slot) 0);
+  index_word = ring.index_word;
+}
+
+-- doorbells that aren't masked are taken by an end
+abbrev pub sees_taken : ℕ → Role → ℕ → Bool → Bool
+sees_taken q Sender bits saw = saw
+sees_taken q Receiver bits saw = if has_bit bits q then false else saw
+
+-- The turns
+
+pub data Turn (plan : Plan) (lane : LaneName) (s : Sight) (made : Answered) : Sight → Type 0 where
+  -- nothing happens to the lane; its receiver may have looked and found no reason to think that nothing is there
+  Rests : (looked : Bool) → Tells plan lane s.lane made (looked_news looked) → Turn plan lane s made s
+  FindsNone : MayLook lane.queue s → (s.lane.flagged == s.lane.got) ≡ true → Tells plan lane s.lane made (record no_news { sees = λ saw. true }) → Turn plan lane s made s
+  -- the link
+  Enables : (e : Role) → MayEnable s e → Tells plan lane s.lane made no_news → Turn plan lane s made (with_end s e (record (end_at s e) { enabled = true }))
+  Trains : MayTrain s → Tells plan lane s.lane made (record no_news { starts = true })
+      → Turn plan lane s made (record s { state = LinkIsUp; session = s.session + 1; lane = fresh_lane })
+  Breaks : is_up s.state ≡ true → Tells plan lane s.lane made (record no_news { ends = true }) → Turn plan lane s made (record s { state = Closing })
+  Drops : is_closing s.state ≡ true → Tells plan lane s.lane made no_news
+      → Turn plan lane s made (record s { state = LinkIsDown; sender = dropped_end s.sender; receiver = dropped_end s.receiver })
+  Forgets : (e : Role) → is_down s.state ≡ true → Tells plan lane s.lane made no_news
+      → Turn plan lane s made (record (with_end s e (cleaned_end (end_at s e))) { lane = forgotten_lane e s.lane })
+  -- the handshake
+  Offers : (e : Role) → MayOffer (side_plan (pair_plan plan lane.pair) (side_at lane.from e)) s e → Tells plan lane s.lane made no_news
+      → Turn plan lane s made (posted e (slice_index_or (offers (side_plan (pair_plan plan lane.pair) (side_at lane.from e))) (end_at s e).offered (Pad 0 0))
+      (with_end s e (record (end_at s e) { offered = (end_at s e).offered + 1 })))
+  Checks : (e : Role) → MayCheck (side_plan (pair_plan plan lane.pair) (side_at lane.from e)) s e → Tells plan lane s.lane made (record no_news { ring = ring_checked e })
+      → Turn plan lane s made (with_end s e (record (end_at s e) { up = true }))
+  Readies : (e : Role) (queue : ℕ) → MayReady s e → Tells plan lane s.lane made no_news
+      → Turn plan lane s made (posted e (Pad links_pad (with_bit (end_at s e).ready queue)) (with_end s e (record (end_at s e) { ready = with_bit (end_at s e).ready queue })))
+  Joins : (e : Role) (queue : ℕ) → MayJoin s e queue → Tells plan lane s.lane made no_news
+      → Turn plan lane s made (with_end s e (record (end_at s e) { joined = with_bit (end_at s e).joined queue }))
+  -- sending
+  Begins : (bytes : List ℕ) → MayBegin (sizes_of (pair_plan plan lane.pair) lane.from lane.queue) lane.queue s (length bytes)
+      → Tells plan lane s.lane made (record no_news { takes = true; accepted = record { number = length s.lane.sent; bytes = bytes } ∷ [] })
+      → Turn plan lane s made
+      (record s { lane = begun_lane lane.queue s.lane (Carries bytes); tally = updated s.tally s.session (more_accepted (s.tally s.session)) })
+  Closes : MayBegin (sizes_of (pair_plan plan lane.pair) lane.from lane.queue) lane.queue s 0 → Tells plan lane s.lane made (record no_news { takes = true })
+      → Turn plan lane s made
+      (record s { sender = record s.sender { closed = with_bit s.sender.closed lane.queue }; lane = begun_lane lane.queue s.lane GoesDown })
+  Posts : (label : Label) (rest : List Label) → MayPost lane.queue s label rest → Tells plan lane s.lane made no_news
+      → Turn plan lane s made (posted Sender label (record s { lane = record s.lane { todo = rest } }))
+  -- a queue is closed on an end, and a write that isn't the lane's is posted
+  Shuts : (e : Role) (queue : ℕ) (looked : Bool) → Tells plan lane s.lane made (looked_news looked)
+      → Turn plan lane s made (with_end s e (record (end_at s e) { closed = with_bit (end_at s e).closed queue }))
+  Says : (e : Role) (label : Label) → IsAside lane.queue made e label → Tells plan lane s.lane made no_news → Turn plan lane s made (posted e label s)
+  -- landing
+  LandsFlag : (place : ℕ) (label : Label) (n : ℕ) → MayLand (pair_plan plan lane.pair).strict s Sender place label → write_of lane.queue label ≡ Some (EntryFlag n)
+      → Tells plan lane s.lane made (landed_news lane.queue Sender label s.lane)
+      → Turn plan lane s made (record (taken Sender place s) { lane = record s.lane { flagged = s.lane.flagged + 1 } })
+  LandsField : (place : ℕ) (label : Label) (n : ℕ) (field : Field) → MayLand (pair_plan plan lane.pair).strict s Sender place label
+      → write_of lane.queue label ≡ Some (Data n field) → Tells plan lane s.lane made (landed_news lane.queue Sender label s.lane)
+      → Turn plan lane s made (taken Sender place s)
+  LandsIndex : (place : ℕ) (n : ℕ) → MayLand (pair_plan plan lane.pair).strict s Receiver place (Index lane.queue n)
+      → Tells plan lane s.lane made (landed_news lane.queue Receiver (Index lane.queue n) s.lane)
+      → Turn plan lane s made (record (taken Receiver place s) { lane = record s.lane { freed = n + 1 } })
+  LandsBell : (e : Role) (place queue : ℕ) → MayLand (pair_plan plan lane.pair).strict s e place (Bell queue)
+      → Tells plan lane s.lane made (landed_news lane.queue e (Bell queue) s.lane)
+      → Turn plan lane s made (with_end (taken e place s) (peer_of e) (record (end_at s (peer_of e)) { pending = with_bit (end_at s (peer_of e)).pending queue }))
+  LandsPad : (e : Role) (place i value : ℕ) → MayLand (pair_plan plan lane.pair).strict s e place (Pad i value)
+      → Tells plan lane s.lane made (landed_news lane.queue e (Pad i value) s.lane)
+      → Turn plan lane s made (with_end (taken e place s) (peer_of e) (record (end_at s (peer_of e)) { pads = slice_set (end_at s (peer_of e)).pads i value }))
+  LandsAside : (e : Role) (place : ℕ) (label : Label) → MayLand (pair_plan plan lane.pair).strict s e place label → IsForeign lane.queue e label → is_handshake label ≡ false
+      → Tells plan lane s.lane made (landed_news lane.queue e label s.lane) → Turn plan lane s made (taken e place s)
+  -- receiving
+  Looks : (bytes : List ℕ) → MayLook lane.queue s → (s.lane.flagged == s.lane.got) ≡ false → entry_in s.lane s.lane.got ≡ Carries bytes
+      → Tells plan lane s.lane made (looked_news true) → Turn plan lane s made (record s { lane = record s.lane { phase = Copying; part = 0 } })
+  CopiesPart : is_copying s.lane.phase ≡ true → nat_lt (s.lane.part + 1) (chunks_in (length (bytes_of (entry_in s.lane s.lane.got)))) ≡ true
+      → Tells plan lane s.lane made no_news → Turn plan lane s made (record s { lane = record s.lane { part = s.lane.part + 1 } })
+  CopiesLast : is_copying s.lane.phase ≡ true → nat_lt (s.lane.part + 1) (chunks_in (length (bytes_of (entry_in s.lane s.lane.got)))) ≡ false
+      → Tells plan lane s.lane made (record no_news { delivered = record { number = s.lane.got; bytes = bytes_of (entry_in s.lane s.lane.got) } ∷ [] })
+      → Turn plan lane s made
+      (record s { lane = record s.lane { got = s.lane.got + 1; phase = Copied }; tally = updated s.tally s.session (more_delivered (s.tally s.session)) })
+  Clears : is_copied s.lane.phase ≡ true → Tells plan lane s.lane made (record no_news { ring = ring_cleared s.lane.cleared })
+      → Turn plan lane s made (record s { lane = record s.lane { cleared = s.lane.cleared + 1; phase = Cleared } })
+  Acks : is_cleared s.lane.phase ≡ true → Tells plan lane s.lane made no_news
+      → Turn plan lane s made (posted Receiver (Index lane.queue s.lane.acked) (record s { lane = record s.lane { acked = s.lane.acked + 1; phase = Idle } }))
+  -- doorbells
+  TakesBells : (e : Role) → Tells plan lane s.lane made (record no_news { sees = sees_taken lane.queue e (without_bits (end_at s e).pending (end_at s e).masked) })
+      → Turn plan lane s made (with_end s e (record (end_at s e) { pending = bit_and (end_at s e).pending (end_at s e).masked }))
+  Masks : (e : Role) (masked : ℕ) → Tells plan lane s.lane made no_news → Turn plan lane s made (with_end s e (record (end_at s e) { masked = masked }))
