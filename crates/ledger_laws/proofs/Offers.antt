@@ -1,5 +1,5 @@
 -- What a side offers: scratchpads alone.
-use Rattle.std.proofs.Common.{◌≡◌, ℕ, zero, suc, Bool, true, false, List, [], ◌∷◌, ◌++◌, refl}
+use Rattle.std.proofs.Common.{◌≡◌, ℕ, zero, suc, Bool, true, false, List, [], ◌∷◌, ◌++◌, map, refl}
 use Rattle.std.specs.Prelude.{◌/◌, ◌%◌, slice_index_or}
 use Rattle.std.specs.List.{list_all, flat_map}
 use Rattle.std.proofs.lemmas.Bool.{and_parts, and_from}
@@ -24,6 +24,10 @@ all-append test [] ys a b = b
 all-append test (x ∷ xs) ys a b =
     let parts = and_parts (test x) (list_all test xs) a in
     and_from (test x) (list_all test (xs ++ ys)) parts.0 (all-append test xs ys parts.1 b)
+
+pub list_all-map : {X Y : Type 0} (test : Y → Bool) (f : X → Y) (xs : List X) → ((x : X) → test (f x) ≡ true) → list_all test (map f xs) ≡ true
+list_all-map test f [] each = refl
+list_all-map test f (x ∷ xs) each = and_from (test (f x)) (list_all test (map f xs)) (each x) (list_all-map test f xs each)
 
 windows-pads : (own : SidePlan) (n m : ℕ) → list_all is_pad (flat_map (λ m. Pad (high_pad m) (own.size / word) ∷ Pad (low_pad m) (own.size % word) ∷ []) (count_from n m)) ≡ true
 windows-pads own n zero = refl

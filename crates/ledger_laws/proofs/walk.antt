@@ -4,3 +4,4 @@ pub mod Tells
 pub mod Turn
 pub mod Cases
 pub mod Of
+pub mod Logs

@@ -38,7 +38,7 @@ use Rattle.ledger_model.specs.Rings.{RingPart, ring_next}
 use Rattle.ledger_model.specs.Sending.{begun, begun_lane}
 use Rattle.ledger_model.specs.declared.LinkState.TheVariants.{Down as LinkIsDown, Up as LinkIsUp}
 use Rattle.ledger_model.specs.declared.LinkRefusal.TheVariants.{NotDown, Dirty, NotEnabled, NotUp, NotClosing}
-use Rattle.ledger_laws.specs.Laws.{IsOrdinary}
+use Rattle.ledger_laws.specs.Laws.{IsOrdinaryOn}
 use Rattle.ledger_laws.proofs.Outcomes.{passed, refused_passed}
 use Rattle.ledger_laws.proofs.Runs.{made_by, left_by}
 use Rattle.ledger_laws.proofs.walk.Cases.{refuses, Refused, MaySend, MayLookAt, found_refusals, enable_cases, train_cases, break_cases, drop_cases, clean_cases, offer_cases, check_cases, ready_cases, join_cases, begin_cases, qpdown_cases, xbegin_cases, post_cases, land_cases, look_cases, copy_cases, clear_cases, ack_cases, wake_cases, trained, broken, dropped, cleaned, offering, next_offer, readied, ready_pad, joining, closing, taken_frame, posting, landed, looking, peer_down, acking, clearing, copied_more, copied_last}
@@ -832,7 +832,7 @@ module _ (plan : Plan) (lane : LaneName) (bytes : Bytes) (pair : PairPart)
 
   -- a write by hand
   say : (step : Side → Step) → ((side : Side) → is_read (step side) Done ≡ false) → (label : Label) → ((e : Role) → IsForeign lane.queue e label)
-      → ((side : Side) → IsOrdinary (step side) → is_handshake label ≡ false) → (side : Side)
+      → ((side : Side) → IsOrdinaryOn lane.pair (step side) → is_handshake label ≡ false) → (side : Side)
       → To (step side) (record { answer = Done; after = posts pair side label })
   say step unread label foreign ordinary side = by_role lane.from (λ s. To (step s) (record { answer = Done; after = posts pair s label })) each side
     where
@@ -876,12 +876,12 @@ module _ (plan : Plan) (lane : LaneName) (bytes : Bytes) (pair : PairPart)
   turn_of (Irq p side) e = irq p e side
   turn_of (Mask p side bits) e = mask (λ s. Mask p s bits) (λ s. refl) (λ s. bit_or (side_of pair s).masked bits) side
   turn_of (Unmask p side bits) e = mask (λ s. Unmask p s bits) (λ s. refl) (λ s. without_bits (side_of pair s).masked bits) side
-  turn_of (Spad p side i value) e = say (λ s. Spad p s i value) (λ s. refl) (Pad i value) (λ e. foreign e) (λ s above. le-ltb i 12 above) side
+  turn_of (Spad p side i value) e = say (λ s. Spad p s i value) (λ s. refl) (Pad i value) foreign (λ s above. le-ltb i 12 (above e)) side
     where
       foreign : (e : Role) → IsForeign lane.queue e (Pad i value)
       foreign Sender = refl
       foreign Receiver = refl
-  turn_of (Poke p side window offset poked) e = say (λ s. Poke p s window offset poked) (λ s. refl) (Raw window offset (length poked)) (λ e. foreign e) (λ s no_poke. absurd no_poke) side
+  turn_of (Poke p side window offset poked) e = say (λ s. Poke p s window offset poked) (λ s. refl) (Raw window offset (length poked)) foreign (λ s no_poke. absurd (no_poke e)) side
     where
       foreign : (e : Role) → IsForeign lane.queue e (Raw window offset (length poked))
       foreign Sender = refl

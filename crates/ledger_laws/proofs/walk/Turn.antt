@@ -24,7 +24,7 @@ use Rattle.ledger_model.specs.Receiving.{is_idle, is_copying, is_copied, is_clea
 use Rattle.ledger_model.specs.Rings.{RingPart, with_write, with_index, without_header}
 use Rattle.ledger_model.specs.Sending.{begun_lane}
 use Rattle.ledger_model.specs.declared.LinkState.TheVariants.{Down as LinkIsDown, Up as LinkIsUp, Closing}
-use Rattle.ledger_laws.specs.Laws.{IsOrdinary}
+use Rattle.ledger_laws.specs.Laws.{IsOrdinaryOn}
 use Rattle.ledger_laws.proofs.walk.Sight.{End, Sight, Role, Sender, Receiver, peer_of, end_at, with_end, side_at, flight_with, part_of}
 use Rattle.ledger_laws.proofs.walk.Tells.{News, no_news, Tells}
 
@@ -92,9 +92,9 @@ is_handshake (Pad i value) = nat_lt i 12
 is_handshake label = false
 
 -- what an end says beside its lane; on an ordinary pair it writes no scratchpad of the handshake by hand
-pub record IsAside (q : ℕ) (made : Answered) (e : Role) (label : Label) : Type 0 where
-  pub foreign : IsForeign q e label
-  pub no_handshake : IsOrdinary made.step → is_handshake label ≡ false
+pub record IsAside (lane : LaneName) (made : Answered) (e : Role) (label : Label) : Type 0 where
+  pub foreign : IsForeign lane.queue e label
+  pub no_handshake : IsOrdinaryOn lane.pair made.step → is_handshake label ≡ false
 
 -- the write at a place lands
 pub record MayLand (strict_pair : Bool) (s : Sight) (e : Role) (place : ℕ) (label : Label) : Type 0 where
@@ -211,7 +211,7 @@ pub data Turn (plan : Plan) (lane : LaneName) (s : Sight) (made : Answered) : Si
   -- a queue is closed on an end, and a write that isn't the lane's is posted
   Shuts : (e : Role) (queue : ℕ) (looked : Bool) → Tells plan lane s.lane made (looked_news looked)
       → Turn plan lane s made (with_end s e (record (end_at s e) { closed = with_bit (end_at s e).closed queue }))
-  Says : (e : Role) (label : Label) → IsAside lane.queue made e label → Tells plan lane s.lane made no_news → Turn plan lane s made (posted e label s)
+  Says : (e : Role) (label : Label) → IsAside lane made e label → Tells plan lane s.lane made no_news → Turn plan lane s made (posted e label s)
   -- landing
   LandsFlag : (place : ℕ) (label : Label) (n : ℕ) → MayLand (pair_plan plan lane.pair).strict s Sender place label → write_of lane.queue label ≡ Some (EntryFlag n)
       → Tells plan lane s.lane made (landed_news lane.queue Sender label s.lane)
