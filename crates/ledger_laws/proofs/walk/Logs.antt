@@ -24,7 +24,8 @@ use Rattle.ledger_laws.proofs.Offers.{list_all-map}
 use Rattle.ledger_laws.proofs.Runs.{made_by, left_by}
 use Rattle.ledger_laws.proofs.walk.Of.{turn_of, turn_elsewhere}
 use Rattle.ledger_laws.proofs.walk.Sight.{Sight, Role, Sender, Receiver, sight}
-use Rattle.ledger_laws.proofs.walk.Turn.{Turn, Trains, Forgets, Begins, Closes, Posts, on_queue}
+use Rattle.ledger_laws.proofs.walk.Tells.{News, Tells}
+use Rattle.ledger_laws.proofs.walk.Turn.{Turn, Turned, Trains, Forgets, Begins, Closes, Posts, on_queue}
 
 -- The writes that are left to post are those of their lane
 
@@ -39,16 +40,16 @@ on_queue-label q entry QueueBell = eq-eqb q q refl
 on_queue-labels : (q n : ℕ) (entry : Entry) → list_all (on_queue q) (labels_of q n entry) ≡ true
 on_queue-labels q n entry = list_all-map (on_queue q) (label_of q entry) (writes_of n entry) (on_queue-label q entry)
 
-todo_kept : (plan : Plan) (lane : LaneName) (s : Sight) (made : Answered) (t : Sight) → Turn plan lane s made t
+todo_kept : (plan : Plan) (lane : LaneName) (s : Sight) (made : Answered) (news : News) (t : Sight) → Turn plan lane s made news t
     → list_all (on_queue lane.queue) s.lane.todo ≡ true → list_all (on_queue lane.queue) t.lane.todo ≡ true
-todo_kept plan lane s made t (Trains may tells) own = refl
-todo_kept plan lane s made t (Forgets Sender down tells) own = refl
-todo_kept plan lane s made t (Forgets Receiver down tells) own = own
-todo_kept plan lane s made t (Begins bytes may tells) own = on_queue-labels lane.queue (length s.lane.sent) (Carries bytes)
-todo_kept plan lane s made t (Closes may tells) own = on_queue-labels lane.queue (length s.lane.sent) GoesDown
-todo_kept plan lane s made t (Posts label rest may tells) own =
+todo_kept plan lane s made news t (Trains may) own = refl
+todo_kept plan lane s made news t (Forgets Sender down) own = refl
+todo_kept plan lane s made news t (Forgets Receiver down) own = own
+todo_kept plan lane s made news t (Begins bytes may) own = on_queue-labels lane.queue (length s.lane.sent) (Carries bytes)
+todo_kept plan lane s made news t (Closes may) own = on_queue-labels lane.queue (length s.lane.sent) GoesDown
+todo_kept plan lane s made news t (Posts label rest may) own =
     (and_parts (on_queue lane.queue label) (list_all (on_queue lane.queue) rest) (ap (list_all (on_queue lane.queue)) (sym may.next) ∙ own)).1
-todo_kept plan lane s made t turn own = own
+todo_kept plan lane s made news t turn own = own
 
 abbrev OwnTodos : PairPart → Type 0
 OwnTodos pair = (side : Side) (queue : ℕ) → list_all (on_queue queue) (lane_of pair side queue).todo ≡ true
@@ -64,22 +65,22 @@ module _ (plan : Plan) (memories : Memories) (before : List Answered) (ledger : 
   Left k = left_by plan k (memories before k) (ledger k) step
 
   turn_in : (lane : LaneName) → OwnTodos (ledger lane.pair)
-      → Turn plan lane (sight lane.from lane.queue (ledger lane.pair)) (answered plan (memories before) ledger step)
+      → Turned plan lane (sight lane.from lane.queue (ledger lane.pair)) (answered plan (memories before) ledger step)
       (sight lane.from lane.queue (ledger_after plan (memories before) ledger step lane.pair))
   turn_in lane todos = ⊎_elim same different (cases_eq lane.pair (subject_of step))
     where
-      same : lane.pair ≡ subject_of step → Turn plan lane (sight lane.from lane.queue (ledger lane.pair)) (answered plan (memories before) ledger step)
+      same : lane.pair ≡ subject_of step → Turned plan lane (sight lane.from lane.queue (ledger lane.pair)) (answered plan (memories before) ledger step)
           (sight lane.from lane.queue (ledger_after plan (memories before) ledger step lane.pair))
       same e =
-          subst (λ k. Turn plan lane (sight lane.from lane.queue (ledger lane.pair)) (Made k) (sight lane.from lane.queue (if lane.pair == k then Left k else ledger lane.pair))) e
-          (subst (λ b. Turn plan lane (sight lane.from lane.queue (ledger lane.pair)) (Made lane.pair) (sight lane.from lane.queue (if b then Left lane.pair else ledger lane.pair)))
+          subst (λ k. Turned plan lane (sight lane.from lane.queue (ledger lane.pair)) (Made k) (sight lane.from lane.queue (if lane.pair == k then Left k else ledger lane.pair))) e
+          (subst (λ b. Turned plan lane (sight lane.from lane.queue (ledger lane.pair)) (Made lane.pair) (sight lane.from lane.queue (if b then Left lane.pair else ledger lane.pair)))
           (sym (eq-eqb lane.pair lane.pair refl))
           (turn_of plan lane (memories before lane.pair) (ledger lane.pair) todos step (sym e)))
 
-      different : (lane.pair ≡ subject_of step → ⊥) → Turn plan lane (sight lane.from lane.queue (ledger lane.pair)) (answered plan (memories before) ledger step)
+      different : (lane.pair ≡ subject_of step → ⊥) → Turned plan lane (sight lane.from lane.queue (ledger lane.pair)) (answered plan (memories before) ledger step)
           (sight lane.from lane.queue (ledger_after plan (memories before) ledger step lane.pair))
       different ne =
-          subst (λ b. Turn plan lane (sight lane.from lane.queue (ledger lane.pair)) (Made (subject_of step))
+          subst (λ b. Turned plan lane (sight lane.from lane.queue (ledger lane.pair)) (Made (subject_of step))
           (sight lane.from lane.queue (if b then Left (subject_of step) else ledger lane.pair)))
           (sym (ne_eqb lane.pair (subject_of step) ne))
           (turn_elsewhere plan lane (sight lane.from lane.queue (ledger lane.pair)) (Made (subject_of step)) (λ e. ne (sym e)))
@@ -87,8 +88,8 @@ module _ (plan : Plan) (memories : Memories) (before : List Answered) (ledger : 
   todos_kept : (k : ℕ) → OwnTodos (ledger k) → OwnTodos (ledger_after plan (memories before) ledger step k)
   todos_kept k todos side queue =
       let lane : LaneName = record { pair = k; from = side; queue = queue } in
-      todo_kept plan lane (sight side queue (ledger k)) (answered plan (memories before) ledger step) (sight side queue (ledger_after plan (memories before) ledger step k))
-      (turn_in lane todos) (todos side queue)
+      todo_kept plan lane (sight side queue (ledger k)) (answered plan (memories before) ledger step) (turn_in lane todos).news (sight side queue (ledger_after plan (memories before) ledger step k))
+      (turn_in lane todos).turn (todos side queue)
 
 -- Each run
 
@@ -96,7 +97,8 @@ module _ (plan : Plan) (memories : Memories) (before : List Answered) (ledger : 
 pub record HoldsOn (plan : Plan) (lane : LaneName) (Fits : Step → Type 0) (Inv : List Answered → Sight → RingPart → Type 0) : Type 0 where
   pub fresh : Inv [] (sight lane.from lane.queue (fresh_pair (pair_plan plan lane.pair)))
       (fresh_ring (sizes_of (pair_plan plan lane.pair) lane.from lane.queue) (pair_plan plan lane.pair).up)
-  pub turns : (log : List Answered) (s : Sight) (ring : RingPart) (made : Answered) (t : Sight) → Fits made.step → Turn plan lane s made t → Inv log s ring
+  pub turns : (log : List Answered) (s : Sight) (ring : RingPart) (made : Answered) (news : News) (t : Sight) → Fits made.step → Tells plan lane s.lane made news → Turn plan lane s made news t
+      → Inv log s ring
       → Inv (log ++ made ∷ []) t (ring_next (sizes_of (pair_plan plan lane.pair) lane.from lane.queue) lane s.lane ring made)
 
 module _ (plan : Plan) (lane : LaneName) (Fits : Step → Type 0) (Inv : List Answered → Sight → RingPart → Type 0) (holds : HoldsOn plan lane Fits Inv) (memories : Memories) where
@@ -108,12 +110,13 @@ module _ (plan : Plan) (lane : LaneName) (Fits : Step → Type 0) (Inv : List An
   run_from before ledger ring (step ∷ steps) fits todos now =
       let made = answered plan (memories before) ledger step in
       let after = ledger_after plan (memories before) ledger step in
+      let turn = turn_in plan memories before ledger step lane todos in
       let next = ring_next (sizes_of (pair_plan plan lane.pair) lane.from lane.queue) lane (lane_of (ledger lane.pair) lane.from lane.queue) ring made in
       subst (λ log. Inv log (sight lane.from lane.queue (ledger_from plan memories (before ++ made ∷ []) after steps lane.pair))
       (ring_from plan memories lane (before ++ made ∷ []) after next steps))
       (append_assoc before (made ∷ []) (log_from plan memories (before ++ made ∷ []) after steps))
       (run_from (before ++ made ∷ []) after next steps fits.1 (todos_kept plan memories before ledger step lane.pair todos)
-      (holds.turns before (sight lane.from lane.queue (ledger lane.pair)) ring made (sight lane.from lane.queue (after lane.pair)) fits.0 (turn_in plan memories before ledger step lane todos) now))
+      (holds.turns before (sight lane.from lane.queue (ledger lane.pair)) ring made turn.news (sight lane.from lane.queue (after lane.pair)) fits.0 turn.tells turn.turn now))
 
   pub holds_after : (steps : List Step) → AllByRecursion Fits steps
       → Inv (log_of plan memories steps) (sight lane.from lane.queue (ledger_of plan memories steps lane.pair)) (ring_of plan memories steps lane)
@@ -127,7 +130,8 @@ module _ (plan : Plan) (lane : LaneName) (Fits : Step → Type 0) (Inv : List An
 
 pub record HoldsAlways (plan : Plan) (lane : LaneName) (Inv : List Answered → Sight → Type 0) : Type 0 where
   pub fresh : Inv [] (sight lane.from lane.queue (fresh_pair (pair_plan plan lane.pair)))
-  pub turns : (log : List Answered) (s : Sight) (made : Answered) (t : Sight) → Turn plan lane s made t → Inv log s → Inv (log ++ made ∷ []) t
+  pub turns : (log : List Answered) (s : Sight) (made : Answered) (news : News) (t : Sight) → Tells plan lane s.lane made news → Turn plan lane s made news t → Inv log s
+      → Inv (log ++ made ∷ []) t
 
 all_fit : (steps : List Step) → AllByRecursion (λ step. Unit {0}) steps
 all_fit [] = tt
@@ -137,4 +141,4 @@ pub always_after : (plan : Plan) (lane : LaneName) (Inv : List Answered → Sigh
     → Inv (log_of plan memories steps) (sight lane.from lane.queue (ledger_of plan memories steps lane.pair))
 always_after plan lane Inv holds memories steps =
     holds_after plan lane (λ step. Unit {0}) (λ log s ring. Inv log s)
-    (record { fresh = holds.fresh; turns = λ log s ring made t fits turn now. holds.turns log s made t turn now }) memories steps (all_fit steps)
+    (record { fresh = holds.fresh; turns = λ log s ring made news t fits tells turn now. holds.turns log s made news t tells turn now }) memories steps (all_fit steps)

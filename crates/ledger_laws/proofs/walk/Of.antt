@@ -42,9 +42,9 @@ use Rattle.ledger_laws.specs.Laws.{IsOrdinaryOn}
 use Rattle.ledger_laws.proofs.Outcomes.{passed, refused_passed}
 use Rattle.ledger_laws.proofs.Runs.{made_by, left_by}
 use Rattle.ledger_laws.proofs.walk.Cases.{refuses, Refused, MaySend, MayLookAt, found_refusals, enable_cases, train_cases, break_cases, drop_cases, clean_cases, offer_cases, check_cases, ready_cases, join_cases, begin_cases, qpdown_cases, xbegin_cases, post_cases, land_cases, look_cases, copy_cases, clear_cases, ack_cases, wake_cases, trained, broken, dropped, cleaned, offering, next_offer, readied, ready_pad, joining, closing, taken_frame, posting, landed, looking, peer_down, acking, clearing, copied_more, copied_last}
-use Rattle.ledger_laws.proofs.walk.Sight.{End, Sight, Role, Sender, Receiver, peer_of, end_at, with_end, side_at, by_role, sight, IsOff, OffCase, OtherQueue, OtherWay, by_lane, OffReceived, QueueOff, WayOff, received-off, by_received_lane, other_other, same_side-refl, other_side-not, other_side-across, is_off, sight-side, sight-posts, sight-lane, sight-off, sight-tally, sight-tally_off}
+use Rattle.ledger_laws.proofs.walk.Sight.{End, Sight, Role, Sender, Receiver, peer_of, end_at, with_end, with_enabled, with_pending, with_pads, posted, side_at, by_role, sight, IsOff, OffCase, OtherQueue, OtherWay, by_lane, OffReceived, QueueOff, WayOff, received-off, by_received_lane, other_other, same_side-refl, other_side-not, other_side-across, is_off, sight-side, sight-posts, sight-lane, sight-off, sight-tally, sight-tally_off}
 use Rattle.ledger_laws.proofs.walk.Tells.{News, saw_next, pad_next, no_news, Tells, is_read, tells_nothing, tells_no}
-use Rattle.ledger_laws.proofs.walk.Turn.{MayEnable, MayTrain, MayOffer, MayCheck, MayReady, MayJoin, MayBegin, MayPost, MayLand, MayLook, IsForeign, IsAside, is_handshake, on_queue, posted, taken, cleaned_end, forgotten_lane, dropped_end, more_accepted, more_delivered, looked_news, gives_landed, pads_landed, ring_landed, landed_news, ring_checked, ring_cleared, sees_taken, Turn, Rests, FindsNone, Enables, Trains, Breaks, Drops, Forgets, Offers, Checks, Readies, Joins, Begins, Closes, Posts, Shuts, Says, LandsFlag, LandsField, LandsIndex, LandsBell, LandsPad, LandsAside, Looks, CopiesPart, CopiesLast, Clears, Acks, TakesBells, Masks}
+use Rattle.ledger_laws.proofs.walk.Turn.{MayEnable, MayTrain, MayOffer, MayCheck, MayReady, MayJoin, MayBegin, MayPost, MayLand, MayLook, IsForeign, IsAside, is_handshake, on_queue, taken, cleaned_end, forgotten_lane, dropped_end, more_accepted, more_delivered, looked_news, gives_landed, pads_landed, ring_landed, landed_news, ring_checked, ring_cleared, sees_taken, Turn, Turned, turned, Rests, FindsNone, Enables, Trains, Breaks, Drops, Forgets, Offers, Checks, Readies, Joins, Begins, Closes, Posts, Shuts, Says, LandsFlag, LandsField, LandsIndex, LandsBell, LandsPad, LandsAside, Looks, CopiesPart, CopiesLast, Clears, Acks, TakesBells, Masks}
 
 -- What is told
 
@@ -108,15 +108,15 @@ module _ (plan : Plan) (lane : LaneName) (bytes : Bytes) (pair : PairPart)
   Now = sight lane.from lane.queue pair
 
   abbrev To : Step → Outcome → Type 0
-  To step o = Turn plan lane Now (record { step = step; answer = o.answer }) (sight lane.from lane.queue o.after)
+  To step o = Turned plan lane Now (record { step = step; answer = o.answer }) (sight lane.from lane.queue o.after)
 
   -- the turn, where the pair after the step looks so
   seen : (step : Step) (answer : Answer) (after : PairPart) (t : Sight) → sight lane.from lane.queue after ≡ t
-      → Turn plan lane Now (record { step = step; answer = answer }) t → To step (record { answer = answer; after = after })
-  seen step answer after t e turn = subst (λ s. Turn plan lane Now (record { step = step; answer = answer }) s) (sym e) turn
+      → Turned plan lane Now (record { step = step; answer = answer }) t → To step (record { answer = answer; after = after })
+  seen step answer after t e turn = subst (λ s. Turned plan lane Now (record { step = step; answer = answer }) s) (sym e) turn
 
   rest : (step : Step) (answer : Answer) → is_read step answer ≡ false → To step (record { answer = answer; after = pair })
-  rest step answer unread = Rests false (tells_no plan lane Now.lane step answer unread)
+  rest step answer unread = turned (Rests false) (tells_no plan lane Now.lane step answer unread)
 
   refused : (step : Step) → is_look step ≡ false → (r : Answer) (b : Bool) → Refused b r → To step (record { answer = r; after = pair })
   refused step not_look r b is = rest step r (unread-refused step r not_look is.is)
@@ -139,7 +139,7 @@ module _ (plan : Plan) (lane : LaneName) (bytes : Bytes) (pair : PairPart)
   enable p side none = by_role lane.from (λ s. enable_refusal pair.link s ≡ None → To (Enable p s) (record { answer = Done; after = record pair { link = enabled_link pair.link s } })) each side none
     where
       looks_so : (f : Side) (e : Role) → sight f lane.queue (record pair { link = enabled_link pair.link (side_at f e) })
-          ≡ with_end (sight f lane.queue pair) e (record (end_at (sight f lane.queue pair) e) { enabled = true })
+          ≡ with_enabled e true (sight f lane.queue pair)
       looks_so A Sender = refl
       looks_so A Receiver = refl
       looks_so B Sender = refl
@@ -156,10 +156,10 @@ module _ (plan : Plan) (lane : LaneName) (bytes : Bytes) (pair : PairPart)
       each : (e : Role) → enable_refusal pair.link (side_at lane.from e) ≡ None
           → To (Enable p (side_at lane.from e)) (record { answer = Done; after = record pair { link = enabled_link pair.link (side_at lane.from e) } })
       each e none =
-          seen (Enable p (side_at lane.from e)) Done (record pair { link = enabled_link pair.link (side_at lane.from e) }) _ (looks_so lane.from e) (Enables e (may e none) (tells (Enable p (side_at lane.from e)) Done refl))
+          seen (Enable p (side_at lane.from e)) Done (record pair { link = enabled_link pair.link (side_at lane.from e) }) _ (looks_so lane.from e) (turned (Enables e (may e none)) (tells (Enable p (side_at lane.from e)) Done refl))
 
   train : (p : ℕ) → p ≡ lane.pair → train_refusal pair.link ≡ None → To (Train p) (record { answer = OkSession (pair.link.session + 1); after = trained pair })
-  train p e none = seen (Train p) _ (trained pair) _ (looks_so lane.from) (Trains (may lane.from) told)
+  train p e none = seen (Train p) _ (trained pair) _ (looks_so lane.from) (turned (Trains (may lane.from)) told)
     where
       looks_so : (f : Side) → sight f lane.queue (trained pair) ≡ record (sight f lane.queue pair) { state = LinkIsUp; session = pair.link.session + 1; lane = fresh_lane }
       looks_so A = refl
@@ -183,13 +183,13 @@ module _ (plan : Plan) (lane : LaneName) (bytes : Bytes) (pair : PairPart)
       }
 
   break : (p : ℕ) → p ≡ lane.pair → cut_refusal pair.link ≡ None → To (Break p) (record { answer = Done; after = broken pair })
-  break p e none = Breaks (not-false _ ((refused_passed _ NotUp _ none).0)) (record {
+  break p e none = turned (Breaks (not-false _ ((refused_passed _ NotUp _ none).0))) (record {
     takes = refl; gives = refl; starts = refl; ends = eq-eqb p lane.pair e; accepted = refl; delivered = refl;
     sees = λ saw. refl; pads = λ e i now. refl; ring = λ sizes ring. refl;
   })
 
   drop : (p : ℕ) → drop_refusal pair.link ≡ None → To (DropDone p) (record { answer = Done; after = dropped pair })
-  drop p none = seen (DropDone p) Done (dropped pair) _ (looks_so lane.from) (Drops (not-false _ ((refused_passed _ NotClosing _ none).0)) (tells (DropDone p) Done refl))
+  drop p none = seen (DropDone p) Done (dropped pair) _ (looks_so lane.from) (turned (Drops (not-false _ ((refused_passed _ NotClosing _ none).0))) (tells (DropDone p) Done refl))
     where
       looks_so : (f : Side) → sight f lane.queue (dropped pair)
           ≡ record (sight f lane.queue pair) { state = LinkIsDown; sender = dropped_end (sight f lane.queue pair).sender; receiver = dropped_end (sight f lane.queue pair).receiver }
@@ -207,7 +207,7 @@ module _ (plan : Plan) (lane : LaneName) (bytes : Bytes) (pair : PairPart)
       looks_so B Receiver = refl
 
       each : (e : Role) → To (Clean p (side_at lane.from e)) (record { answer = Done; after = cleaned pair (side_at lane.from e) })
-      each e = seen (Clean p (side_at lane.from e)) Done (cleaned pair (side_at lane.from e)) _ (looks_so lane.from e) (Forgets e (not-false _ ((refused_passed _ NotDown _ none).0)) (tells (Clean p (side_at lane.from e)) Done refl))
+      each e = seen (Clean p (side_at lane.from e)) Done (cleaned pair (side_at lane.from e)) _ (looks_so lane.from e) (turned (Forgets e (not-false _ ((refused_passed _ NotDown _ none).0))) (tells (Clean p (side_at lane.from e)) Done refl))
 
   -- The handshake
 
@@ -229,11 +229,11 @@ module _ (plan : Plan) (lane : LaneName) (bytes : Bytes) (pair : PairPart)
           })
       each Sender more =
           seen (Offer p lane.from) _ (posts (offering pair lane.from) lane.from (next_offer Own pair lane.from)) _ (looks_so Sender ∙ ap (posted Sender (next_offer Own pair lane.from)) (sight-side lane.from lane.queue pair Sender _))
-          (Offers Sender (record { up = up; more = more }) (tells (Offer p lane.from) _ refl))
+          (turned (Offers Sender (record { up = up; more = more })) (tells (Offer p lane.from) _ refl))
       each Receiver more =
           seen (Offer p (other_side lane.from)) _ (posts (offering pair (other_side lane.from)) (other_side lane.from) (next_offer Own pair (other_side lane.from))) _
           (looks_so Receiver ∙ ap (posted Receiver (next_offer Own pair (other_side lane.from))) (sight-side lane.from lane.queue pair Receiver _))
-          (Offers Receiver (record { up = up; more = more }) (tells (Offer p (other_side lane.from)) _ refl))
+          (turned (Offers Receiver (record { up = up; more = more })) (tells (Offer p (other_side lane.from)) _ refl))
 
   check : (p : ℕ) (side : Side) → p ≡ lane.pair → check_refusal (side_plan Own side) (side_of pair side) (link_up pair) ≡ None
       → To (Check p side) (record { answer = Up; after = with_side_part pair side (record (side_of pair side) { up = true }) })
@@ -257,12 +257,12 @@ module _ (plan : Plan) (lane : LaneName) (bytes : Bytes) (pair : PairPart)
           let a = passed _ _ _ none in
           let b = passed _ _ _ a.1 in
           seen (Check p lane.from) Up (with_side_part pair lane.from (record (side_of pair lane.from) { up = true })) _ (sight-side lane.from lane.queue pair Sender _)
-          (Checks Sender (record { up = not-false _ a.0; not_yet = b.0; passes = none }) (told Sender))
+          (turned (Checks Sender (record { up = not-false _ a.0; not_yet = b.0; passes = none })) (told Sender))
       each Receiver none =
           let a = passed _ _ _ none in
           let b = passed _ _ _ a.1 in
           seen (Check p (other_side lane.from)) Up (with_side_part pair (other_side lane.from) (record (side_of pair (other_side lane.from)) { up = true })) _ (sight-side lane.from lane.queue pair Receiver _)
-          (Checks Receiver (record { up = not-false _ a.0; not_yet = b.0; passes = none }) (told Receiver))
+          (turned (Checks Receiver (record { up = not-false _ a.0; not_yet = b.0; passes = none })) (told Receiver))
 
   ready : (p : ℕ) (side : Side) (queue : ℕ) → link_up pair ≡ true → (side_of pair side).up ≡ true
       → To (Ready p side queue) (record { answer = Done; after = posts (readied pair side queue) side (ready_pad pair side queue) })
@@ -275,12 +275,12 @@ module _ (plan : Plan) (lane : LaneName) (bytes : Bytes) (pair : PairPart)
       each Sender checked =
           seen (Ready p lane.from queue) Done (posts (readied pair lane.from queue) lane.from (ready_pad pair lane.from queue)) _
           (sight-posts lane.from lane.queue (readied pair lane.from queue) Sender _ ∙ ap (posted Sender (ready_pad pair lane.from queue)) (sight-side lane.from lane.queue pair Sender _))
-          (Readies Sender queue (record { up = up; checked = checked }) (tells (Ready p lane.from queue) Done refl))
+          (turned (Readies Sender queue (record { up = up; checked = checked })) (tells (Ready p lane.from queue) Done refl))
       each Receiver checked =
           let peer = other_side lane.from in
           seen (Ready p peer queue) Done (posts (readied pair peer queue) peer (ready_pad pair peer queue)) _
           (sight-posts lane.from lane.queue (readied pair peer queue) Receiver _ ∙ ap (posted Receiver (ready_pad pair peer queue)) (sight-side lane.from lane.queue pair Receiver _))
-          (Readies Receiver queue (record { up = up; checked = checked }) (tells (Ready p peer queue) Done refl))
+          (turned (Readies Receiver queue (record { up = up; checked = checked })) (tells (Ready p peer queue) Done refl))
 
   join : (p : ℕ) (side : Side) (queue : ℕ) → link_up pair ≡ true → has_bit (side_of pair side).ready queue ≡ true → has_bit (pad_in (side_of pair side) links_pad) queue ≡ true
       → To (Join p side queue) (record { answer = Joined; after = joining pair side queue })
@@ -293,10 +293,10 @@ module _ (plan : Plan) (lane : LaneName) (bytes : Bytes) (pair : PairPart)
           → To (Join p (side_at lane.from e) queue) (record { answer = Joined; after = joining pair (side_at lane.from e) queue })
       each Sender has asked =
           seen (Join p lane.from queue) Joined (joining pair lane.from queue) _ (sight-side lane.from lane.queue pair Sender _)
-          (Joins Sender queue (record { up = up; ready = has; asked = asked }) (tells (Join p lane.from queue) Joined refl))
+          (turned (Joins Sender queue (record { up = up; ready = has; asked = asked })) (tells (Join p lane.from queue) Joined refl))
       each Receiver has asked =
           seen (Join p (other_side lane.from) queue) Joined (joining pair (other_side lane.from) queue) _ (sight-side lane.from lane.queue pair Receiver _)
-          (Joins Receiver queue (record { up = up; ready = has; asked = asked }) (tells (Join p (other_side lane.from) queue) Joined refl))
+          (turned (Joins Receiver queue (record { up = up; ready = has; asked = asked })) (tells (Join p (other_side lane.from) queue) Joined refl))
 
   -- Sending
 
@@ -322,8 +322,8 @@ module _ (plan : Plan) (lane : LaneName) (bytes : Bytes) (pair : PairPart)
             (looks_so lane.from lane.queue
             ∙ sight-tally lane.from lane.queue (with_lane pair lane.from lane.queue (begun_lane lane.queue Now.lane (Carries frame))) pair.link.session _
             ∙ ap (λ (s : Sight). record s { tally = updated Now.tally Now.session (more_accepted (Now.tally Now.session)) }) (sight-lane lane.from lane.queue pair _))
-            (Begins frame
-            (record { up = may_now.up; joined = may_now.joined; not_closed = may_now.not_closed; not_busy = may_now.not_busy; room = may_now.room; fits = may_now.fits })
+            (turned (Begins frame
+            (record { up = may_now.up; joined = may_now.joined; not_closed = may_now.not_closed; not_busy = may_now.not_busy; room = may_now.room; fits = may_now.fits }))
             (told_own (length Now.lane.sent)))
 
         off : (s : Side) (q : ℕ) → OffCase lane.from lane.queue s q → IsOff lane.from lane.queue s q → MaySend (sizes s q) pair s q (length frame)
@@ -332,7 +332,7 @@ module _ (plan : Plan) (lane : LaneName) (bytes : Bytes) (pair : PairPart)
             seen (step s q) (OkNumber (length (lane_of pair s q).sent)) (after s q) _
             (looks_so s q ∙ sight-tally_off lane.from lane.queue (with_lane pair s q (begun_lane q (lane_of pair s q) (Carries frame))) s q pair.link.session _ is
             ∙ sight-off lane.from lane.queue pair s q _ is)
-            (Rests false (told_off s q _ is))
+            (turned (Rests false) (told_off s q _ is))
 
   -- a frame that a step accepts on a lane
   begin_told : (p : ℕ) → p ≡ lane.pair → (frame : List ℕ) (n : ℕ)
@@ -388,7 +388,7 @@ module _ (plan : Plan) (lane : LaneName) (bytes : Bytes) (pair : PairPart)
           seen (QpDown p lane.from lane.queue) (OkNumber (length Now.lane.sent)) (closing pair lane.from lane.queue) _
           (sight-side lane.from lane.queue (with_lane pair lane.from lane.queue (begun_lane lane.queue Now.lane GoesDown)) Sender _
           ∙ ap (λ (s : Sight). record s { sender = record Now.sender { closed = with_bit Now.sender.closed lane.queue } }) (sight-lane lane.from lane.queue pair _))
-          (Closes (record { up = may.up; joined = may.joined; not_closed = may.not_closed; not_busy = may.not_busy; room = may.room; fits = may.fits })
+          (turned (Closes (record { up = may.up; joined = may.joined; not_closed = may.not_closed; not_busy = may.not_busy; room = may.room; fits = may.fits }))
           (told lane.from lane.queue _ true (on-own p e)))
 
       off : (s : Side) (q : ℕ) → OffCase lane.from lane.queue s q → IsOff lane.from lane.queue s q → MaySend (sizes_of Own s q) pair s q 0
@@ -397,12 +397,12 @@ module _ (plan : Plan) (lane : LaneName) (bytes : Bytes) (pair : PairPart)
           seen (QpDown p lane.from q) (OkNumber (length (lane_of pair lane.from q).sent)) (closing pair lane.from q) _
           (sight-side lane.from lane.queue (with_lane pair lane.from q (begun_lane q (lane_of pair lane.from q) GoesDown)) Sender _
           ∙ ap (λ (s : Sight). record s { sender = record Now.sender { closed = with_bit Now.sender.closed q } }) (sight-off lane.from lane.queue pair lane.from q _ is))
-          (Shuts Sender q false (told lane.from q _ false (on-off p lane.from q is)))
+          (turned (Shuts Sender q false) (told lane.from q _ false (on-off p lane.from q is)))
       off s q OtherWay is may =
           seen (QpDown p (other_side lane.from) q) (OkNumber (length (lane_of pair (other_side lane.from) q).sent)) (closing pair (other_side lane.from) q) _
           (sight-side lane.from lane.queue (with_lane pair (other_side lane.from) q (begun_lane q (lane_of pair (other_side lane.from) q) GoesDown)) Receiver _
           ∙ ap (λ (s : Sight). record s { receiver = record Now.receiver { closed = with_bit Now.receiver.closed q } }) (sight-off lane.from lane.queue pair (other_side lane.from) q _ is))
-          (Shuts Receiver q false (told (other_side lane.from) q _ false (on-off p (other_side lane.from) q is)))
+          (turned (Shuts Receiver q false) (told (other_side lane.from) q _ false (on-off p (other_side lane.from) q is)))
 
   -- a write is posted, of this lane or of another
   post : (p : ℕ) (side : Side) (queue : ℕ) (label : Label) (later : List Label) → (lane_of pair side queue).todo ≡ label ∷ later
@@ -418,20 +418,20 @@ module _ (plan : Plan) (lane : LaneName) (bytes : Bytes) (pair : PairPart)
       own next =
           seen (Post p lane.from lane.queue) (Posted label) (posts (posting pair lane.from lane.queue later) lane.from label) _
           (sight-posts lane.from lane.queue (posting pair lane.from lane.queue later) Sender label ∙ ap (posted Sender label) (sight-lane lane.from lane.queue pair _))
-          (Posts label later (record { next = next; own = on_it lane.from lane.queue next }) (tells (Post p lane.from lane.queue) (Posted label) refl))
+          (turned (Posts label later (record { next = next; own = on_it lane.from lane.queue next })) (tells (Post p lane.from lane.queue) (Posted label) refl))
 
       off : (s : Side) (q : ℕ) → OffCase lane.from lane.queue s q → IsOff lane.from lane.queue s q → (lane_of pair s q).todo ≡ label ∷ later
           → To (Post p s q) (record { answer = Posted label; after = posts (posting pair s q later) s label })
       off s q (OtherQueue ne) is next =
           seen (Post p lane.from q) (Posted label) (posts (posting pair lane.from q later) lane.from label) _
           (sight-posts lane.from lane.queue (posting pair lane.from q later) Sender label ∙ ap (posted Sender label) (sight-off lane.from lane.queue pair lane.from q _ is))
-          (Says Sender label (record { foreign = write_of-other q lane.queue label ne (on_it s q next); no_handshake = λ ordinary. lane_label-no_pad q label (on_it s q next) })
+          (turned (Says Sender label (record { foreign = write_of-other q lane.queue label ne (on_it s q next); no_handshake = λ ordinary. lane_label-no_pad q label (on_it s q next) }))
           (tells (Post p lane.from q) (Posted label) refl))
       off s q OtherWay is next =
           let peer = other_side lane.from in
           seen (Post p peer q) (Posted label) (posts (posting pair peer q later) peer label) _
           (sight-posts lane.from lane.queue (posting pair peer q later) Receiver label ∙ ap (posted Receiver label) (sight-off lane.from lane.queue pair peer q _ is))
-          (Says Receiver label (record { foreign = index_of-lane q lane.queue label (on_it s q next); no_handshake = λ ordinary. lane_label-no_pad q label (on_it s q next) })
+          (turned (Says Receiver label (record { foreign = index_of-lane q lane.queue label (on_it s q next); no_handshake = λ ordinary. lane_label-no_pad q label (on_it s q next) }))
           (tells (Post p peer q) (Posted label) refl))
 
   -- Receiving
@@ -464,7 +464,7 @@ module _ (plan : Plan) (lane : LaneName) (bytes : Bytes) (pair : PairPart)
       look_seen r some saw = refl
 
   look_found : (p : ℕ) (side : Side) (queue : ℕ) (r : Answer) → found_refusals r ≡ true → To (Look p side queue) (record { answer = r; after = pair })
-  look_found p side queue r is = Rests (same_pair_side p side queue) (look_told p side queue r (not_nothing r is) (same_pair_side p side queue) refl)
+  look_found p side queue r is = turned (Rests (same_pair_side p side queue)) (look_told p side queue r (not_nothing r is) (same_pair_side p side queue) refl)
     where
       not_nothing : (r : Answer) → found_refusals r ≡ true → is_nothing r ≡ false
       not_nothing Empty is = absurd (false≢true is)
@@ -476,9 +476,9 @@ module _ (plan : Plan) (lane : LaneName) (bytes : Bytes) (pair : PairPart)
       by_received_lane lane.from lane.queue
       (λ s sender q. has_bit (side_of pair s).joined q ≡ true → has_bit (side_of pair s).closed q ≡ false → is_idle (lane_of pair sender q).phase ≡ true
       → ((lane_of pair sender q).flagged == (lane_of pair sender q).got) ≡ true → To (Look p s q) (record { answer = Empty; after = pair }))
-      (λ joined open_yet idle none. FindsNone (record { joined = joined; not_closed = open_yet; idle = idle }) none
+      (λ joined open_yet idle none. turned (FindsNone (record { joined = joined; not_closed = open_yet; idle = idle }) none)
       (told (other_side lane.from) lane.queue (λ saw. true) (λ saw. cond-true (same_pair_side p (other_side lane.from) lane.queue) true saw (looks-own p e))))
-      (λ s sender q case off joined open_yet idle none. Rests false
+      (λ s sender q case off joined open_yet idle none. turned (Rests false)
       (told s q (λ saw. saw) (λ saw. cond-false (same_pair_side p s q) true saw (looks-off p s q (received-off lane.from lane.queue s sender q case)))))
       side queue may.joined may.not_closed may.idle none
     where
@@ -499,13 +499,13 @@ module _ (plan : Plan) (lane : LaneName) (bytes : Bytes) (pair : PairPart)
       (λ joined open_yet idle some at.
       seen (Look p (other_side lane.from) lane.queue) (ReadyFrame Now.lane.got (length frame)) (with_lane pair lane.from lane.queue (record Now.lane { phase = Copying; part = 0 })) _
       (sight-lane lane.from lane.queue pair (record Now.lane { phase = Copying; part = 0 }))
-      (Looks frame (record { joined = joined; not_closed = open_yet; idle = idle }) some at
+      (turned (Looks frame (record { joined = joined; not_closed = open_yet; idle = idle }) some at)
       (look_told p (other_side lane.from) lane.queue (ReadyFrame Now.lane.got (length frame)) refl true (looks-own p e))))
       (λ s sender q case off joined open_yet idle some at.
       let part : LanePart = record (lane_of pair sender q) { phase = Copying; part = 0 } in
       seen (Look p s q) (ReadyFrame (lane_of pair sender q).got (length frame)) (with_lane pair sender q part) _
       (sight-off lane.from lane.queue pair sender q part off)
-      (Rests false (look_told p s q (ReadyFrame (lane_of pair sender q).got (length frame)) refl false (looks-off p s q (received-off lane.from lane.queue s sender q case)))))
+      (turned (Rests false) (look_told p s q (ReadyFrame (lane_of pair sender q).got (length frame)) refl false (looks-off p s q (received-off lane.from lane.queue s sender q case)))))
       side queue may.joined may.not_closed may.idle some at
 
   look_gone : (p : ℕ) (side : Side) (queue : ℕ) → To (Look p side queue) (record { answer = PeerDown; after = peer_down pair side queue })
@@ -514,10 +514,10 @@ module _ (plan : Plan) (lane : LaneName) (bytes : Bytes) (pair : PairPart)
       each : (e : Role) → To (Look p (side_at lane.from e) queue) (record { answer = PeerDown; after = peer_down pair (side_at lane.from e) queue })
       each Sender =
           seen (Look p lane.from queue) PeerDown (peer_down pair lane.from queue) _ (sight-side lane.from lane.queue pair Sender _)
-          (Shuts Sender queue (same_pair_side p lane.from queue) (look_told p lane.from queue PeerDown refl _ refl))
+          (turned (Shuts Sender queue (same_pair_side p lane.from queue)) (look_told p lane.from queue PeerDown refl _ refl))
       each Receiver =
           seen (Look p (other_side lane.from) queue) PeerDown (peer_down pair (other_side lane.from) queue) _ (sight-side lane.from lane.queue pair Receiver _)
-          (Shuts Receiver queue (same_pair_side p (other_side lane.from) queue) (look_told p (other_side lane.from) queue PeerDown refl _ refl))
+          (turned (Shuts Receiver queue (same_pair_side p (other_side lane.from) queue)) (look_told p (other_side lane.from) queue PeerDown refl _ refl))
 
   copy_part : (p : ℕ) (side : Side) (queue : ℕ) → is_copying (lane_to pair side queue).phase ≡ true
       → nat_lt ((lane_to pair side queue).part + 1) (chunks_in (length (bytes_of (entry_in (lane_to pair side queue) (lane_to pair side queue).got)))) ≡ true
@@ -528,7 +528,7 @@ module _ (plan : Plan) (lane : LaneName) (bytes : Bytes) (pair : PairPart)
       → To (Copy p s q) (record { answer = CopiedPart part.got part.part; after = with_lane pair sender q (record part { part = part.part + 1 }) }))
       (λ turn more.
       seen (Copy p (other_side lane.from) lane.queue) _ (with_lane pair lane.from lane.queue (record Now.lane { part = Now.lane.part + 1 })) _ (sight-lane lane.from lane.queue pair _)
-      (CopiesPart turn more (tells (Copy p (other_side lane.from) lane.queue) (CopiedPart Now.lane.got Now.lane.part) refl)))
+      (turned (CopiesPart turn more) (tells (Copy p (other_side lane.from) lane.queue) (CopiedPart Now.lane.got Now.lane.part) refl)))
       (λ s sender q case off turn more.
       let part = lane_of pair sender q in
       seen (Copy p s q) (CopiedPart part.got part.part) (with_lane pair sender q (record part { part = part.part + 1 })) _ (sight-off lane.from lane.queue pair sender q _ off)
@@ -547,14 +547,14 @@ module _ (plan : Plan) (lane : LaneName) (bytes : Bytes) (pair : PairPart)
       seen (Copy p (other_side lane.from) lane.queue) (Delivered part.got (bytes_of (entry_in part part.got))) (after lane.from lane.queue) _
       (sight-tally lane.from lane.queue (copied lane.from lane.queue) pair.link.session _
       ∙ ap (λ (s : Sight). record s { tally = updated Now.tally Now.session (more_delivered (Now.tally Now.session)) }) (sight-lane lane.from lane.queue pair _))
-      (CopiesLast turn last
+      (turned (CopiesLast turn last)
       (told (other_side lane.from) lane.queue part.got (bytes_of (entry_in part part.got)) _
       (cond-true (is_on lane p (other_side (other_side lane.from)) lane.queue) _ _ (on-back p e)))))
       (λ s sender q case off turn last.
       let part = lane_of pair sender q in
       seen (Copy p s q) (Delivered part.got (bytes_of (entry_in part part.got))) (after sender q) _
       (sight-tally_off lane.from lane.queue (copied sender q) sender q pair.link.session _ off ∙ sight-off lane.from lane.queue pair sender q _ off)
-      (Rests false
+      (turned (Rests false)
       (told s q part.got (bytes_of (entry_in part part.got)) []
       (cond-false (is_on lane p (other_side s) q) _ _ (on-off p (other_side s) q (received-off lane.from lane.queue s sender q case))))))
       side queue turn last
@@ -580,12 +580,12 @@ module _ (plan : Plan) (lane : LaneName) (bytes : Bytes) (pair : PairPart)
       (λ turn.
       seen (Clear p (other_side lane.from) lane.queue) (ClearedFrame Now.lane.cleared)
       (with_lane pair lane.from lane.queue (record Now.lane { cleared = Now.lane.cleared + 1; phase = Cleared })) _ (sight-lane lane.from lane.queue pair _)
-      (Clears turn (told (other_side lane.from) lane.queue Now.lane.cleared (ring_cleared Now.lane.cleared)
+      (turned (Clears turn) (told (other_side lane.from) lane.queue Now.lane.cleared (ring_cleared Now.lane.cleared)
       (λ sizes ring. cond-true (is_on lane p (other_side (other_side lane.from)) lane.queue) (ring_cleared Now.lane.cleared sizes ring) ring (on-back p e)))))
       (λ s sender q case off turn.
       let part = lane_of pair sender q in
       seen (Clear p s q) (ClearedFrame part.cleared) (with_lane pair sender q (record part { cleared = part.cleared + 1; phase = Cleared })) _ (sight-off lane.from lane.queue pair sender q _ off)
-      (Rests false (told s q part.cleared (λ sizes ring. ring)
+      (turned (Rests false) (told s q part.cleared (λ sizes ring. ring)
       (λ sizes ring. cond-false (is_on lane p (other_side s) q) (ring_cleared part.cleared sizes ring) ring (on-off p (other_side s) q (received-off lane.from lane.queue s sender q case))))))
       side queue turn
     where
@@ -613,7 +613,7 @@ module _ (plan : Plan) (lane : LaneName) (bytes : Bytes) (pair : PairPart)
           let label = Index lane.queue Now.lane.acked in
           seen (Ack p (other_side lane.from) lane.queue) (Acked Now.lane.acked) (posts (acked lane.from lane.queue) (other_side lane.from) label) _
           (sight-posts lane.from lane.queue (acked lane.from lane.queue) Receiver label ∙ ap (posted Receiver label) (sight-lane lane.from lane.queue pair _))
-          (Acks turn (tells (Ack p (other_side lane.from) lane.queue) (Acked Now.lane.acked) refl))
+          (turned (Acks turn) (tells (Ack p (other_side lane.from) lane.queue) (Acked Now.lane.acked) refl))
 
       off : (s sender : Side) (q : ℕ) → OffReceived lane.from lane.queue s sender q → IsOff lane.from lane.queue sender q → is_cleared (lane_of pair sender q).phase ≡ true
           → To (Ack p s q) (record { answer = Acked (lane_of pair sender q).acked; after = posts (acked sender q) s (Index q (lane_of pair sender q).acked) })
@@ -621,13 +621,13 @@ module _ (plan : Plan) (lane : LaneName) (bytes : Bytes) (pair : PairPart)
           let label = Index q (lane_of pair lane.from q).acked in
           seen (Ack p (other_side lane.from) q) (Acked (lane_of pair lane.from q).acked) (posts (acked lane.from q) (other_side lane.from) label) _
           (sight-posts lane.from lane.queue (acked lane.from q) Receiver label ∙ ap (posted Receiver label) (sight-off lane.from lane.queue pair lane.from q _ is))
-          (Says Receiver label (record { foreign = cond-false (q == lane.queue) _ _ (ne_eqb q lane.queue (λ e. ne (sym e))); no_handshake = λ ordinary. refl })
+          (turned (Says Receiver label (record { foreign = cond-false (q == lane.queue) _ _ (ne_eqb q lane.queue (λ e. ne (sym e))); no_handshake = λ ordinary. refl }))
           (tells (Ack p (other_side lane.from) q) (Acked (lane_of pair lane.from q).acked) refl))
       off s sender q WayOff is turn =
           let label = Index q (lane_of pair (other_side lane.from) q).acked in
           seen (Ack p lane.from q) (Acked (lane_of pair (other_side lane.from) q).acked) (posts (acked (other_side lane.from) q) lane.from label) _
           (sight-posts lane.from lane.queue (acked (other_side lane.from) q) Sender label ∙ ap (posted Sender label) (sight-off lane.from lane.queue pair (other_side lane.from) q _ is))
-          (Says Sender label (record { foreign = refl; no_handshake = λ ordinary. refl }) (tells (Ack p lane.from q) (Acked (lane_of pair (other_side lane.from) q).acked) refl))
+          (turned (Says Sender label (record { foreign = refl; no_handshake = λ ordinary. refl })) (tells (Ack p lane.from q) (Acked (lane_of pair (other_side lane.from) q).acked) refl))
 
   -- Landing
 
@@ -670,17 +670,17 @@ module _ (plan : Plan) (lane : LaneName) (bytes : Bytes) (pair : PairPart)
     taken_out-sight Receiver = sight-side lane.from lane.queue pair Receiver _
 
     lands : (e : Role) (label : Label) (after : Sight) → sight lane.from lane.queue (landed pair (side_at lane.from e) place label) ≡ after
-        → Turn plan lane Now (record { step = Land p (side_at lane.from e) place; answer = Landed label }) after → Lands e label
+        → Turned plan lane Now (record { step = Land p (side_at lane.from e) place; answer = Landed label }) after → Lands e label
     lands e label after is turn = seen (Land p (side_at lane.from e) place) (Landed label) (landed pair (side_at lane.from e) place label) after is turn
 
     lands_aside : (e : Role) (label : Label) → MayLandAt e place label → IsForeign lane.queue e label → is_handshake label ≡ false
         → sight lane.from lane.queue (landed pair (side_at lane.from e) place label) ≡ sight lane.from lane.queue (taken_out pair (side_at lane.from e) place) → Lands e label
-    lands_aside e label may foreign no_pad is = lands e label (taken e place Now) (is ∙ taken_out-sight e) (LandsAside e place label may foreign no_pad (land_told p place same e label))
+    lands_aside e label may foreign no_pad is = lands e label (taken e place Now) (is ∙ taken_out-sight e) (turned (LandsAside e place label may foreign no_pad) (land_told p place same e label))
 
     lands_field : (label : Label) (n : ℕ) (field : Field) → MayLandAt Sender place label → write_of lane.queue label ≡ Some (Data n field)
         → sight lane.from lane.queue (landed pair lane.from place label) ≡ sight lane.from lane.queue (taken_out pair lane.from place) → Lands Sender label
     lands_field label n field may is same_sight =
-        lands Sender label (taken Sender place Now) (same_sight ∙ taken_out-sight Sender) (LandsField place label n field may is (land_told p place same Sender label))
+        lands Sender label (taken Sender place Now) (same_sight ∙ taken_out-sight Sender) (turned (LandsField place label n field may is) (land_told p place same Sender label))
 
     abbrev flagged : ℕ → PairPart
     flagged k =
@@ -695,7 +695,7 @@ module _ (plan : Plan) (lane : LaneName) (bytes : Bytes) (pair : PairPart)
           lands Sender label (record (taken Sender place Now) { lane = record Now.lane { flagged = Now.lane.flagged + 1 } })
           (ap (sight lane.from lane.queue) (after ∙ ap flagged (sym e)) ∙ sight-lane lane.from lane.queue (taken_out pair lane.from place) _
           ∙ ap (λ (s : Sight). record s { lane = record Now.lane { flagged = Now.lane.flagged + 1 } }) (taken_out-sight Sender))
-          (LandsFlag place label n may (is ∙ cond-true (k == lane.queue) _ _ (eq-eqb k lane.queue (sym e))) (land_told p place same Sender label))
+          (turned (LandsFlag place label n may (is ∙ cond-true (k == lane.queue) _ _ (eq-eqb k lane.queue (sym e)))) (land_told p place same Sender label))
       | inr ne ↦
           lands_aside Sender label may (is ∙ cond-false (k == lane.queue) _ _ (ne_eqb k lane.queue (λ e. ne (sym e)))) no_pad
           (ap (sight lane.from lane.queue) after ∙ sight-off lane.from lane.queue (taken_out pair lane.from place) lane.from k _ (is_off lane.from lane.queue lane.from k (OtherQueue ne)))
@@ -711,16 +711,14 @@ module _ (plan : Plan) (lane : LaneName) (bytes : Bytes) (pair : PairPart)
 
     -- a doorbell and a scratchpad
     bell-sight : (f : Side) (e : Role) (k : ℕ) → sight f lane.queue (landed pair (side_at f e) place (Bell k))
-        ≡ with_end (taken e place (sight f lane.queue pair)) (peer_of e)
-        (record (end_at (sight f lane.queue pair) (peer_of e)) { pending = with_bit (end_at (sight f lane.queue pair) (peer_of e)).pending k })
+        ≡ with_pending (peer_of e) (with_bit (end_at (sight f lane.queue pair) (peer_of e)).pending k) (taken e place (sight f lane.queue pair))
     bell-sight A Sender k = refl
     bell-sight A Receiver k = refl
     bell-sight B Sender k = refl
     bell-sight B Receiver k = refl
 
     pad-sight : (f : Side) (e : Role) (i value : ℕ) → sight f lane.queue (landed pair (side_at f e) place (Pad i value))
-        ≡ with_end (taken e place (sight f lane.queue pair)) (peer_of e)
-        (record (end_at (sight f lane.queue pair) (peer_of e)) { pads = slice_set (end_at (sight f lane.queue pair) (peer_of e)).pads i value })
+        ≡ with_pads (peer_of e) (slice_set (end_at (sight f lane.queue pair) (peer_of e)).pads i value) (taken e place (sight f lane.queue pair))
     pad-sight A Sender i value = refl
     pad-sight A Receiver i value = refl
     pad-sight B Sender i value = refl
@@ -738,7 +736,7 @@ module _ (plan : Plan) (lane : LaneName) (bytes : Bytes) (pair : PairPart)
           (ap (λ s. sight lane.from lane.queue (freed s lane.queue n)) (other_other lane.from)
           ∙ sight-lane lane.from lane.queue (taken_out pair (other_side lane.from) place) _
           ∙ ap (λ (s : Sight). record s { lane = record Now.lane { freed = n + 1 } }) (taken_out-sight Receiver))
-          (LandsIndex place n (subst (λ q. MayLandAt Receiver place (Index q n)) (sym e) may) (land_told p place same Receiver (Index lane.queue n))))
+          (turned (LandsIndex place n (subst (λ q. MayLandAt Receiver place (Index q n)) (sym e) may)) (land_told p place same Receiver (Index lane.queue n))))
       | inr ne ↦
           lands_aside Receiver (Index k n) may (cond-false (k == lane.queue) _ _ (ne_eqb k lane.queue (λ e. ne (sym e)))) refl
           (ap (λ s. sight lane.from lane.queue (freed s k n)) (other_other lane.from)
@@ -755,8 +753,8 @@ module _ (plan : Plan) (lane : LaneName) (bytes : Bytes) (pair : PairPart)
     land_role Sender (Ver k n) may = lands_some_field (Ver k n) k n Version may refl refl refl
     land_role Sender (Flag k n) may = lands_flag (Flag k n) k n may refl refl refl
     land_role Sender (Down k n) may = lands_flag (Down k n) k n may refl refl refl
-    land_role e (Bell k) may = lands e (Bell k) _ (bell-sight lane.from e k) (LandsBell e place k may (land_told p place same e (Bell k)))
-    land_role e (Pad i value) may = lands e (Pad i value) _ (pad-sight lane.from e i value) (LandsPad e place i value may (land_told p place same e (Pad i value)))
+    land_role e (Bell k) may = lands e (Bell k) _ (bell-sight lane.from e k) (turned (LandsBell e place k may) (land_told p place same e (Bell k)))
+    land_role e (Pad i value) may = lands e (Pad i value) _ (pad-sight lane.from e i value) (turned (LandsPad e place i value may) (land_told p place same e (Pad i value)))
     land_role Sender (Index k n) may = lands_aside Sender (Index k n) may refl refl (across (taken_out pair lane.from place) k _)
     land_role Sender (Raw window offset len) may = lands_aside Sender (Raw window offset len) may refl refl refl
     land_role Receiver (Index k n) may = lands_index k n may
@@ -810,11 +808,11 @@ module _ (plan : Plan) (lane : LaneName) (bytes : Bytes) (pair : PairPart)
       })
       each Sender =
           seen (Irq p lane.from) _ (with_side_part pair lane.from (record (side_of pair lane.from) { pending = bit_and Now.sender.pending Now.sender.masked })) _
-          (sight-side lane.from lane.queue pair Sender _) (TakesBells Sender (told Sender _))
+          (sight-side lane.from lane.queue pair Sender _) (turned (TakesBells Sender) (told Sender _))
       each Receiver =
           seen (Irq p (other_side lane.from)) _
           (with_side_part pair (other_side lane.from) (record (side_of pair (other_side lane.from)) { pending = bit_and Now.receiver.pending Now.receiver.masked })) _
-          (sight-side lane.from lane.queue pair Receiver _) (TakesBells Receiver (told Receiver _))
+          (sight-side lane.from lane.queue pair Receiver _) (turned (TakesBells Receiver) (told Receiver _))
 
   mask : (step : Side → Step) → ((side : Side) → is_read (step side) Done ≡ false) → (masked : Side → ℕ) (side : Side)
       → To (step side) (record { answer = Done; after = with_side_part pair side (record (side_of pair side) { masked = masked side }) })
@@ -825,10 +823,10 @@ module _ (plan : Plan) (lane : LaneName) (bytes : Bytes) (pair : PairPart)
           (record { answer = Done; after = with_side_part pair (side_at lane.from e) (record (side_of pair (side_at lane.from e)) { masked = masked (side_at lane.from e) }) })
       each Sender =
           seen (step lane.from) Done (with_side_part pair lane.from (record (side_of pair lane.from) { masked = masked lane.from })) _
-          (sight-side lane.from lane.queue pair Sender _) (Masks Sender (masked lane.from) (tells (step lane.from) Done (unread lane.from)))
+          (sight-side lane.from lane.queue pair Sender _) (turned (Masks Sender (masked lane.from)) (tells (step lane.from) Done (unread lane.from)))
       each Receiver =
           seen (step (other_side lane.from)) Done (with_side_part pair (other_side lane.from) (record (side_of pair (other_side lane.from)) { masked = masked (other_side lane.from) })) _
-          (sight-side lane.from lane.queue pair Receiver _) (Masks Receiver (masked (other_side lane.from)) (tells (step (other_side lane.from)) Done (unread (other_side lane.from))))
+          (sight-side lane.from lane.queue pair Receiver _) (turned (Masks Receiver (masked (other_side lane.from))) (tells (step (other_side lane.from)) Done (unread (other_side lane.from))))
 
   -- a write by hand
   say : (step : Side → Step) → ((side : Side) → is_read (step side) Done ≡ false) → (label : Label) → ((e : Role) → IsForeign lane.queue e label)
@@ -839,11 +837,11 @@ module _ (plan : Plan) (lane : LaneName) (bytes : Bytes) (pair : PairPart)
       each : (e : Role) → To (step (side_at lane.from e)) (record { answer = Done; after = posts pair (side_at lane.from e) label })
       each e =
           seen (step (side_at lane.from e)) Done (posts pair (side_at lane.from e) label) _ (sight-posts lane.from lane.queue pair e label)
-          (Says e label (record { foreign = foreign e; no_handshake = ordinary (side_at lane.from e) }) (tells (step (side_at lane.from e)) Done (unread (side_at lane.from e))))
+          (turned (Says e label (record { foreign = foreign e; no_handshake = ordinary (side_at lane.from e) })) (tells (step (side_at lane.from e)) Done (unread (side_at lane.from e))))
 
   -- The walk
 
-  pub turn_of : (step : Step) → subject_of step ≡ lane.pair → Turn plan lane Now (made_by plan lane.pair bytes pair step) (sight lane.from lane.queue (left_by plan lane.pair bytes pair step))
+  pub turn_of : (step : Step) → subject_of step ≡ lane.pair → Turned plan lane Now (made_by plan lane.pair bytes pair step) (sight lane.from lane.queue (left_by plan lane.pair bytes pair step))
   turn_of (Enable p side) e = enable_cases (To (Enable p side)) pair side (λ r is. refused (Enable p side) refl r _ is) (enable p side)
   turn_of (Train p) e = train_cases (To (Train p)) pair (λ r is. refused (Train p) refl r _ is) (train p e)
   turn_of (Break p) e = break_cases (To (Break p)) pair (λ r is. refused (Break p) refl r _ is) (break p e)
@@ -860,7 +858,7 @@ module _ (plan : Plan) (lane : LaneName) (bytes : Bytes) (pair : PairPart)
       qpdown_cases (To (QpDown p side queue)) (sizes_of Own side queue) pair side queue (λ r is. refused (QpDown p side queue) refl r _ is) (qpdown p e side queue)
   turn_of (Xbegin p side queue dev dst kind payload) e =
       xbegin_cases (To (Xbegin p side queue dev dst kind payload)) (sizes_of Own side queue) (dev_plan plan.devs dev) pair side queue dst kind payload
-      (λ r is. Rests false (tells (Xbegin p side queue dev dst kind payload) r (unread-refused (Xbegin p side queue dev dst kind payload) r refl is.is)))
+      (λ r is. turned (Rests false) (tells (Xbegin p side queue dev dst kind payload) r (unread-refused (Xbegin p side queue dev dst kind payload) r refl is.is)))
       (begin (λ s q. Xbegin p s q dev dst kind payload) (sizes_of Own) (λ s q. taken_frame (sizes_of Own s q) (dev_plan plan.devs dev) pair s q (Frame dev dst kind payload))
       (Frame dev dst kind payload) (λ s q. refl) (xbegin_told p e dev dst kind payload) (xbegin_untold p dev dst kind payload) refl side queue)
   turn_of (Post p side queue) e = post_cases (To (Post p side queue)) pair side queue (rest (Post p side queue) _ refl) (post p side queue)
@@ -872,7 +870,7 @@ module _ (plan : Plan) (lane : LaneName) (bytes : Bytes) (pair : PairPart)
   turn_of (Ack p side queue) e = ack_cases (To (Ack p side queue)) pair side queue (λ r is. refused (Ack p side queue) refl r _ is) (ack p side queue)
   turn_of (Wake p side queue dev) e =
       wake_cases (To (Wake p side queue dev)) (sizes_of Own side queue) (dev_plan plan.devs dev) pair side queue (λ r is. refused (Wake p side queue dev) refl r _ is)
-      (Rests false (tells (Wake p side queue dev) Awake refl))
+      (turned (Rests false) (tells (Wake p side queue dev) Awake refl))
   turn_of (Irq p side) e = irq p e side
   turn_of (Mask p side bits) e = mask (λ s. Mask p s bits) (λ s. refl) (λ s. bit_or (side_of pair s).masked bits) side
   turn_of (Unmask p side bits) e = mask (λ s. Unmask p s bits) (λ s. refl) (λ s. without_bits (side_of pair s).masked bits) side
@@ -891,5 +889,5 @@ module _ (plan : Plan) (lane : LaneName) (bytes : Bytes) (pair : PairPart)
   turn_of (ShowQueue p side place) e = rest (ShowQueue p side place) _ refl
 
 -- a step on another pair is no turn at all
-pub turn_elsewhere : (plan : Plan) (lane : LaneName) (s : Sight) (made : Answered) → (subject_of made.step ≡ lane.pair → ⊥) → Turn plan lane s made s
-turn_elsewhere plan lane s made ne = Rests false (tells_nothing plan lane s.lane made.step made.answer (λ read. ne))
+pub turn_elsewhere : (plan : Plan) (lane : LaneName) (s : Sight) (made : Answered) → (subject_of made.step ≡ lane.pair → ⊥) → Turned plan lane s made s
+turn_elsewhere plan lane s made ne = turned (Rests false) (tells_nothing plan lane s.lane made.step made.answer (λ read. ne))

@@ -62,6 +62,45 @@ receiver_after Receiver new old = new
 abbrev pub with_end : Sight → Role → End → Sight
 with_end s e new = record s { sender = sender_after e new s.sender; receiver = receiver_after e new s.receiver }
 
+-- the sight with another number of one end; what isn't changed of both ends is in sight as before, whichever end it is
+abbrev pub on_sender : {X : Type 0} → Role → X → X → X
+on_sender Sender new old = new
+on_sender Receiver new old = old
+
+abbrev pub on_receiver : {X : Type 0} → Role → X → X → X
+on_receiver Sender new old = old
+on_receiver Receiver new old = new
+
+abbrev pub with_up : Role → Bool → Sight → Sight
+with_up e x s = record s { sender = record s.sender { up = on_sender e x s.sender.up }; receiver = record s.receiver { up = on_receiver e x s.receiver.up } }
+
+abbrev pub with_ready : Role → ℕ → Sight → Sight
+with_ready e x s = record s { sender = record s.sender { ready = on_sender e x s.sender.ready }; receiver = record s.receiver { ready = on_receiver e x s.receiver.ready } }
+
+abbrev pub with_joined : Role → ℕ → Sight → Sight
+with_joined e x s = record s { sender = record s.sender { joined = on_sender e x s.sender.joined }; receiver = record s.receiver { joined = on_receiver e x s.receiver.joined } }
+
+abbrev pub with_closed : Role → ℕ → Sight → Sight
+with_closed e x s = record s { sender = record s.sender { closed = on_sender e x s.sender.closed }; receiver = record s.receiver { closed = on_receiver e x s.receiver.closed } }
+
+abbrev pub with_offered : Role → ℕ → Sight → Sight
+with_offered e x s = record s { sender = record s.sender { offered = on_sender e x s.sender.offered }; receiver = record s.receiver { offered = on_receiver e x s.receiver.offered } }
+
+abbrev pub with_pads : Role → List ℕ → Sight → Sight
+with_pads e x s = record s { sender = record s.sender { pads = on_sender e x s.sender.pads }; receiver = record s.receiver { pads = on_receiver e x s.receiver.pads } }
+
+abbrev pub with_pending : Role → ℕ → Sight → Sight
+with_pending e x s = record s { sender = record s.sender { pending = on_sender e x s.sender.pending }; receiver = record s.receiver { pending = on_receiver e x s.receiver.pending } }
+
+abbrev pub with_masked : Role → ℕ → Sight → Sight
+with_masked e x s = record s { sender = record s.sender { masked = on_sender e x s.sender.masked }; receiver = record s.receiver { masked = on_receiver e x s.receiver.masked } }
+
+abbrev pub with_flight : Role → List Label → Sight → Sight
+with_flight e x s = record s { sender = record s.sender { flight = on_sender e x s.sender.flight }; receiver = record s.receiver { flight = on_receiver e x s.receiver.flight } }
+
+abbrev pub with_enabled : Role → Bool → Sight → Sight
+with_enabled e x s = record s { sender = record s.sender { enabled = on_sender e x s.sender.enabled }; receiver = record s.receiver { enabled = on_receiver e x s.receiver.enabled } }
+
 -- the side of an end, where the lane's sender is this side
 abbrev pub side_at : Side → Role → Side
 side_at from Sender = from
@@ -81,6 +120,10 @@ other_other B = refl
 -- what is in flight once a side posts a write
 abbrev pub flight_with : LinkState → List Label → Label → List Label
 flight_with state flight label = if is_up state then flight ++ label ∷ [] else flight
+
+-- an end posts a write
+abbrev pub posted : Role → Label → Sight → Sight
+posted e label s = with_flight e (flight_with s.state (end_at s e).flight label) s
 
 -- The sight of a lane
 
@@ -215,15 +258,13 @@ module _ (from : Side) (q : ℕ) (pair : PairPart) where
   -- a write that a side posts
   pub sight-posts : (e : Role) (label : Label)
       → sight from q (posts pair (side_at from e) label)
-      ≡ with_end (sight from q pair) e
-      (record (end_at (sight from q pair) e) { flight = flight_with pair.link.state (end_at (sight from q pair) e).flight label })
+      ≡ posted e label (sight from q pair)
   sight-posts e label = go (is_up pair.link.state) from e
     where
       go : (up : Bool) (f : Side) (e : Role)
           → let part = side_of pair (side_at f e) in
           sight f q (if up then with_side_part pair (side_at f e) (record part { flight = part.flight ++ label ∷ [] }) else pair)
-          ≡ with_end (sight f q pair) e
-          (record (end_at (sight f q pair) e) { flight = (if up then (end_at (sight f q pair) e).flight ++ label ∷ [] else (end_at (sight f q pair) e).flight) })
+          ≡ with_flight e (if up then (end_at (sight f q pair) e).flight ++ label ∷ [] else (end_at (sight f q pair) e).flight) (sight f q pair)
       go true A Sender = refl
       go true A Receiver = refl
       go true B Sender = refl

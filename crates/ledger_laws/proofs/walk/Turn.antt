@@ -25,7 +25,7 @@ use Rattle.ledger_model.specs.Rings.{RingPart, with_write, with_index, without_h
 use Rattle.ledger_model.specs.Sending.{begun_lane}
 use Rattle.ledger_model.specs.declared.LinkState.TheVariants.{Down as LinkIsDown, Up as LinkIsUp, Closing}
 use Rattle.ledger_laws.specs.Laws.{IsOrdinaryOn}
-use Rattle.ledger_laws.proofs.walk.Sight.{End, Sight, Role, Sender, Receiver, peer_of, end_at, with_end, side_at, flight_with, part_of}
+use Rattle.ledger_laws.proofs.walk.Sight.{End, Sight, Role, Sender, Receiver, peer_of, end_at, with_end, with_up, with_ready, with_joined, with_closed, with_offered, with_pads, with_pending, with_masked, with_flight, with_enabled, side_at, part_of, posted}
 use Rattle.ledger_laws.proofs.walk.Tells.{News, no_news, Tells}
 
 -- What a step has passed
@@ -108,13 +108,9 @@ pub record MayLook (q : ℕ) (s : Sight) : Type 0 where
 
 -- What a step leaves
 
--- an end posts a write
-abbrev pub posted : Role → Label → Sight → Sight
-posted e label s = with_end s e (record (end_at s e) { flight = flight_with s.state (end_at s e).flight label })
-
 -- a write of an end is taken out of those in flight
 abbrev pub taken : Role → ℕ → Sight → Sight
-taken e place s = with_end s e (record (end_at s e) { flight = remove (end_at s e).flight place })
+taken e place s = with_flight e (remove (end_at s e).flight place) s
 
 -- an end forgets its session
 abbrev pub cleaned_end : End → End
@@ -175,75 +171,65 @@ sees_taken q Receiver bits saw = if has_bit bits q then false else saw
 
 -- The turns
 
-pub data Turn (plan : Plan) (lane : LaneName) (s : Sight) (made : Answered) : Sight → Type 0 where
+pub data Turn (plan : Plan) (lane : LaneName) (s : Sight) (made : Answered) : News → Sight → Type 0 where
   -- nothing happens to the lane; its receiver may have looked and found no reason to think that nothing is there
-  Rests : (looked : Bool) → Tells plan lane s.lane made (looked_news looked) → Turn plan lane s made s
-  FindsNone : MayLook lane.queue s → (s.lane.flagged == s.lane.got) ≡ true → Tells plan lane s.lane made (record no_news { sees = λ saw. true }) → Turn plan lane s made s
+  Rests : (looked : Bool) → Turn plan lane s made (looked_news looked) s
+  FindsNone : MayLook lane.queue s → (s.lane.flagged == s.lane.got) ≡ true → Turn plan lane s made (record no_news { sees = λ saw. true }) s
   -- the link
-  Enables : (e : Role) → MayEnable s e → Tells plan lane s.lane made no_news → Turn plan lane s made (with_end s e (record (end_at s e) { enabled = true }))
-  Trains : MayTrain s → Tells plan lane s.lane made (record no_news { starts = true })
-      → Turn plan lane s made (record s { state = LinkIsUp; session = s.session + 1; lane = fresh_lane })
-  Breaks : is_up s.state ≡ true → Tells plan lane s.lane made (record no_news { ends = true }) → Turn plan lane s made (record s { state = Closing })
-  Drops : is_closing s.state ≡ true → Tells plan lane s.lane made no_news
-      → Turn plan lane s made (record s { state = LinkIsDown; sender = dropped_end s.sender; receiver = dropped_end s.receiver })
-  Forgets : (e : Role) → is_down s.state ≡ true → Tells plan lane s.lane made no_news
-      → Turn plan lane s made (record (with_end s e (cleaned_end (end_at s e))) { lane = forgotten_lane e s.lane })
+  Enables : (e : Role) → MayEnable s e → Turn plan lane s made no_news (with_enabled e true s)
+  Trains : MayTrain s → Turn plan lane s made (record no_news { starts = true }) (record s { state = LinkIsUp; session = s.session + 1; lane = fresh_lane })
+  Breaks : is_up s.state ≡ true → Turn plan lane s made (record no_news { ends = true }) (record s { state = Closing })
+  Drops : is_closing s.state ≡ true → Turn plan lane s made no_news (record s { state = LinkIsDown; sender = dropped_end s.sender; receiver = dropped_end s.receiver })
+  Forgets : (e : Role) → is_down s.state ≡ true → Turn plan lane s made no_news (record (with_end s e (cleaned_end (end_at s e))) { lane = forgotten_lane e s.lane })
   -- the handshake
-  Offers : (e : Role) → MayOffer (side_plan (pair_plan plan lane.pair) (side_at lane.from e)) s e → Tells plan lane s.lane made no_news
-      → Turn plan lane s made (posted e (slice_index_or (offers (side_plan (pair_plan plan lane.pair) (side_at lane.from e))) (end_at s e).offered (Pad 0 0))
-      (with_end s e (record (end_at s e) { offered = (end_at s e).offered + 1 })))
-  Checks : (e : Role) → MayCheck (side_plan (pair_plan plan lane.pair) (side_at lane.from e)) s e → Tells plan lane s.lane made (record no_news { ring = ring_checked e })
-      → Turn plan lane s made (with_end s e (record (end_at s e) { up = true }))
-  Readies : (e : Role) (queue : ℕ) → MayReady s e → Tells plan lane s.lane made no_news
-      → Turn plan lane s made (posted e (Pad links_pad (with_bit (end_at s e).ready queue)) (with_end s e (record (end_at s e) { ready = with_bit (end_at s e).ready queue })))
-  Joins : (e : Role) (queue : ℕ) → MayJoin s e queue → Tells plan lane s.lane made no_news
-      → Turn plan lane s made (with_end s e (record (end_at s e) { joined = with_bit (end_at s e).joined queue }))
+  Offers : (e : Role) → MayOffer (side_plan (pair_plan plan lane.pair) (side_at lane.from e)) s e → Turn plan lane s made no_news (posted e (slice_index_or (offers (side_plan (pair_plan plan lane.pair) (side_at lane.from e))) (end_at s e).offered (Pad 0 0))
+      (with_offered e ((end_at s e).offered + 1) s))
+  Checks : (e : Role) → MayCheck (side_plan (pair_plan plan lane.pair) (side_at lane.from e)) s e → Turn plan lane s made (record no_news { ring = ring_checked e }) (with_up e true s)
+  Readies : (e : Role) (queue : ℕ) → MayReady s e → Turn plan lane s made no_news (posted e (Pad links_pad (with_bit (end_at s e).ready queue)) (with_ready e (with_bit (end_at s e).ready queue) s))
+  Joins : (e : Role) (queue : ℕ) → MayJoin s e queue → Turn plan lane s made no_news (with_joined e (with_bit (end_at s e).joined queue) s)
   -- sending
   Begins : (bytes : List ℕ) → MayBegin (sizes_of (pair_plan plan lane.pair) lane.from lane.queue) lane.queue s (length bytes)
-      → Tells plan lane s.lane made (record no_news { takes = true; accepted = record { number = length s.lane.sent; bytes = bytes } ∷ [] })
-      → Turn plan lane s made
+      → Turn plan lane s made (record no_news { takes = true; accepted = record { number = length s.lane.sent; bytes = bytes } ∷ [] })
       (record s { lane = begun_lane lane.queue s.lane (Carries bytes); tally = updated s.tally s.session (more_accepted (s.tally s.session)) })
-  Closes : MayBegin (sizes_of (pair_plan plan lane.pair) lane.from lane.queue) lane.queue s 0 → Tells plan lane s.lane made (record no_news { takes = true })
-      → Turn plan lane s made
+  Closes : MayBegin (sizes_of (pair_plan plan lane.pair) lane.from lane.queue) lane.queue s 0 → Turn plan lane s made (record no_news { takes = true })
       (record s { sender = record s.sender { closed = with_bit s.sender.closed lane.queue }; lane = begun_lane lane.queue s.lane GoesDown })
-  Posts : (label : Label) (rest : List Label) → MayPost lane.queue s label rest → Tells plan lane s.lane made no_news
-      → Turn plan lane s made (posted Sender label (record s { lane = record s.lane { todo = rest } }))
+  Posts : (label : Label) (rest : List Label) → MayPost lane.queue s label rest → Turn plan lane s made no_news (posted Sender label (record s { lane = record s.lane { todo = rest } }))
   -- a queue is closed on an end, and a write that isn't the lane's is posted
-  Shuts : (e : Role) (queue : ℕ) (looked : Bool) → Tells plan lane s.lane made (looked_news looked)
-      → Turn plan lane s made (with_end s e (record (end_at s e) { closed = with_bit (end_at s e).closed queue }))
-  Says : (e : Role) (label : Label) → IsAside lane made e label → Tells plan lane s.lane made no_news → Turn plan lane s made (posted e label s)
+  Shuts : (e : Role) (queue : ℕ) (looked : Bool) → Turn plan lane s made (looked_news looked) (with_closed e (with_bit (end_at s e).closed queue) s)
+  Says : (e : Role) (label : Label) → IsAside lane made e label → Turn plan lane s made no_news (posted e label s)
   -- landing
   LandsFlag : (place : ℕ) (label : Label) (n : ℕ) → MayLand (pair_plan plan lane.pair).strict s Sender place label → write_of lane.queue label ≡ Some (EntryFlag n)
-      → Tells plan lane s.lane made (landed_news lane.queue Sender label s.lane)
-      → Turn plan lane s made (record (taken Sender place s) { lane = record s.lane { flagged = s.lane.flagged + 1 } })
+      → Turn plan lane s made (landed_news lane.queue Sender label s.lane) (record (taken Sender place s) { lane = record s.lane { flagged = s.lane.flagged + 1 } })
   LandsField : (place : ℕ) (label : Label) (n : ℕ) (field : Field) → MayLand (pair_plan plan lane.pair).strict s Sender place label
-      → write_of lane.queue label ≡ Some (Data n field) → Tells plan lane s.lane made (landed_news lane.queue Sender label s.lane)
-      → Turn plan lane s made (taken Sender place s)
+      → write_of lane.queue label ≡ Some (Data n field) → Turn plan lane s made (landed_news lane.queue Sender label s.lane) (taken Sender place s)
   LandsIndex : (place : ℕ) (n : ℕ) → MayLand (pair_plan plan lane.pair).strict s Receiver place (Index lane.queue n)
-      → Tells plan lane s.lane made (landed_news lane.queue Receiver (Index lane.queue n) s.lane)
-      → Turn plan lane s made (record (taken Receiver place s) { lane = record s.lane { freed = n + 1 } })
+      → Turn plan lane s made (landed_news lane.queue Receiver (Index lane.queue n) s.lane) (record (taken Receiver place s) { lane = record s.lane { freed = n + 1 } })
   LandsBell : (e : Role) (place queue : ℕ) → MayLand (pair_plan plan lane.pair).strict s e place (Bell queue)
-      → Tells plan lane s.lane made (landed_news lane.queue e (Bell queue) s.lane)
-      → Turn plan lane s made (with_end (taken e place s) (peer_of e) (record (end_at s (peer_of e)) { pending = with_bit (end_at s (peer_of e)).pending queue }))
+      → Turn plan lane s made (landed_news lane.queue e (Bell queue) s.lane) (with_pending (peer_of e) (with_bit (end_at s (peer_of e)).pending queue) (taken e place s))
   LandsPad : (e : Role) (place i value : ℕ) → MayLand (pair_plan plan lane.pair).strict s e place (Pad i value)
-      → Tells plan lane s.lane made (landed_news lane.queue e (Pad i value) s.lane)
-      → Turn plan lane s made (with_end (taken e place s) (peer_of e) (record (end_at s (peer_of e)) { pads = slice_set (end_at s (peer_of e)).pads i value }))
+      → Turn plan lane s made (landed_news lane.queue e (Pad i value) s.lane) (with_pads (peer_of e) (slice_set (end_at s (peer_of e)).pads i value) (taken e place s))
   LandsAside : (e : Role) (place : ℕ) (label : Label) → MayLand (pair_plan plan lane.pair).strict s e place label → IsForeign lane.queue e label → is_handshake label ≡ false
-      → Tells plan lane s.lane made (landed_news lane.queue e label s.lane) → Turn plan lane s made (taken e place s)
+      → Turn plan lane s made (landed_news lane.queue e label s.lane) (taken e place s)
   -- receiving
   Looks : (bytes : List ℕ) → MayLook lane.queue s → (s.lane.flagged == s.lane.got) ≡ false → entry_in s.lane s.lane.got ≡ Carries bytes
-      → Tells plan lane s.lane made (looked_news true) → Turn plan lane s made (record s { lane = record s.lane { phase = Copying; part = 0 } })
+      → Turn plan lane s made (looked_news true) (record s { lane = record s.lane { phase = Copying; part = 0 } })
   CopiesPart : is_copying s.lane.phase ≡ true → nat_lt (s.lane.part + 1) (chunks_in (length (bytes_of (entry_in s.lane s.lane.got)))) ≡ true
-      → Tells plan lane s.lane made no_news → Turn plan lane s made (record s { lane = record s.lane { part = s.lane.part + 1 } })
+      → Turn plan lane s made no_news (record s { lane = record s.lane { part = s.lane.part + 1 } })
   CopiesLast : is_copying s.lane.phase ≡ true → nat_lt (s.lane.part + 1) (chunks_in (length (bytes_of (entry_in s.lane s.lane.got)))) ≡ false
-      → Tells plan lane s.lane made (record no_news { delivered = record { number = s.lane.got; bytes = bytes_of (entry_in s.lane s.lane.got) } ∷ [] })
-      → Turn plan lane s made
+      → Turn plan lane s made (record no_news { delivered = record { number = s.lane.got; bytes = bytes_of (entry_in s.lane s.lane.got) } ∷ [] })
       (record s { lane = record s.lane { got = s.lane.got + 1; phase = Copied }; tally = updated s.tally s.session (more_delivered (s.tally s.session)) })
-  Clears : is_copied s.lane.phase ≡ true → Tells plan lane s.lane made (record no_news { ring = ring_cleared s.lane.cleared })
-      → Turn plan lane s made (record s { lane = record s.lane { cleared = s.lane.cleared + 1; phase = Cleared } })
-  Acks : is_cleared s.lane.phase ≡ true → Tells plan lane s.lane made no_news
-      → Turn plan lane s made (posted Receiver (Index lane.queue s.lane.acked) (record s { lane = record s.lane { acked = s.lane.acked + 1; phase = Idle } }))
+  Clears : is_copied s.lane.phase ≡ true → Turn plan lane s made (record no_news { ring = ring_cleared s.lane.cleared }) (record s { lane = record s.lane { cleared = s.lane.cleared + 1; phase = Cleared } })
+  Acks : is_cleared s.lane.phase ≡ true → Turn plan lane s made no_news (posted Receiver (Index lane.queue s.lane.acked) (record s { lane = record s.lane { acked = s.lane.acked + 1; phase = Idle } }))
   -- doorbells
-  TakesBells : (e : Role) → Tells plan lane s.lane made (record no_news { sees = sees_taken lane.queue e (without_bits (end_at s e).pending (end_at s e).masked) })
-      → Turn plan lane s made (with_end s e (record (end_at s e) { pending = bit_and (end_at s e).pending (end_at s e).masked }))
-  Masks : (e : Role) (masked : ℕ) → Tells plan lane s.lane made no_news → Turn plan lane s made (with_end s e (record (end_at s e) { masked = masked }))
+  TakesBells : (e : Role) → Turn plan lane s made (record no_news { sees = sees_taken lane.queue e (without_bits (end_at s e).pending (end_at s e).masked) }) (with_pending e (bit_and (end_at s e).pending (end_at s e).masked) s)
+  Masks : (e : Role) (masked : ℕ) → Turn plan lane s made no_news (with_masked e masked s)
+
+-- a turn, with what the step tells
+pub record Turned (plan : Plan) (lane : LaneName) (s : Sight) (made : Answered) (t : Sight) : Type 0 where
+  pub news : News
+  pub tells : Tells plan lane s.lane made news
+  pub turn : Turn plan lane s made news t
+
+pub turned : {plan : Plan} {lane : LaneName} {s : Sight} {made : Answered} {news : News} {t : Sight} → Turn plan lane s made news t → Tells plan lane s.lane made news
+    → Turned plan lane s made t
+turned {news} turn tells = record { news = news; tells = tells; turn = turn }
