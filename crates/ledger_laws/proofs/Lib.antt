@@ -39,3 +39,5 @@ pub mod TalkNext
 pub mod Ticks
 pub mod UpMeans
 pub mod walk
+pub mod BitSets
+pub mod FramesInOrder

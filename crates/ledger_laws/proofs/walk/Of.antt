@@ -44,7 +44,7 @@ use Rattle.ledger_laws.proofs.Runs.{made_by, left_by}
 use Rattle.ledger_laws.proofs.walk.Cases.{refuses, Refused, MaySend, MayLookAt, found_refusals, enable_cases, train_cases, break_cases, drop_cases, clean_cases, offer_cases, check_cases, ready_cases, join_cases, begin_cases, qpdown_cases, xbegin_cases, post_cases, land_cases, look_cases, copy_cases, clear_cases, ack_cases, wake_cases, trained, broken, dropped, cleaned, offering, next_offer, readied, ready_pad, joining, closing, taken_frame, posting, landed, looking, peer_down, acking, clearing, copied_more, copied_last}
 use Rattle.ledger_laws.proofs.walk.Sight.{End, Sight, Role, Sender, Receiver, peer_of, end_at, with_end, with_enabled, with_pending, with_pads, posted, side_at, by_role, sight, IsOff, OffCase, OtherQueue, OtherWay, by_lane, OffReceived, QueueOff, WayOff, received-off, by_received_lane, other_other, same_side-refl, other_side-not, other_side-across, is_off, sight-side, sight-posts, sight-lane, sight-off, sight-tally, sight-tally_off}
 use Rattle.ledger_laws.proofs.walk.Tells.{News, saw_next, pad_next, no_news, Tells, is_read, tells_nothing, tells_no}
-use Rattle.ledger_laws.proofs.walk.Turn.{MayEnable, MayTrain, MayOffer, MayCheck, MayReady, MayJoin, MayBegin, MayPost, MayLand, MayLook, IsForeign, IsAside, is_handshake, on_queue, taken, cleaned_end, forgotten_lane, dropped_end, more_accepted, more_delivered, looked_news, gives_landed, pads_landed, ring_landed, landed_news, ring_checked, ring_cleared, sees_taken, Turn, Turned, turned, Rests, FindsNone, Enables, Trains, Breaks, Drops, Forgets, Offers, Checks, Readies, Joins, Begins, Closes, Posts, Shuts, Says, LandsFlag, LandsField, LandsIndex, LandsBell, LandsPad, LandsAside, Looks, CopiesPart, CopiesLast, Clears, Acks, TakesBells, Masks}
+use Rattle.ledger_laws.proofs.walk.Turn.{MayEnable, MayTrain, MayOffer, MayCheck, MayReady, MayJoin, MayBegin, MayPost, MayLand, MayLook, IsForeign, IsAside, is_handshake, on_queue, taken, forgotten, dropped_end, more_accepted, more_delivered, looked_news, gives_landed, pads_landed, ring_landed, landed_news, ring_checked, ring_cleared, sees_taken, Turn, Turned, turned, Rests, FindsNone, Enables, Trains, Breaks, Drops, Forgets, Offers, Checks, Readies, Joins, Begins, Closes, Posts, Shuts, Says, LandsFlag, LandsField, LandsIndex, LandsBell, LandsPad, LandsAside, Looks, CopiesPart, CopiesLast, Clears, Acks, TakesBells, Masks}
 
 -- What is told
 
@@ -200,7 +200,7 @@ module _ (plan : Plan) (lane : LaneName) (bytes : Bytes) (pair : PairPart)
   clean p side none = by_role lane.from (λ s. To (Clean p s) (record { answer = Done; after = cleaned pair s })) each side
     where
       looks_so : (f : Side) (e : Role) → sight f lane.queue (cleaned pair (side_at f e))
-          ≡ record (with_end (sight f lane.queue pair) e (cleaned_end (end_at (sight f lane.queue pair) e))) { lane = forgotten_lane e (lane_of pair f lane.queue) }
+          ≡ forgotten e (sight f lane.queue pair)
       looks_so A Sender = refl
       looks_so A Receiver = refl
       looks_so B Sender = refl

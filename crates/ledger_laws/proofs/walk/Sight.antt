@@ -98,6 +98,9 @@ with_masked e x s = record s { sender = record s.sender { masked = on_sender e x
 abbrev pub with_flight : Role → List Label → Sight → Sight
 with_flight e x s = record s { sender = record s.sender { flight = on_sender e x s.sender.flight }; receiver = record s.receiver { flight = on_receiver e x s.receiver.flight } }
 
+abbrev pub with_clean : Role → Bool → Sight → Sight
+with_clean e x s = record s { sender = record s.sender { clean = on_sender e x s.sender.clean }; receiver = record s.receiver { clean = on_receiver e x s.receiver.clean } }
+
 abbrev pub with_enabled : Role → Bool → Sight → Sight
 with_enabled e x s = record s { sender = record s.sender { enabled = on_sender e x s.sender.enabled }; receiver = record s.receiver { enabled = on_receiver e x s.receiver.enabled } }
 

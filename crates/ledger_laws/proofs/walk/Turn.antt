@@ -17,7 +17,7 @@ use Rattle.ledger_model.specs.Handshake.{offers, check_refusal}
 use Rattle.ledger_model.specs.Labels.{order_of, write_of, index_of}
 use Rattle.ledger_model.specs.Ledger.{LanePart, Sizes, Tally, entry_in, free_of, links_pad, side_plan, sizes_of, updated}
 use Rattle.ledger_model.specs.Link.{is_up, is_down, is_closing}
-use Rattle.ledger_model.specs.LinkSteps.{fresh_lane, forgotten_by_sender, forgotten_by_receiver}
+use Rattle.ledger_model.specs.LinkSteps.{fresh_lane}
 use Rattle.ledger_model.specs.Log.{Answered}
 use Rattle.ledger_model.specs.Next.{pair_plan}
 use Rattle.ledger_model.specs.Receiving.{is_idle, is_copying, is_copied, is_cleared}
@@ -25,7 +25,7 @@ use Rattle.ledger_model.specs.Rings.{RingPart, with_write, with_index, without_h
 use Rattle.ledger_model.specs.Sending.{begun_lane}
 use Rattle.ledger_model.specs.declared.LinkState.TheVariants.{Down as LinkIsDown, Up as LinkIsUp, Closing}
 use Rattle.ledger_laws.specs.Laws.{IsOrdinaryOn}
-use Rattle.ledger_laws.proofs.walk.Sight.{End, Sight, Role, Sender, Receiver, peer_of, end_at, with_end, with_up, with_ready, with_joined, with_closed, with_offered, with_pads, with_pending, with_masked, with_flight, with_enabled, side_at, part_of, posted}
+use Rattle.ledger_laws.proofs.walk.Sight.{End, Sight, Role, Sender, Receiver, peer_of, end_at, on_sender, on_receiver, with_up, with_ready, with_joined, with_closed, with_offered, with_pads, with_pending, with_masked, with_flight, with_clean, with_enabled, side_at, part_of, posted}
 use Rattle.ledger_laws.proofs.walk.Tells.{News, no_news, Tells}
 
 -- What a step has passed
@@ -113,12 +113,13 @@ abbrev pub taken : Role → ℕ → Sight → Sight
 taken e place s = with_flight e (remove (end_at s e).flight place) s
 
 -- an end forgets its session
-abbrev pub cleaned_end : End → End
-cleaned_end own = record own { up = false; ready = 0; joined = 0; closed = 0; offered = 0; pads = replicate 16 0; pending = 0; clean = true }
-
 abbrev pub forgotten_lane : Role → LanePart → LanePart
-forgotten_lane Sender lane = forgotten_by_sender lane
-forgotten_lane Receiver lane = forgotten_by_receiver lane
+forgotten_lane e lane = record lane { todo = on_sender e [] lane.todo; phase = on_receiver e Idle lane.phase; part = on_receiver e 0 lane.part }
+
+abbrev pub forgotten : Role → Sight → Sight
+forgotten e s =
+    let less = with_closed e 0 (with_joined e 0 (with_ready e 0 (with_up e false s))) in
+    record (with_clean e true (with_pending e 0 (with_pads e (replicate 16 0) (with_offered e 0 less)))) { lane = forgotten_lane e s.lane }
 
 abbrev pub dropped_end : End → End
 dropped_end own = record own { flight = []; clean = false; enabled = false }
@@ -180,7 +181,7 @@ pub data Turn (plan : Plan) (lane : LaneName) (s : Sight) (made : Answered) : Ne
   Trains : MayTrain s → Turn plan lane s made (record no_news { starts = true }) (record s { state = LinkIsUp; session = s.session + 1; lane = fresh_lane })
   Breaks : is_up s.state ≡ true → Turn plan lane s made (record no_news { ends = true }) (record s { state = Closing })
   Drops : is_closing s.state ≡ true → Turn plan lane s made no_news (record s { state = LinkIsDown; sender = dropped_end s.sender; receiver = dropped_end s.receiver })
-  Forgets : (e : Role) → is_down s.state ≡ true → Turn plan lane s made no_news (record (with_end s e (cleaned_end (end_at s e))) { lane = forgotten_lane e s.lane })
+  Forgets : (e : Role) → is_down s.state ≡ true → Turn plan lane s made no_news (forgotten e s)
   -- the handshake
   Offers : (e : Role) → MayOffer (side_plan (pair_plan plan lane.pair) (side_at lane.from e)) s e → Turn plan lane s made no_news (posted e (slice_index_or (offers (side_plan (pair_plan plan lane.pair) (side_at lane.from e))) (end_at s e).offered (Pad 0 0))
       (with_offered e ((end_at s e).offered + 1) s))
