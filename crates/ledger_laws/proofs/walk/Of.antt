@@ -2,7 +2,7 @@
 use Rattle.std.proofs.Common.{◌≡◌, ℕ, ◌+◌, ◌==◌, ◌≤◌, Bool, true, false, not, ◌&&◌, Option, Some, None, List, [], ◌∷◌, ◌++◌, length, refl, sym, ap, ◌∙◌, subst, inl, inr, ◌⊎◌}
 use Rattle.std.specs.Prelude.{if◌then◌else◌, nat_lt, slice_get, map, remove, bit_and, bit_or, slice_set}
 use Rattle.std.specs.List.{list_all}
-use Rattle.std.proofs.lemmas.Bool.{true≢false, false≢true, both_ways, eq-eqb, ne_eqb, not-false, and_parts, cases_eq, cond-true, cond-false, le-ltb, eqb-true, and_right, cases_Bool}
+use Rattle.std.proofs.lemmas.Bool.{true≢false, false≢true, both_ways, eq-eqb, ne_eqb, not-false, and_parts, cases_eq, cond-true, cond-false, le-ltb, eqb-true, and_right, cases_Bool, cond_both}
 use Rattle.step_kinds.specs.Bits.{has_bit, with_bit, without_bits}
 use Rattle.step_kinds.specs.Sides.{other_side}
 use Rattle.step_kinds.specs.Subject.{subject_of}
@@ -20,7 +20,8 @@ use Rattle.step_kinds.specs.declared.steps.Step.TheVariants.{Enable, Train, Brea
 use Rattle.lane_model.specs.Lane.{Entry, Carries, GoesDown, bytes_of, chunks_in}
 use Rattle.lane_model.specs.Order.{may_land}
 use Rattle.lane_model.specs.declared.Field.{Field}
-use Rattle.lane_model.specs.declared.Write.TheVariants.{Data, Flag as EntryFlag}
+use Rattle.lane_model.specs.declared.Write.{Write}
+use Rattle.lane_model.specs.declared.Write.TheVariants.{Data, Flag as EntryFlag, Bell as QueueBell}
 use Rattle.lane_model.specs.declared.Field.TheVariants.{Chunk as PayloadChunk, Length, Version}
 use Rattle.lane_model.specs.declared.Phase.TheVariants.{Idle, Copying, Copied, Cleared}
 use Rattle.ledger_model.specs.Both.{at_side}
@@ -34,7 +35,7 @@ use Rattle.ledger_model.specs.Log.{Answered, Numbered, gives_room, is_on, same_s
 use Rattle.ledger_model.specs.Next.{Bytes, pair_plan, dev_plan}
 use Rattle.ledger_model.specs.Outcome.{Outcome}
 use Rattle.ledger_model.specs.Receiving.{is_idle, is_copying, is_copied, is_cleared, lands_on, taken_out, lane_to}
-use Rattle.ledger_model.specs.Rings.{RingPart, ring_next}
+use Rattle.ledger_model.specs.Rings.{RingPart, ring_next, with_write, with_index}
 use Rattle.ledger_model.specs.Sending.{begun, begun_lane}
 use Rattle.ledger_model.specs.declared.LinkState.TheVariants.{Down as LinkIsDown, Up as LinkIsUp}
 use Rattle.ledger_model.specs.declared.LinkRefusal.TheVariants.{NotDown, Dirty, NotEnabled, NotUp, NotClosing}
@@ -44,7 +45,7 @@ use Rattle.ledger_laws.proofs.Runs.{made_by, left_by}
 use Rattle.ledger_laws.proofs.walk.Cases.{refuses, Refused, MaySend, MayLookAt, found_refusals, enable_cases, train_cases, break_cases, drop_cases, clean_cases, offer_cases, check_cases, ready_cases, join_cases, begin_cases, qpdown_cases, xbegin_cases, post_cases, land_cases, look_cases, copy_cases, clear_cases, ack_cases, wake_cases, trained, broken, dropped, cleaned, offering, next_offer, readied, ready_pad, joining, closing, taken_frame, posting, landed, looking, peer_down, acking, clearing, copied_more, copied_last}
 use Rattle.ledger_laws.proofs.walk.Sight.{End, Sight, Role, Sender, Receiver, peer_of, end_at, with_end, with_enabled, with_pending, with_pads, posted, side_at, by_role, sight, IsOff, OffCase, OtherQueue, OtherWay, by_lane, OffReceived, QueueOff, WayOff, received-off, by_received_lane, other_other, same_side-refl, other_side-not, other_side-across, is_off, sight-side, sight-posts, sight-lane, sight-off, sight-tally, sight-tally_off}
 use Rattle.ledger_laws.proofs.walk.Tells.{News, saw_next, pad_next, no_news, Tells, is_read, tells_nothing, tells_no}
-use Rattle.ledger_laws.proofs.walk.Turn.{MayEnable, MayTrain, MayOffer, MayCheck, MayReady, MayJoin, MayBegin, MayPost, MayLand, MayLook, IsForeign, IsAside, is_handshake, on_queue, taken, forgotten, dropped_end, more_accepted, more_delivered, looked_news, gives_landed, pads_landed, ring_landed, landed_news, ring_checked, ring_cleared, sees_taken, Turn, Turned, turned, Rests, FindsNone, Enables, Trains, Breaks, Drops, Forgets, Offers, Checks, Readies, Joins, Begins, Closes, Posts, Shuts, Says, LandsFlag, LandsField, LandsIndex, LandsBell, LandsPad, LandsAside, Looks, CopiesPart, CopiesLast, Clears, Acks, TakesBells, Masks}
+use Rattle.ledger_laws.proofs.walk.Turn.{MayEnable, MayTrain, MayOffer, MayCheck, MayReady, MayJoin, MayBegin, MayPost, MayLand, MayLook, IsForeign, IsAside, is_handshake, on_queue, taken, forgotten, dropped_end, more_accepted, more_delivered, looked_news, pads_landed, ring_landed, ring_freed, ring_checked, ring_cleared, sees_taken, Turn, Turned, turned, Rests, FindsNone, Enables, Trains, Breaks, Drops, Forgets, Offers, Checks, Readies, Joins, Begins, Closes, Posts, Shuts, Says, LandsFlag, LandsField, LandsIndex, LandsBell, LandsPad, LandsAside, Looks, CopiesPart, CopiesLast, Clears, Acks, TakesBells, Masks}
 
 -- What is told
 
@@ -92,6 +93,32 @@ write_of-other queue q label ne on = refl
 index_of-lane : (queue q : ℕ) (label : Label) → on_queue queue label ≡ true → index_of q label ≡ None
 index_of-lane queue q (Index p n) on = absurd (false≢true on)
 index_of-lane queue q label on = refl
+
+-- what readers make of a label that lands: room, scratchpads, the ring
+abbrev gives_landed : ℕ → Label → Role → Bool
+gives_landed q (Index p n) Receiver = p == q
+gives_landed q label e = false
+
+abbrev pads_heard : Role → Label → Role → ℕ → Option ℕ → Option ℕ
+pads_heard e (Pad i value) f j now = pads_landed e i value f j now
+pads_heard e label f j now = now
+
+abbrev ring_heard : ℕ → Role → Label → LanePart → Sizes → RingPart → RingPart
+ring_heard q Sender label lane sizes ring = record { ring = with_write sizes.entries lane ring.ring (write_of q label); index_word = ring.index_word }
+ring_heard q Receiver label lane sizes ring = record { ring = ring.ring; index_word = with_index sizes.entries ring.index_word (index_of q label) }
+
+-- a doorbell is no write to the ring, whichever queue it is for
+bell_in_ring : (q k : ℕ) (e : Role) (lane : LanePart) (sizes : Sizes) (ring : RingPart) → ring_heard q e (Bell k) lane sizes ring ≡ ring
+bell_in_ring q k Sender lane sizes ring = cond_both (k == q) (Some QueueBell) None (λ w. record { ring = with_write sizes.entries lane ring.ring w; index_word = ring.index_word } ≡ ring) (λ _. refl) (λ _. refl)
+bell_in_ring q k Receiver lane sizes ring = refl
+
+pad_in_ring : (q i value : ℕ) (e : Role) (lane : LanePart) (sizes : Sizes) (ring : RingPart) → ring_heard q e (Pad i value) lane sizes ring ≡ ring
+pad_in_ring q i value Sender lane sizes ring = refl
+pad_in_ring q i value Receiver lane sizes ring = refl
+
+foreign_in_ring : (q : ℕ) (e : Role) (label : Label) (lane : LanePart) (sizes : Sizes) (ring : RingPart) → IsForeign q e label → ring_heard q e label lane sizes ring ≡ ring
+foreign_in_ring q Sender label lane sizes ring none = ap (λ w. record { ring = with_write sizes.entries lane ring.ring w; index_word = ring.index_word }) none
+foreign_in_ring q Receiver label lane sizes ring none = ap (λ n. record { ring = ring.ring; index_word = with_index sizes.entries ring.index_word n }) none
 
 module _ (plan : Plan) (lane : LaneName) (bytes : Bytes) (pair : PairPart)
     (todos : (side : Side) (queue : ℕ) → list_all (on_queue queue) (lane_of pair side queue).todo ≡ true) where
@@ -634,31 +661,38 @@ module _ (plan : Plan) (lane : LaneName) (bytes : Bytes) (pair : PairPart)
   abbrev MayLandAt : Role → ℕ → Label → Type 0
   MayLandAt e place label = MayLand Own.strict Now e place label
 
-  land_told : (p place : ℕ) → p ≡ lane.pair → (e : Role) (label : Label)
-      → Tells plan lane Now.lane (record { step = Land p (side_at lane.from e) place; answer = Landed label }) (landed_news lane.queue e label Now.lane)
-  land_told p place same e label = record {
-    takes = refl; gives = gives e label; starts = refl; ends = refl; accepted = refl; delivered = refl; sees = λ saw. refl; pads = λ f i now. pads e label f i now; ring = λ sizes ring. ring_is e sizes ring;
+  land_told : (p place : ℕ) → p ≡ lane.pair → (e : Role) (label : Label) (gives : Bool) (pads : Role → ℕ → Option ℕ → Option ℕ) (ring : Sizes → RingPart → RingPart)
+      → gives_landed lane.queue label e ≡ gives → ((f : Role) (i : ℕ) (now : Option ℕ) → pads_heard e label f i now ≡ pads f i now)
+      → ((sizes : Sizes) (before : RingPart) → ring_heard lane.queue e label Now.lane sizes before ≡ ring sizes before)
+      → Tells plan lane Now.lane (record { step = Land p (side_at lane.from e) place; answer = Landed label }) (record no_news { gives = gives; pads = pads; ring = ring })
+  land_told p place same e label gives pads ring gives_so pads_so ring_so = record {
+    takes = refl; gives = gives_is e label ∙ gives_so; starts = refl; ends = refl; accepted = refl; delivered = refl; sees = λ saw. refl;
+    pads = λ f i now. pads_is e label f i now ∙ pads_so f i now; ring = λ sizes before. ring_is e sizes before ∙ ring_so sizes before;
   }
     where
-      gives : (e : Role) (label : Label) → gives_room lane (record { step = Land p (side_at lane.from e) place; answer = Landed label }) ≡ gives_landed lane.queue e label
-      gives Sender (Index q n) = rw (eq-eqb p lane.pair same, other_side-not lane.from) refl
-      gives Receiver (Index q n) = rw (eq-eqb p lane.pair same, other_other lane.from, same_side-refl lane.from) refl
-      gives Sender label = refl
-      gives Receiver label = refl
+      gives_is : (e : Role) (label : Label) → gives_room lane (record { step = Land p (side_at lane.from e) place; answer = Landed label }) ≡ gives_landed lane.queue label e
+      gives_is Sender (Index q n) = rw (eq-eqb p lane.pair same, other_side-not lane.from) refl
+      gives_is Receiver (Index q n) = rw (eq-eqb p lane.pair same, other_other lane.from, same_side-refl lane.from) refl
+      gives_is Sender label = refl
+      gives_is Receiver label = refl
 
-      pads : (e : Role) (label : Label) (f : Role) (i : ℕ) (now : Option ℕ)
-          → pad_next lane (record { step = Land p (side_at lane.from e) place; answer = Landed label }) f i now ≡ pads_landed e label f i now
-      pads Sender (Pad j value) Sender i now = rw (eq-eqb p lane.pair same, other_side-not lane.from) refl
-      pads Sender (Pad j value) Receiver i now = rw (eq-eqb p lane.pair same, same_side-refl (other_side lane.from)) refl
-      pads Receiver (Pad j value) Sender i now = rw (eq-eqb p lane.pair same, other_other lane.from, same_side-refl lane.from) refl
-      pads Receiver (Pad j value) Receiver i now = rw (eq-eqb p lane.pair same, other_other lane.from, other_side-across lane.from) refl
-      pads Sender label f i now = refl
-      pads Receiver label f i now = refl
+      pads_is : (e : Role) (label : Label) (f : Role) (i : ℕ) (now : Option ℕ)
+          → pad_next lane (record { step = Land p (side_at lane.from e) place; answer = Landed label }) f i now ≡ pads_heard e label f i now
+      pads_is Sender (Pad j value) Sender i now = rw (eq-eqb p lane.pair same, other_side-not lane.from) refl
+      pads_is Sender (Pad j value) Receiver i now = rw (eq-eqb p lane.pair same, same_side-refl (other_side lane.from)) refl
+      pads_is Receiver (Pad j value) Sender i now = rw (eq-eqb p lane.pair same, other_other lane.from, same_side-refl lane.from) refl
+      pads_is Receiver (Pad j value) Receiver i now = rw (eq-eqb p lane.pair same, other_other lane.from, other_side-across lane.from) refl
+      pads_is Sender label f i now = refl
+      pads_is Receiver label f i now = refl
 
       ring_is : (e : Role) (sizes : Sizes) (ring : RingPart)
-          → ring_next sizes lane Now.lane ring (record { step = Land p (side_at lane.from e) place; answer = Landed label }) ≡ ring_landed lane.queue e label Now.lane sizes ring
+          → ring_next sizes lane Now.lane ring (record { step = Land p (side_at lane.from e) place; answer = Landed label }) ≡ ring_heard lane.queue e label Now.lane sizes ring
       ring_is Sender sizes ring = rw (eq-eqb p lane.pair same, same_side-refl lane.from) refl
       ring_is Receiver sizes ring = rw (eq-eqb p lane.pair same, other_side-not lane.from) refl
+
+  -- what tells nothing but of the ring
+  abbrev IsQuiet : Role → Label → Type 0
+  IsQuiet e label = (gives_landed lane.queue label e ≡ false) × ((f : Role) (i : ℕ) (now : Option ℕ) → pads_heard e label f i now ≡ now)
 
   module _ (p place : ℕ) (same : p ≡ lane.pair) where
     abbrev Lands : Role → Label → Type 0
@@ -673,14 +707,24 @@ module _ (plan : Plan) (lane : LaneName) (bytes : Bytes) (pair : PairPart)
         → Turned plan lane Now (record { step = Land p (side_at lane.from e) place; answer = Landed label }) after → Lands e label
     lands e label after is turn = seen (Land p (side_at lane.from e) place) (Landed label) (landed pair (side_at lane.from e) place label) after is turn
 
-    lands_aside : (e : Role) (label : Label) → MayLandAt e place label → IsForeign lane.queue e label → is_handshake label ≡ false
+    lands_aside : (e : Role) (label : Label) → MayLandAt e place label → IsQuiet e label → IsForeign lane.queue e label → is_handshake label ≡ false
         → sight lane.from lane.queue (landed pair (side_at lane.from e) place label) ≡ sight lane.from lane.queue (taken_out pair (side_at lane.from e) place) → Lands e label
-    lands_aside e label may foreign no_pad is = lands e label (taken e place Now) (is ∙ taken_out-sight e) (turned (LandsAside e place label may foreign no_pad) (land_told p place same e label))
+    lands_aside e label may quiet foreign no_pad is =
+        lands e label (taken e place Now) (is ∙ taken_out-sight e)
+        (turned (LandsAside e place label may foreign no_pad)
+        (land_told p place same e label false (λ f i now. now) (λ sizes ring. ring) quiet.0 quiet.1 (λ sizes ring. foreign_in_ring lane.queue e label Now.lane sizes ring foreign)))
 
-    lands_field : (label : Label) (n : ℕ) (field : Field) → MayLandAt Sender place label → write_of lane.queue label ≡ Some (Data n field)
+    -- a write of the lane
+    written : (label : Label) (write : Write) → IsQuiet Sender label → write_of lane.queue label ≡ Some write
+        → Tells plan lane Now.lane (record { step = Land p lane.from place; answer = Landed label }) (record no_news { ring = ring_landed Now.lane write })
+    written label write quiet is =
+        land_told p place same Sender label false (λ f i now. now) (ring_landed Now.lane write) quiet.0 quiet.1
+        (λ sizes ring. ap (λ w. record { ring = with_write sizes.entries Now.lane ring.ring w; index_word = ring.index_word }) is)
+
+    lands_field : (label : Label) (n : ℕ) (field : Field) → MayLandAt Sender place label → IsQuiet Sender label → write_of lane.queue label ≡ Some (Data n field)
         → sight lane.from lane.queue (landed pair lane.from place label) ≡ sight lane.from lane.queue (taken_out pair lane.from place) → Lands Sender label
-    lands_field label n field may is same_sight =
-        lands Sender label (taken Sender place Now) (same_sight ∙ taken_out-sight Sender) (turned (LandsField place label n field may is) (land_told p place same Sender label))
+    lands_field label n field may quiet is same_sight =
+        lands Sender label (taken Sender place Now) (same_sight ∙ taken_out-sight Sender) (turned (LandsField place label n field may is) (written label (Data n field) quiet is))
 
     abbrev flagged : ℕ → PairPart
     flagged k =
@@ -688,25 +732,26 @@ module _ (plan : Plan) (lane : LaneName) (bytes : Bytes) (pair : PairPart)
         with_lane before lane.from k (record (lane_of before lane.from k) { flagged = (lane_of before lane.from k).flagged + 1 })
 
     -- flags of this lane, or of another one of the same sender
-    lands_flag : (label : Label) (k n : ℕ) → MayLandAt Sender place label → write_of lane.queue label ≡ (if k == lane.queue then Some (EntryFlag n) else None)
+    lands_flag : (label : Label) (k n : ℕ) → MayLandAt Sender place label → IsQuiet Sender label → write_of lane.queue label ≡ (if k == lane.queue then Some (EntryFlag n) else None)
         → is_handshake label ≡ false → landed pair lane.from place label ≡ flagged k → Lands Sender label
-    lands_flag label k n may is no_pad after = elim (cases_eq lane.queue k) [
+    lands_flag label k n may quiet is no_pad after = elim (cases_eq lane.queue k) [
       | inl e ↦
           lands Sender label (record (taken Sender place Now) { lane = record Now.lane { flagged = Now.lane.flagged + 1 } })
           (ap (sight lane.from lane.queue) (after ∙ ap flagged (sym e)) ∙ sight-lane lane.from lane.queue (taken_out pair lane.from place) _
           ∙ ap (λ (s : Sight). record s { lane = record Now.lane { flagged = Now.lane.flagged + 1 } }) (taken_out-sight Sender))
-          (turned (LandsFlag place label n may (is ∙ cond-true (k == lane.queue) _ _ (eq-eqb k lane.queue (sym e)))) (land_told p place same Sender label))
+          (let own = is ∙ cond-true (k == lane.queue) (Some (EntryFlag n)) None (eq-eqb k lane.queue (sym e)) in
+          turned (LandsFlag place label n may own) (written label (EntryFlag n) quiet own))
       | inr ne ↦
-          lands_aside Sender label may (is ∙ cond-false (k == lane.queue) _ _ (ne_eqb k lane.queue (λ e. ne (sym e)))) no_pad
+          lands_aside Sender label may quiet (is ∙ cond-false (k == lane.queue) _ _ (ne_eqb k lane.queue (λ e. ne (sym e)))) no_pad
           (ap (sight lane.from lane.queue) after ∙ sight-off lane.from lane.queue (taken_out pair lane.from place) lane.from k _ (is_off lane.from lane.queue lane.from k (OtherQueue ne)))
     ]
 
     -- a field of this lane, or of another one of the same sender
-    lands_some_field : (label : Label) (k n : ℕ) (field : Field) → MayLandAt Sender place label → write_of lane.queue label ≡ (if k == lane.queue then Some (Data n field) else None)
+    lands_some_field : (label : Label) (k n : ℕ) (field : Field) → MayLandAt Sender place label → IsQuiet Sender label → write_of lane.queue label ≡ (if k == lane.queue then Some (Data n field) else None)
         → is_handshake label ≡ false → sight lane.from lane.queue (landed pair lane.from place label) ≡ sight lane.from lane.queue (taken_out pair lane.from place) → Lands Sender label
-    lands_some_field label k n field may is no_pad after = elim (cases_Bool (k == lane.queue)) [
-      | inl own ↦ lands_field label n field may (is ∙ cond-true (k == lane.queue) _ _ own) after
-      | inr off ↦ lands_aside Sender label may (is ∙ cond-false (k == lane.queue) _ _ off) no_pad after
+    lands_some_field label k n field may quiet is no_pad after = elim (cases_Bool (k == lane.queue)) [
+      | inl own ↦ lands_field label n field may quiet (is ∙ cond-true (k == lane.queue) _ _ own) after
+      | inr off ↦ lands_aside Sender label may quiet (is ∙ cond-false (k == lane.queue) _ _ off) no_pad after
     ]
 
     -- a doorbell and a scratchpad
@@ -736,9 +781,10 @@ module _ (plan : Plan) (lane : LaneName) (bytes : Bytes) (pair : PairPart)
           (ap (λ s. sight lane.from lane.queue (freed s lane.queue n)) (other_other lane.from)
           ∙ sight-lane lane.from lane.queue (taken_out pair (other_side lane.from) place) _
           ∙ ap (λ (s : Sight). record s { lane = record Now.lane { freed = n + 1 } }) (taken_out-sight Receiver))
-          (turned (LandsIndex place n (subst (λ q. MayLandAt Receiver place (Index q n)) (sym e) may)) (land_told p place same Receiver (Index lane.queue n))))
+          (turned (LandsIndex place n (subst (λ q. MayLandAt Receiver place (Index q n)) (sym e) may)) (land_told p place same Receiver (Index lane.queue n) true (λ f i now. now) (ring_freed n) (eq-eqb lane.queue lane.queue refl) (λ f i now. refl)
+          (λ sizes ring. ap (λ found. record { ring = ring.ring; index_word = with_index sizes.entries ring.index_word found }) (cond-true (lane.queue == lane.queue) (Some n) None (eq-eqb lane.queue lane.queue refl))))))
       | inr ne ↦
-          lands_aside Receiver (Index k n) may (cond-false (k == lane.queue) _ _ (ne_eqb k lane.queue (λ e. ne (sym e)))) refl
+          lands_aside Receiver (Index k n) may (ne_eqb k lane.queue (λ e. ne (sym e)), λ f i now. refl) (cond-false (k == lane.queue) _ _ (ne_eqb k lane.queue (λ e. ne (sym e)))) refl
           (ap (λ s. sight lane.from lane.queue (freed s k n)) (other_other lane.from)
           ∙ sight-off lane.from lane.queue (taken_out pair (other_side lane.from) place) lane.from k _ (is_off lane.from lane.queue lane.from k (OtherQueue ne)))
     ]
@@ -748,22 +794,26 @@ module _ (plan : Plan) (lane : LaneName) (bytes : Bytes) (pair : PairPart)
     across before k part = sight-off lane.from lane.queue before (other_side lane.from) k part (is_off lane.from lane.queue (other_side lane.from) k OtherWay)
 
     land_role : (e : Role) (label : Label) → MayLandAt e place label → Lands e label
-    land_role Sender (Chunk k n part) may = lands_some_field (Chunk k n part) k n (PayloadChunk part) may refl refl refl
-    land_role Sender (Len k n) may = lands_some_field (Len k n) k n Length may refl refl refl
-    land_role Sender (Ver k n) may = lands_some_field (Ver k n) k n Version may refl refl refl
-    land_role Sender (Flag k n) may = lands_flag (Flag k n) k n may refl refl refl
-    land_role Sender (Down k n) may = lands_flag (Down k n) k n may refl refl refl
-    land_role e (Bell k) may = lands e (Bell k) _ (bell-sight lane.from e k) (turned (LandsBell e place k may) (land_told p place same e (Bell k)))
-    land_role e (Pad i value) may = lands e (Pad i value) _ (pad-sight lane.from e i value) (turned (LandsPad e place i value may) (land_told p place same e (Pad i value)))
-    land_role Sender (Index k n) may = lands_aside Sender (Index k n) may refl refl (across (taken_out pair lane.from place) k _)
-    land_role Sender (Raw window offset len) may = lands_aside Sender (Raw window offset len) may refl refl refl
+    land_role Sender (Chunk k n part) may = lands_some_field (Chunk k n part) k n (PayloadChunk part) may (refl, λ f i now. refl) refl refl refl
+    land_role Sender (Len k n) may = lands_some_field (Len k n) k n Length may (refl, λ f i now. refl) refl refl refl
+    land_role Sender (Ver k n) may = lands_some_field (Ver k n) k n Version may (refl, λ f i now. refl) refl refl refl
+    land_role Sender (Flag k n) may = lands_flag (Flag k n) k n may (refl, λ f i now. refl) refl refl refl
+    land_role Sender (Down k n) may = lands_flag (Down k n) k n may (refl, λ f i now. refl) refl refl refl
+    land_role e (Bell k) may =
+        lands e (Bell k) _ (bell-sight lane.from e k)
+        (turned (LandsBell e place k may) (land_told p place same e (Bell k) false (λ f i now. now) (λ sizes ring. ring) refl (λ f i now. refl) (bell_in_ring lane.queue k e Now.lane)))
+    land_role e (Pad i value) may =
+        lands e (Pad i value) _ (pad-sight lane.from e i value)
+        (turned (LandsPad e place i value may) (land_told p place same e (Pad i value) false (pads_landed e i value) (λ sizes ring. ring) refl (λ f j now. refl) (pad_in_ring lane.queue i value e Now.lane)))
+    land_role Sender (Index k n) may = lands_aside Sender (Index k n) may (refl, λ f i now. refl) refl refl (across (taken_out pair lane.from place) k _)
+    land_role Sender (Raw window offset len) may = lands_aside Sender (Raw window offset len) may (refl, λ f i now. refl) refl refl refl
     land_role Receiver (Index k n) may = lands_index k n may
-    land_role Receiver (Flag k n) may = lands_aside Receiver (Flag k n) may refl refl (across (taken_out pair (other_side lane.from) place) k _)
-    land_role Receiver (Down k n) may = lands_aside Receiver (Down k n) may refl refl (across (taken_out pair (other_side lane.from) place) k _)
-    land_role Receiver (Chunk k n part) may = lands_aside Receiver (Chunk k n part) may refl refl refl
-    land_role Receiver (Len k n) may = lands_aside Receiver (Len k n) may refl refl refl
-    land_role Receiver (Ver k n) may = lands_aside Receiver (Ver k n) may refl refl refl
-    land_role Receiver (Raw window offset len) may = lands_aside Receiver (Raw window offset len) may refl refl refl
+    land_role Receiver (Flag k n) may = lands_aside Receiver (Flag k n) may (refl, λ f i now. refl) refl refl (across (taken_out pair (other_side lane.from) place) k _)
+    land_role Receiver (Down k n) may = lands_aside Receiver (Down k n) may (refl, λ f i now. refl) refl refl (across (taken_out pair (other_side lane.from) place) k _)
+    land_role Receiver (Chunk k n part) may = lands_aside Receiver (Chunk k n part) may (refl, λ f i now. refl) refl refl refl
+    land_role Receiver (Len k n) may = lands_aside Receiver (Len k n) may (refl, λ f i now. refl) refl refl refl
+    land_role Receiver (Ver k n) may = lands_aside Receiver (Ver k n) may (refl, λ f i now. refl) refl refl refl
+    land_role Receiver (Raw window offset len) may = lands_aside Receiver (Raw window offset len) may (refl, λ f i now. refl) refl refl refl
 
     land : (side : Side) (label : Label) → slice_get (side_of pair side).flight place ≡ Some label → may_land (map (order_of Own.strict) (side_of pair side).flight) place ≡ true
         → To (Land p side place) (record { answer = Landed label; after = landed pair side place label })

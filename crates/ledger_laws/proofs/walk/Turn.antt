@@ -12,6 +12,7 @@ use Rattle.lane_model.specs.Lane.{Carries, GoesDown, Slot, blank_slot, bytes_of,
 use Rattle.lane_model.specs.Order.{may_land}
 use Rattle.lane_model.specs.declared.Field.{Field}
 use Rattle.lane_model.specs.declared.Phase.TheVariants.{Idle, Copying, Copied, Cleared}
+use Rattle.lane_model.specs.declared.Write.{Write}
 use Rattle.lane_model.specs.declared.Write.TheVariants.{Data, Flag as EntryFlag}
 use Rattle.ledger_model.specs.Handshake.{offers, check_refusal}
 use Rattle.ledger_model.specs.Labels.{order_of, write_of, index_of}
@@ -136,23 +137,18 @@ more_delivered tally = record tally { delivered = tally.delivered + 1 }
 abbrev pub looked_news : Bool → News
 looked_news looked = record no_news { sees = λ saw. if looked then false else saw }
 
--- an index write of the lane lands
-abbrev pub gives_landed : ℕ → Role → Label → Bool
-gives_landed q Receiver (Index p n) = p == q
-gives_landed q e label = false
-
 -- a scratchpad of the peer is written
-abbrev pub pads_landed : Role → Label → Role → ℕ → Option ℕ → Option ℕ
-pads_landed Sender (Pad i value) Receiver j now = if i == j then Some value else now
-pads_landed Receiver (Pad i value) Sender j now = if i == j then Some value else now
-pads_landed e label f j now = now
+abbrev pub pads_landed : Role → ℕ → ℕ → Role → ℕ → Option ℕ → Option ℕ
+pads_landed Sender i value Receiver j now = if i == j then Some value else now
+pads_landed Receiver i value Sender j now = if i == j then Some value else now
+pads_landed e i value f j now = now
 
-abbrev pub ring_landed : ℕ → Role → Label → LanePart → Sizes → RingPart → RingPart
-ring_landed q Sender label lane sizes ring = record { ring = with_write sizes.entries lane ring.ring (write_of q label); index_word = ring.index_word }
-ring_landed q Receiver label lane sizes ring = record { ring = ring.ring; index_word = with_index sizes.entries ring.index_word (index_of q label) }
+-- a write of the lane lands in the ring, and an index write in the index word
+abbrev pub ring_landed : LanePart → Write → Sizes → RingPart → RingPart
+ring_landed lane write sizes ring = record { ring = with_write sizes.entries lane ring.ring (Some write); index_word = ring.index_word }
 
-abbrev pub landed_news : ℕ → Role → Label → LanePart → News
-landed_news q e label lane = record no_news { gives = gives_landed q e label; pads = pads_landed e label; ring = ring_landed q e label lane }
+abbrev pub ring_freed : ℕ → Sizes → RingPart → RingPart
+ring_freed n sizes ring = record { ring = ring.ring; index_word = n % sizes.entries }
 
 abbrev pub ring_checked : Role → Sizes → RingPart → RingPart
 ring_checked Sender sizes ring = record { ring = ring.ring; index_word = sizes.entries - 1 }
@@ -200,17 +196,17 @@ pub data Turn (plan : Plan) (lane : LaneName) (s : Sight) (made : Answered) : Ne
   Says : (e : Role) (label : Label) → IsAside lane made e label → Turn plan lane s made no_news (posted e label s)
   -- landing
   LandsFlag : (place : ℕ) (label : Label) (n : ℕ) → MayLand (pair_plan plan lane.pair).strict s Sender place label → write_of lane.queue label ≡ Some (EntryFlag n)
-      → Turn plan lane s made (landed_news lane.queue Sender label s.lane) (record (taken Sender place s) { lane = record s.lane { flagged = s.lane.flagged + 1 } })
+      → Turn plan lane s made (record no_news { ring = ring_landed s.lane (EntryFlag n) }) (record (taken Sender place s) { lane = record s.lane { flagged = s.lane.flagged + 1 } })
   LandsField : (place : ℕ) (label : Label) (n : ℕ) (field : Field) → MayLand (pair_plan plan lane.pair).strict s Sender place label
-      → write_of lane.queue label ≡ Some (Data n field) → Turn plan lane s made (landed_news lane.queue Sender label s.lane) (taken Sender place s)
+      → write_of lane.queue label ≡ Some (Data n field) → Turn plan lane s made (record no_news { ring = ring_landed s.lane (Data n field) }) (taken Sender place s)
   LandsIndex : (place : ℕ) (n : ℕ) → MayLand (pair_plan plan lane.pair).strict s Receiver place (Index lane.queue n)
-      → Turn plan lane s made (landed_news lane.queue Receiver (Index lane.queue n) s.lane) (record (taken Receiver place s) { lane = record s.lane { freed = n + 1 } })
+      → Turn plan lane s made (record no_news { gives = true; ring = ring_freed n }) (record (taken Receiver place s) { lane = record s.lane { freed = n + 1 } })
   LandsBell : (e : Role) (place queue : ℕ) → MayLand (pair_plan plan lane.pair).strict s e place (Bell queue)
-      → Turn plan lane s made (landed_news lane.queue e (Bell queue) s.lane) (with_pending (peer_of e) (with_bit (end_at s (peer_of e)).pending queue) (taken e place s))
+      → Turn plan lane s made no_news (with_pending (peer_of e) (with_bit (end_at s (peer_of e)).pending queue) (taken e place s))
   LandsPad : (e : Role) (place i value : ℕ) → MayLand (pair_plan plan lane.pair).strict s e place (Pad i value)
-      → Turn plan lane s made (landed_news lane.queue e (Pad i value) s.lane) (with_pads (peer_of e) (slice_set (end_at s (peer_of e)).pads i value) (taken e place s))
+      → Turn plan lane s made (record no_news { pads = pads_landed e i value }) (with_pads (peer_of e) (slice_set (end_at s (peer_of e)).pads i value) (taken e place s))
   LandsAside : (e : Role) (place : ℕ) (label : Label) → MayLand (pair_plan plan lane.pair).strict s e place label → IsForeign lane.queue e label → is_handshake label ≡ false
-      → Turn plan lane s made (landed_news lane.queue e label s.lane) (taken e place s)
+      → Turn plan lane s made no_news (taken e place s)
   -- receiving
   Looks : (bytes : List ℕ) → MayLook lane.queue s → (s.lane.flagged == s.lane.got) ≡ false → entry_in s.lane s.lane.got ≡ Carries bytes
       → Turn plan lane s made (looked_news true) (record s { lane = record s.lane { phase = Copying; part = 0 } })
