@@ -1,7 +1,11 @@
+pub mod AgainWhereNoRoom
 pub mod Agreement
 pub mod Basics
+pub mod BitSets
 pub mod Flights
 pub mod Frames
+pub mod FramesInOrder
+pub mod InFlight
 pub mod InOrder
 pub mod LaneMoves
 pub mod LaneNext
@@ -27,9 +31,7 @@ pub mod RingPairLanes
 pub mod RingPairLinks
 pub mod RingPairs
 pub mod RingRuns
-pub mod Room
-pub mod RoomMoves
-pub mod RoomNext
+pub mod RoomInLog
 pub mod Runs
 pub mod Separate
 pub mod Sessions
@@ -39,5 +41,3 @@ pub mod TalkNext
 pub mod Ticks
 pub mod UpMeans
 pub mod walk
-pub mod BitSets
-pub mod FramesInOrder

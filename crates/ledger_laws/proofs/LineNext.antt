@@ -8,7 +8,8 @@ use Rattle.ledger_laws.proofs.Steps.{refuses, enable_cases, train_cases, break_c
 use Rattle.ledger_laws.proofs.Runs.{made_by, left_by}
 use Rattle.ledger_laws.proofs.Pairs.{WellMade, on_queue}
 use Rattle.ledger_laws.proofs.Outcomes.{refused_passed}
-use Rattle.ledger_laws.proofs.Offers.{is_pad, offer-is_pad}
+use Rattle.ledger_laws.proofs.Offers.{offer-is_pad}
+use Rattle.ledger_laws.proofs.walk.Turn.{is_pad}
 use Rattle.ledger_laws.proofs.LinkMoves.{posts-link}
 use Rattle.ledger_laws.proofs.Flights.{flight-same}
 use Rattle.ledger_model.specs.declared.LinkRefusal.TheVariants.{NotDown}

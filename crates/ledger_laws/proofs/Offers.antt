@@ -1,18 +1,16 @@
 -- What a side offers: scratchpads alone.
-use Rattle.std.proofs.Common.{◌≡◌, ℕ, zero, suc, Bool, true, false, List, [], ◌∷◌, ◌++◌, map, refl}
+use Rattle.std.proofs.Common.{◌≡◌, ℕ, zero, suc, Bool, true, false, None, List, [], ◌∷◌, ◌++◌, map, refl}
 use Rattle.std.specs.Prelude.{◌/◌, ◌%◌, slice_index_or}
 use Rattle.std.specs.List.{list_all, flat_map}
-use Rattle.std.proofs.lemmas.Bool.{and_parts, and_from}
+use Rattle.std.proofs.lemmas.Bool.{and_parts, and_from, false≢true}
 use Rattle.step_kinds.specs.declared.plan.SidePlan.{SidePlan}
 use Rattle.step_kinds.specs.declared.steps.Label.{Label}
 use Rattle.step_kinds.specs.declared.steps.Label.TheVariants.{Pad}
 use Rattle.lane_model.specs.Lane.{count_from}
 use Rattle.ledger_model.specs.Handshake.{offers, word}
+use Rattle.ledger_model.specs.Labels.{write_of, index_of}
+use Rattle.ledger_laws.proofs.walk.Turn.{is_pad}
 use Rattle.ledger_model.specs.Ledger.{high_pad, low_pad, windows_pad, queues_pad, version_pad}
-
-abbrev pub is_pad : Label → Bool
-is_pad (Pad i value) = true
-is_pad label = false
 
 all_at : {X : Type 0} (test : X → Bool) (xs : List X) (n : ℕ) (x : X) → list_all test xs ≡ true → test x ≡ true → test (slice_index_or xs n x) ≡ true
 all_at test [] n x all here = here
@@ -41,3 +39,12 @@ offers-pads own =
 
 pub offer-is_pad : (own : SidePlan) (n : ℕ) → is_pad (slice_index_or (offers own) n (Pad 0 0)) ≡ true
 offer-is_pad own n = all_at is_pad (offers own) n (Pad 0 0) (offers-pads own) refl
+
+-- a scratchpad is no write of a lane
+pub pad-index : (q : ℕ) (label : Label) → is_pad label ≡ true → index_of q label ≡ None
+pad-index q (Pad i value) is = refl
+pad-index q label is = absurd (false≢true is)
+
+pub pad-write : (q : ℕ) (label : Label) → is_pad label ≡ true → write_of q label ≡ None
+pad-write q (Pad i value) is = refl
+pad-write q label is = absurd (false≢true is)

@@ -11,7 +11,7 @@ use Rattle.ledger_laws.proofs.Steps.{refuses, enable_cases, train_cases, break_c
 use Rattle.ledger_laws.proofs.Runs.{made_by, left_by}
 use Rattle.ledger_laws.proofs.Pairs.{WellMade, on_queue}
 use Rattle.ledger_laws.proofs.Outcomes.{refused_passed, passed}
-use Rattle.ledger_laws.proofs.Offers.{is_pad}
+use Rattle.ledger_laws.proofs.walk.Turn.{is_pad}
 use Rattle.ledger_laws.proofs.Flights.{strict_first, filter_map-last, filter_map-remove}
 use Rattle.ledger_model.specs.declared.LinkRefusal.TheVariants.{NotDown, Dirty, NotEnabled}
 use Rattle.ledger_model.specs.Sending.{begun_lane}

@@ -40,9 +40,15 @@ pub record MayTrain (s : Sight) : Type 0 where
   pub sender : s.sender.enabled ≡ true
   pub receiver : s.receiver.enabled ≡ true
 
+abbrev pub is_pad : Label → Bool
+is_pad (Pad i value) = true
+is_pad label = false
+
 -- the handshake, `own` being the side's numbers
-pub record MayOffer (own : SidePlan) (s : Sight) (e : Role) : Type 0 where
+pub record MayOffer (own : SidePlan) (s : Sight) (e : Role) (label : Label) : Type 0 where
   pub up : is_up s.state ≡ true
+  pub is_next : label ≡ slice_index_or (offers own) (end_at s e).offered (Pad 0 0)
+  pub a_pad : is_pad label ≡ true
   pub more : ((end_at s e).offered == length (offers own)) ≡ false
 
 pub record MayCheck (own : SidePlan) (s : Sight) (e : Role) : Type 0 where
@@ -179,8 +185,8 @@ pub data Turn (plan : Plan) (lane : LaneName) (s : Sight) (made : Answered) : Ne
   Drops : is_closing s.state ≡ true → Turn plan lane s made no_news (record s { state = LinkIsDown; sender = dropped_end s.sender; receiver = dropped_end s.receiver })
   Forgets : (e : Role) → is_down s.state ≡ true → Turn plan lane s made no_news (forgotten e s)
   -- the handshake
-  Offers : (e : Role) → MayOffer (side_plan (pair_plan plan lane.pair) (side_at lane.from e)) s e → Turn plan lane s made no_news (posted e (slice_index_or (offers (side_plan (pair_plan plan lane.pair) (side_at lane.from e))) (end_at s e).offered (Pad 0 0))
-      (with_offered e ((end_at s e).offered + 1) s))
+  Offers : (e : Role) (label : Label) → MayOffer (side_plan (pair_plan plan lane.pair) (side_at lane.from e)) s e label
+      → Turn plan lane s made no_news (posted e label (with_offered e ((end_at s e).offered + 1) s))
   Checks : (e : Role) → MayCheck (side_plan (pair_plan plan lane.pair) (side_at lane.from e)) s e → Turn plan lane s made (record no_news { ring = ring_checked e }) (with_up e true s)
   Readies : (e : Role) (queue : ℕ) → MayReady s e → Turn plan lane s made no_news (posted e (Pad links_pad (with_bit (end_at s e).ready queue)) (with_ready e (with_bit (end_at s e).ready queue) s))
   Joins : (e : Role) (queue : ℕ) → MayJoin s e queue → Turn plan lane s made no_news (with_joined e (with_bit (end_at s e).joined queue) s)

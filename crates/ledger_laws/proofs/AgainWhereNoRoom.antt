@@ -1,5 +1,4 @@
 -- `again` comes exactly where the ring has no room.
-use Rattle.ledger_laws.proofs.Basics.{fresh-lane, fresh-flight}
 use Rattle.std.proofs.Common.{◌≡◌, ℕ, ◌-◌, ◌==◌, Bool, true, false, not, ◌&&◌, Option, Some, None, List, [], length, refl, sym, ap, ◌∙◌, subst, arith}
 use Rattle.std.specs.Prelude.{if◌then◌else◌, nat_lt}
 use Rattle.std.proofs.lemmas.Bool.{false≢true, ne_eqb}
@@ -19,18 +18,19 @@ use Rattle.step_kinds.specs.declared.steps.Step.{Step}
 use Rattle.step_kinds.specs.declared.steps.Step.TheVariants.{Begin, QpDown, Xbegin, Land}
 use Rattle.ledger_model.specs.Device.{ethernet_frame}
 use Rattle.ledger_laws.specs.Laws.{AgainWhereNoRoom, lane_begun_by, refused_before_room, is_again, entries_in}
-use Rattle.ledger_model.specs.Ledger.{PairPart, Sizes, side_of, lane_of, dev_of, link_up, sizes_of, free_of, head_in, tail_in}
+use Rattle.ledger_model.specs.Ledger.{LanePart, PairPart, Sizes, side_of, lane_of, dev_of, link_up, sizes_of, free_of, head_in, tail_in}
 use Rattle.ledger_model.specs.Log.{takes_room, gives_room, room_in, log_of, ledger_of, Memories}
 use Rattle.ledger_model.specs.Next.{Bytes, pair_next, pair_plan, dev_plan, fresh_pair}
 use Rattle.ledger_model.specs.Outcome.{decided, refuse_if}
 use Rattle.ledger_model.specs.Sending.{is_empty_list, begun, refuse_sender, refuse_full, begin_refusal, xbegin_refusal, counts_refused, begin_refusal, refuse_busy}
-use Rattle.ledger_laws.proofs.Pairs.{WellMade, well_made}
-use Rattle.ledger_laws.proofs.Readers.{trains-other}
-use Rattle.ledger_laws.proofs.RoomMoves.{room_at, IsStill, Counted, Idles, counted-kept}
-use Rattle.ledger_laws.proofs.RoomNext.{room_moves}
-use Rattle.ledger_laws.proofs.Runs.{IsKept, kept_of, kept_with, answer_of, made_by, left_by}
-use Rattle.ledger_laws.proofs.Sessions.{LaneRun, lane_runs}
-use Rattle.ledger_laws.proofs.Steps.{closing, taken_frame}
+use Rattle.ledger_model.specs.Labels.{indexes_among}
+use Rattle.ledger_laws.proofs.Basics.{fresh-lane, fresh-flight}
+use Rattle.ledger_laws.proofs.FramesInOrder.{LaneRun, lane_runs}
+use Rattle.ledger_laws.proofs.RoomInLog.{RoomKnown, room_kept}
+use Rattle.ledger_laws.proofs.Runs.{answer_of, made_by}
+use Rattle.ledger_laws.proofs.walk.Cases.{closing, taken_frame}
+use Rattle.ledger_laws.proofs.walk.Logs.{HoldsAlways, always_after}
+use Rattle.ledger_laws.proofs.walk.Sight.{sight}
 
 -- The answer of a step that begins an entry
 
@@ -84,7 +84,7 @@ again_answer devs plan bytes pair (Begin p side queue frame) lane e =
     (length (lane_of pair side queue).sent) (begin_fits (sizes_of plan side queue) pair side queue (length frame)))
 again_answer devs plan bytes pair (QpDown p side queue) lane e =
     subst (λ l. AgainSo plan pair l (pair_next devs plan bytes pair (QpDown p side queue)).answer) (same_Some _ _ e)
-    (fits_decided (is_full (sizes_of plan side queue) pair side queue) pair (closing pair side queue (sizes_of plan side queue))
+    (fits_decided (is_full (sizes_of plan side queue) pair side queue) pair (closing pair side queue)
     (refuse_sender pair side queue (refuse_busy (lane_of pair side queue) (refuse_full (sizes_of plan side queue) (lane_of pair side queue))))
     (length (lane_of pair side queue).sent)
     (fits_sender pair side queue _ (early (not (is_empty_list (lane_of pair side queue).todo)) Busy refl refl (fits_ring (sizes_of plan side queue) pair side queue))))
@@ -103,59 +103,31 @@ again_answer devs plan bytes pair step lane e = absurd (none-some lane e)
 
 -- The log knows the room
 
-still-other : (lane : LaneName) (step : Step) (r : Answer) → (subject_of step ≡ lane.pair → ⊥) → IsStill lane (record { step = step; answer = r })
-still-other lane step r ne = record { takes_no = takes step r ne; gives_no = gives step r ne; trains_no = trains-other lane.pair step r ne }
-  where
-    off : (p : ℕ) (b : Bool) → (p ≡ lane.pair → ⊥) → ((p == lane.pair) && b) ≡ false
-    off p b ne = rw (ne_eqb p lane.pair ne) refl
-
-    takes : (step : Step) (r : Answer) → (subject_of step ≡ lane.pair → ⊥) → takes_room lane (record { step = step; answer = r }) ≡ false
-    takes (Begin p side queue frame) (OkNumber n) ne = off p _ ne
-    takes (Xbegin p side queue dev dst kind payload) (OkNumber n) ne = off p _ ne
-    takes (QpDown p side queue) (OkNumber n) ne = off p _ ne
-    takes step r ne = refl
-
-    gives : (step : Step) (r : Answer) → (subject_of step ≡ lane.pair → ⊥) → gives_room lane (record { step = step; answer = r }) ≡ false
-    gives (Land p side place) (Landed (Index queue n)) ne = off p _ ne
-    gives step r ne = refl
-
-fresh_counted : (plan : PairPlan) (lane : LaneName) → Counted lane [] (room_at lane (fresh_pair plan))
-fresh_counted plan lane =
-    subst (λ t. Counted lane [] t)
-    (λ i. record { state = (fresh_pair plan).link.state; part = sym (fresh-lane plan lane.from lane.queue) i; flight = sym (fresh-flight plan (other_side lane.from)) i })
+room_fresh : (plan : PairPlan) (lane : LaneName) → RoomKnown lane [] (sight lane.from lane.queue (fresh_pair plan))
+room_fresh plan lane =
+    subst (λ (l : LanePart). RoomKnown lane [] (record (sight lane.from lane.queue (fresh_pair plan)) { lane = l })) (sym (fresh-lane plan lane.from lane.queue))
     (record {
-      taken = refl;
-      given = refl;
+      empty = λ down. (fresh-flight plan lane.from, fresh-flight plan (other_side lane.from));
       chain = record { acked_cleared = omega arith; cleared_got = omega arith; copied = λ x. absurd (false≢true x); given = λ x. absurd (false≢true x) };
-      waiting = 0;
-      indexes = refl;
-      within = omega arith;
-      all_up = λ _. omega arith;
+      waits = record { waiting = 0; indexes = ap (indexes_among lane.queue) (fresh-flight plan (other_side lane.from)); within = omega arith; all_up = λ _. refl };
+      counts = record { taken = refl; given = refl };
     })
 
-pub room_runs : (plan : Plan) (lane : LaneName) → IsKept plan lane.pair (λ log pair. WellMade pair × Counted lane log (room_at lane pair))
-room_runs plan lane =
-    kept_with plan lane.pair (λ log pair. WellMade pair) (λ log pair. Counted lane log (room_at lane pair)) (well_made plan lane.pair)
-    (fresh_counted (pair_plan plan lane.pair) lane)
-    (λ before pair step bytes e well counted.
-    counted-kept lane before (room_at lane pair) (made_by plan lane.pair bytes pair step) (room_at lane (left_by plan lane.pair bytes pair step))
-    (room_moves plan lane bytes pair well step e) counted)
-    (λ before pair made ne well counted.
-    counted-kept lane before (room_at lane pair) made (room_at lane pair)
-    (Idles (still-other lane made.step made.answer ne) refl (record { freed = refl; acked = refl; chain = λ c. c; indexes = refl; up = λ u. u })) counted)
+pub room_runs : (plan : Plan) (lane : LaneName) → HoldsAlways plan lane (RoomKnown lane)
+room_runs plan lane = record { fresh = room_fresh (pair_plan plan lane.pair) lane; turns = room_kept plan lane }
 
 -- the room that the ledger counts is that of the log
 room_known : (plan : Plan) (memories : Memories) (steps : List Step) (lane : LaneName) (entries : ℕ)
     → let part = lane_of (ledger_of plan memories steps lane.pair) lane.from lane.queue in
     entries - 1 - (length part.sent - part.freed) ≡ room_in entries (log_of plan memories steps) lane
 room_known plan memories steps lane entries =
-    let counted = (kept_of plan memories lane.pair _ (room_runs plan lane) steps).1 in
-    let facts = (kept_of plan memories lane.pair (LaneRun plan lane 0) (lane_runs plan lane 0) steps).facts in
-    let a = counted.taken in
-    let b = counted.given in
-    let c = counted.within in
-    let d = counted.chain.acked_cleared in
-    let f = counted.chain.cleared_got in
+    let known = always_after plan lane (RoomKnown lane) (room_runs plan lane) memories steps in
+    let facts = (always_after plan lane (LaneRun plan lane 0) (lane_runs plan lane 0) memories steps).facts in
+    let a = known.counts.taken in
+    let b = known.counts.given in
+    let c = known.waits.within in
+    let d = known.chain.acked_cleared in
+    let f = known.chain.cleared_got in
     let g = facts.within in
     omega arith
 
