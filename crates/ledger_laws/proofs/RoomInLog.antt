@@ -17,6 +17,7 @@ use Rattle.ledger_model.specs.Log.{Answered, trains, takes_room, gives_room, in_
 use Rattle.ledger_model.specs.Receiving.{is_copied, is_cleared}
 use Rattle.ledger_model.specs.declared.LinkState.{LinkState}
 use Rattle.ledger_laws.proofs.InFlight.{count_by-last, push_some, filter_map-remove, lands_first, posted_unread, posted_up, posted_lost, EmptyOf, empty_kept}
+use Rattle.ledger_laws.proofs.Labels.{index_strict}
 use Rattle.ledger_laws.proofs.Offers.{pad-index}
 use Rattle.ledger_laws.proofs.Readers.{made_since-last}
 use Rattle.ledger_laws.proofs.walk.Sight.{Sight, Sender, Receiver, flight_with}
@@ -106,11 +107,6 @@ waits_acked q state freed acked back (inr down) h = record {
   within = let w = h.within in omega arith;
   all_up = λ up. absurd (both_ways (is_up state) down up);
 }
-
--- an index write passes no other write
-index_strict : (strict_pair : Bool) (q n : ℕ) → order_of strict_pair (Index q n) ≡ strict
-index_strict true q n = refl
-index_strict false q n = refl
 
 waits_kept : (plan : Plan) (lane : LaneName) (s : Sight) (made : Answered) (news : News) (t : Sight) → Turn plan lane s made news t → EmptyOf s → WaitsOf lane.queue s → WaitsOf lane.queue t
 waits_kept plan lane s made news t (Trains may) empty h = waits_none _ _ _ _ _ (empty may.down).1 (omega arith) (λ _. refl)
