@@ -39,3 +39,4 @@ pub mod Talk
 pub mod TalkNext
 pub mod UpMeans
 pub mod walk
+pub mod OffersInSession
