@@ -1,5 +1,4 @@
 pub mod AgainWhereNoRoom
-pub mod Agreement
 pub mod Basics
 pub mod BitSets
 pub mod FlagsAndBells
@@ -15,6 +14,7 @@ pub mod LaneSeen
 pub mod LinkAnswers
 pub mod LinkMoves
 pub mod Offers
+pub mod OffersInSession
 pub mod Outcomes
 pub mod Pairs
 pub mod PendingBits
@@ -35,8 +35,5 @@ pub mod Runs
 pub mod Separate
 pub mod Sessions
 pub mod Steps
-pub mod Talk
-pub mod TalkNext
-pub mod UpMeans
+pub mod UpMeansAgreement
 pub mod walk
-pub mod OffersInSession

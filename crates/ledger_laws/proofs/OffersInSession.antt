@@ -53,7 +53,7 @@ settled_up state up = record { new_once_clean = λ down. absurd (both_ways (is_d
 settled_agreed : (state : LinkState) (own : End) → own.clean ≡ true → SettledEnd state own → SettledEnd state (record own { enabled = true })
 settled_agreed state own clean h = record { new_once_clean = h.new_once_clean; clean_once_enabled = λ down agreed. clean }
 
-settled_new : (state : LinkState) (enabled : Bool) → IsSettled state true enabled false 0 (replicate 16 0)
+pub settled_new : (state : LinkState) (enabled : Bool) → IsSettled state true enabled false 0 (replicate 16 0)
 settled_new state enabled = record { new_once_clean = λ down clean. record { not_up = refl; none_offered = refl; none_landed = refl }; clean_once_enabled = λ down agreed. refl }
 
 settled_dropped : (state : LinkState) (up : Bool) (offered : ℕ) (pads : List ℕ) → IsSettled state false false up offered pads
