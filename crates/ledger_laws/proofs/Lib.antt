@@ -1,6 +1,7 @@
 pub mod AgainWhereNoRoom
 pub mod Basics
 pub mod BitSets
+pub mod CleanSides
 pub mod FlagsAndBells
 pub mod Flights
 pub mod Frames

@@ -9,7 +9,7 @@ use Rattle.step_kinds.specs.declared.steps.Label.TheVariants.{Pad}
 use Rattle.lane_model.specs.Lane.{count_from}
 use Rattle.ledger_model.specs.Handshake.{offers, word}
 use Rattle.ledger_model.specs.Labels.{write_of, index_of}
-use Rattle.ledger_laws.proofs.walk.Turn.{is_pad}
+use Rattle.ledger_laws.proofs.walk.Turn.{is_pad, is_link_pad}
 use Rattle.ledger_model.specs.Ledger.{high_pad, low_pad, windows_pad, queues_pad, version_pad, SidePart, PairPart, side_of}
 use Rattle.std.proofs.lemmas.List.{take-append-drop, append-nil, take_more, length-set, get_or-set_same, get_or-set_other, get_or-replicate}
 use Rattle.step_kinds.specs.Sides.{other_side}
@@ -73,6 +73,23 @@ offers-pads own =
 
 pub offer-is_pad : (own : SidePlan) (n : ℕ) → is_pad (slice_index_or (offers own) n (Pad 0 0)) ≡ true
 offer-is_pad own n = all_at is_pad (offers own) n (Pad 0 0) (offers-pads own) refl
+
+-- and not that of the queues that are ready
+abbrev no_link_pad : Label → Bool
+no_link_pad label = not (is_link_pad label)
+
+windows-no_link : (own : SidePlan) (n m : ℕ) → list_all no_link_pad (flat_map (λ m. Pad (high_pad m) (own.size / word) ∷ Pad (low_pad m) (own.size % word) ∷ []) (count_from n m)) ≡ true
+windows-no_link own n zero = refl
+windows-no_link own n (suc m) =
+    and_from (not (high_pad n == 1)) _ (ap not (ne_eqb (high_pad n) 1 (λ e. omega arith)))
+    (and_from (not (low_pad n == 1)) _ (ap not (ne_eqb (low_pad n) 1 (λ e. omega arith))) (windows-no_link own (suc n) m))
+
+pub offer-no_link : (own : SidePlan) (n : ℕ) → is_link_pad (slice_index_or (offers own) n (Pad 0 0)) ≡ false
+offer-no_link own n =
+    not-true _ (all_at no_link_pad (offers own) n (Pad 0 0)
+    (all-append no_link_pad (flat_map (λ m. Pad (high_pad m) (own.size / word) ∷ Pad (low_pad m) (own.size % word) ∷ []) (count_from 0 own.windows))
+    (Pad windows_pad own.windows ∷ Pad queues_pad own.queues ∷ Pad version_pad own.version ∷ [])
+    (windows-no_link own 0 own.windows) refl) refl)
 
 -- a scratchpad is no write of a lane
 pub pad-index : (q : ℕ) (label : Label) → is_pad label ≡ true → index_of q label ≡ None

@@ -22,63 +22,13 @@ use Rattle.ledger_model.specs.Next.{pair_plan}
 use Rattle.ledger_model.specs.declared.LinkState.{LinkState}
 use Rattle.ledger_laws.specs.Laws.{IsOrdinaryOn}
 use Rattle.ledger_laws.proofs.Basics.{down-not_up, up-not_down}
+use Rattle.ledger_laws.proofs.CleanSides.{IsNew, SettledOf}
 use Rattle.ledger_laws.proofs.InFlight.{filter_map-last, filter_map-remove, strict_first, posted_unread, posted_up, EmptyOf, empty_kept}
 use Rattle.ledger_laws.proofs.Offers.{is_offer, offer_of, offers_in, last_value, last_value-last, value_of, offer-good}
 use Rattle.ledger_laws.proofs.Readers.{landed_pad-last}
 use Rattle.ledger_laws.proofs.walk.Sight.{Sight, End, Role, Sender, Receiver, end_at, flight_with}
 use Rattle.ledger_laws.proofs.walk.Tells.{News, Tells, pad_next}
 use Rattle.ledger_laws.proofs.walk.Turn.{MayLand, MayOffer, Turn, Enables, Trains, Breaks, Drops, Forgets, Offers, Checks, Readies, Says, LandsFlag, LandsField, LandsIndex, LandsBell, LandsPad, LandsAside, Acks, is_handshake}
-
--- Sides that have forgotten their session
-
-pub record IsNew (up : Bool) (offered : ℕ) (pads : List ℕ) : Type 0 where
-  pub not_up : up ≡ false
-  pub none_offered : offered ≡ 0
-  pub none_landed : pads ≡ replicate 16 0
-
--- while the link is down, a side that is clean has forgotten its session, and one that agreed is clean
-pub record IsSettled (state : LinkState) (clean enabled up : Bool) (offered : ℕ) (pads : List ℕ) : Type 0 where
-  pub new_once_clean : is_down state ≡ true → clean ≡ true → IsNew up offered pads
-  pub clean_once_enabled : is_down state ≡ true → enabled ≡ true → clean ≡ true
-
-abbrev pub SettledEnd : LinkState → End → Type 0
-SettledEnd state own = IsSettled state own.clean own.enabled own.up own.offered own.pads
-
-abbrev pub SettledOf : Sight → Type 0
-SettledOf s = SettledEnd s.state s.sender × SettledEnd s.state s.receiver
-
-pub settled_up : (state : LinkState) {clean enabled up : Bool} {offered : ℕ} {pads : List ℕ} → is_down state ≡ false → IsSettled state clean enabled up offered pads
-settled_up state up = record { new_once_clean = λ down. absurd (both_ways (is_down state) up down); clean_once_enabled = λ down. absurd (both_ways (is_down state) up down) }
-
-settled_agreed : (state : LinkState) (own : End) → own.clean ≡ true → SettledEnd state own → SettledEnd state (record own { enabled = true })
-settled_agreed state own clean h = record { new_once_clean = h.new_once_clean; clean_once_enabled = λ down agreed. clean }
-
-pub settled_new : (state : LinkState) (enabled : Bool) → IsSettled state true enabled false 0 (replicate 16 0)
-settled_new state enabled = record { new_once_clean = λ down clean. record { not_up = refl; none_offered = refl; none_landed = refl }; clean_once_enabled = λ down agreed. refl }
-
-settled_dropped : (state : LinkState) (up : Bool) (offered : ℕ) (pads : List ℕ) → IsSettled state false false up offered pads
-settled_dropped state up offered pads = record { new_once_clean = λ down clean. absurd (false≢true clean); clean_once_enabled = λ down agreed. absurd (false≢true agreed) }
-
--- on a link with a write in flight
-not_down_with : (s : Sight) {strict_pair : Bool} (e : Role) (place : ℕ) (label : Label) → EmptyOf s → MayLand strict_pair s e place label → is_down s.state ≡ false
-not_down_with s e place label empty may = elim (cases_Bool (is_down s.state)) [ inl down ↦ absurd (nothing e may (empty down)) | inr up ↦ up ]
-  where
-    nothing : {strict_pair : Bool} (e : Role) → MayLand strict_pair s e place label → (s.sender.flight ≡ []) × (s.receiver.flight ≡ []) → ⊥
-    nothing Sender may none = none-some label (ap (λ flight. slice_get flight place) (sym none.0) ∙ may.there)
-    nothing Receiver may none = none-some label (ap (λ flight. slice_get flight place) (sym none.1) ∙ may.there)
-
-pub settled_kept : (plan : Plan) (lane : LaneName) (s : Sight) (made : Answered) (news : News) (t : Sight) → Turn plan lane s made news t → EmptyOf s → SettledOf s → SettledOf t
-settled_kept plan lane s made news t (Enables Sender may) empty h = (settled_agreed s.state s.sender may.clean h.0, h.1)
-settled_kept plan lane s made news t (Enables Receiver may) empty h = (h.0, settled_agreed s.state s.receiver may.clean h.1)
-settled_kept plan lane s made news t (Trains may) empty h = (settled_up _ refl, settled_up _ refl)
-settled_kept plan lane s made news t (Breaks up) empty h = (settled_up _ refl, settled_up _ refl)
-settled_kept plan lane s made news t (Drops closing) empty h = (settled_dropped _ _ _ _, settled_dropped _ _ _ _)
-settled_kept plan lane s made news t (Forgets Sender down) empty h = (settled_new _ _, h.1)
-settled_kept plan lane s made news t (Forgets Receiver down) empty h = (h.0, settled_new _ _)
-settled_kept plan lane s made news t (Offers e label may) empty h = let up = up-not_down s.state may.up in (settled_up _ up, settled_up _ up)
-settled_kept plan lane s made news t (Checks e may) empty h = let up = up-not_down s.state may.up in (settled_up _ up, settled_up _ up)
-settled_kept plan lane s made news t (LandsPad e place i value may) empty h = let up = not_down_with s e place (Pad i value) empty may in (settled_up _ up, settled_up _ up)
-settled_kept plan lane s made news t turn empty h = h
 
 -- The session
 
@@ -182,9 +132,9 @@ session_lands lane peer log made {strict_pair} s place i value no_train lands ma
         ∙ ap (λ b. if b then None else pad_next lane made Sender j (landed_pad log lane.pair lane.from j)) no_train ∙ lands j (landed_pad log lane.pair lane.from j)
 
 -- a session begins
-session_begins : (lane : LaneName) (peer : SidePlan) (log : List Answered) (made : Answered) (up peer_up : Bool) (pads peer_pads : List ℕ) (own_offered offered : ℕ) (flight : List Label)
-    → trains lane.pair made ≡ true → IsNew up own_offered pads → IsNew peer_up offered peer_pads → flight ≡ [] → InSession lane peer (log ++ made ∷ []) pads offered flight
-session_begins lane peer log made up peer_up pads peer_pads own_offered offered flight train own peers empty = record {
+session_begins : (lane : LaneName) (peer : SidePlan) (log : List Answered) (made : Answered) {up peer_up : Bool} {a b c d own_offered offered : ℕ} (pads : List ℕ) {peer_pads : List ℕ} (flight : List Label)
+    → trains lane.pair made ≡ true → IsNew up a b own_offered pads → IsNew peer_up c d offered peer_pads → flight ≡ [] → InSession lane peer (log ++ made ∷ []) pads offered flight
+session_begins lane peer log made pads flight train own peers empty = record {
   landed = [];
   landed_values = λ i is. none i;
   order = ap offers_in empty ∙ ap (λ n. take n (offers peer)) (sym peers.none_offered);
@@ -208,7 +158,7 @@ pub session_kept : (plan : Plan) (lane : LaneName) (peer : SidePlan) (log : List
     → Tells plan lane s.lane made news → Turn plan lane s made news t → EmptyOf s → SettledOf s
     → (is_up s.state ≡ true → s.sender.up ≡ false → SessionOf lane peer log s) → is_up t.state ≡ true → t.sender.up ≡ false → SessionOf lane peer (log ++ made ∷ []) t
 session_kept plan lane peer log s made news t is few ordinary tells (Trains may) empty settled h up no_check =
-    session_begins lane peer log made s.sender.up s.receiver.up s.sender.pads s.receiver.pads s.sender.offered s.receiver.offered s.receiver.flight tells.starts
+    session_begins lane peer log made s.sender.pads s.receiver.flight tells.starts
     (settled.0.new_once_clean may.down (settled.0.clean_once_enabled may.down may.sender)) (settled.1.new_once_clean may.down (settled.1.clean_once_enabled may.down may.receiver)) (empty may.down).1
 session_kept plan lane peer log s made news t is few ordinary tells (Breaks was_up) empty settled h up no_check = absurd (false≢true up)
 session_kept plan lane peer log s made news t is few ordinary tells (Drops closing) empty settled h up no_check = absurd (false≢true up)

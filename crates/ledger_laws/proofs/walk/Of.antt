@@ -40,7 +40,7 @@ use Rattle.ledger_model.specs.Sending.{begun, begun_lane}
 use Rattle.ledger_model.specs.declared.LinkState.TheVariants.{Down as LinkIsDown, Up as LinkIsUp}
 use Rattle.ledger_model.specs.declared.LinkRefusal.TheVariants.{NotDown, Dirty, NotEnabled, NotUp, NotClosing}
 use Rattle.ledger_laws.specs.Laws.{IsOrdinaryOn}
-use Rattle.ledger_laws.proofs.Offers.{offer-is_pad}
+use Rattle.ledger_laws.proofs.Offers.{offer-is_pad, offer-no_link}
 use Rattle.ledger_laws.proofs.Outcomes.{passed, refused_passed}
 use Rattle.ledger_laws.proofs.Runs.{made_by, left_by}
 use Rattle.ledger_laws.proofs.walk.Cases.{refuses, Refused, MaySend, MayLookAt, found_refusals, enable_cases, train_cases, break_cases, drop_cases, clean_cases, offer_cases, check_cases, ready_cases, join_cases, begin_cases, qpdown_cases, xbegin_cases, post_cases, land_cases, look_cases, copy_cases, clear_cases, ack_cases, wake_cases, trained, broken, dropped, cleaned, offering, next_offer, readied, ready_pad, joining, closing, taken_frame, posting, landed, looking, peer_down, acking, clearing, copied_more, copied_last}
@@ -258,12 +258,12 @@ module _ (plan : Plan) (lane : LaneName) (bytes : Bytes) (pair : PairPart)
       each Sender more =
           seen (Offer p lane.from) _ (posts (offering pair lane.from) lane.from (next_offer Own pair lane.from)) _ (looks_so Sender ∙ ap (posted Sender (next_offer Own pair lane.from)) (sight-side lane.from lane.queue pair Sender _))
           (turned (Offers Sender (next_offer Own pair lane.from)
-          (record { up = up; is_next = refl; a_pad = offer-is_pad (side_plan Own lane.from) Now.sender.offered; more = more })) (tells (Offer p lane.from) _ refl))
+          (record { up = up; is_next = refl; a_pad = offer-is_pad (side_plan Own lane.from) Now.sender.offered; no_link = offer-no_link (side_plan Own lane.from) Now.sender.offered; more = more })) (tells (Offer p lane.from) _ refl))
       each Receiver more =
           seen (Offer p (other_side lane.from)) _ (posts (offering pair (other_side lane.from)) (other_side lane.from) (next_offer Own pair (other_side lane.from))) _
           (looks_so Receiver ∙ ap (posted Receiver (next_offer Own pair (other_side lane.from))) (sight-side lane.from lane.queue pair Receiver _))
           (turned (Offers Receiver (next_offer Own pair (other_side lane.from))
-          (record { up = up; is_next = refl; a_pad = offer-is_pad (side_plan Own (other_side lane.from)) Now.receiver.offered; more = more })) (tells (Offer p (other_side lane.from)) _ refl))
+          (record { up = up; is_next = refl; a_pad = offer-is_pad (side_plan Own (other_side lane.from)) Now.receiver.offered; no_link = offer-no_link (side_plan Own (other_side lane.from)) Now.receiver.offered; more = more })) (tells (Offer p (other_side lane.from)) _ refl))
 
   check : (p : ℕ) (side : Side) → p ≡ lane.pair → check_refusal (side_plan Own side) (side_of pair side) (link_up pair) ≡ None
       → To (Check p side) (record { answer = Up; after = with_side_part pair side (record (side_of pair side) { up = true }) })

@@ -44,11 +44,17 @@ abbrev pub is_pad : Label → Bool
 is_pad (Pad i value) = true
 is_pad label = false
 
+-- whether a label writes the scratchpad of the queues that are ready
+abbrev pub is_link_pad : Label → Bool
+is_link_pad (Pad i value) = i == links_pad
+is_link_pad label = false
+
 -- the handshake, `own` being the side's numbers
 pub record MayOffer (own : SidePlan) (s : Sight) (e : Role) (label : Label) : Type 0 where
   pub up : is_up s.state ≡ true
   pub is_next : label ≡ slice_index_or (offers own) (end_at s e).offered (Pad 0 0)
   pub a_pad : is_pad label ≡ true
+  pub no_link : is_link_pad label ≡ false
   pub more : ((end_at s e).offered == length (offers own)) ≡ false
 
 pub record MayCheck (own : SidePlan) (s : Sight) (e : Role) : Type 0 where
