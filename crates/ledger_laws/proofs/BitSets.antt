@@ -4,7 +4,7 @@ use Rattle.std.specs.Prelude.{◌==◌, Bool, ◌^◌, ◌/◌, ◌%◌, bit_and
 use Rattle.std.specs.Int.{bit_at}
 use Rattle.std.proofs.lemmas.Bool.{eq-eqb, eqb-true, eqb-false, both_ways, cases_Bool}
 use Rattle.std.proofs.lemmas.Nat.{and_shr, and_mod, and_le_l}
-use Rattle.std.proofs.lemmas.Nat.Bits.{bit_at-suc, bit_at_lowest, bit_at-lt, bit_at_or, bit_at-pow_same}
+use Rattle.std.proofs.lemmas.Nat.Bits.{bit_at-suc, bit_at_lowest, bit_at-lt, bit_at_or, bit_at-pow_same, bit_at-zero}
 use Rattle.step_kinds.specs.Bits.{has_bit, with_bit, without_bits}
 
 
@@ -27,6 +27,10 @@ has-with_kept bits j k has =
     let one = eqb-true (bit_at bits j) 1 has in
     let small = bit_at-lt (2 ^ k) j in
     omega arith)
+
+-- no number is in the empty set
+pub no_bit : (bits k : ℕ) → bits ≡ 0 → has_bit bits k ≡ true → ⊥
+no_bit bits k none has = both_ways (has_bit bits k) (ap (λ b. has_bit b k) none ∙ ap (λ b. b == 1) (bit_at-zero k)) has
 
 -- what isn't in the set with a number more wasn't in it before
 pub has-without : (bits j k : ℕ) → has_bit (with_bit bits k) j ≡ false → has_bit bits j ≡ false

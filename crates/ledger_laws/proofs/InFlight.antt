@@ -48,6 +48,16 @@ filter_map-remove read [] place x e none = absurd (cc)
 filter_map-remove read (y ∷ xs) zero x e none = ap (λ o. cons_option o (filter_map read xs)) (sym (ap read (same_Some y x e) ∙ none))
 filter_map-remove read (y ∷ xs) (suc place) x e none = ap (λ rest. cons_option (read y) rest) (filter_map-remove read xs place x e none)
 
+-- what is read of one that is there
+pub some_read : {X Y : Type 0} (read : X → Option Y) (xs : List X) (place : ℕ) (x : X) (y : Y) → slice_get xs place ≡ Some x → read x ≡ Some y → filter_map read xs ≡ [] → ⊥
+some_read read [] place x y at some none = absurd (cc)
+some_read read (z ∷ xs) zero x y at some none = absurd (let e = sym (ap (λ o. cons_option o (filter_map read xs)) (ap read (same_Some z x at) ∙ some)) ∙ none in cc)
+some_read {Y = Y} read (z ∷ xs) (suc place) x y at some none = some_read read xs place x y at some (rest (read z) none)
+  where
+    rest : (o : Option Y) → cons_option o (filter_map read xs) ≡ [] → filter_map read xs ≡ []
+    rest None e = e
+    rest (Some w) e = absurd (cc)
+
 -- A strict write lands first
 
 index-there : {X : Type 0} (kind : X → ℕ) (xs : List X) (place : ℕ) (x : X) → slice_get xs place ≡ Some x → slice_index (map kind xs) place ≡ kind x

@@ -8,6 +8,7 @@ pub mod Frames
 pub mod FramesInOrder
 pub mod InFlight
 pub mod InOrder
+pub mod JoinedSides
 pub mod Labels
 pub mod LaneMoves
 pub mod LaneNext
