@@ -42,6 +42,19 @@ push_some read xs x y e = filter_map-last read xs x ∙ ap (λ o. filter_map rea
 pub first_some : {X Y : Type 0} (read : X → Option Y) (x : X) (xs : List X) (y : Y) → read x ≡ Some y → filter_map read (x ∷ xs) ≡ y ∷ filter_map read xs
 first_some read x xs y e = ap (λ o. cons_option o (filter_map read xs)) e
 
+pub first_none : {X Y : Type 0} (read : X → Option Y) (x : X) (xs : List X) → read x ≡ None → filter_map read (x ∷ xs) ≡ filter_map read xs
+first_none read x xs e = ap (λ o. cons_option o (filter_map read xs)) e
+
+-- a list is what stands before a place, the item there, and what stands behind it
+pub split_whole : {X : Type 0} (xs : List X) (place : ℕ) (x : X) → slice_get xs place ≡ Some x → xs ≡ take place xs ++ x ∷ drop (suc place) xs
+split_whole [] place x at = absurd (none-some x at)
+split_whole (y ∷ ys) zero x at = ap (λ first. first ∷ ys) (same_Some y x at)
+split_whole (y ∷ ys) (suc place) x at = ap (λ others. y ∷ others) (split_whole ys place x at)
+
+pub middle_some : {X Y : Type 0} (read : X → Option Y) (before behind : List X) (x : X) (y : Y) → read x ≡ Some y
+    → filter_map read (before ++ x ∷ behind) ≡ filter_map read before ++ y ∷ filter_map read behind
+middle_some read before behind x y e = filter_map-append read before (x ∷ behind) ∙ ap (λ o. filter_map read before ++ cons_option o (filter_map read behind)) e
+
 pub filter_map-remove : {X Y : Type 0} (read : X → Option Y) (xs : List X) (place : ℕ) (x : X) → slice_get xs place ≡ Some x → read x ≡ None
     → filter_map read (remove xs place) ≡ filter_map read xs
 filter_map-remove read [] place x e none = absurd (cc)
@@ -89,6 +102,14 @@ posted_unread read state flight label none = go (is_up state)
   where
     go : (up : Bool) → filter_map read (if up then flight ++ label ∷ [] else flight) ≡ filter_map read flight
     go true = push_none read flight label none
+    go false = refl
+
+pub posted_read : {Y : Type 0} (read : Label → Option Y) (state : LinkState) (flight : List Label) (label : Label) (y : Y) → read label ≡ Some y
+    → filter_map read (flight_with state flight label) ≡ (if is_up state then filter_map read flight ++ y ∷ [] else filter_map read flight)
+posted_read {Y} read state flight label y some = go (is_up state)
+  where
+    go : (up : Bool) → filter_map read (if up then flight ++ label ∷ [] else flight) ≡ (if up then filter_map read flight ++ y ∷ [] else filter_map read flight)
+    go true = push_some read flight label y some
     go false = refl
 
 pub posted_up : (state : LinkState) (flight : List Label) (label : Label) → is_up state ≡ true → flight_with state flight label ≡ flight ++ label ∷ []

@@ -27,6 +27,7 @@ pub mod RingHolds
 pub mod RingLandings
 pub mod RingLanes
 pub mod RingMarks
+pub mod RingOfLane
 pub mod RingPairLandings
 pub mod RingPairLanes
 pub mod RingPairLinks
