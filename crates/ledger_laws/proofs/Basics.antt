@@ -1,4 +1,4 @@
--- Sides, the states of a link, and the lanes of a pair before a session's first step.
+-- The states of a link, and a pair before any step.
 use Rattle.std.proofs.Common.{◌≡◌, ℕ, Bool, true, false, [], refl}
 use Rattle.std.specs.Prelude.{if◌then◌else◌}
 use Rattle.std.proofs.lemmas.Bool.{false≢true}
@@ -7,17 +7,12 @@ use Rattle.step_kinds.specs.declared.names.Side.{Side}
 use Rattle.step_kinds.specs.declared.names.Side.TheVariants.{A, B}
 use Rattle.step_kinds.specs.declared.plan.PairPlan.{PairPlan}
 use Rattle.ledger_model.specs.Both.{at_side, both_of}
-use Rattle.ledger_model.specs.Ledger.{PairPart, side_of, lane_of}
+use Rattle.ledger_model.specs.Ledger.{side_of, lane_of}
 use Rattle.ledger_model.specs.Link.{is_up, is_down, is_closing}
 use Rattle.ledger_model.specs.LinkSteps.{fresh_lane}
 use Rattle.ledger_model.specs.Next.{fresh_pair, agreed_side, idle_side}
 use Rattle.ledger_model.specs.declared.LinkState.{LinkState}
 use Rattle.ledger_model.specs.declared.LinkState.TheVariants.{Down, Up, Closing}
-use Rattle.ledger_laws.proofs.Steps.{trained}
-
-pub other_other : (side : Side) → other_side (other_side side) ≡ side
-other_other A = refl
-other_other B = refl
 
 pub up-not_down : (state : LinkState) → is_up state ≡ true → is_down state ≡ false
 up-not_down Up e = refl
@@ -34,11 +29,7 @@ closing-not_up Down e = refl
 closing-not_up Up e = absurd (false≢true e)
 closing-not_up Closing e = refl
 
--- a lane in a new session, and before any step
-pub trained-lane : (pair : PairPart) (from : Side) (queue : ℕ) → lane_of (trained pair) from queue ≡ fresh_lane
-trained-lane pair A queue = refl
-trained-lane pair B queue = refl
-
+-- a lane before any step
 pub fresh-lane : (plan : PairPlan) (from : Side) (queue : ℕ) → lane_of (fresh_pair plan) from queue ≡ fresh_lane
 fresh-lane plan A queue = refl
 fresh-lane plan B queue = refl

@@ -157,6 +157,13 @@ new_facts pads flight new empty = record {
   posted_once_up = inl (ap link_pads empty);
 }
 
+-- at the start of a pair that is declared up, and of one that isn't
+pub facts_up : (ready joined pad : ℕ) (links : List ℕ) → EndFacts true true ready joined pad links
+facts_up ready joined pad links = record { ready_once_up = inr refl; joined_once_both = inr (refl, refl); pad_once_up = inr refl; posted_once_up = inr refl }
+
+pub facts_idle : (up other_up : Bool) → EndFacts up other_up 0 0 0 []
+facts_idle up other_up = record { ready_once_up = inl refl; joined_once_both = inl refl; pad_once_up = inl refl; posted_once_up = inl refl }
+
 dropped_facts : {up other_up : Bool} {ready joined pad : ℕ} {links : List ℕ} → EndFacts up other_up ready joined pad links → EndFacts up other_up ready joined pad []
 dropped_facts h = record { ready_once_up = h.ready_once_up; joined_once_both = h.joined_once_both; pad_once_up = h.pad_once_up; posted_once_up = inl refl }
 

@@ -1,5 +1,6 @@
--- Where a step is answered `linkdown`.
+-- A step is answered `linkdown` exactly where it needs the link and the last link step of the pair left it not up.
 use Rattle.std.proofs.Common.{◌≡◌, ℕ, Bool, true, false, not, ◌&&◌, List, refl, sym, ap, ◌∙◌}
+use Rattle.std.specs.Prelude.{if◌then◌else◌}
 use Rattle.std.proofs.lemmas.Bool.{not-false}
 use Rattle.step_kinds.specs.Subject.{subject_of}
 use Rattle.step_kinds.specs.declared.plan.Plan.{Plan}
@@ -9,13 +10,21 @@ use Rattle.step_kinds.specs.declared.steps.Step.{Step}
 use Rattle.step_kinds.specs.declared.steps.Step.TheVariants.{Enable, Train, Break, DropDone, Clean, Offer, Check, Ready, Join, Begin, QpDown, Xbegin, Post, Land, Look, Copy, Clear, Ack, Wake}
 use Rattle.ledger_laws.specs.Laws.{is_link_down, needs_link, LinkDownWhereNotUp}
 use Rattle.ledger_model.specs.Ledger.{PairPart, link_up, sizes_of}
-use Rattle.ledger_model.specs.Log.{up_at}
+use Rattle.ledger_model.specs.Log.{up_at, trains, breaks}
 use Rattle.ledger_model.specs.Next.{Bytes, pair_next, pair_plan, fresh_pair, dev_plan}
 use Rattle.ledger_laws.proofs.Outcomes.{passed}
-use Rattle.ledger_laws.proofs.Steps.{enable_cases, train_cases, break_cases, drop_cases, clean_cases, offer_cases, check_cases, ready_cases, join_cases, begin_cases, qpdown_cases, xbegin_cases, post_cases, land_cases, look_cases, copy_cases, clear_cases, ack_cases, wake_cases}
-use Rattle.ledger_laws.proofs.Readers.{up_step, up_after-last, up_step-other}
-use Rattle.ledger_laws.proofs.LinkMoves.{up_kept}
-use Rattle.ledger_laws.proofs.Runs.{IsKept, kept_of, answer_of}
+use Rattle.ledger_laws.proofs.walk.Cases.{enable_cases, train_cases, break_cases, drop_cases, clean_cases, offer_cases, check_cases, ready_cases, join_cases, begin_cases, qpdown_cases, xbegin_cases, post_cases, land_cases, look_cases, copy_cases, clear_cases, ack_cases, wake_cases}
+use Rattle.ledger_model.specs.Link.{is_up}
+use Rattle.ledger_model.specs.Log.{Answered}
+use Rattle.step_kinds.specs.declared.names.LaneName.{LaneName}
+use Rattle.step_kinds.specs.declared.names.Side.TheVariants.{A}
+use Rattle.ledger_laws.proofs.Basics.{closing-not_up}
+use Rattle.ledger_laws.proofs.Readers.{up_step, up_after-last}
+use Rattle.ledger_laws.proofs.Runs.{answer_of}
+use Rattle.ledger_laws.proofs.walk.Logs.{HoldsAlways, always_after}
+use Rattle.ledger_laws.proofs.walk.Sight.{Sight, sight}
+use Rattle.ledger_laws.proofs.walk.Tells.{News, Tells}
+use Rattle.ledger_laws.proofs.walk.Turn.{Turn, Trains, Breaks, Drops}
 
 -- what a made step answers, where the link is up
 not_down : (up : Bool) → up ≡ true → false ≡ not up
@@ -34,9 +43,9 @@ link_answer devs plan bytes pair (Offer p side) =
 link_answer devs plan bytes pair (Check p side) =
     check_cases (λ o. is_link_down o.answer ≡ not (link_up pair)) plan pair side (λ r no. no.link) (λ none. not_down (link_up pair) (not-false _ ((passed _ _ _ none).0)))
 link_answer devs plan bytes pair (Ready p side queue) =
-    ready_cases (λ o. is_link_down o.answer ≡ not (link_up pair)) pair side queue (λ r no. no.link) (λ up. not_down (link_up pair) up)
+    ready_cases (λ o. is_link_down o.answer ≡ not (link_up pair)) pair side queue (λ r no. no.link) (λ up checked. not_down (link_up pair) up)
 link_answer devs plan bytes pair (Join p side queue) =
-    join_cases (λ o. is_link_down o.answer ≡ not (link_up pair)) pair side queue (λ r no. no.link) (λ up. not_down (link_up pair) up)
+    join_cases (λ o. is_link_down o.answer ≡ not (link_up pair)) pair side queue (λ r no. no.link) (λ up ready asked. not_down (link_up pair) up)
 link_answer devs plan bytes pair (Begin p side queue frame) =
     begin_cases (λ o. is_link_down o.answer ≡ not (link_up pair)) (sizes_of plan side queue) pair side queue frame (λ r no. no.link) (λ may. not_down (link_up pair) may.up)
 link_answer devs plan bytes pair (QpDown p side queue) =
@@ -47,8 +56,8 @@ link_answer devs plan bytes pair (Xbegin p side queue dev dst kind payload) =
 link_answer devs plan bytes pair (Post p side queue) = post_cases (λ o. is_link_down o.answer ≡ false) pair side queue refl (λ label rest e. refl)
 link_answer devs plan bytes pair (Land p side place) = land_cases (λ o. is_link_down o.answer ≡ false) plan pair side place (λ r no. no.link) (λ label at may. refl)
 link_answer devs plan bytes pair (Look p side queue) =
-    look_cases (λ o. is_link_down o.answer ≡ false) pair side queue (λ r no _. no.link) (λ frame none at. refl) (λ none. refl)
-link_answer devs plan bytes pair (Copy p side queue) = copy_cases (λ o. is_link_down o.answer ≡ false) pair side queue (λ r no. no.link) (λ _. refl) (λ _. refl)
+    look_cases (λ o. is_link_down o.answer ≡ false) pair side queue (λ r no found. no.link) (λ may none. refl) (λ may some frame at. refl) (λ may. refl)
+link_answer devs plan bytes pair (Copy p side queue) = copy_cases (λ o. is_link_down o.answer ≡ false) pair side queue (λ r no. no.link) (λ turn more. refl) (λ turn last. refl)
 link_answer devs plan bytes pair (Clear p side queue) = clear_cases (λ o. is_link_down o.answer ≡ false) pair side queue (λ r no. no.link) (λ _. refl)
 link_answer devs plan bytes pair (Ack p side queue) = ack_cases (λ o. is_link_down o.answer ≡ false) pair side queue (λ r no. no.link) (λ _. refl)
 link_answer devs plan bytes pair (Wake p side queue dev) =
@@ -60,16 +69,28 @@ fresh_up true plan e = rw (← e) refl
 fresh_up false plan e = rw (← e) refl
 
 -- the log says whether the pair's link is up
-pub log_knows_link : (plan : Plan) (k : ℕ) → IsKept plan k (λ log pair. up_at plan k log ≡ link_up pair)
-log_knows_link plan k = record {
-  fresh = fresh_up (pair_plan plan k).up (pair_plan plan k) refl;
-  own = λ before pair step bytes e holds.
-      up_after-last k (pair_plan plan k).up before _ ∙ ap (up_step k _) holds ∙ sym (up_kept plan.devs (pair_plan plan k) bytes pair step k e);
-  other = λ before pair made ne holds. up_after-last k (pair_plan plan k).up before made ∙ up_step-other k made _ ne ∙ holds;
+next_up : (b c now : Bool) (k : ℕ) (made : Answered) → trains k made ≡ b → breaks k made ≡ c → up_step k made now ≡ (if b then true else if c then false else now)
+next_up b c now k made starts ends = rw (starts, ends) refl
+
+up_kept : (plan : Plan) (lane : LaneName) (s : Sight) (made : Answered) (news : News) (t : Sight) → Tells plan lane s.lane made news → Turn plan lane s made news t
+    → up_step lane.pair made (is_up s.state) ≡ is_up t.state
+up_kept plan lane s made news t tells (Trains may) = next_up true false (is_up s.state) lane.pair made tells.starts tells.ends
+up_kept plan lane s made news t tells (Breaks up) = next_up false true (is_up s.state) lane.pair made tells.starts tells.ends
+up_kept plan lane s made news t tells (Drops closing) = next_up false false (is_up s.state) lane.pair made tells.starts tells.ends ∙ closing-not_up s.state closing
+up_kept plan lane s made news t tells turn = next_up false false (is_up s.state) lane.pair made tells.starts tells.ends
+
+link_runs : (plan : Plan) (lane : LaneName) → HoldsAlways plan lane (λ log s. up_at plan lane.pair log ≡ is_up s.state)
+link_runs plan lane = record {
+  fresh = fresh_up (pair_plan plan lane.pair).up (pair_plan plan lane.pair) refl;
+  turns = λ log s made news t tells turn h. up_after-last lane.pair (pair_plan plan lane.pair).up log made ∙ ap (up_step lane.pair made) h ∙ up_kept plan lane s made news t tells turn;
 }
 
 pub link_down_where_not_up : LinkDownWhereNotUp
 link_down_where_not_up plan memories steps step answer goes =
     ap is_link_down (answer_of plan memories steps step answer goes)
     ∙ link_answer plan.devs (pair_plan plan (subject_of step)) _ _ step
-    ∙ ap (λ up. needs_link step && not up) (sym (kept_of plan memories (subject_of step) _ (log_knows_link plan (subject_of step)) steps))
+    ∙ ap (λ up. needs_link step && not up) (sym (always_after plan any _ (link_runs plan any) memories steps))
+  where
+    -- any lane of the pair
+    any : LaneName
+    any = record { pair = subject_of step; from = A; queue = 0 }
