@@ -1,7 +1,7 @@
 -- `again` comes exactly where the ring has no room.
-use Rattle.std.proofs.Common.{◌≡◌, ℕ, ◌-◌, ◌==◌, Bool, true, false, not, ◌&&◌, Option, Some, None, List, [], length, refl, sym, ap, ◌∙◌, subst, arith}
+use Rattle.std.proofs.Common.{◌≡◌, ℕ, ◌-◌, ◌==◌, Bool, true, false, not, Option, Some, None, List, [], length, refl, sym, ap, ◌∙◌, subst, arith}
 use Rattle.std.specs.Prelude.{if◌then◌else◌, nat_lt}
-use Rattle.std.proofs.lemmas.Bool.{false≢true, ne_eqb}
+use Rattle.std.proofs.lemmas.Bool.{false≢true}
 use Rattle.std.proofs.lemmas.Option.{none-some, same_Some}
 use Rattle.step_kinds.specs.Bits.{has_bit}
 use Rattle.step_kinds.specs.Sides.{other_side}
@@ -11,15 +11,14 @@ use Rattle.step_kinds.specs.declared.names.Side.{Side}
 use Rattle.step_kinds.specs.declared.plan.Plan.{Plan}
 use Rattle.step_kinds.specs.declared.plan.PairPlan.{PairPlan}
 use Rattle.step_kinds.specs.declared.plan.DevPlan.{DevPlan}
-use Rattle.step_kinds.specs.declared.steps.Label.TheVariants.{Index}
 use Rattle.step_kinds.specs.declared.steps.Answer.{Answer}
-use Rattle.step_kinds.specs.declared.steps.Answer.TheVariants.{OkNumber, LinkDown, NotReady, Closed, TooLong, Busy, Stopped, Again, Landed}
+use Rattle.step_kinds.specs.declared.steps.Answer.TheVariants.{OkNumber, LinkDown, NotReady, Closed, TooLong, Busy, Stopped, Again}
 use Rattle.step_kinds.specs.declared.steps.Step.{Step}
-use Rattle.step_kinds.specs.declared.steps.Step.TheVariants.{Begin, QpDown, Xbegin, Land}
+use Rattle.step_kinds.specs.declared.steps.Step.TheVariants.{Begin, QpDown, Xbegin}
 use Rattle.ledger_model.specs.Device.{ethernet_frame}
 use Rattle.ledger_laws.specs.Laws.{AgainWhereNoRoom, lane_begun_by, refused_before_room, is_again, entries_in}
 use Rattle.ledger_model.specs.Ledger.{LanePart, PairPart, Sizes, side_of, lane_of, dev_of, link_up, sizes_of, free_of, head_in, tail_in}
-use Rattle.ledger_model.specs.Log.{takes_room, gives_room, room_in, log_of, ledger_of, Memories}
+use Rattle.ledger_model.specs.Log.{room_in, log_of, ledger_of, Memories}
 use Rattle.ledger_model.specs.Next.{Bytes, pair_next, pair_plan, dev_plan, fresh_pair}
 use Rattle.ledger_model.specs.Outcome.{decided, refuse_if}
 use Rattle.ledger_model.specs.Sending.{is_empty_list, begun, refuse_sender, refuse_full, begin_refusal, xbegin_refusal, counts_refused, begin_refusal, refuse_busy}

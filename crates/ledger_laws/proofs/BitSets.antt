@@ -1,12 +1,11 @@
 -- Sets of small numbers as the bits of a number: one number more, and those that are taken out.
 use Rattle.std.proofs.Common.{◌≡◌, ℕ, zero, suc, ◌-◌, ◌≤◌, true, false, inl, inr, sym, ap, ◌∙◌, arith}
-use Rattle.std.specs.Prelude.{◌==◌, Bool, ◌^◌, ◌/◌, ◌%◌, bit_and, bit_or}
+use Rattle.std.specs.Prelude.{◌==◌, ◌^◌, ◌/◌, ◌%◌, bit_and, bit_or}
 use Rattle.std.specs.Int.{bit_at}
 use Rattle.std.proofs.lemmas.Bool.{eq-eqb, eqb-true, eqb-false, both_ways, cases_Bool}
 use Rattle.std.proofs.lemmas.Nat.{and_shr, and_mod, and_le_l}
 use Rattle.std.proofs.lemmas.Nat.Bits.{bit_at-suc, bit_at_lowest, bit_at-lt, bit_at_or, bit_at-pow_same, bit_at-zero}
 use Rattle.step_kinds.specs.Bits.{has_bit, with_bit, without_bits}
-
 
 -- one number more
 bit-set : (b : ℕ) → b ≡ 1 → (b == 1) ≡ true

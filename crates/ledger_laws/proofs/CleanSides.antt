@@ -1,5 +1,5 @@
 -- While the link is down, a side that is clean has nothing of a session, and a side that agreed to the next session is clean.
-use Rattle.std.proofs.Common.{◌≡◌, ℕ, Bool, true, false, Some, List, [], refl, sym, ap, ◌∙◌, inl, inr}
+use Rattle.std.proofs.Common.{◌≡◌, ℕ, Bool, true, false, List, [], refl, sym, ap, ◌∙◌, inl, inr}
 use Rattle.std.specs.Prelude.{slice_get, replicate}
 use Rattle.std.proofs.lemmas.Bool.{both_ways, false≢true, cases_Bool}
 use Rattle.std.proofs.lemmas.Option.{none-some}
@@ -69,4 +69,3 @@ settled_kept plan lane s made news t (Readies e queue may) empty h = let up = up
 settled_kept plan lane s made news t (Joins e queue may) empty h = let up = up-not_down s.state may.up in (settled_up _ up, settled_up _ up)
 settled_kept plan lane s made news t (LandsPad e place i value may) empty h = let up = not_down_with s e place (Pad i value) empty may in (settled_up _ up, settled_up _ up)
 settled_kept plan lane s made news t turn empty h = h
-

@@ -1,15 +1,15 @@
 -- Flags and doorbells of a lane that are left, in flight and then to post: each flag is followed by its doorbell, and a receiver that
 -- saw nothing has nothing to look for, or its doorbell is pending or on its way.
-use Rattle.std.proofs.Common.{◌≡◌, ℕ, zero, suc, ◌+◌, ◌==◌, Bool, true, false, Option, Some, None, List, [], ◌∷◌, ◌++◌, length, map, refl, sym, ap, ◌∙◌, subst, inl, inr, ◌⊎◌, arith}
+use Rattle.std.proofs.Common.{◌≡◌, ℕ, zero, suc, ◌+◌, ◌==◌, Bool, true, false, Option, Some, None, List, [], ◌∷◌, ◌++◌, length, map, refl, sym, ap, ◌∙◌, inl, inr, ◌⊎◌, arith}
 use Rattle.std.specs.Prelude.{if◌then◌else◌, remove}
 use Rattle.std.specs.List.{filter_map, cons_option}
-use Rattle.std.proofs.lemmas.Bool.{eq-eqb, ne_eqb, eqb-true, cases_eq, cases_Bool, false≢true, true≢false, both_ways, cond-true, cond-false}
+use Rattle.std.proofs.lemmas.Bool.{eq-eqb, ne_eqb, eqb-true, cases_eq, false≢true, true≢false, both_ways, cond-true, cond-false}
 use Rattle.std.proofs.lemmas.List.{append-nil, length-append}
 use Rattle.step_kinds.specs.Bits.{has_bit, with_bit, without_bits}
 use Rattle.step_kinds.specs.declared.names.LaneName.{LaneName}
 use Rattle.step_kinds.specs.declared.plan.Plan.{Plan}
 use Rattle.step_kinds.specs.declared.steps.Label.{Label}
-use Rattle.step_kinds.specs.declared.steps.Label.TheVariants.{Flag, Down, Bell, Pad}
+use Rattle.step_kinds.specs.declared.steps.Label.TheVariants.{Bell, Pad}
 use Rattle.lane_model.specs.Lane.{Entry, Carries, GoesDown, bytes_of, count_from, chunks_in, writes_of}
 use Rattle.lane_model.specs.Order.{strict}
 use Rattle.lane_model.specs.declared.Field.TheVariants.{Chunk as PayloadChunk, Length, Version}
@@ -201,10 +201,13 @@ WatchedOf q s = IsWatched (left_of q s) (has_bit s.receiver.pending q) s.lane.fl
 -- the same ticks, or more behind them, and no doorbell less
 watched_by : (before after : List Bool) (pending still : Bool) (flagged got : ℕ) (phase : Phase) → ((rest : List Bool) → before ≡ false ∷ rest → (more : List Bool) × (after ≡ false ∷ more))
     → (pending ≡ true → still ≡ true) → IsWatched before pending flagged got phase → IsWatched after still flagged got phase
-watched_by before after pending still flagged got phase ticks bells h = record { idle = h.idle; why = elim h.why [
-  | inl e ↦ inl e
-  | inr more ↦ elim more [ inl p ↦ inr (inl (bells p)) | inr w ↦ inr (inr (ticks w.0 w.1)) ]
-] }
+watched_by before after pending still flagged got phase ticks bells h = record {
+  idle = h.idle;
+  why = elim h.why [
+    | inl e ↦ inl e
+    | inr more ↦ elim more [ inl p ↦ inr (inl (bells p)) | inr w ↦ inr (inr (ticks w.0 w.1)) ]
+  ];
+}
 
 watched_alike : {before after : List Bool} {pending : Bool} {flagged got : ℕ} {phase : Phase} → after ≡ before → IsWatched before pending flagged got phase → IsWatched after pending flagged got phase
 watched_alike {before} {after} {pending} e h = watched_by before after pending pending _ _ _ (λ rest is. (rest, e ∙ is)) (λ p. p) h

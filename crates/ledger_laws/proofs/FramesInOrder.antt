@@ -1,6 +1,6 @@
 -- In every log the frames of a lane and a session are delivered in order and once, and the ledger's tallies count them.
 use Rattle.std.proofs.Common.{◌≡◌, ℕ, ◌+◌, ◌<◌, ◌≤◌, ◌==◌, Bool, true, false, List, [], ◌∷◌, ◌++◌, length, take, refl, sym, ap, ◌∙◌, subst, inl, inr, arith, ◌⊎◌}
-use Rattle.std.specs.Prelude.{if◌then◌else◌, slice_index_or}
+use Rattle.std.specs.Prelude.{if◌then◌else◌}
 use Rattle.std.specs.List.{flat_map}
 use Rattle.std.proofs.lemmas.Bool.{eq-eqb, ne_eqb, cases_eq, cases_order, false≢true, both_ways}
 use Rattle.std.proofs.lemmas.List.{append-nil, take-append-le, length-append}
@@ -12,7 +12,7 @@ use Rattle.step_kinds.specs.declared.plan.Plan.{Plan}
 use Rattle.step_kinds.specs.declared.plan.PairPlan.{PairPlan}
 use Rattle.lane_model.specs.Lane.{Entry, Carries, GoesDown, bytes_of}
 use Rattle.lane_model.specs.declared.Phase.{Phase}
-use Rattle.ledger_model.specs.Ledger.{Tally, PairPart, LanePart, lane_of, tally_of, entry_in, updated}
+use Rattle.ledger_model.specs.Ledger.{Tally, LanePart, lane_of, tally_of, entry_in, updated}
 use Rattle.ledger_model.specs.Link.{is_up}
 use Rattle.ledger_model.specs.LinkSteps.{fresh_lane}
 use Rattle.ledger_model.specs.Log.{Answered, Numbered, accepts, delivers, accepted, delivered, first_session, trains, made_in, log_of, ledger_of}

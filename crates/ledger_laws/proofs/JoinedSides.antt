@@ -1,11 +1,11 @@
 -- In a session of an ordinary pair queues are ready only on a side that is up, and joined only where both sides are up: the bits that a
 -- side sees in its scratchpad come from a peer that is up.
-use Rattle.std.proofs.Common.{◌≡◌, ℕ, zero, suc, ◌==◌, Bool, true, false, Option, Some, None, List, [], ◌∷◌, refl, sym, ap, ◌∙◌, subst, inl, inr, ◌⊎◌}
+use Rattle.std.proofs.Common.{◌≡◌, ℕ, ◌==◌, Bool, true, false, Option, Some, None, List, [], refl, sym, ap, subst, inl, inr, ◌⊎◌}
 use Rattle.std.specs.Prelude.{if◌then◌else◌, slice_get, slice_index, slice_set, nat_lt, remove}
-use Rattle.std.specs.List.{filter_map, cons_option}
-use Rattle.std.proofs.lemmas.Bool.{false≢true, both_ways, cases_Bool, eqb-false, eqb-true, cond-true, cond-false, lt-ltb}
+use Rattle.std.specs.List.{filter_map}
+use Rattle.std.proofs.lemmas.Bool.{false≢true, both_ways, cases_Bool, eqb-false, eqb-true, cond-true, cond-false}
 use Rattle.std.proofs.lemmas.List.{get_or-set_other}
-use Rattle.std.proofs.lemmas.Option.{none-some, same_Some}
+use Rattle.std.proofs.lemmas.Option.{none-some}
 use Rattle.step_kinds.specs.Bits.{has_bit}
 use Rattle.step_kinds.specs.declared.names.LaneName.{LaneName}
 use Rattle.step_kinds.specs.declared.plan.Plan.{Plan}
@@ -23,7 +23,7 @@ use Rattle.ledger_laws.proofs.Basics.{up-not_down}
 use Rattle.ledger_laws.proofs.BitSets.{no_bit}
 use Rattle.ledger_laws.proofs.CleanSides.{IsNew, SettledOf}
 use Rattle.ledger_laws.proofs.InFlight.{filter_map-remove, posted_unread, some_read, EmptyOf}
-use Rattle.ledger_laws.proofs.walk.Sight.{Sight, End, Role, Sender, Receiver, peer_of, end_at, with_flight, with_offered, flight_with, posted}
+use Rattle.ledger_laws.proofs.walk.Sight.{Sight, End, Role, Sender, Receiver, end_at, with_flight, with_offered, posted}
 use Rattle.ledger_laws.proofs.walk.Tells.{News}
 use Rattle.ledger_laws.proofs.walk.Turn.{Turn, MayLand, Trains, Breaks, Drops, Forgets, Offers, Checks, Readies, Joins, Posts, Says, LandsFlag, LandsField, LandsIndex, LandsBell, LandsPad, LandsAside, Acks, is_link_pad, is_handshake, on_queue}
 

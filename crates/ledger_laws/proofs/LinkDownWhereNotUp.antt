@@ -22,7 +22,7 @@ use Rattle.ledger_laws.proofs.Basics.{closing-not_up}
 use Rattle.ledger_laws.proofs.Readers.{up_step, up_after-last}
 use Rattle.ledger_laws.proofs.Runs.{answer_of}
 use Rattle.ledger_laws.proofs.walk.Logs.{HoldsAlways, always_after}
-use Rattle.ledger_laws.proofs.walk.Sight.{Sight, sight}
+use Rattle.ledger_laws.proofs.walk.Sight.{Sight}
 use Rattle.ledger_laws.proofs.walk.Tells.{News, Tells}
 use Rattle.ledger_laws.proofs.walk.Turn.{Turn, Trains, Breaks, Drops}
 

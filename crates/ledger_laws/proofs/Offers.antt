@@ -1,8 +1,8 @@
 -- What a side offers in the handshake: scratchpads alone, each once, the version last; and what they leave in the peer's scratchpads.
-use Rattle.std.proofs.Common.{◌≡◌, ℕ, zero, suc, Bool, true, false, None, List, [], ◌∷◌, ◌++◌, map, refl, ◌+◌, ◌<◌, ◌≤◌, ◌==◌, not, Option, Some, length, take, drop, sym, ap, ◌∙◌, inl, inr, ◌⊎◌, arith, append_assoc, ◌&&◌, subst}
-use Rattle.std.specs.Prelude.{◌/◌, ◌%◌, slice_index_or, if◌then◌else◌, nat_lt, slice_index, slice_set, replicate}
-use Rattle.std.specs.List.{list_all, flat_map, filter_map, cons_option}
-use Rattle.std.proofs.lemmas.Bool.{and_parts, and_from, false≢true, eq-eqb, ne_eqb, lt-ltb, not-true, cond-true, cases_eq, both_ways, eqb-false}
+use Rattle.std.proofs.Common.{◌≡◌, ℕ, zero, suc, Bool, true, false, None, List, [], ◌∷◌, ◌++◌, map, refl, ◌+◌, ◌<◌, ◌≤◌, ◌==◌, not, Option, Some, take, drop, sym, ap, ◌∙◌, inl, inr, ◌⊎◌, arith, append_assoc, ◌&&◌}
+use Rattle.std.specs.Prelude.{◌/◌, ◌%◌, slice_index_or, if◌then◌else◌, nat_lt}
+use Rattle.std.specs.List.{list_all, flat_map, filter_map}
+use Rattle.std.proofs.lemmas.Bool.{and_parts, and_from, false≢true, eq-eqb, ne_eqb, lt-ltb, not-true, cond-true, cases_eq}
 use Rattle.step_kinds.specs.declared.plan.SidePlan.{SidePlan}
 use Rattle.step_kinds.specs.declared.steps.Label.{Label}
 use Rattle.step_kinds.specs.declared.steps.Label.TheVariants.{Pad}
@@ -10,13 +10,8 @@ use Rattle.lane_model.specs.Lane.{count_from}
 use Rattle.ledger_model.specs.Handshake.{offers, word}
 use Rattle.ledger_model.specs.Labels.{write_of, index_of}
 use Rattle.ledger_laws.proofs.walk.Turn.{is_pad, is_link_pad}
-use Rattle.ledger_model.specs.Ledger.{high_pad, low_pad, windows_pad, queues_pad, version_pad, SidePart, PairPart, side_of}
-use Rattle.std.proofs.lemmas.List.{take-append-drop, append-nil, take_more, length-set, get_or-set_same, get_or-set_other, get_or-replicate}
-use Rattle.step_kinds.specs.Sides.{other_side}
-use Rattle.step_kinds.specs.declared.names.Side.{Side}
-use Rattle.ledger_model.specs.Both.{at_side}
-use Rattle.ledger_model.specs.Link.{Link, is_up, is_down}
-use Rattle.ledger_model.specs.Log.{Answered, trains, pad_after, landed_pad}
+use Rattle.ledger_model.specs.Ledger.{high_pad, low_pad, windows_pad, queues_pad, version_pad}
+use Rattle.std.proofs.lemmas.List.{take-append-drop}
 
 -- The writes of an offer
 

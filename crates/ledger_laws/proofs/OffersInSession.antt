@@ -1,34 +1,32 @@
 -- In a session of an ordinary pair, what landed of the peer's offer and then what is in flight is what the peer has offered so far,
 -- and the scratchpads of a side that made no check show what landed. The side is the lane's sender, its peer the receiver.
-use Rattle.std.proofs.Common.{◌≡◌, ℕ, ◌+◌, ◌<◌, ◌≤◌, ◌==◌, Bool, true, false, not, ◌&&◌, Option, Some, None, List, [], ◌∷◌, ◌++◌, length, take, refl, sym, ap, ◌∙◌, subst, inl, inr, ◌⊎◌, arith, append_assoc}
-use Rattle.std.specs.Prelude.{if◌then◌else◌, nat_lt, slice_get, slice_index, slice_index_or, slice_set, remove, replicate}
-use Rattle.std.specs.List.{filter_map, cons_option}
-use Rattle.std.proofs.lemmas.Bool.{both_ways, false≢true, true≢false, cases_eq, cases_Bool, eq-eqb, ne_eqb, eqb-false, and_left, cond-false}
+use Rattle.std.proofs.Common.{◌≡◌, ℕ, ◌+◌, ◌<◌, ◌≤◌, ◌==◌, Bool, true, false, Option, Some, None, List, [], ◌∷◌, ◌++◌, length, take, refl, sym, ap, ◌∙◌, subst, inl, inr, arith, append_assoc}
+use Rattle.std.specs.Prelude.{if◌then◌else◌, nat_lt, slice_index, slice_index_or, slice_set, remove}
+use Rattle.std.specs.List.{cons_option}
+use Rattle.std.proofs.lemmas.Bool.{both_ways, false≢true, true≢false, cases_eq, eq-eqb, ne_eqb, eqb-false, and_left, cond-false}
 use Rattle.std.proofs.lemmas.List.{append-nil, take_more, length-set, get_or-set_same, get_or-set_other, get_or-replicate}
-use Rattle.std.proofs.lemmas.Option.{none-some}
 use Rattle.step_kinds.specs.Sides.{other_side}
 use Rattle.step_kinds.specs.declared.names.LaneName.{LaneName}
 use Rattle.step_kinds.specs.declared.plan.Plan.{Plan}
 use Rattle.step_kinds.specs.declared.plan.SidePlan.{SidePlan}
 use Rattle.step_kinds.specs.declared.steps.Label.{Label}
-use Rattle.step_kinds.specs.declared.steps.Label.TheVariants.{Index, Pad}
+use Rattle.step_kinds.specs.declared.steps.Label.TheVariants.{Pad}
 use Rattle.lane_model.specs.Order.{strict}
 use Rattle.ledger_model.specs.Handshake.{offers}
 use Rattle.ledger_model.specs.Labels.{order_of}
 use Rattle.ledger_model.specs.Ledger.{side_plan}
-use Rattle.ledger_model.specs.Link.{is_up, is_down}
+use Rattle.ledger_model.specs.Link.{is_up}
 use Rattle.ledger_model.specs.Log.{Answered, trains, landed_pad}
 use Rattle.ledger_model.specs.Next.{pair_plan}
-use Rattle.ledger_model.specs.declared.LinkState.{LinkState}
 use Rattle.ledger_laws.specs.Laws.{IsOrdinaryOn}
-use Rattle.ledger_laws.proofs.Basics.{down-not_up, up-not_down}
+use Rattle.ledger_laws.proofs.Basics.{down-not_up}
 use Rattle.ledger_laws.proofs.CleanSides.{IsNew, SettledOf}
-use Rattle.ledger_laws.proofs.InFlight.{filter_map-last, filter_map-remove, strict_first, posted_unread, posted_up, EmptyOf, empty_kept}
+use Rattle.ledger_laws.proofs.InFlight.{filter_map-last, filter_map-remove, strict_first, posted_unread, posted_up, EmptyOf}
 use Rattle.ledger_laws.proofs.Offers.{is_offer, offer_of, offers_in, last_value, last_value-last, value_of, offer-good}
 use Rattle.ledger_laws.proofs.Readers.{landed_pad-last}
-use Rattle.ledger_laws.proofs.walk.Sight.{Sight, End, Role, Sender, Receiver, end_at, flight_with}
+use Rattle.ledger_laws.proofs.walk.Sight.{Sight, Sender, Receiver, flight_with}
 use Rattle.ledger_laws.proofs.walk.Tells.{News, Tells, pad_next}
-use Rattle.ledger_laws.proofs.walk.Turn.{MayLand, MayOffer, Turn, Enables, Trains, Breaks, Drops, Forgets, Offers, Checks, Readies, Says, LandsFlag, LandsField, LandsIndex, LandsBell, LandsPad, LandsAside, Acks, is_handshake}
+use Rattle.ledger_laws.proofs.walk.Turn.{MayLand, MayOffer, Turn, Trains, Breaks, Drops, Forgets, Offers, Checks, Readies, Says, LandsIndex, LandsBell, LandsPad, LandsAside, Acks, is_handshake}
 
 -- The session
 

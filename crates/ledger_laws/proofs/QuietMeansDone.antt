@@ -1,7 +1,7 @@
 -- Where nothing is on its way to a receiver and it has seen so, all that was accepted was delivered.
-use Rattle.std.proofs.Common.{◌≡◌, ℕ, ◌+◌, Bool, true, false, List, [], ◌∷◌, ◌++◌, length, take, refl, sym, ap, ◌∙◌, subst}
+use Rattle.std.proofs.Common.{◌≡◌, Bool, true, false, List, [], ◌∷◌, ◌++◌, length, take, refl, sym, ap, ◌∙◌, subst}
 use Rattle.std.specs.Prelude.{if◌then◌else◌}
-use Rattle.std.proofs.lemmas.Bool.{false≢true, true≢false, cases_Bool}
+use Rattle.std.proofs.lemmas.Bool.{false≢true}
 use Rattle.std.proofs.Math.Seq.{take-length}
 use Rattle.step_kinds.specs.Bits.{has_bit}
 use Rattle.step_kinds.specs.Sides.{other_side}
@@ -11,7 +11,7 @@ use Rattle.step_kinds.specs.declared.plan.PairPlan.{PairPlan}
 use Rattle.ledger_laws.specs.Laws.{QuietMeansDone}
 use Rattle.ledger_model.specs.Ledger.{LanePart, PairPart, side_of, lane_of}
 use Rattle.ledger_model.specs.Link.{is_up}
-use Rattle.ledger_model.specs.Log.{Answered, trains, log_of, ledger_of, accepted, delivered, last_look_empty}
+use Rattle.ledger_model.specs.Log.{Answered, log_of, ledger_of, accepted, delivered, last_look_empty}
 use Rattle.ledger_model.specs.Next.{fresh_pair, pair_plan}
 use Rattle.ledger_laws.proofs.Basics.{fresh-lane, fresh-flight}
 use Rattle.ledger_laws.proofs.FlagsAndBells.{LinedOf, WatchedOf, lined_kept, watched_kept, nothing_left, ticks_of}

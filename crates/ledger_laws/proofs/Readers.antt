@@ -5,12 +5,6 @@ use Rattle.std.proofs.lemmas.Grind.{flat_map-append}
 use Rattle.std.specs.List.{flat_map}
 use Rattle.std.proofs.Common.{◌≡◌, ℕ, Bool, true, false, List, [], ◌∷◌, ◌++◌, refl, ◌+◌, ◌==◌, ap, ◌∙◌, Option, None}
 use Rattle.std.specs.Prelude.{if◌then◌else◌}
-use Rattle.std.proofs.lemmas.Bool.{ne_eqb}
-use Rattle.step_kinds.specs.Subject.{subject_of}
-use Rattle.step_kinds.specs.declared.steps.Answer.{Answer}
-use Rattle.step_kinds.specs.declared.steps.Answer.TheVariants.{Ok as Done, OkSession}
-use Rattle.step_kinds.specs.declared.steps.Step.{Step}
-use Rattle.step_kinds.specs.declared.steps.Step.TheVariants.{Train, Break}
 use Rattle.ledger_model.specs.Log.{Answered, trains, breaks, up_after, made_in, made_since, saw_empty, last_look_empty, pad_after, landed_pad}
 
 -- whether the link is up after one entry more

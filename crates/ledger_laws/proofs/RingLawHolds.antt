@@ -1,5 +1,5 @@
 -- Whenever both sides of an ordinary pair are up, the law of the ring holds of each of its lanes.
-use Rattle.std.proofs.Common.{◌≡◌, ℕ, ◌*◌, ◌/◌, ◌<◌, ◌≤◌, Bool, true, false, List, [], ◌∷◌, ◌++◌, length, replicate, refl, sym, ap, ◌∙◌, subst, inl, inr, arith}
+use Rattle.std.proofs.Common.{◌≡◌, ℕ, ◌*◌, ◌/◌, ◌<◌, ◌≤◌, Bool, true, false, [], length, replicate, refl, sym, ap, ◌∙◌, subst, inl, inr, arith}
 use Rattle.std.specs.Prelude.{if◌then◌else◌, slice_index_or}
 use Rattle.std.proofs.Math.Nat.{le-div_iff_mul-le, min-le_right, div-mul-le_self}
 use Rattle.std.proofs.Math.ListN.{get_or-eq_default}
@@ -19,7 +19,7 @@ use Rattle.ledger_model.specs.Link.{fresh_link}
 use Rattle.ledger_model.specs.LinkSteps.{fresh_lane}
 use Rattle.ledger_model.specs.Log.{ledger_of}
 use Rattle.ledger_model.specs.Next.{pair_plan, fresh_pair, agreed_side, idle_side}
-use Rattle.ledger_model.specs.Rings.{RingPart, zeroed_slot, fresh_ring, ring_next, ring_of}
+use Rattle.ledger_model.specs.Rings.{RingPart, zeroed_slot, fresh_ring}
 use Rattle.ledger_laws.specs.Laws.{IsOrdinaryOn}
 use Rattle.ledger_laws.specs.Rings.{RingLawHolds}
 use Rattle.ledger_laws.proofs.Basics.{fresh-flight}

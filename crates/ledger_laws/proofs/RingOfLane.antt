@@ -1,13 +1,11 @@
 -- The ring that the log leaves of a lane, in a session that neither side has forgotten: once both sides are up the law of the ring holds
 -- of the lane, and before that the lane is fresh, without flags where the receiver is up and with its index word where the sender is.
 use Rattle.std.proofs.Common.{◌≡◌, ℕ, zero, suc, ◌+◌, ◌-◌, ◌%◌, ◌<◌, ◌≤◌, ◌==◌, Bool, true, false, Option, Some, None, List, [], ◌∷◌, ◌++◌, length, map, take, drop, refl, sym, ap, ◌∙◌, subst, inl, inr, ◌⊎◌, arith, mod-lt, length-set, get_or-set_same, get_or-set_other}
-use Rattle.std.specs.Prelude.{if◌then◌else◌, slice_get, slice_index_or, slice_set, remove, ◌≢◌}
-use Rattle.std.specs.List.{filter_map}
+use Rattle.std.specs.Prelude.{if◌then◌else◌, slice_index_or, slice_set, remove, ◌≢◌}
 use Rattle.std.proofs.Math.Nat.{mod-eq_of_lt}
-use Rattle.std.proofs.lemmas.Bool.{false≢true, both_ways, cases_eq, cases_Bool, eq-eqb, ne_eqb, eqb-false, cond-true, cond-false}
+use Rattle.std.proofs.lemmas.Bool.{false≢true, both_ways, cases_eq, eq-eqb, ne_eqb, eqb-false, cond-true, cond-false}
 use Rattle.std.proofs.lemmas.List.{get_or_push, get_or_append_left, length_push}
 use Rattle.std.proofs.lemmas.List.Elements.{filter_map-append}
-use Rattle.std.proofs.lemmas.Option.{none-some}
 use Rattle.step_kinds.specs.Bits.{has_bit, with_bit}
 use Rattle.step_kinds.specs.declared.names.LaneName.{LaneName}
 use Rattle.step_kinds.specs.declared.plan.Plan.{Plan}
@@ -23,16 +21,15 @@ use Rattle.lane_model.specs.declared.Phase.TheVariants.{Idle, Copying, Copied, C
 use Rattle.lane_model.specs.declared.Write.{Write}
 use Rattle.lane_model.specs.declared.Write.TheVariants.{Data, Flag as EntryFlag, Bell as QueueBell}
 use Rattle.lane_laws.proofs.Holds.{fresh_holds, cut_keeps, drop_keeps, free_is_room, begin_keeps, post_keeps, land_data_keeps, land_flag_keeps, land_bell_keeps, look_keeps, copy_keeps, clear_keeps, ack_keeps, index_keeps}
-use Rattle.ledger_model.specs.Labels.{write_of, index_of, writes_among, indexes_among, order_of}
-use Rattle.ledger_model.specs.Ledger.{LanePart, Sizes, entry_in, free_of, links_pad, sizes_of}
-use Rattle.ledger_model.specs.Link.{is_up, is_down}
+use Rattle.ledger_model.specs.Labels.{write_of, index_of, writes_among, indexes_among}
+use Rattle.ledger_model.specs.Ledger.{LanePart, Sizes, free_of, links_pad, sizes_of}
+use Rattle.ledger_model.specs.Link.{is_up}
 use Rattle.ledger_model.specs.LinkSteps.{fresh_lane}
 use Rattle.ledger_model.specs.Log.{Answered}
 use Rattle.ledger_model.specs.Next.{pair_plan}
 use Rattle.ledger_model.specs.Receiving.{is_idle, is_copying, is_copied, is_cleared}
 use Rattle.ledger_model.specs.Rings.{RingPart, without_header}
 use Rattle.ledger_model.specs.Sending.{begun_lane}
-use Rattle.ledger_model.specs.declared.LinkState.{LinkState}
 use Rattle.ledger_laws.proofs.Basics.{up-not_down, closing-not_up}
 use Rattle.ledger_laws.proofs.BitSets.{no_bit, has-with_same, has-without}
 use Rattle.ledger_laws.proofs.CleanSides.{SettledOf, not_down_with}
@@ -40,7 +37,7 @@ use Rattle.ledger_laws.proofs.InFlight.{first_none, first_some, middle_some, som
 use Rattle.ledger_laws.proofs.JoinedSides.{LiveOf, JoinsOf, live_up, closing-not_down}
 use Rattle.ledger_laws.proofs.Labels.{writes_among-labels, flag_strict, bell_strict, index_strict}
 use Rattle.ledger_laws.proofs.Offers.{pad-write, pad-index}
-use Rattle.ledger_laws.proofs.walk.Sight.{Sight, Role, Sender, Receiver, flight_with}
+use Rattle.ledger_laws.proofs.walk.Sight.{Sight, Sender, Receiver, flight_with}
 use Rattle.ledger_laws.proofs.walk.Tells.{News}
 use Rattle.ledger_laws.proofs.walk.Turn.{MayBegin, MayLand, Turn, Trains, Breaks, Drops, Forgets, Offers, Checks, Readies, Begins, Closes, Posts, Shuts, Says, LandsFlag, LandsField, LandsIndex, LandsBell, LandsPad, LandsAside, Looks, CopiesPart, CopiesLast, Clears, Acks, ring_landed, ring_freed, ring_checked, ring_cleared}
 
@@ -386,7 +383,12 @@ module _ (sizes : Sizes) (q : ℕ) (s : Sight) (ring : RingPart) where
   drops : is_up s.state ≡ false → Stage → StageBy sizes q false s.sender.up s.receiver.up s.sender.closed [] [] s.lane ring
   drops down (inl runs) = inl (law_goes_on (λ law. subst (λ up. HoldsRingLaw (lane_shown sizes q up [] [] s.lane ring)) down (drop_keeps Before down law)) runs)
   drops down (inr starts) = inr (record {
-    one_down = starts.one_down; fresh = starts.fresh; no_writes = refl; no_indexes = refl; no_flags = starts.no_flags; index_word = starts.index_word;
+    one_down = starts.one_down;
+    fresh = starts.fresh;
+    no_writes = refl;
+    no_indexes = refl;
+    no_flags = starts.no_flags;
+    index_word = starts.index_word;
   })
 
   -- a side comes up: the other one is up by now, or isn't yet
@@ -400,7 +402,12 @@ module _ (sizes : Sizes) (q : ℕ) (s : Sight) (ring : RingPart) where
           (runs_at_start sizes q (is_up s.state) s.sender.closed Writes Indexes s.lane (ring_checked Sender sizes ring) two sized starts.fresh starts.no_writes starts.no_indexes (starts.no_flags e)
           (tail_at_start sizes.entries two)))
       go false e = inr (record {
-        one_down = inr e; fresh = starts.fresh; no_writes = starts.no_writes; no_indexes = starts.no_indexes; no_flags = starts.no_flags; index_word = λ now. tail_at_start sizes.entries two;
+        one_down = inr e;
+        fresh = starts.fresh;
+        no_writes = starts.no_writes;
+        no_indexes = starts.no_indexes;
+        no_flags = starts.no_flags;
+        index_word = λ now. tail_at_start sizes.entries two;
       })
 
   receiver_checks : 2 ≤ sizes.entries → IsSized sizes ring.ring → s.receiver.up ≡ false → Stage
@@ -413,7 +420,12 @@ module _ (sizes : Sizes) (q : ℕ) (s : Sight) (ring : RingPart) where
           (runs_at_start sizes q (is_up s.state) s.sender.closed Writes Indexes s.lane (ring_checked Receiver sizes ring) two (zeroed_sized sizes ring.ring sized) starts.fresh starts.no_writes
           starts.no_indexes (zeroed_flags ring.ring) (starts.index_word e)))
       go false e = inr (record {
-        one_down = inl e; fresh = starts.fresh; no_writes = starts.no_writes; no_indexes = starts.no_indexes; no_flags = λ now. zeroed_flags ring.ring; index_word = starts.index_word;
+        one_down = inl e;
+        fresh = starts.fresh;
+        no_writes = starts.no_writes;
+        no_indexes = starts.no_indexes;
+        no_flags = λ now. zeroed_flags ring.ring;
+        index_word = starts.index_word;
       })
 
   closes : (closed : ℕ) → (has_bit closed q ≡ false → has_bit s.sender.closed q ≡ false) → Stage → StageBy sizes q (is_up s.state) s.sender.up s.receiver.up closed Writes Indexes s.lane ring

@@ -1,18 +1,16 @@
 -- The log knows the room of a lane's ring: the entries that were begun and those that were given back, and the index writes in flight.
-use Rattle.std.proofs.Common.{◌≡◌, ℕ, suc, zero, ◌+◌, ◌<◌, ◌≤◌, ◌==◌, Bool, true, false, Some, List, [], ◌∷◌, ◌++◌, length, refl, sym, ap, ◌∙◌, inl, inr, arith, ◌⊎◌}
+use Rattle.std.proofs.Common.{◌≡◌, ℕ, suc, zero, ◌+◌, ◌<◌, ◌≤◌, Bool, true, false, List, [], ◌∷◌, ◌++◌, length, refl, sym, ap, ◌∙◌, inl, inr, arith, ◌⊎◌}
 use Rattle.std.specs.Prelude.{if◌then◌else◌, count_by, remove}
 use Rattle.std.proofs.lemmas.Bool.{both_ways, cases_Bool, false≢true, eq-eqb}
 use Rattle.std.proofs.lemmas.List.{length-append}
 use Rattle.step_kinds.specs.declared.names.LaneName.{LaneName}
 use Rattle.step_kinds.specs.declared.plan.Plan.{Plan}
 use Rattle.step_kinds.specs.declared.steps.Label.{Label}
-use Rattle.step_kinds.specs.declared.steps.Label.TheVariants.{Bell, Index, Pad}
+use Rattle.step_kinds.specs.declared.steps.Label.TheVariants.{Index}
 use Rattle.lane_model.specs.Lane.{count_from, Carries, GoesDown}
-use Rattle.lane_model.specs.Order.{strict}
 use Rattle.lane_model.specs.declared.Phase.{Phase}
-use Rattle.lane_model.specs.declared.Phase.TheVariants.{Idle}
-use Rattle.ledger_model.specs.Labels.{order_of, index_of, indexes_among}
-use Rattle.ledger_model.specs.Link.{is_up, is_down}
+use Rattle.ledger_model.specs.Labels.{index_of, indexes_among}
+use Rattle.ledger_model.specs.Link.{is_up}
 use Rattle.ledger_model.specs.Log.{Answered, trains, takes_room, gives_room, in_this_session, made_since}
 use Rattle.ledger_model.specs.Receiving.{is_copied, is_cleared}
 use Rattle.ledger_model.specs.declared.LinkState.{LinkState}
@@ -20,7 +18,7 @@ use Rattle.ledger_laws.proofs.InFlight.{count_by-last, push_some, filter_map-rem
 use Rattle.ledger_laws.proofs.Labels.{index_strict}
 use Rattle.ledger_laws.proofs.Offers.{pad-index}
 use Rattle.ledger_laws.proofs.Readers.{made_since-last}
-use Rattle.ledger_laws.proofs.walk.Sight.{Sight, Sender, Receiver, flight_with}
+use Rattle.ledger_laws.proofs.walk.Sight.{Sight, Receiver, flight_with}
 use Rattle.ledger_laws.proofs.walk.Tells.{News, Tells}
 use Rattle.ledger_laws.proofs.walk.Turn.{Turn, Trains, Breaks, Drops, Forgets, Offers, Readies, Says, Begins, Closes, LandsIndex, LandsBell, LandsPad, LandsAside, Looks, CopiesLast, Clears, Acks}
 

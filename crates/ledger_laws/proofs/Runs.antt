@@ -1,9 +1,6 @@
 -- A log grows by the step that is made, with the ledger's answer.
-use Rattle.std.proofs.Common.{◌≡◌, ℕ, List, [], ◌∷◌, ◌++◌, ◌==◌, sym, ap, subst, refl, ◌∙◌, append_assoc, ⊎_elim}
-use Rattle.std.specs.Prelude.{if◌then◌else◌}
+use Rattle.std.proofs.Common.{◌≡◌, ℕ, List, [], ◌∷◌, ◌++◌, sym, ap, ◌∙◌, append_assoc}
 use Rattle.std.proofs.lemmas.List.{append-nil, append_cancel_left}
-use Rattle.std.proofs.lemmas.Bool.{cases_eq, eq-eqb, ne_eqb}
-use Rattle.step_kinds.specs.Subject.{subject_of}
 use Rattle.step_kinds.specs.declared.plan.Plan.{Plan}
 use Rattle.step_kinds.specs.declared.steps.Answer.{Answer}
 use Rattle.step_kinds.specs.declared.steps.Step.{Step}

@@ -12,7 +12,6 @@ use Rattle.step_kinds.specs.declared.plan.PairPlan.{PairPlan}
 use Rattle.step_kinds.specs.declared.plan.SidePlan.{SidePlan}
 use Rattle.step_kinds.specs.declared.steps.Answer.TheVariants.{LinkDown, Already, NotYet, Version, Queues, Windows, Up}
 use Rattle.step_kinds.specs.declared.steps.Label.{Label}
-use Rattle.step_kinds.specs.declared.steps.Step.{Step}
 use Rattle.step_kinds.specs.declared.steps.Step.TheVariants.{Check}
 use Rattle.lane_model.specs.Lane.{count_from}
 use Rattle.ledger_model.specs.Both.{both_of}
@@ -20,9 +19,8 @@ use Rattle.ledger_model.specs.Handshake.{word, offers, pad_in, size_in, refuse_l
 use Rattle.ledger_laws.specs.Laws.{UpMeansAgreement, Agrees, IsSide, IsOrdinaryOn}
 use Rattle.ledger_model.specs.Ledger.{PairPart, SidePart, side_of, side_plan, link_up, version_pad, queues_pad, windows_pad, high_pad, low_pad}
 use Rattle.ledger_model.specs.Link.{is_up, fresh_link}
-use Rattle.ledger_model.specs.Log.{Answered, Memories, log_of, ledger_of, landed_pad}
+use Rattle.ledger_model.specs.Log.{Answered, log_of, ledger_of, landed_pad}
 use Rattle.ledger_model.specs.Next.{fresh_pair, pair_plan, idle_side, agreed_side}
-use Rattle.ledger_model.specs.Rings.{RingPart}
 use Rattle.ledger_laws.proofs.Basics.{fresh-flight}
 use Rattle.ledger_laws.proofs.CleanSides.{SettledOf, settled_up, settled_kept, settled_new}
 use Rattle.ledger_laws.proofs.InFlight.{EmptyOf, empty_kept}

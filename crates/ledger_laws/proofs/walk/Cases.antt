@@ -23,7 +23,7 @@ use Rattle.ledger_model.specs.Ledger.{PairPart, LanePart, SidePart, Sizes, side_
 use Rattle.ledger_model.specs.Link.{enable_refusal, enabled_link, train_refusal, trained_link, cut_refusal, cut_link, drop_refusal, dropped_link, clean_refusal, cleaned_link}
 use Rattle.ledger_model.specs.LinkSteps.{answer_of_refusal, enable_step, train_step, break_step, drop_step, clean_step, fresh_lane, emptied_side, cleaned_side, forgotten_lanes, started_dev}
 use Rattle.ledger_model.specs.Outcome.{Outcome, decided, refuse_if}
-use Rattle.ledger_model.specs.Receiving.{lands_on, taken_out, land_found, land_step, look_at, look_refusal, look_step, lane_to, copy_of, copy_step, clear_step, ack_step, is_idle, is_copying, is_copied, is_cleared, counts_delivered}
+use Rattle.ledger_model.specs.Receiving.{lands_on, taken_out, land_found, land_step, look_at, look_step, lane_to, copy_of, copy_step, clear_step, ack_step, is_idle, is_copying, is_copied, is_cleared, counts_delivered}
 use Rattle.ledger_model.specs.Sending.{is_empty_list, refuse_sender, refuse_long, refuse_busy, refuse_full, begin_refusal, xbegin_refusal, begun, begun_lane, begin_step, qpdown_step, xbegin_step, counts_refused, counts_taken, post_first, post_step, wake_step, flow_of}
 use Rattle.ledger_model.specs.Device.{ethernet_frame, stays_stopped}
 use Rattle.ledger_model.specs.declared.LinkRefusal.{LinkRefusal}

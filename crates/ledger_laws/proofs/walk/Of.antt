@@ -1,8 +1,8 @@
 -- Each step of a pair is one turn of each of its lanes: the only place where all steps are walked for what they do to lanes.
-use Rattle.std.proofs.Common.{◌≡◌, ℕ, ◌+◌, ◌==◌, ◌≤◌, Bool, true, false, not, ◌&&◌, Option, Some, None, List, [], ◌∷◌, ◌++◌, length, refl, sym, ap, ◌∙◌, subst, inl, inr, ◌⊎◌}
-use Rattle.std.specs.Prelude.{if◌then◌else◌, nat_lt, slice_get, map, remove, bit_and, bit_or, slice_set}
+use Rattle.std.proofs.Common.{◌≡◌, ℕ, ◌+◌, ◌==◌, Bool, true, false, ◌&&◌, Option, Some, None, List, [], ◌∷◌, length, refl, sym, ap, ◌∙◌, subst, inl, inr}
+use Rattle.std.specs.Prelude.{if◌then◌else◌, nat_lt, slice_get, map, bit_and, bit_or, slice_set}
 use Rattle.std.specs.List.{list_all}
-use Rattle.std.proofs.lemmas.Bool.{true≢false, false≢true, both_ways, eq-eqb, ne_eqb, not-false, and_parts, cases_eq, cond-true, cond-false, le-ltb, eqb-true, and_right, cases_Bool, cond_both}
+use Rattle.std.proofs.lemmas.Bool.{true≢false, false≢true, eq-eqb, ne_eqb, not-false, and_parts, cases_eq, cond-true, cond-false, le-ltb, eqb-true, and_right, cases_Bool, cond_both}
 use Rattle.step_kinds.specs.Bits.{has_bit, with_bit, without_bits}
 use Rattle.step_kinds.specs.Sides.{other_side}
 use Rattle.step_kinds.specs.Subject.{subject_of}
@@ -17,7 +17,7 @@ use Rattle.step_kinds.specs.declared.steps.Label.{Label}
 use Rattle.step_kinds.specs.declared.steps.Label.TheVariants.{Chunk, Len, Ver, Flag, Down, Bell, Index, Pad, Raw}
 use Rattle.step_kinds.specs.declared.steps.Step.{Step}
 use Rattle.step_kinds.specs.declared.steps.Step.TheVariants.{Enable, Train, Break, DropDone, Clean, Offer, Check, Ready, Join, Begin, QpDown, Xbegin, Post, Land, Look, Copy, Clear, Ack, Wake, Irq, Mask, Unmask, Spad, Poke, ShowMem, ShowPad, ShowQueue}
-use Rattle.lane_model.specs.Lane.{Entry, Carries, GoesDown, bytes_of, chunks_in}
+use Rattle.lane_model.specs.Lane.{Carries, GoesDown, bytes_of, chunks_in}
 use Rattle.lane_model.specs.Order.{may_land}
 use Rattle.lane_model.specs.declared.Field.{Field}
 use Rattle.lane_model.specs.declared.Write.{Write}
@@ -28,13 +28,13 @@ use Rattle.ledger_model.specs.Both.{at_side}
 use Rattle.ledger_model.specs.Device.{ethernet_frame}
 use Rattle.ledger_model.specs.Handshake.{offers, pad_index, pad_in, check_refusal}
 use Rattle.ledger_model.specs.Labels.{order_of, write_of, index_of}
-use Rattle.ledger_model.specs.Ledger.{LanePart, SidePart, PairPart, Sizes, Tally, side_of, lane_of, tally_of, link_up, posts, with_side_part, with_lane, with_tally, entry_in, links_pad, side_plan, sizes_of, updated}
-use Rattle.ledger_model.specs.Link.{is_up, is_down, enabled_link, enable_refusal, train_refusal, cut_refusal, drop_refusal, clean_refusal}
+use Rattle.ledger_model.specs.Ledger.{LanePart, PairPart, Sizes, side_of, lane_of, tally_of, link_up, posts, with_side_part, with_lane, with_tally, entry_in, links_pad, side_plan, sizes_of, updated}
+use Rattle.ledger_model.specs.Link.{is_down, enabled_link, enable_refusal, train_refusal, cut_refusal, drop_refusal, clean_refusal}
 use Rattle.ledger_model.specs.LinkSteps.{fresh_lane}
 use Rattle.ledger_model.specs.Log.{Answered, Numbered, gives_room, is_on, same_side}
 use Rattle.ledger_model.specs.Next.{Bytes, pair_plan, dev_plan}
 use Rattle.ledger_model.specs.Outcome.{Outcome}
-use Rattle.ledger_model.specs.Receiving.{is_idle, is_copying, is_copied, is_cleared, lands_on, taken_out, lane_to}
+use Rattle.ledger_model.specs.Receiving.{is_idle, is_copying, is_copied, is_cleared, taken_out, lane_to}
 use Rattle.ledger_model.specs.Rings.{RingPart, ring_next, with_write, with_index}
 use Rattle.ledger_model.specs.Sending.{begun, begun_lane}
 use Rattle.ledger_model.specs.declared.LinkState.TheVariants.{Down as LinkIsDown, Up as LinkIsUp}
@@ -44,9 +44,9 @@ use Rattle.ledger_laws.proofs.Offers.{offer-is_pad, offer-no_link}
 use Rattle.ledger_laws.proofs.Outcomes.{passed, refused_passed}
 use Rattle.ledger_laws.proofs.Runs.{made_by, left_by}
 use Rattle.ledger_laws.proofs.walk.Cases.{refuses, Refused, MaySend, MayLookAt, found_refusals, enable_cases, train_cases, break_cases, drop_cases, clean_cases, offer_cases, check_cases, ready_cases, join_cases, begin_cases, qpdown_cases, xbegin_cases, post_cases, land_cases, look_cases, copy_cases, clear_cases, ack_cases, wake_cases, trained, broken, dropped, cleaned, offering, next_offer, readied, ready_pad, joining, closing, taken_frame, posting, landed, looking, peer_down, acking, clearing, copied_more, copied_last}
-use Rattle.ledger_laws.proofs.walk.Sight.{End, Sight, Role, Sender, Receiver, peer_of, end_at, with_end, with_enabled, with_pending, with_pads, posted, side_at, by_role, sight, IsOff, OffCase, OtherQueue, OtherWay, by_lane, OffReceived, QueueOff, WayOff, received-off, by_received_lane, other_other, same_side-refl, other_side-not, other_side-across, is_off, sight-side, sight-posts, sight-lane, sight-off, sight-tally, sight-tally_off}
-use Rattle.ledger_laws.proofs.walk.Tells.{News, saw_next, pad_next, no_news, Tells, is_read, tells_nothing, tells_no}
-use Rattle.ledger_laws.proofs.walk.Turn.{MayEnable, MayTrain, MayOffer, MayCheck, MayReady, MayJoin, MayBegin, MayPost, MayLand, MayLook, IsForeign, IsAside, is_handshake, on_queue, taken, forgotten, dropped_end, more_accepted, more_delivered, looked_news, pads_landed, ring_landed, ring_freed, ring_checked, ring_cleared, sees_taken, Turn, Turned, turned, Rests, FindsNone, Enables, Trains, Breaks, Drops, Forgets, Offers, Checks, Readies, Joins, Begins, Closes, Posts, Shuts, Says, LandsFlag, LandsField, LandsIndex, LandsBell, LandsPad, LandsAside, Looks, CopiesPart, CopiesLast, Clears, Acks, TakesBells, Masks}
+use Rattle.ledger_laws.proofs.walk.Sight.{Sight, Role, Sender, Receiver, peer_of, end_at, with_enabled, with_pending, with_pads, posted, side_at, by_role, sight, IsOff, OffCase, OtherQueue, OtherWay, by_lane, OffReceived, QueueOff, WayOff, received-off, by_received_lane, other_other, same_side-refl, other_side-not, other_side-across, is_off, sight-side, sight-posts, sight-lane, sight-off, sight-tally, sight-tally_off}
+use Rattle.ledger_laws.proofs.walk.Tells.{saw_next, pad_next, no_news, Tells, is_read, tells_nothing, tells_no}
+use Rattle.ledger_laws.proofs.walk.Turn.{MayEnable, MayTrain, MayLand, IsForeign, is_handshake, on_queue, taken, forgotten, dropped_end, more_accepted, more_delivered, looked_news, pads_landed, ring_landed, ring_freed, ring_checked, ring_cleared, sees_taken, Turned, turned, Rests, FindsNone, Enables, Trains, Breaks, Drops, Forgets, Offers, Checks, Readies, Joins, Begins, Closes, Posts, Shuts, Says, LandsFlag, LandsField, LandsIndex, LandsBell, LandsPad, LandsAside, Looks, CopiesPart, CopiesLast, Clears, Acks, TakesBells, Masks}
 
 -- What is told
 
@@ -206,14 +206,28 @@ module _ (plan : Plan) (lane : LaneName) (bytes : Bytes) (pair : PairPart)
 
       told : Tells plan lane Now.lane (record { step = Train p; answer = OkSession (pair.link.session + 1) }) (record no_news { starts = true })
       told = record {
-        takes = refl; gives = refl; starts = eq-eqb p lane.pair e; ends = refl; accepted = refl; delivered = refl;
-        sees = λ saw. refl; pads = λ e i now. refl; ring = λ sizes ring. refl;
+        takes = refl;
+        gives = refl;
+        starts = eq-eqb p lane.pair e;
+        ends = refl;
+        accepted = refl;
+        delivered = refl;
+        sees = λ saw. refl;
+        pads = λ e i now. refl;
+        ring = λ sizes ring. refl;
       }
 
   break : (p : ℕ) → p ≡ lane.pair → cut_refusal pair.link ≡ None → To (Break p) (record { answer = Done; after = broken pair })
   break p e none = turned (Breaks (not-false _ ((refused_passed _ NotUp _ none).0))) (record {
-    takes = refl; gives = refl; starts = refl; ends = eq-eqb p lane.pair e; accepted = refl; delivered = refl;
-    sees = λ saw. refl; pads = λ e i now. refl; ring = λ sizes ring. refl;
+    takes = refl;
+    gives = refl;
+    starts = refl;
+    ends = eq-eqb p lane.pair e;
+    accepted = refl;
+    delivered = refl;
+    sees = λ saw. refl;
+    pads = λ e i now. refl;
+    ring = λ sizes ring. refl;
   })
 
   drop : (p : ℕ) → drop_refusal pair.link ≡ None → To (DropDone p) (record { answer = Done; after = dropped pair })
@@ -273,8 +287,15 @@ module _ (plan : Plan) (lane : LaneName) (bytes : Bytes) (pair : PairPart)
     where
       told : (e : Role) → Tells plan lane Now.lane (record { step = Check p (side_at lane.from e); answer = Up }) (record no_news { ring = ring_checked e })
       told r = record {
-        takes = refl; gives = refl; starts = refl; ends = refl; accepted = refl; delivered = refl;
-        sees = λ saw. refl; pads = λ e i now. refl; ring = λ sizes ring. checked r sizes ring;
+        takes = refl;
+        gives = refl;
+        starts = refl;
+        ends = refl;
+        accepted = refl;
+        delivered = refl;
+        sees = λ saw. refl;
+        pads = λ e i now. refl;
+        ring = λ sizes ring. checked r sizes ring;
       }
         where
           checked : (r : Role) (sizes : Sizes) (ring : RingPart) → ring_next sizes lane Now.lane ring (record { step = Check p (side_at lane.from r); answer = Up }) ≡ ring_checked r sizes ring
@@ -368,15 +389,29 @@ module _ (plan : Plan) (lane : LaneName) (bytes : Bytes) (pair : PairPart)
   begin_told : (p : ℕ) → p ≡ lane.pair → (frame : List ℕ) (n : ℕ)
       → Tells plan lane Now.lane (record { step = Begin p lane.from lane.queue frame; answer = OkNumber n }) (record no_news { takes = true; accepted = record { number = n; bytes = frame } ∷ [] })
   begin_told p e frame n = record {
-    takes = on-own p e; gives = refl; starts = refl; ends = refl; accepted = cond-true (is_on lane p lane.from lane.queue) _ _ (on-own p e); delivered = refl;
-    sees = λ saw. refl; pads = λ e i now. refl; ring = λ sizes ring. refl;
+    takes = on-own p e;
+    gives = refl;
+    starts = refl;
+    ends = refl;
+    accepted = cond-true (is_on lane p lane.from lane.queue) _ _ (on-own p e);
+    delivered = refl;
+    sees = λ saw. refl;
+    pads = λ e i now. refl;
+    ring = λ sizes ring. refl;
   }
 
   begin_untold : (p : ℕ) (frame : List ℕ) (side : Side) (queue n : ℕ) → IsOff lane.from lane.queue side queue
       → Tells plan lane Now.lane (record { step = Begin p side queue frame; answer = OkNumber n }) no_news
   begin_untold p frame side queue n off = record {
-    takes = on-off p side queue off; gives = refl; starts = refl; ends = refl; accepted = cond-false (is_on lane p side queue) _ _ (on-off p side queue off); delivered = refl;
-    sees = λ saw. refl; pads = λ e i now. refl; ring = λ sizes ring. refl;
+    takes = on-off p side queue off;
+    gives = refl;
+    starts = refl;
+    ends = refl;
+    accepted = cond-false (is_on lane p side queue) _ _ (on-off p side queue off);
+    delivered = refl;
+    sees = λ saw. refl;
+    pads = λ e i now. refl;
+    ring = λ sizes ring. refl;
   }
 
   -- the same of a device's frame
@@ -387,15 +422,29 @@ module _ (plan : Plan) (lane : LaneName) (bytes : Bytes) (pair : PairPart)
       → Tells plan lane Now.lane (record { step = Xbegin p lane.from lane.queue dev dst kind payload; answer = OkNumber n })
       (record no_news { takes = true; accepted = record { number = n; bytes = Frame dev dst kind payload } ∷ [] })
   xbegin_told p e dev dst kind payload n = record {
-    takes = on-own p e; gives = refl; starts = refl; ends = refl; accepted = cond-true (is_on lane p lane.from lane.queue) _ _ (on-own p e); delivered = refl;
-    sees = λ saw. refl; pads = λ e i now. refl; ring = λ sizes ring. refl;
+    takes = on-own p e;
+    gives = refl;
+    starts = refl;
+    ends = refl;
+    accepted = cond-true (is_on lane p lane.from lane.queue) _ _ (on-own p e);
+    delivered = refl;
+    sees = λ saw. refl;
+    pads = λ e i now. refl;
+    ring = λ sizes ring. refl;
   }
 
   xbegin_untold : (p dev : ℕ) (dst : List ℕ) (kind : ℕ) (payload : List ℕ) (side : Side) (queue n : ℕ) → IsOff lane.from lane.queue side queue
       → Tells plan lane Now.lane (record { step = Xbegin p side queue dev dst kind payload; answer = OkNumber n }) no_news
   xbegin_untold p dev dst kind payload side queue n off = record {
-    takes = on-off p side queue off; gives = refl; starts = refl; ends = refl; accepted = cond-false (is_on lane p side queue) _ _ (on-off p side queue off); delivered = refl;
-    sees = λ saw. refl; pads = λ e i now. refl; ring = λ sizes ring. refl;
+    takes = on-off p side queue off;
+    gives = refl;
+    starts = refl;
+    ends = refl;
+    accepted = cond-false (is_on lane p side queue) _ _ (on-off p side queue off);
+    delivered = refl;
+    sees = λ saw. refl;
+    pads = λ e i now. refl;
+    ring = λ sizes ring. refl;
   }
 
   -- a link-down entry
@@ -408,8 +457,15 @@ module _ (plan : Plan) (lane : LaneName) (bytes : Bytes) (pair : PairPart)
     where
       told : (side : Side) (queue n : ℕ) (b : Bool) → is_on lane p side queue ≡ b → Tells plan lane Now.lane (record { step = QpDown p side queue; answer = OkNumber n }) (record no_news { takes = b })
       told side queue n b on = record {
-        takes = on; gives = refl; starts = refl; ends = refl; accepted = refl; delivered = refl;
-        sees = λ saw. refl; pads = λ e i now. refl; ring = λ sizes ring. refl;
+        takes = on;
+        gives = refl;
+        starts = refl;
+        ends = refl;
+        accepted = refl;
+        delivered = refl;
+        sees = λ saw. refl;
+        pads = λ e i now. refl;
+        ring = λ sizes ring. refl;
       }
 
       own : MaySend (sizes_of Own lane.from lane.queue) pair lane.from lane.queue 0
@@ -485,8 +541,15 @@ module _ (plan : Plan) (lane : LaneName) (bytes : Bytes) (pair : PairPart)
   look_told : (p : ℕ) (side : Side) (queue : ℕ) (r : Answer) → is_nothing r ≡ false → (looked : Bool) → same_pair_side p side queue ≡ looked
       → Tells plan lane Now.lane (record { step = Look p side queue; answer = r }) (looked_news looked)
   look_told p side queue r some looked is = record {
-    takes = refl; gives = refl; starts = refl; ends = refl; accepted = refl; delivered = refl;
-    sees = λ saw. look_seen r some saw ∙ ap (λ b. if b then false else saw) is; pads = λ e i now. refl; ring = λ sizes ring. refl;
+    takes = refl;
+    gives = refl;
+    starts = refl;
+    ends = refl;
+    accepted = refl;
+    delivered = refl;
+    sees = λ saw. look_seen r some saw ∙ ap (λ b. if b then false else saw) is;
+    pads = λ e i now. refl;
+    ring = λ sizes ring. refl;
   }
     where
       look_seen : (r : Answer) → is_nothing r ≡ false → (saw : Bool) → saw_next lane (record { step = Look p side queue; answer = r }) saw ≡ (if same_pair_side p side queue then false else saw)
@@ -515,7 +578,15 @@ module _ (plan : Plan) (lane : LaneName) (bytes : Bytes) (pair : PairPart)
       told : (s : Side) (q : ℕ) (sees : Bool → Bool) → ((saw : Bool) → (if same_pair_side p s q then true else saw) ≡ sees saw)
           → Tells plan lane Now.lane (record { step = Look p s q; answer = Empty }) (record no_news { sees = sees })
       told s q sees is = record {
-        takes = refl; gives = refl; starts = refl; ends = refl; accepted = refl; delivered = refl; sees = is; pads = λ e i now. refl; ring = λ sizes ring. refl;
+        takes = refl;
+        gives = refl;
+        starts = refl;
+        ends = refl;
+        accepted = refl;
+        delivered = refl;
+        sees = is;
+        pads = λ e i now. refl;
+        ring = λ sizes ring. refl;
       }
 
   look_ready : (p : ℕ) → p ≡ lane.pair → (side : Side) (queue : ℕ) → MayLookAt pair side queue → ((lane_to pair side queue).flagged == (lane_to pair side queue).got) ≡ false
@@ -598,7 +669,15 @@ module _ (plan : Plan) (lane : LaneName) (bytes : Bytes) (pair : PairPart)
       told : (s : Side) (q n : ℕ) (frame : List ℕ) (frames : List Numbered) → (if is_on lane p (other_side s) q then record { number = n; bytes = frame } ∷ [] else []) ≡ frames
           → Tells plan lane Now.lane (record { step = Copy p s q; answer = Delivered n frame }) (record no_news { delivered = frames })
       told s q n frame frames is = record {
-        takes = refl; gives = refl; starts = refl; ends = refl; accepted = refl; delivered = is; sees = λ saw. refl; pads = λ e i now. refl; ring = λ sizes ring. refl;
+        takes = refl;
+        gives = refl;
+        starts = refl;
+        ends = refl;
+        accepted = refl;
+        delivered = is;
+        sees = λ saw. refl;
+        pads = λ e i now. refl;
+        ring = λ sizes ring. refl;
       }
 
   clear : (p : ℕ) → p ≡ lane.pair → (side : Side) (queue : ℕ) → is_copied (lane_to pair side queue).phase ≡ true
@@ -623,7 +702,15 @@ module _ (plan : Plan) (lane : LaneName) (bytes : Bytes) (pair : PairPart)
           → ((sizes : Sizes) (ring : RingPart) → (if is_on lane p (other_side s) q then ring_cleared n sizes ring else ring) ≡ after sizes ring)
           → Tells plan lane Now.lane (record { step = Clear p s q; answer = ClearedFrame n }) (record no_news { ring = after })
       told s q n after is = record {
-        takes = refl; gives = refl; starts = refl; ends = refl; accepted = refl; delivered = refl; sees = λ saw. refl; pads = λ e i now. refl; ring = is;
+        takes = refl;
+        gives = refl;
+        starts = refl;
+        ends = refl;
+        accepted = refl;
+        delivered = refl;
+        sees = λ saw. refl;
+        pads = λ e i now. refl;
+        ring = is;
       }
 
   ack : (p : ℕ) (side : Side) (queue : ℕ) → is_cleared (lane_to pair side queue).phase ≡ true
@@ -669,8 +756,15 @@ module _ (plan : Plan) (lane : LaneName) (bytes : Bytes) (pair : PairPart)
       → ((sizes : Sizes) (before : RingPart) → ring_heard lane.queue e label Now.lane sizes before ≡ ring sizes before)
       → Tells plan lane Now.lane (record { step = Land p (side_at lane.from e) place; answer = Landed label }) (record no_news { gives = gives; pads = pads; ring = ring })
   land_told p place same e label gives pads ring gives_so pads_so ring_so = record {
-    takes = refl; gives = gives_is e label ∙ gives_so; starts = refl; ends = refl; accepted = refl; delivered = refl; sees = λ saw. refl;
-    pads = λ f i now. pads_is e label f i now ∙ pads_so f i now; ring = λ sizes before. ring_is e sizes before ∙ ring_so sizes before;
+    takes = refl;
+    gives = gives_is e label ∙ gives_so;
+    starts = refl;
+    ends = refl;
+    accepted = refl;
+    delivered = refl;
+    sees = λ saw. refl;
+    pads = λ f i now. pads_is e label f i now ∙ pads_so f i now;
+    ring = λ sizes before. ring_is e sizes before ∙ ring_so sizes before;
   }
     where
       gives_is : (e : Role) (label : Label) → gives_room lane (record { step = Land p (side_at lane.from e) place; answer = Landed label }) ≡ gives_landed lane.queue label e
@@ -847,7 +941,15 @@ module _ (plan : Plan) (lane : LaneName) (bytes : Bytes) (pair : PairPart)
     where
       told : (e : Role) (bits : ℕ) → Tells plan lane Now.lane (record { step = Irq p (side_at lane.from e); answer = IrqBits bits }) (record no_news { sees = sees_taken lane.queue e bits })
       told e bits = record {
-        takes = refl; gives = refl; starts = refl; ends = refl; accepted = refl; delivered = refl; sees = λ saw. irq_seen e saw; pads = λ e i now. refl; ring = λ sizes ring. refl;
+        takes = refl;
+        gives = refl;
+        starts = refl;
+        ends = refl;
+        accepted = refl;
+        delivered = refl;
+        sees = λ saw. irq_seen e saw;
+        pads = λ e i now. refl;
+        ring = λ sizes ring. refl;
       }
         where
           irq_seen : (e : Role) (saw : Bool) → saw_next lane (record { step = Irq p (side_at lane.from e); answer = IrqBits bits }) saw ≡ sees_taken lane.queue e bits saw

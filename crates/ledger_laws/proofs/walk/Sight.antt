@@ -1,6 +1,6 @@
 -- What one lane has in sight of its pair: the link, the ends of its sender and of its receiver, the lane and its tally.
 -- Here is how each change of a pair looks to the lane, so that nothing above speaks of sides or of other lanes.
-use Rattle.std.proofs.Common.{◌≡◌, ℕ, ◌==◌, Bool, true, false, ◌&&◌, List, [], ◌∷◌, ◌++◌, refl, sym, ap, ◌∙◌, subst, inl, inr, ◌⊎◌}
+use Rattle.std.proofs.Common.{◌≡◌, ℕ, ◌==◌, Bool, true, false, ◌&&◌, List, [], ◌∷◌, ◌++◌, refl, sym, ap, subst, inl, inr}
 use Rattle.std.specs.Prelude.{if◌then◌else◌}
 use Rattle.std.proofs.lemmas.Bool.{eq-eqb, ne_eqb, cases_eq, and_right, cond-true, cond-false}
 use Rattle.step_kinds.specs.Sides.{other_side}
@@ -8,11 +8,10 @@ use Rattle.step_kinds.specs.declared.names.Side.{Side}
 use Rattle.step_kinds.specs.declared.names.Side.TheVariants.{A, B}
 use Rattle.step_kinds.specs.declared.steps.Label.{Label}
 use Rattle.ledger_model.specs.Both.{at_side}
-use Rattle.ledger_model.specs.Ledger.{LanePart, SidePart, PairPart, Tally, side_of, lane_of, tally_of, link_up, posts, with_side_part, with_lane, with_tally, updated}
+use Rattle.ledger_model.specs.Ledger.{LanePart, SidePart, PairPart, Tally, side_of, lane_of, tally_of, posts, with_side_part, with_lane, with_tally, updated}
 use Rattle.ledger_model.specs.Link.{is_up}
 use Rattle.ledger_model.specs.Log.{same_side}
 use Rattle.ledger_model.specs.declared.LinkState.{LinkState}
-use Rattle.ledger_model.specs.declared.LinkState.TheVariants.{Down, Up, Closing}
 
 -- An end of the lane: its side, and what the link says of that side.
 pub record End : Type 0 where
