@@ -21,7 +21,7 @@ small_side = record { version = 4; queues = 1; windows = 1; size = 4096; cap = 4
 
 -- one pair of such sides with an mtu of 1,023: a ring of 4 entries, with payloads of up to 1,011 bytes
 abbrev pub small_pair : PairPlan
-small_pair = record { name = 112 ∷ []; a = small_side; b = small_side; mtu = 1023; up = true; strict = true; raw = false }
+small_pair = record { name = 112 ∷ []; a = small_side; b = small_side; mtu = 1023; up = true; strict = true; raw = false; class_a = replicate 16 0; class_b = replicate 16 0 }
 
 abbrev pub plan_of : PairPlan → List DevPlan → Plan
 plan_of pair devs = record { pairs = pair ∷ []; devs = devs; steps = []; traffic = [] }
