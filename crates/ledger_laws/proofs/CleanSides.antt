@@ -13,7 +13,7 @@ use Rattle.ledger_model.specs.declared.LinkState.{LinkState}
 use Rattle.ledger_laws.proofs.Basics.{up-not_down}
 use Rattle.ledger_laws.proofs.InFlight.{EmptyOf}
 use Rattle.ledger_laws.proofs.walk.Sight.{Sight, End, Role, Sender, Receiver}
-use Rattle.ledger_laws.proofs.walk.Tells.{News}
+use Rattle.ledger_laws.proofs.walk.News.{News}
 use Rattle.ledger_laws.proofs.walk.Turn.{MayLand, Turn, Enables, Trains, Breaks, Drops, Forgets, Offers, Checks, Readies, Joins, LandsPad}
 
 pub record IsNew (up : Bool) (ready joined offered : ℕ) (pads : List ℕ) : Type 0 where

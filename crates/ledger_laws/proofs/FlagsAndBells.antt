@@ -27,7 +27,7 @@ use Rattle.ledger_laws.proofs.InFlight.{filter_map-last, filter_map-remove, land
 use Rattle.ledger_laws.proofs.Labels.{write_of-label, flag_strict, bell_strict}
 use Rattle.ledger_laws.proofs.Offers.{pad-write}
 use Rattle.ledger_laws.proofs.walk.Sight.{Sight, Sender, Receiver, flight_with}
-use Rattle.ledger_laws.proofs.walk.Tells.{News}
+use Rattle.ledger_laws.proofs.walk.News.{News}
 use Rattle.ledger_laws.proofs.walk.Turn.{Turn, Rests, FindsNone, Trains, Breaks, Drops, Forgets, Offers, Readies, Begins, Closes, Posts, Shuts, Says, LandsFlag, LandsField, LandsBell, LandsPad, LandsAside, Looks, CopiesLast, Clears, Acks, TakesBells, MayLand}
 
 -- The ticks of writes: true for the flags of an entry, false for its doorbell

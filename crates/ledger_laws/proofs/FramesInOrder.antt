@@ -25,7 +25,7 @@ use Rattle.ledger_laws.proofs.Frames.{CarriesAt, frames_from, frames-frame, fram
 use Rattle.ledger_laws.proofs.Readers.{session_at, session_at-last, found_in-last}
 use Rattle.ledger_laws.proofs.walk.Logs.{HoldsAlways, always_after}
 use Rattle.ledger_laws.proofs.walk.Sight.{Sight, Sender, Receiver, sight}
-use Rattle.ledger_laws.proofs.walk.Tells.{News, Tells}
+use Rattle.ledger_laws.proofs.walk.News.{News, Tells}
 use Rattle.ledger_laws.proofs.walk.Turn.{Turn, Trains, Breaks, Drops, Forgets, Begins, Closes, Shuts, Looks, CopiesLast, Clears, Acks, more_accepted, more_delivered}
 
 -- What holds of a lane at each moment

@@ -20,7 +20,7 @@ use Rattle.ledger_model.specs.Log.{Answered}
 use Rattle.ledger_model.specs.declared.LinkState.{LinkState}
 use Rattle.ledger_laws.proofs.Basics.{down-not_up}
 use Rattle.ledger_laws.proofs.walk.Sight.{Sight, Role, Sender, Receiver, end_at, with_offered, with_ready, flight_with, posted}
-use Rattle.ledger_laws.proofs.walk.Tells.{News}
+use Rattle.ledger_laws.proofs.walk.News.{News}
 use Rattle.ledger_laws.proofs.walk.Turn.{MayLand, Turn, Trains, Breaks, Drops, Offers, Readies, Posts, Says, LandsFlag, LandsField, LandsIndex, LandsBell, LandsPad, LandsAside, Acks, taken}
 
 -- a count with one more at the end

@@ -24,7 +24,7 @@ use Rattle.ledger_laws.proofs.BitSets.{no_bit}
 use Rattle.ledger_laws.proofs.CleanSides.{IsNew, SettledOf}
 use Rattle.ledger_laws.proofs.InFlight.{filter_map-remove, posted_unread, some_read, EmptyOf}
 use Rattle.ledger_laws.proofs.walk.Sight.{Sight, End, Role, Sender, Receiver, end_at, with_flight, with_offered, posted}
-use Rattle.ledger_laws.proofs.walk.Tells.{News}
+use Rattle.ledger_laws.proofs.walk.News.{News}
 use Rattle.ledger_laws.proofs.walk.Turn.{Turn, MayLand, Trains, Breaks, Drops, Forgets, Offers, Checks, Readies, Joins, Posts, Says, LandsFlag, LandsField, LandsIndex, LandsBell, LandsPad, LandsAside, Acks, is_link_pad, is_handshake, on_queue}
 
 -- a session that neither side has forgotten

@@ -23,7 +23,7 @@ use Rattle.ledger_laws.proofs.Readers.{up_step, up_after-last}
 use Rattle.ledger_laws.proofs.Runs.{answer_of}
 use Rattle.ledger_laws.proofs.walk.Logs.{HoldsAlways, always_after}
 use Rattle.ledger_laws.proofs.walk.Sight.{Sight}
-use Rattle.ledger_laws.proofs.walk.Tells.{News, Tells}
+use Rattle.ledger_laws.proofs.walk.News.{News, Tells}
 use Rattle.ledger_laws.proofs.walk.Turn.{Turn, Trains, Breaks, Drops}
 
 -- what a made step answers, where the link is up

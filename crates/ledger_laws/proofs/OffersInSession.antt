@@ -25,7 +25,7 @@ use Rattle.ledger_laws.proofs.InFlight.{filter_map-last, filter_map-remove, stri
 use Rattle.ledger_laws.proofs.Offers.{is_offer, offer_of, offers_in, last_value, last_value-last, value_of, offer-good}
 use Rattle.ledger_laws.proofs.Readers.{landed_pad-last}
 use Rattle.ledger_laws.proofs.walk.Sight.{Sight, Sender, Receiver, flight_with}
-use Rattle.ledger_laws.proofs.walk.Tells.{News, Tells, pad_next}
+use Rattle.ledger_laws.proofs.walk.News.{News, Tells, pad_next}
 use Rattle.ledger_laws.proofs.walk.Turn.{MayLand, MayOffer, Turn, Trains, Breaks, Drops, Forgets, Offers, Checks, Readies, Says, LandsIndex, LandsBell, LandsPad, LandsAside, Acks, is_handshake}
 
 -- The session

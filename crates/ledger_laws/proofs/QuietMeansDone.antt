@@ -21,7 +21,7 @@ use Rattle.ledger_laws.proofs.InFlight.{EmptyOf, empty_kept}
 use Rattle.ledger_laws.proofs.Readers.{last_look-last}
 use Rattle.ledger_laws.proofs.walk.Logs.{HoldsAlways, always_after}
 use Rattle.ledger_laws.proofs.walk.Sight.{Sight, sight, other_other}
-use Rattle.ledger_laws.proofs.walk.Tells.{News, Tells, saw_next}
+use Rattle.ledger_laws.proofs.walk.News.{News, Tells, saw_next}
 use Rattle.ledger_laws.proofs.walk.Turn.{Turn}
 
 -- what holds after each log, while the link is up

@@ -38,8 +38,8 @@ use Rattle.ledger_laws.proofs.JoinedSides.{LiveOf, JoinsOf, live_up, closing-not
 use Rattle.ledger_laws.proofs.Labels.{writes_among-labels, flag_strict, bell_strict, index_strict}
 use Rattle.ledger_laws.proofs.Offers.{pad-write, pad-index}
 use Rattle.ledger_laws.proofs.walk.Sight.{Sight, Sender, Receiver, flight_with}
-use Rattle.ledger_laws.proofs.walk.Tells.{News}
-use Rattle.ledger_laws.proofs.walk.Turn.{MayBegin, MayLand, Turn, Trains, Breaks, Drops, Forgets, Offers, Checks, Readies, Begins, Closes, Posts, Shuts, Says, LandsFlag, LandsField, LandsIndex, LandsBell, LandsPad, LandsAside, Looks, CopiesPart, CopiesLast, Clears, Acks, ring_landed, ring_freed, ring_checked, ring_cleared}
+use Rattle.ledger_laws.proofs.walk.News.{News, ring_landed, ring_freed, ring_checked, ring_cleared}
+use Rattle.ledger_laws.proofs.walk.Turn.{MayBegin, MayLand, Turn, Trains, Breaks, Drops, Forgets, Offers, Checks, Readies, Begins, Closes, Posts, Shuts, Says, LandsFlag, LandsField, LandsIndex, LandsBell, LandsPad, LandsAside, Looks, CopiesPart, CopiesLast, Clears, Acks}
 
 -- the lane that a ledger's lane, its writes and index writes in flight, and a ring show
 abbrev pub lane_shown : Sizes → ℕ → Bool → List Write → List ℕ → LanePart → RingPart → Lane

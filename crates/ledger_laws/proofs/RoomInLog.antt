@@ -19,7 +19,7 @@ use Rattle.ledger_laws.proofs.Labels.{index_strict}
 use Rattle.ledger_laws.proofs.Offers.{pad-index}
 use Rattle.ledger_laws.proofs.Readers.{made_since-last}
 use Rattle.ledger_laws.proofs.walk.Sight.{Sight, Receiver, flight_with}
-use Rattle.ledger_laws.proofs.walk.Tells.{News, Tells}
+use Rattle.ledger_laws.proofs.walk.News.{News, Tells}
 use Rattle.ledger_laws.proofs.walk.Turn.{Turn, Trains, Breaks, Drops, Forgets, Offers, Readies, Says, Begins, Closes, LandsIndex, LandsBell, LandsPad, LandsAside, Looks, CopiesLast, Clears, Acks}
 
 -- How far the receiver's counts are apart

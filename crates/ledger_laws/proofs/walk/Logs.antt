@@ -23,7 +23,7 @@ use Rattle.ledger_laws.proofs.Offers.{list_all-map}
 use Rattle.ledger_laws.proofs.Runs.{made_by, left_by}
 use Rattle.ledger_laws.proofs.walk.Of.{turn_of, turn_elsewhere}
 use Rattle.ledger_laws.proofs.walk.Sight.{Sight, Sender, Receiver, sight}
-use Rattle.ledger_laws.proofs.walk.Tells.{News, Tells}
+use Rattle.ledger_laws.proofs.walk.News.{News, Tells}
 use Rattle.ledger_laws.proofs.walk.Turn.{Turn, Turned, Trains, Forgets, Begins, Closes, Posts, on_queue}
 
 -- The writes that are left to post are those of their lane

@@ -119,6 +119,13 @@ pub other_other : (side : Side) → other_side (other_side side) ≡ side
 other_other A = refl
 other_other B = refl
 
+-- what is so of each side and each end
+pub each_way : (P : Side → Role → Type 0) → P A Sender → P A Receiver → P B Sender → P B Receiver → (from : Side) (e : Role) → P from e
+each_way P a b c d A Sender = a
+each_way P a b c d A Receiver = b
+each_way P a b c d B Sender = c
+each_way P a b c d B Receiver = d
+
 -- what is in flight once a side posts a write
 abbrev pub flight_with : LinkState → List Label → Label → List Label
 flight_with state flight label = if is_up state then flight ++ label ∷ [] else flight

@@ -27,7 +27,7 @@ use Rattle.ledger_model.specs.Sending.{begun_lane}
 use Rattle.ledger_model.specs.declared.LinkState.TheVariants.{Down as LinkIsDown, Up as LinkIsUp, Closing}
 use Rattle.ledger_laws.specs.Laws.{IsOrdinaryOn}
 use Rattle.ledger_laws.proofs.walk.Sight.{End, Sight, Role, Sender, Receiver, peer_of, end_at, on_sender, on_receiver, with_up, with_ready, with_joined, with_closed, with_offered, with_pads, with_pending, with_masked, with_flight, with_clean, with_enabled, side_at, part_of, posted}
-use Rattle.ledger_laws.proofs.walk.Tells.{News, no_news, Tells}
+use Rattle.ledger_laws.proofs.walk.News.{News, no_news, Tells, looked_news, pads_landed, ring_landed, ring_freed, ring_checked, ring_cleared, sees_taken}
 
 -- What a step has passed
 
@@ -142,41 +142,6 @@ more_accepted tally = record tally { accepted = tally.accepted + 1 }
 
 abbrev pub more_delivered : Tally → Tally
 more_delivered tally = record tally { delivered = tally.delivered + 1 }
-
--- What a step tells
-
--- a receiver that has looked, and found something
-abbrev pub looked_news : Bool → News
-looked_news looked = record no_news { sees = λ saw. if looked then false else saw }
-
--- a scratchpad of the peer is written
-abbrev pub pads_landed : Role → ℕ → ℕ → Role → ℕ → Option ℕ → Option ℕ
-pads_landed Sender i value Receiver j now = if i == j then Some value else now
-pads_landed Receiver i value Sender j now = if i == j then Some value else now
-pads_landed e i value f j now = now
-
--- a write of the lane lands in the ring, and an index write in the index word
-abbrev pub ring_landed : LanePart → Write → Sizes → RingPart → RingPart
-ring_landed lane write sizes ring = record { ring = with_write sizes.entries lane ring.ring (Some write); index_word = ring.index_word }
-
-abbrev pub ring_freed : ℕ → Sizes → RingPart → RingPart
-ring_freed n sizes ring = record { ring = ring.ring; index_word = n % sizes.entries }
-
-abbrev pub ring_checked : Role → Sizes → RingPart → RingPart
-ring_checked Sender sizes ring = record { ring = ring.ring; index_word = sizes.entries - 1 }
-ring_checked Receiver sizes ring = record { ring = map without_header ring.ring; index_word = ring.index_word }
-
--- the flags at the slot of entry n are cleared
-abbrev pub ring_cleared : ℕ → Sizes → RingPart → RingPart
-ring_cleared n sizes ring = record {
-  ring = slice_set ring.ring (n % sizes.entries) (with_flags (slice_index_or ring.ring (n % sizes.entries) blank_slot) 0);
-  index_word = ring.index_word;
-}
-
--- doorbells that aren't masked are taken by an end
-abbrev pub sees_taken : ℕ → Role → ℕ → Bool → Bool
-sees_taken q Sender bits saw = saw
-sees_taken q Receiver bits saw = if has_bit bits q then false else saw
 
 -- The turns
 

@@ -1,0 +1,193 @@
+-- The steps of a receiver: a look, a copy, a clear and an ack, as a turn of its lane and of every other lane.
+use Rattle.std.proofs.Common.{◌≡◌, ℕ, ◌+◌, ◌==◌, Bool, true, false, ◌&&◌, Option, Some, None, List, [], ◌∷◌, length, refl, sym, ap, ◌∙◌, subst, inl, inr}
+use Rattle.std.specs.Prelude.{if◌then◌else◌, nat_lt, slice_get, map, bit_and, bit_or, slice_set}
+use Rattle.std.specs.List.{list_all}
+use Rattle.std.proofs.lemmas.Bool.{true≢false, false≢true, eq-eqb, ne_eqb, not-false, and_parts, cases_eq, cond-true, cond-false, le-ltb, eqb-true, and_right, cases_Bool, cond_both}
+use Rattle.step_kinds.specs.Bits.{has_bit, with_bit, without_bits}
+use Rattle.step_kinds.specs.Sides.{other_side}
+use Rattle.step_kinds.specs.Subject.{subject_of}
+use Rattle.step_kinds.specs.declared.names.LaneName.{LaneName}
+use Rattle.step_kinds.specs.declared.names.Side.{Side}
+use Rattle.step_kinds.specs.declared.names.Side.TheVariants.{A, B}
+use Rattle.step_kinds.specs.declared.plan.PairPlan.{PairPlan}
+use Rattle.step_kinds.specs.declared.plan.Plan.{Plan}
+use Rattle.step_kinds.specs.declared.steps.Answer.{Answer}
+use Rattle.step_kinds.specs.declared.steps.Answer.TheVariants.{Ok as Done, OkSession, OkNumber, Up, Landed, Delivered, Cleared as ClearedFrame, Irq as IrqBits, Empty, ReadyFrame, PeerDown, Posted, Acked, Copied as CopiedPart, Offered, Joined, Awake}
+use Rattle.step_kinds.specs.declared.steps.Label.{Label}
+use Rattle.step_kinds.specs.declared.steps.Label.TheVariants.{Chunk, Len, Ver, Flag, Down, Bell, Index, Pad, Raw}
+use Rattle.step_kinds.specs.declared.steps.Step.{Step}
+use Rattle.step_kinds.specs.declared.steps.Step.TheVariants.{Enable, Train, Break, DropDone, Clean, Offer, Check, Ready, Join, Begin, QpDown, Xbegin, Post, Land, Look, Copy, Clear, Ack, Wake, Irq, Mask, Unmask, Spad, Poke, ShowMem, ShowPad, ShowQueue}
+use Rattle.lane_model.specs.Lane.{Carries, GoesDown, bytes_of, chunks_in}
+use Rattle.lane_model.specs.Order.{may_land}
+use Rattle.lane_model.specs.declared.Field.{Field}
+use Rattle.lane_model.specs.declared.Write.{Write}
+use Rattle.lane_model.specs.declared.Write.TheVariants.{Data, Flag as EntryFlag, Bell as QueueBell}
+use Rattle.lane_model.specs.declared.Field.TheVariants.{Chunk as PayloadChunk, Length, Version}
+use Rattle.lane_model.specs.declared.Phase.TheVariants.{Idle, Copying, Copied, Cleared}
+use Rattle.ledger_model.specs.Both.{at_side}
+use Rattle.ledger_model.specs.Device.{ethernet_frame}
+use Rattle.ledger_model.specs.Handshake.{offers, pad_index, pad_in, check_refusal}
+use Rattle.ledger_model.specs.Labels.{order_of, write_of, index_of}
+use Rattle.ledger_model.specs.Ledger.{LanePart, PairPart, Sizes, side_of, lane_of, tally_of, link_up, posts, with_side_part, with_lane, with_tally, entry_in, links_pad, side_plan, sizes_of, updated}
+use Rattle.ledger_model.specs.Link.{is_down, enabled_link, enable_refusal, train_refusal, cut_refusal, drop_refusal, clean_refusal}
+use Rattle.ledger_model.specs.LinkSteps.{fresh_lane}
+use Rattle.ledger_model.specs.Log.{Answered, Numbered, gives_room, is_on, same_side}
+use Rattle.ledger_model.specs.Next.{Bytes, pair_plan, dev_plan}
+use Rattle.ledger_model.specs.Outcome.{Outcome}
+use Rattle.ledger_model.specs.Receiving.{is_idle, is_copying, is_copied, is_cleared, taken_out, lane_to}
+use Rattle.ledger_model.specs.Rings.{RingPart, ring_next, with_write, with_index}
+use Rattle.ledger_model.specs.Sending.{begun, begun_lane}
+use Rattle.ledger_model.specs.declared.LinkState.TheVariants.{Down as LinkIsDown, Up as LinkIsUp}
+use Rattle.ledger_model.specs.declared.LinkRefusal.TheVariants.{NotDown, Dirty, NotEnabled, NotUp, NotClosing}
+use Rattle.ledger_laws.specs.Laws.{IsOrdinaryOn}
+use Rattle.ledger_laws.proofs.Offers.{offer-is_pad, offer-no_link}
+use Rattle.ledger_laws.proofs.Outcomes.{passed, refused_passed}
+use Rattle.ledger_laws.proofs.Runs.{made_by, left_by}
+use Rattle.ledger_laws.proofs.walk.Cases.{refuses, Refused, MaySend, MayLookAt, found_refusals, enable_cases, train_cases, break_cases, drop_cases, clean_cases, offer_cases, check_cases, ready_cases, join_cases, begin_cases, qpdown_cases, xbegin_cases, post_cases, land_cases, look_cases, copy_cases, clear_cases, ack_cases, wake_cases, trained, broken, dropped, cleaned, offering, next_offer, readied, ready_pad, joining, closing, taken_frame, posting, landed, looking, peer_down, acking, clearing, copied_more, copied_last}
+use Rattle.ledger_laws.proofs.walk.Sight.{Sight, each_way, with_up, with_ready, with_joined, with_offered, with_closed, with_masked, end-own, end_of, Role, Sender, Receiver, peer_of, end_at, with_enabled, with_pending, with_pads, posted, side_at, by_role, sight, IsOff, OffCase, OtherQueue, OtherWay, by_lane, OffReceived, QueueOff, WayOff, received-off, by_received_lane, other_other, same_side-refl, other_side-not, other_side-across, is_off, sight-side, sight-posts, sight-lane, sight-off, sight-tally, sight-tally_off}
+use Rattle.ledger_laws.proofs.walk.Turn.{MayEnable, MayTrain, MayLand, IsForeign, is_handshake, on_queue, taken, forgotten, dropped_end, more_accepted, more_delivered, Turned, turned, Rests, FindsNone, Enables, Trains, Breaks, Drops, Forgets, Offers, Checks, Readies, Joins, Begins, Closes, Posts, Shuts, Says, LandsFlag, LandsField, LandsIndex, LandsBell, LandsPad, LandsAside, Looks, CopiesPart, CopiesLast, Clears, Acks, TakesBells, Masks}
+use Rattle.ledger_laws.proofs.walk.News.{News, no_news, Tells, looked_news, begun_news, pads_landed, ring_landed, ring_freed, ring_cleared}
+use Rattle.ledger_laws.proofs.walk.Tells.{is_read, tells_nothing, tells_no, is_look, unread-refused, is_nothing, gives_landed, pads_heard, ring_heard, bell_in_ring, pad_in_ring, foreign_in_ring, on-own, on-back, on-off, at_receiver, receives-own, receives-off, tells_train, tells_break, tells_check, tells_begin, tells_xbegin, tells_qpdown, tells_empty, tells_look, tells_copy, tells_clear, tells_irq, tells_land}
+use Rattle.ledger_laws.proofs.walk.TurnAt.{TurnAt, shown_as, rests, refusal}
+
+module _ (plan : Plan) (lane : LaneName) (pair : PairPart) where
+  abbrev Own : PairPlan
+  Own = pair_plan plan lane.pair
+
+  abbrev Now : Sight
+  Now = sight lane.from lane.queue pair
+
+  abbrev At : Step → Outcome → Type 0
+  At step o = TurnAt plan lane pair step o
+
+  pub look_found : (p : ℕ) (side : Side) (queue : ℕ) (r : Answer) → found_refusals r ≡ true → At (Look p side queue) (record { answer = r; after = pair })
+  look_found p side queue r is = turned (Rests (at_receiver lane p side queue)) (tells_look plan lane Now.lane p side queue r (not_nothing r is) (at_receiver lane p side queue) refl)
+    where
+      not_nothing : (r : Answer) → found_refusals r ≡ true → is_nothing r ≡ false
+      not_nothing Empty is = absurd (false≢true is)
+      not_nothing r is = refl
+
+  pub look_none : (p : ℕ) → p ≡ lane.pair → (side : Side) (queue : ℕ) → MayLookAt pair side queue → ((lane_to pair side queue).flagged == (lane_to pair side queue).got) ≡ true
+      → At (Look p side queue) (record { answer = Empty; after = pair })
+  look_none p e side queue may none =
+      by_received_lane lane.from lane.queue
+      (λ s sender q. has_bit (side_of pair s).joined q ≡ true → has_bit (side_of pair s).closed q ≡ false → is_idle (lane_of pair sender q).phase ≡ true
+      → ((lane_of pair sender q).flagged == (lane_of pair sender q).got) ≡ true → At (Look p s q) (record { answer = Empty; after = pair }))
+      (λ joined open_yet idle none. turned (FindsNone (record { joined = joined; not_closed = open_yet; idle = idle }) none)
+      (tells_empty plan lane Now.lane p (other_side lane.from) lane.queue true (receives-own lane p e)))
+      (λ s sender q case off joined open_yet idle none. turned (Rests false)
+      (tells_empty plan lane Now.lane p s q false (receives-off lane p s q (received-off lane.from lane.queue s sender q case))))
+      side queue may.joined may.not_closed may.idle none
+
+  pub look_ready : (p : ℕ) → p ≡ lane.pair → (side : Side) (queue : ℕ) → MayLookAt pair side queue → ((lane_to pair side queue).flagged == (lane_to pair side queue).got) ≡ false
+      → (frame : List ℕ) → entry_in (lane_to pair side queue) (lane_to pair side queue).got ≡ Carries frame
+      → At (Look p side queue) (record { answer = ReadyFrame (lane_to pair side queue).got (length frame); after = looking pair side queue })
+  look_ready p e side queue may some frame at =
+      by_received_lane lane.from lane.queue
+      (λ s sender q. has_bit (side_of pair s).joined q ≡ true → has_bit (side_of pair s).closed q ≡ false → is_idle (lane_of pair sender q).phase ≡ true
+      → ((lane_of pair sender q).flagged == (lane_of pair sender q).got) ≡ false → entry_in (lane_of pair sender q) (lane_of pair sender q).got ≡ Carries frame
+      → At (Look p s q) (record { answer = ReadyFrame (lane_of pair sender q).got (length frame); after = with_lane pair sender q (record (lane_of pair sender q) { phase = Copying; part = 0 }) }))
+      (λ joined open_yet idle some at.
+      shown_as plan lane pair (Look p (other_side lane.from) lane.queue) (ReadyFrame Now.lane.got (length frame)) (with_lane pair lane.from lane.queue (record Now.lane { phase = Copying; part = 0 })) _
+      (sight-lane lane.from lane.queue pair (record Now.lane { phase = Copying; part = 0 }))
+      (turned (Looks frame (record { joined = joined; not_closed = open_yet; idle = idle }) some at)
+      (tells_look plan lane Now.lane p (other_side lane.from) lane.queue (ReadyFrame Now.lane.got (length frame)) refl true (receives-own lane p e))))
+      (λ s sender q case off joined open_yet idle some at.
+      let part : LanePart = record (lane_of pair sender q) { phase = Copying; part = 0 } in
+      shown_as plan lane pair (Look p s q) (ReadyFrame (lane_of pair sender q).got (length frame)) (with_lane pair sender q part) _
+      (sight-off lane.from lane.queue pair sender q part off)
+      (turned (Rests false) (tells_look plan lane Now.lane p s q (ReadyFrame (lane_of pair sender q).got (length frame)) refl false (receives-off lane p s q (received-off lane.from lane.queue s sender q case)))))
+      side queue may.joined may.not_closed may.idle some at
+
+  pub copy_part : (p : ℕ) (side : Side) (queue : ℕ) → is_copying (lane_to pair side queue).phase ≡ true
+      → nat_lt ((lane_to pair side queue).part + 1) (chunks_in (length (bytes_of (entry_in (lane_to pair side queue) (lane_to pair side queue).got)))) ≡ true
+      → At (Copy p side queue) (copied_more pair side queue (lane_to pair side queue))
+  copy_part p side queue turn more =
+      by_received_lane lane.from lane.queue
+      (λ s sender q. let part = lane_of pair sender q in is_copying part.phase ≡ true → nat_lt (part.part + 1) (chunks_in (length (bytes_of (entry_in part part.got)))) ≡ true
+      → At (Copy p s q) (record { answer = CopiedPart part.got part.part; after = with_lane pair sender q (record part { part = part.part + 1 }) }))
+      (λ turn more.
+      shown_as plan lane pair (Copy p (other_side lane.from) lane.queue) _ (with_lane pair lane.from lane.queue (record Now.lane { part = Now.lane.part + 1 })) _ (sight-lane lane.from lane.queue pair _)
+      (turned (CopiesPart turn more) (tells_no plan lane Now.lane (Copy p (other_side lane.from) lane.queue) (CopiedPart Now.lane.got Now.lane.part) refl)))
+      (λ s sender q case off turn more.
+      let part = lane_of pair sender q in
+      shown_as plan lane pair (Copy p s q) (CopiedPart part.got part.part) (with_lane pair sender q (record part { part = part.part + 1 })) _ (sight-off lane.from lane.queue pair sender q _ off)
+      (rests plan lane pair (Copy p s q) (CopiedPart part.got part.part) refl))
+      side queue turn more
+
+  pub copy_last : (p : ℕ) → p ≡ lane.pair → (side : Side) (queue : ℕ) → is_copying (lane_to pair side queue).phase ≡ true
+      → nat_lt ((lane_to pair side queue).part + 1) (chunks_in (length (bytes_of (entry_in (lane_to pair side queue) (lane_to pair side queue).got)))) ≡ false
+      → At (Copy p side queue) (copied_last pair side queue (lane_to pair side queue) (bytes_of (entry_in (lane_to pair side queue) (lane_to pair side queue).got)))
+  copy_last p e side queue turn last =
+      by_received_lane lane.from lane.queue
+      (λ s sender q. let part = lane_of pair sender q in is_copying part.phase ≡ true → nat_lt (part.part + 1) (chunks_in (length (bytes_of (entry_in part part.got)))) ≡ false
+      → At (Copy p s q) (record { answer = Delivered part.got (bytes_of (entry_in part part.got)); after = after sender q }))
+      (λ turn last.
+      let part = Now.lane in
+      shown_as plan lane pair (Copy p (other_side lane.from) lane.queue) (Delivered part.got (bytes_of (entry_in part part.got))) (after lane.from lane.queue) _
+      (sight-tally lane.from lane.queue (copied lane.from lane.queue) pair.link.session _
+      ∙ ap (λ (s : Sight). record s { tally = updated Now.tally Now.session (more_delivered (Now.tally Now.session)) }) (sight-lane lane.from lane.queue pair _))
+      (turned (CopiesLast turn last)
+      (tells_copy plan lane Now.lane p (other_side lane.from) lane.queue part.got (bytes_of (entry_in part part.got)) true (on-back lane p e))))
+      (λ s sender q case off turn last.
+      let part = lane_of pair sender q in
+      shown_as plan lane pair (Copy p s q) (Delivered part.got (bytes_of (entry_in part part.got))) (after sender q) _
+      (sight-tally_off lane.from lane.queue (copied sender q) sender q pair.link.session _ off ∙ sight-off lane.from lane.queue pair sender q _ off)
+      (turned (Rests false)
+      (tells_copy plan lane Now.lane p s q part.got (bytes_of (entry_in part part.got)) false (on-off lane p (other_side s) q (received-off lane.from lane.queue s sender q case)))))
+      side queue turn last
+    where
+      copied : Side → ℕ → PairPart
+      copied sender q = with_lane pair sender q (record (lane_of pair sender q) { got = (lane_of pair sender q).got + 1; phase = Copied })
+
+      after : Side → ℕ → PairPart
+      after sender q = with_tally (copied sender q) sender q pair.link.session (more_delivered (tally_of pair sender q pair.link.session))
+
+  pub clear : (p : ℕ) → p ≡ lane.pair → (side : Side) (queue : ℕ) → is_copied (lane_to pair side queue).phase ≡ true
+      → At (Clear p side queue) (record { answer = ClearedFrame (lane_to pair side queue).cleared; after = clearing pair side queue })
+  clear p e side queue turn =
+      by_received_lane lane.from lane.queue
+      (λ s sender q. let part = lane_of pair sender q in is_copied part.phase ≡ true
+      → At (Clear p s q) (record { answer = ClearedFrame part.cleared; after = with_lane pair sender q (record part { cleared = part.cleared + 1; phase = Cleared }) }))
+      (λ turn.
+      shown_as plan lane pair (Clear p (other_side lane.from) lane.queue) (ClearedFrame Now.lane.cleared)
+      (with_lane pair lane.from lane.queue (record Now.lane { cleared = Now.lane.cleared + 1; phase = Cleared })) _ (sight-lane lane.from lane.queue pair _)
+      (turned (Clears turn) (tells_clear plan lane Now.lane p (other_side lane.from) lane.queue Now.lane.cleared true (on-back lane p e))))
+      (λ s sender q case off turn.
+      let part = lane_of pair sender q in
+      shown_as plan lane pair (Clear p s q) (ClearedFrame part.cleared) (with_lane pair sender q (record part { cleared = part.cleared + 1; phase = Cleared })) _ (sight-off lane.from lane.queue pair sender q _ off)
+      (turned (Rests false) (tells_clear plan lane Now.lane p s q part.cleared false (on-off lane p (other_side s) q (received-off lane.from lane.queue s sender q case)))))
+      side queue turn
+
+  pub ack : (p : ℕ) (side : Side) (queue : ℕ) → is_cleared (lane_to pair side queue).phase ≡ true
+      → At (Ack p side queue) (record { answer = Acked (lane_to pair side queue).acked; after = posts (acking pair side queue) side (Index queue (lane_to pair side queue).acked) })
+  ack p side queue turn =
+      by_received_lane lane.from lane.queue
+      (λ s sender q. is_cleared (lane_of pair sender q).phase ≡ true
+      → At (Ack p s q) (record { answer = Acked (lane_of pair sender q).acked; after = posts (acked sender q) s (Index q (lane_of pair sender q).acked) })) own off side queue turn
+    where
+      acked : Side → ℕ → PairPart
+      acked sender q = with_lane pair sender q (record (lane_of pair sender q) { acked = (lane_of pair sender q).acked + 1; phase = Idle })
+
+      own : is_cleared Now.lane.phase ≡ true
+          → At (Ack p (other_side lane.from) lane.queue)
+          (record { answer = Acked Now.lane.acked; after = posts (acked lane.from lane.queue) (other_side lane.from) (Index lane.queue Now.lane.acked) })
+      own turn =
+          let label = Index lane.queue Now.lane.acked in
+          shown_as plan lane pair (Ack p (other_side lane.from) lane.queue) (Acked Now.lane.acked) (posts (acked lane.from lane.queue) (other_side lane.from) label) _
+          (sight-posts lane.from lane.queue (acked lane.from lane.queue) Receiver label ∙ ap (posted Receiver label) (sight-lane lane.from lane.queue pair _))
+          (turned (Acks turn) (tells_no plan lane Now.lane (Ack p (other_side lane.from) lane.queue) (Acked Now.lane.acked) refl))
+
+      off : (s sender : Side) (q : ℕ) → OffReceived lane.from lane.queue s sender q → IsOff lane.from lane.queue sender q → is_cleared (lane_of pair sender q).phase ≡ true
+          → At (Ack p s q) (record { answer = Acked (lane_of pair sender q).acked; after = posts (acked sender q) s (Index q (lane_of pair sender q).acked) })
+      off s sender q (QueueOff ne) is turn =
+          let label = Index q (lane_of pair lane.from q).acked in
+          shown_as plan lane pair (Ack p (other_side lane.from) q) (Acked (lane_of pair lane.from q).acked) (posts (acked lane.from q) (other_side lane.from) label) _
+          (sight-posts lane.from lane.queue (acked lane.from q) Receiver label ∙ ap (posted Receiver label) (sight-off lane.from lane.queue pair lane.from q _ is))
+          (turned (Says Receiver label (record { foreign = cond-false (q == lane.queue) _ _ (ne_eqb q lane.queue (λ e. ne (sym e))); no_handshake = λ ordinary. refl }))
+          (tells_no plan lane Now.lane (Ack p (other_side lane.from) q) (Acked (lane_of pair lane.from q).acked) refl))
+      off s sender q WayOff is turn =
+          let label = Index q (lane_of pair (other_side lane.from) q).acked in
+          shown_as plan lane pair (Ack p lane.from q) (Acked (lane_of pair (other_side lane.from) q).acked) (posts (acked (other_side lane.from) q) lane.from label) _
+          (sight-posts lane.from lane.queue (acked (other_side lane.from) q) Sender label ∙ ap (posted Sender label) (sight-off lane.from lane.queue pair (other_side lane.from) q _ is))
+          (turned (Says Sender label (record { foreign = refl; no_handshake = λ ordinary. refl })) (tells_no plan lane Now.lane (Ack p lane.from q) (Acked (lane_of pair (other_side lane.from) q).acked) refl))
