@@ -1,6 +1,6 @@
 -- What the readers of the log of one lane learn of a step: room that it takes or gives, frames, sessions, what the receiver sees,
 -- scratchpads, and the lane's ring. A step tells nothing but what its turn says.
-use Rattle.std.specs.Prelude.{◌≡◌, ℕ, ◌-◌, ◌%◌, ◌==◌, Bool, true, false, Option, Some, List, [], ◌∷◌, map, slice_set, slice_index_or, if◌then◌else◌}
+use Rattle.std.specs.Prelude.{◌≡◌, ℕ, ◌-◌, ◌%◌, ◌==◌, Bool, false, Option, Some, List, [], ◌∷◌, map, slice_set, slice_index_or, if◌then◌else◌}
 use Rattle.step_kinds.specs.Bits.{has_bit}
 use Rattle.step_kinds.specs.Sides.{other_side}
 use Rattle.step_kinds.specs.declared.names.LaneName.{LaneName}

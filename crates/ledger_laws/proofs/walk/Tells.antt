@@ -1,5 +1,5 @@
 -- What each step tells the readers of the log of one lane: nothing, but for the steps that one of them reads.
-use Rattle.std.proofs.Common.{◌≡◌, ℕ, ◌==◌, Bool, true, false, ◌&&◌, Option, Some, None, List, [], ◌∷◌, refl, sym, ap, ◌∙◌}
+use Rattle.std.proofs.Common.{◌≡◌, ℕ, ◌==◌, Bool, true, false, ◌&&◌, Option, Some, None, List, [], ◌∷◌, refl, ap, ◌∙◌}
 use Rattle.std.specs.Prelude.{if◌then◌else◌}
 use Rattle.std.proofs.lemmas.Bool.{both_ways, false≢true, true≢false, eq-eqb, ne_eqb, and_right, cond_both}
 use Rattle.step_kinds.specs.Sides.{other_side}
@@ -18,7 +18,7 @@ use Rattle.lane_model.specs.declared.Write.TheVariants.{Bell as QueueBell}
 use Rattle.ledger_model.specs.Device.{ethernet_frame}
 use Rattle.ledger_model.specs.Labels.{write_of, index_of}
 use Rattle.ledger_model.specs.Ledger.{LanePart, Sizes}
-use Rattle.ledger_model.specs.Log.{Answered, Numbered, takes_room, gives_room, trains, breaks, accepts, delivers, is_on, same_side}
+use Rattle.ledger_model.specs.Log.{Answered, takes_room, gives_room, trains, breaks, accepts, delivers, is_on, same_side}
 use Rattle.ledger_model.specs.Next.{dev_plan}
 use Rattle.ledger_model.specs.Rings.{RingPart, ring_next, with_write, with_index}
 use Rattle.ledger_laws.proofs.walk.Cases.{refuses}
