@@ -23,10 +23,10 @@ use Rattle.ledger_model.specs.Next.{Bytes, pair_next, pair_plan, dev_plan, fresh
 use Rattle.ledger_model.specs.Outcome.{decided, refuse_if}
 use Rattle.ledger_model.specs.Sending.{is_empty_list, begun, refuse_sender, refuse_full, begin_refusal, xbegin_refusal, counts_refused, begin_refusal, refuse_busy}
 use Rattle.ledger_model.specs.Labels.{indexes_among}
-use Rattle.ledger_laws.proofs.Basics.{fresh-lane, fresh-flight}
+use Rattle.ledger_laws.proofs.AtStart.{fresh-lane, fresh-flight}
 use Rattle.ledger_laws.proofs.FramesInOrder.{LaneRun, lane_runs}
 use Rattle.ledger_laws.proofs.RoomInLog.{RoomKnown, room_kept}
-use Rattle.ledger_laws.proofs.Runs.{answer_of, made_by}
+use Rattle.ledger_laws.proofs.LogGrowth.{answer_of, made_by}
 use Rattle.ledger_laws.proofs.walk.Cases.{closing, taken_frame}
 use Rattle.ledger_laws.proofs.walk.Logs.{HoldsAlways, always_after}
 use Rattle.ledger_laws.proofs.walk.Sight.{sight}

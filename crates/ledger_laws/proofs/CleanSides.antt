@@ -10,7 +10,7 @@ use Rattle.step_kinds.specs.declared.steps.Label.TheVariants.{Pad}
 use Rattle.ledger_model.specs.Link.{is_down}
 use Rattle.ledger_model.specs.Log.{Answered}
 use Rattle.ledger_model.specs.declared.LinkState.{LinkState}
-use Rattle.ledger_laws.proofs.Basics.{up-not_down}
+use Rattle.ledger_laws.proofs.AtStart.{up-not_down}
 use Rattle.ledger_laws.proofs.InFlight.{EmptyOf}
 use Rattle.ledger_laws.proofs.walk.Sight.{Sight, End, Role, Sender, Receiver}
 use Rattle.ledger_laws.proofs.walk.News.{News}

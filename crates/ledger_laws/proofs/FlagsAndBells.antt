@@ -21,7 +21,7 @@ use Rattle.ledger_model.specs.Labels.{label_of, labels_of, write_of, order_of}
 use Rattle.ledger_model.specs.Link.{is_up, is_down}
 use Rattle.ledger_model.specs.Log.{Answered}
 use Rattle.ledger_model.specs.Receiving.{is_idle, is_copying, is_copied, is_cleared}
-use Rattle.ledger_laws.proofs.Basics.{down-not_up}
+use Rattle.ledger_laws.proofs.AtStart.{down-not_up}
 use Rattle.ledger_laws.proofs.BitSets.{has-with_kept, has-with_same, stays_pending}
 use Rattle.ledger_laws.proofs.InFlight.{filter_map-last, filter_map-remove, lands_first, posted_unread, posted_up, EmptyOf}
 use Rattle.ledger_laws.proofs.Labels.{write_of-label, flag_strict, bell_strict}

@@ -19,10 +19,10 @@ use Rattle.ledger_model.specs.Log.{Answered, Numbered, accepts, delivers, accept
 use Rattle.ledger_model.specs.Next.{fresh_pair, pair_plan, no_tally}
 use Rattle.ledger_model.specs.Receiving.{is_copying}
 use Rattle.ledger_laws.specs.Laws.{Begins as BeginsList, NumberedFrom, EveryLogIsInOrder, EveryFrameComesOnce, TalliesAreCounts}
-use Rattle.ledger_laws.proofs.Basics.{fresh-lane, down-not_up}
+use Rattle.ledger_laws.proofs.AtStart.{fresh-lane, down-not_up}
 use Rattle.ledger_laws.proofs.BitSets.{has-with_same, has-without}
 use Rattle.ledger_laws.proofs.Frames.{CarriesAt, frames_from, frames-frame, frames-down, frames-begin, frames-take, numbered-last, numbered-begin, times-once, carries-within, carries-append}
-use Rattle.ledger_laws.proofs.Readers.{session_at, session_at-last, found_in-last}
+use Rattle.ledger_laws.proofs.LogReaders.{session_at, session_at-last, found_in-last}
 use Rattle.ledger_laws.proofs.walk.Logs.{HoldsAlways, always_after}
 use Rattle.ledger_laws.proofs.walk.Sight.{Sight, Sender, Receiver, sight}
 use Rattle.ledger_laws.proofs.walk.News.{News, Tells}

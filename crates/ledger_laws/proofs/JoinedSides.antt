@@ -19,7 +19,7 @@ use Rattle.ledger_model.specs.Log.{Answered}
 use Rattle.ledger_model.specs.declared.LinkState.{LinkState}
 use Rattle.ledger_model.specs.declared.LinkState.TheVariants.{Down, Up, Closing}
 use Rattle.ledger_laws.specs.Laws.{IsOrdinaryOn}
-use Rattle.ledger_laws.proofs.Basics.{up-not_down}
+use Rattle.ledger_laws.proofs.AtStart.{up-not_down}
 use Rattle.ledger_laws.proofs.BitSets.{no_bit}
 use Rattle.ledger_laws.proofs.CleanSides.{IsNew, SettledOf}
 use Rattle.ledger_laws.proofs.InFlight.{filter_map-remove, posted_unread, some_read, EmptyOf}

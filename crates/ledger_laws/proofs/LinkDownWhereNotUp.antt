@@ -18,9 +18,9 @@ use Rattle.ledger_model.specs.Link.{is_up}
 use Rattle.ledger_model.specs.Log.{Answered}
 use Rattle.step_kinds.specs.declared.names.LaneName.{LaneName}
 use Rattle.step_kinds.specs.declared.names.Side.TheVariants.{A}
-use Rattle.ledger_laws.proofs.Basics.{closing-not_up}
-use Rattle.ledger_laws.proofs.Readers.{up_step, up_after-last}
-use Rattle.ledger_laws.proofs.Runs.{answer_of}
+use Rattle.ledger_laws.proofs.AtStart.{closing-not_up}
+use Rattle.ledger_laws.proofs.LogReaders.{up_step, up_after-last}
+use Rattle.ledger_laws.proofs.LogGrowth.{answer_of}
 use Rattle.ledger_laws.proofs.walk.Logs.{HoldsAlways, always_after}
 use Rattle.ledger_laws.proofs.walk.Sight.{Sight}
 use Rattle.ledger_laws.proofs.walk.News.{News, Tells}

@@ -19,11 +19,11 @@ use Rattle.ledger_model.specs.Link.{is_up}
 use Rattle.ledger_model.specs.Log.{Answered, trains, landed_pad}
 use Rattle.ledger_model.specs.Next.{pair_plan}
 use Rattle.ledger_laws.specs.Laws.{IsOrdinaryOn}
-use Rattle.ledger_laws.proofs.Basics.{down-not_up}
+use Rattle.ledger_laws.proofs.AtStart.{down-not_up}
 use Rattle.ledger_laws.proofs.CleanSides.{IsNew, SettledOf}
 use Rattle.ledger_laws.proofs.InFlight.{filter_map-last, filter_map-remove, strict_first, posted_unread, posted_up, EmptyOf}
 use Rattle.ledger_laws.proofs.Offers.{is_offer, offer_of, offers_in, last_value, last_value-last, value_of, offer-good}
-use Rattle.ledger_laws.proofs.Readers.{landed_pad-last}
+use Rattle.ledger_laws.proofs.LogReaders.{landed_pad-last}
 use Rattle.ledger_laws.proofs.walk.Sight.{Sight, Sender, Receiver, flight_with}
 use Rattle.ledger_laws.proofs.walk.News.{News, Tells, pad_next}
 use Rattle.ledger_laws.proofs.walk.Turn.{MayLand, MayOffer, Turn, Trains, Breaks, Drops, Forgets, Offers, Checks, Readies, Says, LandsIndex, LandsBell, LandsPad, LandsAside, Acks, is_handshake}

@@ -13,12 +13,12 @@ use Rattle.ledger_model.specs.Ledger.{LanePart, PairPart, side_of, lane_of}
 use Rattle.ledger_model.specs.Link.{is_up}
 use Rattle.ledger_model.specs.Log.{Answered, log_of, ledger_of, accepted, delivered, last_look_empty}
 use Rattle.ledger_model.specs.Next.{fresh_pair, pair_plan}
-use Rattle.ledger_laws.proofs.Basics.{fresh-lane, fresh-flight}
+use Rattle.ledger_laws.proofs.AtStart.{fresh-lane, fresh-flight}
 use Rattle.ledger_laws.proofs.FlagsAndBells.{LinedOf, WatchedOf, lined_kept, watched_kept, nothing_left, ticks_of}
 use Rattle.ledger_laws.proofs.Frames.{frames_from}
 use Rattle.ledger_laws.proofs.FramesInOrder.{LaneRun, lane_runs}
 use Rattle.ledger_laws.proofs.InFlight.{EmptyOf, empty_kept}
-use Rattle.ledger_laws.proofs.Readers.{last_look-last}
+use Rattle.ledger_laws.proofs.LogReaders.{last_look-last}
 use Rattle.ledger_laws.proofs.walk.Logs.{HoldsAlways, always_after}
 use Rattle.ledger_laws.proofs.walk.Sight.{Sight, sight, other_other}
 use Rattle.ledger_laws.proofs.walk.News.{News, Tells, saw_next}

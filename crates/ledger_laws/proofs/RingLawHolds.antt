@@ -22,7 +22,7 @@ use Rattle.ledger_model.specs.Next.{pair_plan, fresh_pair, agreed_side, idle_sid
 use Rattle.ledger_model.specs.Rings.{RingPart, zeroed_slot, fresh_ring}
 use Rattle.ledger_laws.specs.Laws.{IsOrdinaryOn}
 use Rattle.ledger_laws.specs.Rings.{RingLawHolds}
-use Rattle.ledger_laws.proofs.Basics.{fresh-flight}
+use Rattle.ledger_laws.proofs.AtStart.{fresh-flight}
 use Rattle.ledger_laws.proofs.CleanSides.{SettledOf, settled_up, settled_new, settled_kept}
 use Rattle.ledger_laws.proofs.InFlight.{EmptyOf, empty_kept}
 use Rattle.ledger_laws.proofs.JoinedSides.{LiveOf, JoinsOf, facts_up, facts_idle, joins_kept}

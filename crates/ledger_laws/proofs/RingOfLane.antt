@@ -20,7 +20,7 @@ use Rattle.lane_model.specs.declared.Phase.{Phase}
 use Rattle.lane_model.specs.declared.Phase.TheVariants.{Idle, Copying, Copied, Cleared}
 use Rattle.lane_model.specs.declared.Write.{Write}
 use Rattle.lane_model.specs.declared.Write.TheVariants.{Data, Flag as EntryFlag, Bell as QueueBell}
-use Rattle.lane_laws.proofs.Holds.{fresh_holds, cut_keeps, drop_keeps, free_is_room, begin_keeps, post_keeps, land_data_keeps, land_flag_keeps, land_bell_keeps, look_keeps, copy_keeps, clear_keeps, ack_keeps, index_keeps}
+use Rattle.lane_laws.proofs.Facade.{fresh_holds, cut_keeps, drop_keeps, free_is_room, begin_keeps, post_keeps, land_data_keeps, land_flag_keeps, land_bell_keeps, look_keeps, copy_keeps, clear_keeps, ack_keeps, index_keeps}
 use Rattle.ledger_model.specs.Labels.{write_of, index_of, writes_among, indexes_among}
 use Rattle.ledger_model.specs.Ledger.{LanePart, Sizes, free_of, links_pad, sizes_of}
 use Rattle.ledger_model.specs.Link.{is_up}
@@ -30,7 +30,7 @@ use Rattle.ledger_model.specs.Next.{pair_plan}
 use Rattle.ledger_model.specs.Receiving.{is_idle, is_copying, is_copied, is_cleared}
 use Rattle.ledger_model.specs.Rings.{RingPart, without_header}
 use Rattle.ledger_model.specs.Sending.{begun_lane}
-use Rattle.ledger_laws.proofs.Basics.{up-not_down, closing-not_up}
+use Rattle.ledger_laws.proofs.AtStart.{up-not_down, closing-not_up}
 use Rattle.ledger_laws.proofs.BitSets.{no_bit, has-with_same, has-without}
 use Rattle.ledger_laws.proofs.CleanSides.{SettledOf, not_down_with}
 use Rattle.ledger_laws.proofs.InFlight.{first_none, first_some, middle_some, some_read, filter_map-remove, posted_unread, posted_read, split_whole, lands_first, EmptyOf}
@@ -96,8 +96,8 @@ pub record IsSized (sizes : Sizes) (ring : List Slot) : Type 0 where
 
 sized_by_law : (sizes : Sizes) (ring : List Slot) (lane : Lane) → lane.entries ≡ sizes.entries → lane.largest ≡ sizes.largest → lane.ring ≡ ring → HoldsRingLaw lane → IsSized sizes ring
 sized_by_law sizes ring lane entries largest same law = record {
-  slots = ap length (sym same) ∙ law.2.slots ∙ entries;
-  rooms = λ k below. ap (λ xs. length (slice_index_or xs k blank_slot).payload) (sym same) ∙ law.2.rooms k (subst (λ n. k < n) (sym entries) below) ∙ largest;
+  slots = ap length (sym same) ∙ law.2.room.slots ∙ entries;
+  rooms = λ k below. ap (λ xs. length (slice_index_or xs k blank_slot).payload) (sym same) ∙ law.2.room.rooms k (subst (λ n. k < n) (sym entries) below) ∙ largest;
 }
 
 -- What is shown of a ring's slots
@@ -346,7 +346,7 @@ module _ (sizes : Sizes) (q : ℕ) (s : Sight) (ring : RingPart) where
   looks : is_idle s.lane.phase ≡ true → (s.lane.flagged == s.lane.got) ≡ false → Stage → With Writes Indexes (record s.lane { phase = Copying; part = 0 }) ring
   looks turn some =
       not_fresh (λ starts. both_ways (s.lane.flagged == s.lane.got) some (ap (λ lane. lane.flagged == lane.got) starts.fresh))
-      (law_goes_on (λ law. look_keeps Before (phase_idle s.lane.phase turn) (less s.lane.got s.lane.flagged law.2.got_first (eqb-false s.lane.flagged s.lane.got some)) law))
+      (law_goes_on (λ law. look_keeps Before (phase_idle s.lane.phase turn) (less s.lane.got s.lane.flagged law.2.counts.got_first (eqb-false s.lane.flagged s.lane.got some)) law))
     where
       less : (a b : ℕ) → a ≤ b → (b ≡ a → ⊥) → a < b
       less a b low ne = elim (cases_eq b a) [ inl same ↦ absurd (ne same) | inr other ↦ omega arith ]

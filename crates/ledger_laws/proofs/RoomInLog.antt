@@ -17,7 +17,7 @@ use Rattle.ledger_model.specs.declared.LinkState.{LinkState}
 use Rattle.ledger_laws.proofs.InFlight.{count_by-last, push_some, filter_map-remove, lands_first, posted_unread, posted_up, posted_lost, EmptyOf, empty_kept}
 use Rattle.ledger_laws.proofs.Labels.{index_strict}
 use Rattle.ledger_laws.proofs.Offers.{pad-index}
-use Rattle.ledger_laws.proofs.Readers.{made_since-last}
+use Rattle.ledger_laws.proofs.LogReaders.{made_since-last}
 use Rattle.ledger_laws.proofs.walk.Sight.{Sight, Receiver, flight_with}
 use Rattle.ledger_laws.proofs.walk.News.{News, Tells}
 use Rattle.ledger_laws.proofs.walk.Turn.{Turn, Trains, Breaks, Drops, Forgets, Offers, Readies, Says, Begins, Closes, LandsIndex, LandsBell, LandsPad, LandsAside, Looks, CopiesLast, Clears, Acks}

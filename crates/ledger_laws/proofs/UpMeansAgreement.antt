@@ -21,13 +21,13 @@ use Rattle.ledger_model.specs.Ledger.{PairPart, SidePart, side_of, side_plan, li
 use Rattle.ledger_model.specs.Link.{is_up, fresh_link}
 use Rattle.ledger_model.specs.Log.{Answered, log_of, ledger_of, landed_pad}
 use Rattle.ledger_model.specs.Next.{fresh_pair, pair_plan, idle_side, agreed_side}
-use Rattle.ledger_laws.proofs.Basics.{fresh-flight}
+use Rattle.ledger_laws.proofs.AtStart.{fresh-flight}
 use Rattle.ledger_laws.proofs.CleanSides.{SettledOf, settled_up, settled_kept, settled_new}
 use Rattle.ledger_laws.proofs.InFlight.{EmptyOf, empty_kept}
 use Rattle.ledger_laws.proofs.Offers.{is_offer, last_value, value_of, offer-version, offer-queues, offer-windows, offer-high, offer-low, whole_landed, window_offers}
 use Rattle.ledger_laws.proofs.OffersInSession.{InSession, SessionOf, session_kept}
 use Rattle.ledger_laws.proofs.Outcomes.{passed}
-use Rattle.ledger_laws.proofs.Runs.{answer_of}
+use Rattle.ledger_laws.proofs.LogGrowth.{answer_of}
 use Rattle.ledger_laws.proofs.walk.Cases.{refuses, check_cases}
 use Rattle.ledger_laws.proofs.walk.Logs.{HoldsOn, holds_after}
 use Rattle.ledger_laws.proofs.walk.Sight.{Sight, sight}

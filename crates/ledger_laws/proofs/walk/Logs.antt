@@ -20,7 +20,7 @@ use Rattle.ledger_model.specs.Log.{Answered, Memories, answered, log_from, ledge
 use Rattle.ledger_model.specs.Next.{Ledger, fresh_pair, pair_plan, ledger_after, start}
 use Rattle.ledger_model.specs.Rings.{RingPart, fresh_ring, ring_next, ring_from, ring_of}
 use Rattle.ledger_laws.proofs.Offers.{list_all-map}
-use Rattle.ledger_laws.proofs.Runs.{made_by, left_by}
+use Rattle.ledger_laws.proofs.LogGrowth.{made_by, left_by}
 use Rattle.ledger_laws.proofs.walk.Of.{turn_of, turn_elsewhere}
 use Rattle.ledger_laws.proofs.walk.Sight.{Sight, Sender, Receiver, sight}
 use Rattle.ledger_laws.proofs.walk.News.{News, Tells}

@@ -19,7 +19,7 @@ use Rattle.ledger_model.specs.Log.{Answered}
 use Rattle.ledger_model.specs.Next.{Bytes, pair_plan, dev_plan}
 use Rattle.ledger_model.specs.Outcome.{Outcome}
 use Rattle.ledger_model.specs.Sending.{begun}
-use Rattle.ledger_laws.proofs.Runs.{made_by, left_by}
+use Rattle.ledger_laws.proofs.LogGrowth.{made_by, left_by}
 use Rattle.ledger_laws.proofs.walk.Cases.{enable_cases, train_cases, break_cases, drop_cases, clean_cases, offer_cases, check_cases, ready_cases, join_cases, begin_cases, qpdown_cases, xbegin_cases, post_cases, land_cases, look_cases, copy_cases, clear_cases, ack_cases, wake_cases, taken_frame}
 use Rattle.ledger_laws.proofs.walk.Sight.{Sight, Role, Sender, Receiver, sight}
 use Rattle.ledger_laws.proofs.walk.Turn.{IsForeign, on_queue, Turned, turned, Rests}

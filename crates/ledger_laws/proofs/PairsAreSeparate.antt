@@ -10,7 +10,7 @@ use Rattle.step_kinds.specs.declared.steps.Step.{Step}
 use Rattle.ledger_laws.specs.Laws.{steps_on, made_on, KeepsPairsApart, PairsAreSeparate}
 use Rattle.ledger_model.specs.Log.{Answered, Memories, answered, log_from}
 use Rattle.ledger_model.specs.Next.{Ledger, ledger_after, start}
-use Rattle.ledger_laws.proofs.Runs.{made_by, left_by}
+use Rattle.ledger_laws.proofs.LogGrowth.{made_by, left_by}
 
 -- the whole log and ledger, from a log so far and a ledger on, and those of the pair's steps alone
 abbrev Agree : Plan → Memories → ℕ → List Step → Type 0

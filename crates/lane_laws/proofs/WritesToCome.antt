@@ -158,7 +158,7 @@ cell_left (entry ∷ entries) n writes k field h among =
 
 -- beginning an entry leaves its writes behind the others
 pub left_to_land_more : (lane : Lane) (writes : List Write) (entry : Entry) → lane.flagged ≤ length lane.sent
-    → AreLeftToLand lane writes → AreLeftToLand (after_begin lane entry) (writes ++ writes_of (length lane.sent) entry)
+    → AreLeftToLand lane.flagged lane.sent writes → AreLeftToLand lane.flagged (lane.sent ++ entry ∷ []) (writes ++ writes_of (length lane.sent) entry)
 left_to_land_more lane writes entry first h =
     let counted : length lane.sent ≡ lane.flagged + length (drop lane.flagged lane.sent) = omega (arith, length-drop lane.flagged lane.sent) in
     let more : drop lane.flagged lane.sent ++ entry ∷ [] ≡ drop lane.flagged (lane.sent ++ entry ∷ []) = sym (drop-append-le lane.flagged lane.sent (entry ∷ []) first) in
@@ -174,7 +174,7 @@ left_to_land_more lane writes entry first h =
     ]
 
 pub left_to_land_without : (lane : Lane) (before behind : List Write) (k : ℕ) (field : Field)
-    → AreLeftToLand lane (before ++ Data k field ∷ behind) → AreLeftToLand lane (before ++ behind)
+    → AreLeftToLand lane.flagged lane.sent (before ++ Data k field ∷ behind) → AreLeftToLand lane.flagged lane.sent (before ++ behind)
 left_to_land_without lane before behind k field h = elim h [
   | inl left ↦ inl (left_without (drop lane.flagged lane.sent) lane.flagged before behind k field left)
   | inr bell ↦
@@ -191,7 +191,7 @@ left_to_land_without lane before behind k field h = elim h [
     cell_no_bell e = cc
 
 -- a field that is left to land is one of an entry without flags
-pub cell_to_land : (lane : Lane) (writes : List Write) (k : ℕ) (field : Field) → lane.flagged ≤ length lane.sent → AreLeftToLand lane writes → Contains writes (Data k field)
+pub cell_to_land : (lane : Lane) (writes : List Write) (k : ℕ) (field : Field) → lane.flagged ≤ length lane.sent → AreLeftToLand lane.flagged lane.sent writes → Contains writes (Data k field)
     → (lane.flagged ≤ k) × (k < length lane.sent) × Contains (data_of k (entry_of lane k)) (Data k field)
 cell_to_land lane writes k field first h among = elim h [
   | inl left ↦ at_entry writes left among

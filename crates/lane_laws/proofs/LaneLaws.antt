@@ -1,4 +1,4 @@
--- The laws of specs/Kept.antt, one lemma for each.
+-- The law of the ring is kept by each step, whatever was lost: one lemma for each law of this crate.
 use Rattle.std.proofs.Common.{◌≡◌, ℕ, ◌≤◌, [], ◌∷◌, ◌++◌, length, ◌∙◌, ap, inl, inr, arith, le-ltb}
 use Rattle.std.proofs.lemmas.Bool.{cond-false, cases_lt, cases_Bool}
 use Rattle.lane_model.specs.Lane.{Lane}
