@@ -5,7 +5,7 @@ use Rattle.std.proofs.lemmas.List.{get_or-map}
 use Rattle.lane_model.specs.Lane.{Lane, blank_slot, bytes_of, entry_of, slot_of}
 use Rattle.lane_model.specs.Law.{HoldsRingLaw}
 use Rattle.lane_model.specs.declared.Phase.TheVariants.{Idle}
-use Rattle.lane_laws.proofs.Holds.{look_sees}
+use Rattle.lane_laws.proofs.Facade.{look_sees}
 use Rattle.lane_core.specs.Parts.{place_seen}
 use Rattle.lane_core.specs.Seen.{lane_seen}
 use Rattle.lane_core.specs.declared.lane.Lane.TheInside.{Inside}
