@@ -13,8 +13,8 @@ pub mod laws;
 #[cfg(test)]
 mod tests;
 
-/// The 16 scratchpads of one side, each a word of 32 bits, numbered from 0. The peer writes them (`ntb_peer_spad_write`)
-/// and the side reads them (`ntb_spad_read`). Contracts see the list of the words.
+/// The 16 scratchpads of one side, each a word of 32 bits, numbered from 0. The peer writes them
+/// (`ntb_peer_spad_write`) and the side reads them (`ntb_spad_read`). Contracts see the list of the words.
 #[derive(Clone, Copy, Debug, PartialEq, Eq)]
 pub struct Pads {
     words: [u32; 16],
@@ -58,8 +58,8 @@ impl Pads {
 }
 
 /// The doorbell of one side: the bits that the peer rang (`ntb_peer_db_set`) and the side has not yet taken, and the
-/// bits that the side has masked (`ntb_db_set_mask`). There are 32 bits, from 0; bit k of a number of bits has the value
-/// 2^k.
+/// bits that the side has masked (`ntb_db_set_mask`). There are 32 bits, from 0; bit k of a number of bits has the
+/// value 2^k.
 #[derive(Clone, Copy, Debug, PartialEq, Eq)]
 pub struct Bells {
     pending: u32,
@@ -111,7 +111,8 @@ impl Bells {
         self.masked
     }
 
-    /// Takes the pending bits that aren't masked and answers them: they are pending no more, and masked ones stay pending.
+    /// Takes the pending bits that aren't masked and answers them: they are pending no more, and masked ones stay
+    /// pending.
     #[tactic(auto, using(crate::proofs::BitByBit::and_not_is, crate::proofs::BitByBit::left_by_take))]
     pub fn take(&mut self) -> u32
         ensures taken { result ≡ unmasked_pending self.old }

@@ -1,4 +1,5 @@
--- A host's memory: its bytes as a list, in which a byte's address is its place from 0, and the pages that were promised.
+-- A host's memory: its bytes as a list, in which a byte's address is its place from 0, and the pages that were
+-- promised.
 use Rattle.std.specs.Prelude.{◌≡◌, ◌≢◌, ℕ, ◌+◌, ◌<◌, ◌≤◌, ◌/◌, List, ◌++◌, Contains, length, take, drop, slice_index}
 use Rattle.byteorder.specs.Endian.{little_bytes, little_number}
 

@@ -141,9 +141,9 @@ impl Memory {
         self.write(at, &word);
     }
 
-    /// Promises each page that the `len` bytes from the address `at` on touch, so that they may be written. The bytes have
-    /// to lie in the memory; no bytes touch no page. What was promised before stays so, and no byte changes. Where all
-    /// these pages were promised before, nothing is done, and the answer is `Ok`.
+    /// Promises each page that the `len` bytes from the address `at` on touch, so that they may be written. The bytes
+    /// have to lie in the memory; no bytes touch no page. What was promised before stays so, and no byte changes.
+    /// Where all these pages were promised before, nothing is done, and the answer is `Ok`.
     ///
     /// # Errors
     ///

@@ -86,6 +86,30 @@ fn words_lie_on_two_pages(rt: HostRuntime) -> Result<(), Fail> {
     Ok(())
 }
 
+// The memory of a side with four windows of 256 MiB, with one byte written in each.
+fn largest_side(alloc: Global) -> Result<Memory, AllocError> {
+    let mut memory = fresh(alloc, 1 << 30)?;
+    put(&mut memory, 0, &[1])?;
+    put(&mut memory, 300_000_000, &[2])?;
+    put(&mut memory, 536_870_912, &[3])?;
+    put(&mut memory, 1_073_741_823, &[4])?;
+    Ok(memory)
+}
+
+// The sides of sixteen pairs have 32 GiB of memory, of which 128 pages are there. `tools/bench-memory` measures it.
+#[test]
+fn sixteen_pairs_of_the_largest_windows(rt: HostRuntime) -> Result<(), Fail> {
+    let mut sides = Vec::new(rt.alloc());
+    for _ in 0..32 {
+        sides.push(largest_side(rt.alloc())?)?;
+    }
+    assert_eq!(rt; sides.len(), 32);
+    for side in &sides {
+        assert_eq!(rt; side.page_count(), 4);
+    }
+    Ok(())
+}
+
 #[test]
 fn a_memory_too_large_for_any_machine_is_refused(rt: HostRuntime) {
     assert!(rt; fresh(rt.alloc(), 1 << 63).is_err());

@@ -10,7 +10,8 @@ HasGiven (Some content) left bytes = (rest : List ℕ) × (content ≡ bytes ++ 
 abbrev pub HasGivenAtMost : ℕ → Option (List ℕ) → Option (List ℕ) → Type 0
 HasGivenAtMost most before left = (front : List ℕ) × (length front ≤ most) × HasGiven before left front
 
--- The source has given a front of its content, of at most so many bytes, and each read but the last one gave a byte of it.
+-- The source has given a front of its content, of at most so many bytes, and each read but the last one gave a byte
+-- of it.
 abbrev pub HasGivenAtReads : ℕ → Option (List ℕ) → Option (List ℕ) → ℕ → ℕ → Type 0
 HasGivenAtReads most before left reads reads' =
     (front : List ℕ) × (length front ≤ most) × (reads' ≤ reads + length front + 1) × HasGiven before left front

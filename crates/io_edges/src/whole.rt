@@ -54,8 +54,8 @@ impl From<Failed> for WriteFault {
 /// The most bytes that one read asks for.
 const PIECE: usize = 65_536;
 
-/// Reads all the bytes of a source, which may be `limit` bytes at most; `limit` is below 2^32 - 1. It takes
-/// `limit + 1` bytes at most. Each read but the last one gives a byte: nothing is read behind the end, behind a fault or
+/// Reads all the bytes of a source, which may be `limit` bytes at most; `limit` is below 2^32 - 1. It takes `limit +
+/// 1` bytes at most. Each read but the last one gives a byte: nothing is read behind the end, behind a fault or
 /// behind a byte too many.
 ///
 /// `Ok` has all the bytes, and the source is at its end.

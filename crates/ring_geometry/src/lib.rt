@@ -68,8 +68,8 @@ impl Model for Geometry {
 }
 
 impl Geometry {
-    /// Places the ring of the queue `queue` of `queues`, counted from 0, on a side with `windows` translation windows: at
-    /// most 16 queues and 4 windows.
+    /// Places the ring of the queue `queue` of `queues`, counted from 0, on a side with `windows` translation
+    /// windows: at most 16 queues and 4 windows.
     ///
     /// `window` is the size of the queue's window, at most 268,435,456, `mtu` the largest entry, at most 65,536, and
     /// `header` the size of a header, at most 16 (12 on version 4 of the transport, 16 on version 5), each in bytes. An
@@ -196,8 +196,8 @@ impl Geometry {
         self.slot_at(i) + u64::from(self.frame_bytes) - u64::from(self.header)
     }
 
-    /// How many entries the sender may begin, by the next entry's slot `head` and the index word `tail`, both of which have
-    /// to be below the entries. One entry always stays free.
+    /// How many entries the sender may begin, by the next entry's slot `head` and the index word `tail`, both of
+    /// which have to be below the entries. One entry always stays free.
     pub fn free(&self, head: u32, tail: u32) -> u32
         requires head { head < entries_of self.now }
         requires tail { tail < entries_of self.now }
