@@ -1,2 +1,3 @@
-pub mod LandingLemmas
-pub mod LawLemmas
+pub mod CountLemmas
+pub mod RowLemmas
+pub mod LevelLemmas

@@ -1,3 +1,6 @@
 pub mod Flight
 pub mod Landing
 pub mod Laws
+pub mod Rows
+pub mod Counts
+pub mod Levels
