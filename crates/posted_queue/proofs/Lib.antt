@@ -1,3 +1,4 @@
 pub mod CountLemmas
 pub mod RowLemmas
 pub mod LevelLemmas
+pub mod LandingLemmas

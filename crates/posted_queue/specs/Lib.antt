@@ -4,3 +4,4 @@ pub mod Laws
 pub mod Rows
 pub mod Counts
 pub mod Levels
+pub mod Waiting

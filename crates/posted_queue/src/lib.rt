@@ -7,8 +7,9 @@
 //! Room for a write is promised before it is posted, so that posting, landing and discarding take no memory.
 #![tactic(auto)]
 
-ghost use Rattle.std.specs.Prelude.{◌≡◌, ℕ, ◌-◌, ◌<◌, ◌≤◌, ◌↔◌, ◌==◌, ◌&&◌, not, nat_lt, List, map, length, IsSome, IsTrue, OnOk, OnErr, option_copied, slice_get};
-ghost use Rattle.order_rules.specs.Order.{Order, relaxed, may_land};
+ghost use Rattle.std.specs.Prelude.{◌≡◌, ◌<◌, ◌≤◌, ◌↔◌, ◌==◌, length, IsSome, IfSome, OnOk, OnErr, option_copied, slice_get};
+ghost use Rattle.order_rules.specs.Order.{Order};
+ghost use Rattle.posted_queue.specs.Waiting.{class_awaited as awaited};
 
 use crate::block::Block;
 use crate::counted::Counted;
@@ -62,9 +63,24 @@ pub struct Queue<W: Ordered> {
     spare: usize,
 }
 
+impl<W: Ordered> Model for Queue<W> {
+    ghost use Rattle.std.specs.Prelude.{◌+◌, ◌≤◌, ◌<◌, ◌^◌, length};
+    ghost use Rattle.posted_queue.specs.Flight.{Flight};
+
+    ghost Value = { Flight W };
+
+    ghost view = { λ queue. record { writes = queue.blocks.writes; spare = queue.spare } };
+
+    ghost invariant = { λ queue. (queue.spare ≤ queue.blocks.spare) × (length queue.blocks.writes + queue.spare < 2 ^ 64) };
+}
+
 impl<W: Ordered> Queue<W> {
+    ghost use Rattle.posted_queue.specs.Flight.{nothing_in_flight, promised, given_back, posted, discarded};
+    ghost use Rattle.posted_queue.specs.Landing.{land_answer, after_landing};
+
     /// A queue with nothing in flight and no room promised. It takes no memory yet.
     pub fn new(alloc: Global) -> Self
+        ensures { result ≡ nothing_in_flight }
     {
         Queue {
             blocks: Counted::empty(alloc),
@@ -74,12 +90,14 @@ impl<W: Ordered> Queue<W> {
 
     /// How many writes are in flight.
     pub fn len(&self) -> usize
+        ensures { result ≡ length self.now.writes }
     {
         self.blocks.len()
     }
 
     /// Whether no write is in flight.
     pub fn is_empty(&self) -> bool
+        ensures { result ≡ (length self.now.writes == 0) }
     {
         self.blocks.len() == 0
     }
@@ -87,14 +105,19 @@ impl<W: Ordered> Queue<W> {
     /// The write at this place in flight, counted from 0 for the one that was posted first. `None` where no more
     /// than `place` writes are in flight.
     pub fn label_at(&self, place: usize) -> Option<&W>
+        ensures write { option_copied result ≡ slice_get self.now.writes place }
+        ensures within { IsSome result ↔ (place < length self.now.writes) }
     {
         self.blocks.get(place)
     }
 
     /// Promises room for `more` writes, on top of those that are promised already.
     ///
-    /// An `Err` comes only from want of memory, and leaves the queue as it was.
+    /// An `Err` comes only from want of memory, and leaves the queue as it was. A queue has memory for some 16 million
+    /// writes at most.
     pub fn promise(&mut self, more: usize) -> Result<(), AllocError>
+        ensures ok { OnOk result (self.new ≡ promised self.old more) }
+        ensures err { OnErr result (self.new ≡ self.old) }
     {
         let spare = self.spare.checked_add(more).ok_or(AllocError)?;
         self.blocks.len().checked_add(spare).ok_or(AllocError)?;
@@ -110,34 +133,49 @@ impl<W: Ordered> Queue<W> {
 
     /// Gives back the promise of `count` writes, which are not posted after all. So many must be promised.
     pub fn give_back(&mut self, count: usize)
+        requires { count ≤ self.old.spare }
+        ensures { self.new ≡ given_back self.old count }
     {
         self.spare -= count;
     }
 
     /// Posts a write behind all others, into room that was promised for at least one more. It takes no memory.
     pub fn push(&mut self, write: W)
+        requires { 0 < self.old.spare }
+        ensures { self.new ≡ posted self.old write }
     {
         self.blocks.push(write);
         self.spare -= 1;
     }
 
-    /// Lands the write.
+    /// Lands the write at this place in flight, counted from 0 for the one that was posted first. It is taken out and
+    /// returned if it may pass each write before it, as one at the front always may: a relaxed write may, and a strict
+    /// one may where no write before it has its traffic class (PCI Express Base 4.0, section 2.4).
+    ///
+    /// [`LandAnswer::Blocked`] comes where it may not, and [`LandAnswer::Nothing`] where no more than `place` writes
+    /// are in flight. Both leave the queue as it was. What was promised stays promised.
+    ///
+    /// It takes a few hundred turns of loops at most, whatever the place and however many writes are in flight, and a
+    /// few at the front.
     pub fn land(&mut self, place: usize) -> LandAnswer<W>
+        ensures answer { result ≡ land_answer W.order self.old place }
+        ensures after { self.new ≡ after_landing W.order self.old place }
     {
-        let waits_for = match self.blocks.get(place) {
-            Some(write) => class_to_wait_for(write),
-            None => return LandAnswer::Nothing,
+        let Some(write) = self.blocks.get(place) else {
+            return LandAnswer::Nothing;
         };
-        match self.blocks.take(place, waits_for) {
-            Some(write) => LandAnswer::Landed(write),
-            None => LandAnswer::Blocked,
-        }
+        let waits_for = class_awaited(write);
+        let Some(write) = self.blocks.take(place, waits_for) else {
+            return LandAnswer::Blocked;
+        };
+        LandAnswer::Landed(write)
     }
 
     /// Drops all writes in flight. What was promised stays promised.
     pub fn discard(&mut self)
     where
         W: Drop,
+        ensures { self.new ≡ discarded self.old }
     {
         while self.blocks.len() > 0 {
             let _write = self.blocks.take(0, None);
@@ -145,11 +183,13 @@ impl<W: Ordered> Queue<W> {
     }
 }
 
-// The class of which a write passes no earlier one: none where it may pass a strict write, and so any.
-fn class_to_wait_for<W: Ordered>(write: &W) -> Option<usize> {
+// The class of which this write passes no earlier one: none where it may pass a strict one, and so any.
+fn class_awaited<W: Ordered>(write: &W) -> Option<usize>
+    ensures class { result ≡ awaited (W.order write.now) }
+    ensures small { IfSome result (λ class. class < 8) }
+{
     if posted_table().may_pass(write.kind(), STRICT) {
-        None
-    } else {
-        Some(write.class() as usize)
+        return None;
     }
+    Some(write.class() as usize)
 }

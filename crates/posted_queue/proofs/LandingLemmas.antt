@@ -1,0 +1,73 @@
+-- When the write at a place in flight may land: where it is relaxed, or no write before it has its class.
+use Rattle.std.proofs.Common.{◌≡◌, ◌≢◌, ◌⊎◌, ℕ, ◌<◌, ◌≤◌, Bool, true, false, ◌==◌, ◌&&◌, ◌||◌, not, List, [], ◌∷◌, ◌++◌, length, take, map, Option, Some, None, option_map, slice_get, if◌then◌else◌, refl, sym, ap, subst, ⊎_elim, ◌∙◌, arith}
+use Rattle.std.specs.List.{list_all, list_any, remove}
+use Rattle.std.proofs.lemmas.Bool.{eq-eqb, ne_eqb, cases_eq}
+use Rattle.std.proofs.lemmas.List.{length-map, map-append, take-map, take_at}
+use Rattle.std.proofs.lemmas.List.Folds.{list_all-map}
+use Rattle.std.proofs.lemmas.Option.{slice_get-map, slice_get_past}
+use Rattle.order_rules.specs.Order.{Order, relaxed, passes, lands_behind, may_land}
+use Rattle.posted_queue.specs.Rows.{is_held_back}
+use Rattle.posted_queue.specs.Waiting.{class_awaited}
+use Rattle.posted_queue.specs.Flight.{Flight}
+use Rattle.posted_queue.specs.Landing.{answer_for, land_answer, after_landing}
+use Rattle.posted_queue.specs.declared.LandAnswer.TheVariants.{Landed, Blocked, Nothing}
+
+-- the write at a place may land where it passes each write before it
+pub may_land-map : {W : Type 0} (order : W → Order) (writes : List W) (place : ℕ) (write : W) → slice_get writes place ≡ Some write → may_land (map order writes) place ≡ list_all (λ earlier. passes (order write) (order earlier)) (take place writes)
+may_land-map order writes place write at =
+    ap (λ found. lands_behind found (take place (map order writes))) (slice_get-map order writes place ∙ ap (option_map order) at)
+    ∙ ap (list_all (passes (order write))) (take-map order place writes)
+    ∙ list_all-map (passes (order write)) order (take place writes)
+
+-- no write stands at a place past the end
+pub may_land-past : {W : Type 0} (order : W → Order) (writes : List W) (place : ℕ) → length writes ≤ place → may_land (map order writes) place ≡ false
+may_land-past order writes place past =
+    ap (λ found. lands_behind found (take place (map order writes))) (slice_get-map order writes place ∙ ap (option_map order) (slice_get_past writes place past))
+
+-- two numbers are equal either way round
+eqb-swap : (a b : ℕ) → (a == b) ≡ (b == a)
+eqb-swap a b = ⊎_elim (λ (e : a ≡ b). eq-eqb a b e ∙ sym (eq-eqb b a (sym e))) (λ (ne : a ≢ b). ne_eqb a b ne ∙ sym (ne_eqb b a (λ e. ne (sym e)))) (cases_eq a b)
+
+-- it passes each exactly where nothing that it waits for stands before it
+pub passes_all : {W : Type 0} (order : W → Order) (write : W) (before : List W) → list_all (λ earlier. passes (order write) (order earlier)) before ≡ not (is_held_back order (class_awaited (order write)) before)
+passes_all {W = W} order write before = by_kind ((order write).kind == relaxed) before
+  where
+    both : (a b : Bool) → (not a && not b) ≡ not (a || b)
+    both true b = refl
+    both false b = refl
+
+    by_kind : (is_relaxed : Bool) (before : List W) → list_all (λ earlier. is_relaxed || not ((order write).class == (order earlier).class)) before ≡ not (is_held_back order (if is_relaxed then None else Some (order write).class) before)
+    by_kind true [] = refl
+    by_kind true (x ∷ xs) = by_kind true xs
+    by_kind false [] = refl
+    by_kind false (x ∷ xs) =
+        ap (λ b. not b && list_all (λ earlier. not ((order write).class == (order earlier).class)) xs) (eqb-swap (order write).class (order x).class)
+        ∙ ap (λ rest. not ((order x).class == (order write).class) && rest) (by_kind false xs)
+        ∙ both ((order x).class == (order write).class) (is_held_back order (Some (order write).class) xs)
+
+pub may_land-awaited : {W : Type 0} (order : W → Order) (writes : List W) (place : ℕ) (write : W) → slice_get writes place ≡ Some write → may_land (map order writes) place ≡ not (is_held_back order (class_awaited (order write)) (take place writes))
+may_land-awaited order writes place write at = may_land-map order writes place write at ∙ passes_all order write (take place writes)
+
+-- a write that was found and taken out lands
+pub landed : {W : Type 0} (order : W → Order) (writes : List W) (spare place : ℕ) (found write : W) (waits_for : Option ℕ) → slice_get writes place ≡ Some found → waits_for ≡ class_awaited (order found) → slice_get writes place ≡ Some write → false ≡ is_held_back order waits_for (take place writes) → (Landed write ≡ land_answer order (record { writes = writes; spare = spare }) place) × (record { writes = remove writes place; spare = spare } ≡ after_landing order (record { writes = writes; spare = spare }) place)
+landed order writes spare place found write waits_for at awaited taken free =
+    (sym (ap (λ there. answer_for there (may_land (map order writes) place)) taken ∙ ap (answer_for (Some write)) lands),
+    sym (ap (λ may. if may then record { writes = remove writes place; spare = spare } else record { writes = writes; spare = spare }) lands))
+  where
+    lands : may_land (map order writes) place ≡ true
+    lands =
+        may_land-awaited order writes place found at
+        ∙ ap (λ class. not (is_held_back order class (take place writes))) (sym awaited)
+        ∙ ap not (sym free)
+
+-- a write that was found and is held back is blocked, and all stays
+pub blocked : {W : Type 0} (order : W → Order) (writes : List W) (spare place : ℕ) (found : W) (waits_for : Option ℕ) → slice_get writes place ≡ Some found → waits_for ≡ class_awaited (order found) → true ≡ is_held_back order waits_for (take place writes) → (Blocked ≡ land_answer order (record { writes = writes; spare = spare }) place) × (record { writes = writes; spare = spare } ≡ after_landing order (record { writes = writes; spare = spare }) place)
+blocked order writes spare place found waits_for at awaited held =
+    (sym (ap (λ there. answer_for there (may_land (map order writes) place)) at ∙ ap (answer_for (Some found)) stays),
+    sym (ap (λ may. if may then record { writes = remove writes place; spare = spare } else record { writes = writes; spare = spare }) stays))
+  where
+    stays : may_land (map order writes) place ≡ false
+    stays =
+        may_land-awaited order writes place found at
+        ∙ ap (λ class. not (is_held_back order class (take place writes))) (sym awaited)
+        ∙ ap not (sym held)
