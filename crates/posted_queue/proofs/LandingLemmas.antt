@@ -50,9 +50,10 @@ may_land-awaited order writes place write at = may_land-map order writes place w
 
 -- a write that was found and taken out lands
 pub landed : {W : Type 0} (order : W → Order) (writes : List W) (spare place : ℕ) (found write : W) (waits_for : Option ℕ) → slice_get writes place ≡ Some found → waits_for ≡ class_awaited (order found) → slice_get writes place ≡ Some write → false ≡ is_held_back order waits_for (take place writes) → (Landed write ≡ land_answer order (record { writes = writes; spare = spare }) place) × (record { writes = remove writes place; spare = spare } ≡ after_landing order (record { writes = writes; spare = spare }) place)
-landed order writes spare place found write waits_for at awaited taken free =
-    (sym (ap (λ there. answer_for there (may_land (map order writes) place)) taken ∙ ap (answer_for (Some write)) lands),
-    sym (ap (λ may. if may then record { writes = remove writes place; spare = spare } else record { writes = writes; spare = spare }) lands))
+landed order writes spare place found write waits_for at awaited taken free = (
+  sym (ap (λ there. answer_for there (may_land (map order writes) place)) taken ∙ ap (answer_for (Some write)) lands),
+  sym (ap (λ may. if may then record { writes = remove writes place; spare = spare } else record { writes = writes; spare = spare }) lands),
+)
   where
     lands : may_land (map order writes) place ≡ true
     lands =
@@ -62,9 +63,10 @@ landed order writes spare place found write waits_for at awaited taken free =
 
 -- a write that was found and is held back is blocked, and all stays
 pub blocked : {W : Type 0} (order : W → Order) (writes : List W) (spare place : ℕ) (found : W) (waits_for : Option ℕ) → slice_get writes place ≡ Some found → waits_for ≡ class_awaited (order found) → true ≡ is_held_back order waits_for (take place writes) → (Blocked ≡ land_answer order (record { writes = writes; spare = spare }) place) × (record { writes = writes; spare = spare } ≡ after_landing order (record { writes = writes; spare = spare }) place)
-blocked order writes spare place found waits_for at awaited held =
-    (sym (ap (λ there. answer_for there (may_land (map order writes) place)) at ∙ ap (answer_for (Some found)) stays),
-    sym (ap (λ may. if may then record { writes = remove writes place; spare = spare } else record { writes = writes; spare = spare }) stays))
+blocked order writes spare place found waits_for at awaited held = (
+  sym (ap (λ there. answer_for there (may_land (map order writes) place)) at ∙ ap (answer_for (Some found)) stays),
+  sym (ap (λ may. if may then record { writes = remove writes place; spare = spare } else record { writes = writes; spare = spare }) stays),
+)
   where
     stays : may_land (map order writes) place ≡ false
     stays =

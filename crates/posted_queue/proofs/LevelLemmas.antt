@@ -142,12 +142,12 @@ moves_last row n part within read none = record {
   len = length_push (remove row n) part ∙ length-remove row n within;
   behind = λ number before. writes_in-drop_push (remove row n) number part empty ∙ ap writes_in (drop-remove row number n (omega arith) within);
   room_behind = λ number low inside.
-    let shorter = length-remove row n within in
-    let rest : room_in (drop number (remove row n ++ part ∷ [])) ≡ room_in (drop (suc number) row) + (part.spare + 0) =
-    ap room_in (drop-append-le number (remove row n) (part ∷ []) (omega arith))
-    ∙ room_in-append (drop number (remove row n)) (part ∷ [])
-    ∙ ap (λ r. room_in r + (part.spare + 0)) (drop-remove row number n low within) in
-    omega arith;
+      let shorter = length-remove row n within in
+      let rest : room_in (drop number (remove row n ++ part ∷ [])) ≡ room_in (drop (suc number) row) + (part.spare + 0) =
+      ap room_in (drop-append-le number (remove row n) (part ∷ []) (omega arith))
+      ∙ room_in-append (drop number (remove row n)) (part ∷ [])
+      ∙ ap (λ r. room_in r + (part.spare + 0)) (drop-remove row number n low within) in
+      omega arith;
 }
   where
     at : part_at row n ≡ part
@@ -164,9 +164,9 @@ spot-takes_out row place spot part new is read taken more = record {
   there = is.part_there;
   behind = λ number none. behind-taken row number spot.part spot.place part new is.part_there read there taken none;
   room = λ number low.
-    let sum : room_in (drop number (set row spot.part new)) + part.spare ≡ room_in (drop number row) + new.spare =
-    subst (λ p. room_in (drop number (set row spot.part new)) + p.spare ≡ room_in (drop number row) + new.spare) at (room_in-drop_set row number spot.part new low is.part_there) in
-    omega arith;
+      let sum : room_in (drop number (set row spot.part new)) + part.spare ≡ room_in (drop number row) + new.spare =
+      subst (λ p. room_in (drop number (set row spot.part new)) + p.spare ≡ room_in (drop number row) + new.spare) at (room_in-drop_set row number spot.part new low is.part_there) in
+      omega arith;
   others = λ number high. ap room_in (drop-set-lt number row spot.part new high);
 }
   where
@@ -198,10 +198,10 @@ level-moved row new last room part more grown level moved before bound = record 
   in_row = (let i = level.in_row in let e = moved.len in omega arith);
   behind = ap (λ number. writes_in (drop number new)) same_last ∙ moved.behind last before ∙ level.behind;
   room_there = (let i = level.in_row in
-    let r = level.room_there in
-    let e = moved.room_behind (last - 1) (omega arith) (omega arith) in
-    let f : room_in (drop (suc (last - 1)) row) ≡ room_in (drop last row) = ap (λ number. room_in (drop number row)) same_last in
-    omega arith);
+      let r = level.room_there in
+      let e = moved.room_behind (last - 1) (omega arith) (omega arith) in
+      let f : room_in (drop (suc (last - 1)) row) ≡ room_in (drop last row) = ap (λ number. room_in (drop number row)) same_last in
+      omega arith);
 }
   where
     same_last : suc (last - 1) ≡ last

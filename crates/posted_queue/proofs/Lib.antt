@@ -2,3 +2,4 @@ pub mod CountLemmas
 pub mod RowLemmas
 pub mod LevelLemmas
 pub mod LandingLemmas
+pub mod LawLemmas

@@ -2,10 +2,9 @@
 use Rattle.std.specs.Prelude.{◌≡◌, ◌≢◌, ℕ, ◌<◌, ◌⊎◌, ◌==◌, ◌&&◌, ◌||◌, nat_lt, Bool, List, ◌∷◌, ◌++◌, All, IsTrue, length, map, filter, slice_index, remove}
 use Rattle.order_rules.specs.Order.{Order, relaxed, may_land}
 
--- the write behind those before it is relaxed, or none of them has its class
-abbrev pub IsRelaxedOrFirstOfClass : {W : Type 0} → (W → Order) → List W → W → Type 0
-IsRelaxedOrFirstOfClass order before write =
-    ((order write).kind ≡ relaxed) ⊎ All (λ earlier. (order earlier).class ≢ (order write).class) before
+-- a write is relaxed, or none of those before it has its class
+abbrev pub IsRelaxedOrFirstOfClass : List Order → Order → Type 0
+IsRelaxedOrFirstOfClass before write = (write.kind ≡ relaxed) ⊎ All (λ earlier. earlier.class ≢ write.class) before
 
 -- Of the writes `before ++ write ∷ after` only those that are `kept` are looked at, and `write` is one of them.
 -- It then stands behind those kept of `before`, may land there, and leaves the kept of the others.

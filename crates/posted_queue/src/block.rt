@@ -38,7 +38,10 @@ impl<W: Ordered> Part<W> for Block<W> {
     }
 
     fn room(&self) -> usize {
-        self.writes.capacity().min(BLOCK_MOST).saturating_sub(self.writes.len())
+        self.writes
+            .capacity()
+            .min(BLOCK_MOST)
+            .saturating_sub(self.writes.len())
     }
 
     fn get(&self, place: usize) -> Option<&W> {
@@ -57,12 +60,17 @@ impl<W: Ordered> Part<W> for Block<W> {
     }
 
     fn reserve(&mut self, more: usize) -> Result<(), AllocError> {
-        self.writes.reserve(more.min(BLOCK_MOST.saturating_sub(self.writes.len())))
+        self.writes
+            .reserve(more.min(BLOCK_MOST.saturating_sub(self.writes.len())))
     }
 }
 
 // Whether one of the writes before this place has the class that is waited for.
-fn has_class_before<W: Ordered>(writes: &VecDeque<W>, place: usize, waits_for: Option<usize>) -> bool
+fn has_class_before<W: Ordered>(
+    writes: &VecDeque<W>,
+    place: usize,
+    waits_for: Option<usize>,
+) -> bool
     requires { place ≤ length writes.now.items }
     ensures { result ≡ is_held_back W.order waits_for (take place writes.now.items) }
 {

@@ -3,7 +3,9 @@
 use crate::Ordered;
 use crate::counted::Counted;
 use crate::part::Part;
-use crate::row::{Taken, find_spot, first_with_room, move_last, push_at, reserve_from, room_from, take_from};
+use crate::row::{
+    Taken, find_spot, first_with_room, move_last, push_at, reserve_from, room_from, take_from,
+};
 use std::alloc::{AllocError, Global};
 use std::marker::Model;
 
@@ -54,7 +56,11 @@ impl<W: Ordered, P: Part<W>> Part<W> for Level<W, P> {
     }
 
     fn take(&mut self, place: usize, waits_for: Option<usize>) -> Option<W> {
-        let Taken { write, part, gained } = take_from(&mut self.row, place, waits_for)?;
+        let Taken {
+            write,
+            part,
+            gained,
+        } = take_from(&mut self.row, place, waits_for)?;
         if part >= self.last {
             self.room = self.room.saturating_add(gained);
             return Some(write);

@@ -21,6 +21,7 @@ use std::marker::Model;
 
 mod block;
 mod counted;
+pub mod laws;
 mod level;
 mod part;
 mod row;

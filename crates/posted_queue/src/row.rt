@@ -23,7 +23,11 @@ pub struct Spot {
 
 /// Where the write at this place stands. `None` past the last write, and where one of the parts before has a write
 /// of the class that is waited for.
-pub fn find_spot<W: Ordered, P: Part<W>>(row: &[Counted<W, P>], place: usize, waits_for: Option<usize>) -> Option<Spot>
+pub fn find_spot<W: Ordered, P: Part<W>>(
+    row: &[Counted<W, P>],
+    place: usize,
+    waits_for: Option<usize>,
+) -> Option<Spot>
     requires { ForSome waits_for (λ class. class < 8) }
     ensures spot { IfSome result (IsSpot row.now place) }
     ensures free { IfSome result (λ spot. is_held_back W.order waits_for (writes_in (take spot.part row.now)) ≡ false) }
@@ -94,7 +98,11 @@ pub struct Taken<W> {
 }
 
 /// Takes out the write at this place, unless it waits for a class and a write of that class stands before it.
-pub fn take_from<W: Ordered, P: Part<W>>(row: &mut Vec<Counted<W, P>>, place: usize, waits_for: Option<usize>) -> Option<Taken<W>>
+pub fn take_from<W: Ordered, P: Part<W>>(
+    row: &mut Vec<Counted<W, P>>,
+    place: usize,
+    waits_for: Option<usize>,
+) -> Option<Taken<W>>
     requires there { place < length (writes_in row.old.items) }
     requires class { ForSome waits_for (λ class. class < 8) }
     ensures held_back { is_none result ≡ is_held_back W.order waits_for (take place (writes_in row.old.items)) }
@@ -116,7 +124,11 @@ pub fn take_from<W: Ordered, P: Part<W>>(row: &mut Vec<Counted<W, P>>, place: us
 
 /// Makes room for `more` writes in the parts from this one on, by parts that are added where need be, or for as many
 /// as fit where they are fewer.
-pub fn reserve_from<W: Ordered, P: Part<W>>(row: &mut Vec<Counted<W, P>>, from: usize, more: usize) -> Result<(), AllocError>
+pub fn reserve_from<W: Ordered, P: Part<W>>(
+    row: &mut Vec<Counted<W, P>>,
+    from: usize,
+    more: usize,
+) -> Result<(), AllocError>
     requires { from ≤ length row.old.items }
     ensures { KeepsWrites row.old.items row.new.items }
 {
@@ -132,20 +144,31 @@ pub fn reserve_from<W: Ordered, P: Part<W>>(row: &mut Vec<Counted<W, P>>, from: 
 
 // Makes room for `more` writes in this part, or for as many as fit, and says how much room it has. The part is added
 // where it isn't there. Behind the first part, no block is made smaller than it can be.
-fn reserve_at<W: Ordered, P: Part<W>>(row: &mut Vec<Counted<W, P>>, number: usize, more: usize) -> Result<usize, AllocError>
+fn reserve_at<W: Ordered, P: Part<W>>(
+    row: &mut Vec<Counted<W, P>>,
+    number: usize,
+    more: usize,
+) -> Result<usize, AllocError>
     requires { number ≤ length row.old.items }
     ensures kept { KeepsWrites row.old.items row.new.items }
     ensures there { OnOk result (number < length row.new.items) }
 {
     add_missing_part(row, number)?;
-    let wanted = if number == 0 { more } else { more.max(BLOCK_MOST) };
+    let wanted = if number == 0 {
+        more
+    } else {
+        more.max(BLOCK_MOST)
+    };
     let part = &mut row[number];
     part.reserve(wanted)?;
     Ok(part.room())
 }
 
 // Adds an empty part where this one isn't there.
-fn add_missing_part<W: Ordered, P: Part<W>>(row: &mut Vec<Counted<W, P>>, number: usize) -> Result<(), AllocError>
+fn add_missing_part<W: Ordered, P: Part<W>>(
+    row: &mut Vec<Counted<W, P>>,
+    number: usize,
+) -> Result<(), AllocError>
     requires { number ≤ length row.old.items }
     ensures kept { KeepsWrites row.old.items row.new.items }
     ensures there { OnOk result (number < length row.new.items) }
