@@ -1,10 +1,10 @@
 -- When the write at a place in flight may land: where it is relaxed, or no write before it has its class.
-use Rattle.std.proofs.Common.{◌≡◌, ◌≢◌, ◌⊎◌, ℕ, ◌<◌, ◌≤◌, Bool, true, false, ◌==◌, ◌&&◌, ◌||◌, not, List, [], ◌∷◌, ◌++◌, length, take, map, Option, Some, None, option_map, slice_get, if◌then◌else◌, refl, sym, ap, subst, ⊎_elim, ◌∙◌, arith}
+use Rattle.std.proofs.Common.{◌≡◌, ◌≢◌, ◌⊎◌, ℕ, zero, suc, ◌<◌, ◌≤◌, Bool, true, false, ◌==◌, ◌&&◌, ◌||◌, not, List, [], ◌∷◌, ◌++◌, length, take, map, Option, Some, None, option_map, slice_get, if◌then◌else◌, refl, sym, ap, subst, ⊎_elim, ◌∙◌, arith}
 use Rattle.std.specs.List.{list_all, list_any, remove}
 use Rattle.std.proofs.lemmas.Bool.{eq-eqb, ne_eqb, cases_eq}
 use Rattle.std.proofs.lemmas.List.{length-map, map-append, take-map, take_at}
 use Rattle.std.proofs.lemmas.List.Folds.{list_all-map}
-use Rattle.std.proofs.lemmas.Option.{slice_get-map, slice_get_past}
+use Rattle.std.proofs.lemmas.Option.{none-some, slice_get-map, slice_get_past}
 use Rattle.order_rules.specs.Order.{Order, relaxed, passes, lands_behind, may_land}
 use Rattle.posted_queue.specs.Rows.{is_held_back}
 use Rattle.posted_queue.specs.Waiting.{class_awaited}
@@ -48,28 +48,46 @@ passes_all {W = W} order write before = by_kind ((order write).kind == relaxed) 
 pub may_land-awaited : {W : Type 0} (order : W → Order) (writes : List W) (place : ℕ) (write : W) → slice_get writes place ≡ Some write → may_land (map order writes) place ≡ not (is_held_back order (class_awaited (order write)) (take place writes))
 may_land-awaited order writes place write at = may_land-map order writes place write at ∙ passes_all order write (take place writes)
 
--- a write that was found and taken out lands
-pub landed : {W : Type 0} (order : W → Order) (writes : List W) (spare place : ℕ) (found write : W) (waits_for : Option ℕ) → slice_get writes place ≡ Some found → waits_for ≡ class_awaited (order found) → slice_get writes place ≡ Some write → false ≡ is_held_back order waits_for (take place writes) → (Landed write ≡ land_answer order (record { writes = writes; spare = spare }) place) × (record { writes = remove writes place; spare = spare } ≡ after_landing order (record { writes = writes; spare = spare }) place)
-landed order writes spare place found write waits_for at awaited taken free = (
+-- the same of what is found out about the write at a place
+pub may_land-found : {W : Type 0} (order : W → Order) (writes : List W) (place : ℕ) (write : W) (waits_for : Option ℕ) → slice_get writes place ≡ Some write → waits_for ≡ class_awaited (order write) → not (is_held_back order waits_for (take place writes)) ≡ may_land (map order writes) place
+may_land-found order writes place write waits_for at awaited =
+    ap (λ class. not (is_held_back order class (take place writes))) awaited ∙ sym (may_land-awaited order writes place write at)
+
+-- a write is there within the list
+pub none_within : {W : Type 0} (writes : List W) (place : ℕ) → place < length writes → None ≡ slice_get writes place → ⊥
+none_within [] place within none = omega arith
+none_within (x ∷ xs) zero within none = none-some x none
+none_within (x ∷ xs) (suc place) within none = none_within xs place (omega arith) none
+
+-- nothing lands past the end
+pub nothing_past : {W : Type 0} (order : W → Order) (flight : Flight W) (place : ℕ) → length flight.writes ≤ place → (Nothing ≡ land_answer order flight place) × (flight ≡ after_landing order flight place)
+nothing_past order flight place past = (
+  sym (ap (λ there. answer_for there (may_land (map order flight.writes) place)) (slice_get_past flight.writes place past)),
+  sym (ap (λ may. if may then record { writes = remove flight.writes place; spare = flight.spare } else flight) (may_land-past order flight.writes place past)),
+)
+
+-- a write that may land lands, and is taken out
+pub landed : {W : Type 0} (order : W → Order) (writes : List W) (spare place : ℕ) (write : W) (held_back : Bool) → not held_back ≡ may_land (map order writes) place → slice_get writes place ≡ Some write → false ≡ held_back → (Landed write ≡ land_answer order (record { writes = writes; spare = spare }) place) × (record { writes = remove writes place; spare = spare } ≡ after_landing order (record { writes = writes; spare = spare }) place)
+landed order writes spare place write held_back found taken free = (
   sym (ap (λ there. answer_for there (may_land (map order writes) place)) taken ∙ ap (answer_for (Some write)) lands),
   sym (ap (λ may. if may then record { writes = remove writes place; spare = spare } else record { writes = writes; spare = spare }) lands),
 )
   where
     lands : may_land (map order writes) place ≡ true
-    lands =
-        may_land-awaited order writes place found at
-        ∙ ap (λ class. not (is_held_back order class (take place writes))) (sym awaited)
-        ∙ ap not (sym free)
+    lands = sym found ∙ ap not (sym free)
 
--- a write that was found and is held back is blocked, and all stays
-pub blocked : {W : Type 0} (order : W → Order) (writes : List W) (spare place : ℕ) (found : W) (waits_for : Option ℕ) → slice_get writes place ≡ Some found → waits_for ≡ class_awaited (order found) → true ≡ is_held_back order waits_for (take place writes) → (Blocked ≡ land_answer order (record { writes = writes; spare = spare }) place) × (record { writes = writes; spare = spare } ≡ after_landing order (record { writes = writes; spare = spare }) place)
-blocked order writes spare place found waits_for at awaited held = (
-  sym (ap (λ there. answer_for there (may_land (map order writes) place)) at ∙ ap (answer_for (Some found)) stays),
+-- a write that is there and may not land is blocked
+answer_for-blocked : {W : Type 0} (writes : List W) (place : ℕ) → place < length writes → answer_for (slice_get writes place) false ≡ Blocked
+answer_for-blocked [] place within = absurd (omega arith)
+answer_for-blocked (x ∷ xs) zero within = refl
+answer_for-blocked (x ∷ xs) (suc place) within = answer_for-blocked xs place (omega arith)
+
+-- a write that is held back is blocked, and all stays
+pub blocked : {W : Type 0} (order : W → Order) (writes : List W) (spare place : ℕ) (held_back : Bool) → not held_back ≡ may_land (map order writes) place → place < length writes → true ≡ held_back → (Blocked ≡ land_answer order (record { writes = writes; spare = spare }) place) × (record { writes = writes; spare = spare } ≡ after_landing order (record { writes = writes; spare = spare }) place)
+blocked order writes spare place held_back found within held = (
+  sym (ap (answer_for (slice_get writes place)) stays ∙ answer_for-blocked writes place within),
   sym (ap (λ may. if may then record { writes = remove writes place; spare = spare } else record { writes = writes; spare = spare }) stays),
 )
   where
     stays : may_land (map order writes) place ≡ false
-    stays =
-        may_land-awaited order writes place found at
-        ∙ ap (λ class. not (is_held_back order class (take place writes))) (sym awaited)
-        ∙ ap not (sym held)
+    stays = sym found ∙ ap not (sym held)

@@ -37,6 +37,7 @@ impl<W: Ordered> Part<W> for Block<W> {
         }
     }
 
+    #[inline]
     fn room(&self) -> usize {
         self.writes
             .capacity()
@@ -44,14 +45,17 @@ impl<W: Ordered> Part<W> for Block<W> {
             .saturating_sub(self.writes.len())
     }
 
+    #[inline]
     fn get(&self, place: usize) -> Option<&W> {
         self.writes.get(place)
     }
 
+    #[inline]
     fn push(&mut self, write: W) {
         self.writes.push_back_reserved(write);
     }
 
+    #[inline]
     fn take(&mut self, place: usize, waits_for: Option<usize>) -> Option<W> {
         if has_class_before(&self.writes, place, waits_for) {
             return None;

@@ -44,6 +44,7 @@ impl<W: Ordered, P: Part<W>> Counted<W, P> {
     }
 
     /// How many writes it has.
+    #[inline]
     pub fn len(&self) -> usize
         ensures { result ≡ length self.now.writes }
     {
@@ -51,6 +52,7 @@ impl<W: Ordered, P: Part<W>> Counted<W, P> {
     }
 
     /// How many writes can be pushed with no further memory.
+    #[inline]
     pub fn room(&self) -> usize
         ensures { result ≡ self.now.spare }
     {
@@ -58,6 +60,7 @@ impl<W: Ordered, P: Part<W>> Counted<W, P> {
     }
 
     /// Whether one of its writes has the class that is waited for.
+    #[inline]
     pub fn holds_back(&self, waits_for: Option<usize>) -> bool
         requires { ForSome waits_for (λ class. class < 8) }
         ensures { result ≡ is_held_back W.order waits_for self.now.writes }
@@ -69,6 +72,7 @@ impl<W: Ordered, P: Part<W>> Counted<W, P> {
     }
 
     /// The write at this place, or `None` past the last.
+    #[inline]
     pub fn get(&self, place: usize) -> Option<&W>
         ensures { option_copied result ≡ slice_get self.now.writes place }
     {
@@ -76,6 +80,7 @@ impl<W: Ordered, P: Part<W>> Counted<W, P> {
     }
 
     /// Puts a write behind all others, into the room that there is.
+    #[inline]
     pub fn push(&mut self, write: W)
         requires room { 0 < self.old.spare }
         requires countable { length self.old.writes + 1 < 2 ^ 64 }
@@ -88,6 +93,7 @@ impl<W: Ordered, P: Part<W>> Counted<W, P> {
     }
 
     /// Takes out the write at this place, unless it waits for a class and a write of that class stands before it.
+    #[inline]
     pub fn take(&mut self, place: usize, waits_for: Option<usize>) -> Option<W>
         requires there { place < length self.old.writes }
         requires class { ForSome waits_for (λ class. class < 8) }

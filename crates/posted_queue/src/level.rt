@@ -9,7 +9,7 @@ use crate::row::{
 use std::alloc::{AllocError, Global};
 use std::marker::Model;
 
-/// A row of up to 64 parts.
+/// A row of up to [`ROW_MOST`](crate::row::ROW_MOST) parts.
 #[derive(Drop)]
 pub struct Level<W: Ordered, P: Part<W>> {
     row: Vec<Counted<W, P>>,
@@ -40,21 +40,25 @@ impl<W: Ordered, P: Part<W>> Part<W> for Level<W, P> {
         }
     }
 
+    #[inline]
     fn room(&self) -> usize {
         self.room
     }
 
+    #[inline]
     fn get(&self, place: usize) -> Option<&W> {
         let spot = find_spot(&self.row, place, None)?;
         self.row[spot.part].get(spot.place)
     }
 
+    #[inline]
     fn push(&mut self, write: W) {
         self.last = first_with_room(&self.row, self.last);
         push_at(&mut self.row, self.last, write);
         self.room -= 1;
     }
 
+    #[inline]
     fn take(&mut self, place: usize, waits_for: Option<usize>) -> Option<W> {
         let Taken {
             write,

@@ -7,8 +7,9 @@
 //! Room for a write is promised before it is posted, so that posting, landing and discarding take no memory.
 #![tactic(auto)]
 
-ghost use Rattle.std.specs.Prelude.{◌≡◌, ◌<◌, ◌≤◌, ◌↔◌, ◌==◌, length, IsSome, IfSome, OnOk, OnErr, option_copied, slice_get};
-ghost use Rattle.order_rules.specs.Order.{Order};
+ghost use Rattle.std.specs.Prelude.{◌≡◌, ◌<◌, ◌≤◌, ◌↔◌, ◌==◌, not, map, take, length, IsSome, IfSome, OnOk, OnErr, option_copied, slice_get};
+ghost use Rattle.order_rules.specs.Order.{Order, may_land};
+ghost use Rattle.posted_queue.specs.Rows.{is_held_back};
 ghost use Rattle.posted_queue.specs.Waiting.{class_awaited as awaited};
 
 use crate::block::Block;
@@ -54,8 +55,8 @@ pub enum LandAnswer<W> {
     Nothing,
 }
 
-// Three levels of 64 parts over blocks of 64 writes: some 16 million writes.
-type Blocks<W> = Level<W, Level<W, Level<W, Block<W>>>>;
+// Four levels of up to 32 parts over blocks of up to 64 writes: some 67 million writes.
+type Blocks<W> = Level<W, Level<W, Level<W, Level<W, Block<W>>>>>;
 
 /// The posted writes in flight, in the order in which they were posted, and the room that is promised for more.
 #[derive(Drop)]
@@ -114,7 +115,7 @@ impl<W: Ordered> Queue<W> {
 
     /// Promises room for `more` writes, on top of those that are promised already.
     ///
-    /// An `Err` comes only from want of memory, and leaves the queue as it was. A queue has memory for some 16 million
+    /// An `Err` comes only from want of memory, and leaves the queue as it was. A queue has memory for some 67 million
     /// writes at most.
     pub fn promise(&mut self, more: usize) -> Result<(), AllocError>
         ensures ok { OnOk result (self.new ≡ promised self.old more) }
@@ -162,10 +163,10 @@ impl<W: Ordered> Queue<W> {
         ensures answer { result ≡ land_answer W.order self.old place }
         ensures after { self.new ≡ after_landing W.order self.old place }
     {
-        let Some(write) = self.blocks.get(place) else {
+        if place >= self.blocks.len() {
             return LandAnswer::Nothing;
-        };
-        let waits_for = class_awaited(write);
+        }
+        let waits_for = class_awaited_at(&self.blocks, place);
         let Some(write) = self.blocks.take(place, waits_for) else {
             return LandAnswer::Blocked;
         };
@@ -181,6 +182,21 @@ impl<W: Ordered> Queue<W> {
         while self.blocks.len() > 0 {
             let _write = self.blocks.take(0, None);
         }
+    }
+}
+
+// A class of which the write at this place passes no earlier one: none where it passes all, as it does at the front.
+fn class_awaited_at<W: Ordered>(blocks: &Counted<W, Blocks<W>>, place: usize) -> Option<usize>
+    requires { place < length blocks.now.writes }
+    ensures lands { not (is_held_back W.order result (take place blocks.now.writes)) ≡ may_land (map W.order blocks.now.writes) place }
+    ensures small { IfSome result (λ class. class < 8) }
+{
+    if place == 0 {
+        return None;
+    }
+    match blocks.get(place) {
+        Some(write) => class_awaited(write),
+        None => None,
     }
 }
 

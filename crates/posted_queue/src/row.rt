@@ -12,7 +12,7 @@ use crate::part::Part;
 use std::alloc::AllocError;
 
 /// How many parts a row has at most.
-pub const ROW_MOST: usize = 64;
+pub const ROW_MOST: usize = 32;
 
 /// Where a write stands in a row: the number of its part, and its place within that part.
 #[derive(Clone, Copy)]
@@ -23,6 +23,7 @@ pub struct Spot {
 
 /// Where the write at this place stands. `None` past the last write, and where one of the parts before has a write
 /// of the class that is waited for.
+#[inline]
 pub fn find_spot<W: Ordered, P: Part<W>>(
     row: &[Counted<W, P>],
     place: usize,
@@ -50,6 +51,7 @@ pub fn find_spot<W: Ordered, P: Part<W>>(
 }
 
 /// The first part from this one on that has room.
+#[inline]
 pub fn first_with_room<W: Ordered, P: Part<W>>(row: &[Counted<W, P>], from: usize) -> usize
     requires { 0 < room_in (drop from row.now) }
     ensures low { from ≤ result }
@@ -76,6 +78,7 @@ pub fn room_from<W: Ordered, P: Part<W>>(row: &[Counted<W, P>], from: usize) -> 
 }
 
 /// Puts a write behind those of a part, where the parts behind that have none.
+#[inline]
 pub fn push_at<W: Ordered, P: Part<W>>(row: &mut Vec<Counted<W, P>>, number: usize, write: W)
     requires there { number < length row.old.items }
     requires room { 0 < (part_at row.old.items number).spare }
@@ -98,6 +101,7 @@ pub struct Taken<W> {
 }
 
 /// Takes out the write at this place, unless it waits for a class and a write of that class stands before it.
+#[inline]
 pub fn take_from<W: Ordered, P: Part<W>>(
     row: &mut Vec<Counted<W, P>>,
     place: usize,
