@@ -1,11 +1,11 @@
 -- The laws of landing, and what a landing leaves of a part of the writes in flight.
-use Rattle.std.proofs.Common.{◌≡◌, ◌≢◌, ◌↔◌, ◌⊎◌, inl, inr, ⊎_elim, ℕ, ◌<◌, ◌≤◌, suc, zero, Bool, true, false, cond, ◌==◌, ◌&&◌, ◌||◌, not, nat_lt, List, [], ◌∷◌, ◌++◌, IsTrue, length, get_or, take, drop, map, Some, slice_get, slice_index, refl, sym, ap, subst, ◌∙◌, arith}
+use Rattle.std.proofs.Common.{◌≡◌, ◌≢◌, ◌↔◌, inl, inr, ⊎_elim, ℕ, ◌<◌, ◌≤◌, suc, zero, Bool, true, false, cond, ◌==◌, ◌&&◌, ◌||◌, not, List, [], ◌∷◌, ◌++◌, IsTrue, length, get_or, take, drop, map, Some, slice_get, slice_index, refl, sym, ap, ◌∙◌, arith}
 use Rattle.std.specs.List.{All, list_all, filter, remove}
-use Rattle.std.proofs.lemmas.Bool.{and_parts, eq-eqb, eqb-true, ne_eqb, lt-ltb, le-ltb, cases_lt, cases_eq, false≢true}
+use Rattle.std.proofs.lemmas.Bool.{and_parts, eq-eqb, ne_eqb, lt-ltb, le-ltb, cases_lt, cases_eq, false≢true}
 use Rattle.std.proofs.lemmas.List.{take_at, get_or-map, length-map, length-take-le}
 use Rattle.std.proofs.lemmas.List.Elements.{filter-append, All-nil, All-cons, All-head, All-tail, All-take, All-get_or}
 use Rattle.std.proofs.lemmas.Option.{none-some, same_Some, slice_get-get_or, slice_get_past}
-use Rattle.order_rules.specs.Order.{Order, relaxed, strict, passes, lands_behind, may_land}
+use Rattle.order_rules.specs.Order.{Order, relaxed, passes, lands_behind, may_land}
 use Rattle.posted_queue.specs.Laws.{IsRelaxedOrFirstOfClass, LandsAmongKept, lands_by_kind}
 use Rattle.posted_queue.proofs.LandingLemmas.{may_land-map}
 

@@ -1,13 +1,12 @@
 -- The writes and the room of a row of parts.
-use Rattle.std.proofs.Common.{◌≡◌, ◌≢◌, ◌⊎◌, inl, inr, ℕ, ◌<◌, ◌≤◌, ◌+◌, ◌-◌, zero, suc, Bool, true, false, ◌==◌, ◌||◌, List, [], ◌∷◌, ◌++◌, length, get_or, set, take, drop, Option, Some, None, refl, sym, ap, subst, ◌∙◌, arith, add-one, append_assoc, append-nil, length-append, take-append-drop, zero-add, length-set}
-use Rattle.std.specs.List.{list_any, flat_map, remove}
+use Rattle.std.proofs.Common.{◌≡◌, ℕ, ◌<◌, ◌≤◌, ◌+◌, ◌-◌, zero, suc, true, ◌==◌, ◌||◌, List, [], ◌∷◌, ◌++◌, length, get_or, set, take, drop, Option, Some, None, refl, sym, ap, subst, ◌∙◌, arith, append_assoc, append-nil, length-append, take-append-drop, zero-add, length-set}
 use Rattle.std.proofs.lemmas.Bool.{or_left, or_right}
-use Rattle.std.proofs.lemmas.List.{take_more, drop_more, drop_all, get_or_default, set_split, set-get_or, length_push, length-take-le, drop-append-le}
+use Rattle.std.proofs.lemmas.List.{take_more, drop_all, get_or_default, set_split, set-get_or, length_push, length-take-le, drop-append-le}
 use Rattle.std.proofs.lemmas.List.Concat.{flat_map-append}
 use Rattle.std.proofs.lemmas.List.Folds.{list_any-append, length-flat_map-take}
 use Rattle.order_rules.specs.Order.{Order}
 use Rattle.posted_queue.specs.Flight.{Flight, nothing_in_flight}
-use Rattle.posted_queue.specs.Rows.{is_held_back, writes_in, room_in, part_at, IsSpot, KeepsWrites}
+use Rattle.posted_queue.specs.Rows.{is_held_back, writes_in, room_in, part_at, KeepsWrites}
 
 -- the writes of a row are those of its front and then those of the rest
 pub writes_in-append : {W : Type 0} (xs ys : List (Flight W)) → writes_in (xs ++ ys) ≡ writes_in xs ++ writes_in ys

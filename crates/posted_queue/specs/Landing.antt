@@ -1,5 +1,5 @@
 -- What it means that the write at a place in flight lands.
-use Rattle.std.specs.Prelude.{ℕ, Bool, true, false, if◌then◌else◌, List, map, Option, Some, None, slice_get, remove}
+use Rattle.std.specs.Prelude.{ℕ, Bool, true, false, if◌then◌else◌, map, Option, Some, None, slice_get, remove}
 use Rattle.order_rules.specs.Order.{Order, may_land}
 use Rattle.posted_queue.specs.Flight.{Flight}
 use Rattle.posted_queue.specs.declared.LandAnswer.{LandAnswer}

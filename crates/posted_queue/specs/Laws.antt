@@ -1,5 +1,5 @@
 -- Laws of landing.
-use Rattle.std.specs.Prelude.{◌≡◌, ◌≢◌, ℕ, ◌<◌, ◌⊎◌, ◌==◌, ◌&&◌, ◌||◌, nat_lt, Bool, List, ◌∷◌, ◌++◌, All, IsTrue, length, map, filter, slice_index, remove}
+use Rattle.std.specs.Prelude.{◌≡◌, ◌≢◌, ℕ, ◌⊎◌, ◌==◌, ◌&&◌, ◌||◌, nat_lt, Bool, List, ◌∷◌, ◌++◌, All, IsTrue, length, map, filter, slice_index, remove}
 use Rattle.order_rules.specs.Order.{Order, relaxed, may_land}
 
 -- a write is relaxed, or none of those before it has its class

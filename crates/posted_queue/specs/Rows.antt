@@ -1,5 +1,5 @@
 -- Rows of parts of a queue: the writes that stand in them, the room behind, and what holds a write back.
-use Rattle.std.specs.Prelude.{◌≡◌, ℕ, ◌<◌, ◌≤◌, ◌==◌, ◌+◌, Bool, false, List, [], ◌∷◌, ◌++◌, Option, Some, None, suc, length, take, drop, remove, slice_index_or}
+use Rattle.std.specs.Prelude.{◌≡◌, ℕ, ◌<◌, ◌≤◌, ◌==◌, ◌+◌, Bool, false, List, [], ◌∷◌, Option, Some, None, suc, length, take, drop, remove, slice_index_or}
 use Rattle.std.specs.List.{list_any, flat_map}
 use Rattle.order_rules.specs.Order.{Order}
 use Rattle.posted_queue.specs.Flight.{Flight, nothing_in_flight}

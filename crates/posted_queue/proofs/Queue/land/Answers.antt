@@ -1,7 +1,7 @@
-use Rattle.std.proofs.Common.{◌≡◌, remove, arith, ap, subst, sym, ◌∙◌}
+use Rattle.std.proofs.Common.{◌≡◌, remove, arith, ap, subst, ◌∙◌}
 use Rattle.posted_queue.specs.Landing.{land_answer, after_landing}
 use Rattle.posted_queue.specs.declared.LandAnswer.TheVariants.{Landed, Blocked}
-use Rattle.posted_queue.proofs.LandingLemmas.{nothing_past, landed, blocked}
+use Rattle.posted_queue.proofs.LandingLemmas.{landed, blocked}
 use Rattle.posted_queue.proofs.Queue.land.Goals as goal
 
 pub returns-in_default-clause-answer : goal.returns-in_default-clause-answer

@@ -1,5 +1,3 @@
-use Rattle.std.proofs.Common.{◌∙◌, sym, subst}
-use Rattle.posted_queue.specs.Rows.{KeepsWrites}
 use Rattle.posted_queue.proofs.RowLemmas.{kept-push}
 use Rattle.posted_queue.proofs.row.add_missing_part.Goals as goal
 

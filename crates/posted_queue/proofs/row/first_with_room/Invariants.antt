@@ -1,4 +1,4 @@
-use Rattle.std.proofs.Common.{◌≡◌, ◌<◌, ◌≤◌, ◌-◌, drop, length}
+use Rattle.std.proofs.Common.{◌≡◌, ◌≤◌, ◌-◌, drop, length}
 use Rattle.posted_queue.specs.Rows.{room_in}
 use Rattle.posted_queue.proofs.row.first_with_room.Given as goal
 

@@ -1,4 +1,4 @@
-use Rattle.std.proofs.Common.{◌≡◌, ◌+◌, ◌-◌, min, ◌^◌, take, drop}
+use Rattle.std.proofs.Common.{◌≡◌, ◌-◌, min, ◌^◌, take, drop}
 use Rattle.posted_queue.specs.Rows.{room_in}
 use Rattle.posted_queue.proofs.row.room_from.Given as goal
 

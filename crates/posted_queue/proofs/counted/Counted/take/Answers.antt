@@ -1,5 +1,3 @@
-use Rattle.std.proofs.Common.{◌≡◌, ◌<◌, ◌≤◌, ◌-◌, get_or, set, remove, Some, slice_get, sym, subst}
-use Rattle.posted_queue.specs.Counts.{IsCounted}
 use Rattle.posted_queue.proofs.CountLemmas.{counted-taken, counted-remove}
 use Rattle.posted_queue.proofs.counted.Counted.take.Goals as goal
 

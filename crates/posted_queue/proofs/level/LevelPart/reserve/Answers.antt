@@ -1,4 +1,4 @@
-use Rattle.std.proofs.Common.{◌≡◌, ◌≤◌, ◌-◌, ◌^◌, suc, min, drop, arith, ap, subst, ◌∙◌}
+use Rattle.std.proofs.Common.{◌≡◌, ◌-◌, ◌^◌, suc, min, drop, arith, ap, ◌∙◌}
 use Rattle.posted_queue.specs.Rows.{room_in}
 use Rattle.posted_queue.proofs.level.LevelPart.reserve.Goals as goal
 
