@@ -55,8 +55,8 @@ pub enum LandAnswer<W> {
     Nothing,
 }
 
-// Four levels of up to 32 parts over blocks of up to 64 writes: some 67 million writes.
-type Blocks<W> = Level<W, Level<W, Level<W, Level<W, Block<W>>>>>;
+// Three levels of up to 64 parts over blocks of up to 64 writes: some 16 million writes.
+type Blocks<W> = Level<W, Level<W, Level<W, Block<W>>>>;
 
 /// The posted writes in flight, in the order in which they were posted, and the room that is promised for more.
 #[derive(Drop)]
@@ -115,8 +115,8 @@ impl<W: Ordered> Queue<W> {
 
     /// Promises room for `more` writes, on top of those that are promised already.
     ///
-    /// An `Err` comes only from want of memory, and leaves the queue as it was. A queue has memory for some 67 million
-    /// writes at most.
+    /// An `Err` comes only from want of memory, and leaves the queue as it was. A queue has memory for 16,777,216 writes
+    /// at most, and for fewer where landings out of order left most of each block empty.
     pub fn promise(&mut self, more: usize) -> Result<(), AllocError>
         ensures ok { OnOk result (self.new ≡ promised self.old more) }
         ensures err { OnErr result (self.new ≡ self.old) }

@@ -12,7 +12,7 @@ use crate::part::Part;
 use std::alloc::AllocError;
 
 /// How many parts a row has at most.
-pub const ROW_MOST: usize = 32;
+pub const ROW_MOST: usize = 64;
 
 /// Where a write stands in a row: the number of its part, and its place within that part.
 #[derive(Clone, Copy)]
