@@ -19,7 +19,8 @@ use Rattle.lane_laws.proofs.Facade.{land_data_keeps, land_flag_keeps, land_bell_
 use Rattle.posted_queue.specs.Flight.{Flight}
 use Rattle.posted_queue.specs.Landing.{answer_for, land_answer as queue_answer, after_landing as queue_after}
 use Rattle.posted_queue.specs.declared.LandAnswer.TheVariants.{Landed as QueueLanded, Blocked as QueueBlocked, Nothing as QueueNothing}
-use Rattle.posted_queue.proofs.LandingLemmas.{may_land-map, may_land-past}
+use Rattle.order_rules.specs.Order.{Order, may_land as orders_may_land}
+use Rattle.posted_queue.proofs.LandingLemmas.{may_land-past}
 use Rattle.posted_queue.proofs.LawLemmas.{split-at_place}
 use Rattle.lane_core.specs.Calls.{LaneValue, order_of_mark, may_land_in, land_answer, land_found, after_land, after_found, label_in}
 use Rattle.lane_core.specs.Parts.{BeginsWithin, CanStore, IsKnown, flags_landed, ring_after}
@@ -27,6 +28,7 @@ use Rattle.lane_core.specs.Seen.{IsKept, lane_seen, value_seen}
 use Rattle.lane_core.specs.declared.answers.LaneLand.TheVariants.{Landed, Blocked, Nothing}
 use Rattle.lane_core.specs.declared.lane.Lane.TheInside.{Inside}
 use Rattle.lane_core.specs.declared.write.PostedWrite.{PostedWrite}
+use Rattle.lane_core.proofs.Kinds.{may_land-map, may_land-kinds, order_of_kind}
 use Rattle.lane_core.proofs.Parts.{All-remove, map-remove}
 
 -- What the queue answers
@@ -200,12 +202,11 @@ pub after_nothing : (value : LaneValue) (place : ℕ) → slice_get value.lane.f
 after_nothing value place found = ap (after_found value place) found
 
 -- no write lands from past the end
-pub past_the_end : {W : Type 0} (order : W → ℕ) (writes : List W) (place : ℕ) → slice_get writes place ≡ None → may_land (map order writes) place ≡ false
+pub past_the_end : {W : Type 0} (order : W → Order) (writes : List W) (place : ℕ) → slice_get writes place ≡ None → orders_may_land (map order writes) place ≡ false
 past_the_end order writes place found =
-    let count = length-map writes order in
     elim (cases_lt place (length writes)) [
       | inl within ↦ absurd (within_some writes place within found)
-      | inr past ↦ may_land-past (map order writes) place (omega arith)
+      | inr past ↦ may_land-past order writes place past
     ]
   where
     within_some : {X : Type 0} (xs : List X) (i : ℕ) → i < length xs → slice_get xs i ≡ None → ⊥
@@ -222,15 +223,18 @@ pub record HasLanded (l : Inside) (place : ℕ) (mark : Write) (flight : Flight 
   pub orders : All (λ (w : PostedWrite). w.strict ≡ l.strict) flight.writes
   pub spare : flight.spare ≡ l.flight.spare
 
-abbrev order_of_write : PostedWrite → ℕ
-order_of_write w = order_of_mark w.strict w.mark
+abbrev kind_of_write : PostedWrite → ℕ
+kind_of_write w = order_of_mark w.strict w.mark
+
+abbrev order_of_write : PostedWrite → Order
+order_of_write w = order_of_kind (kind_of_write w)
 
 pub has_landed : (l : Inside) (place : ℕ) (write : PostedWrite) (flight : Flight PostedWrite) → QueueLanded write ≡ queue_answer order_of_write l.flight place → flight ≡ queue_after order_of_write l.flight place
     → IsKept l → HasLanded l place write.mark flight
 has_landed l place write flight answer after kept =
     let was = was_landed _ _ write answer in
     let found : slice_get (lane_seen l).flight place ≡ Some write.mark = slice_get-map (λ (w : PostedWrite). w.mark) l.flight.writes place ∙ ap (option_map (λ (w : PostedWrite). w.mark)) was.0 in
-    let may : may_land_in (value_seen l) place ≡ true = ap (λ kinds. may_land kinds place) (sym (kinds_seen l.strict l.flight.writes kept.orders)) ∙ was.1 in
+    let may : may_land_in (value_seen l) place ≡ true = ap (λ kinds. may_land kinds place) (sym (kinds_seen l.strict l.flight.writes kept.orders)) ∙ sym (may_land-kinds kind_of_write l.flight.writes place) ∙ was.1 in
     let now = after ∙ cond-true _ _ _ was.1 in
     let writes : flight.writes ≡ remove l.flight.writes place = ap (λ (f : Flight PostedWrite). f.writes) now in
     record {
@@ -248,5 +252,5 @@ pub is_held_back : (l : Inside) (place : ℕ) → QueueBlocked ≡ queue_answer 
 is_held_back l place answer orders =
     let was = was_blocked _ _ answer in
     let found : slice_get (lane_seen l).flight place ≡ Some was.0.mark = slice_get-map (λ (w : PostedWrite). w.mark) l.flight.writes place ∙ ap (option_map (λ (w : PostedWrite). w.mark)) was.1 in
-    let waits : may_land_in (value_seen l) place ≡ false = ap (λ kinds. may_land kinds place) (sym (kinds_seen l.strict l.flight.writes orders)) ∙ was.2 in
+    let waits : may_land_in (value_seen l) place ≡ false = ap (λ kinds. may_land kinds place) (sym (kinds_seen l.strict l.flight.writes orders)) ∙ sym (may_land-kinds kind_of_write l.flight.writes place) ∙ was.2 in
     (answer_blocked (value_seen l) place was.0.mark found waits, after_blocked (value_seen l) place was.0.mark found waits)

@@ -1,6 +1,7 @@
 pub mod Beginning
 pub mod Bytes
 pub mod Copying
+pub mod Kinds
 pub mod Landing
 pub mod Looking
 pub mod Parts
