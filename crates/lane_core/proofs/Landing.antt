@@ -28,7 +28,7 @@ use Rattle.lane_core.specs.Seen.{IsKept, lane_seen, value_seen}
 use Rattle.lane_core.specs.declared.answers.LaneLand.TheVariants.{Landed, Blocked, Nothing}
 use Rattle.lane_core.specs.declared.lane.Lane.TheInside.{Inside}
 use Rattle.lane_core.specs.declared.write.PostedWrite.{PostedWrite}
-use Rattle.lane_core.proofs.Kinds.{may_land-map, may_land-kinds, order_of_kind}
+use Rattle.lane_core.proofs.OneClass.{may_land-map, may_land-kinds, order_of_kind}
 use Rattle.lane_core.proofs.Parts.{All-remove, map-remove}
 
 -- What the queue answers
@@ -226,7 +226,7 @@ pub record HasLanded (l : Inside) (place : ℕ) (mark : Write) (flight : Flight 
 abbrev kind_of_write : PostedWrite → ℕ
 kind_of_write w = order_of_mark w.strict w.mark
 
-abbrev order_of_write : PostedWrite → Order
+abbrev pub order_of_write : PostedWrite → Order
 order_of_write w = order_of_kind (kind_of_write w)
 
 pub has_landed : (l : Inside) (place : ℕ) (write : PostedWrite) (flight : Flight PostedWrite) → QueueLanded write ≡ queue_answer order_of_write l.flight place → flight ≡ queue_after order_of_write l.flight place

@@ -1,9 +1,9 @@
 pub mod Beginning
 pub mod Bytes
 pub mod Copying
-pub mod Kinds
 pub mod Landing
 pub mod Looking
+pub mod OneClass
 pub mod Parts
 pub mod Returning
 pub mod Sent

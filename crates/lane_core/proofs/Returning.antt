@@ -18,7 +18,7 @@ use Rattle.lane_core.specs.declared.answers.LaneLand.TheVariants.{Landed, Blocke
 use Rattle.lane_core.specs.declared.lane.Lane.TheInside.{Inside}
 use Rattle.lane_core.specs.declared.write.IndexWrite.{IndexWrite}
 use Rattle.lane_core.proofs.Landing.{was_landed, was_blocked, was_nothing, first_apart, past_the_end}
-use Rattle.lane_core.proofs.Kinds.{may_land-map, may_land-kinds, order_of_kind}
+use Rattle.lane_core.proofs.OneClass.{may_land-map, may_land-kinds, order_of_kind}
 use Rattle.lane_core.proofs.Parts.{map-remove}
 
 abbrev pub number_of_write : IndexWrite → ℕ
