@@ -1,5 +1,5 @@
 -- The receiver's steps keep the law of the ring, and so do the landing of an index write and the loss of the link.
-use Rattle.std.proofs.Common.{◌≡◌, ℕ, suc, ◌+◌, ◌-◌, ◌%◌, ◌<◌, ◌≤◌, true, false, true≢false, List, [], ◌∷◌, ◌++◌, length, refl, sym, ap, ◌∙◌, subst, inl, inr, arith, append-nil, append_assoc, mod-lt, if◌then◌else◌}
+use Rattle.std.proofs.Common.{◌≡◌, ℕ, suc, ◌+◌, ◌-◌, ◌%◌, ◌<◌, ◌≤◌, true, false, true≢false, List, [], ◌∷◌, ◌++◌, length, sym, ap, ◌∙◌, subst, inl, inr, arith, append-nil, append_assoc, mod-lt, if◌then◌else◌}
 use native.Mathlib.Nat.{add-mod_right}
 use Rattle.std.proofs.lemmas.Bool.{cases_Bool, cases_eq, cond-true, cond-false, ltb-true}
 use Rattle.lane_model.specs.Lane.{Slot, Lane, count_from, copies_of, entry_of, slot_of, with_flags}
@@ -129,13 +129,13 @@ clear_keeps lost lost_back lane copied h =
       standing = record {
         whole = λ n low high. subst (λ p. StandsWhole p n (entry_of lane n)) (sym (elsewhere n (omega arith) (omega arith))) (h.standing.whole n (omega arith) high);
         empty = λ n low high. elim (cases_eq n (lane.cleared + lane.entries)) [
-        | inl round ↦ ap (λ p. p.flags) (place_same lane lane.cleared n cleared_place h.room.slots h.room.two_entries (ap (λ j. j % lane.entries) round ∙ add-mod_right lane.cleared lane.entries))
-        | inr before ↦ ap (λ p. p.flags) (elsewhere n (omega arith) (omega arith)) ∙ h.standing.empty n low (omega arith)
-      ];
+          | inl round ↦ ap (λ p. p.flags) (place_same lane lane.cleared n cleared_place h.room.slots h.room.two_entries (ap (λ j. j % lane.entries) round ∙ add-mod_right lane.cleared lane.entries))
+          | inr before ↦ ap (λ p. p.flags) (elsewhere n (omega arith) (omega arith)) ∙ h.standing.empty n low (omega arith)
+        ];
         landed = λ n field low high among. elim (h.standing.landed n field low high among) [
-        | inl coming ↦ inl coming
-        | inr stands ↦ inr (subst (λ p. Stands p n (entry_of lane n) field) (sym (elsewhere n (omega arith) (omega arith))) stands)
-      ];
+          | inl coming ↦ inl coming
+          | inr stands ↦ inr (subst (λ p. Stands p n (entry_of lane n) field) (sym (elsewhere n (omega arith) (omega arith))) stands)
+        ];
       };
       back = h.back;
     }
@@ -243,26 +243,26 @@ index_keeps lost lost_back lane n rest front h =
 pub cut_keeps : (lost : List Write) (lost_back : List ℕ) (lane : Lane) → RingLaw lost lost_back lane → RingLaw lost lost_back (after_cut lane)
 cut_keeps lost lost_back lane h =
     record {
-  room = h.room;
-  frames = h.frames;
-  counts = h.counts;
-  receiver = h.receiver;
-  coming = h.coming;
-  none_lost = λ up. absurd (true≢false (sym up));
-  standing = h.standing;
-  back = h.back;
-}
+      room = h.room;
+      frames = h.frames;
+      counts = h.counts;
+      receiver = h.receiver;
+      coming = h.coming;
+      none_lost = λ up. absurd (true≢false (sym up));
+      standing = h.standing;
+      back = h.back;
+    }
 
 pub drop_keeps : (lost : List Write) (lost_back : List ℕ) (lane : Lane) → lane.up ≡ false → RingLaw lost lost_back lane
     → RingLaw (lane.flight ++ lost) (lane.returning ++ lost_back) (after_drop lane)
 drop_keeps lost lost_back lane down h =
     record {
-  room = h.room;
-  frames = h.frames;
-  counts = h.counts;
-  receiver = h.receiver;
-  coming = h.coming;
-  none_lost = λ up. absurd (true≢false (sym up ∙ down));
-  standing = h.standing;
-  back = h.back;
-}
+      room = h.room;
+      frames = h.frames;
+      counts = h.counts;
+      receiver = h.receiver;
+      coming = h.coming;
+      none_lost = λ up. absurd (true≢false (sym up ∙ down));
+      standing = h.standing;
+      back = h.back;
+    }
