@@ -28,7 +28,7 @@ use Rattle.ledger_model.specs.LinkSteps.{fresh_lane}
 use Rattle.ledger_model.specs.Log.{Answered}
 use Rattle.ledger_model.specs.Next.{pair_plan}
 use Rattle.ledger_model.specs.Receiving.{is_idle, is_copying, is_copied, is_cleared}
-use Rattle.ledger_model.specs.Rings.{RingPart, without_header}
+use Rattle.ledger_model.specs.Rings.{RingPart, lane_shown, without_header}
 use Rattle.ledger_model.specs.Sending.{begun_lane}
 use Rattle.ledger_laws.proofs.AtStart.{up-not_down, closing-not_up}
 use Rattle.ledger_laws.proofs.BitSets.{no_bit, has-with_same, has-without}
@@ -40,27 +40,6 @@ use Rattle.ledger_laws.proofs.Offers.{pad-write, pad-index}
 use Rattle.ledger_laws.proofs.walk.Sight.{Sight, Sender, Receiver, flight_with}
 use Rattle.ledger_laws.proofs.walk.News.{News, ring_landed, ring_freed, ring_checked, ring_cleared}
 use Rattle.ledger_laws.proofs.walk.Turn.{MayBegin, MayLand, Turn, Trains, Breaks, Drops, Forgets, Offers, Checks, Readies, Begins, Closes, Posts, Shuts, Says, LandsFlag, LandsField, LandsIndex, LandsBell, LandsPad, LandsAside, Looks, CopiesPart, CopiesLast, Clears, Acks}
-
--- the lane that a ledger's lane, its writes and index writes in flight, and a ring show
-abbrev pub lane_shown : Sizes → ℕ → Bool → List Write → List ℕ → LanePart → RingPart → Lane
-lane_shown sizes q up writes indexes lane ring = record {
-  entries = sizes.entries;
-  largest = sizes.largest;
-  up = up;
-  sent = lane.sent;
-  todo = writes_among q lane.todo;
-  flight = writes;
-  returning = indexes;
-  ring = ring.ring;
-  index_word = ring.index_word;
-  flagged = lane.flagged;
-  got = lane.got;
-  cleared = lane.cleared;
-  acked = lane.acked;
-  freed = lane.freed;
-  phase = lane.phase;
-  part = lane.part;
-}
 
 abbrev pub shown : Sizes → ℕ → Sight → RingPart → Lane
 shown sizes q s ring = lane_shown sizes q (is_up s.state) (writes_among q s.sender.flight) (indexes_among q s.receiver.flight) s.lane ring
