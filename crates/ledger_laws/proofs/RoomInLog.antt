@@ -14,6 +14,7 @@ use Rattle.ledger_model.specs.Link.{is_up}
 use Rattle.ledger_model.specs.Log.{Answered, trains, takes_room, gives_room, in_this_session, made_since}
 use Rattle.ledger_model.specs.Receiving.{is_copied, is_cleared}
 use Rattle.ledger_model.specs.declared.LinkState.{LinkState}
+use Rattle.lane_laws.proofs.Facade.{count_from-push}
 use Rattle.ledger_laws.proofs.InFlight.{count_by-last, push_some, filter_map-remove, lands_first, posted_unread, posted_up, posted_lost, EmptyOf, empty_kept}
 use Rattle.ledger_laws.proofs.Labels.{index_strict}
 use Rattle.ledger_laws.proofs.Offers.{pad-index}
@@ -58,11 +59,6 @@ pub record Waits (q : ℕ) (up : Bool) (freed acked : ℕ) (back : List Label) :
 abbrev pub WaitsOf : ℕ → Sight → Type 0
 WaitsOf q s = Waits q (is_up s.state) s.lane.freed s.lane.acked s.receiver.flight
 
--- counting on
-count-last : (n m : ℕ) → count_from n m ++ (n + m) ∷ [] ≡ count_from n (suc m)
-count-last n zero = ap (λ k. k ∷ []) (omega arith)
-count-last n (suc m) = ap (λ rest. n ∷ rest) (ap (λ k. count_from (suc n) m ++ k ∷ []) (omega arith) ∙ count-last (suc n) m)
-
 -- other writes in flight with the same index writes
 waits_alike : (q : ℕ) (up : Bool) (freed acked : ℕ) (back after : List Label) → indexes_among q after ≡ indexes_among q back → Waits q up freed acked back → Waits q up freed acked after
 waits_alike q up freed acked back after same h = record { waiting = h.waiting; indexes = same ∙ h.indexes; within = h.within; all_up = h.all_up }
@@ -95,7 +91,7 @@ waits_acked q state freed acked back (inl up) h = record {
   indexes =
       ap (indexes_among q) (posted_up state back (Index q acked) up)
       ∙ push_some (index_of q) back (Index q acked) acked (rw (eq-eqb q q refl) refl)
-      ∙ ap (λ xs. xs ++ acked ∷ []) h.indexes ∙ ap (λ n. count_from freed h.waiting ++ n ∷ []) (sym (h.all_up up)) ∙ count-last freed h.waiting;
+      ∙ ap (λ xs. xs ++ acked ∷ []) h.indexes ∙ ap (λ n. count_from freed h.waiting ++ n ∷ []) (sym (h.all_up up)) ∙ count_from-push freed h.waiting (freed + h.waiting) refl;
   within = let a = h.all_up up in omega arith;
   all_up = λ _. let a = h.all_up up in omega arith;
 }

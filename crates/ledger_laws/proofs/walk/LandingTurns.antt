@@ -33,17 +33,11 @@ use Rattle.ledger_laws.proofs.walk.Tells.{gives_landed, pads_heard, bell_in_ring
 use Rattle.ledger_laws.proofs.walk.TurnAt.{TurnAt, shown_as}
 
 module _ (plan : Plan) (lane : LaneName) (pair : PairPart) where
-  abbrev Own : PairPlan
-  Own = pair_plan plan lane.pair
-
   abbrev Now : Sight
   Now = sight lane.from lane.queue pair
 
-  abbrev At : Step → Outcome → Type 0
-  At step o = TurnAt plan lane pair step o
-
   abbrev MayLandAt : Role → ℕ → Label → Type 0
-  MayLandAt e place label = MayLand Own.strict Now e place label
+  MayLandAt e place label = MayLand (pair_plan plan lane.pair).strict Now e place label
 
   -- what tells nothing but of the ring
   abbrev IsQuiet : Role → Label → Type 0
@@ -51,7 +45,7 @@ module _ (plan : Plan) (lane : LaneName) (pair : PairPart) where
 
   module _ (p place : ℕ) (same : p ≡ lane.pair) where
     abbrev Lands : Role → Label → Type 0
-    Lands e label = At (Land p (side_at lane.from e) place) (record { answer = Landed label; after = landed pair (side_at lane.from e) place label })
+    Lands e label = TurnAt plan lane pair (Land p (side_at lane.from e) place) (record { answer = Landed label; after = landed pair (side_at lane.from e) place label })
 
     -- what is in sight without the write that lands
     taken_out-sight : (e : Role) → sight lane.from lane.queue (taken_out pair (side_at lane.from e) place) ≡ taken e place Now
@@ -170,14 +164,14 @@ module _ (plan : Plan) (lane : LaneName) (pair : PairPart) where
     land_role Receiver (Ver k n) may = lands_aside Receiver (Ver k n) may (refl, λ f i now. refl) refl refl refl
     land_role Receiver (Raw window offset len) may = lands_aside Receiver (Raw window offset len) may (refl, λ f i now. refl) refl refl refl
 
-    pub land : (side : Side) (label : Label) → slice_get (side_of pair side).flight place ≡ Some label → may_land (map (order_of Own.strict) (side_of pair side).flight) place ≡ true
-        → At (Land p side place) (record { answer = Landed label; after = landed pair side place label })
+    pub land : (side : Side) (label : Label) → slice_get (side_of pair side).flight place ≡ Some label → may_land (map (order_of (pair_plan plan lane.pair).strict) (side_of pair side).flight) place ≡ true
+        → TurnAt plan lane pair (Land p side place) (record { answer = Landed label; after = landed pair side place label })
     land side label at may =
         by_role lane.from
-        (λ s. slice_get (side_of pair s).flight place ≡ Some label → may_land (map (order_of Own.strict) (side_of pair s).flight) place ≡ true
-        → At (Land p s place) (record { answer = Landed label; after = landed pair s place label })) each side at may
+        (λ s. slice_get (side_of pair s).flight place ≡ Some label → may_land (map (order_of (pair_plan plan lane.pair).strict) (side_of pair s).flight) place ≡ true
+        → TurnAt plan lane pair (Land p s place) (record { answer = Landed label; after = landed pair s place label })) each side at may
       where
         each : (e : Role) → slice_get (side_of pair (side_at lane.from e)).flight place ≡ Some label
-            → may_land (map (order_of Own.strict) (side_of pair (side_at lane.from e)).flight) place ≡ true → Lands e label
+            → may_land (map (order_of (pair_plan plan lane.pair).strict) (side_of pair (side_at lane.from e)).flight) place ≡ true → Lands e label
         each Sender at may = land_role Sender label (record { there = at; may = may })
         each Receiver at may = land_role Receiver label (record { there = at; may = may })
