@@ -1,6 +1,6 @@
 -- Landing and receiving: writes land at the peer in an order that the bridge allows, and a receiver looks for the next entry,
 -- copies it in parts, clears its flags and gives it back.
-use Rattle.std.specs.Prelude.{ℕ, ◌+◌, ◌==◌, Bool, true, false, not, Option, Some, None, List, length, map, remove, slice_set, slice_get, nat_lt, if◌then◌else◌}
+use Rattle.std.specs.Prelude.{ℕ, ◌+◌, ◌==◌, not, Option, Some, None, List, length, map, remove, slice_set, slice_get, nat_lt, if◌then◌else◌}
 use Rattle.step_kinds.specs.Bits.{with_bit, has_bit}
 use Rattle.step_kinds.specs.Sides.{other_side}
 use Rattle.step_kinds.specs.declared.names.Side.{Side}
@@ -12,7 +12,6 @@ use Rattle.step_kinds.specs.declared.steps.Answer.TheVariants.{NotReady, Closed,
 use Rattle.lane_model.specs.Lane.{Entry, Carries, GoesDown, bytes_of, chunks_in}
 use Rattle.lane_model.specs.Order.{may_land}
 pub use Rattle.lane_model.specs.Tests.{is_idle, is_copying, is_copied, is_cleared}
-use Rattle.lane_model.specs.declared.Phase.{Phase}
 use Rattle.lane_model.specs.declared.Phase.TheVariants.{Idle, Copying, Copied, Cleared}
 use Rattle.ledger_model.specs.Device.{count_delivered}
 use Rattle.ledger_model.specs.Labels.{order_of}

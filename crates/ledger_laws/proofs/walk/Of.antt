@@ -7,7 +7,6 @@ use Rattle.step_kinds.specs.Bits.{without_bits}
 use Rattle.step_kinds.specs.Subject.{subject_of}
 use Rattle.step_kinds.specs.declared.names.LaneName.{LaneName}
 use Rattle.step_kinds.specs.declared.names.Side.{Side}
-use Rattle.step_kinds.specs.declared.plan.PairPlan.{PairPlan}
 use Rattle.step_kinds.specs.declared.plan.Plan.{Plan}
 use Rattle.step_kinds.specs.declared.steps.Answer.TheVariants.{PeerDown, Awake}
 use Rattle.step_kinds.specs.declared.steps.Label.TheVariants.{Pad, Raw}
@@ -17,7 +16,6 @@ use Rattle.ledger_model.specs.Device.{ethernet_frame}
 use Rattle.ledger_model.specs.Ledger.{PairPart, side_of, lane_of, sizes_of}
 use Rattle.ledger_model.specs.Log.{Answered}
 use Rattle.ledger_model.specs.Next.{Bytes, pair_plan, dev_plan}
-use Rattle.ledger_model.specs.Outcome.{Outcome}
 use Rattle.ledger_model.specs.Sending.{begun}
 use Rattle.ledger_laws.proofs.LogGrowth.{made_by, left_by}
 use Rattle.ledger_laws.proofs.walk.Cases.{enable_cases, train_cases, break_cases, drop_cases, clean_cases, offer_cases, check_cases, ready_cases, join_cases, begin_cases, qpdown_cases, xbegin_cases, post_cases, land_cases, look_cases, copy_cases, clear_cases, ack_cases, wake_cases, taken_frame}

@@ -6,18 +6,14 @@ use Rattle.step_kinds.specs.Bits.{has_bit}
 use Rattle.step_kinds.specs.Sides.{other_side}
 use Rattle.step_kinds.specs.declared.names.LaneName.{LaneName}
 use Rattle.step_kinds.specs.declared.names.Side.{Side}
-use Rattle.step_kinds.specs.declared.plan.PairPlan.{PairPlan}
 use Rattle.step_kinds.specs.declared.plan.Plan.{Plan}
 use Rattle.step_kinds.specs.declared.steps.Answer.{Answer}
 use Rattle.step_kinds.specs.declared.steps.Answer.TheVariants.{Delivered, Cleared as ClearedFrame, Empty, ReadyFrame, Acked, Copied as CopiedPart}
 use Rattle.step_kinds.specs.declared.steps.Label.TheVariants.{Index}
-use Rattle.step_kinds.specs.declared.steps.Step.{Step}
 use Rattle.step_kinds.specs.declared.steps.Step.TheVariants.{Look, Copy, Clear, Ack}
 use Rattle.lane_model.specs.Lane.{Carries, bytes_of, chunks_in}
 use Rattle.lane_model.specs.declared.Phase.TheVariants.{Idle, Copying, Copied, Cleared}
 use Rattle.ledger_model.specs.Ledger.{LanePart, PairPart, side_of, lane_of, tally_of, posts, with_lane, with_tally, entry_in, updated}
-use Rattle.ledger_model.specs.Next.{pair_plan}
-use Rattle.ledger_model.specs.Outcome.{Outcome}
 use Rattle.ledger_model.specs.Receiving.{is_idle, is_copying, is_copied, is_cleared, lane_to}
 use Rattle.ledger_laws.proofs.walk.Cases.{MayLookAt, found_refusals, looking, acking, clearing, copied_more, copied_last}
 use Rattle.ledger_laws.proofs.walk.Sight.{Sight, Sender, Receiver, posted, sight, IsOff, OffReceived, QueueOff, WayOff, received-off, by_received_lane, sight-posts, sight-lane, sight-off, sight-tally, sight-tally_off}
@@ -42,7 +38,7 @@ module _ (plan : Plan) (lane : LaneName) (pair : PairPart) where
       by_received_lane lane.from lane.queue
       (λ s sender q. has_bit (side_of pair s).joined q ≡ true → has_bit (side_of pair s).closed q ≡ false → is_idle (lane_of pair sender q).phase ≡ true
       → ((lane_of pair sender q).flagged == (lane_of pair sender q).got) ≡ true → TurnAt plan lane pair (Look p s q) (record { answer = Empty; after = pair }))
-      (λ joined open_yet idle none. turned (FindsNone (record { joined = joined; not_closed = open_yet; idle = idle }) none)
+      (λ joined open_yet idle none. turned (FindsNone (record { joined = joined; not_closed = open_yet; idle = idle; none = none }))
       (tells_empty plan lane Now.lane p (other_side lane.from) lane.queue true (receives-own lane p e)))
       (λ s sender q case off joined open_yet idle none. turned (Rests false)
       (tells_empty plan lane Now.lane p s q false (receives-off lane p s q (received-off lane.from lane.queue s sender q case))))
@@ -59,7 +55,7 @@ module _ (plan : Plan) (lane : LaneName) (pair : PairPart) where
       (λ joined open_yet idle some at.
       shown_as plan lane pair (Look p (other_side lane.from) lane.queue) (ReadyFrame Now.lane.got (length frame)) (with_lane pair lane.from lane.queue (record Now.lane { phase = Copying; part = 0 })) _
       (sight-lane lane.from lane.queue pair (record Now.lane { phase = Copying; part = 0 }))
-      (turned (Looks frame (record { joined = joined; not_closed = open_yet; idle = idle }) some at)
+      (turned (Looks frame (record { joined = joined; not_closed = open_yet; idle = idle; some = some; at = at }))
       (tells_look plan lane Now.lane p (other_side lane.from) lane.queue (ReadyFrame Now.lane.got (length frame)) refl true (receives-own lane p e))))
       (λ s sender q case off joined open_yet idle some at.
       let part : LanePart = record (lane_of pair sender q) { phase = Copying; part = 0 } in
@@ -77,7 +73,7 @@ module _ (plan : Plan) (lane : LaneName) (pair : PairPart) where
       → TurnAt plan lane pair (Copy p s q) (record { answer = CopiedPart part.got part.part; after = with_lane pair sender q (record part { part = part.part + 1 }) }))
       (λ turn more.
       shown_as plan lane pair (Copy p (other_side lane.from) lane.queue) _ (with_lane pair lane.from lane.queue (record Now.lane { part = Now.lane.part + 1 })) _ (sight-lane lane.from lane.queue pair _)
-      (turned (CopiesPart turn more) (tells_no plan lane Now.lane (Copy p (other_side lane.from) lane.queue) (CopiedPart Now.lane.got Now.lane.part) refl)))
+      (turned (CopiesPart (record { turn = turn; more = more })) (tells_no plan lane Now.lane (Copy p (other_side lane.from) lane.queue) (CopiedPart Now.lane.got Now.lane.part) refl)))
       (λ s sender q case off turn more.
       let part = lane_of pair sender q in
       shown_as plan lane pair (Copy p s q) (CopiedPart part.got part.part) (with_lane pair sender q (record part { part = part.part + 1 })) _ (sight-off lane.from lane.queue pair sender q _ off)
@@ -96,7 +92,7 @@ module _ (plan : Plan) (lane : LaneName) (pair : PairPart) where
       shown_as plan lane pair (Copy p (other_side lane.from) lane.queue) (Delivered part.got (bytes_of (entry_in part part.got))) (after lane.from lane.queue) _
       (sight-tally lane.from lane.queue (copied lane.from lane.queue) pair.link.session _
       ∙ ap (λ (s : Sight). record s { tally = updated Now.tally Now.session (more_delivered (Now.tally Now.session)) }) (sight-lane lane.from lane.queue pair _))
-      (turned (CopiesLast turn last)
+      (turned (CopiesLast (record { turn = turn; more = last }))
       (tells_copy plan lane Now.lane p (other_side lane.from) lane.queue part.got (bytes_of (entry_in part part.got)) true (on-back lane p e))))
       (λ s sender q case off turn last.
       let part = lane_of pair sender q in
@@ -121,7 +117,7 @@ module _ (plan : Plan) (lane : LaneName) (pair : PairPart) where
       (λ turn.
       shown_as plan lane pair (Clear p (other_side lane.from) lane.queue) (ClearedFrame Now.lane.cleared)
       (with_lane pair lane.from lane.queue (record Now.lane { cleared = Now.lane.cleared + 1; phase = Cleared })) _ (sight-lane lane.from lane.queue pair _)
-      (turned (Clears turn) (tells_clear plan lane Now.lane p (other_side lane.from) lane.queue Now.lane.cleared true (on-back lane p e))))
+      (turned (Clears (record { turn = turn })) (tells_clear plan lane Now.lane p (other_side lane.from) lane.queue Now.lane.cleared true (on-back lane p e))))
       (λ s sender q case off turn.
       let part = lane_of pair sender q in
       shown_as plan lane pair (Clear p s q) (ClearedFrame part.cleared) (with_lane pair sender q (record part { cleared = part.cleared + 1; phase = Cleared })) _ (sight-off lane.from lane.queue pair sender q _ off)
@@ -145,7 +141,7 @@ module _ (plan : Plan) (lane : LaneName) (pair : PairPart) where
           let label = Index lane.queue Now.lane.acked in
           shown_as plan lane pair (Ack p (other_side lane.from) lane.queue) (Acked Now.lane.acked) (posts (acked lane.from lane.queue) (other_side lane.from) label) _
           (sight-posts lane.from lane.queue (acked lane.from lane.queue) Receiver label ∙ ap (posted Receiver label) (sight-lane lane.from lane.queue pair _))
-          (turned (Acks turn) (tells_no plan lane Now.lane (Ack p (other_side lane.from) lane.queue) (Acked Now.lane.acked) refl))
+          (turned (Acks (record { turn = turn })) (tells_no plan lane Now.lane (Ack p (other_side lane.from) lane.queue) (Acked Now.lane.acked) refl))
 
       off : (s sender : Side) (q : ℕ) → OffReceived lane.from lane.queue s sender q → IsOff lane.from lane.queue sender q → is_cleared (lane_of pair sender q).phase ≡ true
           → TurnAt plan lane pair (Ack p s q) (record { answer = Acked (lane_of pair sender q).acked; after = posts (acked sender q) s (Index q (lane_of pair sender q).acked) })

@@ -6,7 +6,6 @@ use Rattle.step_kinds.specs.Bits.{with_bit}
 use Rattle.step_kinds.specs.Sides.{other_side}
 use Rattle.step_kinds.specs.declared.names.LaneName.{LaneName}
 use Rattle.step_kinds.specs.declared.names.Side.{Side}
-use Rattle.step_kinds.specs.declared.plan.PairPlan.{PairPlan}
 use Rattle.step_kinds.specs.declared.plan.Plan.{Plan}
 use Rattle.step_kinds.specs.declared.steps.Answer.TheVariants.{OkNumber, Posted}
 use Rattle.step_kinds.specs.declared.steps.Label.{Label}
@@ -18,7 +17,6 @@ use Rattle.ledger_model.specs.Labels.{write_of, index_of}
 use Rattle.ledger_model.specs.Ledger.{PairPart, Sizes, lane_of, posts, with_lane, sizes_of, updated}
 use Rattle.ledger_model.specs.Log.{is_on}
 use Rattle.ledger_model.specs.Next.{pair_plan}
-use Rattle.ledger_model.specs.Outcome.{Outcome}
 use Rattle.ledger_model.specs.Sending.{begun, begun_lane}
 use Rattle.ledger_laws.proofs.walk.Cases.{MaySend, closing, posting}
 use Rattle.ledger_laws.proofs.walk.Sight.{Sight, Sender, Receiver, posted, sight, IsOff, OffCase, OtherQueue, OtherWay, by_lane, sight-side, sight-posts, sight-lane, sight-off, sight-tally, sight-tally_off}

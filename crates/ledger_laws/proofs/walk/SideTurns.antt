@@ -6,7 +6,6 @@ use Rattle.step_kinds.specs.Bits.{has_bit, with_bit, without_bits}
 use Rattle.step_kinds.specs.declared.names.LaneName.{LaneName}
 use Rattle.step_kinds.specs.declared.names.Side.{Side}
 use Rattle.step_kinds.specs.declared.names.Side.TheVariants.{A, B}
-use Rattle.step_kinds.specs.declared.plan.PairPlan.{PairPlan}
 use Rattle.step_kinds.specs.declared.plan.Plan.{Plan}
 use Rattle.step_kinds.specs.declared.steps.Answer.{Answer}
 use Rattle.step_kinds.specs.declared.steps.Answer.TheVariants.{Ok as Done, OkSession, Up, Irq as IrqBits, Offered, Joined}
@@ -19,7 +18,6 @@ use Rattle.ledger_model.specs.Ledger.{PairPart, side_of, link_up, posts, with_si
 use Rattle.ledger_model.specs.Link.{is_down, enabled_link, enable_refusal, train_refusal, cut_refusal, drop_refusal, clean_refusal}
 use Rattle.ledger_model.specs.LinkSteps.{fresh_lane}
 use Rattle.ledger_model.specs.Next.{pair_plan}
-use Rattle.ledger_model.specs.Outcome.{Outcome}
 use Rattle.ledger_model.specs.declared.LinkState.TheVariants.{Down as LinkIsDown, Up as LinkIsUp}
 use Rattle.ledger_model.specs.declared.LinkRefusal.TheVariants.{NotDown, Dirty, NotEnabled, NotUp, NotClosing}
 use Rattle.ledger_laws.specs.Laws.{IsOrdinaryOn}
@@ -68,12 +66,12 @@ module _ (plan : Plan) (lane : LaneName) (pair : PairPart) where
       agreed B down a b = record { down = down; sender = b; receiver = a }
 
   pub break : (p : ℕ) → p ≡ lane.pair → cut_refusal pair.link ≡ None → TurnAt plan lane pair (Break p) (record { answer = Done; after = broken pair })
-  break p same none = turned (Breaks (not-false _ ((refused_passed _ NotUp _ none).0))) (tells_break plan lane Now.lane p same)
+  break p same none = turned (Breaks (record { up = not-false _ ((refused_passed _ NotUp _ none).0) })) (tells_break plan lane Now.lane p same)
 
   pub drop : (p : ℕ) → drop_refusal pair.link ≡ None → TurnAt plan lane pair (DropDone p) (record { answer = Done; after = dropped pair })
   drop p none =
       shown_as plan lane pair (DropDone p) Done (dropped pair) _ (looks_so lane.from)
-      (turned (Drops (not-false _ ((refused_passed _ NotClosing _ none).0))) (tells_no plan lane Now.lane (DropDone p) Done refl))
+      (turned (Drops (record { closing = not-false _ ((refused_passed _ NotClosing _ none).0) })) (tells_no plan lane Now.lane (DropDone p) Done refl))
     where
       looks_so : (f : Side) → sight f lane.queue (dropped pair)
           ≡ record (sight f lane.queue pair) { state = LinkIsDown; sender = dropped_end (sight f lane.queue pair).sender; receiver = dropped_end (sight f lane.queue pair).receiver }
@@ -87,7 +85,7 @@ module _ (plan : Plan) (lane : LaneName) (pair : PairPart) where
       each e =
           shown_as plan lane pair (Clean p (side_at lane.from e)) Done (cleaned pair (side_at lane.from e)) (forgotten e Now)
           (each_way (λ f r. sight f lane.queue (cleaned pair (side_at f r)) ≡ forgotten r (sight f lane.queue pair)) refl refl refl refl lane.from e)
-          (turned (Forgets e (not-false _ ((refused_passed _ NotDown _ none).0))) (tells_no plan lane Now.lane (Clean p (side_at lane.from e)) Done refl))
+          (turned (Forgets e (record { down = not-false _ ((refused_passed _ NotDown _ none).0) })) (tells_no plan lane Now.lane (Clean p (side_at lane.from e)) Done refl))
 
   -- The handshake
 
