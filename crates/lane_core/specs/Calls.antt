@@ -5,6 +5,7 @@ use Rattle.step_kinds.specs.declared.steps.Label.TheVariants.{Index}
 use Rattle.lane_model.specs.Lane.{Entry, Carries, GoesDown, Lane, bytes_of, entry_of, free_in}
 use Rattle.lane_model.specs.Order.{relaxed, strict, may_land}
 use Rattle.lane_model.specs.Ring.{head_of}
+pub use Rattle.lane_model.specs.Tests.{is_idle, is_copying, is_copied, is_cleared, is_empty_list}
 use Rattle.lane_model.specs.Steps.{after_begin, after_post, after_landing, after_look, more_to_copy, after_copy, after_clear, after_ack, after_index}
 use Rattle.lane_model.specs.declared.Write.{Write}
 use Rattle.lane_model.specs.declared.Write.TheVariants.{Data, Flag, Bell}
@@ -29,10 +30,6 @@ pub record LaneValue : Type 0 where
 -- the same with another lane
 abbrev pub with_lane : LaneValue → Lane → LaneValue
 with_lane value lane = record { queue = value.queue; is_strict = value.is_strict; lane = lane }
-
-abbrev pub is_empty_list : {X : Type 0} → List X → Bool
-is_empty_list [] = true
-is_empty_list (x ∷ xs) = false
 
 -- Beginning
 
@@ -123,22 +120,6 @@ abbrev pub after_land_index : Lane → ℕ → Lane
 after_land_index lane place = after_index_found lane place (slice_get lane.returning place)
 
 -- Receiving
-
-abbrev pub is_idle : Phase → Bool
-is_idle Idle = true
-is_idle phase = false
-
-abbrev pub is_copying : Phase → Bool
-is_copying Copying = true
-is_copying phase = false
-
-abbrev pub is_copied : Phase → Bool
-is_copied Copied = true
-is_copied phase = false
-
-abbrev pub is_cleared : Phase → Bool
-is_cleared Cleared = true
-is_cleared phase = false
 
 -- what a look says of an entry that has landed
 abbrev pub look_at : ℕ → Entry → LaneLook

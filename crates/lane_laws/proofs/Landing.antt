@@ -30,11 +30,11 @@ land_bell_keeps lost lost_back lane rest front h =
       receiver = h.receiver;
       coming = record {
         left = elim h.coming.left [
-        | inl none ↦ absurd (bell_in_front (drop lane.flagged lane.sent) lane.flagged coming (subst (AreLeft lane.flagged (drop lane.flagged lane.sent)) apart none))
-        | inr bell ↦
-            let same : bell.0 ≡ coming = cc (bell.1, apart) in
-            inl (subst (AreLeft lane.flagged (drop lane.flagged lane.sent)) same bell.3)
-      ];
+          | inl none ↦ absurd (bell_in_front (drop lane.flagged lane.sent) lane.flagged coming (subst (AreLeft lane.flagged (drop lane.flagged lane.sent)) apart none))
+          | inr bell ↦
+              let same : bell.0 ≡ coming = cc (bell.1, apart) in
+              inl (subst (AreLeft lane.flagged (drop lane.flagged lane.sent)) same bell.3)
+        ];
         last = h.coming.last;
       };
       none_lost = h.none_lost;
@@ -42,12 +42,12 @@ land_bell_keeps lost lost_back lane rest front h =
         whole = h.standing.whole;
         empty = h.standing.empty;
         landed = λ n field low high among. elim (h.standing.landed n field low high among) [
-        | inl comes ↦ elim (contains_cases Bell coming (Data n field) (subst (λ w. Contains w (Data n field)) apart comes)) [
-          | inl e ↦ absurd (cc e)
-          | inr later ↦ inl later
-        ]
-        | inr stands ↦ inr stands
-      ];
+          | inl comes ↦ elim (contains_cases Bell coming (Data n field) (subst (λ w. Contains w (Data n field)) apart comes)) [
+            | inl e ↦ absurd (cc e)
+            | inr later ↦ inl later
+          ]
+          | inr stands ↦ inr stands
+        ];
       };
       back = h.back;
     }
@@ -57,14 +57,14 @@ pub flag_is_next : (lost : List Write) (lost_back : List ℕ) (lane : Lane) (n :
     → (n ≡ lane.flagged) × (n < length lane.sent) × (left : List Write) × ((rest ++ lost) ++ lane.todo ≡ Bell ∷ left) × AreLeft (lane.flagged + 1) (drop (lane.flagged + 1) lane.sent) left
 flag_is_next lost lost_back lane n rest front h =
     elim h.coming.left [
-  | inl left ↦
-      let f = flag_in_front (drop lane.flagged lane.sent) lane.flagged n coming (subst (AreLeft lane.flagged (drop lane.flagged lane.sent)) apart left) in
-      let d = length-drop lane.flagged lane.sent in
-      let more : f.1 ≡ drop (lane.flagged + 1) lane.sent = sym f.4 ∙ drop-drop 1 lane.flagged lane.sent in
-      let next : suc lane.flagged ≡ lane.flagged + 1 = omega arith in
-      (f.0, omega (arith, f.0, f.3), f.2, f.5, subst (λ k. AreLeft k (drop (lane.flagged + 1) lane.sent) f.2) next (subst (λ es. AreLeft (suc lane.flagged) es f.2) more f.6))
-  | inr bell ↦ absurd (cc (bell.1, apart))
-]
+      | inl left ↦
+          let f = flag_in_front (drop lane.flagged lane.sent) lane.flagged n coming (subst (AreLeft lane.flagged (drop lane.flagged lane.sent)) apart left) in
+          let d = length-drop lane.flagged lane.sent in
+          let more : f.1 ≡ drop (lane.flagged + 1) lane.sent = sym f.4 ∙ drop-drop 1 lane.flagged lane.sent in
+          let next : suc lane.flagged ≡ lane.flagged + 1 = omega arith in
+          (f.0, omega (arith, f.0, f.3), f.2, f.5, subst (λ k. AreLeft k (drop (lane.flagged + 1) lane.sent) f.2) next (subst (λ es. AreLeft (suc lane.flagged) es f.2) more f.6))
+      | inr bell ↦ absurd (cc (bell.1, apart))
+    ]
   where
     coming : List Write
     coming = (rest ++ lost) ++ lane.todo
@@ -158,17 +158,17 @@ land_flag_keeps lost lost_back lane n rest front h =
       none_lost = h.none_lost;
       standing = record {
         whole = λ m low high. elim (cases_eq n m) [
-        | inl same ↦ subst (λ k. StandsWhole (slot_of after k) k (entry_of lane k)) same whole_now
-        | inr apart_from ↦ subst (λ p. StandsWhole p m (entry_of lane m)) (sym (elsewhere_below m (omega arith) (omega arith))) (h.standing.whole m low (omega arith))
-      ];
+          | inl same ↦ subst (λ k. StandsWhole (slot_of after k) k (entry_of lane k)) same whole_now
+          | inr apart_from ↦ subst (λ p. StandsWhole p m (entry_of lane m)) (sym (elsewhere_below m (omega arith) (omega arith))) (h.standing.whole m low (omega arith))
+        ];
         empty = λ m low high. ap (λ p. p.flags) (elsewhere_above m (omega arith) (omega arith)) ∙ h.standing.empty m (omega arith) high;
         landed = λ m field low high among. elim (h.standing.landed m field (omega arith) high among) [
-        | inl comes ↦ elim (contains_cases (Flag n) ((rest ++ lost) ++ lane.todo) (Data m field) (subst (λ w. Contains w (Data m field)) apart comes)) [
-          | inl e ↦ absurd (cc e)
-          | inr later ↦ inl later
-        ]
-        | inr stands ↦ inr (subst (λ p. Stands p m (entry_of lane m) field) (sym (elsewhere_above m (omega arith) (omega arith))) stands)
-      ];
+          | inl comes ↦ elim (contains_cases (Flag n) ((rest ++ lost) ++ lane.todo) (Data m field) (subst (λ w. Contains w (Data m field)) apart comes)) [
+            | inl e ↦ absurd (cc e)
+            | inr later ↦ inl later
+          ]
+          | inr stands ↦ inr (subst (λ p. Stands p m (entry_of lane m) field) (sym (elsewhere_above m (omega arith) (omega arith))) stands)
+        ];
       };
       back = h.back;
     }
@@ -235,28 +235,28 @@ land_data_keeps lost lost_back lane n field before behind middle h =
       standing = record {
         whole = λ m low high. subst (λ p. StandsWhole p m (entry_of lane m)) (sym (elsewhere_below m (omega arith) (omega arith))) (h.standing.whole m low high);
         empty = λ m low high. elim (cases_order m n) [
-        | inl same ↦ ap (λ p. p.flags) (place_same lane n m slot h.room.slots h.room.two_entries (ap (λ k. k % lane.entries) same)) ∙ flags_stay (slot_of lane n) n (entry_of lane n) field ∙ h.standing.empty n low_n (omega arith)
-        | inr other ↦ elim other [
-          | inl below ↦ ap (λ p. p.flags) (elsewhere_below m below (omega arith)) ∙ h.standing.empty m low high
-          | inr above ↦ ap (λ p. p.flags) (elsewhere_above m above (omega arith)) ∙ h.standing.empty m low high
-        ]
-      ];
-        landed = λ m f low high among. elim (h.standing.landed m f low high among) [
-        | inl comes ↦ elim (contains_without before tail (Data n field) (Data m f) (subst (λ w. Contains w (Data m f)) apart comes)) [
-          | inl e ↦
-              let same_n : n ≡ m = cc in
-              let same_field : field ≡ f = cc in
-              inr (subst (λ k. Stands (slot_of after k) k (entry_of lane k) f) same_n (written f same_field))
-          | inr rest ↦ inl (subst (λ w. Contains w (Data m f)) (sym left_now) rest)
-        ]
-        | inr stands ↦ inr (elim (cases_order n m) [
-          | inl same ↦ subst (λ k. Stands (slot_of after k) k (entry_of lane k) f) same (still f (subst (λ k. Stands (slot_of lane k) k (entry_of lane k) f) (sym same) stands))
+          | inl same ↦ ap (λ p. p.flags) (place_same lane n m slot h.room.slots h.room.two_entries (ap (λ k. k % lane.entries) same)) ∙ flags_stay (slot_of lane n) n (entry_of lane n) field ∙ h.standing.empty n low_n (omega arith)
           | inr other ↦ elim other [
-            | inl above ↦ subst (λ p. Stands p m (entry_of lane m) f) (sym (elsewhere_above m above (omega arith))) stands
-            | inr below ↦ subst (λ p. Stands p m (entry_of lane m) f) (sym (elsewhere_below m below (omega arith))) stands
+            | inl below ↦ ap (λ p. p.flags) (elsewhere_below m below (omega arith)) ∙ h.standing.empty m low high
+            | inr above ↦ ap (λ p. p.flags) (elsewhere_above m above (omega arith)) ∙ h.standing.empty m low high
           ]
-        ])
-      ];
+        ];
+        landed = λ m f low high among. elim (h.standing.landed m f low high among) [
+          | inl comes ↦ elim (contains_without before tail (Data n field) (Data m f) (subst (λ w. Contains w (Data m f)) apart comes)) [
+            | inl e ↦
+                let same_n : n ≡ m = cc in
+                let same_field : field ≡ f = cc in
+                inr (subst (λ k. Stands (slot_of after k) k (entry_of lane k) f) same_n (written f same_field))
+            | inr rest ↦ inl (subst (λ w. Contains w (Data m f)) (sym left_now) rest)
+          ]
+          | inr stands ↦ inr (elim (cases_order n m) [
+            | inl same ↦ subst (λ k. Stands (slot_of after k) k (entry_of lane k) f) same (still f (subst (λ k. Stands (slot_of lane k) k (entry_of lane k) f) (sym same) stands))
+            | inr other ↦ elim other [
+              | inl above ↦ subst (λ p. Stands p m (entry_of lane m) f) (sym (elsewhere_above m above (omega arith))) stands
+              | inr below ↦ subst (λ p. Stands p m (entry_of lane m) f) (sym (elsewhere_below m below (omega arith))) stands
+            ]
+          ])
+        ];
       };
       back = h.back;
     }

@@ -1,5 +1,5 @@
 -- The receiver's steps keep the law of the ring, and so do the landing of an index write and the loss of the link.
-use Rattle.std.proofs.Common.{◌≡◌, ℕ, suc, ◌+◌, ◌-◌, ◌%◌, ◌<◌, ◌≤◌, true, false, true≢false, List, [], ◌∷◌, ◌++◌, length, refl, sym, ap, ◌∙◌, subst, inl, inr, arith, append-nil, append_assoc, mod-lt, if◌then◌else◌}
+use Rattle.std.proofs.Common.{◌≡◌, ℕ, suc, ◌+◌, ◌-◌, ◌%◌, ◌<◌, ◌≤◌, true, false, true≢false, List, [], ◌∷◌, ◌++◌, length, sym, ap, ◌∙◌, subst, inl, inr, arith, append-nil, append_assoc, mod-lt, if◌then◌else◌}
 use native.Mathlib.Nat.{add-mod_right}
 use Rattle.std.proofs.lemmas.Bool.{cases_Bool, cases_eq, cond-true, cond-false, ltb-true}
 use Rattle.lane_model.specs.Lane.{Slot, Lane, count_from, copies_of, entry_of, slot_of, with_flags}
@@ -129,26 +129,23 @@ clear_keeps lost lost_back lane copied h =
       standing = record {
         whole = λ n low high. subst (λ p. StandsWhole p n (entry_of lane n)) (sym (elsewhere n (omega arith) (omega arith))) (h.standing.whole n (omega arith) high);
         empty = λ n low high. elim (cases_eq n (lane.cleared + lane.entries)) [
-        | inl round ↦ ap (λ p. p.flags) (place_same lane lane.cleared n cleared_place h.room.slots h.room.two_entries (ap (λ j. j % lane.entries) round ∙ add-mod_right lane.cleared lane.entries))
-        | inr before ↦ ap (λ p. p.flags) (elsewhere n (omega arith) (omega arith)) ∙ h.standing.empty n low (omega arith)
-      ];
+          | inl round ↦ ap (λ p. p.flags) (place_same lane lane.cleared n cleared_place h.room.slots h.room.two_entries (ap (λ j. j % lane.entries) round ∙ add-mod_right lane.cleared lane.entries))
+          | inr before ↦ ap (λ p. p.flags) (elsewhere n (omega arith) (omega arith)) ∙ h.standing.empty n low (omega arith)
+        ];
         landed = λ n field low high among. elim (h.standing.landed n field low high among) [
-        | inl coming ↦ inl coming
-        | inr stands ↦ inr (subst (λ p. Stands p n (entry_of lane n) field) (sym (elsewhere n (omega arith) (omega arith))) stands)
-      ];
+          | inl coming ↦ inl coming
+          | inr stands ↦ inr (subst (λ p. Stands p n (entry_of lane n) field) (sym (elsewhere n (omega arith) (omega arith))) stands)
+        ];
       };
       back = h.back;
     }
 
-pub ack_keeps : (lost : List Write) (lost_back : List ℕ) (lane : Lane) → lane.phase ≡ Cleared → lane.up ≡ true → RingLaw lost lost_back lane → RingLaw lost lost_back (after_ack lane)
-ack_keeps lost lost_back lane cleared up h =
+-- the index write is posted, or lost behind the others
+acknowledged : (lost : List Write) (lost_back lost_now : List ℕ) (lane : Lane) → lane.phase ≡ Cleared → (after_ack lane).returning ++ lost_now ≡ (lane.returning ++ lost_back) ++ lane.acked ∷ []
+    → (lane.up ≡ true → (lost ≡ []) × (lost_now ≡ [])) → RingLaw lost lost_back lane → RingLaw lost lost_now (after_ack lane)
+acknowledged lost lost_back lost_now lane cleared same none h =
     let counts : PhaseCounts Cleared lane.acked lane.cleared lane.got lane.flagged = subst (λ p. PhaseCounts p lane.acked lane.cleared lane.got lane.flagged) cleared h.receiver.phase_counts in
-    let none : lost_back ≡ [] = (h.none_lost up).1 in
-    let before : lane.returning ≡ count_from lane.freed (lane.acked - lane.freed) = sym (append-nil lane.returning) ∙ ap (λ b. lane.returning ++ b) (sym none) ∙ h.back.returning in
-    let now : (if lane.up then lane.returning ++ lane.acked ∷ [] else lane.returning) ≡ lane.returning ++ lane.acked ∷ [] = cond-true lane.up _ _ up in
     let one_more : suc (lane.acked - lane.freed) ≡ lane.acked + 1 - lane.freed = omega arith in
-    let pushed : lane.returning ++ lane.acked ∷ [] ≡ count_from lane.freed (lane.acked + 1 - lane.freed) =
-    ap (λ b. b ++ lane.acked ∷ []) before ∙ count_from-push lane.freed (lane.acked - lane.freed) lane.acked (omega arith) ∙ ap (count_from lane.freed) one_more in
     record {
       room = h.room;
       frames = h.frames;
@@ -160,51 +157,33 @@ ack_keeps lost lost_back lane cleared up h =
         flagged_first = h.counts.flagged_first;
         one_free = h.counts.one_free;
       };
-      receiver = record {
-        phase_counts = (omega arith, omega arith);
-        part_first = λ copying. absurd (cc copying);
-      };
+      receiver = record { phase_counts = (omega arith, omega arith); part_first = λ copying. absurd (cc copying) };
       coming = h.coming;
-      none_lost = h.none_lost;
+      none_lost = none;
       standing = h.standing;
       back = record {
-        returning = ap (λ b. b ++ lost_back) now ∙ ap (λ b. (lane.returning ++ lane.acked ∷ []) ++ b) none ∙ append-nil _ ∙ pushed;
+        returning =
+            same ∙ ap (λ b. b ++ lane.acked ∷ []) h.back.returning ∙ count_from-push lane.freed (lane.acked - lane.freed) lane.acked (omega arith) ∙ ap (count_from lane.freed) one_more;
         index_word_is = h.back.index_word_is;
       };
     }
 
--- on a lost link the index write is lost
+pub ack_keeps : (lost : List Write) (lost_back : List ℕ) (lane : Lane) → lane.phase ≡ Cleared → lane.up ≡ true → RingLaw lost lost_back lane → RingLaw lost lost_back (after_ack lane)
+ack_keeps lost lost_back lane cleared up h =
+    let none : lost_back ≡ [] = (h.none_lost up).1 in
+    let now : (if lane.up then lane.returning ++ lane.acked ∷ [] else lane.returning) ≡ lane.returning ++ lane.acked ∷ [] = cond-true lane.up _ _ up in
+    acknowledged lost lost_back lost_back lane cleared
+    (ap (λ b. b ++ lost_back) now ∙ ap (λ b. (lane.returning ++ lane.acked ∷ []) ++ b) none ∙ append-nil _
+    ∙ ap (λ b. b ++ lane.acked ∷ []) (sym (ap (λ b. lane.returning ++ b) none ∙ append-nil lane.returning)))
+    h.none_lost h
+
 pub ack_keeps_lost : (lost : List Write) (lost_back : List ℕ) (lane : Lane) → lane.phase ≡ Cleared → lane.up ≡ false → RingLaw lost lost_back lane
     → RingLaw lost (lost_back ++ lane.acked ∷ []) (after_ack lane)
 ack_keeps_lost lost lost_back lane cleared down h =
-    let counts : PhaseCounts Cleared lane.acked lane.cleared lane.got lane.flagged = subst (λ p. PhaseCounts p lane.acked lane.cleared lane.got lane.flagged) cleared h.receiver.phase_counts in
     let now : (if lane.up then lane.returning ++ lane.acked ∷ [] else lane.returning) ≡ lane.returning = cond-false lane.up _ _ down in
-    let one_more : suc (lane.acked - lane.freed) ≡ lane.acked + 1 - lane.freed = omega arith in
-    let pushed : (lane.returning ++ lost_back) ++ lane.acked ∷ [] ≡ count_from lane.freed (lane.acked + 1 - lane.freed) =
-    ap (λ b. b ++ lane.acked ∷ []) h.back.returning ∙ count_from-push lane.freed (lane.acked - lane.freed) lane.acked (omega arith) ∙ ap (count_from lane.freed) one_more in
-    record {
-      room = h.room;
-      frames = h.frames;
-      counts = record {
-        freed_first = omega arith;
-        acked_first = omega arith;
-        cleared_first = h.counts.cleared_first;
-        got_first = h.counts.got_first;
-        flagged_first = h.counts.flagged_first;
-        one_free = h.counts.one_free;
-      };
-      receiver = record {
-        phase_counts = (omega arith, omega arith);
-        part_first = λ copying. absurd (cc copying);
-      };
-      coming = h.coming;
-      none_lost = λ up. absurd (true≢false (sym up ∙ down));
-      standing = h.standing;
-      back = record {
-        returning = ap (λ b. b ++ (lost_back ++ lane.acked ∷ [])) now ∙ sym (append_assoc lane.returning lost_back (lane.acked ∷ [])) ∙ pushed;
-        index_word_is = h.back.index_word_is;
-      };
-    }
+    acknowledged lost lost_back (lost_back ++ lane.acked ∷ []) lane cleared
+    (ap (λ b. b ++ (lost_back ++ lane.acked ∷ [])) now ∙ sym (append_assoc lane.returning lost_back (lane.acked ∷ [])))
+    (λ up. absurd (true≢false (sym up ∙ down))) h
 
 -- what the index write on its way says
 pub index_is_next : (lost : List Write) (lost_back : List ℕ) (lane : Lane) (n : ℕ) (rest : List ℕ) → lane.returning ≡ n ∷ rest
@@ -243,26 +222,26 @@ index_keeps lost lost_back lane n rest front h =
 pub cut_keeps : (lost : List Write) (lost_back : List ℕ) (lane : Lane) → RingLaw lost lost_back lane → RingLaw lost lost_back (after_cut lane)
 cut_keeps lost lost_back lane h =
     record {
-  room = h.room;
-  frames = h.frames;
-  counts = h.counts;
-  receiver = h.receiver;
-  coming = h.coming;
-  none_lost = λ up. absurd (true≢false (sym up));
-  standing = h.standing;
-  back = h.back;
-}
+      room = h.room;
+      frames = h.frames;
+      counts = h.counts;
+      receiver = h.receiver;
+      coming = h.coming;
+      none_lost = λ up. absurd (true≢false (sym up));
+      standing = h.standing;
+      back = h.back;
+    }
 
 pub drop_keeps : (lost : List Write) (lost_back : List ℕ) (lane : Lane) → lane.up ≡ false → RingLaw lost lost_back lane
     → RingLaw (lane.flight ++ lost) (lane.returning ++ lost_back) (after_drop lane)
 drop_keeps lost lost_back lane down h =
     record {
-  room = h.room;
-  frames = h.frames;
-  counts = h.counts;
-  receiver = h.receiver;
-  coming = h.coming;
-  none_lost = λ up. absurd (true≢false (sym up ∙ down));
-  standing = h.standing;
-  back = h.back;
-}
+      room = h.room;
+      frames = h.frames;
+      counts = h.counts;
+      receiver = h.receiver;
+      coming = h.coming;
+      none_lost = λ up. absurd (true≢false (sym up ∙ down));
+      standing = h.standing;
+      back = h.back;
+    }

@@ -95,17 +95,17 @@ begin_keeps lost lost_back lane entry no_todo free fits open_yet h =
       room = h.room;
       frames = record {
         fits = λ n below. elim (cases_eq n (length lane.sent)) [
-        | inl new ↦ subst (λ e. length (bytes_of e) ≤ lane.largest) (sym (entry_last lane entry n new)) fits
-        | inr old ↦
-            let before : n < length lane.sent = omega arith in
-            subst (λ e. length (bytes_of e) ≤ lane.largest) (sym (entry_before lane entry n before)) (h.frames.fits n before)
-      ];
+          | inl new ↦ subst (λ e. length (bytes_of e) ≤ lane.largest) (sym (entry_last lane entry n new)) fits
+          | inr old ↦
+              let before : n < length lane.sent = omega arith in
+              subst (λ e. length (bytes_of e) ≤ lane.largest) (sym (entry_before lane entry n before)) (h.frames.fits n before)
+        ];
         down_is_last = λ n below down. elim (cases_eq n (length lane.sent)) [
-        | inl new ↦ omega arith
-        | inr old ↦
-            let before : n < length lane.sent = omega arith in
-            absurd (open_yet n before (sym (entry_before lane entry n before) ∙ down))
-      ];
+          | inl new ↦ omega arith
+          | inr old ↦
+              let before : n < length lane.sent = omega arith in
+              absurd (open_yet n before (sym (entry_before lane entry n before) ∙ down))
+        ];
       };
       counts = record {
         freed_first = h.counts.freed_first;
@@ -118,9 +118,9 @@ begin_keeps lost lost_back lane entry no_todo free fits open_yet h =
       receiver = record {
         phase_counts = h.receiver.phase_counts;
         part_first = λ copying.
-          let counts : PhaseCounts Copying lane.acked lane.cleared lane.got lane.flagged = subst (λ p. PhaseCounts p lane.acked lane.cleared lane.got lane.flagged) copying h.receiver.phase_counts in
-          let before : lane.got < length lane.sent = omega (arith, counts.2) in
-          subst (λ e. lane.part < copies_of e) (sym (entry_before lane entry lane.got before)) (h.receiver.part_first copying);
+            let counts : PhaseCounts Copying lane.acked lane.cleared lane.got lane.flagged = subst (λ p. PhaseCounts p lane.acked lane.cleared lane.got lane.flagged) copying h.receiver.phase_counts in
+            let before : lane.got < length lane.sent = omega (arith, counts.2) in
+            subst (λ e. lane.part < copies_of e) (sym (entry_before lane entry lane.got before)) (h.receiver.part_first copying);
       };
       coming = record {
         left = left_to_land_more lane coming entry h.counts.flagged_first (subst (AreLeftToLand lane.flagged lane.sent) no_more h.coming.left);
@@ -129,22 +129,22 @@ begin_keeps lost lost_back lane entry no_todo free fits open_yet h =
       none_lost = h.none_lost;
       standing = record {
         whole = λ n low high.
-          let before : n < length lane.sent = omega arith in
-          subst (StandsWhole (slot_of lane n) n) (sym (entry_before lane entry n before)) (h.standing.whole n low high);
+            let before : n < length lane.sent = omega arith in
+            subst (StandsWhole (slot_of lane n) n) (sym (entry_before lane entry n before)) (h.standing.whole n low high);
         empty = h.standing.empty;
         landed = λ n field low high among. elim (cases_eq n (length lane.sent)) [
-        | inl new ↦
-            let of_entry : Contains (data_of n entry) (Data n field) = subst (λ e. Contains (data_of n e) (Data n field)) (entry_last lane entry n new) among in
-            let of_last : Contains (data_of (length lane.sent) entry) (Data n field) = subst (λ m. Contains (data_of m entry) (Data n field)) new of_entry in
-            inl (Contains-append_right coming new_writes (Data n field) (Contains-append_left (data_of (length lane.sent) entry) (Flag (length lane.sent) ∷ Bell ∷ []) (Data n field) of_last))
-        | inr old ↦
-            let before : n < length lane.sent = omega arith in
-            let same = entry_before lane entry n before in
-            elim (h.standing.landed n field low before (subst (λ e. Contains (data_of n e) (Data n field)) same among)) [
-              | inl comes ↦ inl (Contains-append_left coming new_writes (Data n field) (subst (λ w. Contains w (Data n field)) no_more comes))
-              | inr stands ↦ inr (subst (λ e. Stands (slot_of lane n) n e field) (sym same) stands)
-            ]
-      ];
+          | inl new ↦
+              let of_entry : Contains (data_of n entry) (Data n field) = subst (λ e. Contains (data_of n e) (Data n field)) (entry_last lane entry n new) among in
+              let of_last : Contains (data_of (length lane.sent) entry) (Data n field) = subst (λ m. Contains (data_of m entry) (Data n field)) new of_entry in
+              inl (Contains-append_right coming new_writes (Data n field) (Contains-append_left (data_of (length lane.sent) entry) (Flag (length lane.sent) ∷ Bell ∷ []) (Data n field) of_last))
+          | inr old ↦
+              let before : n < length lane.sent = omega arith in
+              let same = entry_before lane entry n before in
+              elim (h.standing.landed n field low before (subst (λ e. Contains (data_of n e) (Data n field)) same among)) [
+                | inl comes ↦ inl (Contains-append_left coming new_writes (Data n field) (subst (λ w. Contains w (Data n field)) no_more comes))
+                | inr stands ↦ inr (subst (λ e. Stands (slot_of lane n) n e field) (sym same) stands)
+              ]
+        ];
       };
       back = h.back;
     }
@@ -162,18 +162,18 @@ posted lost lost_now lost_back lane write rest front same none h =
       coming = record {
         left = subst (AreLeftToLand lane.flagged lane.sent) (sym same) h.coming.left;
         last = elim h.coming.last [
-        | inl nothing ↦ absurd (cc (nothing, front))
-        | inr ending ↦ inr (ending.0, ending.1 ++ write ∷ [], ending.2, ending.3 ∙ ap (λ w. ending.1 ++ w) front ∙ sym (append_assoc ending.1 (write ∷ []) rest))
-      ];
+          | inl nothing ↦ absurd (cc (nothing, front))
+          | inr ending ↦ inr (ending.0, ending.1 ++ write ∷ [], ending.2, ending.3 ∙ ap (λ w. ending.1 ++ w) front ∙ sym (append_assoc ending.1 (write ∷ []) rest))
+        ];
       };
       none_lost = none;
       standing = record {
         whole = h.standing.whole;
         empty = h.standing.empty;
         landed = λ n field low high among. elim (h.standing.landed n field low high among) [
-        | inl comes ↦ inl (subst (λ w. Contains w (Data n field)) (sym same) comes)
-        | inr stands ↦ inr stands
-      ];
+          | inl comes ↦ inl (subst (λ w. Contains w (Data n field)) (sym same) comes)
+          | inr stands ↦ inr stands
+        ];
       };
       back = h.back;
     }

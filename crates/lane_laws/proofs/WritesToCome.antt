@@ -7,7 +7,6 @@ use Rattle.lane_model.specs.declared.Field.{Field}
 use Rattle.lane_model.specs.declared.Write.{Write}
 use Rattle.lane_model.specs.declared.Write.TheVariants.{Data, Flag, Bell}
 use Rattle.lane_model.specs.Law.{IsPickedFrom, Nothing, Taken, Left, AreLeft, AreLeftToLand}
-use Rattle.lane_model.specs.Steps.{after_begin}
 use Rattle.lane_laws.proofs.Chunks.{contains_cases, contains_none, contains_later, field_of_data, field_among}
 
 -- two slots of one list, in either order or the same

@@ -173,20 +173,20 @@ pub lined_kept : (plan : Plan) (lane : LaneName) (s : Sight) (made : Answered) (
     → (is_up s.state ≡ true → LinedOf lane.queue s) → is_up t.state ≡ true → LinedOf lane.queue t
 lined_kept plan lane s made news t (Trains may) empty h up = record { ringing = false; left = 0; is = ap (λ flight. ticks_of lane.queue flight ++ []) (empty may.down).0; count = refl }
 lined_kept plan lane s made news t (Breaks may) empty h up = absurd (false≢true up)
-lined_kept plan lane s made news t (Drops closing) empty h up = absurd (false≢true up)
-lined_kept plan lane s made news t (Forgets e down) empty h up = over s down up
+lined_kept plan lane s made news t (Drops may) empty h up = absurd (false≢true up)
+lined_kept plan lane s made news t (Forgets e may) empty h up = over s may.down up
 lined_kept plan lane s made news t (Offers Sender label may) empty h up = lined_by _ _ _ _ (ticks_said lane.queue s label (pad-write lane.queue label may.a_pad)) (h up)
 lined_kept plan lane s made news t (Readies Sender queue may) empty h up = lined_by _ _ _ _ (ticks_said lane.queue s _ refl) (h up)
 lined_kept plan lane s made news t (Begins bytes may) empty h up = lined_begun lane.queue s (Carries bytes) may.not_busy (h up)
 lined_kept plan lane s made news t (Closes may) empty h up = lined_begun lane.queue s GoesDown may.not_busy (h up)
 lined_kept plan lane s made news t (Posts label rest may) empty h up = lined_by _ _ _ _ (ticks_posted lane.queue s label rest up may.next) (h up)
 lined_kept plan lane s made news t (Says Sender label may) empty h up = lined_by _ _ _ _ (ticks_said lane.queue s label may.foreign) (h up)
-lined_kept plan lane s made news t (LandsFlag place label n may is) empty h up =
-    (flag_lined _ _ _ _ (ticks_first lane.queue _ s place label true may (flag_strict lane.queue _ label n is) (ap tick is)) (h up)).1
-lined_kept plan lane s made news t (LandsField place label n field may is) empty h up = lined_by _ _ _ _ (ticks_without lane.queue s place label may (ap tick is)) (h up)
+lined_kept plan lane s made news t (LandsFlag place label n may) empty h up =
+    (flag_lined _ _ _ _ (ticks_first lane.queue _ s place label true may.land (flag_strict lane.queue _ label n may.is) (ap tick may.is)) (h up)).1
+lined_kept plan lane s made news t (LandsField place label n field may) empty h up = lined_by _ _ _ _ (ticks_without lane.queue s place label may.land (ap tick may.is)) (h up)
 lined_kept plan lane s made news t (LandsBell Sender place queue may) empty h up = bell_lands lane.queue queue s place may (cases_eq lane.queue queue) (h up)
 lined_kept plan lane s made news t (LandsPad Sender place i value may) empty h up = lined_by _ _ _ _ (ticks_without lane.queue s place (Pad i value) may refl) (h up)
-lined_kept plan lane s made news t (LandsAside Sender place label may foreign no_pad) empty h up = lined_by _ _ _ _ (ticks_without lane.queue s place label may (ap tick foreign)) (h up)
+lined_kept plan lane s made news t (LandsAside Sender place label may) empty h up = lined_by _ _ _ _ (ticks_without lane.queue s place label may.land (ap tick may.foreign)) (h up)
 lined_kept plan lane s made news t turn empty h up = h up
 
 -- A receiver that saw nothing
@@ -238,11 +238,11 @@ watched_rung q queue s place may (inr ne) h =
 pub watched_kept : (plan : Plan) (lane : LaneName) (s : Sight) (made : Answered) (news : News) (t : Sight) → Turn plan lane s made news t → (news.starts ≡ false) → (saw : Bool)
     → (is_up s.state ≡ true → LinedOf lane.queue s × (saw ≡ true → WatchedOf lane.queue s)) → news.sees saw ≡ true → is_up t.state ≡ true → WatchedOf lane.queue t
 watched_kept plan lane s made news t (Rests looked) no_start saw h sees up = (h up).1 (still_saw looked saw sees)
-watched_kept plan lane s made news t (FindsNone may none) no_start saw h sees up = record { idle = may.idle; why = inl (sym (eqb-true s.lane.flagged s.lane.got none)) }
+watched_kept plan lane s made news t (FindsNone may) no_start saw h sees up = record { idle = may.idle; why = inl (sym (eqb-true s.lane.flagged s.lane.got may.none)) }
 watched_kept plan lane s made news t (Trains may) no_start saw h sees up = absurd (true≢false no_start)
 watched_kept plan lane s made news t (Breaks may) no_start saw h sees up = absurd (false≢true up)
-watched_kept plan lane s made news t (Drops closing) no_start saw h sees up = absurd (false≢true up)
-watched_kept plan lane s made news t (Forgets e down) no_start saw h sees up = over s down up
+watched_kept plan lane s made news t (Drops may) no_start saw h sees up = absurd (false≢true up)
+watched_kept plan lane s made news t (Forgets e may) no_start saw h sees up = over s may.down up
 watched_kept plan lane s made news t (Offers Sender label may) no_start saw h sees up = watched_alike (ticks_said lane.queue s label (pad-write lane.queue label may.a_pad)) ((h up).1 sees)
 watched_kept plan lane s made news t (Readies Sender queue may) no_start saw h sees up = watched_alike (ticks_said lane.queue s _ refl) ((h up).1 sees)
 watched_kept plan lane s made news t (Begins bytes may) no_start saw h sees up = watched_begun lane.queue s (Carries bytes) may.not_busy ((h up).1 sees)
@@ -250,20 +250,20 @@ watched_kept plan lane s made news t (Closes may) no_start saw h sees up = watch
 watched_kept plan lane s made news t (Posts label rest may) no_start saw h sees up = watched_alike (ticks_posted lane.queue s label rest up may.next) ((h up).1 sees)
 watched_kept plan lane s made news t (Shuts e queue looked) no_start saw h sees up = (h up).1 (still_saw looked saw sees)
 watched_kept plan lane s made news t (Says Sender label may) no_start saw h sees up = watched_alike (ticks_said lane.queue s label may.foreign) ((h up).1 sees)
-watched_kept plan lane s made news t (LandsFlag place label n may is) no_start saw h sees up =
+watched_kept plan lane s made news t (LandsFlag place label n may) no_start saw h sees up =
     let now = h up in
     record {
       idle = (now.1 sees).idle;
-      why = inr (inr (flag_lined _ _ _ _ (ticks_first lane.queue _ s place label true may (flag_strict lane.queue _ label n is) (ap tick is)) now.0).0);
+      why = inr (inr (flag_lined _ _ _ _ (ticks_first lane.queue _ s place label true may.land (flag_strict lane.queue _ label n may.is) (ap tick may.is)) now.0).0);
     }
-watched_kept plan lane s made news t (LandsField place label n field may is) no_start saw h sees up = watched_alike (ticks_without lane.queue s place label may (ap tick is)) ((h up).1 sees)
+watched_kept plan lane s made news t (LandsField place label n field may) no_start saw h sees up = watched_alike (ticks_without lane.queue s place label may.land (ap tick may.is)) ((h up).1 sees)
 watched_kept plan lane s made news t (LandsBell Sender place queue may) no_start saw h sees up = watched_rung lane.queue queue s place may (cases_eq lane.queue queue) ((h up).1 sees)
 watched_kept plan lane s made news t (LandsPad Sender place i value may) no_start saw h sees up = watched_alike (ticks_without lane.queue s place (Pad i value) may refl) ((h up).1 sees)
-watched_kept plan lane s made news t (LandsAside Sender place label may foreign no_pad) no_start saw h sees up = watched_alike (ticks_without lane.queue s place label may (ap tick foreign)) ((h up).1 sees)
-watched_kept plan lane s made news t (Looks bytes may some at) no_start saw h sees up = absurd (false≢true sees)
-watched_kept plan lane s made news t (CopiesLast turn last) no_start saw h sees up = absurd (not_idle s.lane.phase is_copying refl ((h up).1 sees).idle turn)
-watched_kept plan lane s made news t (Clears turn) no_start saw h sees up = absurd (not_idle s.lane.phase is_copied refl ((h up).1 sees).idle turn)
-watched_kept plan lane s made news t (Acks turn) no_start saw h sees up = absurd (not_idle s.lane.phase is_cleared refl ((h up).1 sees).idle turn)
+watched_kept plan lane s made news t (LandsAside Sender place label may) no_start saw h sees up = watched_alike (ticks_without lane.queue s place label may.land (ap tick may.foreign)) ((h up).1 sees)
+watched_kept plan lane s made news t (Looks bytes may) no_start saw h sees up = absurd (false≢true sees)
+watched_kept plan lane s made news t (CopiesLast may) no_start saw h sees up = absurd (not_idle s.lane.phase is_copying refl ((h up).1 sees).idle may.turn)
+watched_kept plan lane s made news t (Clears may) no_start saw h sees up = absurd (not_idle s.lane.phase is_copied refl ((h up).1 sees).idle may.turn)
+watched_kept plan lane s made news t (Acks may) no_start saw h sees up = absurd (not_idle s.lane.phase is_cleared refl ((h up).1 sees).idle may.turn)
 watched_kept plan lane s made news t (TakesBells Receiver) no_start saw h sees up =
     let still = still_saw (has_bit (without_bits s.receiver.pending s.receiver.masked) lane.queue) saw sees in
     watched_by (left_of lane.queue s) _ _ _ _ _ _ (λ rest is. (rest, is))

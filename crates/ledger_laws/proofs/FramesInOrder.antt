@@ -65,10 +65,10 @@ facts_accept closed sent got phase bytes open_yet up is_up_now h = record {
 
 facts_kept : (plan : Plan) (lane : LaneName) (s : Sight) (made : Answered) (news : News) (t : Sight) → Turn plan lane s made news t → FactsOf lane.queue s → FactsOf lane.queue t
 facts_kept plan lane s made news t (Trains may) h = facts_fresh _ _
-facts_kept plan lane s made news t (Breaks up) h = facts_lost _ _ _ _ _ _ _ refl h
-facts_kept plan lane s made news t (Drops closing) h = facts_lost _ _ _ _ _ _ _ refl h
-facts_kept plan lane s made news t (Forgets Sender down) h = facts_lost _ _ _ _ _ _ _ (down-not_up s.state down) h
-facts_kept plan lane s made news t (Forgets Receiver down) h = facts_at _ _ _ _ _ _ (λ copies. absurd (false≢true copies)) h
+facts_kept plan lane s made news t (Breaks may) h = facts_lost _ _ _ _ _ _ _ refl h
+facts_kept plan lane s made news t (Drops may) h = facts_lost _ _ _ _ _ _ _ refl h
+facts_kept plan lane s made news t (Forgets Sender may) h = facts_lost _ _ _ _ _ _ _ (down-not_up s.state may.down) h
+facts_kept plan lane s made news t (Forgets Receiver may) h = facts_at _ _ _ _ _ _ (λ copies. absurd (false≢true copies)) h
 facts_kept plan lane s made news t (Begins bytes may) h = facts_accept _ _ _ _ bytes may.not_closed _ may.up h
 facts_kept plan lane s made news t (Closes may) h = record {
   within = let e = length-append s.lane.sent (GoesDown ∷ []) in let w = h.within in omega arith;
@@ -82,15 +82,15 @@ facts_kept plan lane s made news t (Shuts Sender queue looked) h = record {
   numbers = h.numbers;
   whole = λ open_yet. h.whole (has-without s.sender.closed lane.queue queue open_yet);
 }
-facts_kept plan lane s made news t (Looks bytes may some at) h = facts_at _ _ _ _ _ _ (λ _. record { bytes = bytes; there = at }) h
-facts_kept plan lane s made news t (CopiesLast turn last) h = record {
-  within = let w = carries-within s.lane.sent s.lane.got (h.copying turn) in omega arith;
+facts_kept plan lane s made news t (Looks bytes may) h = facts_at _ _ _ _ _ _ (λ _. record { bytes = bytes; there = may.at }) h
+facts_kept plan lane s made news t (CopiesLast may) h = record {
+  within = let w = carries-within s.lane.sent s.lane.got (h.copying may.turn) in omega arith;
   copying = λ copies. absurd (false≢true copies);
   numbers = h.numbers;
   whole = h.whole;
 }
-facts_kept plan lane s made news t (Clears turn) h = facts_at _ _ _ _ _ _ (λ copies. absurd (false≢true copies)) h
-facts_kept plan lane s made news t (Acks turn) h = facts_at _ _ _ _ _ _ (λ copies. absurd (false≢true copies)) h
+facts_kept plan lane s made news t (Clears may) h = facts_at _ _ _ _ _ _ (λ copies. absurd (false≢true copies)) h
+facts_kept plan lane s made news t (Acks may) h = facts_at _ _ _ _ _ _ (λ copies. absurd (false≢true copies)) h
 facts_kept plan lane s made news t turn h = h
 
 -- What the log has of a session of the lane
@@ -185,8 +185,8 @@ lists_kept plan lane session s made news t taken given tells (Closes may) facts 
       later = lists.later;
       tally_is = lists.tally_is;
     })
-lists_kept plan lane session s made news t taken given tells (CopiesLast turn last) facts (inl now) lists =
-    let at = facts.copying turn in
+lists_kept plan lane session s made news t taken given tells (CopiesLast may) facts (inl now) lists =
+    let at = facts.copying may.turn in
     let bytes : List ℕ = bytes_of (entry_in s.lane s.lane.got) in
     let there : entry_in s.lane s.lane.got ≡ Carries bytes = at.there ∙ ap (λ entry. Carries (bytes_of entry)) (sym at.there) in
     of_lists (ListsOf session t) (added-none (s.session == session) taken _ tells.accepted) (added-now session s.session given _ _ now tells.delivered) (record {
@@ -202,7 +202,7 @@ lists_kept plan lane session s made news t taken given tells (CopiesLast turn la
           tally-now s.tally more_delivered session s.session now ∙ ap more_delivered lists.tally_is
           ∙ ap (λ n. record { accepted = length taken; delivered = n }) (sym (length-append given (record { number = s.lane.got; bytes = bytes } ∷ [])));
     })
-lists_kept plan lane session s made news t taken given tells (CopiesLast turn last) facts (inr ne) lists =
+lists_kept plan lane session s made news t taken given tells (CopiesLast may) facts (inr ne) lists =
     of_lists (ListsOf session t) (added-elsewhere session s.session taken _ ne) (added-elsewhere session s.session given _ ne)
     (record { past = lists.past; current = λ h. absurd (ne h); later = lists.later; tally_is = tally-elsewhere s.tally _ session s.session ne ∙ lists.tally_is })
 lists_kept plan lane session s made news t taken given tells turn facts c lists =

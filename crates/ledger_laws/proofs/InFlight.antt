@@ -139,17 +139,17 @@ taken_empty Receiver place s h down = ((h down).0, ap (λ flight. remove flight 
 
 pub empty_kept : (plan : Plan) (lane : LaneName) (s : Sight) (made : Answered) (news : News) (t : Sight) → Turn plan lane s made news t → EmptyOf s → EmptyOf t
 empty_kept plan lane s made news t (Trains may) h = λ down. absurd (false≢true down)
-empty_kept plan lane s made news t (Breaks up) h = λ down. absurd (false≢true down)
-empty_kept plan lane s made news t (Drops closing) h = λ down. (refl, refl)
+empty_kept plan lane s made news t (Breaks may) h = λ down. absurd (false≢true down)
+empty_kept plan lane s made news t (Drops may) h = λ down. (refl, refl)
 empty_kept plan lane s made news t (Offers e label may) h = posted_empty e label (with_offered e ((end_at s e).offered + 1) s) h
 empty_kept plan lane s made news t (Readies e queue may) h = posted_empty e _ (with_ready e (with_bit (end_at s e).ready queue) s) h
 empty_kept plan lane s made news t (Posts label rest may) h = posted_empty Sender label (record s { lane = record s.lane { todo = rest } }) h
 empty_kept plan lane s made news t (Says e label may) h = posted_empty e label s h
-empty_kept plan lane s made news t (LandsFlag place label n may is) h = taken_empty Sender place s h
-empty_kept plan lane s made news t (LandsField place label n field may is) h = taken_empty Sender place s h
+empty_kept plan lane s made news t (LandsFlag place label n may) h = taken_empty Sender place s h
+empty_kept plan lane s made news t (LandsField place label n field may) h = taken_empty Sender place s h
 empty_kept plan lane s made news t (LandsIndex place n may) h = taken_empty Receiver place s h
 empty_kept plan lane s made news t (LandsBell e place queue may) h = taken_empty e place s h
 empty_kept plan lane s made news t (LandsPad e place i value may) h = taken_empty e place s h
-empty_kept plan lane s made news t (LandsAside e place label may foreign no_pad) h = taken_empty e place s h
-empty_kept plan lane s made news t (Acks turn) h = posted_empty Receiver _ (record s { lane = record s.lane { acked = s.lane.acked + 1; phase = Idle } }) h
+empty_kept plan lane s made news t (LandsAside e place label may) h = taken_empty e place s h
+empty_kept plan lane s made news t (Acks may) h = posted_empty Receiver _ (record s { lane = record s.lane { acked = s.lane.acked + 1; phase = Idle } }) h
 empty_kept plan lane s made news t turn h = h

@@ -173,11 +173,11 @@ joins_kept plan lane s made news t ordinary (Trains may) empty settled h live = 
   new_facts s.sender.pads s.sender.flight (settled.0.new_once_clean may.down (settled.0.clean_once_enabled may.down may.sender)) (empty may.down).0,
   new_facts s.receiver.pads s.receiver.flight (settled.1.new_once_clean may.down (settled.1.clean_once_enabled may.down may.receiver)) (empty may.down).1,
 )
-joins_kept plan lane s made news t ordinary (Breaks up) empty settled h live = h (live_up s.state (up-not_down s.state up))
-joins_kept plan lane s made news t ordinary (Drops closing) empty settled h live =
-    let before = h (live_up s.state (closing-not_down s.state closing)) in (dropped_facts before.0, dropped_facts before.1)
-joins_kept plan lane s made news t ordinary (Forgets Sender down) empty settled h live = absurd (false≢true (sym (live down).0))
-joins_kept plan lane s made news t ordinary (Forgets Receiver down) empty settled h live = absurd (false≢true (sym (live down).1))
+joins_kept plan lane s made news t ordinary (Breaks may) empty settled h live = h (live_up s.state (up-not_down s.state may.up))
+joins_kept plan lane s made news t ordinary (Drops may) empty settled h live =
+    let before = h (live_up s.state (closing-not_down s.state may.closing)) in (dropped_facts before.0, dropped_facts before.1)
+joins_kept plan lane s made news t ordinary (Forgets Sender may) empty settled h live = absurd (false≢true (sym (live may.down).0))
+joins_kept plan lane s made news t ordinary (Forgets Receiver may) empty settled h live = absurd (false≢true (sym (live may.down).1))
 joins_kept plan lane s made news t ordinary (Offers e label may) empty settled h live = links_posted e (with_offered e _ s) label (no_link label may.no_link) (h live)
 joins_kept plan lane s made news t ordinary (Checks Sender may) empty settled h live = let before = h live in (own_up before.0, peer_up before.1)
 joins_kept plan lane s made news t ordinary (Checks Receiver may) empty settled h live = let before = h live in (peer_up before.0, own_up before.1)
@@ -187,14 +187,14 @@ joins_kept plan lane s made news t ordinary (Joins Sender queue may) empty settl
 joins_kept plan lane s made news t ordinary (Joins Receiver queue may) empty settled h live = let before = h live in (before.0, own_joined _ queue may.ready may.asked before.1)
 joins_kept plan lane s made news t ordinary (Posts label rest may) empty settled h live = links_posted Sender s label (lane_no_link lane.queue label may.own) (h live)
 joins_kept plan lane s made news t ordinary (Says e label may) empty settled h live = links_posted e s label (plain_no_link label (may.no_handshake ordinary)) (h live)
-joins_kept plan lane s made news t ordinary (LandsFlag place label n may is) empty settled h live = links_taken Sender s place label may (write_no_link lane.queue label _ is) (h live)
-joins_kept plan lane s made news t ordinary (LandsField place label n field may is) empty settled h live = links_taken Sender s place label may (write_no_link lane.queue label _ is) (h live)
+joins_kept plan lane s made news t ordinary (LandsFlag place label n may) empty settled h live = links_taken Sender s place label may.land (write_no_link lane.queue label _ may.is) (h live)
+joins_kept plan lane s made news t ordinary (LandsField place label n field may) empty settled h live = links_taken Sender s place label may.land (write_no_link lane.queue label _ may.is) (h live)
 joins_kept plan lane s made news t ordinary (LandsIndex place n may) empty settled h live = links_taken Receiver s place (Index lane.queue n) may refl (h live)
 joins_kept plan lane s made news t ordinary (LandsBell e place queue may) empty settled h live = links_taken e s place (Bell queue) may refl (h live)
 joins_kept plan lane s made news t ordinary (LandsPad Sender place i value may) empty settled h live =
     let before = h live in let now = pad_landed s.receiver.pads i value s.sender.flight place may.there before.0 before.1 in (now.1, now.0)
 joins_kept plan lane s made news t ordinary (LandsPad Receiver place i value may) empty settled h live =
     let before = h live in pad_landed s.sender.pads i value s.receiver.flight place may.there before.1 before.0
-joins_kept plan lane s made news t ordinary (LandsAside e place label may foreign no_pad) empty settled h live = links_taken e s place label may (plain_no_link label no_pad) (h live)
-joins_kept plan lane s made news t ordinary (Acks turn) empty settled h live = links_posted Receiver s (Index lane.queue s.lane.acked) refl (h live)
+joins_kept plan lane s made news t ordinary (LandsAside e place label may) empty settled h live = links_taken e s place label may.land (plain_no_link label may.no_handshake) (h live)
+joins_kept plan lane s made news t ordinary (Acks may) empty settled h live = links_posted Receiver s (Index lane.queue s.lane.acked) refl (h live)
 joins_kept plan lane s made news t ordinary turn empty settled h live = h live

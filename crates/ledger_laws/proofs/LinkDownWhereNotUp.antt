@@ -75,8 +75,8 @@ next_up b c now k made starts ends = rw (starts, ends) refl
 up_kept : (plan : Plan) (lane : LaneName) (s : Sight) (made : Answered) (news : News) (t : Sight) → Tells plan lane s.lane made news → Turn plan lane s made news t
     → up_step lane.pair made (is_up s.state) ≡ is_up t.state
 up_kept plan lane s made news t tells (Trains may) = next_up true false (is_up s.state) lane.pair made tells.starts tells.ends
-up_kept plan lane s made news t tells (Breaks up) = next_up false true (is_up s.state) lane.pair made tells.starts tells.ends
-up_kept plan lane s made news t tells (Drops closing) = next_up false false (is_up s.state) lane.pair made tells.starts tells.ends ∙ closing-not_up s.state closing
+up_kept plan lane s made news t tells (Breaks may) = next_up false true (is_up s.state) lane.pair made tells.starts tells.ends
+up_kept plan lane s made news t tells (Drops may) = next_up false false (is_up s.state) lane.pair made tells.starts tells.ends ∙ closing-not_up s.state may.closing
 up_kept plan lane s made news t tells turn = next_up false false (is_up s.state) lane.pair made tells.starts tells.ends
 
 link_runs : (plan : Plan) (lane : LaneName) → HoldsAlways plan lane (λ log s. up_at plan lane.pair log ≡ is_up s.state)

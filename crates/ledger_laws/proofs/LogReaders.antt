@@ -5,7 +5,7 @@ use Rattle.std.proofs.lemmas.Grind.{flat_map-append}
 use Rattle.std.specs.List.{flat_map}
 use Rattle.std.proofs.Common.{◌≡◌, ℕ, Bool, true, false, List, [], ◌∷◌, ◌++◌, refl, ◌+◌, ◌==◌, ap, ◌∙◌, Option, None}
 use Rattle.std.specs.Prelude.{if◌then◌else◌}
-use Rattle.ledger_model.specs.Log.{Answered, trains, breaks, up_after, made_in, made_since, saw_empty, last_look_empty, pad_after, landed_pad}
+use Rattle.ledger_model.specs.Log.{Answered, trains, breaks, up_after, made_in, made_since, in_this_session, saw_empty, last_look_empty, pad_after, landed_pad}
 
 -- whether the link is up after one entry more
 abbrev pub up_step : ℕ → Answered → Bool → Bool
@@ -60,14 +60,19 @@ pub saw_empty-last : (k : ℕ) (side : Side) (queue : ℕ) (now : Bool) (log : L
 saw_empty-last k side queue now [] made = refl
 saw_empty-last k side queue now (first ∷ log) made = saw_empty-last k side queue (saw_empty k side queue now (first ∷ [])) log made
 
+-- what is read of a session, which begins anew where a session begins
+anew-last : {X : Type 0} (read : List Answered → X) (next : X → X) (k : ℕ) (log : List Answered) (made : Answered)
+    → ((log : List Answered) → read (log ++ made ∷ []) ≡ next (read log)) → read (in_this_session k (log ++ made ∷ [])) ≡ (if trains k made then read [] else next (read (in_this_session k log)))
+anew-last read next k log made last = ap read (made_since-last k [] log made) ∙ go (trains k made)
+  where
+    go : (b : Bool) → read (if b then [] else made_since k [] log ++ made ∷ []) ≡ (if b then read [] else next (read (in_this_session k log)))
+    go true = refl
+    go false = last (made_since k [] log)
+
 pub last_look-last : (k : ℕ) (side : Side) (queue : ℕ) (log : List Answered) (made : Answered)
     → last_look_empty (log ++ made ∷ []) k side queue ≡ (if trains k made then false else saw_empty k side queue (last_look_empty log k side queue) (made ∷ []))
-last_look-last k side queue log made = ap (saw_empty k side queue false) (made_since-last k [] log made) ∙ go (trains k made)
-  where
-    go : (b : Bool) → saw_empty k side queue false (if b then [] else made_since k [] log ++ made ∷ [])
-        ≡ (if b then false else saw_empty k side queue (last_look_empty log k side queue) (made ∷ []))
-    go true = refl
-    go false = saw_empty-last k side queue false (made_since k [] log) made
+last_look-last k side queue log made =
+    anew-last (saw_empty k side queue false) (λ saw. saw_empty k side queue saw (made ∷ [])) k log made (λ before. saw_empty-last k side queue false before made)
 
 -- what landed in a scratchpad, with one entry more
 pub pad_after-last : (k : ℕ) (side : Side) (i : ℕ) (now : Option ℕ) (log : List Answered) (made : Answered)
@@ -77,8 +82,5 @@ pad_after-last k side i now (first ∷ log) made = pad_after-last k side i (pad_
 
 pub landed_pad-last : (k : ℕ) (side : Side) (i : ℕ) (log : List Answered) (made : Answered)
     → landed_pad (log ++ made ∷ []) k side i ≡ (if trains k made then None else pad_after k side i (landed_pad log k side i) (made ∷ []))
-landed_pad-last k side i log made = ap (pad_after k side i None) (made_since-last k [] log made) ∙ go (trains k made)
-  where
-    go : (b : Bool) → pad_after k side i None (if b then [] else made_since k [] log ++ made ∷ []) ≡ (if b then None else pad_after k side i (landed_pad log k side i) (made ∷ []))
-    go true = refl
-    go false = pad_after-last k side i None (made_since k [] log) made
+landed_pad-last k side i log made =
+    anew-last (pad_after k side i None) (λ now. pad_after k side i now (made ∷ [])) k log made (λ before. pad_after-last k side i None before made)

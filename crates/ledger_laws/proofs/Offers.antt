@@ -56,35 +56,37 @@ pub list_all-map : {X Y : Type 0} (test : Y → Bool) (f : X → Y) (xs : List X
 list_all-map test f [] each = refl
 list_all-map test f (x ∷ xs) each = and_from (test (f x)) (list_all test (map f xs)) (each x) (list_all-map test f xs each)
 
-windows-pads : (own : SidePlan) (n m : ℕ) → list_all is_pad (flat_map (λ m. Pad (high_pad m) (own.size / word) ∷ Pad (low_pad m) (own.size % word) ∷ []) (count_from n m)) ≡ true
-windows-pads own n zero = refl
-windows-pads own n (suc m) = windows-pads own (suc n) m
+abbrev windows_from : SidePlan → ℕ → ℕ → List Label
+windows_from own n m = flat_map (λ m. Pad (high_pad m) (own.size / word) ∷ Pad (low_pad m) (own.size % word) ∷ []) (count_from n m)
 
-pub offers-pads : (own : SidePlan) → list_all is_pad (offers own) ≡ true
-offers-pads own =
-    all-append is_pad (flat_map (λ m. Pad (high_pad m) (own.size / word) ∷ Pad (low_pad m) (own.size % word) ∷ []) (count_from 0 own.windows))
-    (Pad windows_pad own.windows ∷ Pad queues_pad own.queues ∷ Pad version_pad own.version ∷ [])
-    (windows-pads own 0 own.windows) refl
+abbrev last_three : SidePlan → List Label
+last_three own = Pad windows_pad own.windows ∷ Pad queues_pad own.queues ∷ Pad version_pad own.version ∷ []
+
+-- what holds of the two scratchpads of each window holds of all that windows write
+windows-all : (test : Label → Bool) (own : SidePlan) (n m : ℕ)
+    → ((k : ℕ) → k < n + m → (test (Pad (high_pad k) (own.size / word)) ≡ true) × (test (Pad (low_pad k) (own.size % word)) ≡ true)) → list_all test (windows_from own n m) ≡ true
+windows-all test own n zero each = refl
+windows-all test own n (suc m) each =
+    let here = each n (omega arith) in
+    and_from (test (Pad (high_pad n) (own.size / word))) _ here.0
+    (and_from (test (Pad (low_pad n) (own.size % word))) _ here.1 (windows-all test own (suc n) m (λ k below. each k (omega arith))))
+
+-- so with the three scratchpads behind them, of each write of an offer
+offers-all : (test : Label → Bool) (own : SidePlan)
+    → ((k : ℕ) → k < own.windows → (test (Pad (high_pad k) (own.size / word)) ≡ true) × (test (Pad (low_pad k) (own.size % word)) ≡ true)) → list_all test (last_three own) ≡ true
+    → test (Pad 0 0) ≡ true → (n : ℕ) → test (slice_index_or (offers own) n (Pad 0 0)) ≡ true
+offers-all test own each three none n =
+    all_at test (offers own) n (Pad 0 0)
+    (all-append test (windows_from own 0 own.windows) (last_three own) (windows-all test own 0 own.windows (λ k below. each k (omega arith))) three) none
 
 pub offer-is_pad : (own : SidePlan) (n : ℕ) → is_pad (slice_index_or (offers own) n (Pad 0 0)) ≡ true
-offer-is_pad own n = all_at is_pad (offers own) n (Pad 0 0) (offers-pads own) refl
+offer-is_pad own n = offers-all is_pad own (λ k below. (refl, refl)) refl refl n
 
 -- and not that of the queues that are ready
-abbrev no_link_pad : Label → Bool
-no_link_pad label = not (is_link_pad label)
-
-windows-no_link : (own : SidePlan) (n m : ℕ) → list_all no_link_pad (flat_map (λ m. Pad (high_pad m) (own.size / word) ∷ Pad (low_pad m) (own.size % word) ∷ []) (count_from n m)) ≡ true
-windows-no_link own n zero = refl
-windows-no_link own n (suc m) =
-    and_from (not (high_pad n == 1)) _ (ap not (ne_eqb (high_pad n) 1 (λ e. omega arith)))
-    (and_from (not (low_pad n == 1)) _ (ap not (ne_eqb (low_pad n) 1 (λ e. omega arith))) (windows-no_link own (suc n) m))
-
 pub offer-no_link : (own : SidePlan) (n : ℕ) → is_link_pad (slice_index_or (offers own) n (Pad 0 0)) ≡ false
 offer-no_link own n =
-    not-true _ (all_at no_link_pad (offers own) n (Pad 0 0)
-    (all-append no_link_pad (flat_map (λ m. Pad (high_pad m) (own.size / word) ∷ Pad (low_pad m) (own.size % word) ∷ []) (count_from 0 own.windows))
-    (Pad windows_pad own.windows ∷ Pad queues_pad own.queues ∷ Pad version_pad own.version ∷ [])
-    (windows-no_link own 0 own.windows) refl) refl)
+    not-true _ (offers-all (λ label. not (is_link_pad label)) own
+    (λ k below. (ap not (ne_eqb (high_pad k) 1 (λ e. omega arith)), ap not (ne_eqb (low_pad k) 1 (λ e. omega arith)))) refl refl n)
 
 -- a scratchpad is no write of a lane
 pub pad-index : (q : ℕ) (label : Label) → is_pad label ≡ true → index_of q label ≡ None
@@ -107,26 +109,11 @@ window_offers n few = (
   and_from (nat_lt (low_pad n) 12) (not (low_pad n == 1)) (lt-ltb (low_pad n) 12 (omega arith)) (ap not (ne_eqb (low_pad n) 1 (λ e. omega arith))),
 )
 
-abbrev windows_from : SidePlan → ℕ → ℕ → List Label
-windows_from own n m = flat_map (λ m. Pad (high_pad m) (own.size / word) ∷ Pad (low_pad m) (own.size % word) ∷ []) (count_from n m)
-
-abbrev last_three : SidePlan → List Label
-last_three own = Pad windows_pad own.windows ∷ Pad queues_pad own.queues ∷ Pad version_pad own.version ∷ []
-
-windows-offer : (own : SidePlan) (n m : ℕ) → n + m ≤ 4 → list_all label_offers (windows_from own n m) ≡ true
-windows-offer own n zero few = refl
-windows-offer own n (suc m) few =
-    let here = window_offers n (omega arith) in
-    and_from (is_offer (high_pad n)) _ here.0 (and_from (is_offer (low_pad n)) _ here.1 (windows-offer own (suc n) m (omega arith)))
-
 all-front : (test : Label → Bool) (xs ys : List Label) → list_all test (xs ++ ys) ≡ true → list_all test xs ≡ true
 all-front test [] ys a = refl
 all-front test (x ∷ xs) ys a =
     let parts = and_parts (test x) (list_all test (xs ++ ys)) a in
     and_from (test x) (list_all test xs) parts.0 (all-front test xs ys parts.1)
-
-offers-offer : (own : SidePlan) → own.windows ≤ 4 → list_all label_offers (offers own) ≡ true
-offers-offer own few = all-append label_offers (windows_from own 0 own.windows) (last_three own) (windows-offer own 0 own.windows (omega arith)) refl
 
 label-offer : (label : Label) → label_offers label ≡ true → offer_of label ≡ Some label
 label-offer (Pad i value) e = cond-true (is_offer i) (Some (Pad i value)) None e
@@ -134,7 +121,8 @@ label-offer label e = absurd (false≢true e)
 
 -- each of its writes is one of an offer
 pub offer-good : (own : SidePlan) → own.windows ≤ 4 → (n : ℕ) → offer_of (slice_index_or (offers own) n (Pad 0 0)) ≡ Some (slice_index_or (offers own) n (Pad 0 0))
-offer-good own few n = label-offer (slice_index_or (offers own) n (Pad 0 0)) (all_at label_offers (offers own) n (Pad 0 0) (offers-offer own few) refl)
+offer-good own few n =
+    label-offer (slice_index_or (offers own) n (Pad 0 0)) (offers-all label_offers own (λ k below. window_offers k (omega arith)) refl refl n)
 
 -- What it leaves in the scratchpads
 
@@ -210,12 +198,6 @@ no_version label = true
 abbrev before_version : SidePlan → List Label
 before_version own = windows_from own 0 own.windows ++ Pad windows_pad own.windows ∷ Pad queues_pad own.queues ∷ []
 
-windows-no_version : (own : SidePlan) (n m : ℕ) → list_all no_version (windows_from own n m) ≡ true
-windows-no_version own n zero = refl
-windows-no_version own n (suc m) =
-    and_from (not (high_pad n == 0)) _ (ap not (ne_eqb (high_pad n) 0 (λ e. omega arith)))
-    (and_from (not (low_pad n == 0)) _ (ap not (ne_eqb (low_pad n) 0 (λ e. omega arith))) (windows-no_version own (suc n) m))
-
 none-landed : (now : Option ℕ) (labels : List Label) → list_all no_version labels ≡ true → last_value 0 now labels ≡ now
 none-landed now [] all = refl
 none-landed now (Pad i value ∷ rest) all =
@@ -255,4 +237,4 @@ whole_landed own landed flight offered order some = go (begins_cases landed (fli
     go (inr part) =
         absurd (some (none-landed None landed
         (all-front no_version landed part.0
-        (ap (list_all no_version) (sym part.1) ∙ all-append no_version (windows_from own 0 own.windows) (Pad windows_pad own.windows ∷ Pad queues_pad own.queues ∷ []) (windows-no_version own 0 own.windows) refl))))
+        (ap (list_all no_version) (sym part.1) ∙ all-append no_version (windows_from own 0 own.windows) (Pad windows_pad own.windows ∷ Pad queues_pad own.queues ∷ []) (windows-all no_version own 0 own.windows (λ k below. (ap not (ne_eqb (high_pad k) 0 (λ e. omega arith)), ap not (ne_eqb (low_pad k) 0 (λ e. omega arith))))) refl))))

@@ -158,9 +158,9 @@ pub session_kept : (plan : Plan) (lane : LaneName) (peer : SidePlan) (log : List
 session_kept plan lane peer log s made news t is few ordinary tells (Trains may) empty settled h up no_check =
     session_begins lane peer log made s.sender.pads s.receiver.flight tells.starts
     (settled.0.new_once_clean may.down (settled.0.clean_once_enabled may.down may.sender)) (settled.1.new_once_clean may.down (settled.1.clean_once_enabled may.down may.receiver)) (empty may.down).1
-session_kept plan lane peer log s made news t is few ordinary tells (Breaks was_up) empty settled h up no_check = absurd (false≢true up)
-session_kept plan lane peer log s made news t is few ordinary tells (Drops closing) empty settled h up no_check = absurd (false≢true up)
-session_kept plan lane peer log s made news t is few ordinary tells (Forgets e down) empty settled h up no_check = absurd (both_ways (is_up s.state) (down-not_up s.state down) up)
+session_kept plan lane peer log s made news t is few ordinary tells (Breaks may) empty settled h up no_check = absurd (false≢true up)
+session_kept plan lane peer log s made news t is few ordinary tells (Drops may) empty settled h up no_check = absurd (false≢true up)
+session_kept plan lane peer log s made news t is few ordinary tells (Forgets e may) empty settled h up no_check = absurd (both_ways (is_up s.state) (down-not_up s.state may.down) up)
 session_kept plan lane peer log s made news t is few ordinary tells (Checks Sender may) empty settled h up no_check = absurd (true≢false no_check)
 session_kept plan lane peer log s made news t is few ordinary tells (Offers Receiver label may) empty settled h up no_check =
     session_offers lane peer log made s label few (tells.starts, tells.pads Sender) (subst (λ p. MayOffer p s Receiver label) (sym is) may) (h up no_check)
@@ -175,9 +175,9 @@ session_kept plan lane peer log s made news t is few ordinary tells (LandsBell R
     session_alike lane peer log made _ _ s.receiver.flight _ (tells.starts, tells.pads Sender) (filter_map-remove offer_of s.receiver.flight place _ may.there refl) (h up no_check)
 session_kept plan lane peer log s made news t is few ordinary tells (LandsPad Receiver place i value may) empty settled h up no_check =
     session_lands lane peer log made s place i value tells.starts (tells.pads Sender) may (h up no_check)
-session_kept plan lane peer log s made news t is few ordinary tells (LandsAside Receiver place label may foreign no_pad) empty settled h up no_check =
-    session_alike lane peer log made _ _ s.receiver.flight _ (tells.starts, tells.pads Sender) (filter_map-remove offer_of s.receiver.flight place label may.there (no_offer label no_pad)) (h up no_check)
-session_kept plan lane peer log s made news t is few ordinary tells (Acks turn) empty settled h up no_check =
+session_kept plan lane peer log s made news t is few ordinary tells (LandsAside Receiver place label may) empty settled h up no_check =
+    session_alike lane peer log made _ _ s.receiver.flight _ (tells.starts, tells.pads Sender) (filter_map-remove offer_of s.receiver.flight place label may.land.there (no_offer label may.no_handshake)) (h up no_check)
+session_kept plan lane peer log s made news t is few ordinary tells (Acks may) empty settled h up no_check =
     session_alike lane peer log made _ _ s.receiver.flight _ (tells.starts, tells.pads Sender) (posted_unread offer_of s.state s.receiver.flight _ refl) (h up no_check)
 session_kept plan lane peer log s made news t is few ordinary tells turn empty settled h up no_check =
     session_alike lane peer log made _ _ s.receiver.flight s.receiver.flight (tells.starts, tells.pads Sender) refl (h up no_check)

@@ -28,7 +28,7 @@ use Rattle.ledger_model.specs.LinkSteps.{fresh_lane}
 use Rattle.ledger_model.specs.Log.{Answered}
 use Rattle.ledger_model.specs.Next.{pair_plan}
 use Rattle.ledger_model.specs.Receiving.{is_idle, is_copying, is_copied, is_cleared}
-use Rattle.ledger_model.specs.Rings.{RingPart, without_header}
+use Rattle.ledger_model.specs.Rings.{RingPart, lane_shown, without_header}
 use Rattle.ledger_model.specs.Sending.{begun_lane}
 use Rattle.ledger_laws.proofs.AtStart.{up-not_down, closing-not_up}
 use Rattle.ledger_laws.proofs.BitSets.{no_bit, has-with_same, has-without}
@@ -40,27 +40,6 @@ use Rattle.ledger_laws.proofs.Offers.{pad-write, pad-index}
 use Rattle.ledger_laws.proofs.walk.Sight.{Sight, Sender, Receiver, flight_with}
 use Rattle.ledger_laws.proofs.walk.News.{News, ring_landed, ring_freed, ring_checked, ring_cleared}
 use Rattle.ledger_laws.proofs.walk.Turn.{MayBegin, MayLand, Turn, Trains, Breaks, Drops, Forgets, Offers, Checks, Readies, Begins, Closes, Posts, Shuts, Says, LandsFlag, LandsField, LandsIndex, LandsBell, LandsPad, LandsAside, Looks, CopiesPart, CopiesLast, Clears, Acks}
-
--- the lane that a ledger's lane, its writes and index writes in flight, and a ring show
-abbrev pub lane_shown : Sizes → ℕ → Bool → List Write → List ℕ → LanePart → RingPart → Lane
-lane_shown sizes q up writes indexes lane ring = record {
-  entries = sizes.entries;
-  largest = sizes.largest;
-  up = up;
-  sent = lane.sent;
-  todo = writes_among q lane.todo;
-  flight = writes;
-  returning = indexes;
-  ring = ring.ring;
-  index_word = ring.index_word;
-  flagged = lane.flagged;
-  got = lane.got;
-  cleared = lane.cleared;
-  acked = lane.acked;
-  freed = lane.freed;
-  phase = lane.phase;
-  part = lane.part;
-}
 
 abbrev pub shown : Sizes → ℕ → Sight → RingPart → Lane
 shown sizes q s ring = lane_shown sizes q (is_up s.state) (writes_among q s.sender.flight) (indexes_among q s.receiver.flight) s.lane ring
@@ -451,11 +430,11 @@ stage_kept plan lane s made news t ring two (Trains may) empty settled sized joi
       no_flags = λ now. absurd (both_ways s.receiver.up peer.not_up now);
       index_word = λ now. absurd (both_ways s.sender.up own.not_up now);
     })
-stage_kept plan lane s made news t ring two (Breaks up) empty settled sized joins h live = breaks (SizesOf plan lane) lane.queue s ring (h (live_up s.state (up-not_down s.state up)))
-stage_kept plan lane s made news t ring two (Drops closing) empty settled sized joins h live =
-    drops (SizesOf plan lane) lane.queue s ring (closing-not_up s.state closing) (h (live_up s.state (closing-not_down s.state closing)))
-stage_kept plan lane s made news t ring two (Forgets Sender down) empty settled sized joins h live = absurd (false≢true (sym (live down).0))
-stage_kept plan lane s made news t ring two (Forgets Receiver down) empty settled sized joins h live = absurd (false≢true (sym (live down).1))
+stage_kept plan lane s made news t ring two (Breaks may) empty settled sized joins h live = breaks (SizesOf plan lane) lane.queue s ring (h (live_up s.state (up-not_down s.state may.up)))
+stage_kept plan lane s made news t ring two (Drops may) empty settled sized joins h live =
+    drops (SizesOf plan lane) lane.queue s ring (closing-not_up s.state may.closing) (h (live_up s.state (closing-not_down s.state may.closing)))
+stage_kept plan lane s made news t ring two (Forgets Sender may) empty settled sized joins h live = absurd (false≢true (sym (live may.down).0))
+stage_kept plan lane s made news t ring two (Forgets Receiver may) empty settled sized joins h live = absurd (false≢true (sym (live may.down).1))
 stage_kept plan lane s made news t ring two (Offers Sender label may) empty settled sized joins h live =
     out_posted (SizesOf plan lane) lane.queue s ring label (pad-write lane.queue label may.a_pad) (h live)
 stage_kept plan lane s made news t ring two (Offers Receiver label may) empty settled sized joins h live =
@@ -478,37 +457,37 @@ stage_kept plan lane s made news t ring two (Says Sender label may) empty settle
     out_posted (SizesOf plan lane) lane.queue s ring label may.foreign (h live)
 stage_kept plan lane s made news t ring two (Says Receiver label may) empty settled sized joins h live =
     back_posted (SizesOf plan lane) lane.queue s ring label may.foreign (h live)
-stage_kept plan lane s made news t ring two (LandsFlag place label n may is) empty settled sized joins h live = inl (flag_lands (SizesOf plan lane) lane.queue s ring place label n may is (h live))
-stage_kept plan lane s made news t ring two (LandsField place label n field may is) empty settled sized joins h live =
-    inl (field_lands (SizesOf plan lane) lane.queue s ring place label n field may is (h live))
+stage_kept plan lane s made news t ring two (LandsFlag place label n may) empty settled sized joins h live = inl (flag_lands (SizesOf plan lane) lane.queue s ring place label n may.land may.is (h live))
+stage_kept plan lane s made news t ring two (LandsField place label n field may) empty settled sized joins h live =
+    inl (field_lands (SizesOf plan lane) lane.queue s ring place label n field may.land may.is (h live))
 stage_kept plan lane s made news t ring two (LandsIndex place n may) empty settled sized joins h live = index_lands (SizesOf plan lane) lane.queue s ring place n may (h live)
 stage_kept plan lane s made news t ring two (LandsBell Sender place queue may) empty settled sized joins h live =
     bell_lands (SizesOf plan lane) lane.queue s ring place queue may (cases_eq lane.queue queue) (h live)
 stage_kept plan lane s made news t ring two (LandsBell Receiver place queue may) empty settled sized joins h live = back_without (SizesOf plan lane) lane.queue s ring place (Bell queue) may refl (h live)
 stage_kept plan lane s made news t ring two (LandsPad Sender place i value may) empty settled sized joins h live = out_without (SizesOf plan lane) lane.queue s ring place (Pad i value) may refl (h live)
 stage_kept plan lane s made news t ring two (LandsPad Receiver place i value may) empty settled sized joins h live = back_without (SizesOf plan lane) lane.queue s ring place (Pad i value) may refl (h live)
-stage_kept plan lane s made news t ring two (LandsAside Sender place label may foreign no_pad) empty settled sized joins h live =
-    out_without (SizesOf plan lane) lane.queue s ring place label may foreign (h live)
-stage_kept plan lane s made news t ring two (LandsAside Receiver place label may foreign no_pad) empty settled sized joins h live =
-    back_without (SizesOf plan lane) lane.queue s ring place label may foreign (h live)
-stage_kept plan lane s made news t ring two (Looks bytes may some at) empty settled sized joins h live = looks (SizesOf plan lane) lane.queue s ring may.idle some (h live)
-stage_kept plan lane s made news t ring two (CopiesPart turn more) empty settled sized joins h live =
-    copies (SizesOf plan lane) lane.queue s ring (record s.lane { part = s.lane.part + 1 }) true more turn refl refl (h live)
-stage_kept plan lane s made news t ring two (CopiesLast turn last) empty settled sized joins h live =
-    copies (SizesOf plan lane) lane.queue s ring (record s.lane { got = s.lane.got + 1; phase = Copied }) false last turn refl refl (h live)
-stage_kept plan lane s made news t ring two (Clears turn) empty settled sized joins h live = clears (SizesOf plan lane) lane.queue s ring turn (h live)
-stage_kept plan lane s made news t ring two (Acks turn) empty settled sized joins h live = acks (SizesOf plan lane) lane.queue s ring turn (h live)
+stage_kept plan lane s made news t ring two (LandsAside Sender place label may) empty settled sized joins h live =
+    out_without (SizesOf plan lane) lane.queue s ring place label may.land may.foreign (h live)
+stage_kept plan lane s made news t ring two (LandsAside Receiver place label may) empty settled sized joins h live =
+    back_without (SizesOf plan lane) lane.queue s ring place label may.land may.foreign (h live)
+stage_kept plan lane s made news t ring two (Looks bytes may) empty settled sized joins h live = looks (SizesOf plan lane) lane.queue s ring may.idle may.some (h live)
+stage_kept plan lane s made news t ring two (CopiesPart may) empty settled sized joins h live =
+    copies (SizesOf plan lane) lane.queue s ring (record s.lane { part = s.lane.part + 1 }) true may.more may.turn refl refl (h live)
+stage_kept plan lane s made news t ring two (CopiesLast may) empty settled sized joins h live =
+    copies (SizesOf plan lane) lane.queue s ring (record s.lane { got = s.lane.got + 1; phase = Copied }) false may.more may.turn refl refl (h live)
+stage_kept plan lane s made news t ring two (Clears may) empty settled sized joins h live = clears (SizesOf plan lane) lane.queue s ring may.turn (h live)
+stage_kept plan lane s made news t ring two (Acks may) empty settled sized joins h live = acks (SizesOf plan lane) lane.queue s ring may.turn (h live)
 stage_kept plan lane s made news t ring two turn empty settled sized joins h live = h live
 
 pub sized_kept : (plan : Plan) (lane : LaneName) (s : Sight) (made : Answered) (news : News) (t : Sight) (ring : RingPart) → 2 ≤ (SizesOf plan lane).entries → Turn plan lane s made news t
     → EmptyOf s → (LiveOf s → StageOf (SizesOf plan lane) lane.queue s ring) → IsSized (SizesOf plan lane) ring.ring → IsSized (SizesOf plan lane) (news.ring (SizesOf plan lane) ring).ring
 sized_kept plan lane s made news t ring two (Checks Sender may) empty h sized = sized
 sized_kept plan lane s made news t ring two (Checks Receiver may) empty h sized = zeroed_sized (SizesOf plan lane) ring.ring sized
-sized_kept plan lane s made news t ring two (LandsFlag place label n may is) empty h sized =
+sized_kept plan lane s made news t ring two (LandsFlag place label n may) empty h sized =
     sized_by_law (SizesOf plan lane) _ _ refl refl refl
-    (flag_lands (SizesOf plan lane) lane.queue s ring place label n may is (h (live_up s.state (not_down_with s Sender place label empty may)))).law
-sized_kept plan lane s made news t ring two (LandsField place label n field may is) empty h sized =
+    (flag_lands (SizesOf plan lane) lane.queue s ring place label n may.land may.is (h (live_up s.state (not_down_with s Sender place label empty may.land)))).law
+sized_kept plan lane s made news t ring two (LandsField place label n field may) empty h sized =
     sized_by_law (SizesOf plan lane) _ _ refl refl refl
-    (field_lands (SizesOf plan lane) lane.queue s ring place label n field may is (h (live_up s.state (not_down_with s Sender place label empty may)))).law
-sized_kept plan lane s made news t ring two (Clears turn) empty h sized = cleared_sized (SizesOf plan lane) ring s.lane.cleared two sized
+    (field_lands (SizesOf plan lane) lane.queue s ring place label n field may.land may.is (h (live_up s.state (not_down_with s Sender place label empty may.land)))).law
+sized_kept plan lane s made news t ring two (Clears may) empty h sized = cleared_sized (SizesOf plan lane) ring s.lane.cleared two sized
 sized_kept plan lane s made news t ring two turn empty h sized = sized

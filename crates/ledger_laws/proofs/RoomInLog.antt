@@ -14,6 +14,7 @@ use Rattle.ledger_model.specs.Link.{is_up}
 use Rattle.ledger_model.specs.Log.{Answered, trains, takes_room, gives_room, in_this_session, made_since}
 use Rattle.ledger_model.specs.Receiving.{is_copied, is_cleared}
 use Rattle.ledger_model.specs.declared.LinkState.{LinkState}
+use Rattle.lane_laws.proofs.Facade.{count_from-push}
 use Rattle.ledger_laws.proofs.InFlight.{count_by-last, push_some, filter_map-remove, lands_first, posted_unread, posted_up, posted_lost, EmptyOf, empty_kept}
 use Rattle.ledger_laws.proofs.Labels.{index_strict}
 use Rattle.ledger_laws.proofs.Offers.{pad-index}
@@ -35,15 +36,15 @@ ChainOf s = Chain s.lane.acked s.lane.cleared s.lane.got s.lane.phase
 
 chain_kept : (plan : Plan) (lane : LaneName) (s : Sight) (made : Answered) (news : News) (t : Sight) → Turn plan lane s made news t → ChainOf s → ChainOf t
 chain_kept plan lane s made news t (Trains may) h = record { acked_cleared = omega arith; cleared_got = omega arith; copied = λ x. absurd (false≢true x); given = λ x. absurd (false≢true x) }
-chain_kept plan lane s made news t (Forgets Receiver down) h =
+chain_kept plan lane s made news t (Forgets Receiver may) h =
     record { acked_cleared = h.acked_cleared; cleared_got = h.cleared_got; copied = λ x. absurd (false≢true x); given = λ x. absurd (false≢true x) }
-chain_kept plan lane s made news t (Looks bytes may some at) h =
+chain_kept plan lane s made news t (Looks bytes may) h =
     record { acked_cleared = h.acked_cleared; cleared_got = h.cleared_got; copied = λ x. absurd (false≢true x); given = λ x. absurd (false≢true x) }
-chain_kept plan lane s made news t (CopiesLast turn last) h = let c = h.cleared_got in
+chain_kept plan lane s made news t (CopiesLast may) h = let c = h.cleared_got in
     record { acked_cleared = h.acked_cleared; cleared_got = omega arith; copied = λ _. omega arith; given = λ x. absurd (false≢true x) }
-chain_kept plan lane s made news t (Clears turn) h = let a = h.acked_cleared in let c = h.copied turn in
+chain_kept plan lane s made news t (Clears may) h = let a = h.acked_cleared in let c = h.copied may.turn in
     record { acked_cleared = omega arith; cleared_got = omega arith; copied = λ x. absurd (false≢true x); given = λ _. omega arith }
-chain_kept plan lane s made news t (Acks turn) h = let a = h.given turn in
+chain_kept plan lane s made news t (Acks may) h = let a = h.given may.turn in
     record { acked_cleared = omega arith; cleared_got = h.cleared_got; copied = λ x. absurd (false≢true x); given = λ x. absurd (false≢true x) }
 chain_kept plan lane s made news t turn h = h
 
@@ -57,11 +58,6 @@ pub record Waits (q : ℕ) (up : Bool) (freed acked : ℕ) (back : List Label) :
 
 abbrev pub WaitsOf : ℕ → Sight → Type 0
 WaitsOf q s = Waits q (is_up s.state) s.lane.freed s.lane.acked s.receiver.flight
-
--- counting on
-count-last : (n m : ℕ) → count_from n m ++ (n + m) ∷ [] ≡ count_from n (suc m)
-count-last n zero = ap (λ k. k ∷ []) (omega arith)
-count-last n (suc m) = ap (λ rest. n ∷ rest) (ap (λ k. count_from (suc n) m ++ k ∷ []) (omega arith) ∙ count-last (suc n) m)
 
 -- other writes in flight with the same index writes
 waits_alike : (q : ℕ) (up : Bool) (freed acked : ℕ) (back after : List Label) → indexes_among q after ≡ indexes_among q back → Waits q up freed acked back → Waits q up freed acked after
@@ -95,7 +91,7 @@ waits_acked q state freed acked back (inl up) h = record {
   indexes =
       ap (indexes_among q) (posted_up state back (Index q acked) up)
       ∙ push_some (index_of q) back (Index q acked) acked (rw (eq-eqb q q refl) refl)
-      ∙ ap (λ xs. xs ++ acked ∷ []) h.indexes ∙ ap (λ n. count_from freed h.waiting ++ n ∷ []) (sym (h.all_up up)) ∙ count-last freed h.waiting;
+      ∙ ap (λ xs. xs ++ acked ∷ []) h.indexes ∙ ap (λ n. count_from freed h.waiting ++ n ∷ []) (sym (h.all_up up)) ∙ count_from-push freed h.waiting (freed + h.waiting) refl;
   within = let a = h.all_up up in omega arith;
   all_up = λ _. let a = h.all_up up in omega arith;
 }
@@ -108,8 +104,8 @@ waits_acked q state freed acked back (inr down) h = record {
 
 waits_kept : (plan : Plan) (lane : LaneName) (s : Sight) (made : Answered) (news : News) (t : Sight) → Turn plan lane s made news t → EmptyOf s → WaitsOf lane.queue s → WaitsOf lane.queue t
 waits_kept plan lane s made news t (Trains may) empty h = waits_none _ _ _ _ _ (empty may.down).1 (omega arith) (λ _. refl)
-waits_kept plan lane s made news t (Breaks up) empty h = record { waiting = h.waiting; indexes = h.indexes; within = h.within; all_up = λ up. absurd (false≢true up) }
-waits_kept plan lane s made news t (Drops closing) empty h = waits_none _ _ _ _ _ refl (let w = h.within in omega arith) (λ up. absurd (false≢true up))
+waits_kept plan lane s made news t (Breaks may) empty h = record { waiting = h.waiting; indexes = h.indexes; within = h.within; all_up = λ up. absurd (false≢true up) }
+waits_kept plan lane s made news t (Drops may) empty h = waits_none _ _ _ _ _ refl (let w = h.within in omega arith) (λ up. absurd (false≢true up))
 waits_kept plan lane s made news t (Offers Receiver label may) empty h =
     waits_alike _ _ _ _ s.receiver.flight _ (posted_unread (index_of lane.queue) s.state s.receiver.flight label (pad-index lane.queue label may.a_pad)) h
 waits_kept plan lane s made news t (Readies Receiver queue may) empty h = waits_alike _ _ _ _ s.receiver.flight _ (posted_unread (index_of lane.queue) s.state s.receiver.flight _ refl) h
@@ -119,9 +115,9 @@ waits_kept plan lane s made news t (LandsIndex place n may) empty h =
     h h.waiting refl).1
 waits_kept plan lane s made news t (LandsBell Receiver place queue may) empty h = waits_alike _ _ _ _ s.receiver.flight _ (filter_map-remove (index_of lane.queue) s.receiver.flight place _ may.there refl) h
 waits_kept plan lane s made news t (LandsPad Receiver place i value may) empty h = waits_alike _ _ _ _ s.receiver.flight _ (filter_map-remove (index_of lane.queue) s.receiver.flight place _ may.there refl) h
-waits_kept plan lane s made news t (LandsAside Receiver place label may foreign no_pad) empty h =
-    waits_alike _ _ _ _ s.receiver.flight _ (filter_map-remove (index_of lane.queue) s.receiver.flight place label may.there foreign) h
-waits_kept plan lane s made news t (Acks turn) empty h = waits_acked lane.queue s.state s.lane.freed s.lane.acked s.receiver.flight (cases_Bool (is_up s.state)) h
+waits_kept plan lane s made news t (LandsAside Receiver place label may) empty h =
+    waits_alike _ _ _ _ s.receiver.flight _ (filter_map-remove (index_of lane.queue) s.receiver.flight place label may.land.there may.foreign) h
+waits_kept plan lane s made news t (Acks may) empty h = waits_acked lane.queue s.state s.lane.freed s.lane.acked s.receiver.flight (cases_Bool (is_up s.state)) h
 waits_kept plan lane s made news t turn empty h = h
 
 -- What the log counts

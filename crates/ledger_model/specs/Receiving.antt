@@ -1,6 +1,6 @@
 -- Landing and receiving: writes land at the peer in an order that the bridge allows, and a receiver looks for the next entry,
 -- copies it in parts, clears its flags and gives it back.
-use Rattle.std.specs.Prelude.{ℕ, ◌+◌, ◌==◌, Bool, true, false, not, Option, Some, None, List, length, map, remove, slice_set, slice_get, nat_lt, if◌then◌else◌}
+use Rattle.std.specs.Prelude.{ℕ, ◌+◌, ◌==◌, not, Option, Some, None, List, length, map, remove, slice_set, slice_get, nat_lt, if◌then◌else◌}
 use Rattle.step_kinds.specs.Bits.{with_bit, has_bit}
 use Rattle.step_kinds.specs.Sides.{other_side}
 use Rattle.step_kinds.specs.declared.names.Side.{Side}
@@ -11,7 +11,7 @@ use Rattle.step_kinds.specs.declared.steps.Answer.{Answer}
 use Rattle.step_kinds.specs.declared.steps.Answer.TheVariants.{NotReady, Closed, OutOfTurn, Empty, PeerDown, ReadyFrame, Copied as CopiedPart, Delivered, Cleared as ClearedFrame, Acked, Nothing, Blocked, Landed}
 use Rattle.lane_model.specs.Lane.{Entry, Carries, GoesDown, bytes_of, chunks_in}
 use Rattle.lane_model.specs.Order.{may_land}
-use Rattle.lane_model.specs.declared.Phase.{Phase}
+pub use Rattle.lane_model.specs.Tests.{is_idle, is_copying, is_copied, is_cleared}
 use Rattle.lane_model.specs.declared.Phase.TheVariants.{Idle, Copying, Copied, Cleared}
 use Rattle.ledger_model.specs.Device.{count_delivered}
 use Rattle.ledger_model.specs.Labels.{order_of}
@@ -45,22 +45,6 @@ land_found plan pair side place (Some label) =
 
 abbrev pub land_step : PairPlan → PairPart → Side → ℕ → Outcome
 land_step plan pair side place = land_found plan pair side place (slice_get (side_of pair side).flight place)
-
-abbrev pub is_idle : Phase → Bool
-is_idle Idle = true
-is_idle phase = false
-
-abbrev pub is_copying : Phase → Bool
-is_copying Copying = true
-is_copying phase = false
-
-abbrev pub is_copied : Phase → Bool
-is_copied Copied = true
-is_copied phase = false
-
-abbrev pub is_cleared : Phase → Bool
-is_cleared Cleared = true
-is_cleared phase = false
 
 -- what a look at a landed entry comes to: a link-down entry closes the queue on this side
 abbrev pub look_at : PairPart → Side → ℕ → LanePart → Entry → Outcome

@@ -1,5 +1,5 @@
 -- Sending: a frame or a link-down entry is begun where the ring has room, and its writes are posted one by one.
-use Rattle.std.specs.Prelude.{ℕ, ◌+◌, ◌==◌, Bool, true, false, not, Option, None, List, [], ◌∷◌, ◌++◌, length, nat_lt}
+use Rattle.std.specs.Prelude.{ℕ, ◌+◌, ◌==◌, false, not, Option, None, List, [], ◌∷◌, ◌++◌, length, nat_lt}
 use Rattle.step_kinds.specs.Bits.{with_bit, has_bit}
 use Rattle.step_kinds.specs.declared.names.Side.{Side}
 use Rattle.step_kinds.specs.declared.plan.DevPlan.{DevPlan}
@@ -7,14 +7,11 @@ use Rattle.step_kinds.specs.declared.steps.Label.{Label}
 use Rattle.step_kinds.specs.declared.steps.Answer.{Answer}
 use Rattle.step_kinds.specs.declared.steps.Answer.TheVariants.{OkNumber, LinkDown, NotReady, Closed, TooLong, Busy, Stopped, Again, Idle, Posted, Awake}
 use Rattle.lane_model.specs.Lane.{Entry, Carries, GoesDown}
+pub use Rattle.lane_model.specs.Tests.{is_empty_list}
 use Rattle.ledger_model.specs.Device.{Flow, ethernet_frame, stopped_after_send, stays_stopped, count_taken, count_refused}
 use Rattle.ledger_model.specs.Labels.{labels_of}
 use Rattle.ledger_model.specs.Ledger.{LanePart, DevPart, PairPart, Sizes, side_of, lane_of, dev_of, tally_of, with_side_part, with_lane, with_dev, with_tally, link_up, posts, free_of, head_in, tail_in}
 use Rattle.ledger_model.specs.Outcome.{Outcome, refuse_if, decided}
-
-abbrev pub is_empty_list : {X : Type 0} → List X → Bool
-is_empty_list [] = true
-is_empty_list (x ∷ xs) = false
 
 -- the refusals of a side that is to send on a queue, as far as they don't depend on the entry
 abbrev pub refuse_sender : PairPart → Side → ℕ → Option Answer → Option Answer

@@ -7,12 +7,10 @@ use Rattle.step_kinds.specs.Sides.{other_side}
 use Rattle.step_kinds.specs.declared.names.LaneName.{LaneName}
 use Rattle.step_kinds.specs.declared.names.Side.{Side}
 use Rattle.step_kinds.specs.declared.names.Side.TheVariants.{A, B}
-use Rattle.step_kinds.specs.declared.plan.PairPlan.{PairPlan}
 use Rattle.step_kinds.specs.declared.plan.Plan.{Plan}
 use Rattle.step_kinds.specs.declared.steps.Answer.TheVariants.{Landed}
 use Rattle.step_kinds.specs.declared.steps.Label.{Label}
 use Rattle.step_kinds.specs.declared.steps.Label.TheVariants.{Chunk, Len, Ver, Flag, Down, Bell, Index, Pad, Raw}
-use Rattle.step_kinds.specs.declared.steps.Step.{Step}
 use Rattle.step_kinds.specs.declared.steps.Step.TheVariants.{Land}
 use Rattle.lane_model.specs.Order.{may_land}
 use Rattle.lane_model.specs.declared.Field.{Field}
@@ -22,7 +20,6 @@ use Rattle.lane_model.specs.declared.Field.TheVariants.{Chunk as PayloadChunk, L
 use Rattle.ledger_model.specs.Labels.{order_of, write_of}
 use Rattle.ledger_model.specs.Ledger.{LanePart, PairPart, side_of, lane_of, with_lane}
 use Rattle.ledger_model.specs.Next.{pair_plan}
-use Rattle.ledger_model.specs.Outcome.{Outcome}
 use Rattle.ledger_model.specs.Receiving.{taken_out}
 use Rattle.ledger_model.specs.Rings.{with_write, with_index}
 use Rattle.ledger_laws.proofs.walk.Cases.{landed}
@@ -33,17 +30,11 @@ use Rattle.ledger_laws.proofs.walk.Tells.{gives_landed, pads_heard, bell_in_ring
 use Rattle.ledger_laws.proofs.walk.TurnAt.{TurnAt, shown_as}
 
 module _ (plan : Plan) (lane : LaneName) (pair : PairPart) where
-  abbrev Own : PairPlan
-  Own = pair_plan plan lane.pair
-
   abbrev Now : Sight
   Now = sight lane.from lane.queue pair
 
-  abbrev At : Step → Outcome → Type 0
-  At step o = TurnAt plan lane pair step o
-
   abbrev MayLandAt : Role → ℕ → Label → Type 0
-  MayLandAt e place label = MayLand Own.strict Now e place label
+  MayLandAt e place label = MayLand (pair_plan plan lane.pair).strict Now e place label
 
   -- what tells nothing but of the ring
   abbrev IsQuiet : Role → Label → Type 0
@@ -51,7 +42,7 @@ module _ (plan : Plan) (lane : LaneName) (pair : PairPart) where
 
   module _ (p place : ℕ) (same : p ≡ lane.pair) where
     abbrev Lands : Role → Label → Type 0
-    Lands e label = At (Land p (side_at lane.from e) place) (record { answer = Landed label; after = landed pair (side_at lane.from e) place label })
+    Lands e label = TurnAt plan lane pair (Land p (side_at lane.from e) place) (record { answer = Landed label; after = landed pair (side_at lane.from e) place label })
 
     -- what is in sight without the write that lands
     taken_out-sight : (e : Role) → sight lane.from lane.queue (taken_out pair (side_at lane.from e) place) ≡ taken e place Now
@@ -66,7 +57,7 @@ module _ (plan : Plan) (lane : LaneName) (pair : PairPart) where
         → sight lane.from lane.queue (landed pair (side_at lane.from e) place label) ≡ sight lane.from lane.queue (taken_out pair (side_at lane.from e) place) → Lands e label
     lands_aside e label may quiet foreign no_pad is =
         lands e label (taken e place Now) (is ∙ taken_out-sight e)
-        (turned (LandsAside e place label may foreign no_pad)
+        (turned (LandsAside e place label (record { land = may; foreign = foreign; no_handshake = no_pad }))
         (tells_land plan lane Now.lane p same e place label false (λ f i now. now) (λ sizes ring. ring) quiet.0 quiet.1 (λ sizes ring. foreign_in_ring lane.queue e label Now.lane sizes ring foreign)))
 
     -- a write of the lane
@@ -79,7 +70,7 @@ module _ (plan : Plan) (lane : LaneName) (pair : PairPart) where
     lands_field : (label : Label) (n : ℕ) (field : Field) → MayLandAt Sender place label → IsQuiet Sender label → write_of lane.queue label ≡ Some (Data n field)
         → sight lane.from lane.queue (landed pair lane.from place label) ≡ sight lane.from lane.queue (taken_out pair lane.from place) → Lands Sender label
     lands_field label n field may quiet is same_sight =
-        lands Sender label (taken Sender place Now) (same_sight ∙ taken_out-sight Sender) (turned (LandsField place label n field may is) (written label (Data n field) quiet is))
+        lands Sender label (taken Sender place Now) (same_sight ∙ taken_out-sight Sender) (turned (LandsField place label n field (record { land = may; is = is })) (written label (Data n field) quiet is))
 
     abbrev flagged : ℕ → PairPart
     flagged k =
@@ -95,7 +86,7 @@ module _ (plan : Plan) (lane : LaneName) (pair : PairPart) where
           (ap (sight lane.from lane.queue) (after ∙ ap flagged (sym e)) ∙ sight-lane lane.from lane.queue (taken_out pair lane.from place) _
           ∙ ap (λ (s : Sight). record s { lane = record Now.lane { flagged = Now.lane.flagged + 1 } }) (taken_out-sight Sender))
           (let own = is ∙ cond-true (k == lane.queue) (Some (EntryFlag n)) None (eq-eqb k lane.queue (sym e)) in
-          turned (LandsFlag place label n may own) (written label (EntryFlag n) quiet own))
+          turned (LandsFlag place label n (record { land = may; is = own })) (written label (EntryFlag n) quiet own))
       | inr ne ↦
           lands_aside Sender label may quiet (is ∙ cond-false (k == lane.queue) _ _ (ne_eqb k lane.queue (λ e. ne (sym e)))) no_pad
           (ap (sight lane.from lane.queue) after ∙ sight-off lane.from lane.queue (taken_out pair lane.from place) lane.from k _ (is_off lane.from lane.queue lane.from k (OtherQueue ne)))
@@ -170,14 +161,14 @@ module _ (plan : Plan) (lane : LaneName) (pair : PairPart) where
     land_role Receiver (Ver k n) may = lands_aside Receiver (Ver k n) may (refl, λ f i now. refl) refl refl refl
     land_role Receiver (Raw window offset len) may = lands_aside Receiver (Raw window offset len) may (refl, λ f i now. refl) refl refl refl
 
-    pub land : (side : Side) (label : Label) → slice_get (side_of pair side).flight place ≡ Some label → may_land (map (order_of Own.strict) (side_of pair side).flight) place ≡ true
-        → At (Land p side place) (record { answer = Landed label; after = landed pair side place label })
+    pub land : (side : Side) (label : Label) → slice_get (side_of pair side).flight place ≡ Some label → may_land (map (order_of (pair_plan plan lane.pair).strict) (side_of pair side).flight) place ≡ true
+        → TurnAt plan lane pair (Land p side place) (record { answer = Landed label; after = landed pair side place label })
     land side label at may =
         by_role lane.from
-        (λ s. slice_get (side_of pair s).flight place ≡ Some label → may_land (map (order_of Own.strict) (side_of pair s).flight) place ≡ true
-        → At (Land p s place) (record { answer = Landed label; after = landed pair s place label })) each side at may
+        (λ s. slice_get (side_of pair s).flight place ≡ Some label → may_land (map (order_of (pair_plan plan lane.pair).strict) (side_of pair s).flight) place ≡ true
+        → TurnAt plan lane pair (Land p s place) (record { answer = Landed label; after = landed pair s place label })) each side at may
       where
         each : (e : Role) → slice_get (side_of pair (side_at lane.from e)).flight place ≡ Some label
-            → may_land (map (order_of Own.strict) (side_of pair (side_at lane.from e)).flight) place ≡ true → Lands e label
+            → may_land (map (order_of (pair_plan plan lane.pair).strict) (side_of pair (side_at lane.from e)).flight) place ≡ true → Lands e label
         each Sender at may = land_role Sender label (record { there = at; may = may })
         each Receiver at may = land_role Receiver label (record { there = at; may = may })

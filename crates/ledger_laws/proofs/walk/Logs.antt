@@ -42,8 +42,8 @@ on_queue-labels q n entry = list_all-map (on_queue q) (label_of q entry) (writes
 todo_kept : (plan : Plan) (lane : LaneName) (s : Sight) (made : Answered) (news : News) (t : Sight) → Turn plan lane s made news t
     → list_all (on_queue lane.queue) s.lane.todo ≡ true → list_all (on_queue lane.queue) t.lane.todo ≡ true
 todo_kept plan lane s made news t (Trains may) own = refl
-todo_kept plan lane s made news t (Forgets Sender down) own = refl
-todo_kept plan lane s made news t (Forgets Receiver down) own = own
+todo_kept plan lane s made news t (Forgets Sender may) own = refl
+todo_kept plan lane s made news t (Forgets Receiver may) own = own
 todo_kept plan lane s made news t (Begins bytes may) own = on_queue-labels lane.queue (length s.lane.sent) (Carries bytes)
 todo_kept plan lane s made news t (Closes may) own = on_queue-labels lane.queue (length s.lane.sent) GoesDown
 todo_kept plan lane s made news t (Posts label rest may) own =

@@ -7,7 +7,6 @@ use Rattle.step_kinds.specs.Bits.{without_bits}
 use Rattle.step_kinds.specs.Subject.{subject_of}
 use Rattle.step_kinds.specs.declared.names.LaneName.{LaneName}
 use Rattle.step_kinds.specs.declared.names.Side.{Side}
-use Rattle.step_kinds.specs.declared.plan.PairPlan.{PairPlan}
 use Rattle.step_kinds.specs.declared.plan.Plan.{Plan}
 use Rattle.step_kinds.specs.declared.steps.Answer.TheVariants.{PeerDown, Awake}
 use Rattle.step_kinds.specs.declared.steps.Label.TheVariants.{Pad, Raw}
@@ -17,7 +16,6 @@ use Rattle.ledger_model.specs.Device.{ethernet_frame}
 use Rattle.ledger_model.specs.Ledger.{PairPart, side_of, lane_of, sizes_of}
 use Rattle.ledger_model.specs.Log.{Answered}
 use Rattle.ledger_model.specs.Next.{Bytes, pair_plan, dev_plan}
-use Rattle.ledger_model.specs.Outcome.{Outcome}
 use Rattle.ledger_model.specs.Sending.{begun}
 use Rattle.ledger_laws.proofs.LogGrowth.{made_by, left_by}
 use Rattle.ledger_laws.proofs.walk.Cases.{enable_cases, train_cases, break_cases, drop_cases, clean_cases, offer_cases, check_cases, ready_cases, join_cases, begin_cases, qpdown_cases, xbegin_cases, post_cases, land_cases, look_cases, copy_cases, clear_cases, ack_cases, wake_cases, taken_frame}
@@ -32,48 +30,42 @@ use Rattle.ledger_laws.proofs.walk.LandingTurns as landing
 
 module _ (plan : Plan) (lane : LaneName) (bytes : Bytes) (pair : PairPart)
     (todos : (side : Side) (queue : ℕ) → list_all (on_queue queue) (lane_of pair side queue).todo ≡ true) where
-  abbrev Own : PairPlan
-  Own = pair_plan plan lane.pair
-
   abbrev Now : Sight
   Now = sight lane.from lane.queue pair
 
-  abbrev At : Step → Outcome → Type 0
-  At step o = TurnAt plan lane pair step o
-
   pub turn_of : (step : Step) → subject_of step ≡ lane.pair → Turned plan lane Now (made_by plan lane.pair bytes pair step) (sight lane.from lane.queue (left_by plan lane.pair bytes pair step))
-  turn_of (Enable p side) e = enable_cases (At (Enable p side)) pair side (λ r is. refusal plan lane pair (Enable p side) refl r _ is) (sides.enable plan lane pair p side)
-  turn_of (Train p) e = train_cases (At (Train p)) pair (λ r is. refusal plan lane pair (Train p) refl r _ is) (sides.train plan lane pair p e)
-  turn_of (Break p) e = break_cases (At (Break p)) pair (λ r is. refusal plan lane pair (Break p) refl r _ is) (sides.break plan lane pair p e)
-  turn_of (DropDone p) e = drop_cases (At (DropDone p)) pair (λ r is. refusal plan lane pair (DropDone p) refl r _ is) (sides.drop plan lane pair p)
-  turn_of (Clean p side) e = clean_cases (At (Clean p side)) pair side (λ r is. refusal plan lane pair (Clean p side) refl r _ is) (sides.clean plan lane pair p side)
-  turn_of (Offer p side) e = offer_cases (At (Offer p side)) Own pair side (λ r is. refusal plan lane pair (Offer p side) refl r _ is) (sides.offer plan lane pair p side)
-  turn_of (Check p side) e = check_cases (At (Check p side)) Own pair side (λ r is. refusal plan lane pair (Check p side) refl r _ is) (sides.check plan lane pair p side e)
-  turn_of (Ready p side queue) e = ready_cases (At (Ready p side queue)) pair side queue (λ r is. refusal plan lane pair (Ready p side queue) refl r _ is) (sides.ready plan lane pair p side queue)
-  turn_of (Join p side queue) e = join_cases (At (Join p side queue)) pair side queue (λ r is. refusal plan lane pair (Join p side queue) refl r _ is) (sides.join plan lane pair p side queue)
+  turn_of (Enable p side) e = enable_cases (TurnAt plan lane pair (Enable p side)) pair side (λ r is. refusal plan lane pair (Enable p side) refl r _ is) (sides.enable plan lane pair p side)
+  turn_of (Train p) e = train_cases (TurnAt plan lane pair (Train p)) pair (λ r is. refusal plan lane pair (Train p) refl r _ is) (sides.train plan lane pair p e)
+  turn_of (Break p) e = break_cases (TurnAt plan lane pair (Break p)) pair (λ r is. refusal plan lane pair (Break p) refl r _ is) (sides.break plan lane pair p e)
+  turn_of (DropDone p) e = drop_cases (TurnAt plan lane pair (DropDone p)) pair (λ r is. refusal plan lane pair (DropDone p) refl r _ is) (sides.drop plan lane pair p)
+  turn_of (Clean p side) e = clean_cases (TurnAt plan lane pair (Clean p side)) pair side (λ r is. refusal plan lane pair (Clean p side) refl r _ is) (sides.clean plan lane pair p side)
+  turn_of (Offer p side) e = offer_cases (TurnAt plan lane pair (Offer p side)) (pair_plan plan lane.pair) pair side (λ r is. refusal plan lane pair (Offer p side) refl r _ is) (sides.offer plan lane pair p side)
+  turn_of (Check p side) e = check_cases (TurnAt plan lane pair (Check p side)) (pair_plan plan lane.pair) pair side (λ r is. refusal plan lane pair (Check p side) refl r _ is) (sides.check plan lane pair p side e)
+  turn_of (Ready p side queue) e = ready_cases (TurnAt plan lane pair (Ready p side queue)) pair side queue (λ r is. refusal plan lane pair (Ready p side queue) refl r _ is) (sides.ready plan lane pair p side queue)
+  turn_of (Join p side queue) e = join_cases (TurnAt plan lane pair (Join p side queue)) pair side queue (λ r is. refusal plan lane pair (Join p side queue) refl r _ is) (sides.join plan lane pair p side queue)
   turn_of (Begin p side queue frame) e =
-      begin_cases (At (Begin p side queue frame)) (sizes_of Own side queue) pair side queue frame (λ r is. refusal plan lane pair (Begin p side queue frame) refl r _ is)
-      (sending.begin plan lane pair (λ s q. Begin p s q frame) (sizes_of Own) (λ s q. begun pair s q frame) frame (λ s q. refl) p e
+      begin_cases (TurnAt plan lane pair (Begin p side queue frame)) (sizes_of (pair_plan plan lane.pair) side queue) pair side queue frame (λ r is. refusal plan lane pair (Begin p side queue frame) refl r _ is)
+      (sending.begin plan lane pair (λ s q. Begin p s q frame) (sizes_of (pair_plan plan lane.pair)) (λ s q. begun pair s q frame) frame (λ s q. refl) p e
       (λ s q n own. tells_begin plan lane Now.lane p s q frame n own) refl side queue)
   turn_of (QpDown p side queue) e =
-      qpdown_cases (At (QpDown p side queue)) (sizes_of Own side queue) pair side queue (λ r is. refusal plan lane pair (QpDown p side queue) refl r _ is) (sending.qpdown plan lane pair p e side queue)
+      qpdown_cases (TurnAt plan lane pair (QpDown p side queue)) (sizes_of (pair_plan plan lane.pair) side queue) pair side queue (λ r is. refusal plan lane pair (QpDown p side queue) refl r _ is) (sending.qpdown plan lane pair p e side queue)
   turn_of (Xbegin p side queue dev dst kind payload) e =
-      xbegin_cases (At (Xbegin p side queue dev dst kind payload)) (sizes_of Own side queue) (dev_plan plan.devs dev) pair side queue dst kind payload
+      xbegin_cases (TurnAt plan lane pair (Xbegin p side queue dev dst kind payload)) (sizes_of (pair_plan plan lane.pair) side queue) (dev_plan plan.devs dev) pair side queue dst kind payload
       (λ r is. turned (Rests false) (tells_no plan lane Now.lane (Xbegin p side queue dev dst kind payload) r (unread-refused (Xbegin p side queue dev dst kind payload) r refl is.is)))
-      (sending.begin plan lane pair (λ s q. Xbegin p s q dev dst kind payload) (sizes_of Own)
-      (λ s q. taken_frame (sizes_of Own s q) (dev_plan plan.devs dev) pair s q (ethernet_frame dst (dev_plan plan.devs dev).address kind payload))
+      (sending.begin plan lane pair (λ s q. Xbegin p s q dev dst kind payload) (sizes_of (pair_plan plan lane.pair))
+      (λ s q. taken_frame (sizes_of (pair_plan plan lane.pair) s q) (dev_plan plan.devs dev) pair s q (ethernet_frame dst (dev_plan plan.devs dev).address kind payload))
       (ethernet_frame dst (dev_plan plan.devs dev).address kind payload) (λ s q. refl) p e (λ s q n own. tells_xbegin plan lane Now.lane p s q dev dst kind payload n own) refl side queue)
-  turn_of (Post p side queue) e = post_cases (At (Post p side queue)) pair side queue (rests plan lane pair (Post p side queue) _ refl) (sending.post plan lane pair todos p side queue)
-  turn_of (Land p side place) e = land_cases (At (Land p side place)) Own pair side place (λ r is. refusal plan lane pair (Land p side place) refl r _ is) (landing.land plan lane pair p place e side)
+  turn_of (Post p side queue) e = post_cases (TurnAt plan lane pair (Post p side queue)) pair side queue (rests plan lane pair (Post p side queue) _ refl) (sending.post plan lane pair todos p side queue)
+  turn_of (Land p side place) e = land_cases (TurnAt plan lane pair (Land p side place)) (pair_plan plan lane.pair) pair side place (λ r is. refusal plan lane pair (Land p side place) refl r _ is) (landing.land plan lane pair p place e side)
   turn_of (Look p side queue) e =
-      look_cases (At (Look p side queue)) pair side queue (λ r is found. receiving.look_found plan lane pair p side queue r found) (receiving.look_none plan lane pair p e side queue)
+      look_cases (TurnAt plan lane pair (Look p side queue)) pair side queue (λ r is found. receiving.look_found plan lane pair p side queue r found) (receiving.look_none plan lane pair p e side queue)
       (receiving.look_ready plan lane pair p e side queue)
       (λ may. sides.shut plan lane pair (λ s. Look p s queue) PeerDown (λ s. at_receiver lane p s queue) (λ s. tells_look plan lane Now.lane p s queue PeerDown refl (at_receiver lane p s queue) refl) queue side)
-  turn_of (Copy p side queue) e = copy_cases (At (Copy p side queue)) pair side queue (λ r is. refusal plan lane pair (Copy p side queue) refl r _ is) (receiving.copy_part plan lane pair p side queue) (receiving.copy_last plan lane pair p e side queue)
-  turn_of (Clear p side queue) e = clear_cases (At (Clear p side queue)) pair side queue (λ r is. refusal plan lane pair (Clear p side queue) refl r _ is) (receiving.clear plan lane pair p e side queue)
-  turn_of (Ack p side queue) e = ack_cases (At (Ack p side queue)) pair side queue (λ r is. refusal plan lane pair (Ack p side queue) refl r _ is) (receiving.ack plan lane pair p side queue)
+  turn_of (Copy p side queue) e = copy_cases (TurnAt plan lane pair (Copy p side queue)) pair side queue (λ r is. refusal plan lane pair (Copy p side queue) refl r _ is) (receiving.copy_part plan lane pair p side queue) (receiving.copy_last plan lane pair p e side queue)
+  turn_of (Clear p side queue) e = clear_cases (TurnAt plan lane pair (Clear p side queue)) pair side queue (λ r is. refusal plan lane pair (Clear p side queue) refl r _ is) (receiving.clear plan lane pair p e side queue)
+  turn_of (Ack p side queue) e = ack_cases (TurnAt plan lane pair (Ack p side queue)) pair side queue (λ r is. refusal plan lane pair (Ack p side queue) refl r _ is) (receiving.ack plan lane pair p side queue)
   turn_of (Wake p side queue dev) e =
-      wake_cases (At (Wake p side queue dev)) (sizes_of Own side queue) (dev_plan plan.devs dev) pair side queue (λ r is. refusal plan lane pair (Wake p side queue dev) refl r _ is)
+      wake_cases (TurnAt plan lane pair (Wake p side queue dev)) (sizes_of (pair_plan plan lane.pair) side queue) (dev_plan plan.devs dev) pair side queue (λ r is. refusal plan lane pair (Wake p side queue dev) refl r _ is)
       (turned (Rests false) (tells_no plan lane Now.lane (Wake p side queue dev) Awake refl))
   turn_of (Irq p side) e = sides.irq plan lane pair p e side
   turn_of (Mask p side bits) e = sides.mask plan lane pair (λ s. Mask p s bits) (λ s. refl) (λ s. bit_or (side_of pair s).masked bits) side

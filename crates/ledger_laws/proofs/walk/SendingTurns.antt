@@ -6,7 +6,6 @@ use Rattle.step_kinds.specs.Bits.{with_bit}
 use Rattle.step_kinds.specs.Sides.{other_side}
 use Rattle.step_kinds.specs.declared.names.LaneName.{LaneName}
 use Rattle.step_kinds.specs.declared.names.Side.{Side}
-use Rattle.step_kinds.specs.declared.plan.PairPlan.{PairPlan}
 use Rattle.step_kinds.specs.declared.plan.Plan.{Plan}
 use Rattle.step_kinds.specs.declared.steps.Answer.TheVariants.{OkNumber, Posted}
 use Rattle.step_kinds.specs.declared.steps.Label.{Label}
@@ -18,7 +17,6 @@ use Rattle.ledger_model.specs.Labels.{write_of, index_of}
 use Rattle.ledger_model.specs.Ledger.{PairPart, Sizes, lane_of, posts, with_lane, sizes_of, updated}
 use Rattle.ledger_model.specs.Log.{is_on}
 use Rattle.ledger_model.specs.Next.{pair_plan}
-use Rattle.ledger_model.specs.Outcome.{Outcome}
 use Rattle.ledger_model.specs.Sending.{begun, begun_lane}
 use Rattle.ledger_laws.proofs.walk.Cases.{MaySend, closing, posting}
 use Rattle.ledger_laws.proofs.walk.Sight.{Sight, Sender, Receiver, posted, sight, IsOff, OffCase, OtherQueue, OtherWay, by_lane, sight-side, sight-posts, sight-lane, sight-off, sight-tally, sight-tally_off}
@@ -49,31 +47,25 @@ index_of-lane queue q (Index p n) on = absurd (false≢true on)
 index_of-lane queue q label on = refl
 
 module _ (plan : Plan) (lane : LaneName) (pair : PairPart) where
-  abbrev Own : PairPlan
-  Own = pair_plan plan lane.pair
-
   abbrev Now : Sight
   Now = sight lane.from lane.queue pair
-
-  abbrev At : Step → Outcome → Type 0
-  At step o = TurnAt plan lane pair step o
 
   -- a frame is begun, on this lane or on another; `after` is the pair with devices that count it
   module _ (step : Side → ℕ → Step) (sizes : Side → ℕ → Sizes) (after : Side → ℕ → PairPart) (frame : List ℕ)
       (looks_so : (side : Side) (queue : ℕ) → sight lane.from lane.queue (after side queue) ≡ sight lane.from lane.queue (begun pair side queue frame))
       (p : ℕ) (same_pair : p ≡ lane.pair)
       (told : (side : Side) (queue n : ℕ) (own : Bool) → is_on lane p side queue ≡ own → Tells plan lane Now.lane (record { step = step side queue; answer = OkNumber n }) (begun_news own n frame)) where
-    pub begin : (sizes lane.from lane.queue ≡ sizes_of Own lane.from lane.queue) → (side : Side) (queue : ℕ) → MaySend (sizes side queue) pair side queue (length frame)
-        → At (step side queue) (record { answer = OkNumber (length (lane_of pair side queue).sent); after = after side queue })
+    pub begin : (sizes lane.from lane.queue ≡ sizes_of (pair_plan plan lane.pair) lane.from lane.queue) → (side : Side) (queue : ℕ) → MaySend (sizes side queue) pair side queue (length frame)
+        → TurnAt plan lane pair (step side queue) (record { answer = OkNumber (length (lane_of pair side queue).sent); after = after side queue })
     begin same side queue may =
         by_lane lane.from lane.queue
-        (λ s q. MaySend (sizes s q) pair s q (length frame) → At (step s q) (record { answer = OkNumber (length (lane_of pair s q).sent); after = after s q }))
+        (λ s q. MaySend (sizes s q) pair s q (length frame) → TurnAt plan lane pair (step s q) (record { answer = OkNumber (length (lane_of pair s q).sent); after = after s q }))
         own off side queue may
       where
         own : MaySend (sizes lane.from lane.queue) pair lane.from lane.queue (length frame)
-            → At (step lane.from lane.queue) (record { answer = OkNumber (length Now.lane.sent); after = after lane.from lane.queue })
+            → TurnAt plan lane pair (step lane.from lane.queue) (record { answer = OkNumber (length Now.lane.sent); after = after lane.from lane.queue })
         own may =
-            let may_now : MaySend (sizes_of Own lane.from lane.queue) pair lane.from lane.queue (length frame) = subst (λ z. MaySend z pair lane.from lane.queue (length frame)) same may in
+            let may_now : MaySend (sizes_of (pair_plan plan lane.pair) lane.from lane.queue) pair lane.from lane.queue (length frame) = subst (λ z. MaySend z pair lane.from lane.queue (length frame)) same may in
             shown_as plan lane pair (step lane.from lane.queue) (OkNumber (length Now.lane.sent)) (after lane.from lane.queue) _
             (looks_so lane.from lane.queue
             ∙ sight-tally lane.from lane.queue (with_lane pair lane.from lane.queue (begun_lane lane.queue Now.lane (Carries frame))) pair.link.session _
@@ -83,7 +75,7 @@ module _ (plan : Plan) (lane : LaneName) (pair : PairPart) where
             (told lane.from lane.queue (length Now.lane.sent) true (on-own lane p same_pair)))
 
         off : (s : Side) (q : ℕ) → OffCase lane.from lane.queue s q → IsOff lane.from lane.queue s q → MaySend (sizes s q) pair s q (length frame)
-            → At (step s q) (record { answer = OkNumber (length (lane_of pair s q).sent); after = after s q })
+            → TurnAt plan lane pair (step s q) (record { answer = OkNumber (length (lane_of pair s q).sent); after = after s q })
         off s q case is may =
             shown_as plan lane pair (step s q) (OkNumber (length (lane_of pair s q).sent)) (after s q) _
             (looks_so s q ∙ sight-tally_off lane.from lane.queue (with_lane pair s q (begun_lane q (lane_of pair s q) (Carries frame))) s q pair.link.session _ is
@@ -91,15 +83,15 @@ module _ (plan : Plan) (lane : LaneName) (pair : PairPart) where
             (turned (Rests false) (told s q (length (lane_of pair s q).sent) false (on-off lane p s q is)))
 
   -- a link-down entry
-  pub qpdown : (p : ℕ) → p ≡ lane.pair → (side : Side) (queue : ℕ) → MaySend (sizes_of Own side queue) pair side queue 0
-      → At (QpDown p side queue) (record { answer = OkNumber (length (lane_of pair side queue).sent); after = closing pair side queue })
+  pub qpdown : (p : ℕ) → p ≡ lane.pair → (side : Side) (queue : ℕ) → MaySend (sizes_of (pair_plan plan lane.pair) side queue) pair side queue 0
+      → TurnAt plan lane pair (QpDown p side queue) (record { answer = OkNumber (length (lane_of pair side queue).sent); after = closing pair side queue })
   qpdown p e side queue may =
       by_lane lane.from lane.queue
-      (λ s q. MaySend (sizes_of Own s q) pair s q 0 → At (QpDown p s q) (record { answer = OkNumber (length (lane_of pair s q).sent); after = closing pair s q }))
+      (λ s q. MaySend (sizes_of (pair_plan plan lane.pair) s q) pair s q 0 → TurnAt plan lane pair (QpDown p s q) (record { answer = OkNumber (length (lane_of pair s q).sent); after = closing pair s q }))
       own off side queue may
     where
-      own : MaySend (sizes_of Own lane.from lane.queue) pair lane.from lane.queue 0
-          → At (QpDown p lane.from lane.queue) (record { answer = OkNumber (length Now.lane.sent); after = closing pair lane.from lane.queue })
+      own : MaySend (sizes_of (pair_plan plan lane.pair) lane.from lane.queue) pair lane.from lane.queue 0
+          → TurnAt plan lane pair (QpDown p lane.from lane.queue) (record { answer = OkNumber (length Now.lane.sent); after = closing pair lane.from lane.queue })
       own may =
           shown_as plan lane pair (QpDown p lane.from lane.queue) (OkNumber (length Now.lane.sent)) (closing pair lane.from lane.queue) _
           (sight-side lane.from lane.queue (with_lane pair lane.from lane.queue (begun_lane lane.queue Now.lane GoesDown)) Sender _
@@ -107,8 +99,8 @@ module _ (plan : Plan) (lane : LaneName) (pair : PairPart) where
           (turned (Closes (record { up = may.up; joined = may.joined; not_closed = may.not_closed; not_busy = may.not_busy; room = may.room; fits = may.fits }))
           (tells_qpdown plan lane Now.lane p lane.from lane.queue _ true (on-own lane p e)))
 
-      off : (s : Side) (q : ℕ) → OffCase lane.from lane.queue s q → IsOff lane.from lane.queue s q → MaySend (sizes_of Own s q) pair s q 0
-          → At (QpDown p s q) (record { answer = OkNumber (length (lane_of pair s q).sent); after = closing pair s q })
+      off : (s : Side) (q : ℕ) → OffCase lane.from lane.queue s q → IsOff lane.from lane.queue s q → MaySend (sizes_of (pair_plan plan lane.pair) s q) pair s q 0
+          → TurnAt plan lane pair (QpDown p s q) (record { answer = OkNumber (length (lane_of pair s q).sent); after = closing pair s q })
       off s q (OtherQueue ne) is may =
           shown_as plan lane pair (QpDown p lane.from q) (OkNumber (length (lane_of pair lane.from q).sent)) (closing pair lane.from q) _
           (sight-side lane.from lane.queue (with_lane pair lane.from q (begun_lane q (lane_of pair lane.from q) GoesDown)) Sender _
@@ -122,22 +114,22 @@ module _ (plan : Plan) (lane : LaneName) (pair : PairPart) where
 
   -- a write is posted, of this lane or of another
   pub post : ((side : Side) (queue : ℕ) → list_all (on_queue queue) (lane_of pair side queue).todo ≡ true) → (p : ℕ) (side : Side) (queue : ℕ) (label : Label) (later : List Label) → (lane_of pair side queue).todo ≡ label ∷ later
-      → At (Post p side queue) (record { answer = Posted label; after = posts (posting pair side queue later) side label })
+      → TurnAt plan lane pair (Post p side queue) (record { answer = Posted label; after = posts (posting pair side queue later) side label })
   post todos p side queue label later next =
       by_lane lane.from lane.queue
-      (λ s q. (lane_of pair s q).todo ≡ label ∷ later → At (Post p s q) (record { answer = Posted label; after = posts (posting pair s q later) s label })) own off side queue next
+      (λ s q. (lane_of pair s q).todo ≡ label ∷ later → TurnAt plan lane pair (Post p s q) (record { answer = Posted label; after = posts (posting pair s q later) s label })) own off side queue next
     where
       on_it : (s : Side) (q : ℕ) → (lane_of pair s q).todo ≡ label ∷ later → on_queue q label ≡ true
       on_it s q next = (and_parts (on_queue q label) (list_all (on_queue q) later) (ap (list_all (on_queue q)) (sym next) ∙ todos s q)).0
 
-      own : Now.lane.todo ≡ label ∷ later → At (Post p lane.from lane.queue) (record { answer = Posted label; after = posts (posting pair lane.from lane.queue later) lane.from label })
+      own : Now.lane.todo ≡ label ∷ later → TurnAt plan lane pair (Post p lane.from lane.queue) (record { answer = Posted label; after = posts (posting pair lane.from lane.queue later) lane.from label })
       own next =
           shown_as plan lane pair (Post p lane.from lane.queue) (Posted label) (posts (posting pair lane.from lane.queue later) lane.from label) _
           (sight-posts lane.from lane.queue (posting pair lane.from lane.queue later) Sender label ∙ ap (posted Sender label) (sight-lane lane.from lane.queue pair _))
           (turned (Posts label later (record { next = next; own = on_it lane.from lane.queue next })) (tells_no plan lane Now.lane (Post p lane.from lane.queue) (Posted label) refl))
 
       off : (s : Side) (q : ℕ) → OffCase lane.from lane.queue s q → IsOff lane.from lane.queue s q → (lane_of pair s q).todo ≡ label ∷ later
-          → At (Post p s q) (record { answer = Posted label; after = posts (posting pair s q later) s label })
+          → TurnAt plan lane pair (Post p s q) (record { answer = Posted label; after = posts (posting pair s q later) s label })
       off s q (OtherQueue ne) is next =
           shown_as plan lane pair (Post p lane.from q) (Posted label) (posts (posting pair lane.from q later) lane.from label) _
           (sight-posts lane.from lane.queue (posting pair lane.from q later) Sender label ∙ ap (posted Sender label) (sight-off lane.from lane.queue pair lane.from q _ is))

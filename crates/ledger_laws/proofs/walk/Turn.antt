@@ -12,6 +12,7 @@ use Rattle.lane_model.specs.Lane.{Carries, GoesDown, bytes_of, chunks_in}
 use Rattle.lane_model.specs.Order.{may_land}
 use Rattle.lane_model.specs.declared.Field.{Field}
 use Rattle.lane_model.specs.declared.Phase.TheVariants.{Idle, Copying, Copied, Cleared}
+use Rattle.lane_model.specs.declared.Write.{Write}
 use Rattle.lane_model.specs.declared.Write.TheVariants.{Data, Flag as EntryFlag}
 use Rattle.ledger_model.specs.Handshake.{offers, check_refusal}
 use Rattle.ledger_model.specs.Labels.{order_of, write_of, index_of}
@@ -46,6 +47,15 @@ is_pad label = false
 abbrev pub is_link_pad : Label → Bool
 is_link_pad (Pad i value) = i == links_pad
 is_link_pad label = false
+
+pub record MayBreak (s : Sight) : Type 0 where
+  pub up : is_up s.state ≡ true
+
+pub record MayDrop (s : Sight) : Type 0 where
+  pub closing : is_closing s.state ≡ true
+
+pub record MayForget (s : Sight) : Type 0 where
+  pub down : is_down s.state ≡ true
 
 -- the handshake, `own` being the side's numbers
 pub record MayOffer (own : SidePlan) (s : Sight) (e : Role) (label : Label) : Type 0 where
@@ -112,10 +122,40 @@ pub record MayLand (strict_pair : Bool) (s : Sight) (e : Role) (place : ℕ) (la
   pub there : slice_get (end_at s e).flight place ≡ Some label
   pub may : may_land (map (order_of strict_pair) (end_at s e).flight) place ≡ true
 
-pub record MayLook (q : ℕ) (s : Sight) : Type 0 where
+-- a write of the lane lands, and one that isn't the lane's
+pub record MayLandWrite (strict_pair : Bool) (q : ℕ) (s : Sight) (place : ℕ) (label : Label) (write : Write) : Type 0 where
+  pub land : MayLand strict_pair s Sender place label
+  pub is : write_of q label ≡ Some write
+
+pub record MayLandAside (strict_pair : Bool) (q : ℕ) (s : Sight) (e : Role) (place : ℕ) (label : Label) : Type 0 where
+  pub land : MayLand strict_pair s e place label
+  pub foreign : IsForeign q e label
+  pub no_handshake : is_handshake label ≡ false
+
+-- the receiver looks, and finds nothing or a frame
+pub record MayFindNone (q : ℕ) (s : Sight) : Type 0 where
   pub joined : has_bit s.receiver.joined q ≡ true
   pub not_closed : has_bit s.receiver.closed q ≡ false
   pub idle : is_idle s.lane.phase ≡ true
+  pub none : (s.lane.flagged == s.lane.got) ≡ true
+
+pub record MayLook (q : ℕ) (s : Sight) (bytes : List ℕ) : Type 0 where
+  pub joined : has_bit s.receiver.joined q ≡ true
+  pub not_closed : has_bit s.receiver.closed q ≡ false
+  pub idle : is_idle s.lane.phase ≡ true
+  pub some : (s.lane.flagged == s.lane.got) ≡ false
+  pub at : entry_in s.lane s.lane.got ≡ Carries bytes
+
+-- it copies a part, with more parts behind it or not
+pub record MayCopy (s : Sight) (more_parts : Bool) : Type 0 where
+  pub turn : is_copying s.lane.phase ≡ true
+  pub more : nat_lt (s.lane.part + 1) (chunks_in (length (bytes_of (entry_in s.lane s.lane.got)))) ≡ more_parts
+
+pub record MayClear (s : Sight) : Type 0 where
+  pub turn : is_copied s.lane.phase ≡ true
+
+pub record MayAck (s : Sight) : Type 0 where
+  pub turn : is_cleared s.lane.phase ≡ true
 
 -- What a step leaves
 
@@ -146,13 +186,13 @@ more_delivered tally = record tally { delivered = tally.delivered + 1 }
 pub data Turn (plan : Plan) (lane : LaneName) (s : Sight) (made : Answered) : News → Sight → Type 0 where
   -- nothing happens to the lane; its receiver may have looked and found no reason to think that nothing is there
   Rests : (looked : Bool) → Turn plan lane s made (looked_news looked) s
-  FindsNone : MayLook lane.queue s → (s.lane.flagged == s.lane.got) ≡ true → Turn plan lane s made (record no_news { sees = λ saw. true }) s
+  FindsNone : MayFindNone lane.queue s → Turn plan lane s made (record no_news { sees = λ saw. true }) s
   -- the link
   Enables : (e : Role) → MayEnable s e → Turn plan lane s made no_news (with_enabled e true s)
   Trains : MayTrain s → Turn plan lane s made (record no_news { starts = true }) (record s { state = LinkIsUp; session = s.session + 1; lane = fresh_lane })
-  Breaks : is_up s.state ≡ true → Turn plan lane s made (record no_news { ends = true }) (record s { state = Closing })
-  Drops : is_closing s.state ≡ true → Turn plan lane s made no_news (record s { state = LinkIsDown; sender = dropped_end s.sender; receiver = dropped_end s.receiver })
-  Forgets : (e : Role) → is_down s.state ≡ true → Turn plan lane s made no_news (forgotten e s)
+  Breaks : MayBreak s → Turn plan lane s made (record no_news { ends = true }) (record s { state = Closing })
+  Drops : MayDrop s → Turn plan lane s made no_news (record s { state = LinkIsDown; sender = dropped_end s.sender; receiver = dropped_end s.receiver })
+  Forgets : (e : Role) → MayForget s → Turn plan lane s made no_news (forgotten e s)
   -- the handshake
   Offers : (e : Role) (label : Label) → MayOffer (side_plan (pair_plan plan lane.pair) (side_at lane.from e)) s e label
       → Turn plan lane s made no_news (posted e label (with_offered e ((end_at s e).offered + 1) s))
@@ -170,28 +210,28 @@ pub data Turn (plan : Plan) (lane : LaneName) (s : Sight) (made : Answered) : Ne
   Shuts : (e : Role) (queue : ℕ) (looked : Bool) → Turn plan lane s made (looked_news looked) (with_closed e (with_bit (end_at s e).closed queue) s)
   Says : (e : Role) (label : Label) → IsAside lane made e label → Turn plan lane s made no_news (posted e label s)
   -- landing
-  LandsFlag : (place : ℕ) (label : Label) (n : ℕ) → MayLand (pair_plan plan lane.pair).strict s Sender place label → write_of lane.queue label ≡ Some (EntryFlag n)
+  LandsFlag : (place : ℕ) (label : Label) (n : ℕ) → MayLandWrite (pair_plan plan lane.pair).strict lane.queue s place label (EntryFlag n)
       → Turn plan lane s made (record no_news { ring = ring_landed s.lane (EntryFlag n) }) (record (taken Sender place s) { lane = record s.lane { flagged = s.lane.flagged + 1 } })
-  LandsField : (place : ℕ) (label : Label) (n : ℕ) (field : Field) → MayLand (pair_plan plan lane.pair).strict s Sender place label
-      → write_of lane.queue label ≡ Some (Data n field) → Turn plan lane s made (record no_news { ring = ring_landed s.lane (Data n field) }) (taken Sender place s)
+  LandsField : (place : ℕ) (label : Label) (n : ℕ) (field : Field) → MayLandWrite (pair_plan plan lane.pair).strict lane.queue s place label (Data n field)
+      → Turn plan lane s made (record no_news { ring = ring_landed s.lane (Data n field) }) (taken Sender place s)
   LandsIndex : (place : ℕ) (n : ℕ) → MayLand (pair_plan plan lane.pair).strict s Receiver place (Index lane.queue n)
       → Turn plan lane s made (record no_news { gives = true; ring = ring_freed n }) (record (taken Receiver place s) { lane = record s.lane { freed = n + 1 } })
   LandsBell : (e : Role) (place queue : ℕ) → MayLand (pair_plan plan lane.pair).strict s e place (Bell queue)
       → Turn plan lane s made no_news (with_pending (peer_of e) (with_bit (end_at s (peer_of e)).pending queue) (taken e place s))
   LandsPad : (e : Role) (place i value : ℕ) → MayLand (pair_plan plan lane.pair).strict s e place (Pad i value)
       → Turn plan lane s made (record no_news { pads = pads_landed e i value }) (with_pads (peer_of e) (slice_set (end_at s (peer_of e)).pads i value) (taken e place s))
-  LandsAside : (e : Role) (place : ℕ) (label : Label) → MayLand (pair_plan plan lane.pair).strict s e place label → IsForeign lane.queue e label → is_handshake label ≡ false
+  LandsAside : (e : Role) (place : ℕ) (label : Label) → MayLandAside (pair_plan plan lane.pair).strict lane.queue s e place label
       → Turn plan lane s made no_news (taken e place s)
   -- receiving
-  Looks : (bytes : List ℕ) → MayLook lane.queue s → (s.lane.flagged == s.lane.got) ≡ false → entry_in s.lane s.lane.got ≡ Carries bytes
+  Looks : (bytes : List ℕ) → MayLook lane.queue s bytes
       → Turn plan lane s made (looked_news true) (record s { lane = record s.lane { phase = Copying; part = 0 } })
-  CopiesPart : is_copying s.lane.phase ≡ true → nat_lt (s.lane.part + 1) (chunks_in (length (bytes_of (entry_in s.lane s.lane.got)))) ≡ true
+  CopiesPart : MayCopy s true
       → Turn plan lane s made no_news (record s { lane = record s.lane { part = s.lane.part + 1 } })
-  CopiesLast : is_copying s.lane.phase ≡ true → nat_lt (s.lane.part + 1) (chunks_in (length (bytes_of (entry_in s.lane s.lane.got)))) ≡ false
+  CopiesLast : MayCopy s false
       → Turn plan lane s made (record no_news { delivered = record { number = s.lane.got; bytes = bytes_of (entry_in s.lane s.lane.got) } ∷ [] })
       (record s { lane = record s.lane { got = s.lane.got + 1; phase = Copied }; tally = updated s.tally s.session (more_delivered (s.tally s.session)) })
-  Clears : is_copied s.lane.phase ≡ true → Turn plan lane s made (record no_news { ring = ring_cleared s.lane.cleared }) (record s { lane = record s.lane { cleared = s.lane.cleared + 1; phase = Cleared } })
-  Acks : is_cleared s.lane.phase ≡ true → Turn plan lane s made no_news (posted Receiver (Index lane.queue s.lane.acked) (record s { lane = record s.lane { acked = s.lane.acked + 1; phase = Idle } }))
+  Clears : MayClear s → Turn plan lane s made (record no_news { ring = ring_cleared s.lane.cleared }) (record s { lane = record s.lane { cleared = s.lane.cleared + 1; phase = Cleared } })
+  Acks : MayAck s → Turn plan lane s made no_news (posted Receiver (Index lane.queue s.lane.acked) (record s { lane = record s.lane { acked = s.lane.acked + 1; phase = Idle } }))
   -- doorbells
   TakesBells : (e : Role) → Turn plan lane s made (record no_news { sees = sees_taken lane.queue e (without_bits (end_at s e).pending (end_at s e).masked) }) (with_pending e (bit_and (end_at s e).pending (end_at s e).masked) s)
   Masks : (e : Role) (masked : ℕ) → Turn plan lane s made no_news (with_masked e masked s)
