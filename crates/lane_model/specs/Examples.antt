@@ -10,7 +10,7 @@ use Rattle.lane_model.specs.declared.Write.TheVariants.{Data, Flag, Bell}
 
 -- a slot for payloads of up to two bytes
 abbrev pub slot : ℕ → ℕ → ℕ → ℕ → Slot
-slot byte len ver flags = record { payload = byte ∷ 0 ∷ []; len = len; ver = ver; flags = flags }
+slot byte len ver flags = record { payload = byte ∷ 0 ∷ []; left = 0; ver = ver; len = len; flags = flags }
 
 abbrev pub fresh : Lane
 fresh =
@@ -34,7 +34,7 @@ fresh =
     }
 
 abbrev pub letter : Entry
-letter = Carries (97 ∷ [])
+letter = Carries (97 ∷ []) 0
 
 -- the writes of one byte: its chunk, length and version, then the flags, then the doorbell
 abbrev pub letter_writes : ℕ → List Write
@@ -99,8 +99,8 @@ Received =
 -- a payload of 300 bytes takes three copies
 abbrev pub InParts : Type 0
 InParts =
-    (more_to_copy (record looked { sent = Carries (replicate 300 7) ∷ []; part = 1 }) ≡ true)
-    × (more_to_copy (record looked { sent = Carries (replicate 300 7) ∷ []; part = 2 }) ≡ false)
+    (more_to_copy (record looked { sent = Carries (replicate 300 7) 0 ∷ []; part = 1 }) ≡ true)
+    × (more_to_copy (record looked { sent = Carries (replicate 300 7) 0 ∷ []; part = 2 }) ≡ false)
 
 -- the index write lands, and there is room again
 abbrev pub freed : Lane

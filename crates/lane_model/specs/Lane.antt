@@ -9,28 +9,35 @@ pub use Rattle.lane_model.specs.declared.Write.{Write}
 pub use Rattle.lane_model.specs.declared.Write.TheVariants.{Data, Flag, Bell}
 use Rattle.lane_model.specs.declared.Phase.{Phase}
 
--- What a sender puts into one entry of the ring: a frame's bytes, or the word that this end of the queue goes down.
+-- What a sender puts into one slot of the ring: a piece of a frame with the number of pieces that follow it, or the word
+-- that this end of the queue goes down. A frame that fits one slot is one piece, and none is left.
 pub data Entry : Type 0 where
-  Carries : (bytes : List ℕ) → Entry
+  Carries : (bytes : List ℕ) (left : ℕ) → Entry
   GoesDown : Entry
 
 abbrev pub bytes_of : Entry → List ℕ
-bytes_of (Carries bytes) = bytes
+bytes_of (Carries bytes left) = bytes
 bytes_of GoesDown = []
 
--- A slot of the ring: the payload at its beginning, and the three fields of the header at its end.
+-- how many entries of its frame follow it
+abbrev pub left_of : Entry → ℕ
+left_of (Carries bytes left) = left
+left_of GoesDown = 0
+
+-- A slot of the ring: the payload at its beginning, and the four fields of the header at its end.
 pub record Slot : Type 0 where
   pub payload : List ℕ
-  pub len : ℕ
+  pub left : ℕ
   pub ver : ℕ
+  pub len : ℕ
   pub flags : ℕ
 
 abbrev pub blank_slot : Slot
-blank_slot = record { payload = []; len = 0; ver = 0; flags = 0 }
+blank_slot = record { payload = []; left = 0; ver = 0; len = 0; flags = 0 }
 
 -- a slot of which all bytes are zero
 abbrev pub zeroed_slot : ℕ → Slot
-zeroed_slot largest = record { payload = replicate largest 0; len = 0; ver = 0; flags = 0 }
+zeroed_slot largest = record { payload = replicate largest 0; left = 0; ver = 0; len = 0; flags = 0 }
 
 pub record Lane : Type 0 where
   -- how many slots the ring has, and the most bytes that a payload takes
@@ -92,7 +99,7 @@ abbrev pub done : ℕ
 done = 1
 
 abbrev pub flags_of : Entry → ℕ
-flags_of (Carries bytes) = done
+flags_of (Carries bytes left) = done
 flags_of GoesDown = done + 2
 
 -- the version of a header is the entry's number in 32 bits
@@ -111,19 +118,18 @@ slot_of lane n = slice_index_or lane.ring (n % lane.entries) blank_slot
 abbrev pub ring_with : Lane → ℕ → Slot → List Slot
 ring_with lane n slot = slice_set lane.ring (n % lane.entries) slot
 
--- bytes written over others from a slot on
+-- bytes written over others from a place on
 abbrev pub overwritten : ℕ → List ℕ → List ℕ → List ℕ
 overwritten at bytes old = take at old ++ bytes ++ drop (at + length bytes) old
 
--- a slot with a field of entry n in it
+-- a slot with a field of entry n in it; the version is written with the number of entries that follow
 abbrev pub with_field : Slot → ℕ → Entry → Field → Slot
-with_field slot n entry (Chunk part) =
-    record { payload = overwritten (chunk_size * part) (chunk_of (bytes_of entry) part) slot.payload; len = slot.len; ver = slot.ver; flags = slot.flags }
-with_field slot n entry Length = record { payload = slot.payload; len = length (bytes_of entry); ver = slot.ver; flags = slot.flags }
-with_field slot n entry Version = record { payload = slot.payload; len = slot.len; ver = version_of n; flags = slot.flags }
+with_field slot n entry (Chunk part) = record slot { payload = overwritten (chunk_size * part) (chunk_of (bytes_of entry) part) slot.payload }
+with_field slot n entry Length = record slot { len = length (bytes_of entry) }
+with_field slot n entry Version = record slot { left = left_of entry; ver = version_of n }
 
 abbrev pub with_flags : Slot → ℕ → Slot
-with_flags slot flags = record { payload = slot.payload; len = slot.len; ver = slot.ver; flags = flags }
+with_flags slot flags = record slot { flags = flags }
 
 -- the free entries, as the sender counts them by its head and the index word in its memory
 abbrev pub free_in : Lane → ℕ

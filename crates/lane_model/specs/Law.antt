@@ -4,7 +4,7 @@
 -- and of strict lanes at once: only which landings may happen tells them apart.
 use Rattle.std.specs.Prelude.{◌≡◌, ℕ, suc, ◌+◌, ◌-◌, ◌*◌, ◌%◌, ◌<◌, ◌≤◌, true, List, [], ◌∷◌, ◌++◌, length, drop, take, slice_index_or, if◌then◌else◌, nat_lt, ◌⊎◌, Contains}
 use Rattle.lane_model.specs.Ring.{tail_of}
-use Rattle.lane_model.specs.Lane.{Entry, GoesDown, Field, Chunk, Length, Version, Write, Data, Flag, Bell, Slot, blank_slot, Lane, bytes_of, chunk_of, chunk_size, count_from, copies_of, data_of, writes_of, flags_of, version_of}
+use Rattle.lane_model.specs.Lane.{Entry, GoesDown, Field, Chunk, Length, Version, Write, Data, Flag, Bell, Slot, blank_slot, Lane, bytes_of, left_of, chunk_of, chunk_size, count_from, copies_of, data_of, writes_of, flags_of, version_of, entry_of, slot_of}
 use Rattle.lane_model.specs.declared.Phase.{Phase}
 use Rattle.lane_model.specs.declared.Phase.TheVariants.{Idle, Copying, Copied, Cleared}
 
@@ -47,11 +47,12 @@ EndTheLast sent todo = (todo ≡ []) ⊎ ((n : ℕ) × (posted : List Write) × 
 abbrev pub Stands : Slot → ℕ → Entry → Field → Type 0
 Stands slot n entry (Chunk part) = take (length (chunk_of (bytes_of entry) part)) (drop (chunk_size * part) slot.payload) ≡ chunk_of (bytes_of entry) part
 Stands slot n entry Length = slot.len ≡ length (bytes_of entry)
-Stands slot n entry Version = slot.ver ≡ version_of n
+Stands slot n entry Version = (slot.left ≡ left_of entry) × (slot.ver ≡ version_of n)
 
--- an entry stands whole in a slot: payload, length, version and flags
+-- an entry stands whole in a slot: payload, what follows, length, version and flags
 pub record StandsWhole (slot : Slot) (n : ℕ) (entry : Entry) : Type 0 where
   pub payload : take (length (bytes_of entry)) slot.payload ≡ bytes_of entry
+  pub left : slot.left ≡ left_of entry
   pub len : slot.len ≡ length (bytes_of entry)
   pub ver : slot.ver ≡ version_of n
   pub flags : slot.flags ≡ flags_of entry

@@ -2,14 +2,7 @@
 -- stopped where the ring runs full and started again where there is room.
 use Rattle.std.specs.Prelude.{ℕ, ◌+◌, ◌/◌, ◌%◌, Bool, ◌&&◌, ◌||◌, List, ◌∷◌, ◌++◌, nat_lt, if◌then◌else◌}
 use Rattle.step_kinds.specs.declared.plan.Counters.{Counters}
-
--- the bytes of the two addresses and the kind in front of an Ethernet payload
-abbrev pub ethernet_header : ℕ
-ethernet_header = 14
-
--- an Ethernet frame: destination and source, the kind with its high byte first, and the payload
-abbrev pub ethernet_frame : List ℕ → List ℕ → ℕ → List ℕ → List ℕ
-ethernet_frame dst src kind payload = dst ++ src ++ kind / 256 ∷ kind % 256 ∷ payload
+use Rattle.plan_model.specs.Ethernet.{ethernet_header}
 
 -- when a device stops and when it goes on, in free entries of its ring
 pub record Flow : Type 0 where
@@ -17,7 +10,7 @@ pub record Flow : Type 0 where
   pub start : ℕ
   pub stopped : Bool
 
--- whether it is stopped after a frame was taken that left so many entries free
+-- whether it is stopped after a frame was accepted that left so many entries free
 abbrev pub stopped_after_send : Flow → ℕ → Bool
 stopped_after_send flow free = flow.stopped || nat_lt free flow.stop
 
@@ -28,9 +21,9 @@ stays_stopped flow free = flow.stopped && nat_lt free flow.start
 abbrev pub no_counts : Counters
 no_counts = record { tx = 0; tx_bytes = 0; refused = 0; rx = 0; rx_bytes = 0; short = 0 }
 
--- a frame of so many bytes was taken to be sent
-abbrev pub count_taken : Counters → ℕ → Counters
-count_taken c len = record { tx = c.tx + 1; tx_bytes = c.tx_bytes + len; refused = c.refused; rx = c.rx; rx_bytes = c.rx_bytes; short = c.short }
+-- a frame of so many bytes was accepted
+abbrev pub count_accepted : Counters → ℕ → Counters
+count_accepted c len = record { tx = c.tx + 1; tx_bytes = c.tx_bytes + len; refused = c.refused; rx = c.rx; rx_bytes = c.rx_bytes; short = c.short }
 
 -- a frame was refused
 abbrev pub count_refused : Counters → Counters

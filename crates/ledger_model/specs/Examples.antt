@@ -13,7 +13,7 @@ use Rattle.step_kinds.specs.declared.steps.Step.{Step}
 use Rattle.step_kinds.specs.declared.steps.Step.TheVariants.{Enable, Train, Break, DropDone, Clean, Offer, Check, Ready, Join, Begin, QpDown, Xbegin, Post, Land, Look, Copy, Ack, Wake, Irq, Mask, Unmask, ShowQueue, ShowPad}
 use Rattle.ledger_model.specs.Ledger.{tally_of}
 use Rattle.ledger_model.specs.Log.{Memories, ledger_of, log_of}
-use Rattle.ledger_model.specs.Macros.{send, xmit, land_all, receive, offer_all}
+use Rattle.plan_model.specs.Macros.{send, xmit, land_all, receive, offer_all}
 
 -- a side of one window and one queue with 4,096 bytes
 abbrev pub small_side : SidePlan
@@ -48,19 +48,19 @@ received_answers n frame = ReadyFrame n (length frame) ∷ Delivered n frame ∷
 
 -- a frame there and back
 abbrev pub OneFrame : Type 0
-OneFrame = answers small_pair [] (send 0 A 0 letter ++ land_all 0 A 5 ++ receive 0 B 0 1)
+OneFrame = answers small_pair [] (send small_pair 0 A 0 letter ++ land_all 0 A 5 ++ receive 0 B 0 1)
     ≡ sent_answers 0 ++ landed_answers 0 ++ received_answers 0 letter
 
 -- the ring takes three frames
 abbrev pub RingFull : Type 0
-RingFull = answers small_pair [] (send 0 A 0 letter ++ send 0 A 0 letter ++ send 0 A 0 letter ++ Begin 0 A 0 letter ∷ [])
+RingFull = answers small_pair [] (send small_pair 0 A 0 letter ++ send small_pair 0 A 0 letter ++ send small_pair 0 A 0 letter ++ Begin 0 A 0 letter ∷ [])
     ≡ sent_answers 0 ++ sent_answers 1 ++ sent_answers 2 ++ Again 3 3 ∷ []
 
 -- an index write that landed gives one entry back
 abbrev pub RoomAfterIndex : Type 0
 RoomAfterIndex =
     drop 33 (answers small_pair []
-    (send 0 A 0 letter ++ send 0 A 0 letter ++ send 0 A 0 letter ++ land_all 0 A 15 ++ receive 0 B 0 1 ++ Land 0 B 0 ∷ [] ++ send 0 A 0 letter ++ Begin 0 A 0 letter ∷ []))
+    (send small_pair 0 A 0 letter ++ send small_pair 0 A 0 letter ++ send small_pair 0 A 0 letter ++ land_all 0 A 15 ++ receive 0 B 0 1 ++ Land 0 B 0 ∷ [] ++ send small_pair 0 A 0 letter ++ Begin 0 A 0 letter ∷ []))
     ≡ received_answers 0 letter ++ Landed (Index 0 0) ∷ [] ++ sent_answers 3 ++ Again 0 0 ∷ []
 
 -- the largest payload is accepted, one byte more is too long, and a lane with writes left to post is busy
@@ -74,25 +74,25 @@ relaxed_pair = record small_pair { strict = false }
 -- on a relaxed pair chunks land in any order, and the flags pass none of them
 abbrev pub ChunksInAnyOrder : Type 0
 ChunksInAnyOrder =
-    drop 8 (answers relaxed_pair [] (send 0 A 0 (replicate 300 7) ++ Land 0 A 2 ∷ Land 0 A 4 ∷ Land 0 A 5 ∷ Land 0 A 4 ∷ Land 0 A 0 ∷ Land 0 A 0 ∷ land_all 0 A 2 ++ receive 0 B 0 3))
+    drop 8 (answers relaxed_pair [] (send small_pair 0 A 0 (replicate 300 7) ++ Land 0 A 2 ∷ Land 0 A 4 ∷ Land 0 A 5 ∷ Land 0 A 4 ∷ Land 0 A 0 ∷ Land 0 A 0 ∷ land_all 0 A 2 ++ receive 0 B 0 3))
     ≡ Landed (Chunk 0 0 2) ∷ Blocked ∷ Blocked ∷ Blocked ∷ Landed (Chunk 0 0 0) ∷ Landed (Chunk 0 0 1) ∷ Landed (Len 0 0) ∷ Landed (Ver 0 0)
     ∷ Empty ∷ OutOfTurn ∷ OutOfTurn ∷ OutOfTurn ∷ OutOfTurn ∷ OutOfTurn ∷ []
 
 -- a chunk of a later frame lands first, and the earlier frame is received unchanged
 abbrev pub LaterChunkFirst : Type 0
 LaterChunkFirst =
-    drop 12 (answers relaxed_pair [] (send 0 A 0 letter ++ send 0 A 0 (98 ∷ []) ++ Land 0 A 5 ∷ land_all 0 A 4 ++ receive 0 B 0 1 ++ Look 0 B 0 ∷ []))
+    drop 12 (answers relaxed_pair [] (send small_pair 0 A 0 letter ++ send small_pair 0 A 0 (98 ∷ []) ++ Land 0 A 5 ∷ land_all 0 A 4 ++ receive 0 B 0 1 ++ Look 0 B 0 ∷ []))
     ≡ Landed (Chunk 0 1 0) ∷ Landed (Chunk 0 0 0) ∷ Landed (Len 0 0) ∷ Landed (Ver 0 0) ∷ Landed (Flag 0 0) ∷ received_answers 0 letter ++ Empty ∷ []
 
 -- the flags may not land before earlier writes, the length may, and past the list is nothing
 abbrev pub FlagPassesNothing : Type 0
-FlagPassesNothing = drop 6 (answers relaxed_pair [] (send 0 A 0 letter ++ Land 0 A 3 ∷ Land 0 A 1 ∷ Land 0 A 9 ∷ []))
+FlagPassesNothing = drop 6 (answers relaxed_pair [] (send small_pair 0 A 0 letter ++ Land 0 A 3 ∷ Land 0 A 1 ∷ Land 0 A 9 ∷ []))
     ≡ Blocked ∷ Landed (Len 0 0) ∷ Nothing ∷ []
 
 -- index writes are strict on every pair
 abbrev pub IndexStaysStrict : Type 0
 IndexStaysStrict =
-    drop 28 (answers relaxed_pair [] (send 0 A 0 letter ++ send 0 A 0 letter ++ land_all 0 A 10 ++ receive 0 B 0 1 ++ receive 0 B 0 1 ++ Land 0 B 1 ∷ Land 0 B 0 ∷ []))
+    drop 28 (answers relaxed_pair [] (send small_pair 0 A 0 letter ++ send small_pair 0 A 0 letter ++ land_all 0 A 10 ++ receive 0 B 0 1 ++ receive 0 B 0 1 ++ Land 0 B 1 ∷ Land 0 B 0 ∷ []))
     ≡ drop 6 (received_answers 0 letter ++ received_answers 1 letter) ++ Blocked ∷ Landed (Index 0 0) ∷ []
 
 -- a link that is lost in the middle of a frame, a whole handshake, and a second session in which the number is 0 again
@@ -116,7 +116,7 @@ SecondSession =
 abbrev pub BreakWithFlagInFlight : Type 0
 BreakWithFlagInFlight =
     drop 9 (answers small_pair []
-    (send 0 A 0 letter ++ land_all 0 A 3 ++ Break 0 ∷ Land 0 A 0 ∷ Begin 0 A 0 letter ∷ DropDone 0 ∷ ShowQueue 0 A 0 ∷ receive 0 B 0 1 ++ Clean 0 B ∷ Look 0 B 0 ∷ []))
+    (send small_pair 0 A 0 letter ++ land_all 0 A 3 ++ Break 0 ∷ Land 0 A 0 ∷ Begin 0 A 0 letter ∷ DropDone 0 ∷ ShowQueue 0 A 0 ∷ receive 0 B 0 1 ++ Clean 0 B ∷ Look 0 B 0 ∷ []))
     ≡ Done ∷ Landed (Flag 0 0) ∷ LinkDown ∷ Done ∷ QueueShown 0 None ∷ received_answers 0 letter ++ Done ∷ NotReady ∷ []
 
 -- after a drop a side is dirty until its clean, and a train needs both sides
@@ -158,7 +158,7 @@ AlreadyAgreed = answers small_pair [] (Check 0 A ∷ offer_all 0 A 1 ++ Ready 0 
 -- a masked doorbell stays pending and shows after it is unmasked, once
 abbrev pub MaskedDoorbell : Type 0
 MaskedDoorbell =
-    drop 12 (answers small_pair [] (Mask 0 B 1 ∷ send 0 A 0 letter ++ land_all 0 A 5 ++ Irq 0 B ∷ Unmask 0 B 1 ∷ Irq 0 B ∷ Irq 0 B ∷ receive 0 B 0 1))
+    drop 12 (answers small_pair [] (Mask 0 B 1 ∷ send small_pair 0 A 0 letter ++ land_all 0 A 5 ++ Irq 0 B ∷ Unmask 0 B 1 ∷ Irq 0 B ∷ Irq 0 B ∷ receive 0 B 0 1))
     ≡ IrqBits 0 ∷ Done ∷ IrqBits 1 ∷ IrqBits 0 ∷ received_answers 0 letter
 
 -- a link-down entry closes the queue at the sender at once and at the receiver when it is looked at
@@ -175,7 +175,7 @@ device side last = record { name = 100 ∷ []; pair = 0; side = side; queue = 0;
 abbrev pub DeviceStopsAndWakes : Type 0
 DeviceStopsAndWakes =
     answers small_pair (device A 1 ∷ device B 2 ∷ [])
-    (xmit 0 A 0 0 address 2048 letter ++ xmit 0 A 0 0 address 2048 letter ++ Xbegin 0 A 0 0 address 2048 letter ∷ Wake 0 A 0 0
+    (xmit small_pair 0 A 0 0 address 2048 letter ++ xmit small_pair 0 A 0 0 address 2048 letter ++ Xbegin 0 A 0 0 address 2048 letter ∷ Wake 0 A 0 0
     ∷ land_all 0 A 10 ++ receive 0 B 0 1 ++ receive 0 B 0 1 ++ land_all 0 B 2 ++ Wake 0 A 0 0 ∷ [])
     ≡ sent_answers 0 ++ sent_answers 1 ++ Stopped ∷ Stopped ∷ landed_answers 0 ++ landed_answers 1
     ++ received_answers 0 frame ++ received_answers 1 frame ++ Landed (Index 0 0) ∷ Landed (Index 0 1) ∷ Awake ∷ []
@@ -189,7 +189,7 @@ DeviceStopsAndWakes =
 -- a second look and an early ack are out of turn, and so is a second copy; a lane without writes left answers idle
 abbrev pub StepByStep : Type 0
 StepByStep =
-    drop 10 (answers small_pair [] (send 0 A 0 letter ++ land_all 0 A 4 ++ Look 0 B 0 ∷ Look 0 B 0 ∷ Ack 0 B 0 ∷ Copy 0 B 0 ∷ Copy 0 B 0 ∷ Post 0 A 0 ∷ []))
+    drop 10 (answers small_pair [] (send small_pair 0 A 0 letter ++ land_all 0 A 4 ++ Look 0 B 0 ∷ Look 0 B 0 ∷ Ack 0 B 0 ∷ Copy 0 B 0 ∷ Copy 0 B 0 ∷ Post 0 A 0 ∷ []))
     ≡ ReadyFrame 0 1 ∷ OutOfTurn ∷ OutOfTurn ∷ Delivered 0 letter ∷ OutOfTurn ∷ Idle ∷ []
 
 -- on a link that is down each step that needs one is refused
@@ -202,7 +202,7 @@ LinkIsNeeded =
 -- each frame is counted once where it is accepted and once where it is delivered, in its session
 abbrev pub TalliesCount : Type 0
 TalliesCount =
-    tally_of (ledger_of (plan_of small_pair []) no_memory (send 0 A 0 letter ++ send 0 A 0 letter ++ land_all 0 A 5 ++ receive 0 B 0 1) 0) A 0 1
+    tally_of (ledger_of (plan_of small_pair []) no_memory (send small_pair 0 A 0 letter ++ send small_pair 0 A 0 letter ++ land_all 0 A 5 ++ receive 0 B 0 1) 0) A 0 1
     ≡ record { accepted = 2; delivered = 1 }
 
 -- a train begins the next session

@@ -1,6 +1,6 @@
 -- The handshake: each side offers its numbers in the peer's scratchpads, checks the peer's, and says which queues are
 -- ready and joined. `ntb_transport` agrees on versions, queues, windows and link bits in the same way.
-use Rattle.std.specs.Prelude.{ℕ, ◌+◌, ◌*◌, ◌/◌, ◌%◌, ◌^◌, ◌==◌, Bool, true, not, Option, Some, None, List, [], ◌∷◌, ◌++◌, length, slice_index, slice_index_or, find, nat_lt}
+use Rattle.std.specs.Prelude.{ℕ, ◌+◌, ◌*◌, ◌/◌, ◌%◌, ◌^◌, ◌==◌, ◌&&◌, ◌||◌, Bool, true, not, Option, Some, None, List, [], ◌∷◌, ◌++◌, length, slice_index, slice_index_or, find, nat_lt}
 use Rattle.std.specs.List.{flat_map}
 use Rattle.step_kinds.specs.Bits.{with_bit, has_bit}
 use Rattle.step_kinds.specs.declared.names.Side.{Side}
@@ -11,8 +11,10 @@ use Rattle.step_kinds.specs.declared.steps.Label.TheVariants.{Pad}
 use Rattle.step_kinds.specs.declared.steps.Answer.{Answer}
 use Rattle.step_kinds.specs.declared.steps.Answer.TheVariants.{Ok as Done, LinkDown, Already, Offered, NotYet, Version, Queues, Windows, Size, Up, NotChecked, NotReady, Joined}
 use Rattle.lane_model.specs.Lane.{count_from}
-use Rattle.ledger_model.specs.Ledger.{SidePart, PairPart, side_of, with_side_part, link_up, posts, side_plan, version_pad, links_pad, queues_pad, windows_pad, high_pad, low_pad}
+use Rattle.ledger_model.specs.Ledger.{SidePart, PairPart, side_of, with_side_part, link_up, posts}
 use Rattle.ledger_model.specs.Outcome.{Outcome, refuse_if, decided}
+use Rattle.plan_model.specs.Pads.{version_pad, links_pad, queues_pad, windows_pad, high_pad, low_pad}
+use Rattle.plan_model.specs.Plans.{side_plan}
 
 -- a scratchpad has 32 bits, so a window's size takes two
 abbrev pub word : ℕ
@@ -49,6 +51,10 @@ size_in part m = pad_in part (high_pad m) * word + pad_in part (low_pad m)
 abbrev pub refuse_differing : ℕ → ℕ → (ℕ → ℕ → Answer) → Option Answer → Option Answer
 refuse_differing seen own refusal later = refuse_if (not (seen == own)) (refusal seen own) later
 
+-- where the versions differ and one of them is older than 4: of two that are newer the older one is spoken
+abbrev pub refuse_version : ℕ → ℕ → Option Answer → Option Answer
+refuse_version seen own later = refuse_if (not (seen == own) && (nat_lt seen 4 || nat_lt own 4)) (Version seen own) later
+
 -- where a window of the peer is larger than the own memory gives: the first such window
 abbrev pub refuse_larger : SidePart → ℕ → Option ℕ → Option Answer
 refuse_larger part cap None = None
@@ -59,7 +65,7 @@ check_refusal own part up =
     refuse_if (not up) LinkDown
     (refuse_if part.up Already
     (refuse_if (pad_in part version_pad == 0) NotYet
-    (refuse_differing (pad_in part version_pad) own.version Version
+    (refuse_version (pad_in part version_pad) own.version
     (refuse_differing (pad_in part queues_pad) own.queues Queues
     (refuse_differing (pad_in part windows_pad) own.windows Windows
     (refuse_larger part own.cap (find (λ m. nat_lt own.cap (size_in part m)) (count_from 0 own.windows))))))))

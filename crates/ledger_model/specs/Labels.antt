@@ -1,29 +1,23 @@
 -- The posted writes of a pair by their labels: in which order they may land, and which belong to a lane.
-use Rattle.std.specs.Prelude.{ℕ, Bool, true, false, ◌==◌, Option, Some, None, List, map, if◌then◌else◌}
+use Rattle.std.specs.Prelude.{ℕ, Bool, true, false, ◌==◌, Option, Some, None, List, map, slice_index, if◌then◌else◌}
 use Rattle.std.specs.List.{filter_map}
+use Rattle.step_kinds.specs.declared.names.Side.{Side}
+use Rattle.step_kinds.specs.declared.names.Side.TheVariants.{A, B}
+use Rattle.step_kinds.specs.declared.plan.PairPlan.{PairPlan}
 use Rattle.step_kinds.specs.declared.steps.Label.{Label}
-use Rattle.step_kinds.specs.declared.steps.Label.TheVariants.{Chunk, Len, Ver, Flag, Down, Bell, Index, Raw}
-use Rattle.lane_model.specs.Order.{relaxed, strict}
+use Rattle.step_kinds.specs.declared.steps.Label.TheVariants.{Chunk, Len, Ver, Flag, Down, Bell, Index, Pad, Raw}
+use Rattle.order_rules.specs.Order.{Order, relaxed, strict}
 use Rattle.lane_model.specs.Lane.{Entry, Carries, GoesDown, writes_of}
 use Rattle.lane_model.specs.declared.Field.TheVariants.{Chunk as PayloadChunk, Length, Version}
 use Rattle.lane_model.specs.declared.Write.{Write}
 use Rattle.lane_model.specs.declared.Write.TheVariants.{Data, Flag as EntryFlag, Bell as QueueBell}
-
--- the order of a write: on a strict pair all are strict, elsewhere the fields of an entry and raw bytes are relaxed
-abbrev pub order_of : Bool → Label → ℕ
-order_of true label = strict
-order_of false (Chunk q n part) = relaxed
-order_of false (Len q n) = relaxed
-order_of false (Ver q n) = relaxed
-order_of false (Raw window offset len) = relaxed
-order_of false label = strict
 
 -- the label of a lane's write on a queue, the entry being given
 abbrev pub label_of : ℕ → Entry → Write → Label
 label_of q entry (Data n (PayloadChunk part)) = Chunk q n part
 label_of q entry (Data n Length) = Len q n
 label_of q entry (Data n Version) = Ver q n
-label_of q (Carries bytes) (EntryFlag n) = Flag q n
+label_of q (Carries bytes left) (EntryFlag n) = Flag q n
 label_of q GoesDown (EntryFlag n) = Down q n
 label_of q entry QueueBell = Bell q
 

@@ -1,6 +1,8 @@
 -- The ledger of a cluster: what is so of each pair after the steps that were made. It knows lists, counts and labels, and no
 -- memory, address, flag or version word.
-use Rattle.std.specs.Prelude.{ℕ, ◌+◌, ◌==◌, Bool, List, [], ◌∷◌, ◌++◌, length, slice_index_or, if◌then◌else◌}
+use Rattle.std.specs.Prelude.{ℕ, ◌+◌, ◌-◌, ◌*◌, ◌==◌, ◌&&◌, min, Bool, List, [], ◌∷◌, ◌++◌, length, slice_index_or, if◌then◌else◌}
+use Rattle.step_kinds.specs.Limits.{most_frame_bytes}
+use Rattle.step_kinds.specs.Sides.{other_side}
 use Rattle.step_kinds.specs.declared.names.Side.{Side}
 use Rattle.step_kinds.specs.declared.names.Side.TheVariants.{A, B}
 use Rattle.step_kinds.specs.declared.plan.Counters.{Counters}
@@ -13,19 +15,33 @@ use Rattle.lane_model.specs.declared.Phase.{Phase}
 use Rattle.ring_geometry.specs.Geometry.{Layout, entries_of, max_payload_of}
 use Rattle.ledger_model.specs.Both.{Both, at_side, with_side}
 use Rattle.ledger_model.specs.Link.{Link, is_up}
+use Rattle.plan_model.specs.Sizes.{Sizes}
 
--- A lane in the pair's session: its entries, the writes of the last one that are left to post, and how far each side is.
--- The labels in flight stand with the side that posted them.
+-- A lane in the pair's session: what its sender began, what its receiver found, and how far each is. The labels in flight
+-- stand with the side that posted them.
 pub record LanePart : Type 0 where
+  -- the entries that were begun, those of the last frame that are not begun yet, and the writes of the entry begun last
+  -- that are left to post
   pub sent : List Entry
+  pub waiting : List Entry
   pub todo : List Label
+  -- how many frames and link-down entries were begun
+  pub told : ℕ
+  -- how many entries have their flags landed, were taken whole, were cleared, acknowledged and given back
   pub flagged : ℕ
   pub got : ℕ
   pub cleared : ℕ
   pub acked : ℕ
   pub freed : ℕ
+  -- where the receiver stands with entry `got`, how many parts of it were copied, its length and how many entries of its frame
+  -- follow it, as the receiver found them
   pub phase : Phase
   pub part : ℕ
+  pub len : ℕ
+  pub left : ℕ
+  -- the bytes copied so far of the frame under way, and how many frames were delivered
+  pub gathered : List ℕ
+  pub done : ℕ
 
 -- One side of a pair: what it reached in the handshake, its scratchpads and doorbells, and its writes in flight. Sets of
 -- queues and of doorbells are the bits of a number.
@@ -39,6 +55,8 @@ pub record SidePart : Type 0 where
   pub pending : ℕ
   pub masked : ℕ
   pub flight : List Label
+  -- the bytes of the raw writes among them, in order
+  pub poked : List (List ℕ)
 
 -- A network device on a queue.
 pub record DevPart : Type 0 where
@@ -67,6 +85,10 @@ side_of pair side = at_side pair.sides side
 
 abbrev pub lane_of : PairPart → Side → ℕ → LanePart
 lane_of pair from queue = at_side pair.lanes from queue
+
+-- the lane that a side receives on a queue
+abbrev pub lane_to : PairPart → Side → ℕ → LanePart
+lane_to pair side queue = lane_of pair (other_side side) queue
 
 abbrev pub dev_of : PairPart → Side → ℕ → DevPart
 dev_of pair side queue = at_side pair.devs side queue
@@ -98,35 +120,24 @@ posts pair side label =
     then with_side_part pair side (record (side_of pair side) { flight = (side_of pair side).flight ++ label ∷ [] })
     else pair
 
--- the numbers of a lane's ring
-pub record Sizes : Type 0 where
-  -- slots of the ring, and the most bytes of a frame
-  pub entries : ℕ
-  pub largest : ℕ
+-- the same of a raw write and its bytes
+abbrev pub posts_raw : PairPart → Side → Label → List ℕ → PairPart
+posts_raw pair side label bytes =
+    if link_up pair
+    then with_side_part pair side
+    (record (side_of pair side) { flight = (side_of pair side).flight ++ label ∷ []; poked = (side_of pair side).poked ++ bytes ∷ [] })
+    else pair
 
--- the bytes of a header
-abbrev pub header_bytes : ℕ
-header_bytes = 12
+-- the entries that a lane's sender has begun or keeps waiting, those that are free for it, and what it reads of head and
+-- index word
+abbrev pub begun_in : LanePart → ℕ
+begun_in lane = length lane.sent + length lane.waiting
 
-abbrev pub side_plan : PairPlan → Side → SidePlan
-side_plan plan A = plan.a
-side_plan plan B = plan.b
-
--- the ring of a lane lies in a window that its sender sends through, so the sender's numbers say how large it is
-abbrev pub layout_of : PairPlan → Side → ℕ → Layout
-layout_of plan from queue =
-    let own = side_plan plan from in
-    record { window = own.size; windows = own.windows; queues = own.queues; queue = queue; mtu = plan.mtu; header = header_bytes }
-
-abbrev pub sizes_of : PairPlan → Side → ℕ → Sizes
-sizes_of plan from queue = record { entries = entries_of (layout_of plan from queue); largest = max_payload_of (layout_of plan from queue) }
-
--- the entries that are free for the sender, and what it reads of head and index word
 abbrev pub free_of : Sizes → LanePart → ℕ
-free_of sizes lane = room_of sizes.entries (length lane.sent) lane.freed
+free_of sizes lane = room_of sizes.entries (begun_in lane) lane.freed
 
 abbrev pub head_in : Sizes → LanePart → ℕ
-head_in sizes lane = head_of sizes.entries (length lane.sent)
+head_in sizes lane = head_of sizes.entries (begun_in lane)
 
 abbrev pub tail_in : Sizes → LanePart → ℕ
 tail_in sizes lane = tail_of sizes.entries lane.freed
@@ -134,22 +145,3 @@ tail_in sizes lane = tail_of sizes.entries lane.freed
 -- entry n of a lane
 abbrev pub entry_in : LanePart → ℕ → Entry
 entry_in lane n = slice_index_or lane.sent n GoesDown
-
--- the numbers of the scratchpads that the handshake uses
-abbrev pub version_pad : ℕ
-version_pad = 0
-
-abbrev pub links_pad : ℕ
-links_pad = 1
-
-abbrev pub queues_pad : ℕ
-queues_pad = 2
-
-abbrev pub windows_pad : ℕ
-windows_pad = 3
-
-abbrev pub high_pad : ℕ → ℕ
-high_pad m = 4 + (m + m)
-
-abbrev pub low_pad : ℕ → ℕ
-low_pad m = 5 + (m + m)

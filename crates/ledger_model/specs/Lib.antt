@@ -7,9 +7,10 @@ pub mod Ledger
 pub mod Link
 pub mod LinkSteps
 pub mod Log
-pub mod Macros
 pub mod Next
 pub mod Outcome
+pub mod Pieces
+pub mod Reading
 pub mod Receiving
 pub mod Registers
 pub mod Rings

@@ -27,7 +27,24 @@ answer_of_refusal (Some refusal) = Some (refusal_answer refusal)
 
 -- a lane in which nothing was begun
 abbrev pub fresh_lane : LanePart
-fresh_lane = record { sent = []; todo = []; flagged = 0; got = 0; cleared = 0; acked = 0; freed = 0; phase = Idle; part = 0 }
+fresh_lane =
+    record {
+      sent = [];
+      waiting = [];
+      todo = [];
+      told = 0;
+      flagged = 0;
+      got = 0;
+      cleared = 0;
+      acked = 0;
+      freed = 0;
+      phase = Idle;
+      part = 0;
+      len = 0;
+      left = 0;
+      gathered = [];
+      done = 0;
+    }
 
 abbrev pub enable_step : PairPart → Side → Outcome
 enable_step pair side = decided pair (answer_of_refusal (enable_refusal pair.link side)) Done (record pair { link = enabled_link pair.link side })
@@ -43,7 +60,7 @@ break_step pair = decided pair (answer_of_refusal (cut_refusal pair.link)) Done 
 
 -- a side whose writes in flight were dropped
 abbrev pub emptied_side : SidePart → SidePart
-emptied_side part = record part { flight = [] }
+emptied_side part = record part { flight = []; poked = [] }
 
 abbrev pub drop_step : PairPart → Outcome
 drop_step pair =
@@ -57,10 +74,10 @@ cleaned_side part =
 
 -- a lane whose sender, or whose receiver, forgets the session
 abbrev pub forgotten_by_sender : LanePart → LanePart
-forgotten_by_sender lane = record lane { todo = [] }
+forgotten_by_sender lane = record lane { waiting = []; todo = [] }
 
 abbrev pub forgotten_by_receiver : LanePart → LanePart
-forgotten_by_receiver lane = record lane { phase = Idle; part = 0 }
+forgotten_by_receiver lane = record lane { phase = Idle; part = 0; gathered = [] }
 
 abbrev pub started_dev : DevPart → DevPart
 started_dev dev = record dev { stopped = false }

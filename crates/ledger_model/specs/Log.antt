@@ -1,5 +1,5 @@
 -- The log of a run: each step with its answer. What follows reads a log alone, and no ledger.
-use Rattle.std.specs.Prelude.{ℕ, ◌+◌, ◌-◌, ◌==◌, Bool, true, false, ◌&&◌, Option, Some, None, List, [], ◌∷◌, ◌++◌, count_by, if◌then◌else◌}
+use Rattle.std.specs.Prelude.{ℕ, ◌+◌, ◌-◌, ◌==◌, Bool, true, false, ◌&&◌, Option, Some, None, List, [], ◌∷◌, ◌++◌, count_by, length, map, sum, if◌then◌else◌}
 use Rattle.std.specs.List.{flat_map}
 use Rattle.step_kinds.specs.Bits.{has_bit}
 use Rattle.step_kinds.specs.Sides.{other_side}
@@ -12,8 +12,11 @@ use Rattle.step_kinds.specs.declared.steps.Answer.{Answer}
 use Rattle.step_kinds.specs.declared.steps.Answer.TheVariants.{Ok as Done, OkSession, OkNumber, Landed, Empty, Delivered, Irq as IrqBits}
 use Rattle.step_kinds.specs.declared.steps.Step.{Step}
 use Rattle.step_kinds.specs.declared.steps.Step.TheVariants.{Train, Break, Begin, QpDown, Xbegin, Land, Look, Copy, Irq}
-use Rattle.ledger_model.specs.Device.{ethernet_frame}
-use Rattle.ledger_model.specs.Next.{Bytes, Ledger, start, outcome_in, ledger_after, pair_plan, dev_plan}
+use Rattle.byte_model.specs.Headers.{Bytes}
+use Rattle.ledger_model.specs.Next.{Ledger, start, outcome_in, ledger_after}
+use Rattle.plan_model.specs.Ethernet.{ethernet_frame}
+use Rattle.plan_model.specs.Plans.{pair_plan, dev_plan}
+use Rattle.plan_model.specs.Sizes.{sizes_of, pieces_in}
 
 pub record Answered : Type 0 where
   pub step : Step
@@ -108,19 +111,19 @@ is_on lane pair from queue = (pair == lane.pair) && (same_side from lane.from &&
 
 -- the frame that this accepts on a lane
 abbrev pub accepts : Plan → LaneName → Answered → List Numbered
-accepts plan lane made = taken made.step made.answer where
-  taken : Step → Answer → List Numbered
-  taken (Begin pair side queue frame) (OkNumber n) = if is_on lane pair side queue then record { number = n; bytes = frame } ∷ [] else []
-  taken (Xbegin pair side queue dev dst kind payload) (OkNumber n) =
+accepts plan lane made = frame_of made.step made.answer where
+  frame_of : Step → Answer → List Numbered
+  frame_of (Begin pair side queue frame) (OkNumber n) = if is_on lane pair side queue then record { number = n; bytes = frame } ∷ [] else []
+  frame_of (Xbegin pair side queue dev dst kind payload) (OkNumber n) =
       if is_on lane pair side queue then record { number = n; bytes = ethernet_frame dst (dev_plan plan.devs dev).address kind payload } ∷ [] else []
-  taken step answer = []
+  frame_of step answer = []
 
 -- the frame that this delivers on a lane
 abbrev pub delivers : LaneName → Answered → List Numbered
-delivers lane made = given made.step made.answer where
-  given : Step → Answer → List Numbered
-  given (Copy pair side queue) (Delivered n frame) = if is_on lane pair (other_side side) queue then record { number = n; bytes = frame } ∷ [] else []
-  given step answer = []
+delivers lane made = frame_in made.step made.answer where
+  frame_in : Step → Answer → List Numbered
+  frame_in (Copy pair side queue) (Delivered n frame) = if is_on lane pair (other_side side) queue then record { number = n; bytes = frame } ∷ [] else []
+  frame_in step answer = []
 
 -- what was accepted, and what was delivered, on a lane in a session
 abbrev pub accepted : Plan → List Answered → LaneName → ℕ → List Numbered
@@ -131,27 +134,31 @@ delivered plan log lane session = flat_map (delivers lane) (made_in lane.pair se
 
 -- Room
 
--- whether this begins an entry of the lane
-abbrev pub takes_room : LaneName → Answered → Bool
-takes_room lane made = taken made.step made.answer where
-  taken : Step → Answer → Bool
-  taken (Begin pair side queue frame) (OkNumber n) = is_on lane pair side queue
-  taken (Xbegin pair side queue dev dst kind payload) (OkNumber n) = is_on lane pair side queue
-  taken (QpDown pair side queue) (OkNumber n) = is_on lane pair side queue
-  taken step answer = false
+-- the entries that this begins or keeps waiting on a lane: one for each piece of a frame, and a link-down entry
+abbrev pub takes_room : Plan → LaneName → Answered → ℕ
+takes_room plan lane made = entries_of_step made.step made.answer where
+  entries_of_frame : ℕ → ℕ
+  entries_of_frame len = pieces_in (sizes_of (pair_plan plan lane.pair) lane.from lane.queue).largest len
+
+  entries_of_step : Step → Answer → ℕ
+  entries_of_step (Begin pair side queue frame) (OkNumber n) = if is_on lane pair side queue then entries_of_frame (length frame) else 0
+  entries_of_step (Xbegin pair side queue dev dst kind payload) (OkNumber n) =
+      if is_on lane pair side queue then entries_of_frame (length (ethernet_frame dst (dev_plan plan.devs dev).address kind payload)) else 0
+  entries_of_step (QpDown pair side queue) (OkNumber n) = if is_on lane pair side queue then 1 else 0
+  entries_of_step step answer = 0
 
 -- whether this lands an index write of the lane, which its receiver posted
 abbrev pub gives_room : LaneName → Answered → Bool
-gives_room lane made = given made.step made.answer where
-  given : Step → Answer → Bool
-  given (Land pair side place) (Landed (Index queue n)) = is_on lane pair (other_side side) queue
-  given step answer = false
+gives_room lane made = frame_in made.step made.answer where
+  frame_in : Step → Answer → Bool
+  frame_in (Land pair side place) (Landed (Index queue n)) = is_on lane pair (other_side side) queue
+  frame_in step answer = false
 
--- the entries of a lane that are free after a log, of a ring with so many
-abbrev pub room_in : ℕ → List Answered → LaneName → ℕ
-room_in entries log lane =
+-- the entries of a lane that are free after a log
+abbrev pub room_in : Plan → List Answered → LaneName → ℕ
+room_in plan log lane =
     let made = in_this_session lane.pair log in
-    entries - 1 + count_by (gives_room lane) made - count_by (takes_room lane) made
+    (sizes_of (pair_plan plan lane.pair) lane.from lane.queue).entries - 1 + count_by (gives_room lane) made - sum (map (takes_room plan lane) made)
 
 -- Scratchpads
 

@@ -15,20 +15,24 @@ use Rattle.lane_model.specs.Lane.{count_from}
 use Rattle.ledger_model.specs.Both.{both_of}
 use Rattle.ledger_model.specs.Device.{no_counts}
 use Rattle.ledger_model.specs.Handshake.{word, offers, offer_step, check_step, ready_step, join_step}
-use Rattle.ledger_model.specs.Ledger.{SidePart, DevPart, Tally, PairPart, updated, sizes_of}
+use Rattle.ledger_model.specs.Ledger.{SidePart, DevPart, Tally, PairPart, updated}
 use Rattle.ledger_model.specs.Link.{fresh_link}
 use Rattle.ledger_model.specs.LinkSteps.{fresh_lane, enable_step, train_step, break_step, drop_step, clean_step}
 use Rattle.ledger_model.specs.Outcome.{Outcome}
+use Rattle.byte_model.specs.Headers.{Bytes}
+use Rattle.ledger_model.specs.Reading.{Reading, reading_of}
 use Rattle.ledger_model.specs.Receiving.{land_step, look_step, copy_step, clear_step, ack_step}
 use Rattle.ledger_model.specs.Registers.{irq_step, mask_step, unmask_step, spad_step, poke_step, show_mem_step, show_pad_step, show_queue_step}
 use Rattle.ledger_model.specs.Sending.{begin_step, qpdown_step, xbegin_step, post_step, wake_step}
+use Rattle.plan_model.specs.Sizes.{sizes_of}
+use Rattle.plan_model.specs.Plans.{pair_plan, dev_plan}
 
 -- The start of a pair
 
 -- a side that has done nothing
 abbrev pub idle_side : SidePart
 idle_side =
-    record { up = false; ready = 0; joined = 0; closed = 0; offered = 0; pads = replicate 16 0; pending = 0; masked = 0; flight = [] }
+    record { up = false; ready = 0; joined = 0; closed = 0; offered = 0; pads = replicate 16 0; pending = 0; masked = 0; flight = []; poked = [] }
 
 -- the scratchpads of a side that has the peer's whole offer and the word that all its queues are ready
 abbrev pub agreed_pads : SidePlan → List ℕ
@@ -49,6 +53,7 @@ agreed_side own peer =
       pending = 0;
       masked = 0;
       flight = [];
+      poked = [];
     }
 
 abbrev pub fresh_dev : DevPart
@@ -70,59 +75,45 @@ fresh_pair plan =
 
 -- The answer to a step on a pair, and the pair after it
 
--- the bytes of a side's memory, by address and length
-abbrev pub Bytes : Type 0
-Bytes = Side → ℕ → ℕ → List ℕ
+-- the outcome of a step by what it reads of rings; `bytes` are what memories show
+abbrev pub read_next : List DevPlan → PairPlan → Reading → Bytes → PairPart → Step → Outcome
+read_next devs plan reading bytes pair (Enable p side) = enable_step pair side
+read_next devs plan reading bytes pair (Train p) = train_step pair
+read_next devs plan reading bytes pair (Break p) = break_step pair
+read_next devs plan reading bytes pair (DropDone p) = drop_step pair
+read_next devs plan reading bytes pair (Clean p side) = clean_step pair side
+read_next devs plan reading bytes pair (Offer p side) = offer_step plan pair side
+read_next devs plan reading bytes pair (Check p side) = check_step plan pair side
+read_next devs plan reading bytes pair (Ready p side queue) = ready_step pair side queue
+read_next devs plan reading bytes pair (Join p side queue) = join_step pair side queue
+read_next devs plan reading bytes pair (Begin p side queue frame) = begin_step (sizes_of plan side queue) reading pair side queue frame
+read_next devs plan reading bytes pair (QpDown p side queue) = qpdown_step (sizes_of plan side queue) reading pair side queue
+read_next devs plan reading bytes pair (Xbegin p side queue dev dst kind payload) = xbegin_step (sizes_of plan side queue) reading (dev_plan devs dev) pair side queue dst kind payload
+read_next devs plan reading bytes pair (Post p side queue) = post_step reading pair side queue
+read_next devs plan reading bytes pair (Land p side place) = land_step plan pair side place
+read_next devs plan reading bytes pair (Look p side queue) = look_step reading pair side queue
+read_next devs plan reading bytes pair (Copy p side queue) = copy_step reading pair side queue
+read_next devs plan reading bytes pair (Clear p side queue) = clear_step pair side queue
+read_next devs plan reading bytes pair (Ack p side queue) = ack_step reading pair side queue
+read_next devs plan reading bytes pair (Wake p side queue dev) = wake_step reading (dev_plan devs dev) pair side queue
+read_next devs plan reading bytes pair (Irq p side) = irq_step pair side
+read_next devs plan reading bytes pair (Mask p side bits) = mask_step pair side bits
+read_next devs plan reading bytes pair (Unmask p side bits) = unmask_step pair side bits
+read_next devs plan reading bytes pair (Spad p side i value) = spad_step pair side i value
+read_next devs plan reading bytes pair (Poke p side window offset poked) = poke_step pair side window offset poked
+read_next devs plan reading bytes pair (ShowMem p side at len) = show_mem_step pair (bytes side at len)
+read_next devs plan reading bytes pair (ShowPad p side i) = show_pad_step pair side i
+read_next devs plan reading bytes pair (ShowQueue p side place) = show_queue_step pair side place
 
-abbrev pub no_side : SidePlan
-no_side = record { version = 0; queues = 0; windows = 0; size = 0; cap = 0 }
-
-abbrev pub no_pair : PairPlan
-no_pair = record { name = []; a = no_side; b = no_side; mtu = 0; up = false; strict = false; raw = false; class_a = replicate 16 0; class_b = replicate 16 0 }
-
-abbrev pub no_dev : DevPlan
-no_dev = record { name = []; pair = 0; side = A; queue = 0; address = []; stop = 0; start = 0 }
-
-abbrev pub dev_plan : List DevPlan → ℕ → DevPlan
-dev_plan devs k = slice_index_or devs k no_dev
-
+-- the outcome of a step: an ordinary pair reads its ledger, a raw one its bytes
 abbrev pub pair_next : List DevPlan → PairPlan → Bytes → PairPart → Step → Outcome
-pair_next devs plan bytes pair (Enable p side) = enable_step pair side
-pair_next devs plan bytes pair (Train p) = train_step pair
-pair_next devs plan bytes pair (Break p) = break_step pair
-pair_next devs plan bytes pair (DropDone p) = drop_step pair
-pair_next devs plan bytes pair (Clean p side) = clean_step pair side
-pair_next devs plan bytes pair (Offer p side) = offer_step plan pair side
-pair_next devs plan bytes pair (Check p side) = check_step plan pair side
-pair_next devs plan bytes pair (Ready p side queue) = ready_step pair side queue
-pair_next devs plan bytes pair (Join p side queue) = join_step pair side queue
-pair_next devs plan bytes pair (Begin p side queue frame) = begin_step (sizes_of plan side queue) pair side queue frame
-pair_next devs plan bytes pair (QpDown p side queue) = qpdown_step (sizes_of plan side queue) pair side queue
-pair_next devs plan bytes pair (Xbegin p side queue dev dst kind payload) = xbegin_step (sizes_of plan side queue) (dev_plan devs dev) pair side queue dst kind payload
-pair_next devs plan bytes pair (Post p side queue) = post_step pair side queue
-pair_next devs plan bytes pair (Land p side place) = land_step plan pair side place
-pair_next devs plan bytes pair (Look p side queue) = look_step pair side queue
-pair_next devs plan bytes pair (Copy p side queue) = copy_step pair side queue
-pair_next devs plan bytes pair (Clear p side queue) = clear_step pair side queue
-pair_next devs plan bytes pair (Ack p side queue) = ack_step pair side queue
-pair_next devs plan bytes pair (Wake p side queue dev) = wake_step (sizes_of plan side queue) (dev_plan devs dev) pair side queue
-pair_next devs plan bytes pair (Irq p side) = irq_step pair side
-pair_next devs plan bytes pair (Mask p side bits) = mask_step pair side bits
-pair_next devs plan bytes pair (Unmask p side bits) = unmask_step pair side bits
-pair_next devs plan bytes pair (Spad p side i value) = spad_step pair side i value
-pair_next devs plan bytes pair (Poke p side window offset poked) = poke_step pair side window offset poked
-pair_next devs plan bytes pair (ShowMem p side at len) = show_mem_step pair (bytes side at len)
-pair_next devs plan bytes pair (ShowPad p side i) = show_pad_step pair side i
-pair_next devs plan bytes pair (ShowQueue p side place) = show_queue_step pair side place
+pair_next devs plan bytes pair step = read_next devs plan (reading_of plan bytes pair) bytes pair step
 
 -- The same of a cluster
 
 -- the pairs by their numbers
 abbrev pub Ledger : Type 0
 Ledger = ℕ → PairPart
-
-abbrev pub pair_plan : Plan → ℕ → PairPlan
-pair_plan plan k = slice_index_or plan.pairs k no_pair
 
 -- the ledger before any step
 abbrev pub start : Plan → Ledger

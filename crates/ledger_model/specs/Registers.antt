@@ -4,7 +4,7 @@ use Rattle.step_kinds.specs.Bits.{without_bits}
 use Rattle.step_kinds.specs.declared.names.Side.{Side}
 use Rattle.step_kinds.specs.declared.steps.Label.TheVariants.{Pad, Raw}
 use Rattle.step_kinds.specs.declared.steps.Answer.TheVariants.{Ok as Done, Irq, Mem, PadValue, QueueShown}
-use Rattle.ledger_model.specs.Ledger.{PairPart, side_of, with_side_part, posts}
+use Rattle.ledger_model.specs.Ledger.{PairPart, side_of, with_side_part, posts, posts_raw}
 use Rattle.ledger_model.specs.Outcome.{Outcome}
 
 -- a side takes its pending doorbells that aren't masked
@@ -32,7 +32,7 @@ spad_step pair side i value = record { answer = Done; after = posts pair side (P
 
 -- bytes are written through a window
 abbrev pub poke_step : PairPart → Side → ℕ → ℕ → List ℕ → Outcome
-poke_step pair side window offset bytes = record { answer = Done; after = posts pair side (Raw window offset (length bytes)) }
+poke_step pair side window offset bytes = record { answer = Done; after = posts_raw pair side (Raw window offset (length bytes)) bytes }
 
 -- what is shown changes nothing; the bytes of the memory are given
 abbrev pub show_mem_step : PairPart → List ℕ → Outcome

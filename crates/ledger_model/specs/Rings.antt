@@ -15,9 +15,11 @@ use Rattle.lane_model.specs.declared.Write.TheVariants.{Data, Flag, Bell}
 use Rattle.lane_model.specs.Lane.{Slot, Lane, flags_of, with_field, with_flags, blank_slot}
 pub use Rattle.lane_model.specs.Lane.{zeroed_slot}
 use Rattle.ledger_model.specs.Labels.{write_of, index_of, writes_among, indexes_among}
-use Rattle.ledger_model.specs.Ledger.{LanePart, PairPart, Sizes, side_of, lane_of, link_up, entry_in, sizes_of}
+use Rattle.ledger_model.specs.Ledger.{LanePart, PairPart, side_of, lane_of, link_up, entry_in}
 use Rattle.ledger_model.specs.Log.{Answered, Memories, answered, is_on, same_side}
-use Rattle.ledger_model.specs.Next.{Ledger, start, ledger_after, pair_plan}
+use Rattle.ledger_model.specs.Next.{Ledger, start, ledger_after}
+use Rattle.plan_model.specs.Plans.{pair_plan}
+use Rattle.plan_model.specs.Sizes.{Sizes, sizes_of}
 
 pub record RingPart : Type 0 where
   pub ring : List Slot
@@ -41,7 +43,7 @@ with_index entries word (Some n) = n % entries
 
 -- a slot whose header is zeroed
 abbrev pub without_header : Slot → Slot
-without_header place = record { payload = place.payload; len = 0; ver = 0; flags = 0 }
+without_header slot = record { payload = slot.payload; left = 0; ver = 0; len = 0; flags = 0 }
 
 -- what a step does to the ring of a lane, the lane being as it was before the step
 abbrev pub ring_next : Sizes → LaneName → LanePart → RingPart → Answered → RingPart
