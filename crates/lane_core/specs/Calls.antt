@@ -123,7 +123,7 @@ after_land_index lane place = after_index_found lane place (slice_get lane.retur
 
 -- what a look says of an entry that has landed
 abbrev pub look_at : ℕ → Entry → LaneLook
-look_at n (Carries bytes) = Ready n (length bytes)
+look_at n (Carries bytes left) = Ready n (length bytes)
 look_at n GoesDown = PeerDown
 
 abbrev pub look_answer : Lane → LaneLook

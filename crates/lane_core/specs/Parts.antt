@@ -11,11 +11,11 @@ use Rattle.lane_core.specs.declared.entry.Entry.TheVariants.{Carries, GoesDown}
 use Rattle.lane_core.specs.declared.slot.Slot.{Slot}
 
 abbrev pub entry_seen : Entry → model.Entry
-entry_seen (Carries frame) = model.Carries frame
+entry_seen (Carries frame) = model.Carries frame 0
 entry_seen GoesDown = model.GoesDown
 
 abbrev pub place_seen : Slot → model.Slot
-place_seen place = record { payload = place.payload.items; len = place.len; ver = place.ver; flags = place.flags }
+place_seen place = record { payload = place.payload.items; left = 0; ver = place.ver; len = place.len; flags = place.flags }
 
 -- a field begins within the bytes of its entry
 abbrev pub BeginsWithin : model.Entry → Field → Type 0

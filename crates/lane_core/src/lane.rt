@@ -128,7 +128,7 @@ impl Lane {
         requires open { IsOpen self.old.lane }
         requires few { length self.old.lane.sent < 2 ^ 46 }
         ensures answer { IfOk result (λ begun. begun ≡ begin_answer self.old.lane (length frame)) }
-        ensures after { IfOk result (λ begun. self.new ≡ with_lane self.old (after_beginning self.old.lane (Carries frame) begun)) }
+        ensures after { IfOk result (λ begun. self.new ≡ with_lane self.old (after_beginning self.old.lane (Carries frame 0) begun)) }
         ensures err { OnErr result (self.new ≡ self.old) }
         ensures law { HoldsRingLaw self.new.lane }
     {

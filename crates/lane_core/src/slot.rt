@@ -50,6 +50,7 @@ impl Slot {
     }
 
     /// Stores a field of entry `number`.
+    #[tactic(auto, using(crate::proofs::OnePiece::none_left))]
     pub fn put(&mut self, number: u64, entry: &Entry, field: Field)
         requires begins { BeginsWithin (entry_seen entry.now) field }
         requires fits { length (bytes_of (entry_seen entry.now)) ≤ length (place_seen self.old).payload }

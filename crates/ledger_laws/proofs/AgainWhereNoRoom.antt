@@ -15,11 +15,14 @@ use Rattle.step_kinds.specs.declared.steps.Answer.{Answer}
 use Rattle.step_kinds.specs.declared.steps.Answer.TheVariants.{OkNumber, LinkDown, NotReady, Closed, TooLong, Busy, Stopped, Again}
 use Rattle.step_kinds.specs.declared.steps.Step.{Step}
 use Rattle.step_kinds.specs.declared.steps.Step.TheVariants.{Begin, QpDown, Xbegin}
-use Rattle.ledger_model.specs.Device.{ethernet_frame}
+use Rattle.plan_model.specs.Plans.{dev_plan, pair_plan}
+use Rattle.plan_model.specs.Sizes.{Sizes, sizes_of}
+use Rattle.plan_model.specs.Ethernet.{ethernet_frame}
+use Rattle.byte_model.specs.Headers.{Bytes}
 use Rattle.ledger_laws.specs.Laws.{AgainWhereNoRoom, lane_begun_by, refused_before_room, is_again, entries_in}
-use Rattle.ledger_model.specs.Ledger.{LanePart, PairPart, Sizes, side_of, lane_of, dev_of, link_up, sizes_of, free_of, head_in, tail_in}
+use Rattle.ledger_model.specs.Ledger.{LanePart, PairPart, side_of, lane_of, dev_of, link_up, free_of, head_in, tail_in}
 use Rattle.ledger_model.specs.Log.{room_in, log_of, ledger_of, Memories}
-use Rattle.ledger_model.specs.Next.{Bytes, pair_next, pair_plan, dev_plan, fresh_pair}
+use Rattle.ledger_model.specs.Next.{pair_next, fresh_pair}
 use Rattle.ledger_model.specs.Outcome.{decided, refuse_if}
 use Rattle.ledger_model.specs.Sending.{is_empty_list, begun, refuse_sender, refuse_full, begin_refusal, xbegin_refusal, counts_refused, begin_refusal, refuse_busy}
 use Rattle.ledger_model.specs.Labels.{indexes_among}

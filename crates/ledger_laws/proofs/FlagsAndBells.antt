@@ -11,16 +11,17 @@ use Rattle.step_kinds.specs.declared.plan.Plan.{Plan}
 use Rattle.step_kinds.specs.declared.steps.Label.{Label}
 use Rattle.step_kinds.specs.declared.steps.Label.TheVariants.{Bell, Pad}
 use Rattle.lane_model.specs.Lane.{Entry, Carries, GoesDown, bytes_of, count_from, chunks_in, writes_of}
-use Rattle.lane_model.specs.Order.{strict}
 use Rattle.lane_model.specs.declared.Field.TheVariants.{Chunk as PayloadChunk, Length, Version}
 use Rattle.lane_model.specs.declared.Phase.{Phase}
 use Rattle.lane_model.specs.declared.Phase.TheVariants.{Idle, Copying, Copied, Cleared}
 use Rattle.lane_model.specs.declared.Write.{Write}
 use Rattle.lane_model.specs.declared.Write.TheVariants.{Data, Flag as EntryFlag, Bell as QueueBell}
-use Rattle.ledger_model.specs.Labels.{label_of, labels_of, write_of, order_of}
+use Rattle.ledger_model.specs.Labels.{label_of, labels_of, write_of}
 use Rattle.ledger_model.specs.Link.{is_up, is_down}
 use Rattle.ledger_model.specs.Log.{Answered}
 use Rattle.ledger_model.specs.Receiving.{is_idle, is_copying, is_copied, is_cleared}
+use Rattle.order_rules.specs.Order.{strict}
+use Rattle.plan_model.specs.Orders.{order_of}
 use Rattle.ledger_laws.proofs.AtStart.{down-not_up}
 use Rattle.ledger_laws.proofs.BitSets.{has-with_kept, has-with_same, stays_pending}
 use Rattle.ledger_laws.proofs.InFlight.{filter_map-last, filter_map-remove, lands_first, posted_unread, posted_up, EmptyOf}

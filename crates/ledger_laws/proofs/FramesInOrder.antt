@@ -16,8 +16,9 @@ use Rattle.ledger_model.specs.Ledger.{Tally, LanePart, lane_of, tally_of, entry_
 use Rattle.ledger_model.specs.Link.{is_up}
 use Rattle.ledger_model.specs.LinkSteps.{fresh_lane}
 use Rattle.ledger_model.specs.Log.{Answered, Numbered, accepts, delivers, accepted, delivered, first_session, trains, made_in, log_of, ledger_of}
-use Rattle.ledger_model.specs.Next.{fresh_pair, pair_plan, no_tally}
+use Rattle.ledger_model.specs.Next.{fresh_pair, no_tally}
 use Rattle.ledger_model.specs.Receiving.{is_copying}
+use Rattle.plan_model.specs.Plans.{pair_plan}
 use Rattle.ledger_laws.specs.Laws.{Begins as BeginsList, NumberedFrom, EveryLogIsInOrder, EveryFrameComesOnce, TalliesAreCounts}
 use Rattle.ledger_laws.proofs.AtStart.{fresh-lane, down-not_up}
 use Rattle.ledger_laws.proofs.BitSets.{has-with_same, has-without}

@@ -13,11 +13,11 @@ use Rattle.step_kinds.specs.declared.plan.Plan.{Plan}
 use Rattle.step_kinds.specs.declared.steps.Label.{Label}
 use Rattle.step_kinds.specs.Bits.{with_bit}
 use Rattle.lane_model.specs.declared.Phase.TheVariants.{Idle}
-use Rattle.lane_model.specs.Order.{may_land, relaxed, strict}
-use Rattle.ledger_model.specs.Labels.{order_of}
 use Rattle.ledger_model.specs.Link.{is_up, is_down}
 use Rattle.ledger_model.specs.Log.{Answered}
 use Rattle.ledger_model.specs.declared.LinkState.{LinkState}
+use Rattle.order_rules.specs.Order.{may_land, relaxed, strict}
+use Rattle.plan_model.specs.Orders.{order_of}
 use Rattle.ledger_laws.proofs.AtStart.{down-not_up}
 use Rattle.ledger_laws.proofs.walk.Sight.{Sight, Role, Sender, Receiver, end_at, with_offered, with_ready, flight_with, posted}
 use Rattle.ledger_laws.proofs.walk.News.{News}

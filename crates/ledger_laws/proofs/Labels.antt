@@ -7,11 +7,12 @@ use Rattle.std.proofs.lemmas.Option.{none-some, same_Some}
 use Rattle.step_kinds.specs.declared.steps.Label.{Label}
 use Rattle.step_kinds.specs.declared.steps.Label.TheVariants.{Chunk, Len, Ver, Flag, Down, Bell, Index, Pad}
 use Rattle.lane_model.specs.Lane.{Entry, Carries, GoesDown, writes_of}
-use Rattle.lane_model.specs.Order.{strict}
 use Rattle.lane_model.specs.declared.Field.TheVariants.{Chunk as PayloadChunk, Length, Version}
 use Rattle.lane_model.specs.declared.Write.{Write}
 use Rattle.lane_model.specs.declared.Write.TheVariants.{Data, Flag as EntryFlag, Bell as QueueBell}
-use Rattle.ledger_model.specs.Labels.{label_of, labels_of, write_of, writes_among, order_of}
+use Rattle.ledger_model.specs.Labels.{label_of, labels_of, write_of, writes_among}
+use Rattle.order_rules.specs.Order.{strict}
+use Rattle.plan_model.specs.Orders.{order_of}
 
 -- a lane's label means the write whose label it is
 pub write_of-label : (q : ℕ) (entry : Entry) (write : Write) → write_of q (label_of q entry write) ≡ Some write

@@ -8,10 +8,13 @@ use Rattle.step_kinds.specs.declared.plan.DevPlan.{DevPlan}
 use Rattle.step_kinds.specs.declared.plan.PairPlan.{PairPlan}
 use Rattle.step_kinds.specs.declared.steps.Step.{Step}
 use Rattle.step_kinds.specs.declared.steps.Step.TheVariants.{Enable, Train, Break, DropDone, Clean, Offer, Check, Ready, Join, Begin, QpDown, Xbegin, Post, Land, Look, Copy, Clear, Ack, Wake}
+use Rattle.plan_model.specs.Plans.{dev_plan, pair_plan}
+use Rattle.plan_model.specs.Sizes.{sizes_of}
+use Rattle.byte_model.specs.Headers.{Bytes}
 use Rattle.ledger_laws.specs.Laws.{is_link_down, needs_link, LinkDownWhereNotUp}
-use Rattle.ledger_model.specs.Ledger.{PairPart, link_up, sizes_of}
+use Rattle.ledger_model.specs.Ledger.{PairPart, link_up}
 use Rattle.ledger_model.specs.Log.{up_at, trains, breaks}
-use Rattle.ledger_model.specs.Next.{Bytes, pair_next, pair_plan, fresh_pair, dev_plan}
+use Rattle.ledger_model.specs.Next.{pair_next, fresh_pair}
 use Rattle.ledger_laws.proofs.Outcomes.{passed}
 use Rattle.ledger_laws.proofs.walk.Cases.{enable_cases, train_cases, break_cases, drop_cases, clean_cases, offer_cases, check_cases, ready_cases, join_cases, begin_cases, qpdown_cases, xbegin_cases, post_cases, land_cases, look_cases, copy_cases, clear_cases, ack_cases, wake_cases}
 use Rattle.ledger_model.specs.Link.{is_up}

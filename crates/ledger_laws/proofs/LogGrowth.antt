@@ -4,10 +4,12 @@ use Rattle.std.proofs.lemmas.List.{append-nil, append_cancel_left}
 use Rattle.step_kinds.specs.declared.plan.Plan.{Plan}
 use Rattle.step_kinds.specs.declared.steps.Answer.{Answer}
 use Rattle.step_kinds.specs.declared.steps.Step.{Step}
+use Rattle.plan_model.specs.Plans.{pair_plan}
+use Rattle.byte_model.specs.Headers.{Bytes}
 use Rattle.ledger_laws.specs.Laws.{GoesOn}
 use Rattle.ledger_model.specs.Ledger.{PairPart}
 use Rattle.ledger_model.specs.Log.{Answered, Memories, answered, log_from, ledger_from, log_of, ledger_of}
-use Rattle.ledger_model.specs.Next.{Bytes, Ledger, pair_next, pair_plan, fresh_pair, ledger_after, outcome_in}
+use Rattle.ledger_model.specs.Next.{Ledger, pair_next, fresh_pair, ledger_after, outcome_in}
 
 -- a step on a pair, with its answer
 abbrev pub made_by : Plan → ℕ → Bytes → PairPart → Step → Answered

@@ -11,13 +11,12 @@ use Rattle.step_kinds.specs.declared.plan.Plan.{Plan}
 use Rattle.step_kinds.specs.declared.plan.SidePlan.{SidePlan}
 use Rattle.step_kinds.specs.declared.steps.Label.{Label}
 use Rattle.step_kinds.specs.declared.steps.Label.TheVariants.{Pad}
-use Rattle.lane_model.specs.Order.{strict}
 use Rattle.ledger_model.specs.Handshake.{offers}
-use Rattle.ledger_model.specs.Labels.{order_of}
-use Rattle.ledger_model.specs.Ledger.{side_plan}
 use Rattle.ledger_model.specs.Link.{is_up}
 use Rattle.ledger_model.specs.Log.{Answered, trains, landed_pad}
-use Rattle.ledger_model.specs.Next.{pair_plan}
+use Rattle.plan_model.specs.Plans.{pair_plan, side_plan}
+use Rattle.order_rules.specs.Order.{strict}
+use Rattle.plan_model.specs.Orders.{order_of}
 use Rattle.ledger_laws.specs.Laws.{IsOrdinaryOn}
 use Rattle.ledger_laws.proofs.AtStart.{down-not_up}
 use Rattle.ledger_laws.proofs.CleanSides.{IsNew, SettledOf}

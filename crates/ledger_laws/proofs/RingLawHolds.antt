@@ -14,12 +14,14 @@ use Rattle.step_kinds.specs.declared.plan.Plan.{Plan}
 use Rattle.lane_model.specs.Lane.{blank_slot}
 use Rattle.ring_geometry.specs.Geometry.{Layout, HasRing, ring_bytes, frame_size, entries_of}
 use Rattle.ledger_model.specs.Both.{both_of}
-use Rattle.ledger_model.specs.Ledger.{PairPart, Sizes, layout_of, sizes_of}
+use Rattle.ledger_model.specs.Ledger.{PairPart}
 use Rattle.ledger_model.specs.Link.{fresh_link}
 use Rattle.ledger_model.specs.LinkSteps.{fresh_lane}
 use Rattle.ledger_model.specs.Log.{ledger_of}
-use Rattle.ledger_model.specs.Next.{pair_plan, fresh_pair, agreed_side, idle_side}
+use Rattle.ledger_model.specs.Next.{fresh_pair, agreed_side, idle_side}
 use Rattle.ledger_model.specs.Rings.{RingPart, zeroed_slot, fresh_ring}
+use Rattle.plan_model.specs.Plans.{pair_plan}
+use Rattle.plan_model.specs.Sizes.{Sizes, layout_of, sizes_of}
 use Rattle.ledger_laws.specs.Laws.{IsOrdinaryOn}
 use Rattle.ledger_laws.specs.Rings.{RingLawHolds}
 use Rattle.ledger_laws.proofs.AtStart.{fresh-flight}

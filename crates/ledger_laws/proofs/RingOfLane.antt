@@ -22,14 +22,16 @@ use Rattle.lane_model.specs.declared.Write.{Write}
 use Rattle.lane_model.specs.declared.Write.TheVariants.{Data, Flag as EntryFlag, Bell as QueueBell}
 use Rattle.lane_laws.proofs.Facade.{fresh_holds, cut_keeps, drop_keeps, free_is_room, begin_keeps, post_keeps, land_data_keeps, land_flag_keeps, land_bell_keeps, look_keeps, copy_keeps, clear_keeps, ack_keeps, index_keeps}
 use Rattle.ledger_model.specs.Labels.{write_of, index_of, writes_among, indexes_among}
-use Rattle.ledger_model.specs.Ledger.{LanePart, Sizes, free_of, links_pad, sizes_of}
+use Rattle.ledger_model.specs.Ledger.{LanePart, free_of}
 use Rattle.ledger_model.specs.Link.{is_up}
 use Rattle.ledger_model.specs.LinkSteps.{fresh_lane}
 use Rattle.ledger_model.specs.Log.{Answered}
-use Rattle.ledger_model.specs.Next.{pair_plan}
 use Rattle.ledger_model.specs.Receiving.{is_idle, is_copying, is_copied, is_cleared}
 use Rattle.ledger_model.specs.Rings.{RingPart, lane_shown, without_header}
 use Rattle.ledger_model.specs.Sending.{begun_lane}
+use Rattle.plan_model.specs.Pads.{links_pad}
+use Rattle.plan_model.specs.Plans.{pair_plan}
+use Rattle.plan_model.specs.Sizes.{Sizes, sizes_of}
 use Rattle.ledger_laws.proofs.AtStart.{up-not_down, closing-not_up}
 use Rattle.ledger_laws.proofs.BitSets.{no_bit, has-with_same, has-without}
 use Rattle.ledger_laws.proofs.CleanSides.{SettledOf, not_down_with}

@@ -16,11 +16,13 @@ use Rattle.step_kinds.specs.declared.steps.Step.TheVariants.{Check}
 use Rattle.lane_model.specs.Lane.{count_from}
 use Rattle.ledger_model.specs.Both.{both_of}
 use Rattle.ledger_model.specs.Handshake.{word, offers, pad_in, size_in, refuse_larger, check_refusal, check_step}
+use Rattle.plan_model.specs.Pads.{high_pad, low_pad, queues_pad, version_pad, windows_pad}
+use Rattle.plan_model.specs.Plans.{pair_plan, side_plan}
 use Rattle.ledger_laws.specs.Laws.{UpMeansAgreement, Agrees, IsSide, IsOrdinaryOn}
-use Rattle.ledger_model.specs.Ledger.{PairPart, SidePart, side_of, side_plan, link_up, version_pad, queues_pad, windows_pad, high_pad, low_pad}
+use Rattle.ledger_model.specs.Ledger.{PairPart, SidePart, side_of, link_up}
 use Rattle.ledger_model.specs.Link.{is_up, fresh_link}
 use Rattle.ledger_model.specs.Log.{Answered, log_of, ledger_of, landed_pad}
-use Rattle.ledger_model.specs.Next.{fresh_pair, pair_plan, idle_side, agreed_side}
+use Rattle.ledger_model.specs.Next.{fresh_pair, idle_side, agreed_side}
 use Rattle.ledger_laws.proofs.AtStart.{fresh-flight}
 use Rattle.ledger_laws.proofs.CleanSides.{SettledOf, settled_up, settled_kept, settled_new}
 use Rattle.ledger_laws.proofs.InFlight.{EmptyOf, empty_kept}

@@ -106,13 +106,15 @@ xbegin_step sizes reading plan pair side queue dst kind payload =
     (counts_sent plan (begun sizes pair side queue frame) side queue (length frame)
     (reading.free side queue - pieces_in sizes.largest (length frame)))
 
+-- the first of the entries that wait is begun
+abbrev pub with_next : ℕ → LanePart → List Entry → LanePart
+with_next queue lane [] = lane
+with_next queue lane (entry ∷ others) =
+    record lane { sent = lane.sent ++ entry ∷ []; waiting = others; todo = labels_of queue (length lane.sent) entry }
+
 -- where all writes of an entry were posted, the next of the frame's entries is begun
 abbrev pub next_begun : ℕ → LanePart → LanePart
-next_begun queue lane = if is_empty_list lane.todo then begun_next lane.waiting else lane where
-  begun_next : List Entry → LanePart
-  begun_next [] = lane
-  begun_next (entry ∷ others) =
-      record lane { sent = lane.sent ++ entry ∷ []; waiting = others; todo = labels_of queue (length lane.sent) entry }
+next_begun queue lane = if is_empty_list lane.todo then with_next queue lane lane.waiting else lane
 
 -- a write of a ring goes out, and is lost where the peer has no such window
 abbrev pub posts_through : Reading → PairPart → Side → Label → PairPart

@@ -1,6 +1,6 @@
 -- Each step's cases: it is refused and changes nothing, or it passed its tests and has its effect.
-use Rattle.std.proofs.Common.{◌≡◌, ℕ, ◌+◌, ◌==◌, ◌≤◌, arith, Bool, true, false, not, Option, Some, None, List, [], ◌∷◌, refl}
-use Rattle.std.specs.Prelude.{nat_lt, length, map, slice_get, slice_index_or, find}
+use Rattle.std.proofs.Common.{◌≡◌, ℕ, ◌+◌, ◌==◌, ◌≤◌, ◌&&◌, ◌||◌, arith, Bool, true, false, not, Option, Some, None, List, [], ◌∷◌, refl}
+use Rattle.std.specs.Prelude.{◌-◌, ◌++◌, if◌then◌else◌, nat_lt, length, map, slice_get, slice_index_or, find}
 use Rattle.std.proofs.lemmas.Bool.{true≢false, not-false, cond_both, ltb-false}
 use Rattle.step_kinds.specs.Bits.{has_bit, with_bit}
 use Rattle.step_kinds.specs.Sides.{other_side}
@@ -12,20 +12,27 @@ use Rattle.step_kinds.specs.declared.steps.Label.{Label}
 use Rattle.step_kinds.specs.declared.steps.Label.TheVariants.{Index, Pad}
 use Rattle.step_kinds.specs.declared.steps.Answer.{Answer}
 use Rattle.step_kinds.specs.declared.steps.Answer.TheVariants.{Ok as Done, OkSession, OkNumber, LinkDown, Already, Offered, NotYet, Version, Queues, Windows, Up, NotChecked, NotReady, Joined, Closed, TooLong, Busy, Stopped, Again, Idle, Posted, Nothing as NothingThere, Blocked, Landed, OutOfTurn, Empty, PeerDown, ReadyFrame, Copied as CopiedPart, Delivered, Cleared as ClearedFrame, Acked, Awake, Irq, Mem, PadValue, QueueShown, VerDiffers, Long}
-use Rattle.lane_model.specs.Lane.{Entry, Carries, GoesDown, bytes_of, chunks_in, count_from}
-use Rattle.lane_model.specs.Order.{may_land}
+use Rattle.lane_model.specs.Lane.{Entry, GoesDown, chunks_in, count_from}
 use Rattle.lane_model.specs.declared.Phase.TheVariants.{Copying, Copied, Cleared, Idle as IsIdle}
 use Rattle.ledger_model.specs.Both.{both_of, with_side, at_side}
-use Rattle.ledger_model.specs.Handshake.{offers, pad_in, pad_index, size_in, refuse_larger, refuse_differing, check_refusal, offer_step, check_step, ready_step, join_step}
-use Rattle.ledger_model.specs.Labels.{order_of}
+use Rattle.ledger_model.specs.Handshake.{offers, pad_in, pad_index, size_in, refuse_larger, refuse_differing, refuse_version, check_refusal, offer_step, check_step, ready_step, join_step}
+use Rattle.plan_model.specs.Pads.{links_pad, queues_pad, version_pad, windows_pad}
+use Rattle.plan_model.specs.Plans.{side_plan}
+use Rattle.plan_model.specs.Sizes.{Sizes, pieces_in}
+use Rattle.plan_model.specs.Ethernet.{ethernet_frame}
+use Rattle.byte_model.specs.Headers.{Found, NoEntry, ALinkDownEntry, AnotherVersion, TooManyBytes, AnEntry}
+use Rattle.ledger_model.specs.Labels.{labels_of}
+use Rattle.ledger_model.specs.Reading.{Reading}
+use Rattle.order_rules.specs.Order.{may_land}
+use Rattle.plan_model.specs.Orders.{order_of}
 use Rattle.ledger_laws.specs.Laws.{is_link_down}
-use Rattle.ledger_model.specs.Ledger.{PairPart, LanePart, SidePart, Sizes, side_of, lane_of, dev_of, side_plan, link_up, posts, with_lane, with_dev, with_side_part, entry_in, free_of, head_in, tail_in, version_pad, queues_pad, windows_pad, links_pad}
+use Rattle.ledger_model.specs.Ledger.{PairPart, LanePart, SidePart, side_of, lane_of, lane_to, dev_of, link_up, posts, with_lane, with_dev, with_side_part, head_in}
 use Rattle.ledger_model.specs.Link.{enable_refusal, enabled_link, train_refusal, trained_link, cut_refusal, cut_link, drop_refusal, dropped_link, clean_refusal, cleaned_link}
 use Rattle.ledger_model.specs.LinkSteps.{answer_of_refusal, enable_step, train_step, break_step, drop_step, clean_step, fresh_lane, emptied_side, cleaned_side, forgotten_lanes, started_dev}
 use Rattle.ledger_model.specs.Outcome.{Outcome, decided, refuse_if}
-use Rattle.ledger_model.specs.Receiving.{lands_on, taken_out, land_found, land_step, look_at, look_step, lane_to, copy_of, copy_step, clear_step, ack_step, is_idle, is_copying, is_copied, is_cleared, counts_delivered}
-use Rattle.ledger_model.specs.Sending.{is_empty_list, refuse_sender, refuse_long, refuse_busy, refuse_full, begin_refusal, xbegin_refusal, begun, begun_lane, begin_step, qpdown_step, xbegin_step, counts_refused, counts_taken, post_first, post_step, wake_step, flow_of}
-use Rattle.ledger_model.specs.Device.{ethernet_frame, stays_stopped}
+use Rattle.ledger_model.specs.Receiving.{lands_on, taken_out, land_found, land_step, closes, look_at, look_step, copy_of, copy_step, clear_step, ack_step, is_idle, is_copying, is_copied, is_cleared, counts_delivered}
+use Rattle.ledger_model.specs.Sending.{is_empty_list, is_busy, refuse_sender, refuse_long, refuse_busy, refuse_full, begin_refusal, xbegin_refusal, begun, begun_lane, with_next, begin_step, qpdown_step, xbegin_step, counts_refused, counts_sent, posts_through, post_first, post_step, wake_step, flow_of}
+use Rattle.ledger_model.specs.Device.{stays_stopped}
 use Rattle.ledger_model.specs.declared.LinkRefusal.{LinkRefusal}
 use Rattle.ledger_model.specs.declared.LinkRefusal.TheVariants.{NotDown}
 use Rattle.ledger_laws.proofs.Outcomes.{Each, Nothing, Just, each_if, decided_cases, passed}
@@ -160,7 +167,7 @@ check_each own part up =
     down_each up _
     (no part.up Already refl refl
     (no (pad_in part version_pad == 0) NotYet refl refl
-    (differing_each (pad_in part version_pad) own.version Version _ (record { is = refl; link = refl })
+    (no (not (pad_in part version_pad == own.version) && (nat_lt (pad_in part version_pad) 4 || nat_lt own.version 4)) (Version (pad_in part version_pad) own.version) refl refl
     (differing_each (pad_in part queues_pad) own.queues Queues _ (record { is = refl; link = refl })
     (differing_each (pad_in part windows_pad) own.windows Windows _ (record { is = refl; link = refl })
     (larger_each part own.cap (find (λ m. nat_lt own.cap (size_in part m)) (count_from 0 own.windows))))))))
@@ -222,24 +229,30 @@ join_cases P pair side queue refused made =
 
 -- Sending
 
--- what a side that begins an entry of so many bytes has passed
-pub record MaySend (sizes : Sizes) (pair : PairPart) (side : Side) (queue len : ℕ) : Type 0 where
+-- what a side that begins a frame of so many bytes, which needs so many entries, has passed
+pub record MaySend (reading : Reading) (sizes : Sizes) (pair : PairPart) (side : Side) (queue len needed : ℕ) : Type 0 where
   pub up : link_up pair ≡ true
   pub joined : has_bit (side_of pair side).joined queue ≡ true
   pub not_closed : has_bit (side_of pair side).closed queue ≡ false
   pub not_busy : (lane_of pair side queue).todo ≡ []
-  pub room : (free_of sizes (lane_of pair side queue) == 0) ≡ false
-  pub fits : len ≤ sizes.largest
+  pub none_waiting : (lane_of pair side queue).waiting ≡ []
+  pub room : needed ≤ reading.free side queue
+  pub fits : len ≤ sizes.most
 
 pub empty_is : {X : Type 0} (xs : List X) → not (is_empty_list xs) ≡ false → xs ≡ []
 empty_is [] e = refl
 empty_is (x ∷ xs) e = absurd (true≢false e)
 
-full_each : (sizes : Sizes) (lane : LanePart) → Each (Refused false) (refuse_full sizes lane)
-full_each sizes lane = no (free_of sizes lane == 0) (Again (head_in sizes lane) (tail_in sizes lane)) refl refl Nothing
+neither : (a b : Bool) → (a || b) ≡ false → (a ≡ false) × (b ≡ false)
+neither true b e = absurd (true≢false e)
+neither false b e = (refl, e)
+
+full_each : (sizes : Sizes) (reading : Reading) (lane : LanePart) (side : Side) (queue needed : ℕ) → Each (Refused false) (refuse_full sizes reading lane side queue needed)
+full_each sizes reading lane side queue needed =
+    no (nat_lt (reading.free side queue) needed) (Again (head_in sizes lane) (reading.index_word side queue)) refl refl Nothing
 
 busy_each : (lane : LanePart) (later : Option Answer) → Each (Refused false) later → Each (Refused false) (refuse_busy lane later)
-busy_each lane later rest = no (not (is_empty_list lane.todo)) Busy refl refl rest
+busy_each lane later rest = no (is_busy lane) Busy refl refl rest
 
 long_each : (len most : ℕ) (later : Option Answer) → Each (Refused false) later → Each (Refused false) (refuse_long len most later)
 long_each len most later rest = no (nat_lt most len) (TooLong len most) refl refl rest
@@ -262,102 +275,154 @@ sender_passed pair side queue later none =
     let c = passed _ _ _ b.1 in
     record { up = not-false _ a.0; joined = not-false _ b.0; not_closed = c.0; then_passed = c.1 }
 
-pub begin_cases : (P : Outcome → Type 0) (sizes : Sizes) (pair : PairPart) (side : Side) (queue : ℕ) (bytes : List ℕ)
-    → ((r : Answer) → Refused (not (link_up pair)) r → P (record { answer = r; after = pair }))
-    → (MaySend sizes pair side queue (length bytes) → P (record { answer = OkNumber (length (lane_of pair side queue).sent); after = begun pair side queue bytes }))
-    → P (begin_step sizes pair side queue bytes)
-begin_cases P sizes pair side queue bytes refused made =
-    decided_cases P (Refused (not (link_up pair))) pair (begin_refusal sizes pair side queue (length bytes)) (OkNumber (length (lane_of pair side queue).sent)) (begun pair side queue bytes)
-    (sender_each pair side queue _ (long_each (length bytes) sizes.largest _ (busy_each (lane_of pair side queue) _ (full_each sizes (lane_of pair side queue)))))
-    refused
-    (λ none.
-    let a = sender_passed pair side queue _ none in
-    let b = passed _ _ _ a.then_passed in
-    let c = passed _ _ _ b.1 in
-    let d = passed _ _ _ c.1 in
-    made (record { up = a.up; joined = a.joined; not_closed = a.not_closed; not_busy = empty_is _ c.0; room = d.0; fits = ltb-false sizes.largest (length bytes) b.0 }))
-
 abbrev pub closing : PairPart → Side → ℕ → PairPart
 closing pair side queue =
-    with_side_part (with_lane pair side queue (begun_lane queue (lane_of pair side queue) GoesDown)) side
+    with_side_part (with_lane pair side queue (begun_lane queue (lane_of pair side queue) (GoesDown ∷ []))) side
     (record (side_of pair side) { closed = with_bit (side_of pair side).closed queue })
 
-pub qpdown_cases : (P : Outcome → Type 0) (sizes : Sizes) (pair : PairPart) (side : Side) (queue : ℕ)
-    → ((r : Answer) → Refused (not (link_up pair)) r → P (record { answer = r; after = pair }))
-    → (MaySend sizes pair side queue 0 → P (record { answer = OkNumber (length (lane_of pair side queue).sent); after = closing pair side queue }))
-    → P (qpdown_step sizes pair side queue)
-qpdown_cases P sizes pair side queue refused made =
-    decided_cases P (Refused (not (link_up pair))) pair (refuse_sender pair side queue (refuse_busy (lane_of pair side queue) (refuse_full sizes (lane_of pair side queue))))
-    (OkNumber (length (lane_of pair side queue).sent)) (closing pair side queue)
-    (sender_each pair side queue _ (busy_each (lane_of pair side queue) _ (full_each sizes (lane_of pair side queue))))
-    refused
-    (λ none.
-    let a = sender_passed pair side queue _ none in
-    let c = passed _ _ _ a.then_passed in
-    let d = passed _ _ _ c.1 in
-    made (record { up = a.up; joined = a.joined; not_closed = a.not_closed; not_busy = empty_is _ c.0; room = d.0; fits = omega arith }))
+-- the entries that a frame needs
+abbrev pub needs : Sizes → ℕ → ℕ
+needs sizes len = pieces_in sizes.largest len
 
-abbrev pub taken_frame : Sizes → DevPlan → PairPart → Side → ℕ → List ℕ → PairPart
-taken_frame sizes plan pair side queue frame = counts_taken sizes plan (begun pair side queue frame) side queue (length frame)
+module _ (reading : Reading) where
+  pub begin_cases : (P : Outcome → Type 0) (sizes : Sizes) (pair : PairPart) (side : Side) (queue : ℕ) (bytes : List ℕ)
+      → ((r : Answer) → Refused (not (link_up pair)) r → P (record { answer = r; after = pair }))
+      → (MaySend reading sizes pair side queue (length bytes) (needs sizes (length bytes)) → P (record { answer = OkNumber (lane_of pair side queue).told; after = begun sizes pair side queue bytes }))
+      → P (begin_step sizes reading pair side queue bytes)
+  begin_cases P sizes pair side queue bytes refused made =
+      decided_cases P (Refused (not (link_up pair))) pair (begin_refusal sizes reading pair side queue (length bytes)) (OkNumber (lane_of pair side queue).told) (begun sizes pair side queue bytes)
+      (sender_each pair side queue _
+      (long_each (length bytes) sizes.most _ (busy_each (lane_of pair side queue) _ (full_each sizes reading (lane_of pair side queue) side queue (needs sizes (length bytes))))))
+      refused
+      (λ none.
+      let a = sender_passed pair side queue _ none in
+      let b = passed _ _ _ a.then_passed in
+      let c = passed _ _ _ b.1 in
+      let d = passed _ _ _ c.1 in
+      let idle = neither _ _ c.0 in
+      made (record {
+        up = a.up;
+        joined = a.joined;
+        not_closed = a.not_closed;
+        not_busy = empty_is _ idle.0;
+        none_waiting = empty_is _ idle.1;
+        room = ltb-false (reading.free side queue) (needs sizes (length bytes)) d.0;
+        fits = ltb-false sizes.most (length bytes) b.0;
+      }))
 
-pub xbegin_cases : (P : Outcome → Type 0) (sizes : Sizes) (plan : DevPlan) (pair : PairPart) (side : Side) (queue : ℕ) (dst : List ℕ) (kind : ℕ) (payload : List ℕ)
-    → ((r : Answer) → Refused (not (link_up pair)) r → P (record { answer = r; after = counts_refused pair side queue }))
-    → (MaySend sizes pair side queue (length (ethernet_frame dst plan.address kind payload))
-    → P (record { answer = OkNumber (length (lane_of pair side queue).sent); after = taken_frame sizes plan pair side queue (ethernet_frame dst plan.address kind payload) }))
-    → P (xbegin_step sizes plan pair side queue dst kind payload)
-xbegin_cases P sizes plan pair side queue dst kind payload refused made =
-    decided_cases P (Refused (not (link_up pair))) (counts_refused pair side queue)
-    (xbegin_refusal sizes pair (dev_of pair side queue) side queue (length (ethernet_frame dst plan.address kind payload)))
-    (OkNumber (length (lane_of pair side queue).sent)) (taken_frame sizes plan pair side queue (ethernet_frame dst plan.address kind payload))
-    (sender_each pair side queue _ (long_each (length (ethernet_frame dst plan.address kind payload)) sizes.largest _
-    (busy_each (lane_of pair side queue) _ (no (dev_of pair side queue).stopped Stopped refl refl (full_each sizes (lane_of pair side queue))))))
-    refused
-    (λ none.
-    let a = sender_passed pair side queue _ none in
-    let b = passed _ _ _ a.then_passed in
-    let c = passed _ _ _ b.1 in
-    let d = passed _ _ _ c.1 in
-    let e = passed _ _ _ d.1 in
-    made (record {
-      up = a.up;
-      joined = a.joined;
-      not_closed = a.not_closed;
-      not_busy = empty_is _ c.0;
-      room = e.0;
-      fits = ltb-false sizes.largest (length (ethernet_frame dst plan.address kind payload)) b.0;
-    }))
+  pub qpdown_cases : (P : Outcome → Type 0) (sizes : Sizes) (pair : PairPart) (side : Side) (queue : ℕ)
+      → ((r : Answer) → Refused (not (link_up pair)) r → P (record { answer = r; after = pair }))
+      → (MaySend reading sizes pair side queue 0 1 → P (record { answer = OkNumber (lane_of pair side queue).told; after = closing pair side queue }))
+      → P (qpdown_step sizes reading pair side queue)
+  qpdown_cases P sizes pair side queue refused made =
+      decided_cases P (Refused (not (link_up pair))) pair
+      (refuse_sender pair side queue (refuse_busy (lane_of pair side queue) (refuse_full sizes reading (lane_of pair side queue) side queue 1)))
+      (OkNumber (lane_of pair side queue).told) (closing pair side queue)
+      (sender_each pair side queue _ (busy_each (lane_of pair side queue) _ (full_each sizes reading (lane_of pair side queue) side queue 1)))
+      refused
+      (λ none.
+      let a = sender_passed pair side queue _ none in
+      let c = passed _ _ _ a.then_passed in
+      let d = passed _ _ _ c.1 in
+      let idle = neither _ _ c.0 in
+      made (record {
+        up = a.up;
+        joined = a.joined;
+        not_closed = a.not_closed;
+        not_busy = empty_is _ idle.0;
+        none_waiting = empty_is _ idle.1;
+        room = ltb-false (reading.free side queue) 1 d.0;
+        fits = omega arith;
+      }))
 
--- the lane without the write that is posted
-abbrev pub posting : PairPart → Side → ℕ → List Label → PairPart
-posting pair side queue rest = with_lane pair side queue (record (lane_of pair side queue) { todo = rest })
+  -- a device counts a frame that was accepted
+  abbrev pub sent_frame : Sizes → DevPlan → PairPart → Side → ℕ → List ℕ → PairPart
+  sent_frame sizes plan pair side queue frame =
+      counts_sent plan (begun sizes pair side queue frame) side queue (length frame) (reading.free side queue - needs sizes (length frame))
 
-pub post_cases : (P : Outcome → Type 0) (pair : PairPart) (side : Side) (queue : ℕ)
-    → P (record { answer = Idle; after = pair })
-    → ((label : Label) (rest : List Label) → (lane_of pair side queue).todo ≡ label ∷ rest → P (record { answer = Posted label; after = posts (posting pair side queue rest) side label }))
-    → P (post_step pair side queue)
-post_cases P pair side queue idle made = go (lane_of pair side queue).todo refl
-  where
-    go : (todo : List Label) → (lane_of pair side queue).todo ≡ todo → P (post_first pair side queue todo)
-    go [] e = idle
-    go (label ∷ rest) e = made label rest e
+  pub xbegin_cases : (P : Outcome → Type 0) (sizes : Sizes) (plan : DevPlan) (pair : PairPart) (side : Side) (queue : ℕ) (dst : List ℕ) (kind : ℕ) (payload : List ℕ)
+      → ((r : Answer) → Refused (not (link_up pair)) r → P (record { answer = r; after = counts_refused pair side queue }))
+      → (MaySend reading sizes pair side queue (length (ethernet_frame dst plan.address kind payload)) (needs sizes (length (ethernet_frame dst plan.address kind payload)))
+      → P (record { answer = OkNumber (lane_of pair side queue).told; after = sent_frame sizes plan pair side queue (ethernet_frame dst plan.address kind payload) }))
+      → P (xbegin_step sizes reading plan pair side queue dst kind payload)
+  xbegin_cases P sizes plan pair side queue dst kind payload refused made =
+      decided_cases P (Refused (not (link_up pair))) (counts_refused pair side queue)
+      (xbegin_refusal sizes reading pair (dev_of pair side queue) side queue len)
+      (OkNumber (lane_of pair side queue).told) (sent_frame sizes plan pair side queue (ethernet_frame dst plan.address kind payload))
+      (sender_each pair side queue _ (long_each len sizes.most _
+      (busy_each (lane_of pair side queue) _
+      (no (dev_of pair side queue).stopped Stopped refl refl (full_each sizes reading (lane_of pair side queue) side queue (needs sizes len))))))
+      refused
+      (λ none.
+      let a = sender_passed pair side queue _ none in
+      let b = passed _ _ _ a.then_passed in
+      let c = passed _ _ _ b.1 in
+      let d = passed _ _ _ c.1 in
+      let e = passed _ _ _ d.1 in
+      let idle = neither _ _ c.0 in
+      made (record {
+        up = a.up;
+        joined = a.joined;
+        not_closed = a.not_closed;
+        not_busy = empty_is _ idle.0;
+        none_waiting = empty_is _ idle.1;
+        room = ltb-false (reading.free side queue) (needs sizes len) e.0;
+        fits = ltb-false sizes.most len b.0;
+      }))
+    where
+      len : ℕ
+      len = length (ethernet_frame dst plan.address kind payload)
 
-pub wake_cases : (P : Outcome → Type 0) (sizes : Sizes) (plan : DevPlan) (pair : PairPart) (side : Side) (queue : ℕ)
+  -- what posts a write of a lane that is this one by then
+  abbrev pub posted_by : PairPart → Side → ℕ → LanePart → List Label → Label → PairPart
+  posted_by pair side queue lane rest label = posts_through reading (with_lane pair side queue (record lane { todo = rest })) side label
+
+  pub post_cases : (P : Outcome → Type 0) (pair : PairPart) (side : Side) (queue : ℕ)
+      → P (record { answer = Idle; after = pair })
+      → ((label : Label) (rest : List Label) → (lane_of pair side queue).todo ≡ label ∷ rest
+      → P (record { answer = Posted label; after = posted_by pair side queue (lane_of pair side queue) rest label }))
+      → ((entry : Entry) (others : List Entry) (label : Label) (rest : List Label) → (lane_of pair side queue).todo ≡ [] → (lane_of pair side queue).waiting ≡ entry ∷ others
+      → labels_of queue (length (lane_of pair side queue).sent) entry ≡ label ∷ rest
+      → P (record { answer = Posted label; after = posted_by pair side queue (with_next queue (lane_of pair side queue) (entry ∷ others)) rest label }))
+      → P (post_step reading pair side queue)
+  post_cases P pair side queue idle made made_next = go (lane_of pair side queue).todo refl
+    where
+      lane : LanePart
+      lane = lane_of pair side queue
+
+      Post : LanePart → List Label → Type 0
+      Post l todo = P (post_first reading pair side queue l todo)
+
+      next : (waiting : List Entry) → lane.waiting ≡ waiting → lane.todo ≡ [] → Post (with_next queue lane waiting) (with_next queue lane waiting).todo
+      next [] e empty = subst (λ todo. Post lane todo) (sym empty) idle
+      next (entry ∷ others) e empty = labels (labels_of queue (length lane.sent) entry) refl
+        where
+          labels : (todo : List Label) → labels_of queue (length lane.sent) entry ≡ todo → Post (with_next queue lane (entry ∷ others)) todo
+          labels [] is = idle
+          labels (label ∷ rest) is = made_next entry others label rest empty e is
+
+      go : (todo : List Label) → lane.todo ≡ todo
+          → Post (if is_empty_list todo then with_next queue lane lane.waiting else lane) (if is_empty_list todo then with_next queue lane lane.waiting else lane).todo
+      go [] e = next lane.waiting refl e
+      go (label ∷ rest) e = subst (λ todo. Post lane todo) (sym e) (made label rest e)
+
+pub wake_cases : (P : Outcome → Type 0) (reading : Reading) (plan : DevPlan) (pair : PairPart) (side : Side) (queue : ℕ)
     → ((r : Answer) → Refused false r → P (record { answer = r; after = pair }))
     → P (record { answer = Awake; after = with_dev pair side queue (record (dev_of pair side queue) { stopped = false }) })
-    → P (wake_step sizes plan pair side queue)
-wake_cases P sizes plan pair side queue refused made =
+    → P (wake_step reading plan pair side queue)
+wake_cases P reading plan pair side queue refused made =
     decided_cases P (Refused false) pair
-    (refuse_if (stays_stopped (flow_of plan (dev_of pair side queue)) (free_of sizes (lane_of pair side queue))) Stopped None) Awake
+    (refuse_if (stays_stopped (flow_of plan (dev_of pair side queue)) (reading.free side queue)) Stopped None) Awake
     (with_dev pair side queue (record (dev_of pair side queue) { stopped = false }))
-    (no (stays_stopped (flow_of plan (dev_of pair side queue)) (free_of sizes (lane_of pair side queue))) Stopped refl refl Nothing) refused (λ none. made)
+    (no (stays_stopped (flow_of plan (dev_of pair side queue)) (reading.free side queue)) Stopped refl refl Nothing) refused (λ none. made)
 
 -- Landing and receiving
 abbrev pub landed : PairPart → Side → ℕ → Label → PairPart
-landed pair side place label = lands_on (taken_out pair side place) side label
+landed pair side place label = lands_on (taken_out pair side place label) side label
 
 pub land_cases : (P : Outcome → Type 0) (plan : PairPlan) (pair : PairPart) (side : Side) (place : ℕ)
     → ((r : Answer) → Refused false r → P (record { answer = r; after = pair }))
-    → ((label : Label) → slice_get (side_of pair side).flight place ≡ Some label → may_land (map (order_of plan.strict) (side_of pair side).flight) place ≡ true
+    → ((label : Label) → slice_get (side_of pair side).flight place ≡ Some label → may_land (map (order_of plan side) (side_of pair side).flight) place ≡ true
     → P (record { answer = Landed label; after = landed pair side place label }))
     → P (land_step plan pair side place)
 land_cases P plan pair side place refused made = go (slice_get (side_of pair side).flight place) refl
@@ -365,16 +430,14 @@ land_cases P plan pair side place refused made = go (slice_get (side_of pair sid
     go : (found : Option Label) → slice_get (side_of pair side).flight place ≡ found → P (land_found plan pair side place found)
     go None e = refused NothingThere (record { is = refl; link = refl })
     go (Some label) e =
-        decided_cases P (Refused false) pair (refuse_if (not (may_land (map (order_of plan.strict) (side_of pair side).flight) place)) Blocked None) (Landed label)
+        decided_cases P (Refused false) pair (refuse_if (not (may_land (map (order_of plan side) (side_of pair side).flight) place)) Blocked None) (Landed label)
         (landed pair side place label)
-        (no (not (may_land (map (order_of plan.strict) (side_of pair side).flight) place)) Blocked refl refl Nothing) refused
+        (no (not (may_land (map (order_of plan side) (side_of pair side).flight) place)) Blocked refl refl Nothing) refused
         (λ none. made label e (not-false _ ((passed _ _ _ none).0)))
 
-abbrev pub looking : PairPart → Side → ℕ → PairPart
-looking pair side queue = with_lane pair (other_side side) queue (record (lane_to pair side queue) { phase = Copying; part = 0 })
-
-abbrev pub peer_down : PairPart → Side → ℕ → PairPart
-peer_down pair side queue = with_side_part pair side (record (side_of pair side) { closed = with_bit (side_of pair side).closed queue })
+abbrev pub looking : PairPart → Side → ℕ → ℕ → ℕ → PairPart
+looking pair side queue len left =
+    with_lane pair (other_side side) queue (record (lane_to pair side queue) { phase = Copying; part = 0; len = len; left = left })
 
 -- what a receiver that looks has passed
 pub record MayLookAt (pair : PairPart) (side : Side) (queue : ℕ) : Type 0 where
@@ -387,6 +450,8 @@ abbrev pub found_refusals : Answer → Bool
 found_refusals NotReady = true
 found_refusals Closed = true
 found_refusals OutOfTurn = true
+found_refusals (VerDiffers seen own) = true
+found_refusals (Long len most) = true
 found_refusals r = false
 
 -- a test and those behind it
@@ -394,75 +459,80 @@ test_cases : (P : Option Answer → Type 0) (b : Bool) (r : Answer) (later : Opt
 test_cases P true r later first rest = first
 test_cases P false r later first rest = rest refl
 
-last_cases : (P : Option Answer → Type 0) (b : Bool) (r : Answer) → (b ≡ true → P (Some r)) → (b ≡ false → P None) → P (refuse_if b r None)
-last_cases P true r first rest = first refl
-last_cases P false r first rest = rest refl
-
-pub look_cases : (P : Outcome → Type 0) (pair : PairPart) (side : Side) (queue : ℕ)
-    → ((r : Answer) → Refused false r → found_refusals r ≡ true → P (record { answer = r; after = pair }))
-    → (MayLookAt pair side queue → ((lane_to pair side queue).flagged == (lane_to pair side queue).got) ≡ true → P (record { answer = Empty; after = pair }))
-    → (MayLookAt pair side queue → ((lane_to pair side queue).flagged == (lane_to pair side queue).got) ≡ false
-    → (bytes : List ℕ) → entry_in (lane_to pair side queue) (lane_to pair side queue).got ≡ Carries bytes
-    → P (record { answer = ReadyFrame (lane_to pair side queue).got (length bytes); after = looking pair side queue }))
-    → (MayLookAt pair side queue → P (record { answer = PeerDown; after = peer_down pair side queue }))
-    → P (look_step pair side queue)
-look_cases P pair side queue refused none ready gone =
-    test_cases Left (not (has_bit (side_of pair side).joined queue)) NotReady _ (refused NotReady (record { is = refl; link = refl }) refl)
-    (λ joined. test_cases Left (has_bit (side_of pair side).closed queue) Closed _ (refused Closed (record { is = refl; link = refl }) refl)
-    (λ open_yet. test_cases Left (not (is_idle (lane_to pair side queue).phase)) OutOfTurn _ (refused OutOfTurn (record { is = refl; link = refl }) refl)
-    (λ turn.
-    let may : MayLookAt pair side queue = record { joined = not-false _ joined; not_closed = open_yet; idle = not-false _ turn } in
-    last_cases Left ((lane_to pair side queue).flagged == (lane_to pair side queue).got) Empty (none may)
-    (λ some. found may some (entry_in (lane_to pair side queue) (lane_to pair side queue).got) refl))))
+pub look_cases : (reading : Reading) (P : Outcome → Type 0) (pair : PairPart) (side : Side) (queue : ℕ)
+    → ((r : Answer) → is_link_down r ≡ false → found_refusals r ≡ true → P (record { answer = r; after = pair }))
+    → (MayLookAt pair side queue → reading.found side queue ≡ NoEntry → P (record { answer = Empty; after = pair }))
+    → (MayLookAt pair side queue → (len left : ℕ) → reading.found side queue ≡ AnEntry len left
+    → P (record { answer = ReadyFrame (lane_to pair side queue).got len; after = looking pair side queue len left }))
+    → (MayLookAt pair side queue → P (record { answer = PeerDown; after = closes pair side queue }))
+    → P (look_step reading pair side queue)
+look_cases reading P pair side queue refused none ready gone =
+    test_cases Left (not (has_bit (side_of pair side).joined queue)) NotReady _ (refused NotReady refl refl)
+    (λ joined. test_cases Left (has_bit (side_of pair side).closed queue) Closed _ (refused Closed refl refl)
+    (λ open_yet. test_cases Left (not (is_idle (lane_to pair side queue).phase)) OutOfTurn _ (refused OutOfTurn refl refl)
+    (λ turn. found (record { joined = not-false _ joined; not_closed = open_yet; idle = not-false _ turn }) (reading.found side queue) refl)))
   where
     Left : Option Answer → Type 0
     Left refusal =
-        let found = look_at pair side queue (lane_to pair side queue) (entry_in (lane_to pair side queue) (lane_to pair side queue).got) in
+        let found = look_at pair side queue (reading.found side queue) in
         P (decided pair refusal found.answer found.after)
 
-    found : MayLookAt pair side queue → ((lane_to pair side queue).flagged == (lane_to pair side queue).got) ≡ false
-        → (entry : Entry) → entry_in (lane_to pair side queue) (lane_to pair side queue).got ≡ entry
-        → P (decided pair None (look_at pair side queue (lane_to pair side queue) entry).answer (look_at pair side queue (lane_to pair side queue) entry).after)
-    found may some (Carries bytes) at = ready may some bytes at
-    found may some GoesDown at = gone may
+    found : MayLookAt pair side queue → (at : Found) → reading.found side queue ≡ at
+        → P (decided pair None (look_at pair side queue at).answer (look_at pair side queue at).after)
+    found may NoEntry is = none may is
+    found may ALinkDownEntry is = gone may
+    found may (AnotherVersion seen own) is = refused (VerDiffers seen own) refl refl
+    found may (TooManyBytes len most) is = refused (Long len most) refl refl
+    found may (AnEntry len left) is = ready may len left is
 
--- the two cases of a copy: a part that isn't the last, and the last
-abbrev pub copied_more : PairPart → Side → ℕ → LanePart → Outcome
-copied_more pair side queue lane = record {
+-- the three cases of a copy: a part that isn't the entry's last, the last part of an entry with others behind it, and of a frame
+abbrev pub copied_more : PairPart → Side → ℕ → LanePart → List ℕ → Outcome
+copied_more pair side queue lane gathered = record {
   answer = CopiedPart lane.got lane.part;
-  after = with_lane pair (other_side side) queue (record lane { part = lane.part + 1 });
+  after = with_lane pair (other_side side) queue (record lane { part = lane.part + 1; gathered = gathered });
+}
+
+abbrev pub copied_entry : PairPart → Side → ℕ → LanePart → List ℕ → Outcome
+copied_entry pair side queue lane gathered = record {
+  answer = CopiedPart lane.got lane.part;
+  after = with_lane pair (other_side side) queue (record lane { got = lane.got + 1; phase = Copied; gathered = gathered });
 }
 
 abbrev pub copied_last : PairPart → Side → ℕ → LanePart → List ℕ → Outcome
-copied_last pair side queue lane bytes = record {
-  answer = Delivered lane.got bytes;
-  after = counts_delivered (with_lane pair (other_side side) queue (record lane { got = lane.got + 1; phase = Copied })) side queue (length bytes);
+copied_last pair side queue lane gathered = record {
+  answer = Delivered lane.done gathered;
+  after =
+      counts_delivered
+      (with_lane pair (other_side side) queue (record lane { got = lane.got + 1; phase = Copied; gathered = []; done = lane.done + 1 }))
+      side queue (length gathered);
 }
 
-part_cases : (P : Outcome → Type 0) (pair : PairPart) (side : Side) (queue : ℕ) (lane : LanePart) (bytes : List ℕ)
-    → (nat_lt (lane.part + 1) (chunks_in (length bytes)) ≡ true → P (copied_more pair side queue lane))
-    → (nat_lt (lane.part + 1) (chunks_in (length bytes)) ≡ false → P (copied_last pair side queue lane bytes)) → P (copy_of pair side queue lane bytes)
-part_cases P pair side queue lane bytes more last =
-    cond_both (nat_lt (lane.part + 1) (chunks_in (length bytes))) (copied_more pair side queue lane) (copied_last pair side queue lane bytes) P more last
+part_cases : (P : Outcome → Type 0) (pair : PairPart) (side : Side) (queue : ℕ) (lane : LanePart) (gathered : List ℕ)
+    → (nat_lt (lane.part + 1) (chunks_in lane.len) ≡ true → P (copied_more pair side queue lane gathered))
+    → (nat_lt (lane.part + 1) (chunks_in lane.len) ≡ false → nat_lt 0 lane.left ≡ true → P (copied_entry pair side queue lane gathered))
+    → (nat_lt (lane.part + 1) (chunks_in lane.len) ≡ false → nat_lt 0 lane.left ≡ false → P (copied_last pair side queue lane gathered)) → P (copy_of pair side queue lane gathered)
+part_cases P pair side queue lane gathered more entry last =
+    cond_both (nat_lt (lane.part + 1) (chunks_in lane.len)) (copied_more pair side queue lane gathered)
+    (if nat_lt 0 lane.left then copied_entry pair side queue lane gathered else copied_last pair side queue lane gathered) P more
+    (λ all. cond_both (nat_lt 0 lane.left) (copied_entry pair side queue lane gathered) (copied_last pair side queue lane gathered) P (entry all) (last all))
 
-pub copy_cases : (P : Outcome → Type 0) (pair : PairPart) (side : Side) (queue : ℕ)
-    → ((r : Answer) → Refused false r → P (record { answer = r; after = pair }))
-    → (is_copying (lane_to pair side queue).phase ≡ true
-    → nat_lt ((lane_to pair side queue).part + 1) (chunks_in (length (bytes_of (entry_in (lane_to pair side queue) (lane_to pair side queue).got)))) ≡ true
-    → P (copied_more pair side queue (lane_to pair side queue)))
-    → (is_copying (lane_to pair side queue).phase ≡ true
-    → nat_lt ((lane_to pair side queue).part + 1) (chunks_in (length (bytes_of (entry_in (lane_to pair side queue) (lane_to pair side queue).got)))) ≡ false
-    → P (copied_last pair side queue (lane_to pair side queue) (bytes_of (entry_in (lane_to pair side queue) (lane_to pair side queue).got))))
-    → P (copy_step pair side queue)
-copy_cases P pair side queue refused more last =
+pub copy_cases : (reading : Reading) (P : Outcome → Type 0) (pair : PairPart) (side : Side) (queue : ℕ)
+    → let lane = lane_to pair side queue in
+    let gathered = lane.gathered ++ reading.part side queue in
+    ((r : Answer) → Refused false r → P (record { answer = r; after = pair }))
+    → (is_copying lane.phase ≡ true → nat_lt (lane.part + 1) (chunks_in lane.len) ≡ true → P (copied_more pair side queue lane gathered))
+    → (is_copying lane.phase ≡ true → nat_lt (lane.part + 1) (chunks_in lane.len) ≡ false → nat_lt 0 lane.left ≡ true → P (copied_entry pair side queue lane gathered))
+    → (is_copying lane.phase ≡ true → nat_lt (lane.part + 1) (chunks_in lane.len) ≡ false → nat_lt 0 lane.left ≡ false → P (copied_last pair side queue lane gathered))
+    → P (copy_step reading pair side queue)
+copy_cases reading P pair side queue refused more entry last =
     decided_cases P (Refused false) pair (refuse_if (not (is_copying (lane_to pair side queue).phase)) OutOfTurn None) copied.answer copied.after
     (no (not (is_copying (lane_to pair side queue).phase)) OutOfTurn refl refl Nothing) refused
     (λ none.
     let turn : is_copying (lane_to pair side queue).phase ≡ true = not-false _ ((passed _ _ _ none).0) in
-    part_cases P pair side queue (lane_to pair side queue) (bytes_of (entry_in (lane_to pair side queue) (lane_to pair side queue).got)) (more turn) (last turn))
+    part_cases P pair side queue (lane_to pair side queue) ((lane_to pair side queue).gathered ++ reading.part side queue) (more turn) (entry turn) (last turn))
   where
     copied : Outcome
-    copied = copy_of pair side queue (lane_to pair side queue) (bytes_of (entry_in (lane_to pair side queue) (lane_to pair side queue).got))
+    copied = copy_of pair side queue (lane_to pair side queue) ((lane_to pair side queue).gathered ++ reading.part side queue)
 
 abbrev pub clearing : PairPart → Side → ℕ → PairPart
 clearing pair side queue = with_lane pair (other_side side) queue (record (lane_to pair side queue) { cleared = (lane_to pair side queue).cleared + 1; phase = Cleared })
@@ -479,12 +549,12 @@ clear_cases P pair side queue refused made =
 abbrev pub acking : PairPart → Side → ℕ → PairPart
 acking pair side queue = with_lane pair (other_side side) queue (record (lane_to pair side queue) { acked = (lane_to pair side queue).acked + 1; phase = IsIdle })
 
-pub ack_cases : (P : Outcome → Type 0) (pair : PairPart) (side : Side) (queue : ℕ)
+pub ack_cases : (reading : Reading) (P : Outcome → Type 0) (pair : PairPart) (side : Side) (queue : ℕ)
     → ((r : Answer) → Refused false r → P (record { answer = r; after = pair }))
     → (is_cleared (lane_to pair side queue).phase ≡ true
-    → P (record { answer = Acked (lane_to pair side queue).acked; after = posts (acking pair side queue) side (Index queue (lane_to pair side queue).acked) }))
-    → P (ack_step pair side queue)
-ack_cases P pair side queue refused made =
+    → P (record { answer = Acked (lane_to pair side queue).acked; after = posts_through reading (acking pair side queue) side (Index queue (lane_to pair side queue).acked) }))
+    → P (ack_step reading pair side queue)
+ack_cases reading P pair side queue refused made =
     decided_cases P (Refused false) pair (refuse_if (not (is_cleared (lane_to pair side queue).phase)) OutOfTurn None) (Acked (lane_to pair side queue).acked)
-    (posts (acking pair side queue) side (Index queue (lane_to pair side queue).acked))
+    (posts_through reading (acking pair side queue) side (Index queue (lane_to pair side queue).acked))
     (no (not (is_cleared (lane_to pair side queue).phase)) OutOfTurn refl refl Nothing) refused (λ none. made (not-false (is_cleared (lane_to pair side queue).phase) ((passed (not (is_cleared (lane_to pair side queue).phase)) OutOfTurn None none).0)))

@@ -7,14 +7,15 @@ use Rattle.step_kinds.specs.declared.names.LaneName.{LaneName}
 use Rattle.step_kinds.specs.declared.plan.Plan.{Plan}
 use Rattle.lane_model.specs.Lane.{blank_slot, with_flags}
 use Rattle.lane_model.specs.declared.Write.{Write}
-use Rattle.ledger_model.specs.Ledger.{LanePart, Sizes}
+use Rattle.ledger_model.specs.Ledger.{LanePart}
 use Rattle.ledger_model.specs.Log.{Answered, Numbered, takes_room, gives_room, trains, breaks, accepts, delivers, saw_empty, pad_after}
 use Rattle.ledger_model.specs.Rings.{RingPart, ring_next, with_write, without_header}
+use Rattle.plan_model.specs.Sizes.{Sizes}
 use Rattle.ledger_laws.proofs.walk.Sight.{Role, Sender, Receiver, side_at}
 
 pub record News : Type 0 where
-  -- an entry of the lane is begun, and an index write of it lands
-  pub takes : Bool
+  -- how many entries of the lane are begun or kept waiting, and whether an index write of it lands
+  pub takes : ℕ
   pub gives : Bool
   -- a session of the pair begins, and ends
   pub starts : Bool
@@ -31,7 +32,7 @@ pub record News : Type 0 where
 
 abbrev pub no_news : News
 no_news = record {
-  takes = false;
+  takes = 0;
   gives = false;
   starts = false;
   ends = false;
@@ -51,7 +52,7 @@ abbrev pub pad_next : LaneName → Answered → Role → ℕ → Option ℕ → 
 pad_next lane made e i now = pad_after lane.pair (side_at lane.from e) i now (made ∷ [])
 
 pub record Tells (plan : Plan) (lane : LaneName) (part : LanePart) (made : Answered) (news : News) : Type 0 where
-  pub takes : takes_room lane made ≡ news.takes
+  pub takes : takes_room plan lane made ≡ news.takes
   pub gives : gives_room lane made ≡ news.gives
   pub starts : trains lane.pair made ≡ news.starts
   pub ends : breaks lane.pair made ≡ news.ends
@@ -96,6 +97,6 @@ abbrev pub sees_taken : ℕ → Role → ℕ → Bool → Bool
 sees_taken q Sender bits saw = saw
 sees_taken q Receiver bits saw = if has_bit bits q then false else saw
 
--- an entry that carries a frame is begun, on this lane or on another
-abbrev pub begun_news : Bool → ℕ → List ℕ → News
-begun_news own n frame = record no_news { takes = own; accepted = (if own then record { number = n; bytes = frame } ∷ [] else []) }
+-- a frame that needs so many entries is begun, on this lane or on another
+abbrev pub begun_news : Bool → ℕ → ℕ → List ℕ → News
+begun_news own needed n frame = record no_news { takes = (if own then needed else 0); accepted = (if own then record { number = n; bytes = frame } ∷ [] else []) }

@@ -14,16 +14,18 @@ use Rattle.step_kinds.specs.declared.steps.Label.TheVariants.{Pad}
 use Rattle.step_kinds.specs.declared.steps.Step.{Step}
 use Rattle.step_kinds.specs.declared.steps.Step.TheVariants.{Enable, Train, Break, DropDone, Clean, Offer, Check, Ready, Join, Irq}
 use Rattle.ledger_model.specs.Handshake.{offers, pad_index, pad_in, check_refusal}
-use Rattle.ledger_model.specs.Ledger.{PairPart, side_of, link_up, posts, with_side_part, links_pad, side_plan}
+use Rattle.ledger_model.specs.Ledger.{PairPart, side_of, link_up, posts, with_side_part}
 use Rattle.ledger_model.specs.Link.{is_down, enabled_link, enable_refusal, train_refusal, cut_refusal, drop_refusal, clean_refusal}
 use Rattle.ledger_model.specs.LinkSteps.{fresh_lane}
-use Rattle.ledger_model.specs.Next.{pair_plan}
 use Rattle.ledger_model.specs.declared.LinkState.TheVariants.{Down as LinkIsDown, Up as LinkIsUp}
 use Rattle.ledger_model.specs.declared.LinkRefusal.TheVariants.{NotDown, Dirty, NotEnabled, NotUp, NotClosing}
+use Rattle.plan_model.specs.Pads.{links_pad}
+use Rattle.plan_model.specs.Plans.{pair_plan, side_plan}
 use Rattle.ledger_laws.specs.Laws.{IsOrdinaryOn}
 use Rattle.ledger_laws.proofs.Offers.{offer-is_pad, offer-no_link}
 use Rattle.ledger_laws.proofs.Outcomes.{passed, refused_passed}
-use Rattle.ledger_laws.proofs.walk.Cases.{trained, broken, dropped, cleaned, offering, next_offer, readied, ready_pad, joining, peer_down}
+use Rattle.ledger_laws.proofs.walk.Cases.{trained, broken, dropped, cleaned, offering, next_offer, readied, ready_pad, joining}
+use Rattle.ledger_model.specs.Receiving.{closes}
 use Rattle.ledger_laws.proofs.walk.Sight.{Sight, each_way, with_up, with_ready, with_joined, with_offered, with_closed, with_masked, end-own, Role, end_at, part_of, with_enabled, with_pending, posted, side_at, by_role, sight, sight-posts}
 use Rattle.ledger_laws.proofs.walk.Turn.{MayTrain, IsForeign, is_handshake, forgotten, dropped_end, turned, Enables, Trains, Breaks, Drops, Forgets, Offers, Checks, Readies, Joins, Shuts, Says, TakesBells, Masks}
 use Rattle.ledger_laws.proofs.walk.News.{Tells, looked_news}
@@ -216,19 +218,20 @@ module _ (plan : Plan) (lane : LaneName) (pair : PairPart) where
 
   -- a queue is shut
   pub shut : (step : Side → Step) (answer : Answer) (looked : Side → Bool) → ((side : Side) → Tells plan lane Now.lane (record { step = step side; answer = answer }) (looked_news (looked side)))
-      → (queue : ℕ) (side : Side) → TurnAt plan lane pair (step side) (record { answer = answer; after = peer_down pair side queue })
+      → (queue : ℕ) (side : Side) → TurnAt plan lane pair (step side) (record { answer = answer; after = closes pair side queue })
   shut step answer looked told queue =
-      by_role lane.from (λ s. TurnAt plan lane pair (step s) (record { answer = answer; after = peer_down pair s queue }))
-      (λ e. shown_as plan lane pair (step (side_at lane.from e)) answer (peer_down pair (side_at lane.from e) queue) (with_closed e (with_bit (end_at Now e).closed queue) Now)
-      (each_way (λ f r. sight f lane.queue (peer_down pair (side_at f r) queue) ≡ with_closed r (with_bit (end_at (sight f lane.queue pair) r).closed queue) (sight f lane.queue pair)) refl refl refl refl lane.from e)
+      by_role lane.from (λ s. TurnAt plan lane pair (step s) (record { answer = answer; after = closes pair s queue }))
+      (λ e. shown_as plan lane pair (step (side_at lane.from e)) answer (closes pair (side_at lane.from e) queue) (with_closed e (with_bit (end_at Now e).closed queue) Now)
+      (each_way (λ f r. sight f lane.queue (closes pair (side_at f r) queue) ≡ with_closed r (with_bit (end_at (sight f lane.queue pair) r).closed queue) (sight f lane.queue pair)) refl refl refl refl lane.from e)
       (turned (Shuts e queue (looked (side_at lane.from e))) (told (side_at lane.from e))))
 
   -- a write by hand
   pub say : (step : Side → Step) → ((side : Side) → is_read (step side) Done ≡ false) → (label : Label) → ((e : Role) → IsForeign lane.queue e label)
-      → ((side : Side) → IsOrdinaryOn lane.pair (step side) → is_handshake label ≡ false) → (side : Side)
-      → TurnAt plan lane pair (step side) (record { answer = Done; after = posts pair side label })
-  say step unread label foreign ordinary =
-      by_role lane.from (λ s. TurnAt plan lane pair (step s) (record { answer = Done; after = posts pair s label }))
-      (λ e. shown_as plan lane pair (step (side_at lane.from e)) Done (posts pair (side_at lane.from e) label) _ (sight-posts lane.from lane.queue pair e label)
+      → ((side : Side) → IsOrdinaryOn lane.pair (step side) → is_handshake label ≡ false) → (after : Side → PairPart)
+      → ((e : Role) → sight lane.from lane.queue (after (side_at lane.from e)) ≡ posted e label Now) → (side : Side)
+      → TurnAt plan lane pair (step side) (record { answer = Done; after = after side })
+  say step unread label foreign ordinary after looks_so =
+      by_role lane.from (λ s. TurnAt plan lane pair (step s) (record { answer = Done; after = after s }))
+      (λ e. shown_as plan lane pair (step (side_at lane.from e)) Done (after (side_at lane.from e)) _ (looks_so e)
       (turned (Says e label (record { foreign = foreign e; no_handshake = ordinary (side_at lane.from e) }))
       (tells_no plan lane Now.lane (step (side_at lane.from e)) Done (unread (side_at lane.from e)))))

@@ -8,7 +8,7 @@ use Rattle.step_kinds.specs.declared.names.Side.{Side}
 use Rattle.step_kinds.specs.declared.names.Side.TheVariants.{A, B}
 use Rattle.step_kinds.specs.declared.steps.Label.{Label}
 use Rattle.ledger_model.specs.Both.{at_side}
-use Rattle.ledger_model.specs.Ledger.{LanePart, SidePart, PairPart, Tally, side_of, lane_of, tally_of, posts, with_side_part, with_lane, with_tally, updated}
+use Rattle.ledger_model.specs.Ledger.{LanePart, SidePart, PairPart, Tally, side_of, lane_of, tally_of, posts, posts_raw, with_side_part, with_lane, with_tally, updated}
 use Rattle.ledger_model.specs.Link.{is_up}
 use Rattle.ledger_model.specs.Log.{same_side}
 use Rattle.ledger_model.specs.declared.LinkState.{LinkState}
@@ -163,6 +163,7 @@ part_of own = record {
   pending = own.pending;
   masked = own.masked;
   flight = own.flight;
+  poked = [];
 }
 
 abbrev pub end_of : PairPart → Side → End
@@ -273,6 +274,23 @@ module _ (from : Side) (q : ℕ) (pair : PairPart) where
       go : (up : Bool) (f : Side) (e : Role)
           → let part = side_of pair (side_at f e) in
           sight f q (if up then with_side_part pair (side_at f e) (record part { flight = part.flight ++ label ∷ [] }) else pair)
+          ≡ with_flight e (if up then (end_at (sight f q pair) e).flight ++ label ∷ [] else (end_at (sight f q pair) e).flight) (sight f q pair)
+      go true A Sender = refl
+      go true A Receiver = refl
+      go true B Sender = refl
+      go true B Receiver = refl
+      go false f Sender = refl
+      go false f Receiver = refl
+
+  -- bytes that a side posts past the transport
+  pub sight-posts_raw : (e : Role) (label : Label) (bytes : List ℕ)
+      → sight from q (posts_raw pair (side_at from e) label bytes)
+      ≡ posted e label (sight from q pair)
+  sight-posts_raw e label bytes = go (is_up pair.link.state) from e
+    where
+      go : (up : Bool) (f : Side) (e : Role)
+          → let part = side_of pair (side_at f e) in
+          sight f q (if up then with_side_part pair (side_at f e) (record part { flight = part.flight ++ label ∷ []; poked = part.poked ++ bytes ∷ [] }) else pair)
           ≡ with_flight e (if up then (end_at (sight f q pair) e).flight ++ label ∷ [] else (end_at (sight f q pair) e).flight) (sight f q pair)
       go true A Sender = refl
       go true A Receiver = refl

@@ -1,6 +1,6 @@
 -- What each step tells the readers of the log of one lane: nothing, but for the steps that one of them reads.
 use Rattle.std.proofs.Common.{◌≡◌, ℕ, ◌==◌, Bool, true, false, ◌&&◌, Option, Some, None, List, [], ◌∷◌, refl, ap, ◌∙◌}
-use Rattle.std.specs.Prelude.{if◌then◌else◌}
+use Rattle.std.specs.Prelude.{if◌then◌else◌, length}
 use Rattle.std.proofs.lemmas.Bool.{both_ways, false≢true, true≢false, eq-eqb, ne_eqb, and_right, cond_both}
 use Rattle.step_kinds.specs.Sides.{other_side}
 use Rattle.step_kinds.specs.Subject.{subject_of}
@@ -15,12 +15,13 @@ use Rattle.step_kinds.specs.declared.steps.Label.TheVariants.{Bell, Index, Pad}
 use Rattle.step_kinds.specs.declared.steps.Step.{Step}
 use Rattle.step_kinds.specs.declared.steps.Step.TheVariants.{Train, Break, Check, Begin, QpDown, Xbegin, Land, Look, Copy, Clear, Irq}
 use Rattle.lane_model.specs.declared.Write.TheVariants.{Bell as QueueBell}
-use Rattle.ledger_model.specs.Device.{ethernet_frame}
 use Rattle.ledger_model.specs.Labels.{write_of, index_of}
-use Rattle.ledger_model.specs.Ledger.{LanePart, Sizes}
+use Rattle.ledger_model.specs.Ledger.{LanePart}
 use Rattle.ledger_model.specs.Log.{Answered, takes_room, gives_room, trains, breaks, accepts, delivers, is_on, same_side}
-use Rattle.ledger_model.specs.Next.{dev_plan}
 use Rattle.ledger_model.specs.Rings.{RingPart, ring_next, with_write, with_index}
+use Rattle.plan_model.specs.Plans.{dev_plan, pair_plan}
+use Rattle.plan_model.specs.Sizes.{Sizes, sizes_of, pieces_in}
+use Rattle.plan_model.specs.Ethernet.{ethernet_frame}
 use Rattle.ledger_laws.proofs.walk.Cases.{refuses}
 use Rattle.ledger_laws.proofs.walk.News.{News, no_news, Tells, saw_next, pad_next, looked_news, begun_news, pads_landed, ring_checked, ring_cleared, sees_taken}
 use Rattle.ledger_laws.proofs.walk.Sight.{Role, Sender, Receiver, side_at, other_other, same_side-refl, other_side-not, other_side-across, IsOff}
@@ -66,10 +67,10 @@ tells_nothing plan lane part step answer h = record {
     not_here : (p : ℕ) (b : Bool) → (p ≡ lane.pair → ⊥) → ((p == lane.pair) && b) ≡ false
     not_here p b ne = rw (ne_eqb p lane.pair ne) refl
 
-    takes : (step : Step) (r : Answer) → IsUnread lane step r → takes_room lane (record { step = step; answer = r }) ≡ false
-    takes (Begin p side queue frame) (OkNumber n) h = not_here p _ (h refl)
-    takes (QpDown p side queue) (OkNumber n) h = not_here p _ (h refl)
-    takes (Xbegin p side queue dev dst kind payload) (OkNumber n) h = not_here p _ (h refl)
+    takes : (step : Step) (r : Answer) → IsUnread lane step r → takes_room plan lane (record { step = step; answer = r }) ≡ 0
+    takes (Begin p side queue frame) (OkNumber n) h = off p _ _ 0 (h refl)
+    takes (QpDown p side queue) (OkNumber n) h = off p _ _ 0 (h refl)
+    takes (Xbegin p side queue dev dst kind payload) (OkNumber n) h = off p _ _ 0 (h refl)
     takes step r h = refl
 
     gives : (step : Step) (r : Answer) → IsUnread lane step r → gives_room lane (record { step = step; answer = r }) ≡ false
@@ -166,7 +167,7 @@ foreign_in_ring q Receiver label lane sizes ring none = ap (λ n. record { ring 
 
 -- the steps that some reader reads
 
-told : {plan : Plan} {lane : LaneName} {part : LanePart} {made : Answered} {news : News} → takes_room lane made ≡ news.takes → gives_room lane made ≡ news.gives
+told : {plan : Plan} {lane : LaneName} {part : LanePart} {made : Answered} {news : News} → takes_room plan lane made ≡ news.takes → gives_room lane made ≡ news.gives
     → trains lane.pair made ≡ news.starts → breaks lane.pair made ≡ news.ends → accepts plan lane made ≡ news.accepted → delivers lane made ≡ news.delivered
     → ((saw : Bool) → saw_next lane made saw ≡ news.sees saw) → ((e : Role) (i : ℕ) (now : Option ℕ) → pad_next lane made e i now ≡ news.pads e i now)
     → ((sizes : Sizes) (ring : RingPart) → ring_next sizes lane part ring made ≡ news.ring sizes ring) → Tells plan lane part made news
@@ -204,6 +205,10 @@ module _ (plan : Plan) (lane : LaneName) (part : LanePart) (p : ℕ) where
   abbrev IsTold : Step → Answer → News → Type 0
   IsTold step answer news = Tells plan lane part (record { step = step; answer = answer }) news
 
+  -- the entries that a frame of so many bytes needs on the lane
+  abbrev needed : ℕ → ℕ
+  needed len = pieces_in (sizes_of (pair_plan plan lane.pair) lane.from lane.queue).largest len
+
   pub tells_train : p ≡ lane.pair → (session : ℕ) → IsTold (Train p) (OkSession session) (record no_news { starts = true })
   tells_train same session = told refl refl (eq-eqb p lane.pair same) refl refl refl (λ saw. refl) (λ e i now. refl) (λ sizes ring. refl)
 
@@ -217,18 +222,19 @@ module _ (plan : Plan) (lane : LaneName) (part : LanePart) (p : ℕ) where
       checked Sender sizes ring = rw (eq-eqb p lane.pair same, same_side-refl lane.from) refl
       checked Receiver sizes ring = rw (eq-eqb p lane.pair same, other_side-not lane.from) refl
 
-  pub tells_begin : (side : Side) (queue : ℕ) (frame : List ℕ) (n : ℕ) (own : Bool) → is_on lane p side queue ≡ own → IsTold (Begin p side queue frame) (OkNumber n) (begun_news own n frame)
+  pub tells_begin : (side : Side) (queue : ℕ) (frame : List ℕ) (n : ℕ) (own : Bool) → is_on lane p side queue ≡ own → IsTold (Begin p side queue frame) (OkNumber n) (begun_news own (needed (length frame)) n frame)
   tells_begin side queue frame n own on =
-      told on refl refl refl (ap (λ b. if b then record { number = n; bytes = frame } ∷ [] else []) on) refl (λ saw. refl) (λ e i now. refl) (λ sizes ring. refl)
+      told (ap (λ b. if b then needed (length frame) else 0) on) refl refl refl (ap (λ b. if b then record { number = n; bytes = frame } ∷ [] else []) on) refl (λ saw. refl) (λ e i now. refl) (λ sizes ring. refl)
 
   pub tells_xbegin : (side : Side) (queue dev : ℕ) (dst : List ℕ) (kind : ℕ) (payload : List ℕ) (n : ℕ) (own : Bool) → is_on lane p side queue ≡ own
-      → IsTold (Xbegin p side queue dev dst kind payload) (OkNumber n) (begun_news own n (ethernet_frame dst (dev_plan plan.devs dev).address kind payload))
+      → IsTold (Xbegin p side queue dev dst kind payload) (OkNumber n)
+      (begun_news own (needed (length (ethernet_frame dst (dev_plan plan.devs dev).address kind payload))) n (ethernet_frame dst (dev_plan plan.devs dev).address kind payload))
   tells_xbegin side queue dev dst kind payload n own on =
-      told on refl refl refl (ap (λ b. if b then record { number = n; bytes = ethernet_frame dst (dev_plan plan.devs dev).address kind payload } ∷ [] else []) on) refl
+      told (ap (λ b. if b then needed (length (ethernet_frame dst (dev_plan plan.devs dev).address kind payload)) else 0) on) refl refl refl (ap (λ b. if b then record { number = n; bytes = ethernet_frame dst (dev_plan plan.devs dev).address kind payload } ∷ [] else []) on) refl
       (λ saw. refl) (λ e i now. refl) (λ sizes ring. refl)
 
-  pub tells_qpdown : (side : Side) (queue n : ℕ) (own : Bool) → is_on lane p side queue ≡ own → IsTold (QpDown p side queue) (OkNumber n) (record no_news { takes = own })
-  tells_qpdown side queue n own on = told on refl refl refl refl refl (λ saw. refl) (λ e i now. refl) (λ sizes ring. refl)
+  pub tells_qpdown : (side : Side) (queue n : ℕ) (own : Bool) → is_on lane p side queue ≡ own → IsTold (QpDown p side queue) (OkNumber n) (record no_news { takes = (if own then 1 else 0) })
+  tells_qpdown side queue n own on = told (ap (λ b. if b then 1 else 0) on) refl refl refl refl refl (λ saw. refl) (λ e i now. refl) (λ sizes ring. refl)
 
   pub tells_empty : (side : Side) (queue : ℕ) (own : Bool) → at_receiver lane p side queue ≡ own → IsTold (Look p side queue) Empty (record no_news { sees = λ saw. if own then true else saw })
   tells_empty side queue own at = told refl refl refl refl refl refl (λ saw. ap (λ b. if b then true else saw) at) (λ e i now. refl) (λ sizes ring. refl)
