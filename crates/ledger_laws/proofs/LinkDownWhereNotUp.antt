@@ -13,8 +13,9 @@ use Rattle.plan_model.specs.Sizes.{sizes_of}
 use Rattle.byte_model.specs.Headers.{Bytes}
 use Rattle.ledger_laws.specs.Laws.{is_link_down, needs_link, LinkDownWhereNotUp}
 use Rattle.ledger_model.specs.Ledger.{PairPart, link_up}
-use Rattle.ledger_model.specs.Log.{up_at, trains, breaks}
-use Rattle.ledger_model.specs.Next.{pair_next, fresh_pair}
+use Rattle.ledger_model.specs.Log.{up_at, trains, breaks, log_of, ledger_of}
+use Rattle.ledger_model.specs.Next.{pair_next, read_next, fresh_pair}
+use Rattle.ledger_model.specs.Reading.{Reading, reading_of}
 use Rattle.ledger_laws.proofs.Outcomes.{passed}
 use Rattle.ledger_laws.proofs.walk.Cases.{enable_cases, train_cases, break_cases, drop_cases, clean_cases, offer_cases, check_cases, ready_cases, join_cases, begin_cases, qpdown_cases, xbegin_cases, post_cases, land_cases, look_cases, copy_cases, clear_cases, ack_cases, wake_cases}
 use Rattle.ledger_model.specs.Link.{is_up}
@@ -34,38 +35,44 @@ not_down : (up : Bool) → up ≡ true → false ≡ not up
 not_down up e = rw e refl
 
 -- a step is answered `linkdown` where it needs the link and the link isn't up
+read_answer : (devs : List DevPlan) (plan : PairPlan) (reading : Reading) (bytes : Bytes) (pair : PairPart) (step : Step)
+    → is_link_down (read_next devs plan reading bytes pair step).answer ≡ (needs_link step && not (link_up pair))
+read_answer devs plan reading bytes pair (Enable p side) = enable_cases (λ o. is_link_down o.answer ≡ false) pair side (λ r no. no.link) (λ _. refl)
+read_answer devs plan reading bytes pair (Train p) = train_cases (λ o. is_link_down o.answer ≡ false) pair (λ r no. no.link) (λ _. refl)
+read_answer devs plan reading bytes pair (Break p) = break_cases (λ o. is_link_down o.answer ≡ false) pair (λ r no. no.link) (λ _. refl)
+read_answer devs plan reading bytes pair (DropDone p) = drop_cases (λ o. is_link_down o.answer ≡ false) pair (λ r no. no.link) (λ _. refl)
+read_answer devs plan reading bytes pair (Clean p side) = clean_cases (λ o. is_link_down o.answer ≡ false) pair side (λ r no. no.link) (λ _. refl)
+read_answer devs plan reading bytes pair (Offer p side) =
+    offer_cases (λ o. is_link_down o.answer ≡ not (link_up pair)) plan pair side (λ r no. no.link) (λ up _. not_down (link_up pair) up)
+read_answer devs plan reading bytes pair (Check p side) =
+    check_cases (λ o. is_link_down o.answer ≡ not (link_up pair)) plan pair side (λ r no. no.link) (λ none. not_down (link_up pair) (not-false _ ((passed _ _ _ none).0)))
+read_answer devs plan reading bytes pair (Ready p side queue) =
+    ready_cases (λ o. is_link_down o.answer ≡ not (link_up pair)) pair side queue (λ r no. no.link) (λ up checked. not_down (link_up pair) up)
+read_answer devs plan reading bytes pair (Join p side queue) =
+    join_cases (λ o. is_link_down o.answer ≡ not (link_up pair)) pair side queue (λ r no. no.link) (λ up ready asked. not_down (link_up pair) up)
+read_answer devs plan reading bytes pair (Begin p side queue frame) =
+    begin_cases reading (λ o. is_link_down o.answer ≡ not (link_up pair)) (sizes_of plan side queue) pair side queue frame (λ r no. no.link) (λ may. not_down (link_up pair) may.up)
+read_answer devs plan reading bytes pair (QpDown p side queue) =
+    qpdown_cases reading (λ o. is_link_down o.answer ≡ not (link_up pair)) (sizes_of plan side queue) pair side queue (λ r no. no.link) (λ may. not_down (link_up pair) may.up)
+read_answer devs plan reading bytes pair (Xbegin p side queue dev dst kind payload) =
+    xbegin_cases reading (λ o. is_link_down o.answer ≡ not (link_up pair)) (sizes_of plan side queue) (dev_plan devs dev) pair side queue dst kind payload (λ r no. no.link)
+    (λ may. not_down (link_up pair) may.up)
+read_answer devs plan reading bytes pair (Post p side queue) =
+    post_cases reading (λ o. is_link_down o.answer ≡ false) pair side queue refl (λ label rest e. refl) (λ entry others label rest idle waits e. refl)
+read_answer devs plan reading bytes pair (Land p side place) = land_cases (λ o. is_link_down o.answer ≡ false) plan pair side place (λ r no. no.link) (λ label at may. refl)
+read_answer devs plan reading bytes pair (Look p side queue) =
+    look_cases reading (λ o. is_link_down o.answer ≡ false) pair side queue (λ r no found. no) (λ may none. refl) (λ may len left found. refl) (λ may. refl)
+read_answer devs plan reading bytes pair (Copy p side queue) =
+    copy_cases reading (λ o. is_link_down o.answer ≡ false) pair side queue (λ r no. no.link) (λ turn more. refl) (λ turn all others. refl) (λ turn all last. refl)
+read_answer devs plan reading bytes pair (Clear p side queue) = clear_cases (λ o. is_link_down o.answer ≡ false) pair side queue (λ r no. no.link) (λ _. refl)
+read_answer devs plan reading bytes pair (Ack p side queue) = ack_cases reading (λ o. is_link_down o.answer ≡ false) pair side queue (λ r no. no.link) (λ _. refl)
+read_answer devs plan reading bytes pair (Wake p side queue dev) =
+    wake_cases (λ o. is_link_down o.answer ≡ false) reading (dev_plan devs dev) pair side queue (λ r no. no.link) refl
+read_answer devs plan reading bytes pair step = refl
+
 pub link_answer : (devs : List DevPlan) (plan : PairPlan) (bytes : Bytes) (pair : PairPart) (step : Step)
     → is_link_down (pair_next devs plan bytes pair step).answer ≡ (needs_link step && not (link_up pair))
-link_answer devs plan bytes pair (Enable p side) = enable_cases (λ o. is_link_down o.answer ≡ false) pair side (λ r no. no.link) (λ _. refl)
-link_answer devs plan bytes pair (Train p) = train_cases (λ o. is_link_down o.answer ≡ false) pair (λ r no. no.link) (λ _. refl)
-link_answer devs plan bytes pair (Break p) = break_cases (λ o. is_link_down o.answer ≡ false) pair (λ r no. no.link) (λ _. refl)
-link_answer devs plan bytes pair (DropDone p) = drop_cases (λ o. is_link_down o.answer ≡ false) pair (λ r no. no.link) (λ _. refl)
-link_answer devs plan bytes pair (Clean p side) = clean_cases (λ o. is_link_down o.answer ≡ false) pair side (λ r no. no.link) (λ _. refl)
-link_answer devs plan bytes pair (Offer p side) =
-    offer_cases (λ o. is_link_down o.answer ≡ not (link_up pair)) plan pair side (λ r no. no.link) (λ up _. not_down (link_up pair) up)
-link_answer devs plan bytes pair (Check p side) =
-    check_cases (λ o. is_link_down o.answer ≡ not (link_up pair)) plan pair side (λ r no. no.link) (λ none. not_down (link_up pair) (not-false _ ((passed _ _ _ none).0)))
-link_answer devs plan bytes pair (Ready p side queue) =
-    ready_cases (λ o. is_link_down o.answer ≡ not (link_up pair)) pair side queue (λ r no. no.link) (λ up checked. not_down (link_up pair) up)
-link_answer devs plan bytes pair (Join p side queue) =
-    join_cases (λ o. is_link_down o.answer ≡ not (link_up pair)) pair side queue (λ r no. no.link) (λ up ready asked. not_down (link_up pair) up)
-link_answer devs plan bytes pair (Begin p side queue frame) =
-    begin_cases (λ o. is_link_down o.answer ≡ not (link_up pair)) (sizes_of plan side queue) pair side queue frame (λ r no. no.link) (λ may. not_down (link_up pair) may.up)
-link_answer devs plan bytes pair (QpDown p side queue) =
-    qpdown_cases (λ o. is_link_down o.answer ≡ not (link_up pair)) (sizes_of plan side queue) pair side queue (λ r no. no.link) (λ may. not_down (link_up pair) may.up)
-link_answer devs plan bytes pair (Xbegin p side queue dev dst kind payload) =
-    xbegin_cases (λ o. is_link_down o.answer ≡ not (link_up pair)) (sizes_of plan side queue) (dev_plan devs dev) pair side queue dst kind payload (λ r no. no.link)
-    (λ may. not_down (link_up pair) may.up)
-link_answer devs plan bytes pair (Post p side queue) = post_cases (λ o. is_link_down o.answer ≡ false) pair side queue refl (λ label rest e. refl)
-link_answer devs plan bytes pair (Land p side place) = land_cases (λ o. is_link_down o.answer ≡ false) plan pair side place (λ r no. no.link) (λ label at may. refl)
-link_answer devs plan bytes pair (Look p side queue) =
-    look_cases (λ o. is_link_down o.answer ≡ false) pair side queue (λ r no found. no.link) (λ may none. refl) (λ may some frame at. refl) (λ may. refl)
-link_answer devs plan bytes pair (Copy p side queue) = copy_cases (λ o. is_link_down o.answer ≡ false) pair side queue (λ r no. no.link) (λ turn more. refl) (λ turn last. refl)
-link_answer devs plan bytes pair (Clear p side queue) = clear_cases (λ o. is_link_down o.answer ≡ false) pair side queue (λ r no. no.link) (λ _. refl)
-link_answer devs plan bytes pair (Ack p side queue) = ack_cases (λ o. is_link_down o.answer ≡ false) pair side queue (λ r no. no.link) (λ _. refl)
-link_answer devs plan bytes pair (Wake p side queue dev) =
-    wake_cases (λ o. is_link_down o.answer ≡ false) (sizes_of plan side queue) (dev_plan devs dev) pair side queue (λ r no. no.link) refl
-link_answer devs plan bytes pair step = refl
+link_answer devs plan bytes pair step = read_answer devs plan (reading_of plan bytes pair) bytes pair step
 
 fresh_up : (up : Bool) (plan : PairPlan) → up ≡ plan.up → up ≡ link_up (fresh_pair plan)
 fresh_up true plan e = rw (← e) refl
@@ -91,7 +98,7 @@ link_runs plan lane = record {
 pub link_down_where_not_up : LinkDownWhereNotUp
 link_down_where_not_up plan memories steps step answer goes =
     ap is_link_down (answer_of plan memories steps step answer goes)
-    ∙ link_answer plan.devs (pair_plan plan (subject_of step)) _ _ step
+    ∙ link_answer plan.devs (pair_plan plan (subject_of step)) (memories (log_of plan memories steps) (subject_of step)) (ledger_of plan memories steps (subject_of step)) step
     ∙ ap (λ up. needs_link step && not up) (sym (always_after plan any _ (link_runs plan any) memories steps))
   where
     -- any lane of the pair

@@ -1,5 +1,5 @@
 -- Each step's cases: it is refused and changes nothing, or it passed its tests and has its effect.
-use Rattle.std.proofs.Common.{◌≡◌, ℕ, ◌+◌, ◌==◌, ◌≤◌, ◌&&◌, ◌||◌, arith, Bool, true, false, not, Option, Some, None, List, [], ◌∷◌, refl}
+use Rattle.std.proofs.Common.{◌≡◌, ℕ, ◌+◌, ◌==◌, ◌≤◌, ◌&&◌, ◌||◌, arith, Bool, true, false, not, Option, Some, None, List, [], ◌∷◌, refl, sym, subst}
 use Rattle.std.specs.Prelude.{◌-◌, ◌++◌, if◌then◌else◌, nat_lt, length, map, slice_get, slice_index_or, find}
 use Rattle.std.proofs.lemmas.Bool.{true≢false, not-false, cond_both, ltb-false}
 use Rattle.step_kinds.specs.Bits.{has_bit, with_bit}
