@@ -12,6 +12,8 @@ use Rattle.ledger_model.specs.Log.{Answered}
 use Rattle.ledger_model.specs.declared.LinkState.{LinkState}
 use Rattle.ledger_laws.proofs.AtStart.{up-not_down}
 use Rattle.ledger_laws.proofs.InFlight.{EmptyOf}
+use Rattle.step_kinds.specs.declared.names.Side.{Side}
+use Rattle.step_kinds.specs.declared.plan.PairPlan.{PairPlan}
 use Rattle.ledger_laws.proofs.walk.Sight.{Sight, End, Role, Sender, Receiver}
 use Rattle.ledger_laws.proofs.walk.News.{News}
 use Rattle.ledger_laws.proofs.walk.Turn.{MayLand, Turn, Enables, Trains, Breaks, Drops, Forgets, Offers, Checks, Readies, Joins, LandsPad}
@@ -48,10 +50,10 @@ settled_dropped : (state : LinkState) {up : Bool} {ready joined offered : ℕ} {
 settled_dropped state = record { new_once_clean = λ down clean. absurd (false≢true clean); clean_once_enabled = λ down agreed. absurd (false≢true agreed) }
 
 -- on a link with a write in flight
-pub not_down_with : (s : Sight) {strict_pair : Bool} (e : Role) (place : ℕ) (label : Label) → EmptyOf s → MayLand strict_pair s e place label → is_down s.state ≡ false
+pub not_down_with : (s : Sight) {own : PairPlan} {side : Side} (e : Role) (place : ℕ) (label : Label) → EmptyOf s → MayLand own side s e place label → is_down s.state ≡ false
 not_down_with s e place label empty may = elim (cases_Bool (is_down s.state)) [ inl down ↦ absurd (nothing e may (empty down)) | inr up ↦ up ]
   where
-    nothing : {strict_pair : Bool} (e : Role) → MayLand strict_pair s e place label → (s.sender.flight ≡ []) × (s.receiver.flight ≡ []) → ⊥
+    nothing : {own : PairPlan} {side : Side} (e : Role) → MayLand own side s e place label → (s.sender.flight ≡ []) × (s.receiver.flight ≡ []) → ⊥
     nothing Sender may none = none-some label (ap (λ flight. slice_get flight place) (sym none.0) ∙ may.there)
     nothing Receiver may none = none-some label (ap (λ flight. slice_get flight place) (sym none.1) ∙ may.there)
 

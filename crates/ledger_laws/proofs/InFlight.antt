@@ -1,9 +1,9 @@
 -- Lists of writes in flight: what is posted, what lands, how the writes of one kind stand among all; and that nothing is in flight on
 -- a link that is down.
-use Rattle.std.proofs.Common.{◌≡◌, ℕ, zero, suc, ◌+◌, ◌==◌, Bool, true, false, Option, Some, None, List, [], ◌∷◌, ◌++◌, map, take, drop, refl, sym, ap, ◌∙◌, arith}
+use Rattle.std.proofs.Common.{◌≡◌, ℕ, zero, suc, ◌+◌, ◌==◌, ◌||◌, Bool, true, false, not, Option, Some, None, List, [], ◌∷◌, ◌++◌, map, take, drop, refl, sym, ap, ◌∙◌, subst, arith}
 use Rattle.std.specs.Prelude.{if◌then◌else◌, slice_get, slice_index, count_by, remove}
-use Rattle.std.specs.List.{filter_map, cons_option}
-use Rattle.std.proofs.lemmas.Bool.{false≢true, and_parts, cond-true, cond-false}
+use Rattle.std.specs.List.{filter_map, cons_option, list_all}
+use Rattle.std.proofs.lemmas.Bool.{false≢true, and_parts, eq-eqb, cond-true, cond-false}
 use Rattle.std.proofs.lemmas.List.{append-nil}
 use Rattle.std.proofs.lemmas.List.Elements.{filter_map-append}
 use Rattle.std.proofs.lemmas.List.Sums.{sum_by-append}
@@ -16,12 +16,15 @@ use Rattle.lane_model.specs.declared.Phase.TheVariants.{Idle}
 use Rattle.ledger_model.specs.Link.{is_up, is_down}
 use Rattle.ledger_model.specs.Log.{Answered}
 use Rattle.ledger_model.specs.declared.LinkState.{LinkState}
-use Rattle.order_rules.specs.Order.{may_land, relaxed, strict}
-use Rattle.plan_model.specs.Orders.{order_of}
+use Rattle.order_rules.specs.Order.{lands_behind, passes, relaxed, strict}
+use Rattle.plan_model.specs.Orders.{kind_of, order_of}
+use Rattle.ledger_laws.proofs.Labels.{ReadsOneClass}
+use Rattle.step_kinds.specs.declared.names.Side.{Side}
+use Rattle.step_kinds.specs.declared.plan.PairPlan.{PairPlan}
 use Rattle.ledger_laws.proofs.AtStart.{down-not_up}
 use Rattle.ledger_laws.proofs.walk.Sight.{Sight, Role, Sender, Receiver, end_at, with_offered, with_ready, flight_with, posted}
 use Rattle.ledger_laws.proofs.walk.News.{News}
-use Rattle.ledger_laws.proofs.walk.Turn.{MayLand, Turn, Trains, Breaks, Drops, Offers, Readies, Posts, Says, LandsFlag, LandsField, LandsIndex, LandsBell, LandsPad, LandsAside, Acks, taken}
+use Rattle.ledger_laws.proofs.walk.Turn.{MayLand, Turn, Trains, Breaks, Drops, Offers, Readies, Posts, PostsNext, picked, Says, LandsFlag, LandsField, LandsIndex, LandsBell, LandsPad, LandsAside, Acks, taken}
 
 -- a count with one more at the end
 pub count_by-last : {X : Type 0} (p : X → Bool) (xs : List X) (x : X) → count_by p (xs ++ x ∷ []) ≡ count_by p xs + (if p x then 1 else 0)
@@ -70,28 +73,47 @@ some_read {Y = Y} read (z ∷ xs) (suc place) x y at some none = some_read read 
     rest None e = e
     rest (Some w) e = absurd (cc)
 
--- A strict write lands first
+-- A strict write lands first of those of its class
 
-index-there : {X : Type 0} (kind : X → ℕ) (xs : List X) (place : ℕ) (x : X) → slice_get xs place ≡ Some x → slice_index (map kind xs) place ≡ kind x
-index-there kind [] place x e = absurd (cc)
-index-there kind (y ∷ xs) zero x e = ap kind (same_Some y x e)
-index-there kind (y ∷ xs) (suc place) x e = index-there kind xs place x e
+get-map : {X Y : Type 0} (f : X → Y) (xs : List X) (place : ℕ) (x : X) → slice_get xs place ≡ Some x → slice_get (map f xs) place ≡ Some (f x)
+get-map f [] place x e = absurd (none-some x e)
+get-map f (y ∷ xs) zero x e = ap (λ z. Some (f z)) (same_Some y x e)
+get-map f (y ∷ xs) (suc place) x e = get-map f xs place x e
 
-pub strict_first : {X : Type 0} (kind : X → ℕ) (xs : List X) (place : ℕ) (x : X) → slice_get xs place ≡ Some x → kind x ≡ strict
-    → may_land (map kind xs) place ≡ true → xs ≡ x ∷ remove xs place
-strict_first kind [] place x e is may = absurd (cc)
-strict_first kind (y ∷ xs) zero x e is may = ap (λ first. first ∷ xs) (same_Some y x e)
-strict_first kind (y ∷ xs) (suc place) x e is may =
-    let all = (and_parts _ _ may).1 in
-    let first : (slice_index (map kind xs) place == relaxed) ≡ true = (and_parts _ _ all).0 in
-    let same : slice_index (map kind xs) place ≡ strict = index-there kind xs place x e ∙ is in
-    absurd (false≢true (ap (λ k. k == relaxed) (sym same) ∙ first))
+module _ {Y : Type 0} (read : Label → Option Y) (own : PairPlan) (side : Side) (label : Label) (is : kind_of own.strict label ≡ strict)
+    (one_class : ReadsOneClass read own side label) where
+  -- it passes nothing that is read
+  passed_unread : (other : Label) → passes (order_of own side label) (order_of own side other) ≡ true → read other ≡ None
+  passed_unread other pass = go (read other) refl
+    where
+      go : (o : Option Y) → read other ≡ o → read other ≡ None
+      go None e = e
+      go (Some y) e =
+          let here = (order_of own side label).class in
+          let there = (order_of own side other).class in
+          absurd (false≢true
+          (sym (ap (λ k. (k == relaxed) || not (here == there)) is ∙ ap not (eq-eqb here there (sym (one_class other y e)))) ∙ pass))
 
--- so what is read of it stands first too
-pub lands_first : {Y : Type 0} (read : Label → Option Y) (strict_pair : Bool) (s : Sight) (e : Role) (place : ℕ) (label : Label) (y : Y) → MayLand strict_pair s e place label
-    → order_of strict_pair label ≡ strict → read label ≡ Some y → filter_map read (end_at s e).flight ≡ y ∷ filter_map read (remove (end_at s e).flight place)
-lands_first read strict_pair s e place label y may is some =
-    ap (filter_map read) (strict_first (order_of strict_pair) (end_at s e).flight place label may.there is may.may) ∙ first_some read label (remove (end_at s e).flight place) y some
+  lands_from : (xs : List Label) (place : ℕ) → slice_get xs place ≡ Some label → list_all (passes (order_of own side label)) (take place (map (order_of own side) xs)) ≡ true
+      → filter_map read xs ≡ cons_option (read label) (filter_map read (remove xs place))
+  lands_from [] place at all = absurd (none-some label at)
+  lands_from (x ∷ xs) zero at all = ap (λ first. cons_option (read first) (filter_map read xs)) (same_Some x label at)
+  lands_from (x ∷ xs) (suc place) at all =
+      let parts = and_parts (passes (order_of own side label) (order_of own side x)) (list_all (passes (order_of own side label)) (take place (map (order_of own side) xs))) all in
+      let none = passed_unread x parts.0 in
+      ap (λ o. cons_option o (filter_map read xs)) none ∙ lands_from xs place at parts.1
+      ∙ ap (λ o. cons_option (read label) (cons_option o (filter_map read (remove xs place)))) (sym none)
+
+  -- so what is read of it stands first
+  pub lands_read : (s : Sight) (e : Role) (place : ℕ) → MayLand own side s e place label
+      → filter_map read (end_at s e).flight ≡ cons_option (read label) (filter_map read (remove (end_at s e).flight place))
+  lands_read s e place may =
+      lands_from (end_at s e).flight place may.there
+      (subst (λ found. lands_behind found (take place (map (order_of own side) (end_at s e).flight)) ≡ true) (get-map (order_of own side) (end_at s e).flight place label may.there) may.may)
+
+  pub lands_first : (s : Sight) (e : Role) (place : ℕ) (y : Y) → MayLand own side s e place label → read label ≡ Some y
+      → filter_map read (end_at s e).flight ≡ y ∷ filter_map read (remove (end_at s e).flight place)
+  lands_first s e place y may some = lands_read s e place may ∙ ap (λ o. cons_option o (filter_map read (remove (end_at s e).flight place))) some
 
 -- What an end posts and what lands, as far as it is read
 
@@ -144,6 +166,7 @@ empty_kept plan lane s made news t (Drops may) h = λ down. (refl, refl)
 empty_kept plan lane s made news t (Offers e label may) h = posted_empty e label (with_offered e ((end_at s e).offered + 1) s) h
 empty_kept plan lane s made news t (Readies e queue may) h = posted_empty e _ (with_ready e (with_bit (end_at s e).ready queue) s) h
 empty_kept plan lane s made news t (Posts label rest may) h = posted_empty Sender label (record s { lane = record s.lane { todo = rest } }) h
+empty_kept plan lane s made news t (PostsNext entry others label rest may) h = posted_empty Sender label (record s { lane = record (picked lane.queue s.lane entry others) { todo = rest } }) h
 empty_kept plan lane s made news t (Says e label may) h = posted_empty e label s h
 empty_kept plan lane s made news t (LandsFlag place label n may) h = taken_empty Sender place s h
 empty_kept plan lane s made news t (LandsField place label n field may) h = taken_empty Sender place s h

@@ -23,9 +23,11 @@ use Rattle.ledger_laws.proofs.AtStart.{up-not_down}
 use Rattle.ledger_laws.proofs.BitSets.{no_bit}
 use Rattle.ledger_laws.proofs.CleanSides.{IsNew, SettledOf}
 use Rattle.ledger_laws.proofs.InFlight.{filter_map-remove, posted_unread, some_read, EmptyOf}
+use Rattle.step_kinds.specs.declared.names.Side.{Side}
+use Rattle.step_kinds.specs.declared.plan.PairPlan.{PairPlan}
 use Rattle.ledger_laws.proofs.walk.Sight.{Sight, End, Role, Sender, Receiver, end_at, with_flight, with_offered, posted}
 use Rattle.ledger_laws.proofs.walk.News.{News}
-use Rattle.ledger_laws.proofs.walk.Turn.{Turn, MayLand, Trains, Breaks, Drops, Forgets, Offers, Checks, Readies, Joins, Posts, Says, LandsFlag, LandsField, LandsIndex, LandsBell, LandsPad, LandsAside, Acks, is_link_pad, is_handshake, on_queue}
+use Rattle.ledger_laws.proofs.walk.Turn.{Turn, MayLand, Trains, Breaks, Drops, Forgets, Offers, Checks, Readies, Joins, Posts, PostsNext, Says, LandsFlag, LandsField, LandsIndex, LandsBell, LandsPad, LandsAside, Acks, is_link_pad, is_handshake, on_queue}
 
 -- a session that neither side has forgotten
 abbrev pub IsLive : LinkState → Bool → Bool → Type 0
@@ -91,7 +93,7 @@ links_alike Receiver s flight same h = (h.0, subst (EndFacts s.receiver.up s.sen
 links_posted : (e : Role) (s : Sight) (label : Label) → link_value label ≡ None → JoinsOf s → JoinsOf (posted e label s)
 links_posted e s label none h = links_alike e s _ (posted_unread link_value s.state (end_at s e).flight label none) h
 
-links_taken : (e : Role) {strict_pair : Bool} (s : Sight) (place : ℕ) (label : Label) → MayLand strict_pair s e place label → link_value label ≡ None → JoinsOf s
+links_taken : (e : Role) {own : PairPlan} {side : Side} (s : Sight) (place : ℕ) (label : Label) → MayLand own side s e place label → link_value label ≡ None → JoinsOf s
     → JoinsOf (with_flight e (remove (end_at s e).flight place) s)
 links_taken e s place label may none h = links_alike e s _ (filter_map-remove link_value (end_at s e).flight place label may.there none) h
 
@@ -186,6 +188,7 @@ joins_kept plan lane s made news t ordinary (Readies Receiver queue may) empty s
 joins_kept plan lane s made news t ordinary (Joins Sender queue may) empty settled h live = let before = h live in (own_joined _ queue may.ready may.asked before.0, before.1)
 joins_kept plan lane s made news t ordinary (Joins Receiver queue may) empty settled h live = let before = h live in (before.0, own_joined _ queue may.ready may.asked before.1)
 joins_kept plan lane s made news t ordinary (Posts label rest may) empty settled h live = links_posted Sender s label (lane_no_link lane.queue label may.own) (h live)
+joins_kept plan lane s made news t ordinary (PostsNext entry others label rest may) empty settled h live = links_posted Sender s label (lane_no_link lane.queue label may.own) (h live)
 joins_kept plan lane s made news t ordinary (Says e label may) empty settled h live = links_posted e s label (plain_no_link label (may.no_handshake ordinary)) (h live)
 joins_kept plan lane s made news t ordinary (LandsFlag place label n may) empty settled h live = links_taken Sender s place label may.land (write_no_link lane.queue label _ may.is) (h live)
 joins_kept plan lane s made news t ordinary (LandsField place label n field may) empty settled h live = links_taken Sender s place label may.land (write_no_link lane.queue label _ may.is) (h live)

@@ -16,9 +16,11 @@ pub mod Offers
 pub mod OffersInSession
 pub mod Outcomes
 pub mod PairsAreSeparate
+pub mod Pieces
 pub mod QuietMeansDone
 pub mod RingLawHolds
 pub mod RingOfLane
 pub mod RoomInLog
+pub mod Tallies
 pub mod UpMeansAgreement
 pub mod walk

@@ -16,11 +16,15 @@ use Rattle.ledger_model.specs.Link.{is_up}
 use Rattle.ledger_model.specs.Log.{Answered, trains, landed_pad}
 use Rattle.plan_model.specs.Plans.{pair_plan, side_plan}
 use Rattle.order_rules.specs.Order.{strict}
-use Rattle.plan_model.specs.Orders.{order_of}
+use Rattle.plan_model.specs.Orders.{kind_of}
+use Rattle.step_kinds.specs.declared.names.Side.{Side}
+use Rattle.step_kinds.specs.declared.plan.PairPlan.{PairPlan}
+use Rattle.ledger_laws.proofs.Labels.{ReadsOneClass}
+use Rattle.std.proofs.lemmas.Option.{none-some}
 use Rattle.ledger_laws.specs.Laws.{IsOrdinaryOn}
 use Rattle.ledger_laws.proofs.AtStart.{down-not_up}
 use Rattle.ledger_laws.proofs.CleanSides.{IsNew, SettledOf}
-use Rattle.ledger_laws.proofs.InFlight.{filter_map-last, filter_map-remove, strict_first, posted_unread, posted_up, EmptyOf}
+use Rattle.ledger_laws.proofs.InFlight.{filter_map-last, filter_map-remove, lands_read, posted_unread, posted_up, EmptyOf}
 use Rattle.ledger_laws.proofs.Offers.{is_offer, offer_of, offers_in, last_value, last_value-last, value_of, offer-good}
 use Rattle.ledger_laws.proofs.LogReaders.{landed_pad-last}
 use Rattle.ledger_laws.proofs.walk.Sight.{Sight, Sender, Receiver, flight_with}
@@ -105,19 +109,24 @@ landed_order : (o : Option Label) (landed rest : List Label) → (landed ++ cons
 landed_order None landed rest = ap (λ xs. xs ++ rest) (append-nil landed)
 landed_order (Some label) landed rest = append_assoc landed (label ∷ []) rest
 
-pad_strict : (strict_pair : Bool) (i value : ℕ) → order_of strict_pair (Pad i value) ≡ strict
+pad_strict : (strict_pair : Bool) (i value : ℕ) → kind_of strict_pair (Pad i value) ≡ strict
 pad_strict true i value = refl
 pad_strict false i value = refl
 
-session_lands : (lane : LaneName) (peer : SidePlan) (log : List Answered) (made : Answered) {strict_pair : Bool} (s : Sight) (place i value : ℕ) → trains lane.pair made ≡ false
-    → ((j : ℕ) (now : Option ℕ) → pad_next lane made Sender j now ≡ (if i == j then Some value else now)) → MayLand strict_pair s Receiver place (Pad i value)
+-- the pads stay in one class
+offers_one_class : (own : PairPlan) (side : Side) (i value : ℕ) → ReadsOneClass offer_of own side (Pad i value)
+offers_one_class own side i value (Pad j other) y some = refl
+offers_one_class own side i value other y some = absurd (none-some y some)
+
+session_lands : (lane : LaneName) (peer : SidePlan) (log : List Answered) (made : Answered) {own : PairPlan} {side : Side} (s : Sight) (place i value : ℕ) → trains lane.pair made ≡ false
+    → ((j : ℕ) (now : Option ℕ) → pad_next lane made Sender j now ≡ (if i == j then Some value else now)) → MayLand own side s Receiver place (Pad i value)
     → SessionOf lane peer log s → InSession lane peer (log ++ made ∷ []) (slice_set s.sender.pads i value) s.receiver.offered (remove s.receiver.flight place)
-session_lands lane peer log made {strict_pair} s place i value no_train lands may h = record {
+session_lands lane peer log made {own} {side} s place i value no_train lands may h = record {
   landed = h.landed ++ cons_option (offer_of (Pad i value)) [];
   landed_values = λ j is. now j ∙ ap (λ o. if i == j then Some value else o) (h.landed_values j is) ∙ landed_value (is_offer i) h.landed i j value refl is;
   order =
       landed_order (offer_of (Pad i value)) h.landed (offers_in (remove s.receiver.flight place))
-      ∙ ap (λ flight. h.landed ++ offers_in flight) (sym (strict_first (order_of strict_pair) s.receiver.flight place (Pad i value) may.there (pad_strict strict_pair i value) may.may)) ∙ h.order;
+      ∙ ap (λ xs. h.landed ++ xs) (sym (lands_read offer_of own side (Pad i value) (pad_strict own.strict i value) (offers_one_class own side i value) s Receiver place may)) ∙ h.order;
   within = h.within;
   room = length-set s.sender.pads i value ∙ h.room;
   shown = λ j small. pads_written s.sender.pads i j value (landed_pad log lane.pair lane.from j) h.room small (h.shown j small) ∙ ap value_of (sym (now j));

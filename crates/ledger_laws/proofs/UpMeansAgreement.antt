@@ -1,8 +1,8 @@
 -- A check that is answered `up` has found the peer's whole offer of this session, and it agrees.
-use Rattle.std.proofs.Common.{◌≡◌, ℕ, zero, suc, ◌+◌, ◌*◌, ◌<◌, ◌≤◌, ◌==◌, Bool, true, false, not, Option, Some, None, List, [], ◌∷◌, ◌++◌, refl, sym, ap, ◌∙◌, subst, arith}
+use Rattle.std.proofs.Common.{◌≡◌, ℕ, zero, suc, ◌+◌, ◌*◌, ◌<◌, ◌≤◌, ◌==◌, Bool, true, false, not, Option, Some, None, List, [], ◌∷◌, ◌++◌, refl, sym, ap, ◌∙◌, subst, inl, inr, arith, ◌&&◌, ◌||◌}
 use Rattle.std.specs.Prelude.{if◌then◌else◌, nat_lt, ◌/◌, ◌%◌, find}
 use Rattle.std.specs.List.{AllByRecursion}
-use Rattle.std.proofs.lemmas.Bool.{false≢true, true≢false, eqb-true, eqb-false, ltb-false, not-false}
+use Rattle.std.proofs.lemmas.Bool.{false≢true, true≢false, cases_Bool, eqb-true, eqb-false, ltb-false, not-false}
 use Rattle.step_kinds.specs.Sides.{other_side}
 use Rattle.step_kinds.specs.declared.names.LaneName.{LaneName}
 use Rattle.step_kinds.specs.declared.names.Side.{Side}
@@ -18,7 +18,7 @@ use Rattle.ledger_model.specs.Both.{both_of}
 use Rattle.ledger_model.specs.Handshake.{word, offers, pad_in, size_in, refuse_larger, check_refusal, check_step}
 use Rattle.plan_model.specs.Pads.{high_pad, low_pad, queues_pad, version_pad, windows_pad}
 use Rattle.plan_model.specs.Plans.{pair_plan, side_plan}
-use Rattle.ledger_laws.specs.Laws.{UpMeansAgreement, Agrees, IsSide, IsOrdinaryOn}
+use Rattle.ledger_laws.specs.Laws.{UpMeansAgreement, Agrees, VersionsAgree, IsSide, IsOrdinaryOn}
 use Rattle.ledger_model.specs.Ledger.{PairPart, SidePart, side_of, link_up}
 use Rattle.ledger_model.specs.Link.{is_up, fresh_link}
 use Rattle.ledger_model.specs.Log.{Answered, log_of, ledger_of, landed_pad}
@@ -30,7 +30,7 @@ use Rattle.ledger_laws.proofs.Offers.{is_offer, last_value, value_of, offer-vers
 use Rattle.ledger_laws.proofs.OffersInSession.{InSession, SessionOf, session_kept}
 use Rattle.ledger_laws.proofs.Outcomes.{passed}
 use Rattle.ledger_laws.proofs.LogGrowth.{answer_of}
-use Rattle.ledger_laws.proofs.walk.Cases.{refuses, check_cases}
+use Rattle.ledger_laws.proofs.walk.Cases.{refuses, neither, check_cases}
 use Rattle.ledger_laws.proofs.walk.Logs.{HoldsOn, holds_after}
 use Rattle.ledger_laws.proofs.walk.Sight.{Sight, sight}
 
@@ -80,7 +80,7 @@ record HasFound (own : SidePlan) (part : SidePart) (up : Bool) : Type 0 where
   link : up ≡ true
   not_yet : part.up ≡ false
   some_version : pad_in part version_pad ≡ 0 → ⊥
-  version : pad_in part version_pad ≡ own.version
+  version : VersionsAgree (pad_in part version_pad) own.version
   queues : pad_in part queues_pad ≡ own.queues
   windows : pad_in part windows_pad ≡ own.windows
   none_larger : find (λ m. nat_lt own.cap (size_in part m)) (count_from 0 own.windows) ≡ None
@@ -89,19 +89,28 @@ none_found : (part : SidePart) (cap : ℕ) (found : Option ℕ) → refuse_large
 none_found part cap None e = refl
 none_found part cap (Some m) e = absurd (cc)
 
+versions_passed : (seen own : ℕ) → (not (seen == own) && (nat_lt seen 4 || nat_lt own 4)) ≡ false → VersionsAgree seen own
+versions_passed seen own e = elim (cases_Bool (seen == own)) [
+  | inl same ↦ inl (eqb-true seen own same)
+  | inr other ↦
+      let old : (nat_lt seen 4 || nat_lt own 4) ≡ false = sym (ap (λ b. not b && (nat_lt seen 4 || nat_lt own 4)) other) ∙ e in
+      let both = neither (nat_lt seen 4) (nat_lt own 4) old in
+      inr (ltb-false seen 4 both.0, ltb-false own 4 both.1)
+]
+
 has_found : (own : SidePlan) (part : SidePart) (up : Bool) → check_refusal own part up ≡ None → HasFound own part up
 has_found own part up none =
     let a = passed (not up) LinkDown _ none in
     let b = passed part.up Already _ a.1 in
     let c = passed (pad_in part version_pad == 0) NotYet _ b.1 in
-    let d = passed (not (pad_in part version_pad == own.version)) (Version (pad_in part version_pad) own.version) _ c.1 in
+    let d = passed (not (pad_in part version_pad == own.version) && (nat_lt (pad_in part version_pad) 4 || nat_lt own.version 4)) (Version (pad_in part version_pad) own.version) _ c.1 in
     let e = passed (not (pad_in part queues_pad == own.queues)) (Queues (pad_in part queues_pad) own.queues) _ d.1 in
     let f = passed (not (pad_in part windows_pad == own.windows)) (Windows (pad_in part windows_pad) own.windows) _ e.1 in
     record {
       link = not-false up a.0;
       not_yet = b.0;
       some_version = eqb-false (pad_in part version_pad) 0 c.0;
-      version = eqb-true (pad_in part version_pad) own.version (not-false (pad_in part version_pad == own.version) d.0);
+      version = versions_passed (pad_in part version_pad) own.version d.0;
       queues = eqb-true (pad_in part queues_pad) own.queues (not-false (pad_in part queues_pad == own.queues) e.0);
       windows = eqb-true (pad_in part windows_pad) own.windows (not-false (pad_in part windows_pad == own.windows) f.0);
       none_larger = none_found part own.cap (find (λ m. nat_lt own.cap (size_in part m)) (count_from 0 own.windows)) f.1;
@@ -130,7 +139,7 @@ agrees lane own peer log part up offered flight own_side peer_side found session
   queues_landed = queues_here;
   windows_landed = windows_here;
   sizes_landed = λ m below. (high_here m below, low_here m below);
-  same_version = sym (pad_is version_pad peer.version (omega arith) version_here) ∙ found.version;
+  versions_agree = subst (λ n. VersionsAgree n own.version) (pad_is version_pad peer.version (omega arith) version_here) found.version;
   same_queues = sym (pad_is queues_pad peer.queues (omega arith) queues_here) ∙ found.queues;
   same_windows = same_windows_here;
   size_fits = subst (λ n. n ≤ own.cap) first_size (first_fits part own.cap own.windows own_side.a_window found.none_larger);

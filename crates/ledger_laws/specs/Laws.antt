@@ -159,7 +159,7 @@ pub record Agrees (log : List Answered) (pair : ℕ) (side : Side) (own peer : S
 
 abbrev pub UpMeansAgreement : Type 0
 UpMeansAgreement = (plan : Plan) (memories : Memories) (steps : List Step) (pair : ℕ) (side : Side) →
-    IsOrdinaryPair plan pair → HasSides plan → pair < length plan.pairs → AllByRecursion (IsOrdinaryOn pair) (steps ++ Check pair side ∷ []) → GoesOn plan memories steps (Check pair side) Up →
+    HasSides plan → pair < length plan.pairs → AllByRecursion (IsOrdinaryOn pair) (steps ++ Check pair side ∷ []) → GoesOn plan memories steps (Check pair side) Up →
     Agrees (log_of plan memories steps) pair side (side_plan (pair_plan plan pair) side) (side_plan (pair_plan plan pair) (other_side side))
 
 -- Quiet

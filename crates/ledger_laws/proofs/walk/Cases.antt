@@ -243,7 +243,7 @@ pub empty_is : {X : Type 0} (xs : List X) → not (is_empty_list xs) ≡ false �
 empty_is [] e = refl
 empty_is (x ∷ xs) e = absurd (true≢false e)
 
-neither : (a b : Bool) → (a || b) ≡ false → (a ≡ false) × (b ≡ false)
+pub neither : (a b : Bool) → (a || b) ≡ false → (a ≡ false) × (b ≡ false)
 neither true b e = absurd (true≢false e)
 neither false b e = (refl, e)
 

@@ -15,7 +15,7 @@ use Rattle.lane_model.specs.declared.Field.TheVariants.{Chunk as PayloadChunk, L
 use Rattle.lane_model.specs.declared.Write.{Write}
 use Rattle.lane_model.specs.declared.Write.TheVariants.{Data, Flag as EntryFlag, Bell as QueueBell}
 use Rattle.ledger_model.specs.Labels.{label_of, labels_of}
-use Rattle.ledger_model.specs.Ledger.{LanePart, PairPart, lane_of}
+use Rattle.ledger_model.specs.Ledger.{PairPart, lane_of}
 use Rattle.ledger_model.specs.Log.{Answered, Memories, answered, log_from, ledger_from, log_of, ledger_of}
 use Rattle.ledger_model.specs.Next.{Ledger, fresh_pair, ledger_after, start}
 use Rattle.ledger_model.specs.Rings.{RingPart, fresh_ring, ring_next, ring_from, ring_of}
@@ -26,23 +26,18 @@ use Rattle.ledger_laws.proofs.LogGrowth.{made_by, left_by}
 use Rattle.ledger_laws.proofs.walk.Of.{turn_of, turn_elsewhere}
 use Rattle.ledger_laws.proofs.walk.Sight.{Sight, Sender, Receiver, sight}
 use Rattle.ledger_laws.proofs.walk.News.{News, Tells}
-use Rattle.ledger_laws.proofs.walk.Turn.{Turn, Turned, SizesOf, Trains, Forgets, Begins, Closes, Posts, PostsNext, Strays, on_queue}
+use Rattle.ledger_laws.proofs.walk.Turn.{Turn, Turned, Trains, Forgets, Begins, Closes, Posts, PostsNext, Strays, on_queue}
 use Rattle.ledger_laws.proofs.walk.SendingTurns.{on_queue-labels}
-use Rattle.ledger_model.specs.Pieces.{pieces_of}
-use Rattle.ledger_model.specs.Sending.{begun_lane}
+
 
 -- The writes that are left to post are those of their lane
-
-begun_own : (q : ℕ) (lane : LanePart) (pieces : List Entry) → list_all (on_queue q) lane.todo ≡ true → list_all (on_queue q) (begun_lane q lane pieces).todo ≡ true
-begun_own q lane [] own = own
-begun_own q lane (first ∷ others) own = on_queue-labels q (length lane.sent) first
 
 todo_kept : (plan : Plan) (lane : LaneName) (s : Sight) (made : Answered) (news : News) (t : Sight) → Turn plan lane s made news t
     → list_all (on_queue lane.queue) s.lane.todo ≡ true → list_all (on_queue lane.queue) t.lane.todo ≡ true
 todo_kept plan lane s made news t (Trains may) own = refl
 todo_kept plan lane s made news t (Forgets Sender may) own = refl
 todo_kept plan lane s made news t (Forgets Receiver may) own = own
-todo_kept plan lane s made news t (Begins bytes may) own = begun_own lane.queue s.lane (pieces_of (SizesOf plan lane).largest bytes) own
+todo_kept plan lane s made news t (Begins bytes first others may cut) own = on_queue-labels lane.queue (length s.lane.sent) first
 todo_kept plan lane s made news t (Closes may) own = on_queue-labels lane.queue (length s.lane.sent) GoesDown
 todo_kept plan lane s made news t (Posts label rest may) own =
     (and_parts (on_queue lane.queue label) (list_all (on_queue lane.queue) rest) (ap (list_all (on_queue lane.queue)) (sym may.next) ∙ own)).1

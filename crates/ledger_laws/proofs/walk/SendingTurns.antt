@@ -30,6 +30,7 @@ use Rattle.ledger_laws.proofs.walk.Turn.{is_handshake, on_queue, more_accepted, 
 use Rattle.ledger_laws.proofs.walk.News.{Tells, no_news, begun_news}
 use Rattle.ledger_laws.proofs.walk.Tells.{tells_no, on-own, on-off, tells_qpdown}
 use Rattle.ledger_laws.proofs.walk.TurnAt.{TurnAt, ReadsLedger, unreached_raw, shown_as, rests}
+use Rattle.ledger_laws.proofs.Pieces.{HasPieces, has_pieces}
 use Rattle.ledger_laws.proofs.Offers.{list_all-map}
 
 -- a lane's write writes no scratchpad, and means nothing to other lanes
@@ -90,14 +91,18 @@ module _ (plan : Plan) (lane : LaneName) (pair : PairPart) (reading : Reading) (
         → TurnAt plan lane pair (step s q) (record { answer = OkNumber (lane_of pair s q).told; after = after s q }))
         own off side queue may
       where
+        cut : HasPieces (SizesOf plan lane).largest frame
+        cut = has_pieces (SizesOf plan lane).largest frame
+
         own : MaySend reading (SizesOf plan lane) pair lane.from lane.queue (length frame) (needs (SizesOf plan lane) (length frame))
             → TurnAt plan lane pair (step lane.from lane.queue) (record { answer = OkNumber Now.lane.told; after = after lane.from lane.queue })
         own may =
             shown_as plan lane pair (step lane.from lane.queue) (OkNumber Now.lane.told) (after lane.from lane.queue) _
             (looks_so lane.from lane.queue
             ∙ sight-tally lane.from lane.queue (with_lane pair lane.from lane.queue (begun_lane lane.queue Now.lane (pieces_of (SizesOf plan lane).largest frame))) pair.link.session _
-            ∙ ap (λ (s : Sight). record s { tally = updated Now.tally Now.session (more_accepted (Now.tally Now.session)) }) (sight-lane lane.from lane.queue pair _))
-            (turned (Begins frame (record {
+            ∙ ap (λ (s : Sight). record s { tally = updated Now.tally Now.session (more_accepted (Now.tally Now.session)) }) (sight-lane lane.from lane.queue pair _)
+            ∙ ap (λ pieces. record Now { lane = begun_lane lane.queue Now.lane pieces; tally = updated Now.tally Now.session (more_accepted (Now.tally Now.session)) }) cut.same)
+            (turned (Begins frame cut.first cut.others (record {
               up = may.up;
               joined = may.joined;
               not_closed = may.not_closed;
@@ -105,7 +110,7 @@ module _ (plan : Plan) (lane : LaneName) (pair : PairPart) (reading : Reading) (
               none_waiting = may.none_waiting;
               room = room_read (needs (SizesOf plan lane) (length frame)) may.room;
               fits = may.fits;
-            }))
+            }) cut.same)
             (told lane.from lane.queue Now.lane.told true (on-own lane p same_pair)))
 
         off : (s : Side) (q : ℕ) → OffCase lane.from lane.queue s q → IsOff lane.from lane.queue s q → MaySend reading (SizesAt s q) pair s q (length frame) (needs (SizesAt s q) (length frame))

@@ -245,9 +245,11 @@ pub data Turn (plan : Plan) (lane : LaneName) (s : Sight) (made : Answered) : Ne
   Readies : (e : Role) (queue : ℕ) → MayReady s e → Turn plan lane s made no_news (posted e (Pad links_pad (with_bit (end_at s e).ready queue)) (with_ready e (with_bit (end_at s e).ready queue) s))
   Joins : (e : Role) (queue : ℕ) → MayJoin s e queue → Turn plan lane s made no_news (with_joined e (with_bit (end_at s e).joined queue) s)
   -- sending
-  Begins : (bytes : List ℕ) → MayBegin (IsRaw plan lane) (SizesOf plan lane) lane.queue s (length bytes) (pieces_in (SizesOf plan lane).largest (length bytes))
+  Begins : (bytes : List ℕ) (first : Entry) (others : List Entry)
+      → MayBegin (IsRaw plan lane) (SizesOf plan lane) lane.queue s (length bytes) (pieces_in (SizesOf plan lane).largest (length bytes))
+      → pieces_of (SizesOf plan lane).largest bytes ≡ first ∷ others
       → Turn plan lane s made (record no_news { takes = pieces_in (SizesOf plan lane).largest (length bytes); accepted = record { number = s.lane.told; bytes = bytes } ∷ [] })
-      (record s { lane = begun_lane lane.queue s.lane (pieces_of (SizesOf plan lane).largest bytes); tally = updated s.tally s.session (more_accepted (s.tally s.session)) })
+      (record s { lane = begun_lane lane.queue s.lane (first ∷ others); tally = updated s.tally s.session (more_accepted (s.tally s.session)) })
   Closes : MayBegin (IsRaw plan lane) (SizesOf plan lane) lane.queue s 0 1 → Turn plan lane s made (record no_news { takes = 1 })
       (record s { sender = record s.sender { closed = with_bit s.sender.closed lane.queue }; lane = begun_lane lane.queue s.lane (GoesDown ∷ []) })
   Posts : (label : Label) (rest : List Label) → MayPost lane.queue s label rest → Turn plan lane s made no_news (posted Sender label (record s { lane = record s.lane { todo = rest } }))
