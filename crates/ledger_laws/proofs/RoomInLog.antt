@@ -194,7 +194,9 @@ count-session p k log made b no_train is =
 
 sum-last : (f : Answered → ℕ) (xs : List Answered) (x : Answered) → sum (map f (xs ++ x ∷ [])) ≡ sum (map f xs) + f x
 sum-last f [] x = omega arith
-sum-last f (y ∷ ys) x = let rest = sum-last f ys x in omega arith
+sum-last f (y ∷ ys) x =
+    let behind : f y + (sum (map f ys) + f x) ≡ f y + sum (map f ys) + f x = omega arith in
+    ap (λ n. f y + n) (sum-last f ys x) ∙ behind
 
 sum-session : (f : Answered → ℕ) (k : ℕ) (log : List Answered) (made : Answered) (n : ℕ) → trains k made ≡ false → f made ≡ n
     → sum (map f (in_this_session k (log ++ made ∷ []))) ≡ sum (map f (in_this_session k log)) + n
@@ -221,13 +223,13 @@ begun_more : (q : ℕ) (lane : LanePart) (largest : ℕ) (bytes : List ℕ) (fir
 begun_more q lane largest bytes first others none cut =
     let a = length-append lane.sent (first ∷ []) in
     let b : length lane.waiting ≡ 0 = ap length none in
-    let c : 1 + length others ≡ pieces_in largest (length bytes) = ap length (sym cut) ∙ length-pieces largest bytes in
+    let c : suc (length others) ≡ pieces_in largest (length bytes) = ap length (sym cut) ∙ length-pieces largest bytes in
     omega (arith, a, b, c)
 
 picked_more : (lane : LanePart) (entry : Entry) (others : List Entry) → lane.waiting ≡ entry ∷ others → length (lane.sent ++ entry ∷ []) + length others ≡ begun_in lane + 0
 picked_more lane entry others waits =
     let a = length-append lane.sent (entry ∷ []) in
-    let b : length lane.waiting ≡ 1 + length others = ap length waits ∙ omega arith in
+    let b : length lane.waiting ≡ suc (length others) = ap length waits in
     omega (arith, a, b)
 
 counts_kept : (plan : Plan) (lane : LaneName) (log : List Answered) (s : Sight) (made : Answered) (news : News) (t : Sight) → IsRaw plan lane ≡ false → Tells plan lane s.lane made news
