@@ -1,6 +1,7 @@
 -- The log knows the room of a lane's ring: the entries that were begun and those that were given back, and the index writes in flight.
 use Rattle.std.proofs.Common.{◌≡◌, ℕ, suc, zero, ◌+◌, ◌<◌, ◌≤◌, Bool, true, false, List, [], ◌∷◌, ◌++◌, length, refl, sym, ap, ◌∙◌, inl, inr, arith, ◌⊎◌}
 use Rattle.std.specs.Prelude.{if◌then◌else◌, ◌==◌, None, Some, count_by, map, remove, sum}
+use Rattle.std.specs.List.{fold}
 use Rattle.std.proofs.lemmas.Bool.{both_ways, cases_Bool, false≢true, eq-eqb, cond-true}
 use Rattle.std.proofs.lemmas.List.{length-append}
 use Rattle.step_kinds.specs.declared.names.LaneName.{LaneName}
@@ -193,10 +194,11 @@ count-session p k log made b no_train is =
     ∙ ap (λ c. count_by p (made_since k [] log) + (if c then 1 else 0)) is
 
 sum-last : (f : Answered → ℕ) (xs : List Answered) (x : Answered) → sum (map f (xs ++ x ∷ [])) ≡ sum (map f xs) + f x
-sum-last f [] x = omega arith
-sum-last f (y ∷ ys) x =
-    let behind : f y + (sum (map f ys) + f x) ≡ f y + sum (map f ys) + f x = omega arith in
-    ap (λ n. f y + n) (sum-last f ys x) ∙ behind
+sum-last f xs x = go 0 xs
+  where
+    go : (from : ℕ) (xs : List Answered) → fold ◌+◌ from (map f (xs ++ x ∷ [])) ≡ fold ◌+◌ from (map f xs) + f x
+    go from [] = refl
+    go from (y ∷ ys) = go (from + f y) ys
 
 sum-session : (f : Answered → ℕ) (k : ℕ) (log : List Answered) (made : Answered) (n : ℕ) → trains k made ≡ false → f made ≡ n
     → sum (map f (in_this_session k (log ++ made ∷ []))) ≡ sum (map f (in_this_session k log)) + n
