@@ -1,4 +1,5 @@
--- Landing: what the queue of writes in flight answers is what the model's lane answers, and the ring law holds after it.
+-- Landing: what the queue of writes in flight answers is what the model's lane answers, and the ring law holds after
+-- it.
 use Rattle.std.proofs.Common.{◌≡◌, ℕ, zero, suc, ◌+◌, ◌%◌, ◌<◌, ◌≤◌, ◌⊎◌, Bool, true, false, List, [], ◌∷◌, Option, Some, None, length, map, take, drop, get_or, set, slice_get, option_map, refl, sym, ap, ◌∙◌, subst, inl, inr, arith, mod-lt, All, Contains}
 use Rattle.std.specs.List.{remove}
 use Rattle.std.proofs.lemmas.Bool.{cases_lt, cond-true, cond-false, eqb-true, or_cases}
@@ -13,12 +14,13 @@ use Rattle.lane_model.specs.declared.Field.{Field}
 use Rattle.lane_model.specs.declared.Field.TheVariants.{Chunk, Length, Version}
 use Rattle.lane_model.specs.declared.Write.{Write}
 use Rattle.lane_model.specs.declared.Write.TheVariants.{Data, Flag, Bell}
-use Rattle.lane_laws.proofs.Chunks.{field_among}
-use Rattle.lane_laws.proofs.Holds.{land_data_keeps, land_flag_keeps, land_bell_keeps, data_is_ahead, flag_is_next}
+use Rattle.lane_laws.proofs.Facade.{field_among}
+use Rattle.lane_laws.proofs.Facade.{land_data_keeps, land_flag_keeps, land_bell_keeps, data_is_ahead, flag_is_next}
 use Rattle.posted_queue.specs.Flight.{Flight}
 use Rattle.posted_queue.specs.Landing.{answer_for, land_answer as queue_answer, after_landing as queue_after}
 use Rattle.posted_queue.specs.declared.LandAnswer.TheVariants.{Landed as QueueLanded, Blocked as QueueBlocked, Nothing as QueueNothing}
-use Rattle.posted_queue.proofs.LandingLemmas.{may_land-map, may_land-past}
+use Rattle.order_rules.specs.Order.{Order, may_land as orders_may_land}
+use Rattle.posted_queue.proofs.LandingLemmas.{may_land-past}
 use Rattle.posted_queue.proofs.LawLemmas.{split-at_place}
 use Rattle.lane_core.specs.Calls.{LaneValue, order_of_mark, may_land_in, land_answer, land_found, after_land, after_found, label_in}
 use Rattle.lane_core.specs.Parts.{BeginsWithin, CanStore, IsKnown, flags_landed, ring_after}
@@ -26,6 +28,7 @@ use Rattle.lane_core.specs.Seen.{IsKept, lane_seen, value_seen}
 use Rattle.lane_core.specs.declared.answers.LaneLand.TheVariants.{Landed, Blocked, Nothing}
 use Rattle.lane_core.specs.declared.lane.Lane.TheInside.{Inside}
 use Rattle.lane_core.specs.declared.write.PostedWrite.{PostedWrite}
+use Rattle.lane_core.proofs.OneClass.{may_land-map, may_land-kinds, order_of_kind}
 use Rattle.lane_core.proofs.Parts.{All-remove, map-remove}
 
 -- What the queue answers
@@ -100,15 +103,15 @@ pub record Lands (lane : Lane) (place : ℕ) (mark : Write) : Type 0 where
   pub counts : lane.flagged + flags_landed mark ≤ length lane.sent
   pub law : HoldsRingLaw (after_landing lane mark (remove lane.flight place))
 
--- the room of an entry's place
+-- the room of an entry's slot
 room_of_place : (lane : Lane) (n : ℕ) → n < length lane.sent → HoldsRingLaw lane → length (bytes_of (entry_of lane n)) ≤ length (get_or lane.ring (n % length lane.ring) blank_slot).payload
 room_of_place lane n below law =
     let h = law.2 in
-    let two = h.two_entries in
+    let two = h.room.two_entries in
     let here : n % lane.entries < lane.entries = mod-lt n (omega arith) in
-    let room = h.rooms (n % lane.entries) here in
-    let fits = h.fits n below in
-    subst (λ count. length (bytes_of (entry_of lane n)) ≤ length (get_or lane.ring (n % count) blank_slot).payload) (sym h.slots) (omega (arith, room, fits))
+    let room = h.room.rooms (n % lane.entries) here in
+    let fits = h.frames.fits n below in
+    subst (λ count. length (bytes_of (entry_of lane n)) ≤ length (get_or lane.ring (n % count) blank_slot).payload) (sym h.room.slots) (omega (arith, room, fits))
 
 begins_within : (lane : Lane) (n : ℕ) (field : Field) → Contains (data_of n (entry_of lane n)) (Data n field) → BeginsWithin (entry_of lane n) field
 begins_within lane n (Chunk part) among = omega (arith, (field_among n n (entry_of lane n) (Chunk part) among).1)
@@ -120,12 +123,12 @@ cell_lands lane place n field found law =
     let there : Contains lane.flight (Data n field) = (place, slice_get_within lane.flight place (Data n field) found, get_or_from_slice_get lane.flight place (Data n field) (Data n field) found) in
     let ahead = data_is_ahead lane n field there law in
     let h = law.2 in
-    let two = h.two_entries in
-    let slots = h.slots in
+    let two = h.room.two_entries in
+    let slots = h.room.slots in
     record {
       can = (omega arith, ahead.1, begins_within lane n field ahead.2, room_of_place lane n ahead.1 law);
       known = tt;
-      counts = omega (arith, h.flagged_first);
+      counts = omega (arith, h.counts.flagged_first);
       law = land_data_keeps lane n field (take place lane.flight) (drop (suc place) lane.flight) (split-at_place lane.flight place (Data n field) found).0 law;
     }
 
@@ -134,8 +137,8 @@ flag_lands lane place n found first law =
     let front : lane.flight ≡ Flag n ∷ remove lane.flight 0 = first_apart lane.flight (Flag n) (ap (slice_get lane.flight) (sym first) ∙ found) in
     let next = flag_is_next lane n (remove lane.flight 0) front law in
     let h = law.2 in
-    let two = h.two_entries in
-    let slots = h.slots in
+    let two = h.room.two_entries in
+    let slots = h.room.slots in
     record {
       can = (omega arith, next.1);
       known = next.1;
@@ -149,7 +152,7 @@ bell_lands lane place found first law =
     record {
       can = tt;
       known = tt;
-      counts = omega (arith, law.2.flagged_first);
+      counts = omega (arith, law.2.counts.flagged_first);
       law = subst (λ i. HoldsRingLaw (after_landing lane Bell (remove lane.flight i))) (sym first) (land_bell_keeps lane (remove lane.flight 0) front law);
     }
 
@@ -199,12 +202,11 @@ pub after_nothing : (value : LaneValue) (place : ℕ) → slice_get value.lane.f
 after_nothing value place found = ap (after_found value place) found
 
 -- no write lands from past the end
-pub past_the_end : {W : Type 0} (order : W → ℕ) (writes : List W) (place : ℕ) → slice_get writes place ≡ None → may_land (map order writes) place ≡ false
+pub past_the_end : {W : Type 0} (order : W → Order) (writes : List W) (place : ℕ) → slice_get writes place ≡ None → orders_may_land (map order writes) place ≡ false
 past_the_end order writes place found =
-    let count = length-map writes order in
     elim (cases_lt place (length writes)) [
       | inl within ↦ absurd (within_some writes place within found)
-      | inr past ↦ may_land-past (map order writes) place (omega arith)
+      | inr past ↦ may_land-past order writes place past
     ]
   where
     within_some : {X : Type 0} (xs : List X) (i : ℕ) → i < length xs → slice_get xs i ≡ None → ⊥
@@ -221,15 +223,18 @@ pub record HasLanded (l : Inside) (place : ℕ) (mark : Write) (flight : Flight 
   pub orders : All (λ (w : PostedWrite). w.strict ≡ l.strict) flight.writes
   pub spare : flight.spare ≡ l.flight.spare
 
-abbrev order_of_write : PostedWrite → ℕ
-order_of_write w = order_of_mark w.strict w.mark
+abbrev kind_of_write : PostedWrite → ℕ
+kind_of_write w = order_of_mark w.strict w.mark
+
+abbrev pub order_of_write : PostedWrite → Order
+order_of_write w = order_of_kind (kind_of_write w)
 
 pub has_landed : (l : Inside) (place : ℕ) (write : PostedWrite) (flight : Flight PostedWrite) → QueueLanded write ≡ queue_answer order_of_write l.flight place → flight ≡ queue_after order_of_write l.flight place
     → IsKept l → HasLanded l place write.mark flight
 has_landed l place write flight answer after kept =
     let was = was_landed _ _ write answer in
     let found : slice_get (lane_seen l).flight place ≡ Some write.mark = slice_get-map (λ (w : PostedWrite). w.mark) l.flight.writes place ∙ ap (option_map (λ (w : PostedWrite). w.mark)) was.0 in
-    let may : may_land_in (value_seen l) place ≡ true = ap (λ kinds. may_land kinds place) (sym (kinds_seen l.strict l.flight.writes kept.orders)) ∙ was.1 in
+    let may : may_land_in (value_seen l) place ≡ true = ap (λ kinds. may_land kinds place) (sym (kinds_seen l.strict l.flight.writes kept.orders)) ∙ sym (may_land-kinds kind_of_write l.flight.writes place) ∙ was.1 in
     let now = after ∙ cond-true _ _ _ was.1 in
     let writes : flight.writes ≡ remove l.flight.writes place = ap (λ (f : Flight PostedWrite). f.writes) now in
     record {
@@ -247,5 +252,5 @@ pub is_held_back : (l : Inside) (place : ℕ) → QueueBlocked ≡ queue_answer 
 is_held_back l place answer orders =
     let was = was_blocked _ _ answer in
     let found : slice_get (lane_seen l).flight place ≡ Some was.0.mark = slice_get-map (λ (w : PostedWrite). w.mark) l.flight.writes place ∙ ap (option_map (λ (w : PostedWrite). w.mark)) was.1 in
-    let waits : may_land_in (value_seen l) place ≡ false = ap (λ kinds. may_land kinds place) (sym (kinds_seen l.strict l.flight.writes orders)) ∙ was.2 in
+    let waits : may_land_in (value_seen l) place ≡ false = ap (λ kinds. may_land kinds place) (sym (kinds_seen l.strict l.flight.writes orders)) ∙ sym (may_land-kinds kind_of_write l.flight.writes place) ∙ was.2 in
     (answer_blocked (value_seen l) place was.0.mark found waits, after_blocked (value_seen l) place was.0.mark found waits)

@@ -3,6 +3,8 @@ pub mod Bytes
 pub mod Copying
 pub mod Landing
 pub mod Looking
+pub mod OneClass
+pub mod OnePiece
 pub mod Parts
 pub mod Returning
 pub mod Sent

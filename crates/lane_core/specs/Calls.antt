@@ -5,6 +5,7 @@ use Rattle.step_kinds.specs.declared.steps.Label.TheVariants.{Index}
 use Rattle.lane_model.specs.Lane.{Entry, Carries, GoesDown, Lane, bytes_of, entry_of, free_in}
 use Rattle.lane_model.specs.Order.{relaxed, strict, may_land}
 use Rattle.lane_model.specs.Ring.{head_of}
+pub use Rattle.lane_model.specs.Tests.{is_idle, is_copying, is_copied, is_cleared, is_empty_list}
 use Rattle.lane_model.specs.Steps.{after_begin, after_post, after_landing, after_look, more_to_copy, after_copy, after_clear, after_ack, after_index}
 use Rattle.lane_model.specs.declared.Write.{Write}
 use Rattle.lane_model.specs.declared.Write.TheVariants.{Data, Flag, Bell}
@@ -30,15 +31,13 @@ pub record LaneValue : Type 0 where
 abbrev pub with_lane : LaneValue → Lane → LaneValue
 with_lane value lane = record { queue = value.queue; is_strict = value.is_strict; lane = lane }
 
-abbrev pub is_empty_list : {X : Type 0} → List X → Bool
-is_empty_list [] = true
-is_empty_list (x ∷ xs) = false
-
 -- Beginning
 
+-- the last test of a beginning: whether the ring has room
 abbrev pub has_room : Lane → Begun
 has_room lane = if free_in lane == 0 then NoRoom (head_of lane.entries (length lane.sent)) lane.index_word else Began (length lane.sent)
 
+-- of a link-down entry, which fits every ring, and of a frame, whose length is tested first
 abbrev pub down_answer : Lane → Begun
 down_answer lane = if is_empty_list lane.todo then has_room lane else Busy
 
@@ -62,6 +61,7 @@ number_of Bell = 0
 abbrev pub label_in : ℕ → Lane → Write → Label
 label_in queue lane mark = label_of queue (entry_of lane (number_of mark)) mark
 
+-- the label of the first of the writes that are left to post
 abbrev pub first_label : ℕ → Lane → List Write → Option Label
 first_label queue lane [] = None
 first_label queue lane (mark ∷ rest) = Some (label_in queue lane mark)
@@ -121,24 +121,9 @@ after_land_index lane place = after_index_found lane place (slice_get lane.retur
 
 -- Receiving
 
-abbrev pub is_idle : Phase → Bool
-is_idle Idle = true
-is_idle phase = false
-
-abbrev pub is_copying : Phase → Bool
-is_copying Copying = true
-is_copying phase = false
-
-abbrev pub is_copied : Phase → Bool
-is_copied Copied = true
-is_copied phase = false
-
-abbrev pub is_cleared : Phase → Bool
-is_cleared Cleared = true
-is_cleared phase = false
-
+-- what a look says of an entry that has landed
 abbrev pub look_at : ℕ → Entry → LaneLook
-look_at n (Carries bytes) = Ready n (length bytes)
+look_at n (Carries bytes left) = Ready n (length bytes)
 look_at n GoesDown = PeerDown
 
 abbrev pub look_answer : Lane → LaneLook

@@ -21,13 +21,17 @@ pub struct PostedWrite {
 impl Ordered for PostedWrite {
     ghost use Rattle.lane_core.specs.Calls.{order_of_mark};
 
-    ghost order = { λ write. order_of_mark write.strict write.mark };
+    ghost order = { λ write. record { kind = order_of_mark write.strict write.mark; class = 0 } };
 
     fn kind(&self) -> usize {
         match self.mark {
             Write::Data { .. } if !self.strict => RELAXED,
             _ => STRICT,
         }
+    }
+
+    fn class(&self) -> u32 {
+        0
     }
 }
 
@@ -38,10 +42,14 @@ pub struct IndexWrite {
 }
 
 impl Ordered for IndexWrite {
-    ghost order = { λ _. 1 };
+    ghost order = { λ _. record { kind = 1; class = 0 } };
 
     fn kind(&self) -> usize {
         STRICT
+    }
+
+    fn class(&self) -> u32 {
+        0
     }
 }
 

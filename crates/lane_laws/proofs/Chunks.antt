@@ -80,7 +80,7 @@ pub stands_written : (slot : Slot) (n : ℕ) (entry : Entry) (field : Field) →
 stands_written slot n entry (Chunk part) among fits =
     read_written (chunk_size * part) (chunk_of (bytes_of entry) part) slot.payload (chunk_fits (bytes_of entry) slot.payload part among fits)
 stands_written slot n entry Length among fits = refl
-stands_written slot n entry Version among fits = refl
+stands_written slot n entry Version among fits = (refl, refl)
 
 -- and each other field that stood in it stands there still
 pub stands_still : (slot : Slot) (n : ℕ) (entry : Entry) (field other : Field) → IsFieldOf entry field → length (bytes_of entry) ≤ length slot.payload
@@ -104,7 +104,7 @@ stands_still slot n entry Length Length among fits stands = refl
 stands_still slot n entry Length Version among fits stands = stands
 stands_still slot n entry Version (Chunk other) among fits stands = stands
 stands_still slot n entry Version Length among fits stands = stands
-stands_still slot n entry Version Version among fits stands = refl
+stands_still slot n entry Version Version among fits stands = (refl, refl)
 
 -- flags touch no field, and a field no flags
 pub stands_under_flags : (slot : Slot) (n : ℕ) (entry : Entry) (field : Field) (flags : ℕ) → Stands slot n entry field → Stands (with_flags slot flags) n entry field
@@ -148,8 +148,9 @@ pub fields_make_whole : (slot : Slot) (n : ℕ) (entry : Entry) → length (byte
     → ((field : Field) → IsFieldOf entry field → Stands slot n entry field) → slot.flags ≡ flags_of entry → StandsWhole slot n entry
 fields_make_whole slot n entry fits each up = record {
   payload = chunks_make_payload (bytes_of entry) slot.payload fits (λ part among. each (Chunk part) among);
+  left = (each Version tt).0;
   len = each Length tt;
-  ver = each Version tt;
+  ver = (each Version tt).1;
   flags = up;
 }
 

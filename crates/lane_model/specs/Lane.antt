@@ -1,7 +1,7 @@
 -- One lane in one session: what its sender began, what is on its way, the ring in the receiver's memory, and how far
 -- each has come. `ntb_transport` moves frames in the same way: payload and header into a ring in the peer's memory,
 -- then the header's DONE flag and a doorbell, and an index written back once the receiver is done.
-use Rattle.std.specs.Prelude.{ℕ, zero, suc, ◌+◌, ◌-◌, ◌*◌, ◌/◌, ◌%◌, ◌^◌, max, Bool, List, [], ◌∷◌, ◌++◌, length, map, take, drop, slice_index_or, slice_set}
+use Rattle.std.specs.Prelude.{ℕ, zero, suc, ◌+◌, ◌-◌, ◌*◌, ◌/◌, ◌%◌, ◌^◌, max, Bool, List, [], ◌∷◌, ◌++◌, length, map, take, drop, replicate, slice_index_or, slice_set}
 use Rattle.lane_model.specs.Ring.{head_of, free_entries}
 pub use Rattle.lane_model.specs.declared.Field.{Field}
 pub use Rattle.lane_model.specs.declared.Field.TheVariants.{Chunk, Length, Version}
@@ -35,13 +35,18 @@ pub record Slot : Type 0 where
 abbrev pub blank_slot : Slot
 blank_slot = record { payload = []; left = 0; ver = 0; len = 0; flags = 0 }
 
+-- a slot of which all bytes are zero
+abbrev pub zeroed_slot : ℕ → Slot
+zeroed_slot largest = record { payload = replicate largest 0; left = 0; ver = 0; len = 0; flags = 0 }
+
 pub record Lane : Type 0 where
   -- how many slots the ring has, and the most bytes that a payload takes
   pub entries : ℕ
   pub largest : ℕ
   -- whether what is posted is on its way; once the link is lost it is not
   pub up : Bool
-  -- the entries that the sender began in this session, numbered from 0, and the writes of the last one that are left to post
+  -- the entries that the sender began in this session, numbered from 0, and the writes of the last one that are left to
+  -- post
   pub sent : List Entry
   pub todo : List Write
   -- the writes in flight towards the receiver, and the numbers of the index writes in flight back to the sender
@@ -50,7 +55,8 @@ pub record Lane : Type 0 where
   -- the ring in the receiver's memory, and the index word in the sender's
   pub ring : List Slot
   pub index_word : ℕ
-  -- how many entries have their flags landed, were taken whole, were cleared, had their index write posted and had it landed
+  -- how many entries have their flags landed, were copied whole, were cleared, had their index write posted and had it
+  -- landed
   pub flagged : ℕ
   pub got : ℕ
   pub cleared : ℕ

@@ -4,3 +4,4 @@ pub mod Law
 pub mod Order
 pub mod Ring
 pub mod Steps
+pub mod Tests

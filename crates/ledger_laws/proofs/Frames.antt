@@ -7,28 +7,49 @@ use Rattle.lane_model.specs.Lane.{Entry, Carries, GoesDown}
 use Rattle.ledger_laws.specs.Laws.{Begins, NumberedFrom, times_of}
 use Rattle.ledger_model.specs.Log.{Numbered}
 
--- the frames of entries, numbered by the places of all entries
-abbrev pub frames_from : ℕ → List Entry → List Numbered
-frames_from n [] = []
-frames_from n (Carries bytes ∷ entries) = record { number = n; bytes = bytes } ∷ frames_from (n + 1) entries
-frames_from n (GoesDown ∷ entries) = frames_from (n + 1) entries
+-- The frames of entries, from a number and from bytes of a frame under way on: the pieces of a frame are joined up to the one that no
+-- other follows; a link-down entry has a number of its own.
+abbrev pub frames_from : ℕ → List ℕ → List Entry → List Numbered
+frames_from n rest [] = []
+frames_from n rest (GoesDown ∷ entries) = frames_from (n + 1) rest entries
+frames_from n rest (Carries bytes zero ∷ entries) = record { number = n; bytes = rest ++ bytes } ∷ frames_from (n + 1) [] entries
+frames_from n rest (Carries bytes (suc left) ∷ entries) = frames_from n (rest ++ bytes) entries
 
-pub frames-append : (n : ℕ) (xs ys : List Entry) → frames_from n (xs ++ ys) ≡ frames_from n xs ++ frames_from (n + length xs) ys
-frames-append n [] ys = ap (λ m. frames_from m ys) (omega arith)
-frames-append n (Carries bytes ∷ xs) ys =
-    ap (λ frames. record { number = n; bytes = bytes } ∷ frames) (frames-append (n + 1) xs ys ∙ ap (λ m. frames_from (n + 1) xs ++ frames_from m ys) (omega arith))
-frames-append n (GoesDown ∷ xs) ys = frames-append (n + 1) xs ys ∙ ap (λ m. frames_from (n + 1) xs ++ frames_from m ys) (omega arith)
+-- the number of the next frame behind entries, and the bytes of the frame that is under way there
+abbrev pub number_after : ℕ → List Entry → ℕ
+number_after n [] = n
+number_after n (GoesDown ∷ entries) = number_after (n + 1) entries
+number_after n (Carries bytes zero ∷ entries) = number_after (n + 1) entries
+number_after n (Carries bytes (suc left) ∷ entries) = number_after n entries
 
--- a frame more at the end, and an entry without one
-pub frames-frame : (xs : List Entry) (bytes : List ℕ) → frames_from 0 (xs ++ Carries bytes ∷ []) ≡ frames_from 0 xs ++ record { number = length xs; bytes = bytes } ∷ []
-frames-frame xs bytes = frames-append 0 xs (Carries bytes ∷ []) ∙ ap (λ m. frames_from 0 xs ++ record { number = m; bytes = bytes } ∷ []) (omega arith)
+abbrev pub rest_after : List ℕ → List Entry → List ℕ
+rest_after rest [] = rest
+rest_after rest (GoesDown ∷ entries) = rest_after rest entries
+rest_after rest (Carries bytes zero ∷ entries) = rest_after [] entries
+rest_after rest (Carries bytes (suc left) ∷ entries) = rest_after (rest ++ bytes) entries
 
-pub frames-down : (xs : List Entry) → frames_from 0 (xs ++ GoesDown ∷ []) ≡ frames_from 0 xs
-frames-down xs = frames-append 0 xs (GoesDown ∷ []) ∙ append-nil (frames_from 0 xs)
+pub frames-append : (n : ℕ) (rest : List ℕ) (xs ys : List Entry) → frames_from n rest (xs ++ ys) ≡ frames_from n rest xs ++ frames_from (number_after n xs) (rest_after rest xs) ys
+frames-append n rest [] ys = refl
+frames-append n rest (GoesDown ∷ xs) ys = frames-append (n + 1) rest xs ys
+frames-append n rest (Carries bytes zero ∷ xs) ys = ap (λ frames. record { number = n; bytes = rest ++ bytes } ∷ frames) (frames-append (n + 1) [] xs ys)
+frames-append n rest (Carries bytes (suc left) ∷ xs) ys = frames-append n (rest ++ bytes) xs ys
+
+pub number-append : (n : ℕ) (xs ys : List Entry) → number_after n (xs ++ ys) ≡ number_after (number_after n xs) ys
+number-append n [] ys = refl
+number-append n (GoesDown ∷ xs) ys = number-append (n + 1) xs ys
+number-append n (Carries bytes zero ∷ xs) ys = number-append (n + 1) xs ys
+number-append n (Carries bytes (suc left) ∷ xs) ys = number-append n xs ys
+
+pub rest-append : (rest : List ℕ) (xs ys : List Entry) → rest_after rest (xs ++ ys) ≡ rest_after (rest_after rest xs) ys
+rest-append rest [] ys = refl
+rest-append rest (GoesDown ∷ xs) ys = rest-append rest xs ys
+rest-append rest (Carries bytes zero ∷ xs) ys = rest-append [] xs ys
+rest-append rest (Carries bytes (suc left) ∷ xs) ys = rest-append (rest ++ bytes) xs ys
 
 -- the frames of the first entries begin those of all
-pub frames-begin : (m : ℕ) (xs : List Entry) → Begins (frames_from 0 (take m xs)) (frames_from 0 xs)
-frames-begin m xs = (frames_from (0 + length (take m xs)) (drop m xs), ap (frames_from 0) (sym (take-append-drop m xs)) ∙ frames-append 0 (take m xs) (drop m xs))
+pub frames-begin : (m : ℕ) (xs : List Entry) → Begins (frames_from 0 [] (take m xs)) (frames_from 0 [] xs)
+frames-begin m xs =
+    (frames_from (number_after 0 (take m xs)) (rest_after [] (take m xs)) (drop m xs), ap (frames_from 0 []) (sym (take-append-drop m xs)) ∙ frames-append 0 [] (take m xs) (drop m xs))
 
 -- one frame more at the end of numbered frames
 pub numbered-last : (n : ℕ) (xs : List Numbered) (frame : Numbered) → NumberedFrom n xs → frame.number ≡ n + length xs → NumberedFrom n (xs ++ frame ∷ [])
@@ -64,29 +85,18 @@ times-once n m (x ∷ xs) numbers = elim (cases_eq x.number n) [
 -- the entry at a place carries a frame
 pub record CarriesAt (xs : List Entry) (n : ℕ) : Type 0 where
   pub bytes : List ℕ
-  pub there : slice_index_or xs n GoesDown ≡ Carries bytes
+  pub left : ℕ
+  pub there : slice_index_or xs n GoesDown ≡ Carries bytes left
 
 pub carries-within : (xs : List Entry) (n : ℕ) → CarriesAt xs n → n < length xs
 carries-within [] n at = absurd (let e = at.there in cc)
 carries-within (x ∷ xs) zero at = omega arith
-carries-within (x ∷ xs) (suc n) at = let within : n < length xs = carries-within xs n (record { bytes = at.bytes; there = at.there }) in omega arith
+carries-within (x ∷ xs) (suc n) at = let within : n < length xs = carries-within xs n (record { bytes = at.bytes; left = at.left; there = at.there }) in omega arith
 
 -- it stays where entries are added at the end
 pub carries-append : (xs ys : List Entry) (n : ℕ) → CarriesAt xs n → CarriesAt (xs ++ ys) n
 carries-append [] ys n at = absurd (let e = at.there in cc)
-carries-append (x ∷ xs) ys zero at = record { bytes = at.bytes; there = at.there }
+carries-append (x ∷ xs) ys zero at = record { bytes = at.bytes; left = at.left; there = at.there }
 carries-append (x ∷ xs) ys (suc n) at =
-    let rest : CarriesAt (xs ++ ys) n = carries-append xs ys n (record { bytes = at.bytes; there = at.there }) in
-    record { bytes = rest.bytes; there = rest.there }
-
--- the frames of one entry more
-pub frames-take : (m n : ℕ) (xs : List Entry) (bytes : List ℕ) → slice_index_or xs n GoesDown ≡ Carries bytes
-    → frames_from m (take (n + 1) xs) ≡ frames_from m (take n xs) ++ record { number = m + n; bytes = bytes } ∷ []
-frames-take m n [] bytes e = absurd (cc)
-frames-take m zero (x ∷ xs) bytes e = subst (λ y. frames_from m (y ∷ []) ≡ record { number = m + 0; bytes = bytes } ∷ []) (sym e) (ap (λ k. record { number = k; bytes = bytes } ∷ []) (omega arith))
-frames-take m (suc n) (Carries other ∷ xs) bytes e =
-    rw add-one (ap (λ frames. record { number = m; bytes = other } ∷ frames)
-    (ap (λ k. frames_from (m + 1) (take k xs)) (sym (add-one n)) ∙ frames-take (m + 1) n xs bytes e ∙ ap (λ k. frames_from (m + 1) (take n xs) ++ record { number = k; bytes = bytes } ∷ []) (omega arith)))
-frames-take m (suc n) (GoesDown ∷ xs) bytes e =
-    rw add-one
-    (ap (λ k. frames_from (m + 1) (take k xs)) (sym (add-one n)) ∙ frames-take (m + 1) n xs bytes e ∙ ap (λ k. frames_from (m + 1) (take n xs) ++ record { number = k; bytes = bytes } ∷ []) (omega arith))
+    let rest : CarriesAt (xs ++ ys) n = carries-append xs ys n (record { bytes = at.bytes; left = at.left; there = at.there }) in
+    record { bytes = rest.bytes; left = rest.left; there = rest.there }

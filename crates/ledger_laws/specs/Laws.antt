@@ -1,5 +1,5 @@
 -- The laws of every log.
-use Rattle.std.specs.Prelude.{◌≡◌, ℕ, ◌+◌, ◌<◌, ◌==◌, Bool, true, false, ◌&&◌, Option, Some, None, List, [], ◌∷◌, ◌++◌, length, filter, not, if◌then◌else◌, ◌≤◌, ◌/◌, ◌%◌}
+use Rattle.std.specs.Prelude.{◌≡◌, ℕ, ◌+◌, ◌<◌, ◌==◌, Bool, true, false, ◌&&◌, ◌⊎◌, Option, Some, None, List, [], ◌∷◌, ◌++◌, length, filter, nat_lt, not, if◌then◌else◌, ◌≤◌, ◌/◌, ◌%◌}
 use Rattle.std.specs.List.{AllByRecursion}
 use Rattle.step_kinds.specs.Bits.{has_bit}
 use Rattle.step_kinds.specs.Sides.{other_side}
@@ -13,9 +13,16 @@ use Rattle.step_kinds.specs.declared.steps.Answer.TheVariants.{LinkDown, NotRead
 use Rattle.step_kinds.specs.declared.steps.Step.{Step}
 use Rattle.step_kinds.specs.declared.steps.Step.TheVariants.{Begin, QpDown, Xbegin, Offer, Check, Ready, Join, Spad, Poke}
 use Rattle.ledger_model.specs.Handshake.{word}
-use Rattle.ledger_model.specs.Ledger.{PairPart, side_of, lane_of, tally_of, link_up, sizes_of, side_plan, version_pad, queues_pad, windows_pad, high_pad, low_pad}
+use Rattle.ledger_model.specs.Ledger.{PairPart, side_of, lane_of, tally_of, link_up}
 use Rattle.ledger_model.specs.Log.{Answered, Memories, Numbered, log_of, ledger_of, accepted, delivered, room_in, up_at, landed_pad, last_look_empty}
-use Rattle.ledger_model.specs.Next.{pair_plan}
+use Rattle.plan_model.specs.Ethernet.{ethernet_frame}
+use Rattle.plan_model.specs.Pads.{version_pad, queues_pad, windows_pad, high_pad, low_pad}
+use Rattle.plan_model.specs.Plans.{pair_plan, side_plan, dev_plan}
+use Rattle.plan_model.specs.Sizes.{sizes_of, pieces_in}
+
+-- the lane's pair answers by the ledger, and not by what bytes stand in memory
+abbrev pub IsOrdinaryPair : Plan → ℕ → Type 0
+IsOrdinaryPair plan pair = (pair_plan plan pair).raw ≡ false
 
 -- In order and once
 
@@ -35,7 +42,7 @@ pub record IsInOrder (plan : Plan) (log : List Answered) (lane : LaneName) (sess
   pub delivered_numbers : NumberedFrom 0 (delivered plan log lane session)
 
 abbrev pub EveryLogIsInOrder : Type 0
-EveryLogIsInOrder = (plan : Plan) (memories : Memories) (steps : List Step) (lane : LaneName) (session : ℕ) → IsInOrder plan (log_of plan memories steps) lane session
+EveryLogIsInOrder = (plan : Plan) (memories : Memories) (steps : List Step) (lane : LaneName) (session : ℕ) → IsOrdinaryPair plan lane.pair → IsInOrder plan (log_of plan memories steps) lane session
 
 -- how often a number stands in a list of frames
 abbrev pub times_of : ℕ → List Numbered → ℕ
@@ -44,7 +51,7 @@ times_of n (frame ∷ frames) = (if frame.number == n then 1 else 0) + times_of 
 
 -- no number is delivered twice on a lane in a session
 abbrev pub EveryFrameComesOnce : Type 0
-EveryFrameComesOnce = (plan : Plan) (memories : Memories) (steps : List Step) (lane : LaneName) (session n : ℕ) →
+EveryFrameComesOnce = (plan : Plan) (memories : Memories) (steps : List Step) (lane : LaneName) (session n : ℕ) → IsOrdinaryPair plan lane.pair →
     times_of n (delivered plan (log_of plan memories steps) lane session) < 2
 
 -- Again and link down
@@ -56,9 +63,12 @@ lane_begun_by (QpDown pair side queue) = Some (record { pair = pair; from = side
 lane_begun_by (Xbegin pair side queue dev dst kind payload) = Some (record { pair = pair; from = side; queue = queue })
 lane_begun_by step = None
 
--- the entries of a lane's ring
-abbrev pub entries_in : Plan → LaneName → ℕ
-entries_in plan lane = (sizes_of (pair_plan plan lane.pair) lane.from lane.queue).entries
+-- how many entries a step needs on the lane on which it begins them: one for each piece of a frame, and one for a link-down entry
+abbrev pub entries_needed : Plan → LaneName → Step → ℕ
+entries_needed plan lane (Begin pair side queue frame) = pieces_in (sizes_of (pair_plan plan lane.pair) lane.from lane.queue).largest (length frame)
+entries_needed plan lane (Xbegin pair side queue dev dst kind payload) =
+    pieces_in (sizes_of (pair_plan plan lane.pair) lane.from lane.queue).largest (length (ethernet_frame dst (dev_plan plan.devs dev).address kind payload))
+entries_needed plan lane step = 1
 
 -- the refusals that are tested before the ring's room
 abbrev pub refused_before_room : Answer → Bool
@@ -78,11 +88,11 @@ is_again answer = false
 abbrev pub GoesOn : Plan → Memories → List Step → Step → Answer → Type 0
 GoesOn plan memories steps step answer = log_of plan memories (steps ++ step ∷ []) ≡ log_of plan memories steps ++ record { step = step; answer = answer } ∷ []
 
--- `again` comes exactly where no refusal before it does and the ring has no room
+-- `again` comes exactly where no refusal before it does and the ring has less room than the step needs
 abbrev pub AgainWhereNoRoom : Type 0
 AgainWhereNoRoom = (plan : Plan) (memories : Memories) (steps : List Step) (step : Step) (answer : Answer) (lane : LaneName) →
-    lane_begun_by step ≡ Some lane → GoesOn plan memories steps step answer →
-    is_again answer ≡ (if refused_before_room answer then false else room_in (entries_in plan lane) (log_of plan memories steps) lane == 0)
+    IsOrdinaryPair plan lane.pair → lane_begun_by step ≡ Some lane → GoesOn plan memories steps step answer →
+    is_again answer ≡ (if refused_before_room answer then false else nat_lt (room_in plan (log_of plan memories steps) lane) (entries_needed plan lane step))
 
 -- the steps that need a link
 abbrev pub needs_link : Step → Bool
@@ -131,6 +141,10 @@ IsOrdinary step = Unit {0}
 abbrev pub IsOrdinaryOn : ℕ → Step → Type 0
 IsOrdinaryOn pair step = subject_of step ≡ pair → IsOrdinary step
 
+-- the versions that two sides declare are one, or both are known to the newer of them
+abbrev pub VersionsAgree : ℕ → ℕ → Type 0
+VersionsAgree seen own = (seen ≡ own) ⊎ ((4 ≤ seen) × (4 ≤ own))
+
 -- all numbers of the peer stand in the side's scratchpads, landed in this session, and they agree with the side's own
 pub record Agrees (log : List Answered) (pair : ℕ) (side : Side) (own peer : SidePlan) : Type 0 where
   pub version_landed : landed_pad log pair side version_pad ≡ Some peer.version
@@ -138,7 +152,7 @@ pub record Agrees (log : List Answered) (pair : ℕ) (side : Side) (own peer : S
   pub windows_landed : landed_pad log pair side windows_pad ≡ Some peer.windows
   pub sizes_landed : (m : ℕ) → m < peer.windows →
       (landed_pad log pair side (high_pad m) ≡ Some (peer.size / word)) × (landed_pad log pair side (low_pad m) ≡ Some (peer.size % word))
-  pub same_version : peer.version ≡ own.version
+  pub versions_agree : VersionsAgree peer.version own.version
   pub same_queues : peer.queues ≡ own.queues
   pub same_windows : peer.windows ≡ own.windows
   pub size_fits : peer.size ≤ own.cap
@@ -157,6 +171,7 @@ pub record IsQuiet (log : List Answered) (now : PairPart) (pair : ℕ) (side : S
   pub not_closed : has_bit (side_of now side).closed queue ≡ false
   pub nothing_in_flight : (side_of now (other_side side)).flight ≡ []
   pub nothing_to_post : (lane_of now (other_side side) queue).todo ≡ []
+  pub none_waiting : (lane_of now (other_side side) queue).waiting ≡ []
   pub not_pending : has_bit (side_of now side).pending queue ≡ false
   pub looked : last_look_empty log pair side queue ≡ true
 
@@ -168,7 +183,7 @@ pub record IsDone (plan : Plan) (log : List Answered) (now : PairPart) (lane : L
 
 abbrev pub QuietMeansDone : Type 0
 QuietMeansDone = (plan : Plan) (memories : Memories) (steps : List Step) (pair : ℕ) (side : Side) (queue : ℕ) →
-    IsQuiet (log_of plan memories steps) (ledger_of plan memories steps pair) pair side queue →
+    IsOrdinaryPair plan pair → IsQuiet (log_of plan memories steps) (ledger_of plan memories steps pair) pair side queue →
     IsDone plan (log_of plan memories steps) (ledger_of plan memories steps pair) (record { pair = pair; from = other_side side; queue = queue })
 
 -- Separate pairs

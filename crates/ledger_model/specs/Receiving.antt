@@ -11,7 +11,7 @@ use Rattle.step_kinds.specs.declared.steps.Answer.{Answer}
 use Rattle.step_kinds.specs.declared.steps.Answer.TheVariants.{NotReady, Closed, OutOfTurn, Empty, PeerDown, VerDiffers, Long, ReadyFrame, Copied as CopiedPart, Delivered, Cleared as ClearedFrame, Acked, Nothing, Blocked, Landed}
 use Rattle.order_rules.specs.Order.{may_land}
 use Rattle.lane_model.specs.Lane.{chunks_in}
-use Rattle.lane_model.specs.declared.Phase.{Phase}
+pub use Rattle.lane_model.specs.Tests.{is_idle, is_copying, is_copied, is_cleared}
 use Rattle.lane_model.specs.declared.Phase.TheVariants.{Idle, Copying, Copied, Cleared}
 use Rattle.ledger_model.specs.Device.{count_delivered}
 use Rattle.ledger_model.specs.Ledger.{LanePart, SidePart, PairPart, side_of, lane_of, lane_to, dev_of, tally_of, with_side_part, with_lane, with_dev, with_tally}
@@ -62,22 +62,6 @@ land_found plan pair side place (Some label) =
 
 abbrev pub land_step : PairPlan → PairPart → Side → ℕ → Outcome
 land_step plan pair side place = land_found plan pair side place (slice_get (side_of pair side).flight place)
-
-abbrev pub is_idle : Phase → Bool
-is_idle Idle = true
-is_idle phase = false
-
-abbrev pub is_copying : Phase → Bool
-is_copying Copying = true
-is_copying phase = false
-
-abbrev pub is_copied : Phase → Bool
-is_copied Copied = true
-is_copied phase = false
-
-abbrev pub is_cleared : Phase → Bool
-is_cleared Cleared = true
-is_cleared phase = false
 
 -- the queue is closed on a side
 abbrev pub closes : PairPart → Side → ℕ → PairPart

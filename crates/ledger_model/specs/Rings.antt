@@ -13,6 +13,7 @@ use Rattle.step_kinds.specs.declared.steps.Step.TheVariants.{Land, Check, Clear}
 use Rattle.lane_model.specs.declared.Write.{Write}
 use Rattle.lane_model.specs.declared.Write.TheVariants.{Data, Flag, Bell}
 use Rattle.lane_model.specs.Lane.{Slot, Lane, flags_of, with_field, with_flags, blank_slot}
+pub use Rattle.lane_model.specs.Lane.{zeroed_slot}
 use Rattle.ledger_model.specs.Labels.{write_of, index_of, writes_among, indexes_among}
 use Rattle.ledger_model.specs.Ledger.{LanePart, PairPart, side_of, lane_of, link_up, entry_in}
 use Rattle.ledger_model.specs.Log.{Answered, Memories, answered, is_on, same_side}
@@ -24,11 +25,7 @@ pub record RingPart : Type 0 where
   pub ring : List Slot
   pub index_word : ℕ
 
--- a slot of which all bytes are zero
-abbrev pub zeroed_slot : ℕ → Slot
-zeroed_slot largest = record { payload = replicate largest 0; left = 0; ver = 0; len = 0; flags = 0 }
-
--- before any step; on a pair that starts up the index word says that no entry is taken
+-- before any step; on a pair that starts up the index word says that all entries but one are free
 abbrev pub fresh_ring : Sizes → Bool → RingPart
 fresh_ring sizes up = record { ring = replicate sizes.entries (zeroed_slot sizes.largest); index_word = (if up then sizes.entries - 1 else 0) }
 
@@ -86,25 +83,28 @@ ring_of plan memories steps name =
     let pair = pair_plan plan name.pair in
     ring_from plan memories name [] (start plan) (fresh_ring (sizes_of pair name.from name.queue) pair.up) steps
 
--- the lane that a pair and a ring show
+-- the lane that a ledger's lane, its writes and index writes in flight, and a ring show
+abbrev pub lane_shown : Sizes → ℕ → Bool → List Write → List ℕ → LanePart → RingPart → Lane
+lane_shown sizes queue up writes indexes lane ring = record {
+  entries = sizes.entries;
+  largest = sizes.largest;
+  up = up;
+  sent = lane.sent;
+  todo = writes_among queue lane.todo;
+  flight = writes;
+  returning = indexes;
+  ring = ring.ring;
+  index_word = ring.index_word;
+  flagged = lane.flagged;
+  got = lane.got;
+  cleared = lane.cleared;
+  acked = lane.acked;
+  freed = lane.freed;
+  phase = lane.phase;
+  part = lane.part;
+}
+
+-- the same of a pair
 abbrev pub shown_lane : Sizes → PairPart → RingPart → Side → ℕ → Lane
 shown_lane sizes pair ring from queue =
-    let lane = lane_of pair from queue in
-    record {
-      entries = sizes.entries;
-      largest = sizes.largest;
-      up = link_up pair;
-      sent = lane.sent;
-      todo = writes_among queue lane.todo;
-      flight = writes_among queue (side_of pair from).flight;
-      returning = indexes_among queue (side_of pair (other_side from)).flight;
-      ring = ring.ring;
-      index_word = ring.index_word;
-      flagged = lane.flagged;
-      got = lane.got;
-      cleared = lane.cleared;
-      acked = lane.acked;
-      freed = lane.freed;
-      phase = lane.phase;
-      part = lane.part;
-    }
+    lane_shown sizes queue (link_up pair) (writes_among queue (side_of pair from).flight) (indexes_among queue (side_of pair (other_side from)).flight) (lane_of pair from queue) ring

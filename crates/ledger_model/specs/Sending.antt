@@ -7,6 +7,7 @@ use Rattle.step_kinds.specs.declared.steps.Label.{Label}
 use Rattle.step_kinds.specs.declared.steps.Answer.{Answer}
 use Rattle.step_kinds.specs.declared.steps.Answer.TheVariants.{OkNumber, LinkDown, NotReady, Closed, TooLong, Busy, Stopped, Again, Idle, Posted, Awake}
 use Rattle.lane_model.specs.Lane.{Entry, GoesDown}
+pub use Rattle.lane_model.specs.Tests.{is_empty_list}
 use Rattle.ledger_model.specs.Device.{Flow, stopped_after_send, stays_stopped, count_accepted, count_refused}
 use Rattle.ledger_model.specs.Labels.{labels_of}
 use Rattle.ledger_model.specs.Ledger.{LanePart, DevPart, PairPart, side_of, lane_of, dev_of, tally_of, with_side_part, with_lane, with_dev, with_tally, link_up, posts, head_in}
@@ -15,10 +16,6 @@ use Rattle.ledger_model.specs.Reading.{Reading}
 use Rattle.ledger_model.specs.Outcome.{Outcome, refuse_if, decided}
 use Rattle.plan_model.specs.Ethernet.{ethernet_frame}
 use Rattle.plan_model.specs.Sizes.{Sizes, pieces_in}
-
-abbrev pub is_empty_list : {X : Type 0} → List X → Bool
-is_empty_list [] = true
-is_empty_list (x ∷ xs) = false
 
 -- the refusals of a side that is to send on a queue, as far as they don't depend on the entry
 abbrev pub refuse_sender : PairPart → Side → ℕ → Option Answer → Option Answer
@@ -109,13 +106,15 @@ xbegin_step sizes reading plan pair side queue dst kind payload =
     (counts_sent plan (begun sizes pair side queue frame) side queue (length frame)
     (reading.free side queue - pieces_in sizes.largest (length frame)))
 
+-- the first of the entries that wait is begun
+abbrev pub with_next : ℕ → LanePart → List Entry → LanePart
+with_next queue lane [] = lane
+with_next queue lane (entry ∷ others) =
+    record lane { sent = lane.sent ++ entry ∷ []; waiting = others; todo = labels_of queue (length lane.sent) entry }
+
 -- where all writes of an entry were posted, the next of the frame's entries is begun
 abbrev pub next_begun : ℕ → LanePart → LanePart
-next_begun queue lane = if is_empty_list lane.todo then begun_next lane.waiting else lane where
-  begun_next : List Entry → LanePart
-  begun_next [] = lane
-  begun_next (entry ∷ others) =
-      record lane { sent = lane.sent ++ entry ∷ []; waiting = others; todo = labels_of queue (length lane.sent) entry }
+next_begun queue lane = if is_empty_list lane.todo then with_next queue lane lane.waiting else lane
 
 -- a write of a ring goes out, and is lost where the peer has no such window
 abbrev pub posts_through : Reading → PairPart → Side → Label → PairPart

@@ -1,5 +1,5 @@
 -- The numbers of a pair's rings, by version and by each side's own numbers of windows and queues.
-use Rattle.std.specs.Prelude.{ℕ, ◌+◌, ◌-◌, ◌*◌, ◌/◌, ◌==◌, ◌&&◌, min, if◌then◌else◌}
+use Rattle.std.specs.Prelude.{ℕ, ◌+◌, ◌-◌, ◌*◌, ◌/◌, ◌==◌, ◌&&◌, max, min, if◌then◌else◌}
 use Rattle.step_kinds.specs.Limits.{most_frame_bytes}
 use Rattle.step_kinds.specs.Sides.{other_side}
 use Rattle.step_kinds.specs.declared.names.Side.{Side}
@@ -47,6 +47,6 @@ sizes_in plan layout =
 abbrev pub sizes_of : PairPlan → Side → ℕ → Sizes
 sizes_of plan from queue = sizes_in plan (layout_of plan from queue)
 
--- how many entries of so many bytes a frame of so many bytes takes
+-- how many entries of so many bytes a frame of so many bytes takes: one at least
 abbrev pub pieces_in : ℕ → ℕ → ℕ
-pieces_in largest len = (len + largest - 1) / largest
+pieces_in largest len = max 1 ((len + largest - 1) / largest)

@@ -6,8 +6,8 @@ ghost use Rattle.step_kinds.specs.Subject.{subject_of};
 use crate::frame::Frame;
 use crate::names::Side;
 
-/// What a posted write in flight writes. `queue` is the number of a queue of the writer, `number` the number of an entry
-/// of the ring in this link session, both from 0. The fields of a header and the index word are little-endian.
+/// What a posted write in flight writes. `queue` is the number of a queue of the writer, `number` the number of an
+/// entry of the ring in this link session, both from 0. The fields of a header and the index word are little-endian.
 ///
 /// The names are those of `ntb_transport`: a header has a version, a length and flags, and the index word is what the
 /// receiver writes back. Their layout is this project's own.
@@ -17,8 +17,8 @@ pub enum Label {
     Chunk { queue: u32, number: u64, part: u32 },
     /// The length field of an entry's header: the bytes of the payload. Relaxed.
     Len { queue: u32, number: u64 },
-    /// The version field of an entry's header: the entry's number modulo 2^32. Where the pair speaks version 5 the write
-    /// has the field `left` before it, how many entries of the frame follow: 8 bytes in place of 4. Relaxed.
+    /// The version field of an entry's header: the entry's number modulo 2^32. Where the pair speaks version 5 the
+    /// write has the field `left` before it, how many entries of the frame follow: 8 bytes in place of 4. Relaxed.
     Ver { queue: u32, number: u64 },
     /// The flags field of a frame's header, with the bit DONE: the number 1. Strict.
     Flag { queue: u32, number: u64 },

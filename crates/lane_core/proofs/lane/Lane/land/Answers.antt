@@ -7,14 +7,14 @@ use Rattle.std.proofs.lemmas.Option.{slice_get-map}
 use Rattle.lane_model.specs.Law.{HoldsRingLaw}
 use Rattle.lane_model.specs.Steps.{after_landing}
 use Rattle.ledger_model.specs.Labels.{label_of}
-use Rattle.lane_core.specs.Calls.{LaneValue, with_lane, land_answer, after_land, number_of, order_of_mark}
+use Rattle.lane_core.specs.Calls.{LaneValue, with_lane, land_answer, after_land, number_of}
 use Rattle.lane_core.specs.Parts.{IsKnown, entry_in, entry_seen, place_seen, ring_after}
 use Rattle.lane_core.specs.Seen.{lane_seen, value_seen}
 use Rattle.lane_core.specs.declared.answers.LaneLand.TheVariants.{Landed, Blocked, Nothing}
 use Rattle.lane_core.specs.declared.entry.Entry.{Entry}
 use Rattle.lane_core.specs.declared.slot.Slot.{Slot}
 use Rattle.lane_core.specs.declared.write.PostedWrite.{PostedWrite}
-use Rattle.lane_core.proofs.Landing.{was_nothing, was_blocked, has_landed, is_held_back, landed_lane, past_the_end, answer_nothing, after_nothing, answer_landed, after_landed}
+use Rattle.lane_core.proofs.Landing.{order_of_write, was_nothing, was_blocked, has_landed, is_held_back, landed_lane, past_the_end, answer_nothing, after_nothing, answer_landed, after_landed}
 use Rattle.lane_core.proofs.lane.Lane.land.Goals as goal
 
 pub invariant_of-self : goal.invariant_of-self
@@ -22,7 +22,7 @@ invariant_of-self c =
     let kept = c.self.invariant in
     let old = c.self.inside in
     let found = was_nothing _ _ c.in-Nothing.ensures.answer in
-    let same : c.land.new.self ≡ old.flight = c.in-Nothing.ensures.after ∙ cond-false _ _ _ (past_the_end (λ (w : PostedWrite). order_of_mark w.strict w.mark) old.flight.writes c.args.place found) in
+    let same : c.land.new.self ≡ old.flight = c.in-Nothing.ensures.after ∙ cond-false _ _ _ (past_the_end order_of_write old.flight.writes c.args.place found) in
     rw same kept
 
 pub returns-in-Nothing-clause-law : goal.returns-in-Nothing-clause-law
@@ -51,7 +51,7 @@ returns-in-Nothing-clause-after c =
     let old = c.self.inside in
     let found = was_nothing _ _ c.in-Nothing.ensures.answer in
     let none : slice_get (lane_seen old).flight c.args.place ≡ None = slice_get-map (λ (w : PostedWrite). w.mark) old.flight.writes c.args.place ∙ ap (option_map (λ (w : PostedWrite). w.mark)) found in
-    let same : c.land.new.self ≡ old.flight = c.in-Nothing.ensures.after ∙ cond-false _ _ _ (past_the_end (λ (w : PostedWrite). order_of_mark w.strict w.mark) old.flight.writes c.args.place found) in
+    let same : c.land.new.self ≡ old.flight = c.in-Nothing.ensures.after ∙ cond-false _ _ _ (past_the_end order_of_write old.flight.writes c.args.place found) in
     rw same (subst (λ (value : LaneValue). value_seen old ≡ with_lane value (after_land value c.args.place)) c.self.view_is (ap (with_lane (value_seen old)) (sym (after_nothing (value_seen old) c.args.place none))))
 
 pub returns-in-Blocked-clause-answer : goal.returns-in-Blocked-clause-answer
@@ -95,7 +95,7 @@ lane_after c =
     ∙ c.store.ensures
     ∙ ap (λ (places : List Slot). ring_after (map place_seen places) (map entry_seen c.deref.result.now) mark) c.deref_mut.ensures.value
     ∙ ap (λ (entries : List Entry). ring_after (map place_seen old.ring.items) (map entry_seen entries) mark) c.deref.ensures.value in
-    landed_lane (lane_seen old) _ _ _ _ mark c.self.invariant.law.2.slots landed.marks ring (ap (λ count. old.flagged + count) c.landed_flags.ensures)
+    landed_lane (lane_seen old) _ _ _ _ mark c.self.invariant.law.2.room.slots landed.marks ring (ap (λ count. old.flagged + count) c.landed_flags.ensures)
 
 pub invariant_of-self-in-Landed : goal.invariant_of-self-in-Landed
 invariant_of-self-in-Landed c =
