@@ -1,2 +1,5 @@
+pub mod CountLemmas
+pub mod RowLemmas
+pub mod LevelLemmas
 pub mod LandingLemmas
 pub mod LawLemmas

@@ -1,6 +1,6 @@
 -- What it means that the write at a place in flight lands.
-use Rattle.std.specs.Prelude.{ℕ, Bool, true, false, if◌then◌else◌, map, Option, Some, None, slice_get, remove}
-use Rattle.lane_model.specs.Order.{may_land}
+use Rattle.std.specs.Prelude.{ℕ, Bool, true, false, if◌then◌else◌, List, map, Option, Some, None, slice_get, remove}
+use Rattle.order_rules.specs.Order.{Order, may_land}
 use Rattle.posted_queue.specs.Flight.{Flight}
 use Rattle.posted_queue.specs.declared.LandAnswer.{LandAnswer}
 use Rattle.posted_queue.specs.declared.LandAnswer.TheVariants.{Landed, Blocked, Nothing}
@@ -11,11 +11,11 @@ answer_for None lands = Nothing
 answer_for (Some write) true = Landed write
 answer_for (Some write) false = Blocked
 
--- the answer to a landing at a place, where each write has its kind by `order`
-abbrev pub land_answer : {W : Type 0} → (W → ℕ) → Flight W → ℕ → LandAnswer W
+-- the answer to a landing at a place, where each write has its order by `order`
+abbrev pub land_answer : {W : Type 0} → (W → Order) → Flight W → ℕ → LandAnswer W
 land_answer order flight place = answer_for (slice_get flight.writes place) (may_land (map order flight.writes) place)
 
 -- what is in flight after that landing: a write that may land is taken out, and else all stays
-abbrev pub after_landing : {W : Type 0} → (W → ℕ) → Flight W → ℕ → Flight W
+abbrev pub after_landing : {W : Type 0} → (W → Order) → Flight W → ℕ → Flight W
 after_landing order flight place =
     if may_land (map order flight.writes) place then record { writes = remove flight.writes place; spare = flight.spare } else flight

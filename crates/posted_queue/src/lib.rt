@@ -1,31 +1,46 @@
 //! The posted writes of one direction of a bridge that are in flight: which of them may land, and what then stays.
 //!
 //! A posted write gets no answer, so a bridge may let some of them overtake others. Which, says PCI Express Base 4.0,
-//! section 2.4: a write with relaxed ordering may pass each earlier write, a strict one passes none.
+//! section 2.4: a write with relaxed ordering may pass each earlier write, a strict one passes none of its own traffic
+//! class, and between different traffic classes no order holds.
 //!
 //! Room for a write is promised before it is posted, so that posting, landing and discarding take no memory.
 #![tactic(auto)]
 
-ghost use Rattle.std.specs.Prelude.{◌≡◌, ℕ, ◌-◌, ◌<◌, ◌≤◌, ◌↔◌, ◌==◌, ◌&&◌, not, nat_lt, List, map, length, IsSome, IsTrue, OnOk, OnErr, option_copied, slice_get};
-ghost use Rattle.lane_model.specs.Order.{relaxed, may_land};
+ghost use Rattle.std.specs.Prelude.{◌≡◌, ◌<◌, ◌≤◌, ◌↔◌, ◌==◌, length, IsSome, IfSome, OnOk, OnErr, option_copied, slice_get};
+ghost use Rattle.order_rules.specs.Order.{Order};
+ghost use Rattle.posted_queue.specs.Waiting.{class_awaited as awaited};
 
+use crate::block::Block;
+use crate::counted::Counted;
+use crate::level::Level;
+use crate::part::Part;
 use order_rules::{STRICT, posted_table};
 use std::alloc::{AllocError, Global};
-use std::collections::VecDeque;
 use std::marker::Model;
 
+mod block;
+mod counted;
 pub mod laws;
+mod level;
+mod part;
+mod row;
 #[cfg(test)]
 mod tests;
 
-/// A posted write that has a kind, by which bridges order it.
+/// A posted write that has a kind and a traffic class, by which bridges order it.
 pub trait Ordered {
-    ghost order: { Self → ℕ };
+    ghost order: { Self → Order };
 
     /// The write's kind: [`order_rules::RELAXED`] or [`order_rules::STRICT`].
     fn kind(&self) -> usize
-        ensures value { result ≡ order self.now }
+        ensures value { result ≡ (order self.now).kind }
         ensures small { result < 2 };
+
+    /// The write's traffic class, below 8. A write of which nothing is said has class 0.
+    fn class(&self) -> u32
+        ensures value { result ≡ (order self.now).class }
+        ensures small { result < 8 };
 }
 
 /// What came of an attempt to land a write.
@@ -39,25 +54,25 @@ pub enum LandAnswer<W> {
     Nothing,
 }
 
+// Three levels of 64 parts over blocks of 64 writes: some 16 million writes.
+type Blocks<W> = Level<W, Level<W, Level<W, Block<W>>>>;
+
 /// The posted writes in flight, in the order in which they were posted, and the room that is promised for more.
-///
-/// A contract sees a list of writes and a number of promised ones, `spare`.
 #[derive(Drop)]
 pub struct Queue<W: Ordered> {
-    writes: VecDeque<W>,
+    blocks: Counted<W, Blocks<W>>,
     spare: usize,
 }
 
 impl<W: Ordered> Model for Queue<W> {
-    ghost use Rattle.std.specs.Prelude.{◌+◌, ◌≤◌};
-    ghost use Rattle.std.specs.VecDeque.{deque_len, deque_capacity};
+    ghost use Rattle.std.specs.Prelude.{◌+◌, ◌≤◌, ◌<◌, ◌^◌, length};
     ghost use Rattle.posted_queue.specs.Flight.{Flight};
 
     ghost Value = { Flight W };
 
-    ghost view = { λ queue. record { writes = queue.writes.items; spare = queue.spare } };
+    ghost view = { λ queue. record { writes = queue.blocks.writes; spare = queue.spare } };
 
-    ghost invariant = { λ queue. deque_len queue.writes + queue.spare ≤ deque_capacity queue.writes };
+    ghost invariant = { λ queue. (queue.spare ≤ queue.blocks.spare) × (length queue.blocks.writes + queue.spare < 2 ^ 64) };
 }
 
 impl<W: Ordered> Queue<W> {
@@ -69,7 +84,7 @@ impl<W: Ordered> Queue<W> {
         ensures { result ≡ nothing_in_flight }
     {
         Queue {
-            writes: VecDeque::new(alloc),
+            blocks: Counted::empty(alloc),
             spare: 0,
         }
     }
@@ -78,14 +93,14 @@ impl<W: Ordered> Queue<W> {
     pub fn len(&self) -> usize
         ensures { result ≡ length self.now.writes }
     {
-        self.writes.len()
+        self.blocks.len()
     }
 
     /// Whether no write is in flight.
     pub fn is_empty(&self) -> bool
         ensures { result ≡ (length self.now.writes == 0) }
     {
-        self.writes.is_empty()
+        self.blocks.len() == 0
     }
 
     /// The write at this place in flight, counted from 0 for the one that was posted first. `None` where no more
@@ -94,18 +109,25 @@ impl<W: Ordered> Queue<W> {
         ensures write { option_copied result ≡ slice_get self.now.writes place }
         ensures within { IsSome result ↔ (place < length self.now.writes) }
     {
-        self.writes.get(place)
+        self.blocks.get(place)
     }
 
     /// Promises room for `more` writes, on top of those that are promised already.
     ///
-    /// An `Err` comes only from want of memory, and leaves the queue as it was.
+    /// An `Err` comes only from want of memory, and leaves the queue as it was. A queue has memory for some 16 million
+    /// writes at most.
     pub fn promise(&mut self, more: usize) -> Result<(), AllocError>
         ensures ok { OnOk result (self.new ≡ promised self.old more) }
         ensures err { OnErr result (self.new ≡ self.old) }
     {
         let spare = self.spare.checked_add(more).ok_or(AllocError)?;
-        self.writes.reserve(spare)?;
+        self.blocks.len().checked_add(spare).ok_or(AllocError)?;
+        if self.blocks.room() < spare {
+            self.blocks.reserve(spare)?;
+        }
+        if self.blocks.room() < spare {
+            return Err(AllocError);
+        }
         self.spare = spare;
         Ok(())
     }
@@ -123,40 +145,31 @@ impl<W: Ordered> Queue<W> {
         requires { 0 < self.old.spare }
         ensures { self.new ≡ posted self.old write }
     {
-        self.writes.push_back_reserved(write);
+        self.blocks.push(write);
         self.spare -= 1;
     }
 
     /// Lands the write at this place in flight, counted from 0 for the one that was posted first. It is taken out and
-    /// returned if it may pass each write before it, as one at the front always may: relaxed writes may, strict ones
-    /// may not (PCI Express Base 4.0, section 2.4).
+    /// returned if it may pass each write before it, as one at the front always may: a relaxed write may, and a strict
+    /// one may where no write before it has its traffic class (PCI Express Base 4.0, section 2.4).
     ///
     /// [`LandAnswer::Blocked`] comes where it may not, and [`LandAnswer::Nothing`] where no more than `place` writes
     /// are in flight. Both leave the queue as it was. What was promised stays promised.
     ///
-    /// At the front this takes constant time. Elsewhere the shorter side of the queue moves, and no write before
-    /// the place is looked at.
+    /// It takes a few hundred turns of loops at most, whatever the place and however many writes are in flight, and a
+    /// few at the front.
     pub fn land(&mut self, place: usize) -> LandAnswer<W>
         ensures answer { result ≡ land_answer W.order self.old place }
         ensures after { self.new ≡ after_landing W.order self.old place }
     {
-        if self.is_held_back(place) {
+        let Some(write) = self.blocks.get(place) else {
+            return LandAnswer::Nothing;
+        };
+        let waits_for = class_awaited(write);
+        let Some(write) = self.blocks.take(place, waits_for) else {
             return LandAnswer::Blocked;
-        }
-        match self.writes.remove(place) {
-            Some(write) => LandAnswer::Landed(write),
-            None => LandAnswer::Nothing,
-        }
-    }
-
-    // Whether the write at this place may not pass those before it. Past the end nothing is held back.
-    fn is_held_back(&self, place: usize) -> bool
-        ensures { result ≡ (nat_lt place (length self.now.writes) && not (may_land (map W.order self.now.writes) place)) }
-    {
-        match self.writes.get(place) {
-            Some(write) if place > 0 => !may_pass_all(write.kind()),
-            _ => false,
-        }
+        };
+        LandAnswer::Landed(write)
     }
 
     /// Drops all writes in flight. What was promised stays promised.
@@ -165,14 +178,19 @@ impl<W: Ordered> Queue<W> {
         W: Drop,
         ensures { self.new ≡ discarded self.old }
     {
-        self.writes.clear();
+        while self.blocks.len() > 0 {
+            let _write = self.blocks.take(0, None);
+        }
     }
 }
 
-// Whether a write of this kind may pass each other: if it may pass a strict one, it may pass any.
-fn may_pass_all(kind: usize) -> bool
-    requires { kind < 2 }
-    ensures { result ≡ (kind == relaxed) }
+// The class of which this write passes no earlier one: none where it may pass a strict one, and so any.
+fn class_awaited<W: Ordered>(write: &W) -> Option<usize>
+    ensures class { result ≡ awaited (W.order write.now) }
+    ensures small { IfSome result (λ class. class < 8) }
 {
-    posted_table().may_pass(kind, STRICT)
+    if posted_table().may_pass(write.kind(), STRICT) {
+        return None;
+    }
+    Some(write.class() as usize)
 }

@@ -1,5 +1,0 @@
-use Rattle.posted_queue.proofs.LawLemmas.{may_land-relaxed_or_first}
-use Rattle.posted_queue.proofs.laws.relaxed_or_first_lands.Goals as goal
-
-pub returns : goal.returns
-returns c = may_land-relaxed_or_first

@@ -1,0 +1,86 @@
+//! The lowest part of a queue: up to 64 writes in one ring of memory.
+
+ghost use Rattle.std.specs.Prelude.{◌≡◌, ◌≤◌, length, take};
+ghost use Rattle.posted_queue.specs.Rows.{is_held_back};
+
+use crate::Ordered;
+use crate::part::Part;
+use std::alloc::{AllocError, Global};
+use std::collections::VecDeque;
+use std::marker::Model;
+
+/// How many writes a block holds at most.
+pub const BLOCK_MOST: usize = 64;
+
+/// Up to [`BLOCK_MOST`] writes.
+#[derive(Drop)]
+pub struct Block<W: Ordered> {
+    writes: VecDeque<W>,
+}
+
+impl<W: Ordered> Model for Block<W> {
+    ghost use Rattle.std.specs.Prelude.{◌-◌, min};
+    ghost use Rattle.std.specs.VecDeque.{deque_len, deque_capacity};
+    ghost use Rattle.posted_queue.specs.Flight.{Flight};
+
+    ghost Value = { Flight W };
+
+    ghost view = { λ block. record { writes = block.writes.items; spare = min 64 (deque_capacity block.writes) - deque_len block.writes } };
+}
+
+impl<W: Ordered> Part<W> for Block<W> {
+    ghost flight = { λ block. block };
+
+    fn empty(alloc: Global) -> Self {
+        Block {
+            writes: VecDeque::new(alloc),
+        }
+    }
+
+    fn room(&self) -> usize {
+        self.writes
+            .capacity()
+            .min(BLOCK_MOST)
+            .saturating_sub(self.writes.len())
+    }
+
+    fn get(&self, place: usize) -> Option<&W> {
+        self.writes.get(place)
+    }
+
+    fn push(&mut self, write: W) {
+        self.writes.push_back_reserved(write);
+    }
+
+    fn take(&mut self, place: usize, waits_for: Option<usize>) -> Option<W> {
+        if has_class_before(&self.writes, place, waits_for) {
+            return None;
+        }
+        self.writes.remove(place)
+    }
+
+    fn reserve(&mut self, more: usize) -> Result<(), AllocError> {
+        self.writes
+            .reserve(more.min(BLOCK_MOST.saturating_sub(self.writes.len())))
+    }
+}
+
+// Whether one of the writes before this place has the class that is waited for.
+fn has_class_before<W: Ordered>(
+    writes: &VecDeque<W>,
+    place: usize,
+    waits_for: Option<usize>,
+) -> bool
+    requires { place ≤ length writes.now.items }
+    ensures { result ≡ is_held_back W.order waits_for (take place writes.now.items) }
+{
+    let Some(class) = waits_for else {
+        return false;
+    };
+    for index in 0..place {
+        if writes[index].class() as usize == class {
+            return true;
+        }
+    }
+    false
+}

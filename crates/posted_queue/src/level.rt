@@ -1,0 +1,82 @@
+//! A part of a queue that is made of parts.
+
+use crate::Ordered;
+use crate::counted::Counted;
+use crate::part::Part;
+use crate::row::{
+    Taken, find_spot, first_with_room, move_last, push_at, reserve_from, room_from, take_from,
+};
+use std::alloc::{AllocError, Global};
+use std::marker::Model;
+
+/// A row of up to 64 parts.
+#[derive(Drop)]
+pub struct Level<W: Ordered, P: Part<W>> {
+    row: Vec<Counted<W, P>>,
+    last: usize,
+    room: usize,
+}
+
+impl<W: Ordered, P: Part<W>> Model for Level<W, P> {
+    ghost use Rattle.posted_queue.specs.Flight.{Flight};
+    ghost use Rattle.posted_queue.specs.Rows.{writes_in};
+    ghost use Rattle.posted_queue.specs.Levels.{IsLevel};
+
+    ghost Value = { Flight W };
+
+    ghost view = { λ level. record { writes = writes_in level.row.items; spare = level.room } };
+
+    ghost invariant = { λ level. IsLevel level.row.items level.last level.room };
+}
+
+impl<W: Ordered, P: Part<W>> Part<W> for Level<W, P> {
+    ghost flight = { λ level. level };
+
+    fn empty(alloc: Global) -> Self {
+        Level {
+            row: Vec::new(alloc),
+            last: 0,
+            room: 0,
+        }
+    }
+
+    fn room(&self) -> usize {
+        self.room
+    }
+
+    fn get(&self, place: usize) -> Option<&W> {
+        let spot = find_spot(&self.row, place, None)?;
+        self.row[spot.part].get(spot.place)
+    }
+
+    fn push(&mut self, write: W) {
+        self.last = first_with_room(&self.row, self.last);
+        push_at(&mut self.row, self.last, write);
+        self.room -= 1;
+    }
+
+    fn take(&mut self, place: usize, waits_for: Option<usize>) -> Option<W> {
+        let Taken {
+            write,
+            part,
+            gained,
+        } = take_from(&mut self.row, place, waits_for)?;
+        if part >= self.last {
+            self.room = self.room.saturating_add(gained);
+            return Some(write);
+        }
+        if self.row[part].len() > 0 {
+            return Some(write);
+        }
+        let room = move_last(&mut self.row, part);
+        self.room = self.room.saturating_add(room);
+        self.last -= 1;
+        Some(write)
+    }
+
+    fn reserve(&mut self, more: usize) -> Result<(), AllocError> {
+        let outcome = reserve_from(&mut self.row, self.last, more);
+        self.room = room_from(&self.row, self.last);
+        outcome
+    }
+}

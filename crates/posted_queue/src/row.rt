@@ -1,0 +1,195 @@
+//! A row of counted parts: those in use, and behind them emptied ones that are kept for later.
+
+ghost use Rattle.std.specs.Prelude.{◌≡◌, ◌+◌, ◌<◌, ◌≤◌, ◌^◌, ◌⊎◌, suc, true, false, [], ◌∷◌, ◌++◌, length, min, take, drop, remove, slice_get, slice_index_or, IfNone, IfSome, OnSome, MatchOption, is_none, vec_len, vec_capacity, OnOk};
+ghost use Rattle.std.specs.Option.{ForSome};
+ghost use Rattle.posted_queue.specs.Flight.{Flight};
+ghost use Rattle.posted_queue.specs.Rows.{is_held_back, writes_in, room_in, part_at, IsSpot, KeepsWrites, TakesOut, MovesLast};
+
+use crate::Ordered;
+use crate::block::BLOCK_MOST;
+use crate::counted::Counted;
+use crate::part::Part;
+use std::alloc::AllocError;
+
+/// How many parts a row has at most.
+pub const ROW_MOST: usize = 64;
+
+/// Where a write stands in a row: the number of its part, and its place within that part.
+#[derive(Clone, Copy)]
+pub struct Spot {
+    pub part: usize,
+    pub place: usize,
+}
+
+/// Where the write at this place stands. `None` past the last write, and where one of the parts before has a write
+/// of the class that is waited for.
+pub fn find_spot<W: Ordered, P: Part<W>>(
+    row: &[Counted<W, P>],
+    place: usize,
+    waits_for: Option<usize>,
+) -> Option<Spot>
+    requires { ForSome waits_for (λ class. class < 8) }
+    ensures spot { IfSome result (IsSpot row.now place) }
+    ensures free { IfSome result (λ spot. is_held_back W.order waits_for (writes_in (take spot.part row.now)) ≡ false) }
+    ensures none { IfNone result ((length (writes_in row.now) ≤ place) ⊎ (is_held_back W.order waits_for (take place (writes_in row.now)) ≡ true)) }
+{
+    let mut left = place;
+    for (index, part) in row.iter().enumerate() {
+        if left < part.len() {
+            return Some(Spot {
+                part: index,
+                place: left,
+            });
+        }
+        if part.holds_back(waits_for) {
+            return None;
+        }
+        left -= part.len();
+    }
+    None
+}
+
+/// The first part from this one on that has room.
+pub fn first_with_room<W: Ordered, P: Part<W>>(row: &[Counted<W, P>], from: usize) -> usize
+    requires { 0 < room_in (drop from row.now) }
+    ensures low { from ≤ result }
+    ensures high { result < length row.now }
+    ensures room { 0 < (part_at row.now result).spare }
+    ensures all { room_in (drop result row.now) ≡ room_in (drop from row.now) }
+{
+    let mut index = from;
+    while row[index].room() == 0 {
+        index += 1;
+    }
+    index
+}
+
+/// How much room the parts from this one on have, or the largest number where they have more.
+pub fn room_from<W: Ordered, P: Part<W>>(row: &[Counted<W, P>], from: usize) -> usize
+    ensures { result ≡ min usize.MAX (room_in (drop from row.now)) }
+{
+    let mut room: usize = 0;
+    for index in from..row.len() {
+        room = room.saturating_add(row[index].room());
+    }
+    room
+}
+
+/// Puts a write behind those of a part, where the parts behind that have none.
+pub fn push_at<W: Ordered, P: Part<W>>(row: &mut Vec<Counted<W, P>>, number: usize, write: W)
+    requires there { number < length row.old.items }
+    requires room { 0 < (part_at row.old.items number).spare }
+    requires behind { writes_in (drop (suc number) row.old.items) ≡ [] }
+    requires countable { length (writes_in row.old.items) + 1 < 2 ^ 64 }
+    ensures writes { writes_in row.new.items ≡ writes_in row.old.items ++ write ∷ [] }
+    ensures room { room_in (drop number row.new.items) + 1 ≡ room_in (drop number row.old.items) }
+    ensures behind { writes_in (drop (suc number) row.new.items) ≡ [] }
+    ensures len { length row.new.items ≡ length row.old.items }
+{
+    let part = &mut row[number];
+    part.push(write);
+}
+
+/// A write that was taken out of a row, the number of the part that it stood in, and how much room that part gained.
+pub struct Taken<W> {
+    pub write: W,
+    pub part: usize,
+    pub gained: usize,
+}
+
+/// Takes out the write at this place, unless it waits for a class and a write of that class stands before it.
+pub fn take_from<W: Ordered, P: Part<W>>(
+    row: &mut Vec<Counted<W, P>>,
+    place: usize,
+    waits_for: Option<usize>,
+) -> Option<Taken<W>>
+    requires there { place < length (writes_in row.old.items) }
+    requires class { ForSome waits_for (λ class. class < 8) }
+    ensures held_back { is_none result ≡ is_held_back W.order waits_for (take place (writes_in row.old.items)) }
+    ensures rests { IfNone result (row.new.items ≡ row.old.items) }
+    ensures write { IfSome result (λ taken. slice_get (writes_in row.old.items) place ≡ Some taken.write) }
+    ensures taken { IfSome result (λ taken. TakesOut row.old.items row.new.items place taken.part taken.gained) }
+{
+    let spot = find_spot(row, place, waits_for)?;
+    let part = &mut row[spot.part];
+    let before = part.room();
+    let write = part.take(spot.place, waits_for)?;
+    let gained = part.room() - before;
+    Some(Taken {
+        write,
+        part: spot.part,
+        gained,
+    })
+}
+
+/// Makes room for `more` writes in the parts from this one on, by parts that are added where need be, or for as many
+/// as fit where they are fewer.
+pub fn reserve_from<W: Ordered, P: Part<W>>(
+    row: &mut Vec<Counted<W, P>>,
+    from: usize,
+    more: usize,
+) -> Result<(), AllocError>
+    requires { from ≤ length row.old.items }
+    ensures { KeepsWrites row.old.items row.new.items }
+{
+    let mut room: usize = 0;
+    for number in from..ROW_MOST {
+        if room >= more {
+            return Ok(());
+        }
+        room = room.saturating_add(reserve_at(row, number, more - room)?);
+    }
+    Ok(())
+}
+
+// Makes room for `more` writes in this part, or for as many as fit, and says how much room it has. The part is added
+// where it isn't there. Behind the first part, no block is made smaller than it can be.
+fn reserve_at<W: Ordered, P: Part<W>>(
+    row: &mut Vec<Counted<W, P>>,
+    number: usize,
+    more: usize,
+) -> Result<usize, AllocError>
+    requires { number ≤ length row.old.items }
+    ensures kept { KeepsWrites row.old.items row.new.items }
+    ensures there { OnOk result (number < length row.new.items) }
+{
+    add_missing_part(row, number)?;
+    let wanted = if number == 0 {
+        more
+    } else {
+        more.max(BLOCK_MOST)
+    };
+    let part = &mut row[number];
+    part.reserve(wanted)?;
+    Ok(part.room())
+}
+
+// Adds an empty part where this one isn't there.
+fn add_missing_part<W: Ordered, P: Part<W>>(
+    row: &mut Vec<Counted<W, P>>,
+    number: usize,
+) -> Result<(), AllocError>
+    requires { number ≤ length row.old.items }
+    ensures kept { KeepsWrites row.old.items row.new.items }
+    ensures there { OnOk result (number < length row.new.items) }
+{
+    if number < row.len() {
+        return Ok(());
+    }
+    row.reserve(1)?;
+    let part = Counted::empty(*row.allocator());
+    row.push_reserved(part);
+    Ok(())
+}
+
+/// Moves a part with no write behind all others, and says how much room it has.
+pub fn move_last<W: Ordered, P: Part<W>>(row: &mut Vec<Counted<W, P>>, number: usize) -> usize
+    requires there { number < length row.old.items }
+    requires none { (part_at row.old.items number).writes ≡ [] }
+    ensures { MovesLast row.old.items row.new.items number result }
+{
+    let part = row.remove(number);
+    let room = part.room();
+    row.push_reserved(part);
+    room
+}
