@@ -26,7 +26,7 @@ take_both n m xs =
 abbrev pub bytes_at : Inside → List ℕ
 bytes_at l = bytes_of (entry_of (lane_seen l) l.got)
 
--- what is known of a place that is copied from, and of the bytes copied so far
+-- what is known of a slot that is copied from, and of the bytes copied so far
 pub record CopiesFrom (l : Inside) (place : Slot) (buffer : List ℕ) : Type 0 where
   pub len : place.len ≡ length (bytes_at l)
   pub copied : buffer ≡ take (chunk_size * l.part + chunk_size) (bytes_at l)

@@ -1,4 +1,5 @@
--- Landing: what the queue of writes in flight answers is what the model's lane answers, and the ring law holds after it.
+-- Landing: what the queue of writes in flight answers is what the model's lane answers, and the ring law holds after
+-- it.
 use Rattle.std.proofs.Common.{◌≡◌, ℕ, zero, suc, ◌+◌, ◌%◌, ◌<◌, ◌≤◌, ◌⊎◌, Bool, true, false, List, [], ◌∷◌, Option, Some, None, length, map, take, drop, get_or, set, slice_get, option_map, refl, sym, ap, ◌∙◌, subst, inl, inr, arith, mod-lt, All, Contains}
 use Rattle.std.specs.List.{remove}
 use Rattle.std.proofs.lemmas.Bool.{cases_lt, cond-true, cond-false, eqb-true, or_cases}
@@ -100,7 +101,7 @@ pub record Lands (lane : Lane) (place : ℕ) (mark : Write) : Type 0 where
   pub counts : lane.flagged + flags_landed mark ≤ length lane.sent
   pub law : HoldsRingLaw (after_landing lane mark (remove lane.flight place))
 
--- the room of an entry's place
+-- the room of an entry's slot
 room_of_place : (lane : Lane) (n : ℕ) → n < length lane.sent → HoldsRingLaw lane → length (bytes_of (entry_of lane n)) ≤ length (get_or lane.ring (n % length lane.ring) blank_slot).payload
 room_of_place lane n below law =
     let h = law.2 in

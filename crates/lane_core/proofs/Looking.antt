@@ -1,4 +1,4 @@
--- What a receiver reads in the place of its next entry.
+-- What a receiver reads in the slot of its next entry.
 use Rattle.std.proofs.Common.{◌≡◌, ℕ, ◌%◌, ◌<◌, length, map, get_or, sym, ap, ◌∙◌, inl, inr, arith}
 use Rattle.std.proofs.lemmas.Bool.{cases_lt}
 use Rattle.std.proofs.lemmas.List.{get_or-map}
@@ -11,7 +11,7 @@ use Rattle.lane_core.specs.Seen.{lane_seen}
 use Rattle.lane_core.specs.declared.lane.Lane.TheInside.{Inside}
 use Rattle.lane_core.specs.declared.slot.Slot.{Slot}
 
--- the place that was read is the model's
+-- the slot that was read is the model's
 pub read_place : (l : Inside) (n position : ℕ) (place : Slot) → position ≡ n % l.entries → position < length l.ring.items → place ≡ get_or l.ring.items position place
     → slot_of (lane_seen l) n ≡ place_seen place
 read_place l n position place at within read =

@@ -1,7 +1,7 @@
 -- The law of a lane's ring: who owns each slot at each moment, and what stands there.
 --
--- The law holds of a lane from the start of its session until the receiver forgets the session. It speaks of relaxed and of
--- strict lanes at once: only which landings may happen tells them apart.
+-- The law holds of a lane from the start of its session until the receiver forgets the session. It speaks of relaxed
+-- and of strict lanes at once: only which landings may happen tells them apart.
 use Rattle.std.specs.Prelude.{◌≡◌, ℕ, suc, ◌+◌, ◌-◌, ◌*◌, ◌%◌, ◌<◌, ◌≤◌, true, List, [], ◌∷◌, ◌++◌, length, drop, take, slice_index_or, if◌then◌else◌, nat_lt, ◌⊎◌, Contains}
 use Rattle.lane_model.specs.Ring.{tail_of}
 use Rattle.lane_model.specs.Lane.{Entry, GoesDown, Field, Chunk, Length, Version, Write, Data, Flag, Bell, Slot, blank_slot, Lane, bytes_of, left_of, chunk_of, chunk_size, count_from, copies_of, data_of, writes_of, flags_of, version_of, entry_of, slot_of}
@@ -50,8 +50,8 @@ pub record StandsWhole (slot : Slot) (n : ℕ) (entry : Entry) : Type 0 where
   pub ver : slot.ver ≡ version_of n
   pub flags : slot.flags ≡ flags_of entry
 
--- The law, `lost` being the writes that were posted, or were in flight, when the link was lost and will not land any more, and
--- `lost_back` the same of index writes.
+-- The law, `lost` being the writes that were posted, or were in flight, when the link was lost and will not land any
+-- more, and `lost_back` the same of index writes.
 pub record RingLaw (lost : List Write) (lost_back : List ℕ) (lane : Lane) : Type 0 where
   -- the ring has its slots, each with room for the largest payload, and each frame fits
   pub two_entries : 2 ≤ lane.entries
@@ -94,9 +94,9 @@ pub data Owner : Type 0 where
   Sender : Owner
   -- writes to it are on their way
   InFlight : Owner
-  -- its flags say DONE and the receiver has not taken it
+  -- its flags say DONE and the receiver has not copied it whole
   Landed : Owner
-  -- the receiver has taken it
+  -- the receiver has copied it and has not given it back
   Receiver : Owner
   -- the receiver has given it back and the sender has not heard of it
   Returning : Owner
