@@ -7,3 +7,4 @@ pub mod Calls
 pub mod Links
 pub mod Fresh
 pub mod Views
+pub mod Lending

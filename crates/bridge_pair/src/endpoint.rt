@@ -3,6 +3,7 @@
 ghost use Rattle.std.specs.Prelude.{◌≡◌, ◌+◌, ◌<◌, ◌≤◌, Contains, IfOk, IsOk, OnOk, OnErr, length, option_map, replicate, slice_get, slice_index, slice_set};
 ghost use Rattle.bridge_pair.specs.Ends.{HasPlace, IsEnd, after_answer, after_arrival, after_posting, fresh_end, label_landed, stored_at};
 ghost use Rattle.bridge_pair.specs.Flights.{Flying, flying_order};
+ghost use Rattle.bridge_pair.specs.declared.flying.Arrival.TheVariants.{AtAddress};
 ghost use Rattle.bridge_pair.specs.Pages.{PagesGrow};
 ghost use Rattle.bridge_regs.specs.Doorbell.{with_pending};
 ghost use Rattle.host_memory.specs.Memory.{ArePromised, Touches, bytes_at, word_at, word_bytes};
@@ -10,6 +11,7 @@ ghost use Rattle.posted_queue.specs.Flight.{discarded, given_back, promised};
 ghost use Rattle.posted_queue.specs.Landing.{after_landing, land_answer};
 
 use crate::flying::{Arrival, FlyingWrite};
+use crate::write::WriteBytes;
 use bridge_regs::{Bells, Pads};
 use host_memory::Memory;
 use posted_queue::{LandAnswer, Queue};
@@ -39,6 +41,9 @@ impl Model for Endpoint {
 }
 
 impl Endpoint {
+    ghost use Rattle.std.specs.Borrow.{sem};
+    ghost use Rattle.bridge_pair.specs.Lending.{LendsBells};
+
     /// An end with `len` bytes of memory, to which nothing has come.
     pub fn new(alloc: Global, len: u64) -> Result<Endpoint, AllocError>
         ensures { IfOk result (λ end. end ≡ fresh_end len) }
@@ -93,6 +98,7 @@ impl Endpoint {
     pub fn land(&mut self, place: usize) -> LandAnswer<Label>
         ensures answer { result ≡ label_landed (land_answer flying_order self.old.coming place) }
         ensures after { self.new ≡ after_answer (record self.old { coming = after_landing flying_order self.old.coming place }) (land_answer flying_order self.old.coming place) }
+        ensures size { length self.new.memory.bytes ≡ length self.old.memory.bytes }
     {
         match self.coming.land(place) {
             LandAnswer::Nothing => LandAnswer::Nothing,
@@ -108,13 +114,23 @@ impl Endpoint {
     // What arrives is stored, or sets its register.
     fn arrive(&mut self, write: FlyingWrite)
         requires { HasPlace self.old.memory write.arrival }
-        ensures { self.new ≡ after_arrival self.old write.arrival }
+        ensures after { self.new ≡ after_arrival self.old write.arrival }
+        ensures size { length self.new.memory.bytes ≡ length self.old.memory.bytes }
     {
         match write.arrival {
-            Arrival::AtAddress { at, bytes } => self.memory.write(at, bytes.as_slice()),
+            Arrival::AtAddress { at, bytes } => self.store(at, bytes),
             Arrival::AtPad { index, value } => self.pads.set(index, value),
             Arrival::AtBell { bit } => self.bells.ring(bit),
         }
+    }
+
+    // Bytes that arrived are stored.
+    fn store(&mut self, at: u64, bytes: WriteBytes)
+        requires { HasPlace self.old.memory (AtAddress at bytes) }
+        ensures after { self.new ≡ after_arrival self.old (AtAddress at bytes) }
+        ensures size { length self.new.memory.bytes ≡ length self.old.memory.bytes }
+    {
+        self.write(at, bytes.as_slice());
     }
 
     pub fn coming_count(&self) -> usize
@@ -155,7 +171,8 @@ impl Endpoint {
     pub fn write(&mut self, at: u64, bytes: &[u8])
         requires within { at + length bytes.now ≤ length self.old.memory.bytes }
         requires promised { ArePromised at (length bytes.now) self.old.memory.promised }
-        ensures { self.new ≡ record self.old { memory = stored_at at bytes.now self.old.memory } }
+        ensures after { self.new ≡ record self.old { memory = stored_at at bytes.now self.old.memory } }
+        ensures size { length self.new.memory.bytes ≡ length self.old.memory.bytes }
     {
         self.memory.write(at, bytes);
     }
@@ -177,6 +194,13 @@ impl Endpoint {
         ensures { result ≡ slice_index self.now.pads index }
     {
         self.pads.get(index)
+    }
+
+    pub fn bells(&mut self) -> &mut Bells
+        ensures* lends { sem 𝓛 (LendsBells self.entry result) }
+        ensures value { result.now ≡ self.old.bells }
+    {
+        &mut self.bells
     }
 
     pub fn set_pads(&mut self, pads: Pads)

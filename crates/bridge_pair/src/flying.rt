@@ -2,6 +2,7 @@
 
 ghost use Rattle.std.specs.Prelude.{◌≡◌, ◌<◌};
 ghost use Rattle.bridge_pair.specs.Flights.{Translates, arrival_of, flying_of};
+ghost use Rattle.bridge_pair.specs.Writes.{IsTarget};
 ghost use Rattle.plan_model.specs.Declared.{IsPair};
 ghost use Rattle.plan_model.specs.Plans.{side_plan as side_plan_of};
 
@@ -61,7 +62,8 @@ impl FlyingWrite {
     pub fn of_write(plan: &PairPlan, side: Side, write: Write) -> FlyingWrite
         requires declared { IsPair plan.now }
         requires translates { Translates plan.now side write.target }
-        ensures { result ≡ flying_of plan.now side write }
+        ensures value { result ≡ flying_of plan.now side write }
+        ensures target { IsTarget write.target }
     {
         let Write { label, target } = write;
         FlyingWrite {

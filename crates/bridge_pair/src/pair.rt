@@ -53,6 +53,8 @@ impl Pair {
     ghost use Rattle.bridge_pair.specs.Bridge.{Bridge, IsBook, IsBridge, bells_of, book_of, bytes_of, flight_of, pads_of, pages_of, with_book, with_bytes, with_flight, with_pages};
     ghost use Rattle.bridge_pair.specs.Calls.{HasPages, after_land, after_post, landing};
     ghost use Rattle.bridge_pair.specs.Ends.{label_landed};
+    ghost use Rattle.bridge_pair.specs.Lending.{LendsBellsOf};
+    ghost use Rattle.std.specs.Borrow.{sem};
     ghost use Rattle.bridge_pair.specs.Links.{after_clean, after_cut, after_drop, after_enable, after_train};
 
     /// The plan of the pair, which never changes. The clause `law` has what is so of every pair: its plan is one that a
@@ -242,6 +244,17 @@ impl Pair {
         match side {
             Side::A => self.a.pad(index),
             Side::B => self.b.pad(index),
+        }
+    }
+
+    /// A side's doorbell: its pending and its masked bits.
+    pub fn bells(&mut self, side: Side) -> &mut Bells
+        ensures* lends { sem 𝓛 (LendsBellsOf self.entry side result) }
+        ensures value { result.now ≡ bells_of self.old side }
+    {
+        match side {
+            Side::A => self.a.bells(),
+            Side::B => self.b.bells(),
         }
     }
 
