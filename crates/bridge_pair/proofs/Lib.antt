@@ -1,1 +1,5 @@
+pub mod IndexWords
+pub mod OfferedPads
 pub mod Places
+pub mod Promises
+pub mod Sides

@@ -35,18 +35,25 @@ fresh_pads plan side = if plan.up then agreed_pads (side_plan plan (other_side s
 abbrev pub fresh_stores : PairPlan → Side → List Store
 fresh_stores plan side = if plan.up then fresh_index_words plan side else []
 
+-- a side's memory before anything is stored there
+abbrev pub zero_memory : PairPlan → Side → Contents
+zero_memory plan side = record { bytes = replicate (memory_size plan side) 0; promised = [] }
+
 -- a side's memory, of which these pages are promised
 abbrev pub fresh_memory : PairPlan → Side → List ℕ → Contents
 fresh_memory plan side pages = record { bytes = bytes_after (fresh_stores plan side) (replicate (memory_size plan side) 0); promised = pages }
 
-abbrev pub fresh_bridge : PairPlan → Both (List ℕ) → Bridge
-fresh_bridge plan pages =
+abbrev pub fresh_bridge_with : PairPlan → Both Contents → Bridge
+fresh_bridge_with plan memories =
     record {
       plan = plan;
       link = fresh_link plan.up;
       books = record { a = fresh_book plan A; b = fresh_book plan B };
       pads = record { a = fresh_pads plan A; b = fresh_pads plan B };
       bells = both_of quiet;
-      memories = record { a = fresh_memory plan A pages.a; b = fresh_memory plan B pages.b };
+      memories = memories;
       flights = both_of nothing_in_flight;
     }
+
+abbrev pub fresh_bridge : PairPlan → Both (List ℕ) → Bridge
+fresh_bridge plan pages = fresh_bridge_with plan (record { a = fresh_memory plan A pages.a; b = fresh_memory plan B pages.b })

@@ -8,3 +8,4 @@ pub mod Links
 pub mod Fresh
 pub mod Views
 pub mod Lending
+pub mod Words

@@ -177,6 +177,15 @@ impl Endpoint {
         self.memory.write(at, bytes);
     }
 
+    pub fn set_word(&mut self, at: u64, value: u32)
+        requires within { at + 4 ≤ length self.old.memory.bytes }
+        requires promised { ArePromised at 4 self.old.memory.promised }
+        ensures after { self.new ≡ record self.old { memory = stored_at at (word_bytes value) self.old.memory } }
+        ensures size { length self.new.memory.bytes ≡ length self.old.memory.bytes }
+    {
+        self.memory.set_u32(at, value);
+    }
+
     pub fn promise_range(&mut self, at: u64, len: u64) -> Result<(), AllocError>
         requires { at + len ≤ length self.old.memory.bytes }
         ensures rest { self.new ≡ record self.old { memory = record { bytes = self.old.memory.bytes; promised = self.new.memory.promised } } }

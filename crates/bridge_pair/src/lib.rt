@@ -14,11 +14,12 @@
 mod book;
 mod endpoint;
 mod flying;
+mod fresh;
 mod pair;
 mod plans;
 mod write;
 
 pub use book::SideBook;
 pub use pair::Pair;
-pub use plans::{receiving_ring, sending_ring, side_plan};
+pub use plans::{header_bytes, high_half, index_word_at, low_half, own_address, receiving_ring, sending_ring, side_plan};
 pub use write::{Target, Write, WriteBytes};

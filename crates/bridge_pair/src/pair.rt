@@ -5,7 +5,10 @@ ghost use Rattle.std.specs.Result.{result_err};
 ghost use Rattle.bridge_pair.specs.Flights.{Flying, Translates, arrival_of};
 ghost use Rattle.bridge_pair.specs.Pages.{PagesGrow};
 ghost use Rattle.bridge_regs.specs.Doorbell.{Doorbell};
-ghost use Rattle.host_memory.specs.Memory.{ArePromised, Touches, bytes_at, word_at, written};
+ghost use Rattle.bridge_pair.specs.Words.{AreFreshPages, AreIndexWordsPromised, TouchesIndexWord, WindowsFit};
+ghost use Rattle.host_memory.specs.Memory.{ArePromised, Touches, bytes_at, word_at, word_bytes, written};
+ghost use Rattle.memory_model.specs.Targets.{fresh_index_words};
+ghost use Rattle.step_kinds.specs.declared.names.Side.TheVariants.{A, B};
 ghost use Rattle.ledger_model.specs.Both.{at_side};
 ghost use Rattle.ledger_model.specs.Link.{clean_refusal, cut_refusal, drop_refusal, enable_refusal, train_refusal};
 ghost use Rattle.plan_model.specs.Declared.{IsPair};
@@ -16,9 +19,10 @@ ghost use Rattle.step_kinds.specs.Sides.{other_side};
 use crate::book::SideBook;
 use crate::endpoint::Endpoint;
 use crate::flying::FlyingWrite;
-use crate::plans::{class_among, classes_of};
+use crate::fresh::{fresh_book, fresh_endpoint};
+use crate::plans::{class_among, classes_of, copy_of, index_word_at, sending_ring, side_plan};
 use crate::write::Write;
-use bridge_regs::{Bells, Pads};
+use bridge_regs::Bells;
 use link_state::{Link, LinkRefusal, LinkState};
 use posted_queue::LandAnswer;
 use std::alloc::{AllocError, Global};
@@ -52,10 +56,49 @@ impl Model for Pair {
 impl Pair {
     ghost use Rattle.bridge_pair.specs.Bridge.{Bridge, IsBook, IsBridge, bells_of, book_of, bytes_of, flight_of, pads_of, pages_of, with_book, with_bytes, with_flight, with_pages};
     ghost use Rattle.bridge_pair.specs.Calls.{HasPages, after_land, after_post, landing};
-    ghost use Rattle.bridge_pair.specs.Ends.{label_landed};
+    ghost use Rattle.bridge_pair.specs.Ends.{bytes_after, label_landed};
+    ghost use Rattle.bridge_pair.specs.Fresh.{fresh_bridge, fresh_bridge_with, zero_memory};
     ghost use Rattle.bridge_pair.specs.Lending.{LendsBellsOf};
     ghost use Rattle.std.specs.Borrow.{sem};
     ghost use Rattle.bridge_pair.specs.Links.{after_clean, after_cut, after_drop, after_enable, after_train};
+
+    /// The pair of a plan before any step, with nothing in flight. Its memories are zero and its link is down; where the plan
+    /// says that the pair starts up, all is as after a whole handshake in session 1: the scratchpads have the peer's offer,
+    /// all queues are ready and joined on both sides, and the index words say that no entry is taken.
+    ///
+    /// # Errors
+    ///
+    /// [`AllocError`] from want of memory alone.
+    pub fn new(alloc: Global, plan: &PairPlan) -> Result<Pair, AllocError>
+        requires { IsPair plan.now }
+        ensures fresh { IfOk result (λ pair. pair ≡ fresh_bridge plan.now (record { a = pages_of pair A; b = pages_of pair B })) }
+        ensures pages_a { IfOk result (λ pair. AreFreshPages plan.now A (pages_of pair A)) }
+        ensures pages_b { IfOk result (λ pair. AreFreshPages plan.now B (pages_of pair B)) }
+    {
+        let mut pair = Pair::with_zeros(alloc, plan)?;
+        if plan.up {
+            pair.promise_index_words(Side::A)?;
+            pair.set_index_words(Side::A);
+            pair.promise_index_words(Side::B)?;
+            pair.set_index_words(Side::B);
+        }
+        Ok(pair)
+    }
+
+    // The pair before its index words are set.
+    fn with_zeros(alloc: Global, plan: &PairPlan) -> Result<Pair, AllocError>
+        requires { IsPair plan.now }
+        ensures { IfOk result (λ pair. pair ≡ fresh_bridge_with plan.now (record { a = zero_memory plan.now A; b = zero_memory plan.now B })) }
+    {
+        Ok(Pair {
+            plan: copy_of(plan),
+            link: Link::fresh(plan.up),
+            book_a: fresh_book(plan, Side::A),
+            book_b: fresh_book(plan, Side::B),
+            a: fresh_endpoint(alloc, plan, Side::A)?,
+            b: fresh_endpoint(alloc, plan, Side::B)?,
+        })
+    }
 
     /// The plan of the pair, which never changes. The clause `law` has what is so of every pair: its plan is one that a
     /// script can declare, its memories have the plan's bytes, there are 16 scratchpads at each side, and each write in
@@ -233,6 +276,54 @@ impl Pair {
         match side {
             Side::A => self.a.write(at, bytes),
             Side::B => self.b.write(at, bytes),
+        }
+    }
+
+    /// A side writes `value` into its own memory, as a little-endian word of four bytes at the address `at`. All four have to
+    /// lie in the memory, on promised pages. It takes no memory.
+    pub fn set_local_word(&mut self, side: Side, at: u64, value: u32)
+        requires within { at + 4 ≤ length (bytes_of self.old side) }
+        requires promised { ArePromised at 4 (pages_of self.old side) }
+        ensures { self.new ≡ with_bytes self.old side (written at (word_bytes value) (bytes_of self.old side)) }
+    {
+        match side {
+            Side::A => self.a.set_word(at, value),
+            Side::B => self.b.set_word(at, value),
+        }
+    }
+
+    /// Promises the pages of a side's index words, which [`Pair::set_index_words`] writes.
+    ///
+    /// # Errors
+    ///
+    /// [`AllocError`] from want of memory alone. Some of the pages may then be promised, and no others; nothing else
+    /// changes.
+    pub fn promise_index_words(&mut self, side: Side) -> Result<(), AllocError>
+        requires { WindowsFit self.old.plan side }
+        ensures rest { self.new ≡ with_pages self.old side (pages_of self.new side) }
+        ensures pages { PagesGrow (TouchesIndexWord self.old.plan side) (pages_of self.old side) (pages_of self.new side) }
+        ensures ok { OnOk result (AreIndexWordsPromised self.old.plan side (pages_of self.new side)) }
+    {
+        let queues = side_plan(self.plan(), side).queues;
+        for queue in 0..queues {
+            let at = index_word_at(self.plan(), side, queue);
+            self.promise_range(side, at, 4)?;
+        }
+        Ok(())
+    }
+
+    /// Sets a side's index words, one for each queue: each says that the peer has taken no entry of the ring that the side
+    /// sends to, and is the number of the ring's last entry. Their pages have to be promised.
+    pub fn set_index_words(&mut self, side: Side)
+        requires fit { WindowsFit self.old.plan side }
+        requires promised { AreIndexWordsPromised self.old.plan side (pages_of self.old side) }
+        ensures { self.new ≡ with_bytes self.old side (bytes_after (fresh_index_words self.old.plan side) (bytes_of self.old side)) }
+    {
+        let queues = side_plan(self.plan(), side).queues;
+        for queue in (0..queues).rev() {
+            let at = index_word_at(self.plan(), side, queue);
+            let last = sending_ring(self.plan(), side, queue).entries() - 1;
+            self.set_local_word(side, at, last);
         }
     }
 

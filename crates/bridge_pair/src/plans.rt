@@ -1,6 +1,10 @@
 //! What a plan says to one side of its pair: its numbers, the rings of its queues, and the order of its writes.
 
-ghost use Rattle.std.specs.Prelude.{◌≡◌, ◌<◌, List, ℕ};
+ghost use Rattle.std.specs.Prelude.{◌≡◌, ◌+◌, ◌*◌, ◌/◌, ◌%◌, ◌<◌, ◌≤◌, List, ℕ};
+ghost use Rattle.bridge_pair.specs.Bridge.{memory_size};
+ghost use Rattle.bridge_pair.specs.Words.{WindowsFit};
+ghost use Rattle.byte_model.specs.Addresses.{own_index_word};
+ghost use Rattle.ledger_model.specs.Handshake.{word};
 ghost use Rattle.plan_model.specs.Declared.{AreClasses, IsPair};
 ghost use Rattle.plan_model.specs.Orders.{class_of as order_class, classes_of as plan_classes, kind_of as order_kind};
 ghost use Rattle.plan_model.specs.Plans.{side_plan as side_plan_of};
@@ -11,6 +15,9 @@ use order_rules::{RELAXED, STRICT};
 use plan_model::laws::each_queue_has_a_ring;
 use ring_geometry::Geometry;
 use step_kinds::{Label, Name, PairPlan, Side, SidePlan};
+
+// A scratchpad has 32 bits.
+const WORD: u64 = 1 << 32;
 
 /// The numbers of a side.
 pub fn side_plan(plan: &PairPlan, side: Side) -> SidePlan
@@ -42,6 +49,53 @@ pub fn receiving_ring(plan: &PairPlan, side: Side, queue: u32) -> Geometry
 {
     each_queue_has_a_ring();
     ring_in(plan, side, side_plan(plan, side.other()).size, queue)
+}
+
+/// The address of a place in one of the windows of a side's own memory, which follow one another.
+pub fn own_address(plan: &PairPlan, side: Side, window: u32, offset: u64) -> u64
+    requires declared { IsPair plan.now }
+    requires among { window < (side_plan_of plan.now side).windows }
+    requires offset { offset ≤ (side_plan_of plan.now side).cap }
+    ensures value { result ≡ window * (side_plan_of plan.now side).cap + offset }
+    ensures within { (len : ℕ) → offset + len ≤ (side_plan_of plan.now side).cap → result + len ≤ memory_size plan.now side }
+{
+    u64::from(window) * side_plan(plan, side).cap + offset
+}
+
+/// The address of a side's index word of the lane that it sends on a queue, which has to be one of the side's. It is four
+/// bytes long and lies in the side's own memory, where the peer's windows fit there.
+pub fn index_word_at(plan: &PairPlan, side: Side, queue: u32) -> u64
+    requires declared { IsPair plan.now }
+    requires among { queue < (side_plan_of plan.now side).queues }
+    requires fit { WindowsFit plan.now side }
+    ensures value { result ≡ own_index_word plan.now side queue }
+    ensures within { result + 4 ≤ memory_size plan.now side }
+{
+    let ring = receiving_ring(plan, side, queue);
+    own_address(plan, side, ring.window_of(), ring.index_at())
+}
+
+/// The bytes of a side's memory: its windows, each as large as the memory gives them.
+pub fn memory_bytes(plan: &PairPlan, side: Side) -> u64
+    requires { IsPair plan.now }
+    ensures { result ≡ memory_size plan.now side }
+{
+    let own = side_plan(plan, side);
+    u64::from(own.windows) * own.cap
+}
+
+/// The high half of a window's size, as it stands in a scratchpad of 32 bits.
+pub fn high_half(size: u64) -> u32
+    ensures { result ≡ size / word }
+{
+    (size / WORD) as u32
+}
+
+/// The low half of a window's size, as it stands in a scratchpad of 32 bits.
+pub fn low_half(size: u64) -> u32
+    ensures { result ≡ size % word }
+{
+    (size % WORD) as u32
 }
 
 // A ring of one of a side's queues, in windows of so many bytes, which are the side's or the peer's.
