@@ -1,3 +1,4 @@
+pub mod FreshPairs
 pub mod IndexWords
 pub mod OfferedPads
 pub mod Places

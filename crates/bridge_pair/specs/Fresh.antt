@@ -14,7 +14,7 @@ use Rattle.ledger_model.specs.Next.{agreed_pads}
 use Rattle.memory_model.specs.Targets.{fresh_index_words}
 use Rattle.plan_model.specs.Plans.{side_plan}
 use Rattle.posted_queue.specs.Flight.{nothing_in_flight}
-use Rattle.bridge_pair.specs.Bridge.{Bridge, memory_size, offer_length}
+use Rattle.bridge_pair.specs.Bridge.{Bridge, bytes_of, memory_size, offer_length}
 use Rattle.bridge_pair.specs.Ends.{bytes_after}
 use Rattle.bridge_pair.specs.Links.{no_book}
 use Rattle.bridge_pair.specs.declared.book.SideBook.{SideBook}
@@ -57,3 +57,7 @@ fresh_bridge_with plan memories =
 
 abbrev pub fresh_bridge : PairPlan → Both (List ℕ) → Bridge
 fresh_bridge plan pages = fresh_bridge_with plan (record { a = fresh_memory plan A pages.a; b = fresh_memory plan B pages.b })
+
+-- a side's memory with its index words, where these pages are promised
+abbrev pub started_memory : Bridge → Side → List ℕ → Contents
+started_memory bridge side pages = record { bytes = bytes_after (fresh_index_words bridge.plan side) (bytes_of bridge side); promised = pages }

@@ -54,10 +54,10 @@ impl Model for Pair {
 }
 
 impl Pair {
-    ghost use Rattle.bridge_pair.specs.Bridge.{Bridge, IsBook, IsBridge, bells_of, book_of, bytes_of, flight_of, pads_of, pages_of, with_book, with_bytes, with_flight, with_pages};
+    ghost use Rattle.bridge_pair.specs.Bridge.{Bridge, IsBook, IsBridge, bells_of, book_of, bytes_of, flight_of, pads_of, pages_of, with_book, with_bytes, with_flight, with_memory, with_pages};
     ghost use Rattle.bridge_pair.specs.Calls.{HasPages, after_land, after_post, landing};
     ghost use Rattle.bridge_pair.specs.Ends.{bytes_after, label_landed};
-    ghost use Rattle.bridge_pair.specs.Fresh.{fresh_bridge, fresh_bridge_with, zero_memory};
+    ghost use Rattle.bridge_pair.specs.Fresh.{fresh_bridge, fresh_bridge_with, started_memory, zero_memory};
     ghost use Rattle.bridge_pair.specs.Lending.{LendsBellsOf};
     ghost use Rattle.std.specs.Borrow.{sem};
     ghost use Rattle.bridge_pair.specs.Links.{after_clean, after_cut, after_drop, after_enable, after_train};
@@ -76,13 +76,24 @@ impl Pair {
         ensures pages_b { IfOk result (λ pair. AreFreshPages plan.now B (pages_of pair B)) }
     {
         let mut pair = Pair::with_zeros(alloc, plan)?;
-        if plan.up {
-            pair.promise_index_words(Side::A)?;
-            pair.set_index_words(Side::A);
-            pair.promise_index_words(Side::B)?;
-            pair.set_index_words(Side::B);
+        if !plan.up {
+            return Ok(pair);
         }
+        pair.start_words(Side::A)?;
+        pair.start_words(Side::B)?;
         Ok(pair)
+    }
+
+    // Promises a side's index words and sets them.
+    fn start_words(&mut self, side: Side) -> Result<(), AllocError>
+        requires { WindowsFit self.old.plan side }
+        ensures words { OnOk result (self.new ≡ with_memory self.old side (started_memory self.old side (pages_of self.new side))) }
+        ensures pages { OnOk result (PagesGrow (TouchesIndexWord self.old.plan side) (pages_of self.old side) (pages_of self.new side)) }
+        ensures ok { OnOk result (AreIndexWordsPromised self.old.plan side (pages_of self.new side)) }
+    {
+        self.promise_index_words(side)?;
+        self.set_index_words(side);
+        Ok(())
     }
 
     // The pair before its index words are set.
