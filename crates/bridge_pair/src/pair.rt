@@ -13,6 +13,8 @@ ghost use Rattle.ledger_model.specs.Both.{at_side};
 ghost use Rattle.ledger_model.specs.Link.{clean_refusal, cut_refusal, drop_refusal, enable_refusal, train_refusal};
 ghost use Rattle.plan_model.specs.Declared.{IsPair};
 ghost use Rattle.plan_model.specs.Orders.{class_of as order_class, classes_of as plan_classes};
+ghost use Rattle.plan_model.specs.Plans.{side_plan as side_plan_of};
+ghost use Rattle.step_kinds.specs.Limits.{most_queues};
 ghost use Rattle.posted_queue.specs.Flight.{given_back, promised};
 ghost use Rattle.step_kinds.specs.Sides.{other_side};
 
@@ -127,6 +129,7 @@ impl Pair {
     pub fn book(&self, side: Side) -> SideBook
         ensures value { result ≡ book_of self.now side }
         ensures fits { IsBook self.now.plan side result }
+        ensures few { (side_plan_of self.now.plan side).queues ≤ most_queues }
     {
         match side {
             Side::A => self.book_a,

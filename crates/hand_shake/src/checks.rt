@@ -40,7 +40,7 @@ pub fn check(pair: &mut Pair, side: Side) -> Result<CheckAnswer, AllocError>
     ensures pages { PagesGrow (TouchesRings pair.old side) (pages_of pair.old side) (pages_of pair.new side) }
 {
     let answer = check_answer(pair, side);
-    if answer == CheckAnswer::Up {
+    if let CheckAnswer::Up = answer {
         come_up(pair, side)?;
     }
     Ok(answer)

@@ -1,6 +1,6 @@
 //! The headers of the rings that a side receives in.
 
-ghost use Rattle.std.specs.Prelude.{◌≡◌, ◌+◌, ◌<◌, ◌≤◌, OnOk};
+ghost use Rattle.std.specs.Prelude.{◌≡◌, ◌+◌, ◌<◌, ◌≤◌, OnOk, replicate};
 ghost use Rattle.std.specs.List.{flat_map};
 ghost use Rattle.bridge_pair.specs.Bridge.{bytes_of, memory_size, pages_of, with_bytes, with_pages};
 ghost use Rattle.bridge_pair.specs.Ends.{bytes_after};
@@ -8,6 +8,7 @@ ghost use Rattle.bridge_pair.specs.Pages.{PagesGrow};
 ghost use Rattle.bridge_pair.specs.Words.{WindowsFit};
 ghost use Rattle.byte_model.specs.Addresses.{own_header};
 ghost use Rattle.hand_shake.specs.Headers.{AreHeadersOfPromised, AreHeadersPromised, TouchesHeader, TouchesHeaderOf, ring_stores};
+ghost use Rattle.host_memory.specs.Memory.{ArePromised, written};
 ghost use Rattle.memory_model.specs.Targets.{zeroed_headers};
 ghost use Rattle.plan_model.specs.Declared.{IsPair};
 ghost use Rattle.plan_model.specs.Plans.{side_plan as side_plan_of};
@@ -68,13 +69,24 @@ fn zero_headers_of(pair: &mut Pair, side: Side, queue: u32)
     requires promised { AreHeadersOfPromised pair.old.plan side queue (pages_of pair.old side) }
     ensures { pair.new ≡ with_bytes pair.old side (bytes_after (ring_stores pair.old.plan side queue) (bytes_of pair.old side)) }
 {
-    let zeros = [0u8; 16];
     let entries = receiving_ring(pair.plan(), side, queue).entries();
     for n in (0..entries).rev() {
-        let at = header_at(pair.plan(), side, queue, n);
-        let len = header_bytes(pair.plan()) as usize;
-        pair.local_write(side, at, &zeros[..len]);
+        zero_header(pair, side, queue, n);
     }
+}
+
+// The same of one header.
+fn zero_header(pair: &mut Pair, side: Side, queue: u32, n: u32)
+    requires fit { WindowsFit pair.old.plan side }
+    requires among { queue < (side_plan_of pair.old.plan side).queues }
+    requires slot { n < entries_of (layout_to pair.old.plan side queue) }
+    requires promised { ArePromised (own_header pair.old.plan side queue n) (bytes_of_header pair.old.plan) (pages_of pair.old side) }
+    ensures { pair.new ≡ with_bytes pair.old side (written (own_header pair.old.plan side queue n) (replicate (bytes_of_header pair.old.plan) 0) (bytes_of pair.old side)) }
+{
+    let zeros = [0u8; 16];
+    let at = header_at(pair.plan(), side, queue, n);
+    let len = header_bytes(pair.plan()) as usize;
+    pair.local_write(side, at, &zeros[..len]);
 }
 
 // The address of a header of the ring that a side receives in on a queue.

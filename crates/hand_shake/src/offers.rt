@@ -1,11 +1,12 @@
 //! Offering.
 
-ghost use Rattle.std.specs.Prelude.{◌≡◌, ◌+◌, ◌*◌, ◌<◌, ◌≤◌, IfOk, OnErr, OnOk};
-ghost use Rattle.hand_shake.specs.Offers.{after_offer, offer_answer, with_posted};
-ghost use Rattle.bridge_pair.specs.Bridge.{flight_of};
+ghost use Rattle.std.specs.Prelude.{◌≡◌, ◌≢◌, ◌==◌, length, ◌+◌, ◌*◌, ◌/◌, ◌%◌, if◌then◌else◌, ◌<◌, ◌≤◌, IfOk, OnErr, OnOk};
+ghost use Rattle.hand_shake.specs.Offers.{after_offer, next_offer, offer_answer, pad_value, with_posted};
+ghost use Rattle.bridge_pair.specs.Bridge.{book_of, offer_length};
 ghost use Rattle.bridge_pair.specs.Writes.{pad_write};
-ghost use Rattle.ledger_model.specs.Handshake.{offers};
-ghost use Rattle.ledger_model.specs.Link.{is_up};
+ghost use Rattle.ledger_model.specs.Handshake.{offers, pad_index, word};
+ghost use Rattle.ledger_model.specs.Link.{is_up as is_link_up};
+ghost use Rattle.plan_model.specs.Plans.{side_plan as side_plan_of};
 ghost use Rattle.step_kinds.specs.Limits.{IsWindows};
 ghost use Rattle.step_kinds.specs.declared.steps.Label.TheVariants.{Pad};
 ghost use Rattle.std.specs.Prelude.{IsTrue, slice_index_or};
@@ -27,15 +28,14 @@ pub fn offer(pair: &mut Pair, side: Side) -> Result<OfferAnswer, AllocError>
     ensures after { OnOk result (pair.new ≡ after_offer pair.old side) }
     ensures err { OnErr result (pair.new ≡ pair.old) }
 {
-    if pair.link().state() != LinkState::Up {
+    if !is_up(pair) {
         return Ok(OfferAnswer::LinkDown);
     }
-    let own = side_plan(pair.plan(), side);
-    let book = pair.book(side);
-    if book.offered == 2 * own.windows + 3 {
+    if is_whole(pair, side) {
         return Ok(OfferAnswer::Already);
     }
-    let pad = offered_pad(&own, book.offered);
+    let pad = next_pad(pair, side);
+    let book = pair.book(side);
     post_pad(pair, side, pad.index, pad.value)?;
     pair.set_book(
         side,
@@ -47,10 +47,36 @@ pub fn offer(pair: &mut Pair, side: Side) -> Result<OfferAnswer, AllocError>
     Ok(OfferAnswer::Offered { index: pad.index })
 }
 
+// Whether the pair's link is up.
+fn is_up(pair: &Pair) -> bool
+    ensures { result ≡ is_link_up pair.now.link.state }
+{
+    pair.link().state() == LinkState::Up
+}
+
+// Whether a side has posted its whole offer.
+fn is_whole(pair: &Pair, side: Side) -> bool
+    ensures { result ≡ ((book_of pair.now side).offered == length (offers (side_plan_of pair.now.plan side))) }
+{
+    pair.book(side).offered == 2 * side_plan(pair.plan(), side).windows + 3
+}
+
+// The next scratchpad of a side's offer, of which some is left.
+fn next_pad(pair: &Pair, side: Side) -> OfferedPad
+    requires { (book_of pair.now side).offered ≢ length (offers (side_plan_of pair.now.plan side)) }
+    ensures index { result.index ≡ pad_index (next_offer pair.now side) }
+    ensures value { result.value ≡ pad_value (next_offer pair.now side) }
+    ensures among { result.index < 16 }
+    ensures left { (book_of pair.now side).offered < offer_length pair.now.plan side }
+    ensures few { (book_of pair.now side).offered < 11 }
+{
+    offered_pad(&side_plan(pair.plan(), side), pair.book(side).offered)
+}
+
 /// A side posts a scratchpad of the peer while the link is up, and asks for the room itself.
 pub fn post_pad(pair: &mut Pair, side: Side, index: u32, value: u32) -> Result<(), AllocError>
     requires among { index < 16 }
-    requires up { IsTrue (is_up pair.old.link.state) }
+    requires up { IsTrue (is_link_up pair.old.link.state) }
     ensures ok { OnOk result (pair.new ≡ with_posted pair.old side (pad_write index value)) }
     ensures err { OnErr result (pair.new ≡ pair.old) }
 {
@@ -75,14 +101,9 @@ fn offered_pad(own: &SidePlan, place: u32) -> OfferedPad
 {
     let sizes = 2 * own.windows;
     if place < sizes {
-        let value = if place % 2 == 0 {
-            high_half(own.size)
-        } else {
-            low_half(own.size)
-        };
         return OfferedPad {
             index: 4 + place,
-            value,
+            value: half(own.size, place % 2 == 0),
         };
     }
     match place - sizes {
@@ -98,5 +119,16 @@ fn offered_pad(own: &SidePlan, place: u32) -> OfferedPad
             index: 0,
             value: own.version,
         },
+    }
+}
+
+// A half of a window's size.
+fn half(size: u64, is_high: bool) -> u32
+    ensures { result ≡ (if is_high then size / word else size % word) }
+{
+    if is_high {
+        high_half(size)
+    } else {
+        low_half(size)
     }
 }
