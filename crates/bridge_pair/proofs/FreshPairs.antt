@@ -36,19 +36,23 @@ then_started old now new A promised stored = at_a where
   pages = ap (λ (bridge : Bridge). pages_of bridge A) stored
 
   at_a : (new ≡ with_memory old A (started_memory old A (pages_of new A))) × (pages_of new A ≡ pages_of now A)
-  at_a =
-      (stored
-      ∙ ap (λ (bridge : Bridge). with_bytes bridge A (bytes_after (fresh_index_words bridge.plan A) (bytes_of bridge A))) promised
-      ∙ ap (λ promised. with_memory old A (started_memory old A promised)) (sym pages), pages)
+  at_a = (
+    stored
+        ∙ ap (λ (bridge : Bridge). with_bytes bridge A (bytes_after (fresh_index_words bridge.plan A) (bytes_of bridge A))) promised
+        ∙ ap (λ promised. with_memory old A (started_memory old A promised)) (sym pages),
+    pages,
+  )
 then_started old now new B promised stored = at_b where
   pages : pages_of new B ≡ pages_of now B
   pages = ap (λ (bridge : Bridge). pages_of bridge B) stored
 
   at_b : (new ≡ with_memory old B (started_memory old B (pages_of new B))) × (pages_of new B ≡ pages_of now B)
-  at_b =
-      (stored
-      ∙ ap (λ (bridge : Bridge). with_bytes bridge B (bytes_after (fresh_index_words bridge.plan B) (bytes_of bridge B))) promised
-      ∙ ap (λ promised. with_memory old B (started_memory old B promised)) (sym pages), pages)
+  at_b = (
+    stored
+        ∙ ap (λ (bridge : Bridge). with_bytes bridge B (bytes_after (fresh_index_words bridge.plan B) (bytes_of bridge B))) promised
+        ∙ ap (λ promised. with_memory old B (started_memory old B promised)) (sym pages),
+    pages,
+  )
 
 stores_up : (plan : PairPlan) (side : Side) → plan.up ≡ true → fresh_stores plan side ≡ fresh_index_words plan side
 stores_up plan side up = ap (λ b. if b then fresh_index_words plan side else []) up

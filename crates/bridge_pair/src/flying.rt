@@ -6,7 +6,7 @@ ghost use Rattle.bridge_pair.specs.Writes.{IsTarget};
 ghost use Rattle.plan_model.specs.Declared.{IsPair};
 ghost use Rattle.plan_model.specs.Plans.{side_plan as side_plan_of};
 
-use crate::plans::{classes_of, class_among, kind_of, side_plan};
+use crate::plans::{class_among, classes_of, kind_of, side_plan};
 use crate::write::{Target, Write, WriteBytes};
 use posted_queue::Ordered;
 use std::marker::Model;

@@ -128,7 +128,8 @@ pub fn kind_of(is_strict: bool, label: Label) -> usize
     ensures small { result < 2 }
 {
     match label {
-        Label::Chunk { .. } | Label::Len { .. } | Label::Ver { .. } | Label::Raw { .. } if !is_strict => RELAXED,
+        Label::Chunk { .. } | Label::Len { .. } | Label::Ver { .. } | Label::Raw { .. }
+            if !is_strict => RELAXED,
         _ => STRICT,
     }
 }

@@ -18,7 +18,9 @@ use step_kinds::{Side, SidePlan};
 
 // The scratchpads of an offer's numbers.
 const VERSION_PAD: u32 = 0;
+
 const QUEUES_PAD: u32 = 2;
+
 const WINDOWS_PAD: u32 = 3;
 
 /// A side reads the peer's offer in its own scratchpads. Where it agrees with the side's own numbers, the side is up: it
