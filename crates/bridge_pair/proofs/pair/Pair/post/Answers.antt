@@ -1,0 +1,25 @@
+use Rattle.std.proofs.Common.{subst, sym}
+use Rattle.step_kinds.specs.Sides.{other_side}
+use Rattle.step_kinds.specs.declared.names.Side.{Side}
+use Rattle.bridge_pair.specs.Bridge.{Bridge, pages_of}
+use Rattle.bridge_pair.specs.Calls.{HasPages}
+use Rattle.bridge_pair.specs.Flights.{arrival_of}
+use Rattle.bridge_pair.specs.Views.{bridge_seen}
+use Rattle.bridge_pair.proofs.Places.{translated}
+use Rattle.bridge_pair.proofs.pair.Pair.post.Goals as goal
+
+pub post-requires-clause-place : goal.post-requires-clause-place
+post-requires-clause-place c =
+    let pages = subst (λ (bridge : Bridge). HasPages (pages_of bridge (other_side c.args.side)) (arrival_of bridge.plan c.args.side c.args.write.target)) (sym c.self.view_is) c.requires.pages in
+    let at_peer = subst (λ (side : Side). HasPages (pages_of (bridge_seen c.self.inside) (other_side side)) (arrival_of c.self.inside.plan c.args.side c.args.write.target)) c.in-A.is pages in
+    rw c.of_write-flying.ensures.value
+    (translated c.self.inside.plan c.args.side c.self.inside.b.memory c.args.write.target (rw c.in-A.is c.self.invariant.memory_b) c.of_write-flying.ensures.target
+    (rw (← c.self.view_is) at c.requires.translates) at_peer)
+
+pub post-requires-in-B-clause-place : goal.post-requires-in-B-clause-place
+post-requires-in-B-clause-place c =
+    let pages = subst (λ (bridge : Bridge). HasPages (pages_of bridge (other_side c.args.side)) (arrival_of bridge.plan c.args.side c.args.write.target)) (sym c.self.view_is) c.requires.pages in
+    let at_peer = subst (λ (side : Side). HasPages (pages_of (bridge_seen c.self.inside) (other_side side)) (arrival_of c.self.inside.plan c.args.side c.args.write.target)) c.in-B.is pages in
+    rw c.of_write-flying.ensures.value
+    (translated c.self.inside.plan c.args.side c.self.inside.a.memory c.args.write.target (rw c.in-B.is c.self.invariant.memory_a) c.of_write-flying.ensures.target
+    (rw (← c.self.view_is) at c.requires.translates) at_peer)

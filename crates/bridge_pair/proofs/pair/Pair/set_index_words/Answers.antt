@@ -1,0 +1,44 @@
+use Rattle.std.proofs.Common.{◌≡◌, ℕ, ◌-◌, List, map, ap, ◌∙◌, sym, subst, arith}
+use Rattle.byte_model.specs.Addresses.{own_index_word}
+use Rattle.byte_model.specs.Headers.{word_bytes}
+use Rattle.byte_model.specs.Stores.{Store}
+use Rattle.host_memory.specs.Memory.{ArePromised, written}
+use Rattle.lane_model.specs.Lane.{count_from}
+use Rattle.memory_model.specs.Targets.{fresh_index_word}
+use Rattle.plan_model.specs.Sizes.{layout_of}
+use Rattle.ring_geometry.specs.Geometry.{entries_of}
+use Rattle.step_kinds.specs.declared.plan.PairPlan.{PairPlan}
+use Rattle.bridge_pair.specs.Bridge.{Bridge, bytes_of, pages_of, with_bytes}
+use Rattle.bridge_pair.specs.Ends.{bytes_after}
+use Rattle.bridge_pair.proofs.IndexWords.{at_word, one_before}
+use Rattle.bridge_pair.proofs.Sides.{bytes_again, pages_of-with_bytes}
+use Rattle.bridge_pair.proofs.pair.Pair.set_index_words.Goals as goal
+
+pub set_local_word-requires-clause-promised : goal.set_local_word-requires-clause-promised
+set_local_word-requires-clause-promised c =
+    let plans = c.plan-in-loop-queue.ensures.value ∙ ap (λ (bridge : Bridge). bridge.plan) c.loop-queue.invariant.so_far in
+    let at = at_word c.args.self.now.plan _ c.args.side (c.loop-queue.queue - 1) _ plans c.index_word_at-at.ensures.value in
+    let pages : pages_of c.loop-queue.self c.args.side ≡ pages_of c.args.self.now c.args.side =
+    ap (λ (bridge : Bridge). pages_of bridge c.args.side) c.loop-queue.invariant.so_far ∙ pages_of-with_bytes c.args.self.now c.args.side _ in
+    subst (λ (promised : List ℕ). ArePromised c.index_word_at-at.result 4 promised) (sym pages)
+    (subst (λ at. ArePromised at 4 (pages_of c.args.self.now c.args.side)) (sym at)
+    (c.requires.promised (c.loop-queue.queue - 1) (omega (arith, c.loop-queue.invariant.all, c.loop-queue.auto.queue, c.loop-queue-test.true))))
+
+pub loop-queue-preserved : goal.loop-queue-preserved
+loop-queue-preserved c =
+    let plans = c.plan-in-loop-queue.ensures.value ∙ ap (λ (bridge : Bridge). bridge.plan) c.loop-queue.invariant.so_far in
+    let plans_2 = c.plan-in-loop-queue-2.ensures.value ∙ ap (λ (bridge : Bridge). bridge.plan) c.loop-queue.invariant.so_far in
+    let queue = c.loop-queue.queue - 1 in
+    let at = at_word c.args.self.now.plan _ c.args.side queue _ plans c.index_word_at-at.ensures.value in
+    let entries : c.entries-last.result ≡ entries_of (layout_of c.args.self.now.plan c.args.side queue) =
+    c.entries-last.ensures.value ∙ ap entries_of (c.sending_ring.ensures ∙ ap (λ (plan : PairPlan). layout_of plan c.args.side queue) plans_2) in
+    let left = c.side_plan-queues.result.queues - c.loop-queue.queue in
+    let stored =
+    one_before c.args.self.now.plan c.args.side queue c.loop-queue.queue left (c.side_plan-queues.result.queues - queue) c.index_word_at-at.result c.entries-last.result
+    (bytes_of c.args.self.now c.args.side) at entries (omega (arith, c.loop-queue-test.true)) (omega (arith, c.loop-queue-test.true, c.loop-queue.auto.queue)) in
+    record {
+      all = c.loop-queue.invariant.all;
+      so_far =
+          bytes_again c.args.self.now c.loop-queue.self c.set_local_word.new.self c.args.side _ (written c.index_word_at-at.result (word_bytes (c.entries-last.result - 1))) c.loop-queue.invariant.so_far c.set_local_word.ensures
+          ∙ ap (λ stored. with_bytes c.args.self.now c.args.side stored) stored;
+    }

@@ -1,0 +1,14 @@
+use Rattle.std.proofs.Common.{◌≡◌, ℕ, ◌-◌, map}
+use Rattle.lane_model.specs.Lane.{count_from}
+use Rattle.memory_model.specs.Targets.{fresh_index_word}
+use Rattle.plan_model.specs.Plans.{side_plan}
+use Rattle.bridge_pair.specs.Bridge.{bytes_of, with_bytes}
+use Rattle.bridge_pair.specs.Ends.{bytes_after}
+use Rattle.bridge_pair.proofs.pair.Pair.set_index_words.Given as goal
+
+abbrev pub invariant-loop-queue : goal.invariant-loop-queue
+invariant-loop-queue l =
+    record {
+      all : l.queues ≡ (side_plan l.initial.self.plan l.side).queues;
+      so_far : l.self ≡ with_bytes l.initial.self l.side (bytes_after (map (fresh_index_word l.initial.self.plan l.side) (count_from l.queue (l.queues - l.queue))) (bytes_of l.initial.self l.side));
+    }

@@ -1,0 +1,18 @@
+use Rattle.std.proofs.Common.{length, replicate, ap, ◌∙◌}
+use Rattle.std.proofs.lemmas.List.{length-replicate}
+use Rattle.step_kinds.specs.declared.names.Side.TheVariants.{A, B}
+use Rattle.bridge_pair.specs.Bridge.{memory_size}
+use Rattle.bridge_pair.specs.Ends.{End}
+use Rattle.bridge_pair.proofs.FreshPairs.{fresh_is_book}
+use Rattle.bridge_pair.proofs.pair.Pair.with_zeros.Goals as goal
+
+pub invariant_of-result : goal.invariant_of-result
+invariant_of-result c =
+    rw (c.copy_of.ensures, c.fresh_book.ensures, c.fresh_book-2.ensures)
+    (record {
+      plan = c.requires;
+      book_a = fresh_is_book c.args.plan.now A;
+      book_b = fresh_is_book c.args.plan.now B;
+      memory_a = ap (λ (end : End). length end.memory.bytes) (c.in_ok-fresh_endpoint.ensures) ∙ length-replicate (memory_size c.args.plan.now A) 0;
+      memory_b = ap (λ (end : End). length end.memory.bytes) (c.in_ok-fresh_endpoint-2.ensures) ∙ length-replicate (memory_size c.args.plan.now B) 0;
+    })

@@ -1,0 +1,11 @@
+pub mod Writes
+pub mod Flights
+pub mod Pages
+pub mod Ends
+pub mod Bridge
+pub mod Calls
+pub mod Links
+pub mod Fresh
+pub mod Views
+pub mod Lending
+pub mod Words

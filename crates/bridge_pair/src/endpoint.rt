@@ -1,0 +1,227 @@
+//! One end of a bridge.
+
+ghost use Rattle.std.specs.Prelude.{◌≡◌, ◌+◌, ◌<◌, ◌≤◌, Contains, IfOk, IsOk, OnOk, OnErr, length, option_map, replicate, slice_get, slice_index, slice_set};
+ghost use Rattle.bridge_pair.specs.Ends.{HasPlace, IsEnd, after_answer, after_arrival, after_posting, fresh_end, label_landed, stored_at};
+ghost use Rattle.bridge_pair.specs.Flights.{Flying, flying_order};
+ghost use Rattle.bridge_pair.specs.declared.flying.Arrival.TheVariants.{AtAddress};
+ghost use Rattle.bridge_pair.specs.Pages.{PagesGrow};
+ghost use Rattle.bridge_regs.specs.Doorbell.{with_pending};
+ghost use Rattle.host_memory.specs.Memory.{ArePromised, Touches, bytes_at, word_at, word_bytes};
+ghost use Rattle.posted_queue.specs.Flight.{discarded, given_back, promised};
+ghost use Rattle.posted_queue.specs.Landing.{after_landing, land_answer};
+
+use crate::flying::{Arrival, FlyingWrite};
+use crate::write::WriteBytes;
+use bridge_regs::{Bells, Pads};
+use host_memory::Memory;
+use posted_queue::{LandAnswer, Queue};
+use std::alloc::{AllocError, Global};
+use std::marker::Model;
+use step_kinds::Label;
+
+/// What lies at one side of a pair, its scratchpads, doorbell and memory, and what is in flight towards it.
+#[derive(Drop)]
+pub struct Endpoint {
+    pads: Pads,
+    bells: Bells,
+    memory: Memory,
+    coming: Queue<FlyingWrite>,
+}
+
+impl Model for Endpoint {
+    ghost use Rattle.std.specs.Prelude.{All};
+    ghost use Rattle.bridge_pair.specs.Ends.{End, HasPlace};
+    ghost use Rattle.bridge_pair.specs.Flights.{Flying};
+
+    ghost Value = { End };
+
+    ghost view = { λ end. record { pads = end.pads; bells = end.bells; memory = end.memory; coming = end.coming } };
+
+    ghost invariant = { λ end. All (λ (flying : Flying). HasPlace end.memory flying.arrival) end.coming.writes };
+}
+
+impl Endpoint {
+    ghost use Rattle.std.specs.Borrow.{sem};
+    ghost use Rattle.bridge_pair.specs.Lending.{LendsBells};
+
+    /// An end with `len` bytes of memory, to which nothing has come.
+    pub fn new(alloc: Global, len: u64) -> Result<Endpoint, AllocError>
+        ensures { IfOk result (λ end. end ≡ fresh_end len) }
+    {
+        Ok(Endpoint {
+            pads: Pads::new(),
+            bells: Bells::new(),
+            memory: Memory::new(alloc, len)?,
+            coming: Queue::new(alloc),
+        })
+    }
+
+    /// What is so of every end. It does nothing: its clause is the law.
+    pub fn law(&self)
+        ensures { IsEnd self.now }
+    {
+        let _word = self.pads.get(0);
+        let _pending = self.bells.pending();
+        let _masked = self.bells.masked();
+    }
+
+    // What comes
+
+    pub fn promise(&mut self, more: usize) -> Result<(), AllocError>
+        ensures ok { OnOk result (self.new ≡ record self.old { coming = promised self.old.coming more }) }
+        ensures err { OnErr result (self.new ≡ self.old) }
+    {
+        self.coming.promise(more)
+    }
+
+    pub fn give_back(&mut self, count: usize)
+        requires { count ≤ self.old.coming.spare }
+        ensures { self.new ≡ record self.old { coming = given_back self.old.coming count } }
+    {
+        self.coming.give_back(count);
+    }
+
+    /// The peer posts a write, which is lost where the link is not up.
+    pub fn post(&mut self, is_up: bool, write: FlyingWrite)
+        requires promise { 0 < self.old.coming.spare }
+        requires place { HasPlace self.old.memory write.arrival }
+        ensures { self.new ≡ record self.old { coming = after_posting is_up self.old.coming write } }
+    {
+        if is_up {
+            self.coming.push(write);
+        } else {
+            self.coming.give_back(1);
+        }
+    }
+
+    /// Lands the write at a place of those that come.
+    pub fn land(&mut self, place: usize) -> LandAnswer<Label>
+        ensures answer { result ≡ label_landed (land_answer flying_order self.old.coming place) }
+        ensures after { self.new ≡ after_answer (record self.old { coming = after_landing flying_order self.old.coming place }) (land_answer flying_order self.old.coming place) }
+        ensures size { length self.new.memory.bytes ≡ length self.old.memory.bytes }
+    {
+        match self.coming.land(place) {
+            LandAnswer::Nothing => LandAnswer::Nothing,
+            LandAnswer::Blocked => LandAnswer::Blocked,
+            LandAnswer::Landed(write) => {
+                let label = write.label;
+                self.arrive(write);
+                LandAnswer::Landed(label)
+            }
+        }
+    }
+
+    // What arrives is stored, or sets its register.
+    fn arrive(&mut self, write: FlyingWrite)
+        requires { HasPlace self.old.memory write.arrival }
+        ensures after { self.new ≡ after_arrival self.old write.arrival }
+        ensures size { length self.new.memory.bytes ≡ length self.old.memory.bytes }
+    {
+        match write.arrival {
+            Arrival::AtAddress { at, bytes } => self.store(at, bytes),
+            Arrival::AtPad { index, value } => self.pads.set(index, value),
+            Arrival::AtBell { bit } => self.bells.ring(bit),
+        }
+    }
+
+    // Bytes that arrived are stored.
+    fn store(&mut self, at: u64, bytes: WriteBytes)
+        requires { HasPlace self.old.memory (AtAddress at bytes) }
+        ensures after { self.new ≡ after_arrival self.old (AtAddress at bytes) }
+        ensures size { length self.new.memory.bytes ≡ length self.old.memory.bytes }
+    {
+        self.write(at, bytes.as_slice());
+    }
+
+    pub fn coming_count(&self) -> usize
+        ensures { result ≡ length self.now.coming.writes }
+    {
+        self.coming.len()
+    }
+
+    pub fn label_at(&self, place: usize) -> Option<Label>
+        ensures { result ≡ option_map (λ (flying : Flying). flying.label) (slice_get self.now.coming.writes place) }
+    {
+        Some(self.coming.label_at(place)?.label)
+    }
+
+    /// Drops all that comes.
+    pub fn discard(&mut self)
+        ensures { self.new ≡ record self.old { coming = discarded self.old.coming } }
+    {
+        self.coming.discard();
+    }
+
+    // Memory
+
+    pub fn read(&self, at: u64, out: &mut [u8])
+        requires { at + length out.old ≤ length self.now.memory.bytes }
+        ensures { out.new ≡ bytes_at at (length out.old) self.now.memory.bytes }
+    {
+        self.memory.read(at, out);
+    }
+
+    pub fn word_at(&self, at: u64) -> u32
+        requires { at + 4 ≤ length self.now.memory.bytes }
+        ensures { result ≡ word_at at self.now.memory.bytes }
+    {
+        self.memory.u32_at(at)
+    }
+
+    pub fn write(&mut self, at: u64, bytes: &[u8])
+        requires within { at + length bytes.now ≤ length self.old.memory.bytes }
+        requires promised { ArePromised at (length bytes.now) self.old.memory.promised }
+        ensures after { self.new ≡ record self.old { memory = stored_at at bytes.now self.old.memory } }
+        ensures size { length self.new.memory.bytes ≡ length self.old.memory.bytes }
+    {
+        self.memory.write(at, bytes);
+    }
+
+    pub fn set_word(&mut self, at: u64, value: u32)
+        requires within { at + 4 ≤ length self.old.memory.bytes }
+        requires promised { ArePromised at 4 self.old.memory.promised }
+        ensures after { self.new ≡ record self.old { memory = stored_at at (word_bytes value) self.old.memory } }
+        ensures size { length self.new.memory.bytes ≡ length self.old.memory.bytes }
+    {
+        self.memory.set_u32(at, value);
+    }
+
+    pub fn promise_range(&mut self, at: u64, len: u64) -> Result<(), AllocError>
+        requires { at + len ≤ length self.old.memory.bytes }
+        ensures rest { self.new ≡ record self.old { memory = record { bytes = self.old.memory.bytes; promised = self.new.memory.promised } } }
+        ensures pages { PagesGrow (Touches at len) self.old.memory.promised self.new.memory.promised }
+        ensures ok { OnOk result (ArePromised at len self.new.memory.promised) }
+        ensures had { ArePromised at len self.old.memory.promised → IsOk result × (self.new ≡ self.old) }
+    {
+        self.memory.promise(at, len)
+    }
+
+    // Registers
+
+    pub fn pad(&self, index: u32) -> u32
+        requires { index < 16 }
+        ensures { result ≡ slice_index self.now.pads index }
+    {
+        self.pads.get(index)
+    }
+
+    pub fn bells(&mut self) -> &mut Bells
+        ensures* lends { sem 𝓛 (LendsBells self.entry result) }
+        ensures value { result.now ≡ self.old.bells }
+    {
+        &mut self.bells
+    }
+
+    pub fn set_pads(&mut self, pads: Pads)
+        ensures { self.new ≡ record self.old { pads = pads } }
+    {
+        self.pads = pads;
+    }
+
+    pub fn zero_registers(&mut self)
+        ensures { self.new ≡ record self.old { pads = replicate 16 0; bells = with_pending self.old.bells 0 } }
+    {
+        self.pads = Pads::new();
+        self.bells.zero_pending();
+    }
+}

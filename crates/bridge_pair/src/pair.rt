@@ -1,0 +1,448 @@
+//! A pair.
+
+ghost use Rattle.std.specs.Prelude.{◌≡◌, ◌+◌, ◌<◌, ◌≤◌, IfOk, IsOk, OnErr, OnOk, [], length, option_map, slice_get, slice_index};
+ghost use Rattle.std.specs.Result.{result_err};
+ghost use Rattle.bridge_pair.specs.Flights.{Flying, Translates, arrival_of};
+ghost use Rattle.bridge_pair.specs.Pages.{PagesGrow};
+ghost use Rattle.bridge_regs.specs.Doorbell.{Doorbell};
+ghost use Rattle.bridge_pair.specs.Words.{AreFreshPages, AreIndexWordsPromised, TouchesIndexWord, WindowsFit};
+ghost use Rattle.host_memory.specs.Memory.{ArePromised, Touches, bytes_at, word_at, word_bytes, written};
+ghost use Rattle.memory_model.specs.Targets.{fresh_index_words};
+ghost use Rattle.step_kinds.specs.declared.names.Side.TheVariants.{A, B};
+ghost use Rattle.ledger_model.specs.Both.{at_side};
+ghost use Rattle.ledger_model.specs.Link.{clean_refusal, cut_refusal, drop_refusal, enable_refusal, train_refusal};
+ghost use Rattle.plan_model.specs.Declared.{IsPair};
+ghost use Rattle.plan_model.specs.Orders.{class_of as order_class, classes_of as plan_classes};
+ghost use Rattle.plan_model.specs.Plans.{side_plan as side_plan_of};
+ghost use Rattle.step_kinds.specs.Limits.{most_queues};
+ghost use Rattle.posted_queue.specs.Flight.{given_back, promised};
+ghost use Rattle.step_kinds.specs.Sides.{other_side};
+
+use crate::book::SideBook;
+use crate::endpoint::Endpoint;
+use crate::flying::FlyingWrite;
+use crate::fresh::{fresh_book, fresh_endpoint};
+use crate::plans::{class_among, classes_of, copy_of, index_word_at, sending_ring, side_plan};
+use crate::write::Write;
+use bridge_regs::Bells;
+use link_state::{Link, LinkRefusal, LinkState};
+use posted_queue::LandAnswer;
+use std::alloc::{AllocError, Global};
+use std::marker::Model;
+use step_kinds::{Label, PairPlan, Side};
+
+/// A pair: two sides with their memories and registers, the bridge between them and the link. Contracts see it as a record
+/// of all that.
+#[derive(Drop)]
+pub struct Pair {
+    plan: PairPlan,
+    link: Link,
+    book_a: SideBook,
+    book_b: SideBook,
+    a: Endpoint,
+    b: Endpoint,
+}
+
+impl Model for Pair {
+    ghost use Rattle.bridge_pair.specs.Bridge.{Bridge};
+
+    ghost Value = { Bridge };
+
+    ghost use Rattle.bridge_pair.specs.Views.{IsJoined, bridge_seen};
+
+    ghost view = { bridge_seen };
+
+    ghost invariant = { IsJoined };
+}
+
+impl Pair {
+    ghost use Rattle.bridge_pair.specs.Bridge.{Bridge, IsBook, IsBridge, bells_of, book_of, bytes_of, flight_of, pads_of, pages_of, with_book, with_bytes, with_flight, with_memory, with_pages};
+    ghost use Rattle.bridge_pair.specs.Calls.{HasPages, after_land, after_post, landing};
+    ghost use Rattle.bridge_pair.specs.Ends.{bytes_after, label_landed};
+    ghost use Rattle.bridge_pair.specs.Fresh.{fresh_bridge, fresh_bridge_with, started_memory, zero_memory};
+    ghost use Rattle.bridge_pair.specs.Lending.{LendsBellsOf};
+    ghost use Rattle.std.specs.Borrow.{sem};
+    ghost use Rattle.bridge_pair.specs.Links.{after_clean, after_cut, after_drop, after_enable, after_train};
+
+    /// The pair of a plan before any step, with nothing in flight. Its memories are zero and its link is down; where the plan
+    /// says that the pair starts up, all is as after a whole handshake in session 1: the scratchpads have the peer's offer,
+    /// all queues are ready and joined on both sides, and the index words say that no entry is taken.
+    ///
+    /// # Errors
+    ///
+    /// [`AllocError`] from want of memory alone.
+    pub fn new(alloc: Global, plan: &PairPlan) -> Result<Pair, AllocError>
+        requires { IsPair plan.now }
+        ensures fresh { IfOk result (λ pair. pair ≡ fresh_bridge plan.now (record { a = pages_of pair A; b = pages_of pair B })) }
+        ensures pages_a { IfOk result (λ pair. AreFreshPages plan.now A (pages_of pair A)) }
+        ensures pages_b { IfOk result (λ pair. AreFreshPages plan.now B (pages_of pair B)) }
+    {
+        let mut pair = Pair::with_zeros(alloc, plan)?;
+        if !plan.up {
+            return Ok(pair);
+        }
+        pair.start_words(Side::A)?;
+        pair.start_words(Side::B)?;
+        Ok(pair)
+    }
+
+    // Promises a side's index words and sets them.
+    fn start_words(&mut self, side: Side) -> Result<(), AllocError>
+        requires { WindowsFit self.old.plan side }
+        ensures words { OnOk result (self.new ≡ with_memory self.old side (started_memory self.old side (pages_of self.new side))) }
+        ensures pages { OnOk result (PagesGrow (TouchesIndexWord self.old.plan side) (pages_of self.old side) (pages_of self.new side)) }
+        ensures ok { OnOk result (AreIndexWordsPromised self.old.plan side (pages_of self.new side)) }
+    {
+        self.promise_index_words(side)?;
+        self.set_index_words(side);
+        Ok(())
+    }
+
+    // The pair before its index words are set.
+    fn with_zeros(alloc: Global, plan: &PairPlan) -> Result<Pair, AllocError>
+        requires { IsPair plan.now }
+        ensures { IfOk result (λ pair. pair ≡ fresh_bridge_with plan.now (record { a = zero_memory plan.now A; b = zero_memory plan.now B })) }
+    {
+        Ok(Pair {
+            plan: copy_of(plan),
+            link: Link::fresh(plan.up),
+            book_a: fresh_book(plan, Side::A),
+            book_b: fresh_book(plan, Side::B),
+            a: fresh_endpoint(alloc, plan, Side::A)?,
+            b: fresh_endpoint(alloc, plan, Side::B)?,
+        })
+    }
+
+    /// The plan of the pair, which never changes. The clause `law` has what is so of every pair: its plan is one that a
+    /// script can declare, its memories have the plan's bytes, there are 16 scratchpads at each side, and each write in
+    /// flight has its place at the peer.
+    pub fn plan(&self) -> &PairPlan
+        ensures value { result.now ≡ self.now.plan }
+        ensures law { IsBridge self.now }
+    {
+        self.a.law();
+        self.b.law();
+        &self.plan
+    }
+
+    /// What a side has reached in the handshake.
+    pub fn book(&self, side: Side) -> SideBook
+        ensures value { result ≡ book_of self.now side }
+        ensures fits { IsBook self.now.plan side result }
+        ensures few { (side_plan_of self.now.plan side).queues ≤ most_queues }
+    {
+        match side {
+            Side::A => self.book_a,
+            Side::B => self.book_b,
+        }
+    }
+
+    /// Keeps what a side has reached in the handshake: its sets have only bits of its own queues, and it posted no more
+    /// than its whole offer.
+    pub fn set_book(&mut self, side: Side, book: SideBook)
+        requires { IsBook self.old.plan side book }
+        ensures { self.new ≡ with_book self.old side book }
+    {
+        match side {
+            Side::A => self.book_a = book,
+            Side::B => self.book_b = book,
+        }
+    }
+
+    /// Promises room for `more` writes that a side is to post, on top of those that are promised already.
+    ///
+    /// # Errors
+    ///
+    /// [`AllocError`] from want of memory alone, and then nothing changes.
+    pub fn promise(&mut self, side: Side, more: usize) -> Result<(), AllocError>
+        ensures ok { OnOk result (self.new ≡ with_flight self.old side (promised (flight_of self.old side) more)) }
+        ensures err { OnErr result (self.new ≡ self.old) }
+    {
+        match side {
+            Side::A => self.b.promise(more),
+            Side::B => self.a.promise(more),
+        }
+    }
+
+    /// Gives back the promise of `count` writes of a side, which are not posted after all. So many must be promised.
+    pub fn give_back(&mut self, side: Side, count: usize)
+        requires { count ≤ (flight_of self.old side).spare }
+        ensures { self.new ≡ with_flight self.old side (given_back (flight_of self.old side) count) }
+    {
+        match side {
+            Side::A => self.b.give_back(count),
+            Side::B => self.a.give_back(count),
+        }
+    }
+
+    /// Promises each page that `len` bytes of a side's memory touch, from the address `at` on, so that they may be
+    /// written. They have to lie in the memory. What was promised before stays so, and no byte changes.
+    ///
+    /// # Errors
+    ///
+    /// [`AllocError`] from want of memory alone. Some of the pages may then be promised, and no others; nothing else
+    /// changes.
+    pub fn promise_range(&mut self, side: Side, at: u64, len: u64) -> Result<(), AllocError>
+        requires { at + len ≤ length (bytes_of self.old side) }
+        ensures rest { self.new ≡ with_pages self.old side (pages_of self.new side) }
+        ensures pages { PagesGrow (Touches at len) (pages_of self.old side) (pages_of self.new side) }
+        ensures ok { OnOk result (ArePromised at len (pages_of self.new side)) }
+        ensures had { ArePromised at len (pages_of self.old side) → IsOk result × (self.new ≡ self.old) }
+    {
+        match side {
+            Side::A => self.a.promise_range(at, len),
+            Side::B => self.b.promise_range(at, len),
+        }
+    }
+
+    /// A side posts a write, for which room was promised. Its target translates, and each page that its bytes touch at the
+    /// peer was promised.
+    ///
+    /// While the link is up the write is in flight behind all others of the side. Else it is lost without a word, as posted
+    /// writes are, and its promise is given back. It takes no memory.
+    pub fn post(&mut self, side: Side, write: Write)
+        requires promise { 0 < (flight_of self.old side).spare }
+        requires translates { Translates self.old.plan side write.target }
+        requires pages { HasPages (pages_of self.old (other_side side)) (arrival_of self.old.plan side write.target) }
+        ensures { self.new ≡ after_post self.old side write }
+    {
+        let is_up = self.link.state() == LinkState::Up;
+        let flying = FlyingWrite::of_write(&self.plan, side, write);
+        match side {
+            Side::A => self.b.post(is_up, flying),
+            Side::B => self.a.post(is_up, flying),
+        }
+    }
+
+    /// Lands the write at this place of those that a side has in flight, counted from 0 for the one that was posted first,
+    /// and answers its label: its bytes are stored in the peer's memory, or its scratchpad or doorbell bit is set there.
+    ///
+    /// [`LandAnswer::Blocked`] comes where the write may not pass one before it, by kind and traffic class (PCI Express
+    /// Base 4.0, section 2.4), and [`LandAnswer::Nothing`] where no more than `place` writes are in flight. Both change
+    /// nothing. It takes no memory.
+    pub fn land(&mut self, side: Side, place: usize) -> LandAnswer<Label>
+        ensures answer { result ≡ label_landed (landing self.old side place) }
+        ensures after { self.new ≡ after_land self.old side place }
+    {
+        match side {
+            Side::A => self.b.land(place),
+            Side::B => self.a.land(place),
+        }
+    }
+
+    /// How many writes a side has in flight.
+    pub fn in_flight(&self, side: Side) -> usize
+        ensures { result ≡ length (flight_of self.now side).writes }
+    {
+        match side {
+            Side::A => self.b.coming_count(),
+            Side::B => self.a.coming_count(),
+        }
+    }
+
+    /// The label of the write at this place of those that a side has in flight, counted from 0 for the one that was posted
+    /// first. `None` exactly where no more than `place` are in flight.
+    pub fn label_at(&self, side: Side, place: usize) -> Option<Label>
+        ensures { result ≡ option_map (λ (flying : Flying). flying.label) (slice_get (flight_of self.now side).writes place) }
+    {
+        match side {
+            Side::A => self.b.label_at(place),
+            Side::B => self.a.label_at(place),
+        }
+    }
+
+    /// The traffic class, 0 to 7, of a side's write with this label: that of its queue, and 0 of scratchpads and raw bytes.
+    pub fn class_of(&self, side: Side, label: Label) -> u32
+        ensures { result ≡ order_class (plan_classes self.now.plan side) label }
+    {
+        class_among(classes_of(&self.plan, side), label)
+    }
+
+    /// Reads the bytes of a side's memory from the address `at` on into the whole of `out`. They have to lie in the memory.
+    pub fn local_read(&self, side: Side, at: u64, out: &mut [u8])
+        requires { at + length out.old ≤ length (bytes_of self.now side) }
+        ensures { out.new ≡ bytes_at at (length out.old) (bytes_of self.now side) }
+    {
+        match side {
+            Side::A => self.a.read(at, out),
+            Side::B => self.b.read(at, out),
+        }
+    }
+
+    /// Reads the little-endian word of four bytes at the address `at` of a side's memory. All four have to lie in it.
+    pub fn local_word(&self, side: Side, at: u64) -> u32
+        requires { at + 4 ≤ length (bytes_of self.now side) }
+        ensures { result ≡ word_at at (bytes_of self.now side) }
+    {
+        match side {
+            Side::A => self.a.word_at(at),
+            Side::B => self.b.word_at(at),
+        }
+    }
+
+    /// A side writes `bytes` into its own memory, from the address `at` on. They have to lie in the memory, and each page
+    /// that they touch has to be promised. It takes no memory.
+    pub fn local_write(&mut self, side: Side, at: u64, bytes: &[u8])
+        requires within { at + length bytes.now ≤ length (bytes_of self.old side) }
+        requires promised { ArePromised at (length bytes.now) (pages_of self.old side) }
+        ensures { self.new ≡ with_bytes self.old side (written at bytes.now (bytes_of self.old side)) }
+    {
+        match side {
+            Side::A => self.a.write(at, bytes),
+            Side::B => self.b.write(at, bytes),
+        }
+    }
+
+    /// A side writes `value` into its own memory, as a little-endian word of four bytes at the address `at`. All four have to
+    /// lie in the memory, on promised pages. It takes no memory.
+    pub fn set_local_word(&mut self, side: Side, at: u64, value: u32)
+        requires within { at + 4 ≤ length (bytes_of self.old side) }
+        requires promised { ArePromised at 4 (pages_of self.old side) }
+        ensures { self.new ≡ with_bytes self.old side (written at (word_bytes value) (bytes_of self.old side)) }
+    {
+        match side {
+            Side::A => self.a.set_word(at, value),
+            Side::B => self.b.set_word(at, value),
+        }
+    }
+
+    /// Promises the pages of a side's index words, which [`Pair::set_index_words`] writes.
+    ///
+    /// # Errors
+    ///
+    /// [`AllocError`] from want of memory alone. Some of the pages may then be promised, and no others; nothing else
+    /// changes.
+    pub fn promise_index_words(&mut self, side: Side) -> Result<(), AllocError>
+        requires { WindowsFit self.old.plan side }
+        ensures rest { self.new ≡ with_pages self.old side (pages_of self.new side) }
+        ensures pages { PagesGrow (TouchesIndexWord self.old.plan side) (pages_of self.old side) (pages_of self.new side) }
+        ensures ok { OnOk result (AreIndexWordsPromised self.old.plan side (pages_of self.new side)) }
+    {
+        let queues = side_plan(self.plan(), side).queues;
+        for queue in 0..queues {
+            let at = index_word_at(self.plan(), side, queue);
+            self.promise_range(side, at, 4)?;
+        }
+        Ok(())
+    }
+
+    /// Sets a side's index words, one for each queue: each says that the peer has taken no entry of the ring that the side
+    /// sends to, and is the number of the ring's last entry. Their pages have to be promised.
+    pub fn set_index_words(&mut self, side: Side)
+        requires fit { WindowsFit self.old.plan side }
+        requires promised { AreIndexWordsPromised self.old.plan side (pages_of self.old side) }
+        ensures { self.new ≡ with_bytes self.old side (bytes_after (fresh_index_words self.old.plan side) (bytes_of self.old side)) }
+    {
+        let queues = side_plan(self.plan(), side).queues;
+        for queue in (0..queues).rev() {
+            let at = index_word_at(self.plan(), side, queue);
+            let last = sending_ring(self.plan(), side, queue).entries() - 1;
+            self.set_local_word(side, at, last);
+        }
+    }
+
+    /// The word of a side's scratchpad `index`, 0 to 15 (`ntb_spad_read`).
+    pub fn pad(&self, side: Side, index: u32) -> u32
+        requires { index < 16 }
+        ensures { result ≡ slice_index (pads_of self.now side) index }
+    {
+        match side {
+            Side::A => self.a.pad(index),
+            Side::B => self.b.pad(index),
+        }
+    }
+
+    /// A side's doorbell: its pending and its masked bits.
+    pub fn bells(&mut self, side: Side) -> &mut Bells
+        ensures* lends { sem 𝓛 (LendsBellsOf self.entry side result) }
+        ensures value { result.now ≡ bells_of self.old side }
+    {
+        match side {
+            Side::A => self.a.bells(),
+            Side::B => self.b.bells(),
+        }
+    }
+
+    /// The link: its state, its session, and what each side has said of it.
+    pub fn link(&self) -> &Link
+        ensures { result.now ≡ self.now.link }
+    {
+        &self.link
+    }
+
+    /// A side agrees to bring the link up. A second call changes nothing.
+    ///
+    /// # Errors
+    ///
+    /// As [`Link::enable`], and then nothing changes.
+    pub fn enable(&mut self, side: Side) -> Result<(), LinkRefusal>
+        ensures refusal { result_err result ≡ enable_refusal self.old.link side }
+        ensures after { self.new ≡ after_enable self.old side }
+    {
+        self.link.enable(side)
+    }
+
+    /// The link comes up in the next session, whose number this answers.
+    ///
+    /// # Errors
+    ///
+    /// As [`Link::train`], and then nothing changes.
+    pub fn train(&mut self) -> Result<u32, LinkRefusal>
+        ensures refusal { result_err result ≡ train_refusal self.old.link }
+        ensures after { self.new ≡ after_train self.old }
+        ensures session { IfOk result (λ session. session ≡ self.new.link.session) }
+    {
+        self.link.train()
+    }
+
+    /// The link is lost. What is in flight may still land, until it is dropped; what is posted is lost.
+    ///
+    /// # Errors
+    ///
+    /// As [`Link::cut`], and then nothing changes.
+    pub fn cut(&mut self) -> Result<(), LinkRefusal>
+        ensures refusal { result_err result ≡ cut_refusal self.old.link }
+        ensures after { self.new ≡ after_cut self.old }
+    {
+        self.link.cut()
+    }
+
+    /// All that is in flight, of both sides, is dropped, and the link is down. What was promised stays promised.
+    ///
+    /// # Errors
+    ///
+    /// As [`Link::drop_done`], and then nothing changes.
+    pub fn drop_done(&mut self) -> Result<(), LinkRefusal>
+        ensures refusal { result_err result ≡ drop_refusal self.old.link }
+        ensures after { self.new ≡ after_drop self.old }
+    {
+        self.link.drop_done()?;
+        self.a.discard();
+        self.b.discard();
+        Ok(())
+    }
+
+    /// A side forgets the session that was lost: its scratchpads and pending doorbell bits are 0, and it has reached nothing
+    /// in the handshake. Its mask stays, and so does each byte of its memory.
+    ///
+    /// # Errors
+    ///
+    /// As [`Link::cleaned`], and then nothing changes.
+    pub fn clean(&mut self, side: Side) -> Result<(), LinkRefusal>
+        ensures refusal { result_err result ≡ clean_refusal self.old.link }
+        ensures after { self.new ≡ after_clean self.old side }
+    {
+        self.link.cleaned(side)?;
+        match side {
+            Side::A => {
+                self.a.zero_registers();
+                self.book_a = SideBook::none();
+            }
+            Side::B => {
+                self.b.zero_registers();
+                self.book_b = SideBook::none();
+            }
+        }
+        Ok(())
+    }
+}

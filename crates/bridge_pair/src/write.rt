@@ -1,0 +1,139 @@
+//! Posted writes.
+
+ghost use Rattle.std.specs.Prelude.{◌≡◌, ◌<◌, ◌≤◌, length};
+ghost use Rattle.bridge_pair.specs.Writes.{bell_write, memory_write, most_write_bytes, pad_write};
+
+use std::marker::Model;
+use step_kinds::Label;
+
+/// The bytes of one write to memory, 1 to 128 of them, kept in place. Contracts see their list.
+#[derive(Drop)]
+pub struct WriteBytes {
+    bytes: [u8; 128],
+    len: usize,
+}
+
+impl Model for WriteBytes {
+    ghost use Rattle.std.specs.Prelude.{List, take, ℕ, ◌≤◌};
+
+    ghost Value = { List ℕ };
+
+    ghost view = { λ bytes. take bytes.len bytes.bytes };
+
+    ghost invariant = { λ bytes. (1 ≤ bytes.len) × (bytes.len ≤ 128) };
+}
+
+impl WriteBytes {
+    /// These 1 to 128 bytes.
+    pub fn of_slice(bytes: &[u8]) -> WriteBytes
+        requires some { 1 ≤ length bytes.now }
+        requires fits { length bytes.now ≤ most_write_bytes }
+        ensures { result ≡ bytes.now }
+    {
+        let mut kept = [0u8; 128];
+        kept[..bytes.len()].copy_from_slice(bytes);
+        WriteBytes {
+            bytes: kept,
+            len: bytes.len(),
+        }
+    }
+
+    /// The bytes.
+    pub fn as_slice(&self) -> &[u8]
+        ensures value { result.now ≡ self.now }
+        ensures some { 1 ≤ length result.now }
+        ensures fits { length result.now ≤ most_write_bytes }
+    {
+        &self.bytes[..self.len]
+    }
+}
+
+/// Where a posted write goes, by the numbers of the side that posts it.
+#[derive(Drop)]
+pub enum Target {
+    /// Into the peer's memory, through one of the side's translation windows.
+    ThroughWindow {
+        /// The window's number, from 0.
+        window: u32,
+        /// Where the bytes go, in bytes from the window's beginning.
+        offset: u64,
+        /// The bytes.
+        bytes: WriteBytes,
+    },
+    /// To a scratchpad of the peer.
+    ToPad {
+        /// The scratchpad's number, 0 to 15.
+        index: u32,
+        /// What is written there.
+        value: u32,
+    },
+    /// To the peer's doorbell.
+    ToBell {
+        /// The bit that is rung, 0 to 31.
+        bit: u32,
+    },
+}
+
+/// One posted write: its label and its target. Contracts see both.
+#[derive(Drop)]
+pub struct Write {
+    pub(crate) label: Label,
+    pub(crate) target: Target,
+}
+
+impl Model for Write {
+    ghost use Rattle.bridge_pair.specs.Writes.{IsTarget, PostedWrite};
+
+    ghost Value = { PostedWrite };
+
+    ghost view = { λ write. record { label = write.label; target = write.target } };
+
+    ghost invariant = { λ write. IsTarget write.target };
+}
+
+impl Write {
+    /// A write to the peer's memory: 1 to 128 bytes, through the window `window`, from the byte `offset` of it on.
+    pub fn memory(label: Label, window: u32, offset: u64, bytes: &[u8]) -> Write
+        requires some { 1 ≤ length bytes.now }
+        requires fits { length bytes.now ≤ most_write_bytes }
+        ensures { result ≡ memory_write label window offset bytes.now }
+    {
+        Write {
+            label,
+            target: Target::ThroughWindow {
+                window,
+                offset,
+                bytes: WriteBytes::of_slice(bytes),
+            },
+        }
+    }
+
+    /// A write of `value` to the peer's scratchpad `index`, 0 to 15 (`ntb_peer_spad_write`).
+    pub fn pad(index: u32, value: u32) -> Write
+        requires { index < 16 }
+        ensures { result ≡ pad_write index value }
+    {
+        Write {
+            label: Label::Pad { index, value },
+            target: Target::ToPad { index, value },
+        }
+    }
+
+    /// The ring of the peer's doorbell for a queue, 0 to 15, whose number is the bit's (`ntb_peer_db_set`).
+    pub fn bell(queue: u32) -> Write
+        requires { queue < 16 }
+        ensures { result ≡ bell_write queue }
+    {
+        Write {
+            label: Label::Bell { queue },
+            target: Target::ToBell { bit: queue },
+        }
+    }
+
+    /// The write's label.
+    pub fn label(&self) -> Label
+        ensures { result ≡ self.now.label }
+    {
+        self.label
+    }
+}

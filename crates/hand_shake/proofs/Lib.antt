@@ -1,0 +1,6 @@
+pub mod Books
+pub mod ComingUp
+pub mod HeaderPages
+pub mod OfferPlaces
+pub mod OwnOffers
+pub mod SizeSearch

@@ -1,0 +1,4 @@
+pub mod Offers
+pub mod Checks
+pub mod Queues
+pub mod Headers
