@@ -1,5 +1,6 @@
 pub mod Before
 pub mod Declarations
+pub mod Reads
 pub mod Script
 pub mod Settings
 pub mod StepLines
