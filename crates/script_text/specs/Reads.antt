@@ -9,3 +9,8 @@ abbrev pub Reads : {X : Type 0} → Result X LineError → Result X Cause → Ty
 Reads (Ok x) due = due ≡ Ok x
 Reads (Err (Fault cause)) due = due ≡ Err cause
 Reads (Err OutOfMemory) due = Unit {0}
+
+-- a result with its value seen otherwise
+abbrev pub result_map : {X Y E : Type 0} → (X → Y) → Result X E → Result Y E
+result_map seen (Ok x) = Ok (seen x)
+result_map seen (Err error) = Err error

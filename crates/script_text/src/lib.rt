@@ -2,6 +2,7 @@
 #![tactic(auto)]
 
 mod fault;
+mod options;
 mod settings;
 mod words;
 
