@@ -15,20 +15,11 @@ use Rattle.step_kinds.specs.declared.steps.Step.{Step}
 use Rattle.plan_model.specs.Plans.{side_plan, pair_plan, dev_plan}
 use Rattle.script_text.specs.Tests.{◌>>=◌, fault_if, found_or}
 use Rattle.script_text.specs.Words.{name_word, side_word, number_word}
+use Rattle.script_text.specs.declared.parts.Part.{Part}
+use Rattle.script_text.specs.declared.parts.Part.TheVariants.{Declarations, Steps, Traffic as TrafficPart}
+use Rattle.script_text.specs.declared.parts.QueueName.{QueueName}
 use Rattle.script_text.specs.declared.fault.Cause.{Cause}
 use Rattle.script_text.specs.declared.fault.Cause.TheVariants.{UnknownName}
-
--- the part of a script that a line stands in
-pub data Part : Type 0 where
-  Declarations : Part
-  Steps : Part
-  TheTraffic : Part
-
--- a queue of one side of a pair
-pub record QueueName : Type 0 where
-  pub pair : ℕ
-  pub side : Side
-  pub queue : ℕ
 
 -- The part that the next line stands in, the names of the hosts, the plan so far, and the queues whose class was declared.
 pub record Before : Type 0 where
@@ -72,7 +63,7 @@ with_given n before (AClass name class) =
       classed = before.classed ++ name ∷ [];
     }
 with_given n before StepsBegin = record before { part = Steps }
-with_given n before TrafficBegins = record before { part = TheTraffic }
+with_given n before TrafficBegins = record before { part = TrafficPart }
 with_given n before (MoreSteps steps) =
     record before { plan = record before.plan { steps = before.plan.steps ++ map (λ step. record { line = n; step = step }) steps } }
 with_given n before (MoreTraffic traffic) = record before { plan = record before.plan { traffic = before.plan.traffic ++ traffic } }

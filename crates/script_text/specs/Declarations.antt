@@ -8,10 +8,11 @@ use Rattle.step_kinds.specs.declared.names.Side.{Side}
 use Rattle.step_kinds.specs.declared.names.Side.TheVariants.{A, B}
 use Rattle.step_kinds.specs.declared.plan.PairPlan.{PairPlan}
 use Rattle.step_kinds.specs.declared.plan.DevPlan.{DevPlan}
-use Rattle.script_text.specs.Before.{Before, QueueName, Given, Host, APair, ADevice, AClass, StepsBegin, TrafficBegins, has_name, pair_names, dev_names, pair_word, queue_word}
+use Rattle.script_text.specs.Before.{Before, Given, Host, APair, ADevice, AClass, StepsBegin, TrafficBegins, has_name, pair_names, dev_names, pair_word, queue_word}
 use Rattle.script_text.specs.Settings.{settings_from, pair_with, goes_together}
 use Rattle.script_text.specs.Tests.{◌>>=◌, fault_if, found_or}
 use Rattle.script_text.specs.Words.{name_word, side_word, number_word, number_between, hex_of, behind}
+use Rattle.script_text.specs.declared.parts.QueueName.{QueueName}
 use Rattle.script_text.specs.declared.fault.Cause.{Cause}
 use Rattle.script_text.specs.declared.fault.Cause.TheVariants.{UnknownWord, Repeated, UnknownName, BadGeometry, TooMany}
 

@@ -1,5 +1,8 @@
 pub mod Before
+pub mod Compact
+pub mod Counts
 pub mod Declarations
+pub mod NamesMatch
 pub mod Reads
 pub mod Script
 pub mod Settings

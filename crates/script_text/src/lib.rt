@@ -1,9 +1,17 @@
 //! The grammar of scripts: what plan some bytes declare, or which line is the first with a fault and which fault it is.
 #![tactic(auto)]
 
+mod devices;
 mod fault;
+mod given;
+mod macros;
+mod names;
 mod options;
+mod pairs;
+mod parts;
 mod settings;
+mod steps;
+mod traffic;
 mod words;
 
 pub use fault::{Cause, ParseError, ScriptFault};

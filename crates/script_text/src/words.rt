@@ -4,6 +4,7 @@
 ghost use Rattle.std.specs.Prelude.{◌≡◌, ◌||◌};
 ghost use Rattle.std.specs.List.{list_all};
 ghost use Rattle.script_text.specs.Reads.{Reads};
+ghost use Rattle.script_text.specs.Declarations.{same_side};
 ghost use Rattle.script_text.specs.Words as spelled;
 
 use crate::fault::{Cause, LineError};
@@ -112,4 +113,11 @@ pub fn read_bytes(alloc: Global, word: &[u8]) -> Result<Items<u8>, LineError>
         Err(FromHexError::OutOfMemory) => Err(LineError::OutOfMemory),
         Err(_) => Err(LineError::Fault(Cause::BadHex)),
     }
+}
+
+/// Whether two sides are the same.
+pub fn is_same_side(side: Side, other: Side) -> bool
+    ensures { result ≡ same_side side other }
+{
+    matches!((side, other), (Side::A, Side::A) | (Side::B, Side::B))
 }
