@@ -6,3 +6,4 @@ pub mod Orders
 pub mod Pads
 pub mod Plans
 pub mod Sizes
+pub mod TrafficPlans

@@ -1,4 +1,5 @@
 pub mod Classes
+pub mod Floods
 pub mod Keys
 pub mod NameNumbers
 pub mod Numbers

@@ -5,7 +5,9 @@ pub mod Declarations
 pub mod NamesMatch
 pub mod Reads
 pub mod Script
+pub mod Seen
 pub mod Settings
+pub mod Sound
 pub mod StepLines
 pub mod Tests
 pub mod TrafficLines

@@ -1,6 +1,6 @@
 //! The devices that are declared so far.
 
-ghost use Rattle.std.specs.Prelude.{◌≡◌, ◌∷◌, ◌++◌, ◌<◌, ◌≤◌, [], false, length, slice_index_or, IfOk};
+ghost use Rattle.std.specs.Prelude.{◌≡◌, ◌∷◌, ◌++◌, ◌<◌, ◌≤◌, [], false, length, slice_index_or, IfOk, IfSome};
 ghost use Rattle.std.specs.List.{list_any};
 ghost use Rattle.step_kinds.specs.Limits.{most_devices};
 ghost use Rattle.plan_model.specs.Plans.{no_dev};
@@ -61,7 +61,8 @@ impl Devices {
 
     /// The number of the device with the name, from 0.
     pub fn number(&self, name: &[u8]) -> Option<u32>
-        ensures { result ≡ number_named (names_of_devices self.now) name.now }
+        ensures value { result ≡ number_named (names_of_devices self.now) name.now }
+        ensures below { IfSome result (λ k. k < length self.now) }
     {
         self.names.number(name)
     }

@@ -9,6 +9,7 @@ mod names;
 mod options;
 mod pairs;
 mod parts;
+mod reader;
 mod settings;
 mod steps;
 mod traffic;

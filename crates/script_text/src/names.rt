@@ -1,6 +1,6 @@
 //! The names of one kind.
 
-ghost use Rattle.std.specs.Prelude.{◌≡◌, ◌∷◌, ◌++◌, ◌<◌, [], false, length, OnOk};
+ghost use Rattle.std.specs.Prelude.{◌≡◌, ◌∷◌, ◌++◌, ◌<◌, [], false, length, OnOk, IfSome};
 
 use indexmap::IndexSet;
 use std::alloc::{AllocError, Global};
@@ -50,7 +50,8 @@ impl Names {
 
     /// The number of the name, from 0.
     pub fn number(&self, name: &[u8]) -> Option<u32>
-        ensures { result ≡ number_named self.now name.now }
+        ensures value { result ≡ number_named self.now name.now }
+        ensures below { IfSome result (λ k. k < length self.now) }
     {
         let place = self.names.get_index_of(name)?;
         Some(place as u32)

@@ -58,7 +58,8 @@ impl Pairs {
 
     /// The number of the pair with the name, from 0.
     pub fn number(&self, name: &[u8]) -> Option<u32>
-        ensures { result ≡ number_named (names_of_pairs self.now) name.now }
+        ensures value { result ≡ number_named (names_of_pairs self.now) name.now }
+        ensures below { IfSome result (λ k. k < length self.now) }
     {
         self.names.number(name)
     }

@@ -4,7 +4,8 @@ ghost use Rattle.std.specs.Prelude.{◌≡◌, ◌∷◌, [], ◌++◌, ◌+◌,
 ghost use Rattle.step_kinds.specs.Limits.{most_traffic_frames, most_traffic_bytes, most_breaks};
 ghost use Rattle.step_kinds.specs.declared.plan.Traffic.TheVariants.{Send, Break};
 ghost use Rattle.script_text.specs.Compact.{flood_of};
-ghost use Rattle.script_text.specs.TrafficLines.{frames_in, bytes_in, is_break_of, flood_frame};
+ghost use Rattle.plan_model.specs.TrafficPlans.{frames_in, bytes_in, is_break_of};
+ghost use Rattle.script_text.specs.TrafficLines.{flood_frame};
 
 use std::alloc::{AllocError, Global};
 use std::marker::Model;
