@@ -2,6 +2,7 @@
 
 ghost use Rattle.std.specs.Prelude.{◌≡◌, ◌∷◌, ◌++◌, ◌<◌, ◌≤◌, length, IfOk};
 ghost use Rattle.std.specs.List.{list_any};
+ghost use Rattle.script_text.specs.Declarations.{is_queue};
 
 use crate::devices::Devices;
 use crate::given::Given;
@@ -43,7 +44,6 @@ impl Model for Reader {
 impl Reader {
     ghost use Rattle.script_text.specs.Before.{Before, Nothing, Host, APair, ADevice, AClass, StepsBegin, TrafficBegins, MoreSteps, MoreTraffic, nothing_before, with_given, has_name};
     ghost use Rattle.script_text.specs.Compact.{given_of, steps_of};
-    ghost use Rattle.script_text.specs.Declarations.{is_queue};
     ghost use Rattle.script_text.specs.Sound.{IsSound, Suits, IsNewHost, IsNewPair, IsNewDevice, IsNewClass, AreNewSteps, IsNewTraffic};
 
     /// No line was read.

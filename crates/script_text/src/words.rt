@@ -121,3 +121,22 @@ pub fn is_same_side(side: Side, other: Side) -> bool
 {
     matches!((side, other), (Side::A, Side::A) | (Side::B, Side::B))
 }
+
+/// The bytes that a word spells, of which there have to be so many. It takes no memory.
+pub fn read_array<const N: usize>(word: &[u8]) -> Result<[u8; N], Cause>
+    ensures { result ≡ spelled.hex_of N word.now }
+{
+    let mut bytes = [0u8; N];
+    if hex::decode_to_slice(word, &mut bytes).is_err() {
+        return Err(Cause::BadHex);
+    }
+    Ok(bytes)
+}
+
+/// The number of two bytes that a word spells, the high one first.
+pub fn read_kind(word: &[u8]) -> Result<u16, Cause>
+    ensures { result ≡ spelled.kind_word word.now }
+{
+    let [high, low] = read_array::<2>(word)?;
+    Ok(high as u16 * 256 + low as u16)
+}
