@@ -11,7 +11,7 @@ use Rattle.script_text.specs.Compact.{flood_of}
 use Rattle.plan_model.specs.TrafficPlans.{frames_in, bytes_in}
 use Rattle.script_text.specs.TrafficLines.{flood_frame}
 
-count_from-last : (from n : ℕ) → count_from from (suc n) ≡ count_from from n ++ (from + n) ∷ []
+pub count_from-last : (from n : ℕ) → count_from from (suc n) ≡ count_from from n ++ (from + n) ∷ []
 count_from-last from zero = ap (λ k. k ∷ []) (omega arith)
 count_from-last from (suc n) = ap (λ ks. from ∷ ks) (count_from-last (suc from) n ∙ ap (λ k. count_from (suc from) n ++ k ∷ []) (omega arith))
 

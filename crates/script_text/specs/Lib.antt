@@ -9,6 +9,7 @@ pub mod Seen
 pub mod Settings
 pub mod Sound
 pub mod StepLines
+pub mod StepWords
 pub mod Tests
 pub mod TrafficLines
 pub mod Words

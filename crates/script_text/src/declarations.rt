@@ -130,23 +130,86 @@ fn class_line(before: &Reader, pair: &[u8], side: &[u8], queue: &[u8], class: &[
     Ok(Given::Class { queue, class })
 }
 
+/// The words behind `host`.
+fn host_words(before: &Reader, words: &[&[u8]]) -> Result<Given, Cause>
+    ensures { result_map given_of result ≡ rules.host_words before.now (map (λ word. word.now) words.now) }
+{
+    match words {
+        [name] => host_line(before, name),
+        _ => Err(Cause::UnknownWord),
+    }
+}
+
+/// The words behind `pair`.
+fn pair_words(alloc: Global, before: &Reader, words: &[&[u8]]) -> Result<Given, LineError>
+    ensures { Reads (result_map given_of result) (rules.pair_words before.now (map (λ word. word.now) words.now)) }
+{
+    match words {
+        [name, host_a, host_b, options @ ..] => {
+            pair_line(alloc, before, name, host_a, host_b, options)
+        }
+        _ => Err(LineError::Fault(Cause::UnknownWord)),
+    }
+}
+
+/// The words behind `dev`.
+fn dev_words(before: &Reader, words: &[&[u8]]) -> Result<Given, Cause>
+    ensures { result_map given_of result ≡ rules.dev_words before.now (map (λ word. word.now) words.now) }
+{
+    match words {
+        [name, pair, side, queue, address, stop, start] => dev_line(
+            before,
+            DevWords {
+                name,
+                pair,
+                side,
+                queue,
+                address,
+                stop,
+                start,
+            },
+        ),
+        _ => Err(Cause::UnknownWord),
+    }
+}
+
+/// The words behind `class`.
+fn class_words(before: &Reader, words: &[&[u8]]) -> Result<Given, Cause>
+    ensures { result_map given_of result ≡ rules.class_words before.now (map (λ word. word.now) words.now) }
+{
+    match words {
+        [pair, side, queue, class] => class_line(before, pair, side, queue, class),
+        _ => Err(Cause::UnknownWord),
+    }
+}
+
+/// A line without further words.
+fn lone_word(words: &[&[u8]], given: Given) -> Result<Given, Cause>
+    ensures { result_map given_of result ≡ rules.lone_word (map (λ word. word.now) words.now) (given_of given) }
+{
+    match words {
+        [] => Ok(given),
+        _ => Err(Cause::UnknownWord),
+    }
+}
+
 /// A line among the declarations.
 pub fn declaration_line(alloc: Global, before: &Reader, word: &[u8], words: &[&[u8]]) -> Result<Given, LineError>
     ensures { Reads (result_map given_of result) (rules.declaration_line before.now word.now (map (λ word. word.now) words.now)) }
 {
-    match words {
-        [] if word == b"steps".as_slice() => Ok(Given::StepsBegin),
-        [] if word == b"traffic".as_slice() => Ok(Given::TrafficBegins),
-        [name] if word == b"host".as_slice() => Ok(host_line(before, name)?),
-        [name, host_a, host_b, options @ ..] if word == b"pair".as_slice() => {
-            pair_line(alloc, before, name, host_a, host_b, options)
-        }
-        [pair, side, queue, class] if word == b"class".as_slice() => {
-            Ok(class_line(before, pair, side, queue, class)?)
-        }
-        [name, pair, side, queue, address, stop, start] if word == b"dev".as_slice() => {
-            Ok(dev_line(before, DevWords { name, pair, side, queue, address, stop, start })?)
-        }
-        _ => Err(LineError::Fault(Cause::UnknownWord)),
+    if word == b"host".as_slice() {
+        Ok(host_words(before, words)?)
+    } else if word == b"pair".as_slice() {
+        pair_words(alloc, before, words)
+    } else if word == b"dev".as_slice() {
+        Ok(dev_words(before, words)?)
+    } else if word == b"class".as_slice() {
+        Ok(class_words(before, words)?)
+    } else if word == b"steps".as_slice() {
+        Ok(lone_word(words, Given::StepsBegin)?)
+    } else if word == b"traffic".as_slice() {
+        Ok(lone_word(words, Given::TrafficBegins)?)
+    } else {
+        Err(LineError::Fault(Cause::UnknownWord))
     }
 }

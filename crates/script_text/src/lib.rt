@@ -12,10 +12,12 @@ mod options;
 mod pairs;
 mod parts;
 mod reader;
+mod rings;
 
 mod settings;
 
 
+mod step_words;
 mod steps;
 mod traffic;
 mod words;
