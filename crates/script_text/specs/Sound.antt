@@ -1,66 +1,34 @@
--- What holds of the lines so far, and what each line keeps.
-use Rattle.std.specs.Prelude.{◌≡◌, ℕ, ◌+◌, ◌<◌, ◌≤◌, true, false, List, [], ◌++◌, length, map, sum, count_by}
-use Rattle.std.specs.List.{All, list_any}
+-- What holds of the lines so far, and what a line gives beside them.
+use Rattle.std.specs.Prelude.{◌≡◌, ℕ, ◌+◌, ◌*◌, ◌<◌, ◌≤◌, false, List, length, map, sum, count_by}
+use Rattle.std.specs.List.{All}
 use Rattle.step_kinds.specs.Limits.{most_hosts, most_pairs, most_devices, most_steps, most_traffic_frames, most_traffic_bytes, most_breaks, IsClass}
-use Rattle.step_kinds.specs.declared.plan.PairPlan.{PairPlan}
-use Rattle.step_kinds.specs.declared.plan.DevPlan.{DevPlan}
-use Rattle.step_kinds.specs.declared.plan.Traffic.{Traffic}
-use Rattle.step_kinds.specs.declared.steps.Step.{Step}
-use Rattle.plan_model.specs.Declared.{IsPair, IsDevice, IsQueueOf, IsPermitted}
-use Rattle.plan_model.specs.TrafficPlans.{frames_in, bytes_in, is_break_of, IsTraffic, IsWhole}
-use Rattle.script_text.specs.Before.{Before, Given, Nothing, Host, APair, ADevice, AClass, StepsBegin, TrafficBegins, MoreSteps, MoreTraffic, has_name, pair_names, dev_names}
-use Rattle.script_text.specs.Declarations.{sits_on}
-use Rattle.script_text.specs.declared.parts.Part.TheVariants.{Declarations, Steps, Traffic as TrafficPart}
-use Rattle.script_text.specs.declared.parts.QueueName.{QueueName}
+use Rattle.plan_model.specs.Declared.{IsPair, IsDevice, IsQueueOf}
+use Rattle.plan_model.specs.TrafficPlans.{frames_in, bytes_in, is_break_of}
+use Rattle.script_text.specs.Before.{Before, has_name, pair_names, dev_names}
+use Rattle.script_text.specs.Compact.{steps_of}
+use Rattle.script_text.specs.declared.given.Given.{Given}
+use Rattle.script_text.specs.declared.given.Given.TheVariants.{Nothing, Host, Pair, Device, Class, StepsBegin, TrafficBegins, Steps, Frame, Flood, Break}
 
--- the plan so far is as a script can declare it, and steps and traffic stand behind the declarations
+-- the pairs and devices are as a script can declare them, and the steps are few
 pub record IsSound (before : Before) : Type 0 where
-  pub whole : IsWhole before.plan
-  pub no_steps : before.part ≡ Declarations → before.plan.steps ≡ []
-  pub no_traffic : before.part ≡ Declarations → before.plan.traffic ≡ []
+  pub pairs : All IsPair before.plan.pairs
+  pub devices : All (IsDevice before.plan) before.plan.devs
+  pub few_steps : length before.plan.steps ≤ most_steps
 
-pub record IsNewHost (before : Before) (name : List ℕ) : Type 0 where
-  pub new : has_name before.hosts name ≡ false
-  pub few : length before.hosts < most_hosts
-
-pub record IsNewPair (before : Before) (pair : PairPlan) : Type 0 where
-  pub part : before.part ≡ Declarations
-  pub new : has_name (pair_names before) pair.name ≡ false
-  pub few : length before.plan.pairs < most_pairs
-  pub fits : IsPair pair
-
-pub record IsNewDevice (before : Before) (dev : DevPlan) : Type 0 where
-  pub part : before.part ≡ Declarations
-  pub new : has_name (dev_names before) dev.name ≡ false
-  pub few : length before.plan.devs < most_devices
-  pub fits : IsDevice before.plan dev
-  pub alone : list_any (sits_on dev.pair dev.side dev.queue) before.plan.devs ≡ false
-
-pub record IsNewClass (before : Before) (name : QueueName) (class : ℕ) : Type 0 where
-  pub part : before.part ≡ Declarations
-  pub queue : IsQueueOf before.plan name.pair name.side name.queue
-  pub fits : IsClass class
-
-pub record AreNewSteps (before : Before) (steps : List Step) : Type 0 where
-  pub part : before.part ≡ Steps
-  pub few : length before.plan.steps + length steps ≤ most_steps
-  pub permitted : All (IsPermitted before.plan) steps
-
-pub record IsNewTraffic (before : Before) (more : List Traffic) : Type 0 where
-  pub part : before.part ≡ TrafficPart
-  pub fits : All (IsTraffic before.plan) more
-  pub few_frames : sum (map frames_in before.plan.traffic) + sum (map frames_in more) ≤ most_traffic_frames
-  pub few_bytes : sum (map bytes_in before.plan.traffic) + sum (map bytes_in more) ≤ most_traffic_bytes
-  pub few_breaks : (pair : ℕ) → count_by (is_break_of pair) before.plan.traffic + count_by (is_break_of pair) more ≤ most_breaks
-
--- what a line gives fits the lines before it
+-- what a line gives is new where it has a name, is as a script can declare it, and passes no limit
 abbrev pub Suits : Before → Given → Type 0
 Suits before Nothing = Unit {0}
-Suits before (Host name) = IsNewHost before name
-Suits before (APair pair) = IsNewPair before pair
-Suits before (ADevice dev) = IsNewDevice before dev
-Suits before (AClass name class) = IsNewClass before name class
+Suits before (Host name) = (has_name before.hosts name ≡ false) × (length before.hosts < most_hosts)
+Suits before (Pair pair) = (has_name (pair_names before) pair.name ≡ false) × (length before.plan.pairs < most_pairs) × IsPair pair
+Suits before (Device dev) = (has_name (dev_names before) dev.name ≡ false) × (length before.plan.devs < most_devices) × IsDevice before.plan dev
+Suits before (Class name class) = IsQueueOf before.plan name.pair name.side name.queue × IsClass class
 Suits before StepsBegin = Unit {0}
 Suits before TrafficBegins = Unit {0}
-Suits before (MoreSteps steps) = AreNewSteps before steps
-Suits before (MoreTraffic traffic) = IsNewTraffic before traffic
+Suits before (Steps steps) = length before.plan.steps + length (steps_of steps) ≤ most_steps
+Suits before (Frame lane frame) =
+    (sum (map frames_in before.plan.traffic) + 1 ≤ most_traffic_frames) × (sum (map bytes_in before.plan.traffic) + length frame ≤ most_traffic_bytes)
+Suits before (Flood lane count len) =
+    (len ≤ 65536)
+    × (sum (map frames_in before.plan.traffic) + count ≤ most_traffic_frames)
+    × (sum (map bytes_in before.plan.traffic) + count * len ≤ most_traffic_bytes)
+Suits before (Break pair) = (pair < 16) × (count_by (is_break_of pair) before.plan.traffic < most_breaks)

@@ -4,7 +4,7 @@ use Rattle.step_kinds.specs.declared.names.Side.{Side}
 use Rattle.step_kinds.specs.declared.plan.PairPlan.{PairPlan}
 use Rattle.step_kinds.specs.declared.steps.Step.{Step}
 use Rattle.step_kinds.specs.declared.steps.Step.TheVariants as step
-use Rattle.plan_model.specs.Macros.{land_all, receive, offer_all}
+use Rattle.plan_model.specs.Macros.{send, land_all, receive, offer_all}
 use Rattle.plan_model.specs.Plans.{side_plan}
 use Rattle.script_text.specs.StepLines.{NumberedSteps, largest_number}
 use Rattle.script_text.specs.declared.step_words.PairWord.{PairWord}
@@ -13,6 +13,8 @@ use Rattle.script_text.specs.declared.step_words.SideWord.{SideWord}
 use Rattle.script_text.specs.declared.step_words.SideWord.TheVariants.{Enable, Clean, Offer, Check, Irq, OfferAll}
 use Rattle.script_text.specs.declared.step_words.QueueWord.{QueueWord}
 use Rattle.script_text.specs.declared.step_words.QueueWord.TheVariants.{Ready, Join, QpDown, Post, Look, Copy, Clear, Ack, Recv}
+use Rattle.script_text.specs.declared.step_words.FrameWord.{FrameWord}
+use Rattle.script_text.specs.declared.step_words.FrameWord.TheVariants.{Begin, Send}
 use Rattle.script_text.specs.declared.step_words.NumberWord.{NumberWord}
 use Rattle.script_text.specs.declared.step_words.NumberWord.TheVariants.{Land, LandAll, Mask, Unmask, ShowQueue, ShowPad}
 
@@ -56,3 +58,7 @@ numbered_of Mask = record { least = 0; most = largest_number; steps = λ pair si
 numbered_of Unmask = record { least = 0; most = largest_number; steps = λ pair side bits. step.Unmask pair side bits ∷ [] }
 numbered_of ShowQueue = record { least = 0; most = largest_number; steps = λ pair side place. step.ShowQueue pair side place ∷ [] }
 numbered_of ShowPad = record { least = 0; most = 15; steps = λ pair side i. step.ShowPad pair side i ∷ [] }
+
+abbrev pub frame_steps_of : FrameWord → PairPlan → ℕ → Side → ℕ → List ℕ → List Step
+frame_steps_of Begin = λ plan pair side queue frame. step.Begin pair side queue frame ∷ []
+frame_steps_of Send = send

@@ -17,6 +17,7 @@ mod rings;
 mod settings;
 
 
+mod step_lines;
 mod step_words;
 mod steps;
 mod traffic;

@@ -70,6 +70,7 @@ pub fn read_host(before: &Reader, word: &[u8]) -> Result<Name, Cause>
 pub fn read_pair(before: &Reader, word: &[u8]) -> Result<u32, Cause>
     ensures value { result ≡ pair_word before.now word.now }
     ensures declared { IfOk result (λ pair. pair < length before.now.plan.pairs) }
+    ensures small { IfOk result (λ pair. pair < 16) }
 {
     let name = read_name(word)?;
     before

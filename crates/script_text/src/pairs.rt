@@ -60,6 +60,7 @@ impl Pairs {
     pub fn number(&self, name: &[u8]) -> Option<u32>
         ensures value { result ≡ number_named (names_of_pairs self.now) name.now }
         ensures below { IfSome result (λ k. k < length self.now) }
+        ensures small { IfSome result (λ k. k < 16) }
     {
         self.names.number(name)
     }

@@ -5,17 +5,14 @@ ghost use Rattle.std.specs.List.{list_any};
 ghost use Rattle.script_text.specs.Declarations.{is_queue};
 
 use crate::devices::Devices;
-use crate::given::Given;
-use crate::macros::Macro;
 use crate::names::Names;
 use crate::pairs::Pairs;
 use crate::parts::{Part, QueueName};
-use crate::steps::push_steps;
 use crate::traffic::TrafficList;
 use crate::words::is_same_side;
-use std::alloc::{AllocError, Global};
+use std::alloc::Global;
 use std::marker::Model;
-use step_kinds::{DevPlan, Items, Line, Name, PairPlan, Plan};
+use step_kinds::{DevPlan, Items, Line, PairPlan, Plan};
 
 /// The part that the next line stands in, and the plan that the lines so far declare.
 #[derive(Drop)]
@@ -43,8 +40,11 @@ impl Model for Reader {
 
 impl Reader {
     ghost use Rattle.script_text.specs.Before.{Before, Nothing, Host, APair, ADevice, AClass, StepsBegin, TrafficBegins, MoreSteps, MoreTraffic, nothing_before, with_given, has_name};
+    ghost use Rattle.step_kinds.specs.Limits.{most_steps};
+    ghost use Rattle.plan_model.specs.Declared.{IsPair, IsDevice};
+    ghost use Rattle.plan_model.specs.Plans.{pair_plan, dev_plan};
     ghost use Rattle.script_text.specs.Compact.{given_of, steps_of};
-    ghost use Rattle.script_text.specs.Sound.{IsSound, Suits, IsNewHost, IsNewPair, IsNewDevice, IsNewClass, AreNewSteps, IsNewTraffic};
+    ghost use Rattle.script_text.specs.Sound.{Suits};
 
     /// No line was read.
     pub fn new(alloc: Global) -> Reader
@@ -82,6 +82,24 @@ impl Reader {
         &self.pairs
     }
 
+    /// The pair with the number.
+    pub fn pair(&self, number: u32) -> &PairPlan
+        requires { number < length self.now.plan.pairs }
+        ensures value { result.now ≡ pair_plan self.now.plan number }
+        ensures declared { IsPair result.now }
+    {
+        self.pairs.get(number)
+    }
+
+    /// The device with the number.
+    pub fn device(&self, number: u32) -> &DevPlan
+        requires { number < length self.now.plan.devs }
+        ensures value { result.now ≡ dev_plan self.now.plan.devs number }
+        ensures declared { IsDevice self.now.plan result.now }
+    {
+        self.devs.get(number)
+    }
+
     /// The devices.
     pub fn devs(&self) -> &Devices
         ensures { result.now ≡ self.now.plan.devs }
@@ -91,7 +109,8 @@ impl Reader {
 
     /// How many steps there are.
     pub fn step_count(&self) -> usize
-        ensures { result ≡ length self.now.plan.steps }
+        ensures value { result ≡ length self.now.plan.steps }
+        ensures few { result ≤ most_steps }
     {
         self.steps.len()
     }
@@ -108,6 +127,27 @@ impl Reader {
         ensures { result ≡ list_any (is_queue name.pair name.side name.queue) self.now.classed }
     {
         self.classed.iter().any(|other| is_queue(name, other))
+    }
+
+    /// The plan.
+    pub fn into_plan(self) -> Plan
+        ensures { result ≡ self.plan }
+    {
+        let Reader {
+            part: _,
+            hosts: _,
+            pairs,
+            devs,
+            steps,
+            traffic,
+            classed: _,
+        } = self;
+        Plan {
+            pairs: pairs.into_items(),
+            devs: devs.into_items(),
+            steps: Items::of_vec(steps),
+            traffic: traffic.into_items(),
+        }
     }
 }
 

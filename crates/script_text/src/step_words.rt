@@ -3,7 +3,7 @@
 ghost use Rattle.std.specs.Prelude.{◌≡◌, ◌≤◌};
 ghost use Rattle.std.specs.Option.{option_map};
 ghost use Rattle.script_text.specs.Compact.{steps_of};
-ghost use Rattle.script_text.specs.StepWords.{pair_step_of, side_steps_of, side_steps_with, queue_steps_of, numbered_of};
+ghost use Rattle.script_text.specs.StepWords.{pair_step_of, side_steps_of, side_steps_with, queue_steps_of, numbered_of, frame_steps_of};
 ghost use Rattle.script_text.specs.StepLines as rules;
 
 use crate::macros::{Macro, Repeated};
@@ -51,6 +51,26 @@ pub enum NumberWord {
     Unmask,
     ShowQueue,
     ShowPad,
+}
+
+/// The first word of a line that has a pair, a side, a queue and bytes.
+#[derive(Clone, Copy, Debug, PartialEq, Eq)]
+pub enum FrameWord {
+    Begin,
+    Send,
+}
+
+/// The word of steps that have a pair, a side, a queue and bytes.
+pub fn frame_word_of(word: &[u8]) -> Option<FrameWord>
+    ensures { option_map frame_steps_of result ≡ rules.frame_steps word.now }
+{
+    if word == b"begin".as_slice() {
+        Some(FrameWord::Begin)
+    } else if word == b"send".as_slice() {
+        Some(FrameWord::Send)
+    } else {
+        None
+    }
 }
 
 /// The word of a step that has a pair.

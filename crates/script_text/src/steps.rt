@@ -24,7 +24,8 @@ impl Repeated {
 impl Macro {
     /// How many steps they are.
     pub fn count(&self) -> u64
-        ensures { result ≡ length (steps_of self.now) }
+        ensures value { result ≡ length (steps_of self.now) }
+        ensures few { result ≤ 2 ^ 33 }
     {
         match self {
             Macro::One { .. } => 1,
