@@ -1,8 +1,6 @@
 -- What a word has behind a key, by its parts.
-use Rattle.std.proofs.Common.{◌≡◌, ℕ, Bool, true, false, ◌&&◌, Option, Some, None, List, [], ◌∷◌, length, take, drop, nat_eq, cond, refl, sym, ◌∙◌, ap, Bor}
+use Rattle.std.proofs.Common.{◌≡◌, ℕ, Bool, true, false, ◌&&◌, Some, None, List, [], ◌∷◌, length, take, drop, nat_eq, cond, refl}
 use Rattle.std.specs.Cmp.Lexicographic.{pointwise}
-use Rattle.std.specs.Option.{option_copied}
-use Rattle.std.specs.Prelude.{MatchOption}
 use Rattle.script_text.specs.Words.{behind}
 
 pub behind-cuts : (key word : List ℕ) → behind key word ≡ cond (pointwise nat_eq (take (length key) word) key) (Some (drop (length key) word)) None

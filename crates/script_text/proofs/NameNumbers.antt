@@ -1,9 +1,9 @@
 -- The number of a name, as a set finds it.
-use Rattle.std.proofs.Common.{◌≡◌, ℕ, ◌+◌, Bool, true, false, not, Option, Some, None, List, [], ◌∷◌, ◌++◌, length, map, nat_eq, nat_lt, cond, refl, sym, ◌∙◌, ap, arith}
+use Rattle.std.proofs.Common.{◌≡◌, ℕ, ◌+◌, Bool, true, false, Option, Some, None, List, [], ◌∷◌, ◌++◌, map, cond, refl, ◌∙◌, ap, arith}
 use Rattle.std.proofs.lemmas.List.{map-append}
 use Rattle.std.specs.Cmp.{nat_eq_equiv}
-use Rattle.std.specs.Cmp.Lexicographic.{pointwise, lists_equiv}
-use Rattle.std.specs.List.{position, position_or_len, position_from, list_any}
+use Rattle.std.specs.Cmp.Lexicographic.{lists_equiv}
+use Rattle.std.specs.List.{position, position_from, list_any}
 use Rattle.std.specs.Option.{option_map}
 use Rattle.std.specs.Str.{bytes_eq}
 use Rattle.std.proofs.lemmas.Iterator.Adapters.{position_from-zero}
@@ -27,6 +27,7 @@ module _ {K : Type 0} (text : K → List ℕ) (name : List ℕ) where
     where
       moved : option_map (λ n. (i + 1) + n) (number_named (map text keys) name) ≡ option_map (λ n. i + n) (option_map (λ n. n + 1) (number_named (map text keys) name))
       moved = elim (number_named (map text keys) name) as (λ o. option_map (λ n. (i + 1) + n) o ≡ option_map (λ n. i + n) (option_map (λ n. n + 1) o)) [ None ↦ refl | Some n ↦ ap Some (omega arith) ]
+
       by : (b : Bool) → position_from (λ k'. bytes_eq name (text k')) (i + 1) keys ≡ option_map (λ n. (i + 1) + n) (number_named (map text keys) name)
           → cond b (Some i) (position_from (λ k'. bytes_eq name (text k')) (i + 1) keys) ≡ option_map (λ n. i + n) (cond b (Some 0) (option_map (λ n. n + 1) (number_named (map text keys) name)))
       by true e = ap Some (omega arith)

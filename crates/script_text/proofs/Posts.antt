@@ -1,5 +1,5 @@
 -- The writes of a frame, piece by piece.
-use Rattle.std.proofs.Common.{◌≡◌, ℕ, ◌+◌, ◌-◌, ◌*◌, ◌==◌, true, cond, min, List, [], ◌∷◌, ◌++◌, map, sum, suc, refl, sym, ◌∙◌, ap, add-one, arith}
+use Rattle.std.proofs.Common.{◌≡◌, ℕ, ◌+◌, ◌-◌, ◌*◌, ◌==◌, true, cond, min, [], ◌∷◌, map, sum, sym, ◌∙◌, ap, add-one, arith}
 use Rattle.std.proofs.lemmas.List.{map-append}
 use Rattle.std.proofs.lemmas.List.Sums.{sum_by_push}
 use Rattle.step_kinds.specs.declared.names.Side.{Side}

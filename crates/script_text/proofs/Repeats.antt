@@ -1,5 +1,5 @@
 -- One more of a step that is repeated.
-use Rattle.std.proofs.Common.{◌≡◌, ℕ, zero, suc, ◌+◌, List, [], ◌∷◌, ◌++◌, replicate, refl, ap, ◌∙◌, add-one, append_assoc}
+use Rattle.std.proofs.Common.{◌≡◌, ℕ, zero, suc, ◌+◌, [], ◌∷◌, ◌++◌, replicate, refl, ap, add-one}
 use Rattle.step_kinds.specs.declared.steps.Step.{Step}
 use Rattle.script_text.specs.Compact.{lines_with}
 

@@ -1,5 +1,5 @@
 -- The counters that the code keeps of the traffic so far.
-use Rattle.std.specs.Prelude.{◌≡◌, ℕ, ◌<◌, ◌≤◌, List, length, map, sum, count_by, slice_index}
+use Rattle.std.specs.Prelude.{◌≡◌, ℕ, ◌<◌, ◌≤◌, List, map, sum, count_by, slice_index}
 use Rattle.step_kinds.specs.Limits.{most_traffic_frames, most_traffic_bytes, most_breaks}
 use Rattle.step_kinds.specs.declared.plan.Traffic.{Traffic}
 use Rattle.plan_model.specs.TrafficPlans.{frames_in, bytes_in, is_break_of}

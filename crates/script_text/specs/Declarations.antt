@@ -1,12 +1,11 @@
 -- Declarations: hosts, pairs, devices and classes. The tests of a line come in this order: the words from left to right, each one's
 -- spelling, then what it names, then its range; then the line as a whole.
-use Rattle.std.specs.Prelude.{ℕ, ◌==◌, Bool, true, false, if◌then◌else◌, not, ◌&&◌, ◌||◌, Option, Some, None, Result, Ok, Err, List, [], ◌∷◌, length, codes, nat_lt}
+use Rattle.std.specs.Prelude.{ℕ, ◌==◌, Bool, true, false, if◌then◌else◌, not, ◌&&◌, Result, Ok, Err, List, [], ◌∷◌, length, codes, nat_lt}
 use Rattle.std.specs.List.{list_any}
 use Rattle.std.specs.Str.{bytes_eq}
-use Rattle.step_kinds.specs.Limits.{most_hosts, most_pairs, most_devices, traffic_classes}
+use Rattle.step_kinds.specs.Limits.{most_hosts, most_pairs, most_devices}
 use Rattle.step_kinds.specs.declared.names.Side.{Side}
 use Rattle.step_kinds.specs.declared.names.Side.TheVariants.{A, B}
-use Rattle.step_kinds.specs.declared.plan.PairPlan.{PairPlan}
 use Rattle.step_kinds.specs.declared.plan.DevPlan.{DevPlan}
 use Rattle.script_text.specs.Before.{Before, Given, Host, APair, ADevice, AClass, StepsBegin, TrafficBegins, has_name, pair_names, dev_names, pair_word, queue_word}
 use Rattle.script_text.specs.Settings.{settings_from, pair_with, goes_together}

@@ -1,5 +1,5 @@
 -- The options of a pair: their spelling, their ranges, and the pair that they declare.
-use Rattle.std.specs.Prelude.{ℕ, ◌+◌, ◌%◌, ◌==◌, Bool, true, false, not, ◌&&◌, ◌||◌, Option, Some, None, Result, Ok, Err, List, [], ◌∷◌, ◌++◌, codes, nat_lt, nat_le, replicate, unwrap_or, if◌then◌else◌}
+use Rattle.std.specs.Prelude.{ℕ, ◌%◌, ◌==◌, Bool, true, false, not, ◌&&◌, ◌||◌, Option, Some, None, Result, Ok, Err, List, [], ◌∷◌, ◌++◌, codes, nat_le, replicate, unwrap_or, if◌then◌else◌}
 use Rattle.std.specs.List.{list_any}
 use Rattle.std.specs.Option.{option_or}
 use Rattle.std.specs.Str.{bytes_eq}
@@ -62,11 +62,11 @@ scoped key (Some scope) = at_sides (scope_of scope) where
 abbrev pub side_setting : List ℕ → Option (ℕ → Setting)
 side_setting key =
     option_or (option_or (option_or (option_or
-      (scoped Size (behind (key_text Size) key))
-      (scoped Cap (behind (key_text Cap) key)))
-      (scoped Windows (behind (key_text Windows) key)))
-      (scoped Queues (behind (key_text Queues) key)))
-      (scoped Version (behind (key_text Version) key))
+    (scoped Size (behind (key_text Size) key))
+    (scoped Cap (behind (key_text Cap) key)))
+    (scoped Windows (behind (key_text Windows) key)))
+    (scoped Queues (behind (key_text Queues) key)))
+    (scoped Version (behind (key_text Version) key))
 
 -- the option that a key means
 abbrev pub keyed_setting : List ℕ → Option (ℕ → Setting)

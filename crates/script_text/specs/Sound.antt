@@ -1,5 +1,5 @@
 -- What holds of the lines so far, and what a line gives beside them.
-use Rattle.std.specs.Prelude.{◌≡◌, ℕ, ◌+◌, ◌*◌, ◌<◌, ◌≤◌, false, List, length, map, sum, count_by}
+use Rattle.std.specs.Prelude.{◌≡◌, ◌+◌, ◌*◌, ◌<◌, ◌≤◌, false, length, map, sum, count_by}
 use Rattle.std.specs.List.{All}
 use Rattle.step_kinds.specs.Limits.{most_hosts, most_pairs, most_devices, most_steps, most_traffic_frames, most_traffic_bytes, most_breaks, IsClass}
 use Rattle.plan_model.specs.Declared.{IsPair, IsDevice, IsQueueOf}

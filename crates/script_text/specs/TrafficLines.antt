@@ -1,5 +1,5 @@
 -- Lines of traffic: frames that a threaded run sends, and losses of a link beside them.
-use Rattle.std.specs.Prelude.{ℕ, ◌+◌, ◌*◌, ◌%◌, ◌==◌, Bool, true, false, not, ◌&&◌, ◌||◌, Result, Ok, Err, List, [], ◌∷◌, length, codes, count_by, map, sum, nat_le, nat_lt, if◌then◌else◌}
+use Rattle.std.specs.Prelude.{ℕ, ◌+◌, ◌%◌, Bool, not, ◌&&◌, ◌||◌, Result, Ok, Err, List, [], ◌∷◌, length, codes, count_by, map, sum, nat_le, nat_lt, if◌then◌else◌}
 use Rattle.std.specs.Str.{bytes_eq}
 use Rattle.step_kinds.specs.Limits.{most_traffic_frames, most_traffic_bytes, most_breaks, most_traffic_entries}
 use Rattle.step_kinds.specs.declared.names.LaneName.{LaneName}
@@ -58,7 +58,7 @@ flood_line before pair_text side_text queue_text count_text len_text = do
   count ← number_between 1 100000 count_text
   len ← number_between 1 65536 len_text
   traffic_within before (record { pair = pair; from = side; queue = queue }) len
-    (map (λ i. Send (record { pair = pair; from = side; queue = queue }) (flood_frame len i)) (count_from 0 count))
+      (map (λ i. Send (record { pair = pair; from = side; queue = queue }) (flood_frame len i)) (count_from 0 count))
 
 -- `break PAIR`
 abbrev pub break_line : Before → List ℕ → Result Given Cause

@@ -116,7 +116,13 @@ struct DevWords<'a> {
 }
 
 /// `class PAIR SIDE QUEUE CLASS`
-fn class_line(before: &Reader, pair: &[u8], side: &[u8], queue: &[u8], class: &[u8]) -> Result<Given, Cause>
+fn class_line(
+    before: &Reader,
+    pair: &[u8],
+    side: &[u8],
+    queue: &[u8],
+    class: &[u8],
+) -> Result<Given, Cause>
     ensures { result_map given_of result ≡ rules.class_line before.now pair.now side.now queue.now class.now }
 {
     let pair = read_pair(before, pair)?;
@@ -194,7 +200,12 @@ fn lone_word(words: &[&[u8]], given: Given) -> Result<Given, Cause>
 }
 
 /// A line among the declarations.
-pub fn declaration_line(alloc: Global, before: &Reader, word: &[u8], words: &[&[u8]]) -> Result<Given, LineError>
+pub fn declaration_line(
+    alloc: Global,
+    before: &Reader,
+    word: &[u8],
+    words: &[&[u8]],
+) -> Result<Given, LineError>
     ensures { Reads (result_map given_of result) (rules.declaration_line before.now word.now (map (λ word. word.now) words.now)) }
 {
     if word == b"host".as_slice() {

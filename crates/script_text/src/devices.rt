@@ -9,11 +9,11 @@ ghost use Rattle.script_text.specs.Declarations.{sits_on};
 ghost use Rattle.script_text.specs.NamesMatch.{names_of_devices};
 
 use crate::names::Names;
-use crate::words::is_same_side;
 use crate::parts::QueueName;
-use step_kinds::{DevPlan, Items};
+use crate::words::is_same_side;
 use std::alloc::{AllocError, Global};
 use std::marker::Model;
+use step_kinds::{DevPlan, Items};
 
 /// The devices that are declared so far, in order. A device is found by its name.
 #[derive(Drop)]

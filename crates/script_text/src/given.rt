@@ -10,23 +10,43 @@ pub enum Given {
     /// The header, a comment or a line without words.
     Nothing,
     /// A host.
-    Host { name: Name },
+    Host {
+        name: Name,
+    },
     /// A pair.
-    Pair { pair: PairPlan },
+    Pair {
+        pair: PairPlan,
+    },
     /// A device.
-    Device { dev: DevPlan },
+    Device {
+        dev: DevPlan,
+    },
     /// The class of a queue.
-    Class { queue: QueueName, class: u32 },
+    Class {
+        queue: QueueName,
+        class: u32,
+    },
     /// The steps begin.
     StepsBegin,
     /// The traffic begins.
     TrafficBegins,
     /// Steps.
-    Steps { steps: Macro },
+    Steps {
+        steps: Macro,
+    },
     /// One frame of the traffic.
-    Frame { lane: LaneName, frame: Frame },
+    Frame {
+        lane: LaneName,
+        frame: Frame,
+    },
     /// So many frames of the traffic, each of so many bytes.
-    Flood { lane: LaneName, count: u32, len: u32 },
+    Flood {
+        lane: LaneName,
+        count: u32,
+        len: u32,
+    },
     /// One link loss beside the traffic.
-    Break { pair: u32 },
+    Break {
+        pair: u32,
+    },
 }

@@ -13,10 +13,7 @@ mod pairs;
 mod parts;
 mod reader;
 mod rings;
-
 mod settings;
-
-
 mod step_lines;
 mod step_words;
 mod steps;

@@ -85,10 +85,7 @@ pub fn read_device(before: &Reader, word: &[u8]) -> Result<u32, Cause>
     ensures declared { IfOk result (λ dev. dev < length before.now.plan.devs) }
 {
     let name = read_name(word)?;
-    before
-        .devs()
-        .number(name.bytes())
-        .ok_or(Cause::UnknownName)
+    before.devs().number(name.bytes()).ok_or(Cause::UnknownName)
 }
 
 /// The queue of a side that a word names.

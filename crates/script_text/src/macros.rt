@@ -19,11 +19,25 @@ pub enum Repeated {
 #[derive(Drop)]
 pub enum Macro {
     /// A step of its own.
-    One { step: Step },
+    One {
+        step: Step,
+    },
     /// A frame is begun, and all its writes are posted.
-    Posted { begin: Step, repeated: Repeated, count: u32 },
+    Posted {
+        begin: Step,
+        repeated: Repeated,
+        count: u32,
+    },
     /// One step, so many times.
-    Again { repeated: Repeated, count: u32 },
+    Again {
+        repeated: Repeated,
+        count: u32,
+    },
     /// A frame is looked for, copied, cleared and given back.
-    Received { pair: u32, side: Side, queue: u32, copies: u32 },
+    Received {
+        pair: u32,
+        side: Side,
+        queue: u32,
+        copies: u32,
+    },
 }

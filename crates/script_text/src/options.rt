@@ -3,15 +3,14 @@
 
 ghost use Rattle.std.specs.Prelude.{◌≡◌, ◌∷◌, ◌++◌, [], map};
 ghost use Rattle.std.specs.List.{list_any};
-
 ghost use Rattle.script_text.specs.Reads.{Reads, result_map};
 ghost use Rattle.script_text.specs.Settings as rules;
 
 use crate::fault::{Cause, LineError};
 use crate::settings::{Setting, SideKey, is_same_scope, read_setting};
+use std::alloc::Global;
 use step_kinds::limits::MOST_MTU;
 use step_kinds::{Items, Name, PairPlan, Side, SidePlan};
-use std::alloc::Global;
 
 /// Whether the options have this one, whatever its number is.
 fn has_setting(setting: Setting, settings: &[Setting]) -> bool
@@ -51,7 +50,12 @@ fn number_at(settings: &[Setting], key: SideKey, side: Option<Side>) -> Option<u
     ensures { result ≡ rules.number_at key side settings.now }
 {
     for setting in settings {
-        if let Setting::OfSide { key: other, side: scope, number } = *setting {
+        if let Setting::OfSide {
+            key: other,
+            side: scope,
+            number,
+        } = *setting
+        {
             if key.is_same(other) && is_same_scope(side, scope) {
                 return Some(number);
             }

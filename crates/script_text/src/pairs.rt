@@ -7,9 +7,9 @@ ghost use Rattle.script_text.specs.Before.{number_named, has_name, with_class};
 ghost use Rattle.script_text.specs.NamesMatch.{names_of_pairs};
 
 use crate::names::Names;
-use step_kinds::{Items, PairPlan, Side};
 use std::alloc::{AllocError, Global};
 use std::marker::Model;
+use step_kinds::{Items, PairPlan, Side};
 
 /// The pairs that are declared so far, in order. A pair is found by its name.
 #[derive(Drop)]

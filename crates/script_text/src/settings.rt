@@ -39,7 +39,9 @@ pub enum Setting {
     /// `raw`: bytes and scratchpads may be written past the transport.
     Raw,
     /// `mtu=NUMBER`: the most bytes of an entry with its header.
-    Mtu { number: u32 },
+    Mtu {
+        number: u32,
+    },
     /// `KEY=NUMBER`: a number of both sides, or of one where `A` or `B` stands behind the key.
     OfSide {
         key: SideKey,
@@ -80,9 +82,14 @@ impl Setting {
             (Setting::Strict, Setting::Strict) => true,
             (Setting::Raw, Setting::Raw) => true,
             (Setting::Mtu { .. }, Setting::Mtu { .. }) => true,
-            (Setting::OfSide { key, side, .. }, Setting::OfSide { key: other, side: scope, .. }) => {
-                key.is_same(other) && is_same_scope(side, scope)
-            }
+            (
+                Setting::OfSide { key, side, .. },
+                Setting::OfSide {
+                    key: other,
+                    side: scope,
+                    ..
+                },
+            ) => { key.is_same(other) && is_same_scope(side, scope) }
             _ => false,
         }
     }
@@ -191,7 +198,9 @@ fn keyed_setting(key: &[u8], digits: &[u8]) -> Result<Setting, Cause>
     ensures { result ≡ rules.keyed_word key.now (Some digits.now) }
 {
     if key == b"mtu".as_slice() {
-        return Ok(Setting::Mtu { number: read_number(digits)? });
+        return Ok(Setting::Mtu {
+            number: read_number(digits)?,
+        });
     }
     let (key, side) = side_key(key).ok_or(Cause::UnknownWord)?;
     let number = read_number(digits)?;

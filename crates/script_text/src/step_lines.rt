@@ -63,7 +63,13 @@ fn side_line(before: &Reader, word: SideWord, pair: &[u8], side: &[u8]) -> Resul
 }
 
 /// P S Q
-fn queue_line(before: &Reader, word: QueueWord, pair: &[u8], side: &[u8], queue: &[u8]) -> Result<Given, Cause>
+fn queue_line(
+    before: &Reader,
+    word: QueueWord,
+    pair: &[u8],
+    side: &[u8],
+    queue: &[u8],
+) -> Result<Given, Cause>
     ensures { result_map given_of result ≡ rules.queue_line before.now (queue_steps_of word) pair.now side.now queue.now }
 {
     let pair = read_pair(before, pair)?;
@@ -73,18 +79,38 @@ fn queue_line(before: &Reader, word: QueueWord, pair: &[u8], side: &[u8], queue:
 }
 
 /// `recv P S Q COPIES`
-fn receive_line(before: &Reader, pair: &[u8], side: &[u8], queue: &[u8], copies: &[u8]) -> Result<Given, Cause>
+fn receive_line(
+    before: &Reader,
+    pair: &[u8],
+    side: &[u8],
+    queue: &[u8],
+    copies: &[u8],
+) -> Result<Given, Cause>
     ensures { result_map given_of result ≡ rules.receive_line before.now pair.now side.now queue.now copies.now }
 {
     let pair = read_pair(before, pair)?;
     let side = read_side(side)?;
     let queue = read_queue(before, pair, side, queue)?;
     let copies = read_number_between(1, 512, copies)?;
-    steps_within(before, Macro::Received { pair, side, queue, copies })
+    steps_within(
+        before,
+        Macro::Received {
+            pair,
+            side,
+            queue,
+            copies,
+        },
+    )
 }
 
 /// P S and a number
-fn numbered_line(before: &Reader, word: NumberWord, pair: &[u8], side: &[u8], number: &[u8]) -> Result<Given, Cause>
+fn numbered_line(
+    before: &Reader,
+    word: NumberWord,
+    pair: &[u8],
+    side: &[u8],
+    number: &[u8],
+) -> Result<Given, Cause>
     ensures { result_map given_of result ≡ rules.numbered_line before.now (numbered_of word) pair.now side.now number.now }
 {
     let pair = read_pair(before, pair)?;
@@ -94,7 +120,13 @@ fn numbered_line(before: &Reader, word: NumberWord, pair: &[u8], side: &[u8], nu
 }
 
 /// `spad P S INDEX VALUE`
-fn spad_line(before: &Reader, pair: &[u8], side: &[u8], index: &[u8], value: &[u8]) -> Result<Given, Cause>
+fn spad_line(
+    before: &Reader,
+    pair: &[u8],
+    side: &[u8],
+    index: &[u8],
+    value: &[u8],
+) -> Result<Given, Cause>
     ensures { result_map given_of result ≡ rules.spad_line before.now pair.now side.now index.now value.now }
 {
     let pair = read_pair(before, pair)?;
@@ -104,11 +136,25 @@ fn spad_line(before: &Reader, pair: &[u8], side: &[u8], index: &[u8], value: &[u
     if index < 12 && !before.pair(pair).raw {
         return Err(Cause::BadPair);
     }
-    step_within(before, Step::Spad { pair, side, index, value })
+    step_within(
+        before,
+        Step::Spad {
+            pair,
+            side,
+            index,
+            value,
+        },
+    )
 }
 
 /// `showmem P S AT LEN`
-fn show_memory_line(before: &Reader, pair: &[u8], side: &[u8], at: &[u8], len: &[u8]) -> Result<Given, Cause>
+fn show_memory_line(
+    before: &Reader,
+    pair: &[u8],
+    side: &[u8],
+    at: &[u8],
+    len: &[u8],
+) -> Result<Given, Cause>
     ensures { result_map given_of result ≡ rules.show_memory_line before.now pair.now side.now at.now len.now }
 {
     let pair = read_pair(before, pair)?;
@@ -119,7 +165,15 @@ fn show_memory_line(before: &Reader, pair: &[u8], side: &[u8], at: &[u8], len: &
     if own.windows as u64 * own.cap < at + len as u64 {
         return Err(Cause::BadNumber);
     }
-    step_within(before, Step::ShowMem { pair, side, at, len })
+    step_within(
+        before,
+        Step::ShowMem {
+            pair,
+            side,
+            at,
+            len,
+        },
+    )
 }
 
 /// `wake DEV`
@@ -143,7 +197,9 @@ fn wake_line(before: &Reader, dev: &[u8]) -> Result<Given, Cause>
 fn reach(pair: &PairPlan, side: Side) -> u64
     ensures { result ≡ rules.reach pair.now side }
 {
-    side_of(pair, side).size.min(side_of(pair, side.other()).cap)
+    side_of(pair, side)
+        .size
+        .min(side_of(pair, side.other()).cap)
 }
 
 /// `poke P S WINDOW OFFSET HEX`
@@ -177,17 +233,38 @@ fn poke_line(
         return Err(LineError::Fault(Cause::TooMany));
     }
     let bytes = Frame::of_vec(bytes.into_vec());
-    Ok(step_within(before, Step::Poke { pair, side, window, offset, bytes })?)
+    Ok(step_within(
+        before,
+        Step::Poke {
+            pair,
+            side,
+            window,
+            offset,
+            bytes,
+        },
+    )?)
 }
 
 /// The steps of a frame.
-fn frame_steps(word: FrameWord, plan: &PairPlan, pair: u32, side: Side, queue: u32, frame: Frame) -> Macro
+fn frame_steps(
+    word: FrameWord,
+    plan: &PairPlan,
+    pair: u32,
+    side: Side,
+    queue: u32,
+    frame: Frame,
+) -> Macro
     requires declared { IsPair plan.now }
     requires among { queue < (side_plan plan.now side).queues }
     ensures { steps_of result ≡ frame_steps_of word plan.now pair side queue frame }
 {
     let len = frame.len();
-    let begin = Step::Begin { pair, side, queue, frame };
+    let begin = Step::Begin {
+        pair,
+        side,
+        queue,
+        frame,
+    };
     match word {
         FrameWord::Begin => Macro::One { step: begin },
         FrameWord::Send => Macro::Posted {
@@ -223,7 +300,14 @@ fn frame_line(
 }
 
 /// The steps of an Ethernet payload.
-fn ethernet_steps(before: &Reader, is_macro: bool, dev: u32, dst: [u8; 6], kind: u16, payload: Frame) -> Macro
+fn ethernet_steps(
+    before: &Reader,
+    is_macro: bool,
+    dev: u32,
+    dst: [u8; 6],
+    kind: u16,
+    payload: Frame,
+) -> Macro
     requires declared { dev < length before.now.plan.devs }
     requires fits { length payload + ethernet_header ≤ 65536 }
     ensures { steps_of result ≡ rules.ethernet_steps before.now.plan is_macro dev dst kind payload }
@@ -361,7 +445,12 @@ fn line_of_five(
 }
 
 /// A line among the steps.
-pub fn step_line(alloc: Global, before: &Reader, word: &[u8], words: &[&[u8]]) -> Result<Given, LineError>
+pub fn step_line(
+    alloc: Global,
+    before: &Reader,
+    word: &[u8],
+    words: &[&[u8]],
+) -> Result<Given, LineError>
     ensures { Reads (result_map given_of result) (rules.step_line before.now word.now (map (λ word. word.now) words.now)) }
 {
     match words {

@@ -177,11 +177,21 @@ impl SideWord {
         ensures { steps_of result ≡ side_steps_with self windows pair side }
     {
         match self {
-            SideWord::Enable => Macro::One { step: Step::Enable { pair, side } },
-            SideWord::Clean => Macro::One { step: Step::Clean { pair, side } },
-            SideWord::Offer => Macro::One { step: Step::Offer { pair, side } },
-            SideWord::Check => Macro::One { step: Step::Check { pair, side } },
-            SideWord::Irq => Macro::One { step: Step::Irq { pair, side } },
+            SideWord::Enable => Macro::One {
+                step: Step::Enable { pair, side },
+            },
+            SideWord::Clean => Macro::One {
+                step: Step::Clean { pair, side },
+            },
+            SideWord::Offer => Macro::One {
+                step: Step::Offer { pair, side },
+            },
+            SideWord::Check => Macro::One {
+                step: Step::Check { pair, side },
+            },
+            SideWord::Irq => Macro::One {
+                step: Step::Irq { pair, side },
+            },
             SideWord::OfferAll => Macro::Again {
                 repeated: Repeated::Offer { pair, side },
                 count: 2 * windows + 3,

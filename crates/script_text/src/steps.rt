@@ -14,7 +14,11 @@ impl Repeated {
     {
         match self {
             Repeated::Post { pair, side, queue } => Step::Post { pair, side, queue },
-            Repeated::Land { pair, side } => Step::Land { pair, side, place: 0 },
+            Repeated::Land { pair, side } => Step::Land {
+                pair,
+                side,
+                place: 0,
+            },
             Repeated::Copy { pair, side, queue } => Step::Copy { pair, side, queue },
             Repeated::Offer { pair, side } => Step::Offer { pair, side },
         }
@@ -46,7 +50,12 @@ fn push_step(steps: &mut Vec<Line>, line: u32, step: Step) -> Result<(), AllocEr
 
 /// Adds a step of a line so many times.
 #[tactic(auto, using(crate::proofs::Repeats::repeats_more))]
-fn push_again(steps: &mut Vec<Line>, line: u32, repeated: Repeated, count: u32) -> Result<(), AllocError>
+fn push_again(
+    steps: &mut Vec<Line>,
+    line: u32,
+    repeated: Repeated,
+    count: u32,
+) -> Result<(), AllocError>
     ensures { OnOk result (steps.new.items ≡ steps.old.items ++ lines_with line (replicate count (step_again repeated))) }
 {
     for _ in 0..count {
@@ -56,7 +65,14 @@ fn push_again(steps: &mut Vec<Line>, line: u32, repeated: Repeated, count: u32) 
 }
 
 /// Adds the steps of a macro that receives a frame.
-fn push_received(steps: &mut Vec<Line>, line: u32, pair: u32, side: Side, queue: u32, copies: u32) -> Result<(), AllocError>
+fn push_received(
+    steps: &mut Vec<Line>,
+    line: u32,
+    pair: u32,
+    side: Side,
+    queue: u32,
+    copies: u32,
+) -> Result<(), AllocError>
     ensures { OnOk result (steps.new.items ≡ steps.old.items ++ lines_with line (steps_of (Macro.Received pair side queue copies))) }
 {
     push_step(steps, line, Step::Look { pair, side, queue })?;
@@ -71,13 +87,20 @@ pub fn push_steps(steps: &mut Vec<Line>, line: u32, more: Macro) -> Result<(), A
 {
     match more {
         Macro::One { step } => push_step(steps, line, step),
-        Macro::Posted { begin, repeated, count } => {
+        Macro::Posted {
+            begin,
+            repeated,
+            count,
+        } => {
             push_step(steps, line, begin)?;
             push_again(steps, line, repeated, count)
         }
         Macro::Again { repeated, count } => push_again(steps, line, repeated, count),
-        Macro::Received { pair, side, queue, copies } => {
-            push_received(steps, line, pair, side, queue, copies)
-        }
+        Macro::Received {
+            pair,
+            side,
+            queue,
+            copies,
+        } => { push_received(steps, line, pair, side, queue, copies) }
     }
 }

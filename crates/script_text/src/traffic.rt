@@ -52,7 +52,8 @@ impl TrafficList {
         requires bytes { bytes ≤ 2 ^ 62 }
         ensures { result ≡ (nat_le (sum (map frames_in self.now) + frames) most_traffic_frames && nat_le (sum (map bytes_in self.now) + bytes) most_traffic_bytes) }
     {
-        self.frames + frames <= MOST_TRAFFIC_FRAMES as u64 && self.bytes + bytes <= MOST_TRAFFIC_BYTES
+        self.frames + frames <= MOST_TRAFFIC_FRAMES as u64
+            && self.bytes + bytes <= MOST_TRAFFIC_BYTES
     }
 
     /// How many link losses of the pair there are.
@@ -70,10 +71,20 @@ impl TrafficList {
         requires bytes { sum (map bytes_in self) + length frame ≤ most_traffic_bytes }
         ensures { IfOk result (λ more. more ≡ self ++ Send lane frame ∷ []) }
     {
-        let TrafficList { mut items, frames, bytes, breaks } = self;
+        let TrafficList {
+            mut items,
+            frames,
+            bytes,
+            breaks,
+        } = self;
         let len = frame.len() as u64;
         items.push(Traffic::Send { lane, frame })?;
-        Ok(TrafficList { items, frames: frames + 1, bytes: bytes + len, breaks })
+        Ok(TrafficList {
+            items,
+            frames: frames + 1,
+            bytes: bytes + len,
+            breaks,
+        })
     }
 
     /// The traffic with one more link loss of a pair. The only error is want of memory.
@@ -82,14 +93,30 @@ impl TrafficList {
         requires few { count_by (is_break_of pair) self < most_breaks }
         ensures { IfOk result (λ more. more ≡ self ++ Break pair ∷ []) }
     {
-        let TrafficList { mut items, frames, bytes, mut breaks } = self;
+        let TrafficList {
+            mut items,
+            frames,
+            bytes,
+            mut breaks,
+        } = self;
         items.push(Traffic::Break { pair })?;
         breaks[pair as usize] += 1;
-        Ok(TrafficList { items, frames, bytes, breaks })
+        Ok(TrafficList {
+            items,
+            frames,
+            bytes,
+            breaks,
+        })
     }
 
     /// The traffic with so many frames of so many bytes each. The only error is want of memory.
-    pub fn with_flood(self, alloc: Global, lane: LaneName, count: u32, len: u32) -> Result<TrafficList, AllocError>
+    pub fn with_flood(
+        self,
+        alloc: Global,
+        lane: LaneName,
+        count: u32,
+        len: u32,
+    ) -> Result<TrafficList, AllocError>
         requires len { len ≤ 65536 }
         requires frames { sum (map frames_in self) + count ≤ most_traffic_frames }
         requires bytes { sum (map bytes_in self) + count * len ≤ most_traffic_bytes }

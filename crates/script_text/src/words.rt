@@ -9,8 +9,8 @@ ghost use Rattle.script_text.specs.Words as spelled;
 
 use crate::fault::{Cause, LineError};
 use hex::FromHexError;
-use step_kinds::{Items, Name, Side};
 use std::alloc::Global;
+use step_kinds::{Items, Name, Side};
 
 /// Whether a word is a name: 1 to 16 small letters and digits, the first a letter.
 fn is_name(word: &[u8]) -> bool

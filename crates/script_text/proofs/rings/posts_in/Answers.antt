@@ -1,4 +1,4 @@
-use Rattle.std.proofs.Common.{◌≡◌, ℕ, ◌+◌, ◌-◌, ◌*◌, min, map, sum, if◌then◌else◌, Bool, ap, ◌∙◌, sym, arith}
+use Rattle.std.proofs.Common.{◌≡◌, ℕ, ◌+◌, ◌-◌, ◌*◌, min, map, sum, if◌then◌else◌, ap, ◌∙◌, sym, arith}
 use Rattle.lane_model.specs.Lane.{chunks_in, count_from}
 use Rattle.plan_model.specs.Sizes.{agreed_version, pieces_in, sizes_of}
 use Rattle.ring_geometry.specs.Geometry.{max_payload_of}

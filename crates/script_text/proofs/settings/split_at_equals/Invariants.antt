@@ -1,4 +1,4 @@
-use Rattle.std.proofs.Common.{◌≡◌, ◌++◌, take, drop, length}
+use Rattle.std.proofs.Common.{◌≡◌, ◌++◌, take, drop}
 use Rattle.script_text.specs.Settings.{before_equals, behind_equals}
 use Rattle.script_text.proofs.settings.split_at_equals.Given as goal
 

@@ -1,4 +1,4 @@
-use Rattle.std.proofs.Common.{◌≤◌, length, map}
+use Rattle.std.proofs.Common.{map}
 use Rattle.std.proofs.lemmas.List.{length-map}
 use Rattle.script_text.proofs.LongLines.{step_line_long}
 use Rattle.script_text.proofs.step_lines.step_line.Goals as goal

@@ -1,4 +1,4 @@
-use Rattle.std.proofs.Common.{◌≡◌, ◌≤◌, sym, ◌∙◌, ap, length, arith}
+use Rattle.std.proofs.Common.{◌∙◌, ap, length, arith}
 use Rattle.script_text.proofs.Floods.{flood_frame_more, length_flood_frame}
 use Rattle.script_text.proofs.traffic.flood_frame.Goals as goal
 

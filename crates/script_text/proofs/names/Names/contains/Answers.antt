@@ -1,4 +1,4 @@
-use Rattle.std.proofs.Common.{sym, ◌∙◌, ap}
+use Rattle.std.proofs.Common.{◌∙◌, ap}
 use Rattle.script_text.specs.Before.{has_name}
 use Rattle.script_text.proofs.NameNumbers.{list_any-named}
 use Rattle.script_text.proofs.names.Names.contains.Goals as goal

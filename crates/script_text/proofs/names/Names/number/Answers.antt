@@ -1,4 +1,4 @@
-use Rattle.std.proofs.Common.{◌≡◌, sym, ◌∙◌, ap, Option, None, Some}
+use Rattle.std.proofs.Common.{sym, ◌∙◌, ap}
 use Rattle.script_text.specs.Before.{number_named}
 use Rattle.script_text.proofs.NameNumbers.{position-named}
 use Rattle.script_text.proofs.names.Names.number.Goals as goal

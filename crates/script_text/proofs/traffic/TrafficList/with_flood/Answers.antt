@@ -1,4 +1,4 @@
-use Rattle.std.proofs.Common.{◌≡◌, ◌≤◌, sym, ◌∙◌, ap, length, arith, append_assoc}
+use Rattle.std.proofs.Common.{◌∙◌, ap, length, append_assoc}
 use Rattle.script_text.proofs.Floods.{flood_of_more, length_flood_frame, frames_stay, bytes_stay}
 use Rattle.script_text.proofs.traffic.TrafficList.with_flood.Goals as goal
 
@@ -9,7 +9,7 @@ with_frame-requires-clause-frames c =
 pub with_frame-requires-clause-bytes : goal.with_frame-requires-clause-bytes
 with_frame-requires-clause-bytes c =
     bytes_stay c.args.self c.loop-i.more c.args.lane c.loop-i.i c.args.count c.args.len _ _ c.loop-i-test.true c.requires.bytes c.loop-i.invariant
-      (ap length c.in_ok-frame.ensures ∙ length_flood_frame c.args.len c.loop-i.i)
+    (ap length c.in_ok-frame.ensures ∙ length_flood_frame c.args.len c.loop-i.i)
 
 pub loop-i-preserved : goal.loop-i-preserved
 loop-i-preserved c =
