@@ -7,3 +7,4 @@ pub mod Orders
 pub mod Pads
 pub mod Plans
 pub mod Sizes
+pub mod TrafficPlans

@@ -1,34 +1,23 @@
 -- What the lines before a line gave, and what one line gives.
-use Rattle.std.specs.Prelude.{ℕ, ◌+◌, ◌==◌, Bool, true, false, ◌&&◌, Option, Some, None, Result, Ok, List, [], ◌∷◌, ◌++◌, length, map, sum, count_by, slice_set, slice_index_or, nat_lt, not, if◌then◌else◌}
+use Rattle.std.specs.Prelude.{ℕ, ◌+◌, Bool, Option, Some, None, Result, Ok, List, [], ◌∷◌, ◌++◌, map, slice_set, nat_lt, not, if◌then◌else◌}
 use Rattle.std.specs.List.{list_any}
 use Rattle.std.specs.Option.{option_map}
 use Rattle.std.specs.Str.{bytes_eq}
-use Rattle.step_kinds.specs.declared.names.LaneName.{LaneName}
 use Rattle.step_kinds.specs.declared.names.Side.{Side}
 use Rattle.step_kinds.specs.declared.names.Side.TheVariants.{A, B}
 use Rattle.step_kinds.specs.declared.plan.PairPlan.{PairPlan}
 use Rattle.step_kinds.specs.declared.plan.DevPlan.{DevPlan}
-use Rattle.step_kinds.specs.declared.plan.Line.{Line}
 use Rattle.step_kinds.specs.declared.plan.Plan.{Plan}
 use Rattle.step_kinds.specs.declared.plan.Traffic.{Traffic}
 use Rattle.step_kinds.specs.declared.steps.Step.{Step}
-use Rattle.plan_model.specs.Plans.{side_plan, pair_plan, dev_plan}
+use Rattle.plan_model.specs.Plans.{side_plan, pair_plan}
 use Rattle.script_text.specs.Tests.{◌>>=◌, fault_if, found_or}
-use Rattle.script_text.specs.Words.{name_word, side_word, number_word}
+use Rattle.script_text.specs.Words.{name_word, number_word}
+use Rattle.script_text.specs.declared.parts.Part.{Part}
+use Rattle.script_text.specs.declared.parts.Part.TheVariants.{Declarations, Steps, Traffic as TrafficPart}
+use Rattle.script_text.specs.declared.parts.QueueName.{QueueName}
 use Rattle.script_text.specs.declared.fault.Cause.{Cause}
 use Rattle.script_text.specs.declared.fault.Cause.TheVariants.{UnknownName}
-
--- the part of a script that a line stands in
-pub data Part : Type 0 where
-  Declarations : Part
-  Steps : Part
-  TheTraffic : Part
-
--- a queue of one side of a pair
-pub record QueueName : Type 0 where
-  pub pair : ℕ
-  pub side : Side
-  pub queue : ℕ
 
 -- The part that the next line stands in, the names of the hosts, the plan so far, and the queues whose class was declared.
 pub record Before : Type 0 where
@@ -72,7 +61,7 @@ with_given n before (AClass name class) =
       classed = before.classed ++ name ∷ [];
     }
 with_given n before StepsBegin = record before { part = Steps }
-with_given n before TrafficBegins = record before { part = TheTraffic }
+with_given n before TrafficBegins = record before { part = TrafficPart }
 with_given n before (MoreSteps steps) =
     record before { plan = record before.plan { steps = before.plan.steps ++ map (λ step. record { line = n; step = step }) steps } }
 with_given n before (MoreTraffic traffic) = record before { plan = record before.plan { traffic = before.plan.traffic ++ traffic } }

@@ -1,17 +1,17 @@
 -- Declarations: hosts, pairs, devices and classes. The tests of a line come in this order: the words from left to right, each one's
 -- spelling, then what it names, then its range; then the line as a whole.
-use Rattle.std.specs.Prelude.{ℕ, ◌==◌, Bool, true, false, if◌then◌else◌, not, ◌&&◌, ◌||◌, Option, Some, None, Result, Ok, Err, List, [], ◌∷◌, length, codes, nat_lt}
+use Rattle.std.specs.Prelude.{ℕ, ◌==◌, Bool, true, false, if◌then◌else◌, not, ◌&&◌, Result, Ok, Err, List, [], ◌∷◌, length, codes, nat_lt}
 use Rattle.std.specs.List.{list_any}
 use Rattle.std.specs.Str.{bytes_eq}
-use Rattle.step_kinds.specs.Limits.{most_hosts, most_pairs, most_devices, traffic_classes}
+use Rattle.step_kinds.specs.Limits.{most_hosts, most_pairs, most_devices}
 use Rattle.step_kinds.specs.declared.names.Side.{Side}
 use Rattle.step_kinds.specs.declared.names.Side.TheVariants.{A, B}
-use Rattle.step_kinds.specs.declared.plan.PairPlan.{PairPlan}
 use Rattle.step_kinds.specs.declared.plan.DevPlan.{DevPlan}
-use Rattle.script_text.specs.Before.{Before, QueueName, Given, Host, APair, ADevice, AClass, StepsBegin, TrafficBegins, has_name, pair_names, dev_names, pair_word, queue_word}
+use Rattle.script_text.specs.Before.{Before, Given, Host, APair, ADevice, AClass, StepsBegin, TrafficBegins, has_name, pair_names, dev_names, pair_word, queue_word}
 use Rattle.script_text.specs.Settings.{settings_from, pair_with, goes_together}
 use Rattle.script_text.specs.Tests.{◌>>=◌, fault_if, found_or}
 use Rattle.script_text.specs.Words.{name_word, side_word, number_word, number_between, hex_of, behind}
+use Rattle.script_text.specs.declared.parts.QueueName.{QueueName}
 use Rattle.script_text.specs.declared.fault.Cause.{Cause}
 use Rattle.script_text.specs.declared.fault.Cause.TheVariants.{UnknownWord, Repeated, UnknownName, BadGeometry, TooMany}
 
@@ -94,20 +94,33 @@ class_line before pair_text side_text queue_text class_text = do
   _ ← fault_if (list_any (is_queue pair side queue) before.classed) Repeated
   Ok (AClass (record { pair = pair; side = side; queue = queue }) class)
 
--- A line among the declarations: its first word and the number of its words say what it is.
+-- A line among the declarations: its first word says what it is, and then the number of its words has to be one that it takes.
+abbrev pub lone_word : List (List ℕ) → Given → Result Given Cause
+lone_word [] given = Ok given
+lone_word words given = Err UnknownWord
+
+abbrev pub host_words : Before → List (List ℕ) → Result Given Cause
+host_words before (a ∷ []) = host_line before a
+host_words before words = Err UnknownWord
+
+abbrev pub pair_words : Before → List (List ℕ) → Result Given Cause
+pair_words before (a ∷ b ∷ c ∷ options) = pair_line before a b c options
+pair_words before words = Err UnknownWord
+
+abbrev pub dev_words : Before → List (List ℕ) → Result Given Cause
+dev_words before (a ∷ b ∷ c ∷ d ∷ e ∷ f ∷ g ∷ []) = dev_line before a b c d e f g
+dev_words before words = Err UnknownWord
+
+abbrev pub class_words : Before → List (List ℕ) → Result Given Cause
+class_words before (a ∷ b ∷ c ∷ d ∷ []) = class_line before a b c d
+class_words before words = Err UnknownWord
+
 abbrev pub declaration_line : Before → List ℕ → List (List ℕ) → Result Given Cause
-declaration_line before word [] = if bytes_eq word (codes "steps") then Ok StepsBegin else if bytes_eq word (codes "traffic") then Ok TrafficBegins else Err UnknownWord
-declaration_line before word (a ∷ []) = if bytes_eq word (codes "host") then host_line before a else Err UnknownWord
-declaration_line before word (a ∷ b ∷ []) = Err UnknownWord
-declaration_line before word (a ∷ b ∷ c ∷ []) = if bytes_eq word (codes "pair") then pair_line before a b c [] else Err UnknownWord
-declaration_line before word (a ∷ b ∷ c ∷ d ∷ []) =
-    if bytes_eq word (codes "pair") then pair_line before a b c (d ∷ [])
-    else if bytes_eq word (codes "class") then class_line before a b c d
+declaration_line before word words =
+    if bytes_eq word (codes "host") then host_words before words
+    else if bytes_eq word (codes "pair") then pair_words before words
+    else if bytes_eq word (codes "dev") then dev_words before words
+    else if bytes_eq word (codes "class") then class_words before words
+    else if bytes_eq word (codes "steps") then lone_word words StepsBegin
+    else if bytes_eq word (codes "traffic") then lone_word words TrafficBegins
     else Err UnknownWord
-declaration_line before word (a ∷ b ∷ c ∷ d ∷ e ∷ []) = if bytes_eq word (codes "pair") then pair_line before a b c (d ∷ e ∷ []) else Err UnknownWord
-declaration_line before word (a ∷ b ∷ c ∷ d ∷ e ∷ f ∷ []) = if bytes_eq word (codes "pair") then pair_line before a b c (d ∷ e ∷ f ∷ []) else Err UnknownWord
-declaration_line before word (a ∷ b ∷ c ∷ d ∷ e ∷ f ∷ g ∷ []) =
-    if bytes_eq word (codes "pair") then pair_line before a b c (d ∷ e ∷ f ∷ g ∷ [])
-    else if bytes_eq word (codes "dev") then dev_line before a b c d e f g
-    else Err UnknownWord
-declaration_line before word (a ∷ b ∷ c ∷ words) = if bytes_eq word (codes "pair") then pair_line before a b c words else Err UnknownWord

@@ -2,7 +2,9 @@
 use Rattle.std.specs.Prelude.{ℕ, ◌+◌, ◌==◌, Bool, false, not, ◌&&◌, Result, Ok, Err, List, [], ◌∷◌, codes, if◌then◌else◌}
 use Rattle.std.specs.Str.{bytes_eq}
 use Rattle.step_kinds.specs.declared.plan.Plan.{Plan}
-use Rattle.script_text.specs.Before.{Part, Declarations, Steps, TheTraffic, Before, nothing_before, Given, Nothing, with_given}
+use Rattle.script_text.specs.declared.parts.Part.{Part}
+use Rattle.script_text.specs.declared.parts.Part.TheVariants.{Declarations, Steps, Traffic}
+use Rattle.script_text.specs.Before.{Before, nothing_before, Given, Nothing, with_given}
 use Rattle.script_text.specs.Declarations.{declaration_line}
 use Rattle.script_text.specs.StepLines.{step_line}
 use Rattle.script_text.specs.TrafficLines.{traffic_line}
@@ -28,7 +30,7 @@ abbrev pub words_line : Before → Part → List (List ℕ) → Result Given Cau
 words_line before part [] = Ok Nothing
 words_line before Declarations (word ∷ words) = declaration_line before word words
 words_line before Steps (word ∷ words) = step_line before word words
-words_line before TheTraffic (word ∷ words) = traffic_line before word words
+words_line before Traffic (word ∷ words) = traffic_line before word words
 
 -- What line n gives after what the lines before it gave, or its first fault. From line 2 on a line without words and a comment
 -- are skipped, whatever their bytes are.

@@ -1,6 +1,7 @@
 -- The options of a pair: their spelling, their ranges, and the pair that they declare.
-use Rattle.std.specs.Prelude.{ℕ, ◌+◌, ◌%◌, ◌==◌, Bool, true, false, not, ◌&&◌, ◌||◌, Option, Some, None, Result, Ok, Err, List, [], ◌∷◌, ◌++◌, codes, nat_lt, nat_le, replicate, unwrap_or, if◌then◌else◌}
+use Rattle.std.specs.Prelude.{ℕ, ◌%◌, ◌==◌, Bool, true, false, not, ◌&&◌, ◌||◌, Option, Some, None, Result, Ok, Err, List, [], ◌∷◌, ◌++◌, codes, nat_le, replicate, unwrap_or, if◌then◌else◌}
 use Rattle.std.specs.List.{list_any}
+use Rattle.std.specs.Option.{option_or}
 use Rattle.std.specs.Str.{bytes_eq}
 use Rattle.step_kinds.specs.Limits.{most_queues, most_windows, least_size, most_size, size_step, least_mtu, most_mtu}
 use Rattle.step_kinds.specs.Sides.{other_side}
@@ -57,18 +58,19 @@ scoped key (Some scope) = at_sides (scope_of scope) where
   at_sides None = None
   at_sides (Some side) = Some (λ number. OfSide key side number)
 
-abbrev pub first_of : {X : Type 0} → Option X → Option X → Option X
-first_of (Some x) later = Some x
-first_of None later = later
+-- the option of a side's number that a key means
+abbrev pub side_setting : List ℕ → Option (ℕ → Setting)
+side_setting key =
+    option_or (option_or (option_or (option_or
+    (scoped Size (behind (key_text Size) key))
+    (scoped Cap (behind (key_text Cap) key)))
+    (scoped Windows (behind (key_text Windows) key)))
+    (scoped Queues (behind (key_text Queues) key)))
+    (scoped Version (behind (key_text Version) key))
 
 -- the option that a key means
 abbrev pub keyed_setting : List ℕ → Option (ℕ → Setting)
-keyed_setting key =
-    if bytes_eq key (codes "mtu") then Some (λ number. Mtu number)
-    else first_of (scoped Size (behind (key_text Size) key))
-    (first_of (scoped Cap (behind (key_text Cap) key))
-    (first_of (scoped Windows (behind (key_text Windows) key))
-    (first_of (scoped Queues (behind (key_text Queues) key)) (scoped Version (behind (key_text Version) key)))))
+keyed_setting key = if bytes_eq key (codes "mtu") then Some (λ number. Mtu number) else side_setting key
 
 abbrev pub keyed_word : List ℕ → Option (List ℕ) → Result Setting Cause
 keyed_word key None = Err UnknownWord
@@ -145,7 +147,7 @@ number_at key side (setting ∷ settings) = number_at key side settings
 
 -- a side's number: its own key's, else the plain key's, else what it is where nothing is said
 abbrev pub side_number : List Setting → SideKey → Side → ℕ → ℕ
-side_number settings key side default = unwrap_or (first_of (number_at key (Some side) settings) (number_at key None settings)) default
+side_number settings key side default = unwrap_or (option_or (number_at key (Some side) settings) (number_at key None settings)) default
 
 abbrev pub mtu_in : List Setting → ℕ
 mtu_in [] = most_mtu
@@ -195,8 +197,11 @@ agrees pair =
     (nat_le 4 pair.a.version && nat_le 4 pair.b.version)
     && ((pair.a.queues == pair.b.queues) && ((pair.a.windows == pair.b.windows) && sizes_fit pair))
 
+-- a slot has room for the longer header of version 5 and four bytes
+abbrev pub has_room_for_header : PairPlan → Bool
+has_room_for_header pair = not ((pair.a.version == 5) || (pair.b.version == 5)) || nat_le 20 pair.mtu
+
 abbrev pub goes_together : PairPlan → Bool
 goes_together pair =
     (nat_le 4 pair.a.version || nat_le 4 pair.b.version)
-    && ((not ((pair.a.version == 5) || (pair.b.version == 5)) || nat_le 20 pair.mtu)
-    && ((not pair.up || agrees pair) && (not pair.raw || sizes_fit pair)))
+    && (has_room_for_header pair && ((not pair.up || agrees pair) && (not pair.raw || sizes_fit pair)))

@@ -1,5 +1,5 @@
 -- Lines of steps and macros, grouped by their arguments: P is a pair, S a side, Q a queue of that side.
-use Rattle.std.specs.Prelude.{ℕ, ◌+◌, ◌*◌, Bool, true, false, not, ◌&&◌, ◌||◌, Option, Some, None, Result, Ok, Err, List, [], ◌∷◌, length, codes, min, nat_lt, if◌then◌else◌}
+use Rattle.std.specs.Prelude.{ℕ, ◌+◌, ◌*◌, Bool, true, false, not, ◌&&◌, Option, Some, None, Result, Ok, Err, List, [], ◌∷◌, length, codes, min, nat_lt, if◌then◌else◌}
 use Rattle.std.specs.Str.{bytes_eq}
 use Rattle.step_kinds.specs.Limits.{most_frame_bytes, most_steps}
 use Rattle.step_kinds.specs.Sides.{other_side}
@@ -217,11 +217,14 @@ line_of_four before word a b c d =
     else if bytes_eq word (codes "xmit") then ethernet_line before true a b c d
     else or_unknown (frame_steps word) (λ steps. frame_line before steps a b c d)
 
+abbrev pub line_of_five : Before → List ℕ → List ℕ → List ℕ → List ℕ → List ℕ → List ℕ → Result Given Cause
+line_of_five before word a b c d e = if bytes_eq word (codes "poke") then poke_line before a b c d e else Err UnknownWord
+
 abbrev pub step_line : Before → List ℕ → List (List ℕ) → Result Given Cause
 step_line before word [] = if bytes_eq word (codes "traffic") then Ok TrafficBegins else Err UnknownWord
 step_line before word (a ∷ []) = line_of_one before word a
 step_line before word (a ∷ b ∷ []) = line_of_two before word a b
 step_line before word (a ∷ b ∷ c ∷ []) = line_of_three before word a b c
 step_line before word (a ∷ b ∷ c ∷ d ∷ []) = line_of_four before word a b c d
-step_line before word (a ∷ b ∷ c ∷ d ∷ e ∷ []) = if bytes_eq word (codes "poke") then poke_line before a b c d e else Err UnknownWord
+step_line before word (a ∷ b ∷ c ∷ d ∷ e ∷ []) = line_of_five before word a b c d e
 step_line before word words = Err UnknownWord

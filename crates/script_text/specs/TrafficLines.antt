@@ -1,5 +1,5 @@
 -- Lines of traffic: frames that a threaded run sends, and losses of a link beside them.
-use Rattle.std.specs.Prelude.{ℕ, ◌+◌, ◌*◌, ◌%◌, ◌==◌, Bool, true, false, not, ◌&&◌, ◌||◌, Result, Ok, Err, List, [], ◌∷◌, length, codes, count_by, map, sum, nat_le, nat_lt, if◌then◌else◌}
+use Rattle.std.specs.Prelude.{ℕ, ◌+◌, ◌%◌, Bool, not, ◌&&◌, ◌||◌, Result, Ok, Err, List, [], ◌∷◌, length, codes, count_by, map, sum, nat_le, nat_lt, if◌then◌else◌}
 use Rattle.std.specs.Str.{bytes_eq}
 use Rattle.step_kinds.specs.Limits.{most_traffic_frames, most_traffic_bytes, most_breaks, most_traffic_entries}
 use Rattle.step_kinds.specs.declared.names.LaneName.{LaneName}
@@ -9,6 +9,7 @@ use Rattle.step_kinds.specs.declared.plan.Traffic.TheVariants.{Send, Break}
 use Rattle.lane_model.specs.Lane.{count_from}
 use Rattle.plan_model.specs.Plans.{pair_plan}
 use Rattle.plan_model.specs.Sizes.{sizes_of}
+use Rattle.plan_model.specs.TrafficPlans.{frames_in, bytes_in, is_break_of}
 use Rattle.script_text.specs.Before.{Before, Given, MoreTraffic, pair_word, queue_word}
 use Rattle.script_text.specs.Settings.{agrees}
 use Rattle.script_text.specs.Tests.{◌>>=◌, fault_if}
@@ -16,22 +17,9 @@ use Rattle.script_text.specs.Words.{side_word, number_between, hex_word}
 use Rattle.script_text.specs.declared.fault.Cause.{Cause}
 use Rattle.script_text.specs.declared.fault.Cause.TheVariants.{UnknownWord, BadGeometry, BadPair, TooMany}
 
--- a pair may have traffic where its sides can be brought up and nothing is written past the transport
+-- whether a pair may have traffic: its sides can be brought up and nothing is written past the transport
 abbrev pub may_have_traffic : PairPlan → Bool
 may_have_traffic pair = not pair.raw && agrees pair
-
--- the frames of the traffic, their bytes, and the link losses of a pair
-abbrev pub frames_in : Traffic → ℕ
-frames_in (Send lane frame) = 1
-frames_in item = 0
-
-abbrev pub bytes_in : Traffic → ℕ
-bytes_in (Send lane frame) = length frame
-bytes_in item = 0
-
-abbrev pub is_break_of : ℕ → Traffic → Bool
-is_break_of pair (Break other) = other == pair
-is_break_of pair item = false
 
 -- whether the traffic with some more stays within the limits of frames and bytes
 abbrev pub is_little : List Traffic → List Traffic → Bool
@@ -70,7 +58,7 @@ flood_line before pair_text side_text queue_text count_text len_text = do
   count ← number_between 1 100000 count_text
   len ← number_between 1 65536 len_text
   traffic_within before (record { pair = pair; from = side; queue = queue }) len
-    (map (λ i. Send (record { pair = pair; from = side; queue = queue }) (flood_frame len i)) (count_from 0 count))
+      (map (λ i. Send (record { pair = pair; from = side; queue = queue }) (flood_frame len i)) (count_from 0 count))
 
 -- `break PAIR`
 abbrev pub break_line : Before → List ℕ → Result Given Cause

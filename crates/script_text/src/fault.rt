@@ -1,5 +1,11 @@
 //! Why a script is refused.
 
+ghost use Rattle.std.specs.Prelude.{◌≡◌};
+ghost use Rattle.script_text.specs.declared.fault.LineError.TheVariants.{Fault, OutOfMemory};
+
+use std::alloc::AllocError;
+use thiserror::Error;
+
 /// Why a line of a script is refused. Within a line the first cause in the order of the tests is the one that is named:
 /// bytes that are no text; the header; the first word and the number of words; the other words from left to right, each
 /// one's spelling before what it names and its range; then the line as a whole.
@@ -39,4 +45,40 @@ pub struct ScriptFault {
     pub line: u32,
     /// Why the line is refused.
     pub cause: Cause,
+}
+
+/// Why a script gives no plan.
+#[derive(Clone, Copy, Debug, PartialEq, Eq, Error)]
+pub enum ParseError {
+    /// The script has a fault.
+    #[error("the script has a fault")]
+    Fault(ScriptFault),
+    /// There is no memory for the plan. Nothing is said of the script.
+    #[error("out of memory")]
+    OutOfMemory,
+}
+
+/// Why a line gives nothing.
+#[derive(Clone, Copy, Debug, PartialEq, Eq)]
+pub enum LineError {
+    /// The line has a fault.
+    Fault(Cause),
+    /// There is no memory for what the line gives.
+    OutOfMemory,
+}
+
+impl From<Cause> for LineError {
+    ghost from_gives = { λ cause error. error ≡ Fault cause };
+
+    fn from(cause: Cause) -> LineError {
+        LineError::Fault(cause)
+    }
+}
+
+impl From<AllocError> for LineError {
+    ghost from_gives = { λ _ error. error ≡ OutOfMemory };
+
+    fn from(_error: AllocError) -> LineError {
+        LineError::OutOfMemory
+    }
 }

@@ -1,0 +1,226 @@
+//! Declarations: hosts, pairs, devices and classes.
+#![tactic(auto, unfolding(crate::specs::Tests::and_then))]
+
+ghost use Rattle.std.specs.Prelude.{◌≡◌, ◌∷◌, map, codes};
+ghost use Rattle.script_text.specs.Compact.{given_of};
+ghost use Rattle.script_text.specs.Declarations as rules;
+ghost use Rattle.script_text.specs.Reads.{Reads, result_map};
+ghost use Rattle.script_text.specs.Words.{hex_of};
+
+use crate::fault::{Cause, LineError};
+use crate::given::Given;
+use crate::lookups::{new_device, new_host, new_pair, read_host, read_pair, read_queue};
+use crate::options::{goes_together, pair_with, read_settings};
+use crate::parts::QueueName;
+use crate::reader::Reader;
+use crate::settings::behind_key;
+use crate::words::{read_array, read_number, read_number_between, read_side};
+use std::alloc::Global;
+use step_kinds::DevPlan;
+use step_kinds::limits::{MOST_DEVICES, MOST_HOSTS, MOST_PAIRS};
+
+/// `host NAME`
+fn host_line(before: &Reader, name: &[u8]) -> Result<Given, Cause>
+    ensures { result_map given_of result ≡ rules.host_line before.now name.now }
+{
+    let name = new_host(before, name)?;
+    if before.hosts().len() >= MOST_HOSTS {
+        return Err(Cause::TooMany);
+    }
+    Ok(Given::Host { name })
+}
+
+/// `pair NAME HOST HOST OPTION..`
+fn pair_line(
+    alloc: Global,
+    before: &Reader,
+    name: &[u8],
+    host_a: &[u8],
+    host_b: &[u8],
+    options: &[&[u8]],
+) -> Result<Given, LineError>
+    ensures { Reads (result_map given_of result) (rules.pair_line before.now name.now host_a.now host_b.now (map (λ word. word.now) options.now)) }
+{
+    let name = new_pair(before, name)?;
+    let a = read_host(before, host_a)?;
+    let b = read_host(before, host_b)?;
+    let settings = read_settings(alloc, options)?;
+    if a.bytes() == b.bytes() {
+        return Err(LineError::Fault(Cause::Repeated));
+    }
+    let pair = pair_with(name, settings.as_slice());
+    if !goes_together(&pair) {
+        return Err(LineError::Fault(Cause::BadGeometry));
+    }
+    if before.pairs().len() >= MOST_PAIRS {
+        return Err(LineError::Fault(Cause::TooMany));
+    }
+    Ok(Given::Pair { pair })
+}
+
+/// A device's threshold behind its key.
+fn read_threshold(key: &[u8], word: &[u8]) -> Result<u32, Cause>
+    ensures { result ≡ rules.threshold_word key.now word.now }
+{
+    let digits = behind_key(key, word).ok_or(Cause::UnknownWord)?;
+    let number = read_number(digits)?;
+    if number > 65535 {
+        return Err(Cause::BadGeometry);
+    }
+    Ok(number)
+}
+
+/// `dev NAME PAIR SIDE QUEUE ADDRESS stop=K start=K`
+fn dev_line(before: &Reader, words: DevWords<'_>) -> Result<Given, Cause>
+    ensures { result_map given_of result ≡ rules.dev_line before.now words.entry.name.now words.entry.pair.now words.entry.side.now words.entry.queue.now words.entry.address.now words.entry.stop.now words.entry.start.now }
+{
+    let name = new_device(before, words.name)?;
+    let pair = read_pair(before, words.pair)?;
+    let side = read_side(words.side)?;
+    let queue = read_queue(before, pair, side, words.queue)?;
+    let address = read_array(words.address)?;
+    let stop = read_threshold(b"stop=", words.stop)?;
+    let start = read_threshold(b"start=", words.start)?;
+    if before.devs().any_on(QueueName { pair, side, queue }) {
+        return Err(Cause::Repeated);
+    }
+    if start < stop {
+        return Err(Cause::BadGeometry);
+    }
+    if before.devs().len() >= MOST_DEVICES {
+        return Err(Cause::TooMany);
+    }
+    Ok(Given::Device {
+        dev: DevPlan {
+            name,
+            pair,
+            side,
+            queue,
+            address,
+            stop,
+            start,
+        },
+    })
+}
+
+/// The words of a device's line behind the first.
+#[derive(Clone, Copy)]
+struct DevWords<'a> {
+    name: &'a [u8],
+    pair: &'a [u8],
+    side: &'a [u8],
+    queue: &'a [u8],
+    address: &'a [u8],
+    stop: &'a [u8],
+    start: &'a [u8],
+}
+
+/// `class PAIR SIDE QUEUE CLASS`
+fn class_line(
+    before: &Reader,
+    pair: &[u8],
+    side: &[u8],
+    queue: &[u8],
+    class: &[u8],
+) -> Result<Given, Cause>
+    ensures { result_map given_of result ≡ rules.class_line before.now pair.now side.now queue.now class.now }
+{
+    let pair = read_pair(before, pair)?;
+    let side = read_side(side)?;
+    let queue = read_queue(before, pair, side, queue)?;
+    let class = read_number_between(0, 7, class)?;
+    let queue = QueueName { pair, side, queue };
+    if before.is_classed(queue) {
+        return Err(Cause::Repeated);
+    }
+    Ok(Given::Class { queue, class })
+}
+
+/// The words behind `host`.
+fn host_words(before: &Reader, words: &[&[u8]]) -> Result<Given, Cause>
+    ensures { result_map given_of result ≡ rules.host_words before.now (map (λ word. word.now) words.now) }
+{
+    match words {
+        [name] => host_line(before, name),
+        _ => Err(Cause::UnknownWord),
+    }
+}
+
+/// The words behind `pair`.
+fn pair_words(alloc: Global, before: &Reader, words: &[&[u8]]) -> Result<Given, LineError>
+    ensures { Reads (result_map given_of result) (rules.pair_words before.now (map (λ word. word.now) words.now)) }
+{
+    match words {
+        [name, host_a, host_b, options @ ..] => {
+            pair_line(alloc, before, name, host_a, host_b, options)
+        }
+        _ => Err(LineError::Fault(Cause::UnknownWord)),
+    }
+}
+
+/// The words behind `dev`.
+fn dev_words(before: &Reader, words: &[&[u8]]) -> Result<Given, Cause>
+    ensures { result_map given_of result ≡ rules.dev_words before.now (map (λ word. word.now) words.now) }
+{
+    match words {
+        [name, pair, side, queue, address, stop, start] => dev_line(
+            before,
+            DevWords {
+                name,
+                pair,
+                side,
+                queue,
+                address,
+                stop,
+                start,
+            },
+        ),
+        _ => Err(Cause::UnknownWord),
+    }
+}
+
+/// The words behind `class`.
+fn class_words(before: &Reader, words: &[&[u8]]) -> Result<Given, Cause>
+    ensures { result_map given_of result ≡ rules.class_words before.now (map (λ word. word.now) words.now) }
+{
+    match words {
+        [pair, side, queue, class] => class_line(before, pair, side, queue, class),
+        _ => Err(Cause::UnknownWord),
+    }
+}
+
+/// A line without further words.
+fn lone_word(words: &[&[u8]], given: Given) -> Result<Given, Cause>
+    ensures { result_map given_of result ≡ rules.lone_word (map (λ word. word.now) words.now) (given_of given) }
+{
+    match words {
+        [] => Ok(given),
+        _ => Err(Cause::UnknownWord),
+    }
+}
+
+/// A line among the declarations.
+pub fn declaration_line(
+    alloc: Global,
+    before: &Reader,
+    word: &[u8],
+    words: &[&[u8]],
+) -> Result<Given, LineError>
+    ensures { Reads (result_map given_of result) (rules.declaration_line before.now word.now (map (λ word. word.now) words.now)) }
+{
+    if word == b"host".as_slice() {
+        Ok(host_words(before, words)?)
+    } else if word == b"pair".as_slice() {
+        pair_words(alloc, before, words)
+    } else if word == b"dev".as_slice() {
+        Ok(dev_words(before, words)?)
+    } else if word == b"class".as_slice() {
+        Ok(class_words(before, words)?)
+    } else if word == b"steps".as_slice() {
+        Ok(lone_word(words, Given::StepsBegin)?)
+    } else if word == b"traffic".as_slice() {
+        Ok(lone_word(words, Given::TrafficBegins)?)
+    } else {
+        Err(LineError::Fault(Cause::UnknownWord))
+    }
+}
