@@ -1,0 +1,10 @@
+//! The texts of answers, of the report of a replay and of the record of a threaded run: exact bytes, appended to one
+//! buffer. Numbers are decimal, bytes lower-case hexadecimal, and each line ends with a line feed.
+#![tactic(auto)]
+
+mod answers;
+mod append;
+mod whole;
+
+pub use answers::{push_answer, text_of};
+pub use whole::{LaneCount, report};
