@@ -66,23 +66,35 @@ report_of plan lines lanes devs =
 
 -- The text of a threaded run
 
+-- a frame behind a word and its number
+abbrev pub frame_line : List ℕ → ℕ → List ℕ → List ℕ
+frame_line word n frame = line_of (word ++ numbers_text (n ∷ []) ++ 32 ∷ frame_text frame)
+
 -- frames behind a word, numbered from n on
 abbrev pub frame_lines : List ℕ → ℕ → List (List ℕ) → List ℕ
 frame_lines word n [] = []
-frame_lines word n (frame ∷ frames) = line_of (word ++ numbers_text (n ∷ []) ++ 32 ∷ frame_text frame) ++ frame_lines word (n + 1) frames
+frame_lines word n (frame ∷ frames) = frame_line word n frame ++ frame_lines word (n + 1) frames
 
--- a session of a lane: how many frames it accepted, delivered and left, then these frames; those that were left are numbered on
--- from those that were delivered
+-- how many frames were accepted, delivered and left, and the line's end
+abbrev pub counts_text : ℕ → ℕ → ℕ → List ℕ
+counts_text accepted delivered left =
+    line_of
+    (codes " accepted" ++ numbers_text (accepted ∷ []) ++ codes " delivered" ++ numbers_text (delivered ∷ [])
+    ++ codes " left" ++ numbers_text (left ∷ []))
+
+-- a session of a lane: its counts, then its frames; those that were left are numbered on from those that were delivered
 abbrev pub session_lines : List PairPlan → LaneName → ℕ → SessionShown → List ℕ
 session_lines pairs lane session run =
-    line_of
-    (lane_text pairs lane session ++ codes " accepted" ++ numbers_text ((length run.delivered + length run.left) ∷ [])
-    ++ codes " delivered" ++ numbers_text ((length run.delivered) ∷ []) ++ codes " left" ++ numbers_text ((length run.left) ∷ []))
+    lane_text pairs lane session ++ counts_text (length run.delivered + length run.left) (length run.delivered) (length run.left)
     ++ frame_lines (codes "frame") 0 run.delivered ++ frame_lines (codes "left") (length run.delivered) run.left
 
+-- the sessions of a lane, from this number on
 abbrev pub sessions_lines : List PairPlan → LaneName → ℕ → List SessionShown → List ℕ
 sessions_lines pairs lane session [] = []
 sessions_lines pairs lane session (run ∷ runs) = session_lines pairs lane session run ++ sessions_lines pairs lane (session + 1) runs
 
+abbrev pub run_lines : List PairPlan → LaneShown → List ℕ
+run_lines pairs lane = sessions_lines pairs lane.name 1 lane.sessions
+
 abbrev pub record_of : Plan → List LaneShown → List ℕ
-record_of plan lanes = flat_map (λ lane. sessions_lines plan.pairs lane.name 1 lane.sessions) lanes ++ end_line
+record_of plan lanes = flat_map (run_lines plan.pairs) lanes ++ end_line

@@ -4,7 +4,9 @@
 
 mod answers;
 mod append;
+mod run;
 mod whole;
 
 pub use answers::{push_answer, text_of};
+pub use run::record_text;
 pub use whole::{LaneCount, report};

@@ -87,7 +87,7 @@ fn push_count(text: &mut Vec<u8>, pairs: &[PairPlan], count: &LaneCount) -> Resu
     if count.accepted == 0 && count.delivered == 0 {
         return Ok(());
     }
-    push_lane(text, pairs, &count.name, count.session)?;
+    push_lane(text, pairs, &count.name, u64::from(count.session))?;
     push_word(text, " accepted")?;
     push_numbers(text, &[count.accepted])?;
     push_word(text, " delivered")?;
@@ -95,15 +95,15 @@ fn push_count(text: &mut Vec<u8>, pairs: &[PairPlan], count: &LaneCount) -> Resu
     push_word(text, "\n")
 }
 
-// Adds a lane in a session.
-fn push_lane(text: &mut Vec<u8>, pairs: &[PairPlan], lane: &LaneName, session: u32) -> Result<(), AllocError>
+/// Adds a lane in a session.
+pub fn push_lane(text: &mut Vec<u8>, pairs: &[PairPlan], lane: &LaneName, session: u64) -> Result<(), AllocError>
     requires { lane.now.pair < length pairs.now }
     ensures { OnOk result (text.new.items ≡ text.old.items ++ lane_text pairs.now lane.now session) }
 {
     push_word(text, "lane ")?;
     text.extend_from_slice(pairs[lane.pair as usize].name.bytes())?;
     push_word(text, side_word(lane.from))?;
-    push_numbers(text, &[u64::from(lane.queue), u64::from(session)])
+    push_numbers(text, &[u64::from(lane.queue), session])
 }
 
 // A side behind a space.
