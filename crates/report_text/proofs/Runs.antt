@@ -48,7 +48,7 @@ sessions_lines_more pairs lane xs k d within =
     let number : 1 + k ≡ suc k = omega arith in
     let step = sessions_step (session_lines pairs lane) (sessions_lines pairs lane) (λ n. refl) (λ n x xs. refl) 1 xs k d within in
     rw add-one (subst (λ m. sessions_lines pairs lane 1 (map session_shown (take (suc k) xs))
-      ≡ sessions_lines pairs lane 1 (map session_shown (take k xs)) ++ session_lines pairs lane m (session_shown (get_or xs k d))) number step)
+    ≡ sessions_lines pairs lane 1 (map session_shown (take k xs)) ++ session_lines pairs lane m (session_shown (get_or xs k d))) number step)
 
 -- the lines of what is shown of lanes are those of the lanes
 pub runs_shown : (line : LaneShown → List ℕ) (lanes : List LaneRun) → flat_map line (map lane_shown lanes) ≡ flat_map (λ lane. line (lane_shown lane)) lanes

@@ -99,7 +99,12 @@ fn push_pair(text: &mut Vec<u8>, word: &str, one: u32, other: u32) -> Result<(),
 }
 
 // Adds the text of a delivered frame.
-fn push_delivered(alloc: Global, text: &mut Vec<u8>, number: u64, frame: &[u8]) -> Result<(), AllocError>
+fn push_delivered(
+    alloc: Global,
+    text: &mut Vec<u8>,
+    number: u64,
+    frame: &[u8],
+) -> Result<(), AllocError>
     ensures { OnOk result (text.new.items ≡ text.old.items ++ answer_text (Answer.Delivered number frame.now)) }
 {
     push_with(text, "frame", &[number])?;
@@ -132,7 +137,15 @@ fn push_label(text: &mut Vec<u8>, before: &str, label: &Label) -> Result<(), All
 {
     push_word(text, before)?;
     match label {
-        Label::Chunk { queue, number, part } => push_with(text, "chunk", &[u64::from(*queue), *number, u64::from(*part)]),
+        Label::Chunk {
+            queue,
+            number,
+            part,
+        } => push_with(
+            text,
+            "chunk",
+            &[u64::from(*queue), *number, u64::from(*part)],
+        ),
         Label::Len { queue, number } => push_with(text, "len", &[u64::from(*queue), *number]),
         Label::Ver { queue, number } => push_with(text, "ver", &[u64::from(*queue), *number]),
         Label::Flag { queue, number } => push_with(text, "flag", &[u64::from(*queue), *number]),
@@ -140,6 +153,10 @@ fn push_label(text: &mut Vec<u8>, before: &str, label: &Label) -> Result<(), All
         Label::Bell { queue } => push_with(text, "bell", &[u64::from(*queue)]),
         Label::Index { queue, number } => push_with(text, "index", &[u64::from(*queue), *number]),
         Label::Pad { index, value } => push_pair(text, "pad", *index, *value),
-        Label::Raw { window, offset, len } => push_with(text, "raw", &[u64::from(*window), *offset, u64::from(*len)]),
+        Label::Raw {
+            window,
+            offset,
+            len,
+        } => push_with(text, "raw", &[u64::from(*window), *offset, u64::from(*len)]),
     }
 }

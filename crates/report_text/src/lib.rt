@@ -5,6 +5,8 @@
 mod answers;
 mod append;
 mod run;
+#[cfg(test)]
+mod tests;
 mod whole;
 
 pub use answers::{push_answer, text_of};

@@ -20,7 +20,12 @@ pub fn record_text(alloc: Global, plan: &Plan, run: &RunRecord) -> Result<Vec<u8
     ensures { IfOk result (λ text. text.items ≡ record_of plan.now (run_shown run.now)) }
 {
     let mut text = Vec::new(alloc);
-    push_runs(alloc, &mut text, plan.pairs.as_slice(), run.lanes.as_slice())?;
+    push_runs(
+        alloc,
+        &mut text,
+        plan.pairs.as_slice(),
+        run.lanes.as_slice(),
+    )?;
     push_word(&mut text, "end\n")?;
     Ok(text)
 }
@@ -54,7 +59,14 @@ fn push_run(
 {
     let sessions = lane.sessions.as_slice();
     for place in 0..sessions.len() {
-        push_session(alloc, text, pairs, &lane.name, place as u64 + 1, &sessions[place])?;
+        push_session(
+            alloc,
+            text,
+            pairs,
+            &lane.name,
+            place as u64 + 1,
+            &sessions[place],
+        )?;
     }
     Ok(())
 }
@@ -81,7 +93,12 @@ fn push_session(
 }
 
 // Adds how many frames a session accepted, delivered and left, and ends the line.
-fn push_counts(text: &mut Vec<u8>, accepted: u64, delivered: u64, left: u64) -> Result<(), AllocError>
+fn push_counts(
+    text: &mut Vec<u8>,
+    accepted: u64,
+    delivered: u64,
+    left: u64,
+) -> Result<(), AllocError>
     ensures { OnOk result (text.new.items ≡ text.old.items ++ counts_text accepted delivered left) }
 {
     push_word(text, " accepted")?;
@@ -106,7 +123,13 @@ fn push_frames(
     ensures { OnOk result (text.new.items ≡ text.old.items ++ frame_lines word.now first frames.now.frames) }
 {
     for place in 0..frames.len() {
-        push_frame_line(alloc, text, word, first + place as u64, frames.frame_at(place).bytes())?;
+        push_frame_line(
+            alloc,
+            text,
+            word,
+            first + place as u64,
+            frames.frame_at(place).bytes(),
+        )?;
     }
     Ok(())
 }

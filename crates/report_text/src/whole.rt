@@ -96,7 +96,12 @@ fn push_count(text: &mut Vec<u8>, pairs: &[PairPlan], count: &LaneCount) -> Resu
 }
 
 /// Adds a lane in a session.
-pub fn push_lane(text: &mut Vec<u8>, pairs: &[PairPlan], lane: &LaneName, session: u64) -> Result<(), AllocError>
+pub fn push_lane(
+    text: &mut Vec<u8>,
+    pairs: &[PairPlan],
+    lane: &LaneName,
+    session: u64,
+) -> Result<(), AllocError>
     requires { lane.now.pair < length pairs.now }
     ensures { OnOk result (text.new.items ≡ text.old.items ++ lane_text pairs.now lane.now session) }
 {
@@ -118,7 +123,11 @@ fn side_word(side: Side) -> &'static str
 
 // Adds the lines of all devices, each with its counters.
 #[tactic(auto, using(crate::proofs::Devices::device_lines_more, crate::proofs::Devices::device_lines_all))]
-fn push_devices(text: &mut Vec<u8>, devs: &[DevPlan], counters: &[Counters]) -> Result<(), AllocError>
+fn push_devices(
+    text: &mut Vec<u8>,
+    devs: &[DevPlan],
+    counters: &[Counters],
+) -> Result<(), AllocError>
     requires { length counters.now ≡ length devs.now }
     ensures { OnOk result (text.new.items ≡ text.old.items ++ device_lines devs.now counters.now) }
 {
