@@ -1,0 +1,11 @@
+pub mod Flights
+pub mod LaneLaws
+pub mod LaneRuns
+pub mod Moving
+pub mod Order
+pub mod Receiving
+pub mod Returning
+pub mod Seats
+pub mod Sending
+pub mod Slots
+pub mod WordLists

@@ -1,0 +1,188 @@
+-- The receiver's steps: look at the next entry, copy it whole, clear its flags, acknowledge it.
+use Rattle.std.proofs.Common.{◌≡◌, ◌≢◌, ℕ, zero, suc, ◌+◌, ◌-◌, ◌%◌, ◌^◌, ◌<◌, ◌≤◌, Bool, true, false, List, [], ◌∷◌, ◌++◌, length, map, take, drop, set, get_or, refl, sym, subst, ap, ◌∙◌, inl, inr, arith, mod-lt, length-set, length-append, append-nil, Some, nat_lt}
+use Rattle.std.proofs.lemmas.Bool.{lt-ltb, le-ltb, cases_eq, cases_lt}
+use Rattle.std.proofs.Math.ListN.{get_or-map}
+use Rattle.std.proofs.Math.Seq.{take-suc}
+use mathlib.Core.Option.{some, none}
+use lib.ListN.{get_elem?}
+use Rattle.table_rule.specs.LaneNames.{Lane, Slot, blank_slot, slot_of, ring_with, with_flags, done, HoldsRingLaw, PhaseCounts, Idle, Copying, Copied, Cleared, tail_of, bytes_of, entry_of}
+use Rattle.table_rule.specs.Words.{Words, header_of}
+use Rattle.table_rule.specs.Views.{Bytes}
+use Rattle.table_rule.specs.Borders.{Borders, Slots, empty, out, full, slot_at}
+use Rattle.table_rule.specs.Shows.{RingStands, hand_in}
+use Rattle.table_rule.specs.Moment.{Moment, ShowsLane}
+use Rattle.table_rule.proofs.LaneLaws.{chunks_in, look_sees, look_keeps, clear_keeps, ack_keeps, after_look, after_clear, after_ack, tail_after}
+use Rattle.table_rule.proofs.LaneRuns.{copy_all}
+use Rattle.table_rule.proofs.Slots.{slot_by, slot_is, moves_past, slot_changes}
+use Rattle.table_rule.proofs.Order.{in_order}
+use Rattle.table_rule.proofs.Sending.{borders_in}
+use Rattle.table_rule.proofs.Moving.{ring_stores_flag}
+
+-- a flag word is the flags of its position
+flag_is : (N : ℕ) (m : Moment) (slots : Slots) (n : ℕ) → ShowsLane N m slots → get_or m.words.flags (n % N) 0 ≡ (slot_of m.lane n).flags
+flag_is N m slots n h =
+    ap (λ (k : ℕ). get_or m.words.flags (n % k) 0) (sym h.of.entries)
+    ∙ ap (λ (fs : List ℕ). get_or fs (n % m.lane.entries) 0) (sym h.ring.raised)
+    ∙ get_or-map (λ (s : Slot). s.flags) m.lane.ring (n % m.lane.entries) blank_slot
+
+-- the next frame has landed: its slot goes to the receiver
+pub looks : (N : ℕ) (m : Moment) (slots : Slots) (n : ℕ) → n ≡ length m.recv.got → m.recv.phase ≡ Idle → get_or m.words.flags (n % N) 0 ≡ done → ShowsLane N m slots
+    → (get_elem? slots (n % N) ≡ some (full m.send.sent n))
+    × ((lane : Lane) × ShowsLane N (record m { lane = lane; recv = record m.recv { phase = Copying; hand = get_or m.send.sent n [] ∷ [] } }) (set slots (n % N) out))
+looks N m slots n is idle raised h =
+    let o = in_order N m slots h in
+    let k = borders_in m in
+    let lane : Lane = m.lane in
+    let frame : Bytes = get_or m.send.sent n [] in
+    let copied = h.parts.copied in
+    let whole = h.parts.whole in
+    let lane_idle : lane.phase ≡ Idle = h.parts.stage ∙ idle in
+    let counts : PhaseCounts Idle lane = subst (λ p. PhaseCounts p lane) lane_idle h.law.2.phase_counts in
+    let cleared = counts.1 in
+    let no_hand : length m.recv.hand ≡ 0 = h.receiving.in_hand ∙ ap hand_in idle in
+    let empty_hand : m.recv.hand ≡ [] = none_long m.recv.hand no_hand in
+    let sees = look_sees lane lane_idle h.law in
+    let up : (slot_of lane lane.got).flags ≡ done = ap (λ (j : ℕ). (slot_of lane j).flags) (copied ∙ sym is) ∙ sym (flag_is N m slots n h) ∙ raised in
+    let more : lane.got < lane.flagged = elim (cases_lt lane.got lane.flagged) [
+      | inl landed ↦ landed
+      | inr nothing ↦
+          let one = sees.one_of_both in
+          let down = sees.nothing (omega arith) in
+          absurd (omega arith)
+    ] in
+    let below : n < length m.send.sent = omega (arith, o.taken) in
+    let after : Borders = record k { looked = length m.recv.got + 1 } in
+    let one_more : after.looked ≡ k.looked + 1 = omega arith in
+    let low : m.back.freed ≤ n = omega arith in
+    let l0 : nat_lt n k.cleared ≡ false = le-ltb n k.cleared (omega arith) in
+    let prefix : m.recv.got ++ frame ∷ [] ≡ take (length m.recv.got + 1) m.send.sent =
+        ap (λ gs. gs ++ frame ∷ []) (sym (append-nil m.recv.got) ∙ ap (λ w. m.recv.got ++ w) (sym empty_hand) ∙ h.receiving.prefix ∙ ap (λ (j : ℕ). take j m.send.sent) (let e : length m.recv.got + length m.recv.hand ≡ n = omega arith in e))
+        ∙ sym (take-suc m.send.sent n [] below) ∙ ap (λ (j : ℕ). take j m.send.sent) (let e : suc n ≡ length m.recv.got + 1 = omega arith in e) in
+    (
+      h.places.at n low (omega arith) ∙ ap some (slot_is k m.send.sent n l0 (le-ltb n k.looked (omega arith)) (lt-ltb n k.flagged (omega arith)) refl refl refl),
+      (
+        after_look lane,
+        record {
+          law = look_keeps lane lane_idle more h.law;
+          of = record { entries = h.of.entries; largest = h.of.largest; up = h.of.up; todo = h.of.todo; small = h.of.small };
+          parts = record { entries = h.parts.entries; whole = h.parts.whole; flight = h.parts.flight; copied = h.parts.copied; stage = refl; given_back = h.parts.given_back };
+          posted = h.posted;
+          ring = h.ring;
+          index = h.index;
+          link = h.link;
+          holding = h.holding;
+          receiving = record { prefix = prefix; in_hand = refl };
+          room = h.room;
+          places = slot_changes N k after m.send.sent m.send.sent slots n out (omega (arith, o.two)) h.places refl low (omega arith)
+              (λ j other. ap (λ b. slot_by (nat_lt j k.cleared) b (nat_lt j k.flagged) (nat_lt j k.taken) (nat_lt j k.sent) (nat_lt j k.claimed) (full m.send.sent j))
+                  (ap (nat_lt j) one_more ∙ moves_past j k.looked (λ e. other (omega arith))))
+              (slot_is after m.send.sent n l0 (lt-ltb n after.looked (omega arith)) refl refl refl refl);
+        },
+      ),
+    )
+  where
+    none_long : (xs : List Bytes) → length xs ≡ 0 → xs ≡ []
+    none_long [] e = refl
+    none_long (x ∷ xs) e = absurd (omega arith)
+
+-- the frame in hand is received
+pub copies : (N : ℕ) (m : Moment) (slots : Slots) → m.recv.phase ≡ Copying → ShowsLane N m slots
+    → (lane : Lane) × ShowsLane N (record m { lane = lane; recv = record m.recv { phase = Copied; got = m.recv.got ++ m.recv.hand; hand = [] } }) slots
+copies N m slots copying h =
+    let lane : Lane = m.lane in
+    let lane_copying : lane.phase ≡ Copying = h.parts.stage ∙ copying in
+    let chunks : ℕ = chunks_in (length (bytes_of (entry_of lane lane.got))) in
+    let all = copy_all chunks lane lane_copying (omega arith) h.law in
+    let next : Lane = record lane { part = all.0; got = lane.got + 1; phase = Copied } in
+    let one : length m.recv.hand ≡ 1 = h.receiving.in_hand ∙ ap hand_in copying in
+    let long : length (m.recv.got ++ m.recv.hand) ≡ length m.recv.got + length m.recv.hand = length-append m.recv.got m.recv.hand in
+    let copied = h.parts.copied in
+    let same : length (m.recv.got ++ m.recv.hand) + 0 ≡ length m.recv.got + length m.recv.hand = omega arith in
+    (
+      next,
+      record {
+        law = all.1;
+        of = record { entries = h.of.entries; largest = h.of.largest; up = h.of.up; todo = h.of.todo; small = h.of.small };
+        parts = record { entries = h.parts.entries; whole = h.parts.whole; flight = h.parts.flight; copied = omega arith; stage = refl; given_back = h.parts.given_back };
+        posted = h.posted;
+        ring = h.ring;
+        index = h.index;
+        link = h.link;
+        holding = h.holding;
+        receiving = record { prefix = append-nil (m.recv.got ++ m.recv.hand) ∙ h.receiving.prefix ∙ ap (λ (j : ℕ). take j m.send.sent) (sym same); in_hand = refl };
+        room = h.room;
+        places = record { count = h.places.count; at = λ n low high. h.places.at n low high ∙ ap (λ (j : ℕ). some (slot_at (record (borders_in m) { looked = j }) m.send.sent n)) (sym same) };
+      },
+    )
+
+-- the flags are cleared, and the slot is at home and empty
+pub clears : (N : ℕ) (m : Moment) (slots : Slots) (n : ℕ) → n + 1 ≡ length m.recv.got → m.recv.phase ≡ Copied → ShowsLane N m slots
+    → (lane : Lane) × ShowsLane N (record m { words = record m.words { flags = set m.words.flags (n % N) 0 }; lane = lane; recv = record m.recv { phase = Cleared } }) (set slots (n % N) empty)
+clears N m slots n is copied_phase h =
+    let o = in_order N m slots h in
+    let k = borders_in m in
+    let lane : Lane = m.lane in
+    let lane_copied : lane.phase ≡ Copied = h.parts.stage ∙ copied_phase in
+    let counts : PhaseCounts Copied lane = subst (λ p. PhaseCounts p lane) lane_copied h.law.2.phase_counts in
+    let copied = h.parts.copied in
+    let cleared_one : lane.cleared + 1 ≡ lane.got = counts.1 in
+    let same : lane.cleared ≡ n = omega arith in
+    let next : Lane = after_clear lane in
+    let slot : Slot = with_flags (slot_of lane lane.cleared) 0 in
+    let after : Borders = record k { cleared = lane.cleared + 1 } in
+    let ring : RingStands next.ring m.words.headers (set m.words.flags (lane.cleared % lane.entries) 0) =
+        ring_stores_flag lane.ring m.words.headers m.words.flags (lane.cleared % lane.entries) slot 0 refl refl h.ring in
+    (
+      next,
+      record {
+        law = clear_keeps lane lane_copied h.law;
+        of = record { entries = h.of.entries; largest = h.of.largest; up = h.of.up; todo = h.of.todo; small = h.of.small };
+        parts = record { entries = h.parts.entries; whole = h.parts.whole; flight = h.parts.flight; copied = h.parts.copied; stage = refl; given_back = h.parts.given_back };
+        posted = h.posted;
+        ring = subst (λ (p : ℕ × ℕ). RingStands next.ring m.words.headers (set m.words.flags (p.0 % p.1) 0)) (λ i. (same i, h.of.entries i)) ring;
+        index = h.index;
+        link = h.link;
+        holding = h.holding;
+        receiving = record { prefix = h.receiving.prefix; in_hand = h.receiving.in_hand ∙ ap hand_in copied_phase };
+        room = h.room;
+        places = slot_changes N k after m.send.sent m.send.sent slots n empty (omega (arith, o.two)) h.places refl (omega arith) (omega arith)
+            (λ j other. ap (λ b. slot_by b (nat_lt j k.looked) (nat_lt j k.flagged) (nat_lt j k.taken) (nat_lt j k.sent) (nat_lt j k.claimed) (full m.send.sent j))
+                (moves_past j lane.cleared (λ e. other (e ∙ same))))
+            (slot_is after m.send.sent n (lt-ltb n after.cleared (omega arith)) refl refl refl refl refl);
+      },
+    )
+
+-- index out names the entry
+pub acks : (N : ℕ) (m : Moment) (slots : Slots) (n : ℕ) → n + 1 ≡ length m.recv.got → m.recv.phase ≡ Cleared → ShowsLane N m slots
+    → (lane : Lane) × ShowsLane N (record m { words = record m.words { index_out = n % N }; lane = lane; recv = record m.recv { phase = Idle } }) slots
+acks N m slots n is cleared_phase h =
+    let o = in_order N m slots h in
+    let lane : Lane = m.lane in
+    let lane_cleared : lane.phase ≡ Cleared = h.parts.stage ∙ cleared_phase in
+    let counts : PhaseCounts Cleared lane = subst (λ p. PhaseCounts p lane) lane_cleared h.law.2.phase_counts in
+    let copied = h.parts.copied in
+    let acked_one : lane.acked + 1 ≡ lane.cleared = counts.0 in
+    let cleared_all : lane.cleared ≡ lane.got = counts.1 in
+    let same : n ≡ lane.acked = omega arith in
+    let next : Lane = after_ack lane in
+    (
+      next,
+      record {
+        law = ack_keeps lane lane_cleared h.law;
+        of = record { entries = h.of.entries; largest = h.of.largest; up = h.of.up; todo = h.of.todo; small = h.of.small };
+        parts = record { entries = h.parts.entries; whole = h.parts.whole; flight = h.parts.flight; copied = h.parts.copied; stage = refl; given_back = h.parts.given_back };
+        posted = h.posted;
+        ring = h.ring;
+        index = record {
+          outward = ap (λ (j : ℕ). j % N) same ∙ tail_after N lane.acked o.two;
+          homeward = h.index.homeward;
+          position = h.index.position;
+          last_load = elim h.index.last_load [ inl old ↦ inl old | inr new ↦ inr (omega arith) ];
+        };
+        link = h.link;
+        holding = h.holding;
+        receiving = record { prefix = h.receiving.prefix; in_hand = h.receiving.in_hand ∙ ap hand_in cleared_phase };
+        room = h.room;
+        places = h.places;
+      },
+    )

@@ -1,0 +1,37 @@
+-- One moment of a table: its words, the parts of its seats, and the lane that these show.
+use Rattle.std.specs.Prelude.{◌≡◌, ℕ, List, [], ◌∷◌}
+use Rattle.table_rule.specs.LaneNames.{Lane}
+use Rattle.table_rule.specs.Words.{Words}
+use Rattle.table_rule.specs.Views.{SendPart, MovePart, RecvPart, BackPart, CutPart, LaneView, parts_of}
+use Rattle.table_rule.specs.Borders.{Slots}
+use Rattle.table_rule.specs.Shows.{Shows}
+
+pub record Moment : Type 0 where
+  pub words : Words
+  pub lane : Lane
+  pub send : SendPart
+  pub mover : MovePart
+  pub recv : RecvPart
+  pub back : BackPart
+  pub cut : CutPart
+
+-- each part belongs to one seat
+pub record EachHasOneSeat (views : List LaneView) (moment : Moment) : Type 0 where
+  pub send : parts_of (λ view. view.send) views ≡ moment.send ∷ []
+  pub mover : parts_of (λ view. view.mover) views ≡ moment.mover ∷ []
+  pub recv : parts_of (λ view. view.recv) views ≡ moment.recv ∷ []
+  pub back : parts_of (λ view. view.back) views ≡ moment.back ∷ []
+  pub cut : parts_of (λ view. view.cut) views ≡ moment.cut ∷ []
+
+-- each part knows the number of entries
+pub record EachKnows (N : ℕ) (moment : Moment) : Type 0 where
+  pub send : moment.send.entries ≡ N
+  pub mover : moment.mover.entries ≡ N
+  pub recv : moment.recv.entries ≡ N
+  pub back : moment.back.entries ≡ N
+  pub cut : moment.cut.entries ≡ N
+
+-- the table shows the moment's lane
+abbrev pub ShowsLane : ℕ → Moment → Slots → Type 0
+ShowsLane N m slots =
+    Shows N m.words m.lane m.send.sent m.send.claims m.mover.flagged m.mover.held m.mover.stored m.recv.got m.recv.hand m.recv.phase m.back.freed m.back.index m.cut.cut slots

@@ -1,0 +1,1 @@
+//! What each atomic step tells its caller.
