@@ -1,13 +1,10 @@
-// A library with one function.
+//! One lane between threads, without a lock.
 #![tactic(auto)]
 
-ghost use Rattle.std.specs.Prelude.{◌≡◌};
-ghost use Rattle.table_lane.specs.Echo.{echo_of};
+mod board;
+mod mover;
+mod send;
+mod steps;
 
-// The `ensures` clause is the contract: what `echo` returns is `echo_of` of its argument, a definition
-// in `specs/Echo.antt`, which a caller's clause can cite too.
-pub fn echo(x: usize) -> usize
-    ensures { result ≡ echo_of x }
-{
-    x
-}
+pub use mover::MoveAnswer;
+pub use send::{SendAnswer, SendEnd};

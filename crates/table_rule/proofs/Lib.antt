@@ -1,11 +1,17 @@
+pub mod BackSteps
 pub mod Flights
 pub mod LaneLaws
 pub mod LaneRuns
+pub mod MoveSteps
 pub mod Moving
 pub mod Order
+pub mod RecvSteps
 pub mod Receiving
 pub mod Returning
+pub mod Seated
+pub mod Seating
 pub mod Seats
+pub mod SendSteps
 pub mod Sending
 pub mod Slots
 pub mod WordLists

@@ -5,17 +5,17 @@ use Rattle.std.proofs.Math.ListN.{get_or-map}
 use Rattle.std.proofs.Math.Seq.{take-suc}
 use mathlib.Core.Option.{some, none}
 use lib.ListN.{get_elem?}
-use Rattle.table_rule.specs.LaneNames.{Lane, Slot, blank_slot, slot_of, ring_with, with_flags, done, HoldsRingLaw, PhaseCounts, Idle, Copying, Copied, Cleared, tail_of, bytes_of, entry_of}
+use Rattle.table_rule.specs.LaneNames.{Lane, Slot, blank_slot, slot_of, ring_with, with_flags, done, HoldsRingLaw, PhaseCounts, Idle, Copying, Copied, Cleared, tail_of, bytes_of, entry_of, flags_of, version_of, Carries, GoesDown}
 use Rattle.table_rule.specs.Words.{Words, header_of}
 use Rattle.table_rule.specs.Views.{Bytes}
 use Rattle.table_rule.specs.Borders.{Borders, Slots, empty, out, full, slot_at}
 use Rattle.table_rule.specs.Shows.{RingStands, hand_in}
 use Rattle.table_rule.specs.Moment.{Moment, ShowsLane}
-use Rattle.table_rule.proofs.LaneLaws.{chunks_in, look_sees, look_keeps, clear_keeps, ack_keeps, after_look, after_clear, after_ack, tail_after}
+use Rattle.table_rule.proofs.LaneLaws.{chunks_in, look_sees, copy_sees, look_keeps, clear_keeps, ack_keeps, after_look, after_clear, after_ack, tail_after}
 use Rattle.table_rule.proofs.LaneRuns.{copy_all}
 use Rattle.table_rule.proofs.Slots.{slot_by, slot_is, moves_past, slot_changes}
 use Rattle.table_rule.proofs.Order.{in_order}
-use Rattle.table_rule.proofs.Sending.{borders_in}
+use Rattle.table_rule.proofs.Sending.{borders_in, entry_is_frame}
 use Rattle.table_rule.proofs.Moving.{ring_stores_flag}
 
 -- a flag word is the flags of its position
@@ -25,10 +25,24 @@ flag_is N m slots n h =
     ∙ ap (λ (fs : List ℕ). get_or fs (n % m.lane.entries) 0) (sym h.ring.raised)
     ∙ get_or-map (λ (s : Slot). s.flags) m.lane.ring (n % m.lane.entries) blank_slot
 
+-- a landed entry has its flag up
+pub raised : (N : ℕ) (m : Moment) (slots : Slots) (n : ℕ) → n ≡ length m.recv.got → m.recv.phase ≡ Idle → n < m.mover.flagged → ShowsLane N m slots → get_or m.words.flags (n % N) 0 ≡ done
+raised N m slots n is idle below h =
+    let copied = h.parts.copied in
+    let whole = h.parts.whole in
+    let at : m.lane.got ≡ n = copied ∙ sym is in
+    let sees = look_sees m.lane (h.parts.stage ∙ idle) h.law in
+    let stands = sees.an_entry (omega arith) in
+    let o = in_order N m slots h in
+    let within : n < length m.send.sent = omega (arith, o.taken) in
+    let is_frame : entry_of m.lane n ≡ Carries (get_or m.send.sent n []) = ap (λ es. get_or es n GoesDown) h.parts.entries ∙ entry_is_frame m.send.sent n within in
+    flag_is N m slots n h ∙ ap (λ (j : ℕ). (slot_of m.lane j).flags) (sym at) ∙ stands.flags ∙ ap (λ (j : ℕ). flags_of (entry_of m.lane j)) at ∙ ap flags_of is_frame
+
 -- the next frame has landed: its slot goes to the receiver
 pub looks : (N : ℕ) (m : Moment) (slots : Slots) (n : ℕ) → n ≡ length m.recv.got → m.recv.phase ≡ Idle → get_or m.words.flags (n % N) 0 ≡ done → ShowsLane N m slots
     → (get_elem? slots (n % N) ≡ some (full m.send.sent n))
     × ((lane : Lane) × ShowsLane N (record m { lane = lane; recv = record m.recv { phase = Copying; hand = get_or m.send.sent n [] ∷ [] } }) (set slots (n % N) out))
+    × (n < length m.send.sent)
 looks N m slots n is idle raised h =
     let o = in_order N m slots h in
     let k = borders_in m in
@@ -79,11 +93,23 @@ looks N m slots n is idle raised h =
               (slot_is after m.send.sent n l0 (lt-ltb n after.looked (omega arith)) refl refl refl refl);
         },
       ),
+      below,
     )
   where
     none_long : (xs : List Bytes) → length xs ≡ 0 → xs ≡ []
     none_long [] e = refl
     none_long (x ∷ xs) e = absurd (omega arith)
+
+-- the header word of the entry that is looked at has its version
+pub version_stands : (N : ℕ) (m : Moment) (slots : Slots) (n : ℕ) → n ≡ length m.recv.got → m.recv.phase ≡ Copying → ShowsLane N m slots → get_or m.words.headers (n % N) 0 % 2 ^ 32 ≡ version_of n
+version_stands N m slots n is copying h =
+    let at : m.lane.got ≡ n = h.parts.copied ∙ sym is in
+    let whole = (copy_sees m.lane (h.parts.stage ∙ copying) h.law).1 in
+    sym (get_or-map (λ (header : ℕ). header % 2 ^ 32) m.words.headers (n % N) 0)
+    ∙ ap (λ (k : ℕ). get_or (map (λ (header : ℕ). header % 2 ^ 32) m.words.headers) (n % k) 0) (sym h.of.entries)
+    ∙ ap (λ (vs : List ℕ). get_or vs (n % m.lane.entries) 0) (sym h.ring.versions)
+    ∙ get_or-map (λ (s : Slot). s.ver) m.lane.ring (n % m.lane.entries) blank_slot
+    ∙ ap (λ (j : ℕ). (slot_of m.lane j).ver) (sym at) ∙ whole.ver ∙ ap version_of at
 
 -- the frame in hand is received
 pub copies : (N : ℕ) (m : Moment) (slots : Slots) → m.recv.phase ≡ Copying → ShowsLane N m slots

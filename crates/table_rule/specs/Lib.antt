@@ -1,5 +1,6 @@
 pub mod Borders
 pub mod LaneNames
+pub mod Learns
 pub mod Moment
 pub mod Plays
 pub mod Rule

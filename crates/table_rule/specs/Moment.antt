@@ -16,20 +16,20 @@ pub record Moment : Type 0 where
   pub cut : CutPart
 
 -- each part belongs to one seat
-pub record EachHasOneSeat (views : List LaneView) (moment : Moment) : Type 0 where
-  pub send : parts_of (λ view. view.send) views ≡ moment.send ∷ []
-  pub mover : parts_of (λ view. view.mover) views ≡ moment.mover ∷ []
-  pub recv : parts_of (λ view. view.recv) views ≡ moment.recv ∷ []
-  pub back : parts_of (λ view. view.back) views ≡ moment.back ∷ []
-  pub cut : parts_of (λ view. view.cut) views ≡ moment.cut ∷ []
+pub record EachHasOneSeat (views : List LaneView) (s : SendPart) (m : MovePart) (r : RecvPart) (b : BackPart) (c : CutPart) : Type 0 where
+  pub send : parts_of (λ view. view.send) views ≡ s ∷ []
+  pub mover : parts_of (λ view. view.mover) views ≡ m ∷ []
+  pub recv : parts_of (λ view. view.recv) views ≡ r ∷ []
+  pub back : parts_of (λ view. view.back) views ≡ b ∷ []
+  pub cut : parts_of (λ view. view.cut) views ≡ c ∷ []
 
 -- each part knows the number of entries
-pub record EachKnows (N : ℕ) (moment : Moment) : Type 0 where
-  pub send : moment.send.entries ≡ N
-  pub mover : moment.mover.entries ≡ N
-  pub recv : moment.recv.entries ≡ N
-  pub back : moment.back.entries ≡ N
-  pub cut : moment.cut.entries ≡ N
+pub record EachKnows (N : ℕ) (s m r b c : ℕ) : Type 0 where
+  pub send : s ≡ N
+  pub mover : m ≡ N
+  pub recv : r ≡ N
+  pub back : b ≡ N
+  pub cut : c ≡ N
 
 -- the table shows the moment's lane
 abbrev pub ShowsLane : ℕ → Moment → Slots → Type 0

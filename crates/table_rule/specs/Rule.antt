@@ -17,8 +17,8 @@ Sitter = Me Content LaneView
 pub record IsMoment (N : ℕ) (moment : Moment) (board : Board) : Type 0 where
   pub words : board.words ≡ words_of moment.words
   pub sized : AreSized N moment.words
-  pub seats : EachHasOneSeat board.views moment
-  pub knows : EachKnows N moment
+  pub seats : EachHasOneSeat board.views moment.send moment.mover moment.recv moment.back moment.cut
+  pub knows : EachKnows N moment.send.entries moment.mover.entries moment.recv.entries moment.back.entries moment.cut.entries
   pub shows : ShowsLane N moment board.homes
 
 abbrev pub ShowsALane : ℕ → Board → Type 0

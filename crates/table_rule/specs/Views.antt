@@ -101,3 +101,28 @@ joined view other = record {
   back = first_of view.back other.back;
   cut = first_of view.cut other.cut;
 }
+
+-- a seat is cut in two
+abbrev pub without_mover : LaneView → LaneView
+without_mover view = record view { mover = None }
+
+abbrev pub mover_alone : LaneView → LaneView
+mover_alone view = record no_parts { mover = view.mover }
+
+abbrev pub without_recv : LaneView → LaneView
+without_recv view = record view { recv = None }
+
+abbrev pub recv_alone : LaneView → LaneView
+recv_alone view = record no_parts { recv = view.recv }
+
+abbrev pub without_back : LaneView → LaneView
+without_back view = record view { back = None }
+
+abbrev pub back_alone : LaneView → LaneView
+back_alone view = record no_parts { back = view.back }
+
+abbrev pub without_cut : LaneView → LaneView
+without_cut view = record view { cut = None }
+
+abbrev pub cut_alone : LaneView → LaneView
+cut_alone view = record no_parts { cut = view.cut }

@@ -1,0 +1,5 @@
+pub mod Ends
+pub mod Inside
+pub mod Moves
+pub mod Sends
+pub mod Table
