@@ -1,5 +1,6 @@
 pub mod Ends
 pub mod Inside
 pub mod Moves
+pub mod Receives
 pub mod Sends
 pub mod Table

@@ -1,10 +1,14 @@
 //! One lane between threads, without a lock.
 #![tactic(auto)]
 
+mod back;
 mod board;
 mod mover;
+mod recv;
 mod send;
 mod steps;
 
-pub use mover::MoveAnswer;
+pub use back::{BackAnswer, BackEnd, CutEnd};
+pub use mover::{MoveAnswer, MoveEnd};
+pub use recv::{RecvAnswer, RecvEnd};
 pub use send::{SendAnswer, SendEnd};

@@ -2,10 +2,10 @@
 ghost use Rattle.std.specs.Prelude.{◌≡◌, ◌≢◌, ℕ, ◌+◌, ◌-◌, ◌%◌, ◌^◌, ◌≤◌, ◌<◌, List, [], ◌∷◌, false, true, length, slice_index_or, Some, None, drop};
 ghost use Rattle.atomic_table.specs.Table.{rest};
 ghost use Rattle.table_rule.specs.LaneNames.{Idle, Copying, Copied, Cleared, tail_of};
-ghost use Rattle.table_rule.specs.Views.{Bytes, HasSend, HasMove, HasRecv, HasBack, HasCut, the_send, the_move, the_recv, the_back, the_cut, with_send};
-ghost use Rattle.table_rule.specs.Learns.{frame_sent, taken};
+ghost use Rattle.table_rule.specs.Views.{Bytes, HasSend, HasMove, HasRecv, HasBack, HasCut, the_send, the_move, the_recv, the_back, the_cut, with_send, with_move};
+ghost use Rattle.table_rule.specs.Learns.{frame_sent, header_stored, taken};
 ghost use Rattle.table_rule.specs.Rule.{Content};
-ghost use Rattle.table_rule.specs.Plays.{sees_link, sees_index, stores_posted, sees_posted, stores_header, stores_flag, sees_flag, copies_frame, clears_flag, stores_index_out, sees_index_out, stores_index, cuts_link};
+ghost use Rattle.table_rule.specs.Plays.{sees_link, sees_index, stores_posted, sees_posted, stores_flag, sees_flag, copies_frame, clears_flag, stores_index_out, sees_index_out, stores_index, cuts_link};
 ghost use Rattle.table_rule.specs.Words.{cut_word};
 ghost use Rattle.table_lane.specs.Table.{IsTableOf};
 
@@ -61,9 +61,9 @@ pub(crate) fn load_posted(table: &Board, seat: &mut LaneSeat, entries: u64, n: u
 pub(crate) fn store_header(table: &Board, seat: &mut LaneSeat, entries: u64, n: u64)
     requires table { (seat.old.table_id ≡ table.now.table_id) × IsTableOf entries table.now.table_id table.now.key }
     requires part { HasMove seat.old.me.0 × ((the_move seat.old.me.0).entries ≡ entries) }
-    requires held { ((the_move seat.old.me.0).flagged ≤ n) × (n < taken (the_move seat.old.me.0)) × (slice_index_or (the_move seat.old.me.0).stored (n - (the_move seat.old.me.0).flagged) false ≡ false) }
+    requires held { ((the_move seat.old.me.0).flagged ≤ n) × (n < taken (the_move seat.old.me.0)) × (length (the_move seat.old.me.0).held ≤ entries) × (slice_index_or (the_move seat.old.me.0).stored (n - (the_move seat.old.me.0).flagged) false ≡ false) }
     ensures table { seat.new.table_id ≡ seat.old.table_id }
-    ensures tells { stores_header (entries + n % entries) seat.old.me 0 seat.new.me }
+    ensures knows { seat.new.me ≡ (with_move seat.old.me.0 (header_stored (the_move seat.old.me.0) n), seat.old.me.1) }
 {
     table.store::<StoresHeader>(seat, header_word(entries, n), header_of(n));
 }

@@ -1,0 +1,9 @@
+use Rattle.std.proofs.Common.{◌≡◌, ℕ, get_or, true, false, sym, ap, ◌∙◌}
+use Rattle.table_rule.specs.Rule.{Sitter}
+use Rattle.table_lane.specs.Ends.{Mover}
+use Rattle.table_lane.specs.Inside.{MovesWith}
+use Rattle.table_lane.proofs.Waiting.{first_slot, with_flag}
+use Rattle.table_lane.proofs.mover.MoveEnd.store_first.Goals as goal
+
+pub store_flag-requires-clause-held : goal.store_flag-requires-clause-held
+store_flag-requires-clause-held c = first_slot _ _ _ _ _ c.self.invariant.me (ap (λ (m : Mover). get_or m.part.stored 0 false) c.self.view_is ∙ c.requires)
