@@ -3,16 +3,16 @@ use Rattle.std.proofs.Common.{◌≡◌, ℕ, ◌+◌, ◌*◌, ◌<◌, ◌≤�
 use Rattle.std.proofs.lemmas.Bool.{cases_lt, cond-true, cond-false, false≢true}
 use Rattle.std.proofs.lemmas.List.{take-take, drop-take, take-append-drop, take_all}
 use Rattle.lane_model.specs.Lane as model
-use Rattle.lane_model.specs.Lane.{Lane, bytes_of, chunk_of, chunk_size, copies_of, entry_of, place_of}
+use Rattle.lane_model.specs.Lane.{Lane, bytes_of, chunk_of, chunk_size, copies_of, entry_of, slot_of}
 use Rattle.lane_model.specs.Steps.{more_to_copy}
 use Rattle.lane_model.specs.declared.Phase.TheVariants.{Copying}
-use Rattle.lane_model.proofs.Holds.{copy_sees}
+use Rattle.lane_laws.proofs.Holds.{copy_sees}
 use Rattle.lane_core.specs.Calls.{copy_answer, is_copying}
 use Rattle.lane_core.specs.Parts.{place_seen}
 use Rattle.lane_core.specs.declared.answers.LaneCopy.TheVariants.{Whole, OutOfTurn}
 use Rattle.lane_core.specs.Seen.{IsKept, lane_seen}
 use Rattle.lane_core.specs.declared.lane.Lane.TheInside.{Inside}
-use Rattle.lane_core.specs.declared.place.Place.{Place}
+use Rattle.lane_core.specs.declared.slot.Slot.{Slot}
 
 -- two pieces of a list, one behind the other
 take_both : (n m : ℕ) (xs : List ℕ) → take n xs ++ take m (drop n xs) ≡ take (n + m) xs
@@ -27,20 +27,20 @@ abbrev pub bytes_at : Inside → List ℕ
 bytes_at l = bytes_of (entry_of (lane_seen l) l.got)
 
 -- what is known of a place that is copied from, and of the bytes copied so far
-pub record CopiesFrom (l : Inside) (place : Place) (buffer : List ℕ) : Type 0 where
+pub record CopiesFrom (l : Inside) (place : Slot) (buffer : List ℕ) : Type 0 where
   pub len : place.len ≡ length (bytes_at l)
   pub copied : buffer ≡ take (chunk_size * l.part + chunk_size) (bytes_at l)
   pub small : length (bytes_at l) ≤ 65536
 
-pub copies_from : (l : Inside) (place : Place) (copied : List ℕ) → place_of (lane_seen l) l.got ≡ place_seen place → l.phase ≡ Copying → IsKept l
+pub copies_from : (l : Inside) (place : Slot) (copied : List ℕ) → slot_of (lane_seen l) l.got ≡ place_seen place → l.phase ≡ Copying → IsKept l
     → copied ≡ l.copied.items ++ chunk_of (take place.len place.payload.items) l.part → CopiesFrom l place copied
 copies_from l place copied here copying kept now =
     let lane = lane_seen l in
     let sees = copy_sees lane copying kept.law in
     let whole = sees.1 in
-    let len : place.len ≡ length (bytes_at l) = sym (ap (λ (p : model.Place). p.len) here) ∙ whole.len in
+    let len : place.len ≡ length (bytes_at l) = sym (ap (λ (p : model.Slot). p.len) here) ∙ whole.len in
     let payload : take place.len place.payload.items ≡ bytes_at l =
-    ap (λ n. take n place.payload.items) len ∙ ap (λ (p : model.Place). take (length (bytes_at l)) p.payload) (sym here) ∙ whole.payload in
+    ap (λ n. take n place.payload.items) len ∙ ap (λ (p : model.Slot). take (length (bytes_at l)) p.payload) (sym here) ∙ whole.payload in
     let h = kept.law.2 in
     let fits = h.fits l.got (omega (arith, sees.0, h.flagged_first)) in
     record {
@@ -65,7 +65,7 @@ pub record IsWhole (l : Inside) (bytes : List ℕ) : Type 0 where
   pub small : length bytes ≤ 65536
   pub last : more_to_copy (lane_seen l) ≡ false
 
-pub is_whole : (l : Inside) (place : Place) (buffer bytes : List ℕ) (more : Bool) → CopiesFrom l place buffer → bytes ≡ buffer
+pub is_whole : (l : Inside) (place : Slot) (buffer bytes : List ℕ) (more : Bool) → CopiesFrom l place buffer → bytes ≡ buffer
     → (chunk_size * (l.part + 1) < place.len → IsTrue more) → more ≡ false → IsWhole l bytes
 is_whole l place buffer bytes more copies same when none =
     let all : length (bytes_at l) ≤ chunk_size * (l.part + 1) = elim (cases_lt (chunk_size * (l.part + 1)) place.len) [

@@ -6,15 +6,15 @@ use Rattle.std.proofs.lemmas.List.{length-map}
 use Rattle.std.proofs.lemmas.List.Elements.{All-head, All-same, All-tail}
 use Rattle.std.proofs.lemmas.Option.{none-some, same_Some, slice_get-map, slice_get_within, get_or_from_slice_get}
 use Rattle.lane_model.specs.Order.{relaxed, may_land}
-use Rattle.lane_model.specs.Lane.{Lane, Place, blank, bytes_of, cells_of, entry_of, flags_of, with_field, with_flags}
+use Rattle.lane_model.specs.Lane.{Lane, Slot, blank_slot, bytes_of, data_of, entry_of, flags_of, with_field, with_flags}
 use Rattle.lane_model.specs.Law.{HoldsRingLaw}
 use Rattle.lane_model.specs.Steps.{after_landing}
 use Rattle.lane_model.specs.declared.Field.{Field}
 use Rattle.lane_model.specs.declared.Field.TheVariants.{Chunk, Length, Version}
-use Rattle.lane_model.specs.declared.Mark.{Mark}
-use Rattle.lane_model.specs.declared.Mark.TheVariants.{Cell, Flag, Bell}
-use Rattle.lane_model.proofs.Chunks.{field_among}
-use Rattle.lane_model.proofs.Holds.{land_cell_keeps, land_flag_keeps, land_bell_keeps, cell_is_ahead, flag_is_next}
+use Rattle.lane_model.specs.declared.Write.{Write}
+use Rattle.lane_model.specs.declared.Write.TheVariants.{Data, Flag, Bell}
+use Rattle.lane_laws.proofs.Chunks.{field_among}
+use Rattle.lane_laws.proofs.Holds.{land_data_keeps, land_flag_keeps, land_bell_keeps, data_is_ahead, flag_is_next}
 use Rattle.posted_queue.specs.Flight.{Flight}
 use Rattle.posted_queue.specs.Landing.{answer_for, land_answer as queue_answer, after_landing as queue_after}
 use Rattle.posted_queue.specs.declared.LandAnswer.TheVariants.{Landed as QueueLanded, Blocked as QueueBlocked, Nothing as QueueNothing}
@@ -25,7 +25,7 @@ use Rattle.lane_core.specs.Parts.{BeginsWithin, CanStore, IsKnown, flags_landed,
 use Rattle.lane_core.specs.Seen.{IsKept, lane_seen, value_seen}
 use Rattle.lane_core.specs.declared.answers.LaneLand.TheVariants.{Landed, Blocked, Nothing}
 use Rattle.lane_core.specs.declared.lane.Lane.TheInside.{Inside}
-use Rattle.lane_core.specs.declared.write.Write.{Write}
+use Rattle.lane_core.specs.declared.write.PostedWrite.{PostedWrite}
 use Rattle.lane_core.proofs.Parts.{All-remove, map-remove}
 
 -- What the queue answers
@@ -46,35 +46,35 @@ was_nothing (Some w) true e = absurd (cc e)
 was_nothing (Some w) false e = absurd (cc e)
 
 -- the kinds of the writes in flight, as the queue has them and as the model has them
-pub kinds_seen : (is_strict : Bool) (writes : List Write) → All (λ (w : Write). w.strict ≡ is_strict) writes
-    → map (λ (w : Write). order_of_mark w.strict w.mark) writes ≡ map (order_of_mark is_strict) (map (λ (w : Write). w.mark) writes)
+pub kinds_seen : (is_strict : Bool) (writes : List PostedWrite) → All (λ (w : PostedWrite). w.strict ≡ is_strict) writes
+    → map (λ (w : PostedWrite). order_of_mark w.strict w.mark) writes ≡ map (order_of_mark is_strict) (map (λ (w : PostedWrite). w.mark) writes)
 kinds_seen is_strict [] each = refl
 kinds_seen is_strict (w ∷ writes) each =
-    ap (λ b. order_of_mark b w.mark ∷ map (λ (v : Write). order_of_mark v.strict v.mark) writes) (All-head (λ (v : Write). v.strict ≡ is_strict) w writes each)
-    ∙ ap (λ kinds. order_of_mark is_strict w.mark ∷ kinds) (kinds_seen is_strict writes (All-tail (λ (v : Write). v.strict ≡ is_strict) w writes each))
+    ap (λ b. order_of_mark b w.mark ∷ map (λ (v : PostedWrite). order_of_mark v.strict v.mark) writes) (All-head (λ (v : PostedWrite). v.strict ≡ is_strict) w writes each)
+    ∙ ap (λ kinds. order_of_mark is_strict w.mark ∷ kinds) (kinds_seen is_strict writes (All-tail (λ (v : PostedWrite). v.strict ≡ is_strict) w writes each))
 
 -- What the model's lane answers
 
-pub answer_landed : (value : LaneValue) (place : ℕ) (mark : Mark) → slice_get value.lane.flight place ≡ Some mark → may_land_in value place ≡ true
+pub answer_landed : (value : LaneValue) (place : ℕ) (mark : Write) → slice_get value.lane.flight place ≡ Some mark → may_land_in value place ≡ true
     → land_answer value place ≡ Landed (label_in value.queue value.lane mark)
 answer_landed value place mark found lands = ap (land_found value place) found ∙ cond-true _ _ _ lands
 
-pub after_landed : (value : LaneValue) (place : ℕ) (mark : Mark) → slice_get value.lane.flight place ≡ Some mark → may_land_in value place ≡ true
+pub after_landed : (value : LaneValue) (place : ℕ) (mark : Write) → slice_get value.lane.flight place ≡ Some mark → may_land_in value place ≡ true
     → after_land value place ≡ after_landing value.lane mark (remove value.lane.flight place)
 after_landed value place mark found lands = ap (after_found value place) found ∙ cond-true _ _ _ lands
 
-pub answer_blocked : (value : LaneValue) (place : ℕ) (mark : Mark) → slice_get value.lane.flight place ≡ Some mark → may_land_in value place ≡ false
+pub answer_blocked : (value : LaneValue) (place : ℕ) (mark : Write) → slice_get value.lane.flight place ≡ Some mark → may_land_in value place ≡ false
     → land_answer value place ≡ Blocked
 answer_blocked value place mark found waits = ap (land_found value place) found ∙ cond-false _ _ _ waits
 
-pub after_blocked : (value : LaneValue) (place : ℕ) (mark : Mark) → slice_get value.lane.flight place ≡ Some mark → may_land_in value place ≡ false
+pub after_blocked : (value : LaneValue) (place : ℕ) (mark : Write) → slice_get value.lane.flight place ≡ Some mark → may_land_in value place ≡ false
     → after_land value place ≡ value.lane
 after_blocked value place mark found waits = ap (after_found value place) found ∙ cond-false _ _ _ waits
 
 -- A lane after a landing
 
 -- a write may land where it is relaxed, or first
-may_land_here : (is_strict : Bool) (flight : List Mark) (place : ℕ) (mark : Mark) → slice_get flight place ≡ Some mark → may_land (map (order_of_mark is_strict) flight) place ≡ true
+may_land_here : (is_strict : Bool) (flight : List Write) (place : ℕ) (mark : Write) → slice_get flight place ≡ Some mark → may_land (map (order_of_mark is_strict) flight) place ≡ true
     → (order_of_mark is_strict mark ≡ relaxed) ⊎ (place ≡ 0)
 may_land_here is_strict flight place mark found lands = elim (or_cases _ _ (sym (may_land-map (order_of_mark is_strict) flight place mark found) ∙ lands)) [
   | inl e ↦ inl (eqb-true _ _ e)
@@ -94,39 +94,39 @@ first_apart [] x found = absurd (none-some x found)
 first_apart (y ∷ ys) x found = ap (λ z. z ∷ ys) (same_Some y x found)
 
 -- what holds where a write may land
-pub record Lands (lane : Lane) (place : ℕ) (mark : Mark) : Type 0 where
+pub record Lands (lane : Lane) (place : ℕ) (mark : Write) : Type 0 where
   pub can : CanStore lane.ring lane.sent mark
   pub known : IsKnown mark (length lane.sent)
   pub counts : lane.flagged + flags_landed mark ≤ length lane.sent
   pub law : HoldsRingLaw (after_landing lane mark (remove lane.flight place))
 
 -- the room of an entry's place
-room_of_place : (lane : Lane) (n : ℕ) → n < length lane.sent → HoldsRingLaw lane → length (bytes_of (entry_of lane n)) ≤ length (get_or lane.ring (n % length lane.ring) blank).payload
+room_of_place : (lane : Lane) (n : ℕ) → n < length lane.sent → HoldsRingLaw lane → length (bytes_of (entry_of lane n)) ≤ length (get_or lane.ring (n % length lane.ring) blank_slot).payload
 room_of_place lane n below law =
     let h = law.2 in
     let two = h.two_entries in
     let here : n % lane.entries < lane.entries = mod-lt n (omega arith) in
     let room = h.rooms (n % lane.entries) here in
     let fits = h.fits n below in
-    subst (λ count. length (bytes_of (entry_of lane n)) ≤ length (get_or lane.ring (n % count) blank).payload) (sym h.positions) (omega (arith, room, fits))
+    subst (λ count. length (bytes_of (entry_of lane n)) ≤ length (get_or lane.ring (n % count) blank_slot).payload) (sym h.slots) (omega (arith, room, fits))
 
-begins_within : (lane : Lane) (n : ℕ) (field : Field) → Contains (cells_of n (entry_of lane n)) (Cell n field) → BeginsWithin (entry_of lane n) field
+begins_within : (lane : Lane) (n : ℕ) (field : Field) → Contains (data_of n (entry_of lane n)) (Data n field) → BeginsWithin (entry_of lane n) field
 begins_within lane n (Chunk part) among = omega (arith, (field_among n n (entry_of lane n) (Chunk part) among).1)
 begins_within lane n Length among = tt
 begins_within lane n Version among = tt
 
-cell_lands : (lane : Lane) (place n : ℕ) (field : Field) → slice_get lane.flight place ≡ Some (Cell n field) → HoldsRingLaw lane → Lands lane place (Cell n field)
+cell_lands : (lane : Lane) (place n : ℕ) (field : Field) → slice_get lane.flight place ≡ Some (Data n field) → HoldsRingLaw lane → Lands lane place (Data n field)
 cell_lands lane place n field found law =
-    let there : Contains lane.flight (Cell n field) = (place, slice_get_within lane.flight place (Cell n field) found, get_or_from_slice_get lane.flight place (Cell n field) (Cell n field) found) in
-    let ahead = cell_is_ahead lane n field there law in
+    let there : Contains lane.flight (Data n field) = (place, slice_get_within lane.flight place (Data n field) found, get_or_from_slice_get lane.flight place (Data n field) (Data n field) found) in
+    let ahead = data_is_ahead lane n field there law in
     let h = law.2 in
     let two = h.two_entries in
-    let positions = h.positions in
+    let slots = h.slots in
     record {
       can = (omega arith, ahead.1, begins_within lane n field ahead.2, room_of_place lane n ahead.1 law);
       known = tt;
       counts = omega (arith, h.flagged_first);
-      law = land_cell_keeps lane n field (take place lane.flight) (drop (suc place) lane.flight) (split-at_place lane.flight place (Cell n field) found).0 law;
+      law = land_data_keeps lane n field (take place lane.flight) (drop (suc place) lane.flight) (split-at_place lane.flight place (Data n field) found).0 law;
     }
 
 flag_lands : (lane : Lane) (place n : ℕ) → slice_get lane.flight place ≡ Some (Flag n) → place ≡ 0 → HoldsRingLaw lane → Lands lane place (Flag n)
@@ -135,7 +135,7 @@ flag_lands lane place n found first law =
     let next = flag_is_next lane n (remove lane.flight 0) front law in
     let h = law.2 in
     let two = h.two_entries in
-    let positions = h.positions in
+    let slots = h.slots in
     record {
       can = (omega arith, next.1);
       known = next.1;
@@ -153,9 +153,9 @@ bell_lands lane place found first law =
       law = subst (λ i. HoldsRingLaw (after_landing lane Bell (remove lane.flight i))) (sym first) (land_bell_keeps lane (remove lane.flight 0) front law);
     }
 
-pub lands : (lane : Lane) (is_strict : Bool) (place : ℕ) (mark : Mark) → slice_get lane.flight place ≡ Some mark → may_land (map (order_of_mark is_strict) lane.flight) place ≡ true
+pub lands : (lane : Lane) (is_strict : Bool) (place : ℕ) (mark : Write) → slice_get lane.flight place ≡ Some mark → may_land (map (order_of_mark is_strict) lane.flight) place ≡ true
     → HoldsRingLaw lane → Lands lane place mark
-lands lane is_strict place (Cell n field) found may law = cell_lands lane place n field found law
+lands lane is_strict place (Data n field) found may law = cell_lands lane place n field found law
 lands lane is_strict place (Flag n) found may law = elim (may_land_here is_strict lane.flight place (Flag n) found may) [
   | inl e ↦ absurd (flag_is_strict is_strict n e)
   | inr first ↦ flag_lands lane place n found first law
@@ -166,31 +166,31 @@ lands lane is_strict place Bell found may law = elim (may_land_here is_strict la
 ]
 
 -- what a landing changes, with the ring and the count apart
-abbrev pub with_landed : Lane → List Mark → Mark → Lane
+abbrev pub with_landed : Lane → List Write → Write → Lane
 with_landed lane rest mark = record lane { flight = rest; ring = ring_after lane.ring lane.sent mark; flagged = lane.flagged + flags_landed mark }
 
-pub landed_is : (lane : Lane) (rest : List Mark) (mark : Mark) → length lane.ring ≡ lane.entries → after_landing lane mark rest ≡ with_landed lane rest mark
-landed_is lane rest (Cell n field) positions =
-    ap (λ count. record lane { flight = rest; ring = set lane.ring (n % count) (with_field (get_or lane.ring (n % count) blank) n (entry_of lane n) field) }) (sym positions)
-    ∙ ap (λ count. record lane { flight = rest; ring = ring_after lane.ring lane.sent (Cell n field); flagged = count }) (none_more lane.flagged)
+pub landed_is : (lane : Lane) (rest : List Write) (mark : Write) → length lane.ring ≡ lane.entries → after_landing lane mark rest ≡ with_landed lane rest mark
+landed_is lane rest (Data n field) slots =
+    ap (λ count. record lane { flight = rest; ring = set lane.ring (n % count) (with_field (get_or lane.ring (n % count) blank_slot) n (entry_of lane n) field) }) (sym slots)
+    ∙ ap (λ count. record lane { flight = rest; ring = ring_after lane.ring lane.sent (Data n field); flagged = count }) (none_more lane.flagged)
   where
     none_more : (count : ℕ) → count ≡ count + 0
     none_more count = omega arith
-landed_is lane rest (Flag n) positions =
-    ap (λ count. record lane { flight = rest; ring = set lane.ring (n % count) (with_flags (get_or lane.ring (n % count) blank) (flags_of (entry_of lane n))); flagged = lane.flagged + 1 }) (sym positions)
-landed_is lane rest Bell positions = ap (λ count. record lane { flight = rest; flagged = count }) (none_left lane.flagged)
+landed_is lane rest (Flag n) slots =
+    ap (λ count. record lane { flight = rest; ring = set lane.ring (n % count) (with_flags (get_or lane.ring (n % count) blank_slot) (flags_of (entry_of lane n))); flagged = lane.flagged + 1 }) (sym slots)
+landed_is lane rest Bell slots = ap (λ count. record lane { flight = rest; flagged = count }) (none_left lane.flagged)
   where
     none_left : (count : ℕ) → count ≡ count + 0
     none_left count = omega arith
 
 -- a lane whose writes in flight, ring and count are those after a landing
-pub landed_lane : (lane : Lane) (flight rest : List Mark) (ring : List Place) (flagged : ℕ) (mark : Mark) → length lane.ring ≡ lane.entries → flight ≡ rest
+pub landed_lane : (lane : Lane) (flight rest : List Write) (ring : List Slot) (flagged : ℕ) (mark : Write) → length lane.ring ≡ lane.entries → flight ≡ rest
     → ring ≡ ring_after lane.ring lane.sent mark → flagged ≡ lane.flagged + flags_landed mark → record lane { flight = flight; ring = ring; flagged = flagged } ≡ after_landing lane mark rest
-landed_lane lane flight rest ring flagged mark positions same_flight same_ring same_count =
-    ap (λ (marks : List Mark). record lane { flight = marks; ring = ring; flagged = flagged }) same_flight
-    ∙ ap (λ (places : List Place). record lane { flight = rest; ring = places; flagged = flagged }) same_ring
+landed_lane lane flight rest ring flagged mark slots same_flight same_ring same_count =
+    ap (λ (marks : List Write). record lane { flight = marks; ring = ring; flagged = flagged }) same_flight
+    ∙ ap (λ (places : List Slot). record lane { flight = rest; ring = places; flagged = flagged }) same_ring
     ∙ ap (λ (count : ℕ). record lane { flight = rest; ring = ring_after lane.ring lane.sent mark; flagged = count }) same_count
-    ∙ sym (landed_is lane rest mark positions)
+    ∙ sym (landed_is lane rest mark slots)
 
 pub answer_nothing : (value : LaneValue) (place : ℕ) → slice_get value.lane.flight place ≡ None → land_answer value place ≡ Nothing
 answer_nothing value place found = ap (land_found value place) found
@@ -213,39 +213,39 @@ past_the_end order writes place found =
     within_some (x ∷ xs) (suc i) within none = within_some xs i (omega arith) none
 
 -- what is known of a lane where the queue answers that a write landed
-pub record HasLanded (l : Inside) (place : ℕ) (mark : Mark) (flight : Flight Write) : Type 0 where
+pub record HasLanded (l : Inside) (place : ℕ) (mark : Write) (flight : Flight PostedWrite) : Type 0 where
   pub found : slice_get (lane_seen l).flight place ≡ Some mark
   pub may : may_land_in (value_seen l) place ≡ true
   pub lands : Lands (lane_seen l) place mark
-  pub marks : map (λ (w : Write). w.mark) flight.writes ≡ remove (lane_seen l).flight place
-  pub orders : All (λ (w : Write). w.strict ≡ l.strict) flight.writes
+  pub marks : map (λ (w : PostedWrite). w.mark) flight.writes ≡ remove (lane_seen l).flight place
+  pub orders : All (λ (w : PostedWrite). w.strict ≡ l.strict) flight.writes
   pub spare : flight.spare ≡ l.flight.spare
 
-abbrev order_of_write : Write → ℕ
+abbrev order_of_write : PostedWrite → ℕ
 order_of_write w = order_of_mark w.strict w.mark
 
-pub has_landed : (l : Inside) (place : ℕ) (write : Write) (flight : Flight Write) → QueueLanded write ≡ queue_answer order_of_write l.flight place → flight ≡ queue_after order_of_write l.flight place
+pub has_landed : (l : Inside) (place : ℕ) (write : PostedWrite) (flight : Flight PostedWrite) → QueueLanded write ≡ queue_answer order_of_write l.flight place → flight ≡ queue_after order_of_write l.flight place
     → IsKept l → HasLanded l place write.mark flight
 has_landed l place write flight answer after kept =
     let was = was_landed _ _ write answer in
-    let found : slice_get (lane_seen l).flight place ≡ Some write.mark = slice_get-map (λ (w : Write). w.mark) l.flight.writes place ∙ ap (option_map (λ (w : Write). w.mark)) was.0 in
+    let found : slice_get (lane_seen l).flight place ≡ Some write.mark = slice_get-map (λ (w : PostedWrite). w.mark) l.flight.writes place ∙ ap (option_map (λ (w : PostedWrite). w.mark)) was.0 in
     let may : may_land_in (value_seen l) place ≡ true = ap (λ kinds. may_land kinds place) (sym (kinds_seen l.strict l.flight.writes kept.orders)) ∙ was.1 in
     let now = after ∙ cond-true _ _ _ was.1 in
-    let writes : flight.writes ≡ remove l.flight.writes place = ap (λ (f : Flight Write). f.writes) now in
+    let writes : flight.writes ≡ remove l.flight.writes place = ap (λ (f : Flight PostedWrite). f.writes) now in
     record {
       found = found;
       may = may;
       lands = lands (lane_seen l) l.strict place write.mark found may kept.law;
-      marks = ap (map (λ (w : Write). w.mark)) writes ∙ map-remove (λ (w : Write). w.mark) l.flight.writes place;
-      orders = All-same (λ (w : Write). w.strict ≡ l.strict) flight.writes _ writes (All-remove (λ (w : Write). w.strict ≡ l.strict) l.flight.writes place kept.orders);
-      spare = ap (λ (f : Flight Write). f.spare) now;
+      marks = ap (map (λ (w : PostedWrite). w.mark)) writes ∙ map-remove (λ (w : PostedWrite). w.mark) l.flight.writes place;
+      orders = All-same (λ (w : PostedWrite). w.strict ≡ l.strict) flight.writes _ writes (All-remove (λ (w : PostedWrite). w.strict ≡ l.strict) l.flight.writes place kept.orders);
+      spare = ap (λ (f : Flight PostedWrite). f.spare) now;
     }
 
 -- and where it answers that a write is blocked
-pub is_held_back : (l : Inside) (place : ℕ) → QueueBlocked ≡ queue_answer order_of_write l.flight place → All (λ (w : Write). w.strict ≡ l.strict) l.flight.writes
+pub is_held_back : (l : Inside) (place : ℕ) → QueueBlocked ≡ queue_answer order_of_write l.flight place → All (λ (w : PostedWrite). w.strict ≡ l.strict) l.flight.writes
     → (land_answer (value_seen l) place ≡ Blocked) × (after_land (value_seen l) place ≡ lane_seen l)
 is_held_back l place answer orders =
     let was = was_blocked _ _ answer in
-    let found : slice_get (lane_seen l).flight place ≡ Some was.0.mark = slice_get-map (λ (w : Write). w.mark) l.flight.writes place ∙ ap (option_map (λ (w : Write). w.mark)) was.1 in
+    let found : slice_get (lane_seen l).flight place ≡ Some was.0.mark = slice_get-map (λ (w : PostedWrite). w.mark) l.flight.writes place ∙ ap (option_map (λ (w : PostedWrite). w.mark)) was.1 in
     let waits : may_land_in (value_seen l) place ≡ false = ap (λ kinds. may_land kinds place) (sym (kinds_seen l.strict l.flight.writes orders)) ∙ was.2 in
     (answer_blocked (value_seen l) place was.0.mark found waits, after_blocked (value_seen l) place was.0.mark found waits)

@@ -2,23 +2,23 @@
 use Rattle.std.proofs.Common.{◌≡◌, ℕ, ◌%◌, ◌<◌, length, map, get_or, sym, ap, ◌∙◌, inl, inr, arith}
 use Rattle.std.proofs.lemmas.Bool.{cases_lt}
 use Rattle.std.proofs.lemmas.List.{get_or-map}
-use Rattle.lane_model.specs.Lane.{Lane, blank, bytes_of, entry_of, place_of}
+use Rattle.lane_model.specs.Lane.{Lane, blank_slot, bytes_of, entry_of, slot_of}
 use Rattle.lane_model.specs.Law.{HoldsRingLaw}
 use Rattle.lane_model.specs.declared.Phase.TheVariants.{Idle}
-use Rattle.lane_model.proofs.Holds.{look_sees}
+use Rattle.lane_laws.proofs.Holds.{look_sees}
 use Rattle.lane_core.specs.Parts.{place_seen}
 use Rattle.lane_core.specs.Seen.{lane_seen}
 use Rattle.lane_core.specs.declared.lane.Lane.TheInside.{Inside}
-use Rattle.lane_core.specs.declared.place.Place.{Place}
+use Rattle.lane_core.specs.declared.slot.Slot.{Slot}
 
 -- the place that was read is the model's
-pub read_place : (l : Inside) (n position : ℕ) (place : Place) → position ≡ n % l.entries → position < length l.ring.items → place ≡ get_or l.ring.items position place
-    → place_of (lane_seen l) n ≡ place_seen place
+pub read_place : (l : Inside) (n position : ℕ) (place : Slot) → position ≡ n % l.entries → position < length l.ring.items → place ≡ get_or l.ring.items position place
+    → slot_of (lane_seen l) n ≡ place_seen place
 read_place l n position place at within read =
-    ap (λ k. get_or (map place_seen l.ring.items) k blank) (sym at) ∙ get_or-map place_seen l.ring.items position place blank within ∙ ap place_seen (sym read)
+    ap (λ k. get_or (map place_seen l.ring.items) k blank_slot) (sym at) ∙ get_or-map place_seen l.ring.items position place blank_slot within ∙ ap place_seen (sym read)
 
 -- an idle receiver that finds flags has an entry before it
-entry_before : (lane : Lane) → lane.phase ≡ Idle → ((place_of lane lane.got).flags ≡ 0 → ⊥) → HoldsRingLaw lane → lane.got < lane.flagged
+entry_before : (lane : Lane) → lane.phase ≡ Idle → ((slot_of lane lane.got).flags ≡ 0 → ⊥) → HoldsRingLaw lane → lane.got < lane.flagged
 entry_before lane idle some law =
     let sees = look_sees lane idle law in
     elim (cases_lt lane.got lane.flagged) [
@@ -31,9 +31,9 @@ entry_before lane idle some law =
 -- what an idle receiver knows where it finds flags
 pub record FindsEntry (lane : Lane) : Type 0 where
   pub more : lane.got < lane.flagged
-  pub size : length (bytes_of (entry_of lane lane.got)) ≡ (place_of lane lane.got).len
+  pub size : length (bytes_of (entry_of lane lane.got)) ≡ (slot_of lane lane.got).len
 
-pub finds_entry : (lane : Lane) → lane.phase ≡ Idle → ((place_of lane lane.got).flags ≡ 0 → ⊥) → HoldsRingLaw lane → FindsEntry lane
+pub finds_entry : (lane : Lane) → lane.phase ≡ Idle → ((slot_of lane lane.got).flags ≡ 0 → ⊥) → HoldsRingLaw lane → FindsEntry lane
 finds_entry lane idle some law =
     let more = entry_before lane idle some law in
     record { more = more; size = sym ((look_sees lane idle law).an_entry more).len }

@@ -5,9 +5,9 @@ use Rattle.std.proofs.lemmas.List.{map_push, map-append, take-map, drop-map}
 use Rattle.std.proofs.lemmas.List.Elements.{All-append, All-drop, All-push, All-same, All-take}
 use Rattle.lane_model.specs.declared.Phase.{Phase}
 use Rattle.lane_model.specs.declared.Phase.TheVariants.{Copying}
-use Rattle.lane_model.specs.declared.Mark.{Mark}
+use Rattle.lane_model.specs.declared.Write.{Write}
 use Rattle.lane_core.specs.Seen.{Buffers}
-use Rattle.lane_core.specs.declared.write.Write.{Write}
+use Rattle.lane_core.specs.declared.write.PostedWrite.{PostedWrite}
 
 -- where nothing is copied, nothing is asked of the buffer
 pub not_copying : (phase : Phase) (part : ℕ) (bytes copied : List ℕ) (capacity : ℕ) → (phase ≡ Copying → ⊥) → Buffers phase part bytes copied capacity
@@ -20,10 +20,10 @@ map-posted f true writes write = map_push f writes write
 map-posted f false writes write = refl
 
 -- each write keeps its order when one more is posted, or lost
-pub All-posted : (strict up : Bool) (writes : List Write) (mark : Mark) (posted : List Write)
-    → posted ≡ (if up then writes ++ record { mark = mark; strict = strict } ∷ [] else writes) → All (λ (w : Write). w.strict ≡ strict) writes → All (λ (w : Write). w.strict ≡ strict) posted
-All-posted strict true writes mark posted e h = All-same (λ (w : Write). w.strict ≡ strict) posted _ e (All-push (λ (w : Write). w.strict ≡ strict) writes (record { mark = mark; strict = strict }) h refl)
-All-posted strict false writes mark posted e h = All-same (λ (w : Write). w.strict ≡ strict) posted writes e h
+pub All-posted : (strict up : Bool) (writes : List PostedWrite) (mark : Write) (posted : List PostedWrite)
+    → posted ≡ (if up then writes ++ record { mark = mark; strict = strict } ∷ [] else writes) → All (λ (w : PostedWrite). w.strict ≡ strict) writes → All (λ (w : PostedWrite). w.strict ≡ strict) posted
+All-posted strict true writes mark posted e h = All-same (λ (w : PostedWrite). w.strict ≡ strict) posted _ e (All-push (λ (w : PostedWrite). w.strict ≡ strict) writes (record { mark = mark; strict = strict }) h refl)
+All-posted strict false writes mark posted e h = All-same (λ (w : PostedWrite). w.strict ≡ strict) posted writes e h
 
 -- and when one is taken out
 pub All-remove : {X : Type 0} (P : X → Type 0) (xs : List X) (i : ℕ) → All P xs → All P (remove xs i)

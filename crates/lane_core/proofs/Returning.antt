@@ -6,7 +6,7 @@ use Rattle.std.proofs.lemmas.Option.{slice_get-map}
 use Rattle.lane_model.specs.Order.{relaxed, strict, may_land}
 use Rattle.lane_model.specs.Law.{HoldsRingLaw}
 use Rattle.lane_model.specs.Steps.{after_index}
-use Rattle.lane_model.proofs.Holds.{index_is_next, index_keeps}
+use Rattle.lane_laws.proofs.Holds.{index_is_next, index_keeps}
 use Rattle.posted_queue.specs.Flight.{Flight}
 use Rattle.posted_queue.specs.Landing.{land_answer as queue_answer, after_landing as queue_after}
 use Rattle.posted_queue.specs.declared.LandAnswer.TheVariants.{Landed as QueueLanded, Blocked as QueueBlocked, Nothing as QueueNothing}

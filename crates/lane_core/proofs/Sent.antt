@@ -2,8 +2,8 @@
 use Rattle.std.proofs.Common.{◌≡◌, ℕ, Bool, true, false, cond, List, Option, Some, None, refl}
 use Rattle.lane_model.specs.Lane.{Entry, Lane}
 use Rattle.lane_model.specs.Steps.{after_landing}
-use Rattle.lane_model.specs.declared.Mark.{Mark}
-use Rattle.lane_model.specs.declared.Mark.TheVariants.{Cell, Flag, Bell}
+use Rattle.lane_model.specs.declared.Write.{Write}
+use Rattle.lane_model.specs.declared.Write.TheVariants.{Data, Flag, Bell}
 use Rattle.lane_core.specs.Calls.{LaneValue, after_land, after_found}
 
 -- a choice between two lanes that have the same entries
@@ -11,14 +11,14 @@ sent-either : (b : Bool) (lane other : Lane) (sent : List Entry) → lane.sent �
 sent-either true lane other sent e f = e
 sent-either false lane other sent e f = f
 
-sent-landing : (lane : Lane) (mark : Mark) (rest : List Mark) → (after_landing lane mark rest).sent ≡ lane.sent
-sent-landing lane (Cell n field) rest = refl
+sent-landing : (lane : Lane) (mark : Write) (rest : List Write) → (after_landing lane mark rest).sent ≡ lane.sent
+sent-landing lane (Data n field) rest = refl
 sent-landing lane (Flag n) rest = refl
 sent-landing lane Bell rest = refl
 
 pub sent-land : (value : LaneValue) (place : ℕ) → (after_land value place).sent ≡ value.lane.sent
 sent-land value place = go _
   where
-    go : (found : Option Mark) → (after_found value place found).sent ≡ value.lane.sent
+    go : (found : Option Write) → (after_found value place found).sent ≡ value.lane.sent
     go None = refl
     go (Some mark) = sent-either _ (after_landing value.lane mark _) value.lane value.lane.sent (sent-landing value.lane mark _) refl

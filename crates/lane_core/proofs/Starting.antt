@@ -1,29 +1,29 @@
 -- The ring law holds of a lane at the start of its session.
 use Rattle.std.proofs.Common.{◌≡◌, ℕ, ◌+◌, ◌-◌, ◌%◌, ◌<◌, ◌≤◌, length, replicate, refl, sym, ap, ◌∙◌, arith, mod-lt, mod-eq_of_lt, List, [], map, subst}
 use Rattle.std.proofs.lemmas.List.{length-replicate, get_or-replicate}
-use Rattle.lane_model.specs.Lane.{Place, blank, place_of}
-use Rattle.lane_model.specs.Kept.{IsFresh}
+use Rattle.lane_model.specs.Lane.{Slot, blank_slot, slot_of}
+use Rattle.lane_laws.specs.Laws.{IsFresh}
 use Rattle.lane_model.specs.Law.{HoldsRingLaw}
-use Rattle.lane_model.proofs.Holds.{fresh_holds}
-use Rattle.lane_model.specs.declared.Mark.{Mark}
+use Rattle.lane_laws.proofs.Holds.{fresh_holds}
+use Rattle.lane_model.specs.declared.Write.{Write}
 use Rattle.posted_queue.specs.Flight.{Flight, nothing_in_flight}
 use Rattle.lane_core.specs.Parts.{entry_seen, place_seen}
 use Rattle.lane_core.specs.declared.entry.Entry.{Entry}
-use Rattle.lane_core.specs.declared.place.Place.{Place as Position}
-use Rattle.lane_core.specs.declared.write.Write.{Write}
+use Rattle.lane_core.specs.declared.slot.Slot.{Slot as Position}
+use Rattle.lane_core.specs.declared.write.PostedWrite.{PostedWrite}
 use Rattle.lane_core.specs.declared.write.IndexWrite.{IndexWrite}
-use Rattle.lane_core.specs.Fresh.{fresh_lane, zero_place}
+use Rattle.lane_core.specs.Fresh.{fresh_lane, zeroed_slot}
 
-place_zero : (entries largest k : ℕ) → 2 ≤ entries → place_of (fresh_lane entries largest) k ≡ zero_place largest
-place_zero entries largest k two = get_or-replicate entries (k % entries) (zero_place largest) blank (mod-lt k (omega arith))
+place_zero : (entries largest k : ℕ) → 2 ≤ entries → slot_of (fresh_lane entries largest) k ≡ zeroed_slot largest
+place_zero entries largest k two = get_or-replicate entries (k % entries) (zeroed_slot largest) blank_slot (mod-lt k (omega arith))
 
 pub fresh_law : (entries largest : ℕ) → 2 ≤ entries → HoldsRingLaw (fresh_lane entries largest)
 fresh_law entries largest two =
     let fresh : IsFresh (fresh_lane entries largest) = record {
       two_entries = two;
-      positions = length-replicate entries (zero_place largest);
-      rooms = λ k below. ap (λ (place : Place). length place.payload) (place_zero entries largest k two) ∙ length-replicate largest 0;
-      no_flags = λ k. ap (λ (place : Place). place.flags) (place_zero entries largest k two);
+      slots = length-replicate entries (zeroed_slot largest);
+      rooms = λ k below. ap (λ (place : Slot). length place.payload) (place_zero entries largest k two) ∙ length-replicate largest 0;
+      no_flags = λ k. ap (λ (place : Slot). place.flags) (place_zero entries largest k two);
       index_word = last_free entries two;
       sent = refl;
       todo = refl;
@@ -45,26 +45,26 @@ fresh_law entries largest two =
         same ∙ sym (mod-eq_of_lt below)
 
 -- the law holds of the parts that a lane starts with
-pub started : (entries largest : ℕ) (sent : List Entry) (todo : List Mark) (flight : Flight Write) (returning : Flight IndexWrite) (ring : List Position) → 2 ≤ entries
-    → sent ≡ [] → todo ≡ [] → flight ≡ nothing_in_flight → returning ≡ nothing_in_flight → map place_seen ring ≡ replicate entries (zero_place largest)
+pub started : (entries largest : ℕ) (sent : List Entry) (todo : List Write) (flight : Flight PostedWrite) (returning : Flight IndexWrite) (ring : List Position) → 2 ≤ entries
+    → sent ≡ [] → todo ≡ [] → flight ≡ nothing_in_flight → returning ≡ nothing_in_flight → map place_seen ring ≡ replicate entries (zeroed_slot largest)
     → HoldsRingLaw (record (fresh_lane entries largest) {
       sent = map entry_seen sent;
       todo = todo;
-      flight = map (λ (w : Write). w.mark) flight.writes;
+      flight = map (λ (w : PostedWrite). w.mark) flight.writes;
       returning = map (λ (w : IndexWrite). w.number) returning.writes;
       ring = map place_seen ring;
     })
 started entries largest sent todo flight returning ring two no_sent no_todo no_flight no_returning zeroed =
-    let at_ring = subst (λ (places : List Place). HoldsRingLaw (record (fresh_lane entries largest) { ring = places })) (sym zeroed) (fresh_law entries largest two) in
+    let at_ring = subst (λ (places : List Slot). HoldsRingLaw (record (fresh_lane entries largest) { ring = places })) (sym zeroed) (fresh_law entries largest two) in
     let at_returning = subst (λ (f : Flight IndexWrite). HoldsRingLaw (record (fresh_lane entries largest) { ring = map place_seen ring; returning = map (λ (w : IndexWrite). w.number) f.writes })) (sym no_returning) at_ring in
     let at_flight =
     subst
-    (λ (f : Flight Write). HoldsRingLaw (record (fresh_lane entries largest) { ring = map place_seen ring; returning = map (λ (w : IndexWrite). w.number) returning.writes; flight = map (λ (w : Write). w.mark) f.writes }))
+    (λ (f : Flight PostedWrite). HoldsRingLaw (record (fresh_lane entries largest) { ring = map place_seen ring; returning = map (λ (w : IndexWrite). w.number) returning.writes; flight = map (λ (w : PostedWrite). w.mark) f.writes }))
     (sym no_flight) at_returning in
     let at_todo =
     subst
-    (λ (marks : List Mark). HoldsRingLaw (record (fresh_lane entries largest) { ring = map place_seen ring; returning = map (λ (w : IndexWrite). w.number) returning.writes; flight = map (λ (w : Write). w.mark) flight.writes; todo = marks }))
+    (λ (marks : List Write). HoldsRingLaw (record (fresh_lane entries largest) { ring = map place_seen ring; returning = map (λ (w : IndexWrite). w.number) returning.writes; flight = map (λ (w : PostedWrite). w.mark) flight.writes; todo = marks }))
     (sym no_todo) at_flight in
     subst
-    (λ (es : List Entry). HoldsRingLaw (record (fresh_lane entries largest) { ring = map place_seen ring; returning = map (λ (w : IndexWrite). w.number) returning.writes; flight = map (λ (w : Write). w.mark) flight.writes; todo = todo; sent = map entry_seen es }))
+    (λ (es : List Entry). HoldsRingLaw (record (fresh_lane entries largest) { ring = map place_seen ring; returning = map (λ (w : IndexWrite). w.number) returning.writes; flight = map (λ (w : PostedWrite). w.mark) flight.writes; todo = todo; sent = map entry_seen es }))
     (sym no_sent) at_todo

@@ -2,12 +2,12 @@
 use Rattle.std.specs.Prelude.{ℕ, ◌==◌, Bool, true, false, Option, Some, None, List, [], ◌∷◌, length, map, remove, slice_get, if◌then◌else◌, nat_lt}
 use Rattle.step_kinds.specs.declared.steps.Label.{Label}
 use Rattle.step_kinds.specs.declared.steps.Label.TheVariants.{Index}
-use Rattle.lane_model.specs.Lane.{Entry, Carries, LinkDown, Lane, bytes_of, entry_of, free_in}
+use Rattle.lane_model.specs.Lane.{Entry, Carries, GoesDown, Lane, bytes_of, entry_of, free_in}
 use Rattle.lane_model.specs.Order.{relaxed, strict, may_land}
 use Rattle.lane_model.specs.Ring.{head_of}
 use Rattle.lane_model.specs.Steps.{after_begin, after_post, after_landing, after_look, more_to_copy, after_copy, after_clear, after_ack, after_index}
-use Rattle.lane_model.specs.declared.Mark.{Mark}
-use Rattle.lane_model.specs.declared.Mark.TheVariants.{Cell, Flag, Bell}
+use Rattle.lane_model.specs.declared.Write.{Write}
+use Rattle.lane_model.specs.declared.Write.TheVariants.{Data, Flag, Bell}
 use Rattle.lane_model.specs.declared.Phase.{Phase}
 use Rattle.lane_model.specs.declared.Phase.TheVariants.{Idle, Copying, Copied, Cleared}
 use Rattle.ledger_model.specs.Labels.{label_of}
@@ -53,23 +53,23 @@ after_beginning lane entry answer = lane
 -- Posting
 
 -- the number of the entry that a write belongs to, where it has one
-abbrev pub number_of : Mark → ℕ
-number_of (Cell n field) = n
+abbrev pub number_of : Write → ℕ
+number_of (Data n field) = n
 number_of (Flag n) = n
 number_of Bell = 0
 
 -- the label of a write of the lane
-abbrev pub label_in : ℕ → Lane → Mark → Label
+abbrev pub label_in : ℕ → Lane → Write → Label
 label_in queue lane mark = label_of queue (entry_of lane (number_of mark)) mark
 
-abbrev pub first_label : ℕ → Lane → List Mark → Option Label
+abbrev pub first_label : ℕ → Lane → List Write → Option Label
 first_label queue lane [] = None
 first_label queue lane (mark ∷ rest) = Some (label_in queue lane mark)
 
 abbrev pub post_answer : LaneValue → Option Label
 post_answer value = first_label value.queue value.lane value.lane.todo
 
-abbrev pub after_first_post : Lane → List Mark → Lane
+abbrev pub after_first_post : Lane → List Write → Lane
 after_first_post lane [] = lane
 after_first_post lane (mark ∷ rest) = after_post lane mark rest
 
@@ -79,22 +79,22 @@ after_posting lane = after_first_post lane lane.todo
 -- Landing
 
 -- the order of a write: on a strict lane all are strict, elsewhere the fields of an entry are relaxed
-abbrev pub order_of_mark : Bool → Mark → ℕ
+abbrev pub order_of_mark : Bool → Write → ℕ
 order_of_mark true mark = strict
-order_of_mark false (Cell n field) = relaxed
+order_of_mark false (Data n field) = relaxed
 order_of_mark false mark = strict
 
 abbrev pub may_land_in : LaneValue → ℕ → Bool
 may_land_in value place = may_land (map (order_of_mark value.is_strict) value.lane.flight) place
 
-abbrev pub land_found : LaneValue → ℕ → Option Mark → LaneLand
+abbrev pub land_found : LaneValue → ℕ → Option Write → LaneLand
 land_found value place None = Nothing
 land_found value place (Some mark) = if may_land_in value place then Landed (label_in value.queue value.lane mark) else Blocked
 
 abbrev pub land_answer : LaneValue → ℕ → LaneLand
 land_answer value place = land_found value place (slice_get value.lane.flight place)
 
-abbrev pub after_found : LaneValue → ℕ → Option Mark → Lane
+abbrev pub after_found : LaneValue → ℕ → Option Write → Lane
 after_found value place None = value.lane
 after_found value place (Some mark) = if may_land_in value place then after_landing value.lane mark (remove value.lane.flight place) else value.lane
 
@@ -139,7 +139,7 @@ is_cleared phase = false
 
 abbrev pub look_at : ℕ → Entry → LaneLook
 look_at n (Carries bytes) = Ready n (length bytes)
-look_at n LinkDown = PeerDown
+look_at n GoesDown = PeerDown
 
 abbrev pub look_answer : Lane → LaneLook
 look_answer lane =

@@ -1,12 +1,12 @@
 -- A lane at the start of its session.
 use Rattle.std.specs.Prelude.{ℕ, ◌-◌, Bool, true, [], replicate}
-use Rattle.lane_model.specs.Lane.{Place, Lane}
+use Rattle.lane_model.specs.Lane.{Slot, Lane}
 use Rattle.lane_model.specs.declared.Phase.TheVariants.{Idle}
 use Rattle.lane_core.specs.Calls.{LaneValue}
 
 -- a position of which all bytes are zero
-abbrev pub zero_place : ℕ → Place
-zero_place largest = record { payload = replicate largest 0; len = 0; ver = 0; flags = 0 }
+abbrev pub zeroed_slot : ℕ → Slot
+zeroed_slot largest = record { payload = replicate largest 0; len = 0; ver = 0; flags = 0 }
 
 -- nothing was begun, the ring is zeroed, and the index word says that no entry is taken
 abbrev pub fresh_lane : ℕ → ℕ → Lane
@@ -19,7 +19,7 @@ fresh_lane entries largest =
       todo = [];
       flight = [];
       returning = [];
-      ring = replicate entries (zero_place largest);
+      ring = replicate entries (zeroed_slot largest);
       index_word = entries - 1;
       flagged = 0;
       got = 0;

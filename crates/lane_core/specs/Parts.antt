@@ -1,20 +1,20 @@
 -- The parts of a lane as the model sees them, and what a landing writes into the ring.
 use Rattle.std.specs.Prelude.{ℕ, ◌*◌, ◌%◌, ◌<◌, ◌≤◌, List, length, slice_index_or, slice_set}
 use Rattle.lane_model.specs.Lane as model
-use Rattle.lane_model.specs.Lane.{blank, bytes_of, chunk_size, flags_of, with_field, with_flags}
+use Rattle.lane_model.specs.Lane.{blank_slot, bytes_of, chunk_size, flags_of, with_field, with_flags}
 use Rattle.lane_model.specs.declared.Field.{Field}
 use Rattle.lane_model.specs.declared.Field.TheVariants.{Chunk, Length, Version}
-use Rattle.lane_model.specs.declared.Mark.{Mark}
-use Rattle.lane_model.specs.declared.Mark.TheVariants.{Cell, Flag, Bell}
+use Rattle.lane_model.specs.declared.Write.{Write}
+use Rattle.lane_model.specs.declared.Write.TheVariants.{Data, Flag, Bell}
 use Rattle.lane_core.specs.declared.entry.Entry.{Entry}
-use Rattle.lane_core.specs.declared.entry.Entry.TheVariants.{Carries, LinkDown}
-use Rattle.lane_core.specs.declared.place.Place.{Place}
+use Rattle.lane_core.specs.declared.entry.Entry.TheVariants.{Carries, GoesDown}
+use Rattle.lane_core.specs.declared.slot.Slot.{Slot}
 
 abbrev pub entry_seen : Entry → model.Entry
 entry_seen (Carries frame) = model.Carries frame
-entry_seen LinkDown = model.LinkDown
+entry_seen GoesDown = model.GoesDown
 
-abbrev pub place_seen : Place → model.Place
+abbrev pub place_seen : Slot → model.Slot
 place_seen place = record { payload = place.payload.items; len = place.len; ver = place.ver; flags = place.flags }
 
 -- a field begins within the bytes of its entry
@@ -25,34 +25,34 @@ BeginsWithin entry Version = Unit {0}
 
 -- the entry of a number, and the place of its position in a ring
 abbrev pub entry_in : List model.Entry → ℕ → model.Entry
-entry_in sent n = slice_index_or sent n model.LinkDown
+entry_in sent n = slice_index_or sent n model.GoesDown
 
-abbrev pub place_in : List model.Place → ℕ → model.Place
-place_in ring n = slice_index_or ring (n % length ring) blank
+abbrev pub place_in : List model.Slot → ℕ → model.Slot
+place_in ring n = slice_index_or ring (n % length ring) blank_slot
 
 -- the ring with other flags at the position of entry n
-abbrev pub with_flags_at : List model.Place → ℕ → ℕ → List model.Place
+abbrev pub with_flags_at : List model.Slot → ℕ → ℕ → List model.Slot
 with_flags_at ring n flags = slice_set ring (n % length ring) (with_flags (place_in ring n) flags)
 
 -- a write finds its place and its entry
-abbrev pub CanStore : List model.Place → List model.Entry → Mark → Type 0
-CanStore ring sent (Cell n field) =
+abbrev pub CanStore : List model.Slot → List model.Entry → Write → Type 0
+CanStore ring sent (Data n field) =
     (0 < length ring) × (n < length sent) × BeginsWithin (entry_in sent n) field × (length (bytes_of (entry_in sent n)) ≤ length (place_in ring n).payload)
 CanStore ring sent (Flag n) = (0 < length ring) × (n < length sent)
 CanStore ring sent Bell = Unit {0}
 
 -- the ring after a write has landed in it
-abbrev pub ring_after : List model.Place → List model.Entry → Mark → List model.Place
-ring_after ring sent (Cell n field) = slice_set ring (n % length ring) (with_field (place_in ring n) n (entry_in sent n) field)
+abbrev pub ring_after : List model.Slot → List model.Entry → Write → List model.Slot
+ring_after ring sent (Data n field) = slice_set ring (n % length ring) (with_field (place_in ring n) n (entry_in sent n) field)
 ring_after ring sent (Flag n) = with_flags_at ring n (flags_of (entry_in sent n))
 ring_after ring sent Bell = ring
 
 -- how many entries have their flags landed by a write
-abbrev pub flags_landed : Mark → ℕ
+abbrev pub flags_landed : Write → ℕ
 flags_landed (Flag n) = 1
 flags_landed mark = 0
 
 -- the entry whose flags a write is has to be known for its label
-abbrev pub IsKnown : Mark → ℕ → Type 0
+abbrev pub IsKnown : Write → ℕ → Type 0
 IsKnown (Flag n) begun = n < begun
 IsKnown mark begun = Unit {0}

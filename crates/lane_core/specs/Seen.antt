@@ -6,7 +6,7 @@ use Rattle.lane_model.specs.declared.Phase.{Phase}
 use Rattle.lane_model.specs.declared.Phase.TheVariants.{Idle, Copying}
 use Rattle.lane_core.specs.Calls.{LaneValue}
 use Rattle.lane_core.specs.Parts.{entry_seen, place_seen}
-use Rattle.lane_core.specs.declared.write.Write.{Write}
+use Rattle.lane_core.specs.declared.write.PostedWrite.{PostedWrite}
 use Rattle.lane_core.specs.declared.write.IndexWrite.{IndexWrite}
 use Rattle.lane_core.specs.declared.lane.Lane.TheInside.{Inside}
 
@@ -18,7 +18,7 @@ lane_seen l =
       up = l.up;
       sent = map entry_seen l.sent.items;
       todo = l.todo.items;
-      flight = map (λ (write : Write). write.mark) l.flight.writes;
+      flight = map (λ (write : PostedWrite). write.mark) l.flight.writes;
       returning = map (λ (write : IndexWrite). write.number) l.returning.writes;
       ring = map place_seen l.ring.items;
       index_word = l.index_word;
@@ -48,7 +48,7 @@ pub record IsKept (l : Inside) : Type 0 where
   pub law : HoldsRingLaw (lane_seen l)
   pub few : length l.sent.items ≤ 2 ^ 46
   pub small : l.largest ≤ 65536
-  pub orders : All (λ (write : Write). write.strict ≡ l.strict) l.flight.writes
+  pub orders : All (λ (write : PostedWrite). write.strict ≡ l.strict) l.flight.writes
   pub room : length l.todo.items ≤ l.flight.spare
   pub index_room : index_room l.phase ≤ l.returning.spare
   pub buffers : Buffers l.phase l.part (bytes_of (entry_of (lane_seen l) l.got)) l.copied.items (vec_capacity l.copied)

@@ -3,14 +3,14 @@
 ghost use Rattle.std.specs.Prelude.{◌≡◌, ◌≤◌, length};
 ghost use Rattle.lane_model.specs.Lane.{bytes_of, chunks_in, flags_of};
 
-use crate::place::{CHUNK, DONE, LINK_DOWN};
+use crate::slot::{CHUNK, DONE, LINK_DOWN};
 use step_kinds::Frame;
 
 /// What the sender began: a frame, or the word that its end of the queue goes down.
 #[derive(Drop)]
 pub enum Entry {
     Carries(Frame),
-    LinkDown,
+    GoesDown,
 }
 
 impl Entry {
@@ -23,7 +23,7 @@ impl Entry {
     {
         match self {
             Entry::Carries(frame) => frame.bytes(),
-            Entry::LinkDown => &[],
+            Entry::GoesDown => &[],
         }
     }
 
@@ -33,7 +33,7 @@ impl Entry {
     {
         match self {
             Entry::Carries(_) => DONE,
-            Entry::LinkDown => DONE | LINK_DOWN,
+            Entry::GoesDown => DONE | LINK_DOWN,
         }
     }
 

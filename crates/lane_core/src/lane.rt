@@ -1,18 +1,18 @@
 //! A lane.
 
 ghost use Rattle.std.specs.Prelude.{◌≡◌, ◌<◌, ◌≤◌, ◌^◌, length, false, IfOk, OnErr};
-ghost use Rattle.lane_model.specs.Kept.{IsOpen};
-ghost use Rattle.lane_model.specs.Lane.{Carries, LinkDown, bytes_of};
+ghost use Rattle.lane_laws.specs.Laws.{IsOpen};
+ghost use Rattle.lane_model.specs.Lane.{Carries, GoesDown, bytes_of};
 ghost use Rattle.lane_model.specs.Law.{HoldsRingLaw};
 ghost use Rattle.lane_model.specs.Steps.{after_cut, after_drop};
 ghost use Rattle.lane_core.specs.Parts.{entry_seen};
 
 use crate::answers::{Begun, LaneCopy, LaneLand, LaneLook};
 use crate::entry::Entry;
-use crate::place::{Place, Shown};
 use crate::ring::{copy_chunk, free_between, label, position_of, put_flags, store, zeroed_ring};
-use crate::write::{IndexWrite, Write, fill_todo, landed_flags, post};
-use lane_model::{Mark, Phase};
+use crate::slot::{Shown, Slot};
+use crate::write::{IndexWrite, PostedWrite, fill_todo, landed_flags, post};
+use lane_model::{Phase, Write};
 use posted_queue::{LandAnswer, Queue};
 use std::alloc::{AllocError, Global};
 use std::collections::VecDeque;
@@ -30,10 +30,10 @@ pub struct Lane {
     strict: bool,
     up: bool,
     sent: Vec<Entry>,
-    todo: VecDeque<Mark>,
-    flight: Queue<Write>,
+    todo: VecDeque<Write>,
+    flight: Queue<PostedWrite>,
     returning: Queue<IndexWrite>,
-    ring: Vec<Place>,
+    ring: Vec<Slot>,
     index_word: u32,
     flagged: u64,
     got: u64,
@@ -61,7 +61,7 @@ impl Lane {
     ghost use Rattle.lane_core.specs.Calls.{with_lane, begin_answer, down_answer, after_beginning, post_answer, after_posting, land_answer, after_land, land_index_answer, after_land_index, look_answer, after_looking, copy_answer, after_copying, clear_answer, after_clearing, ack_answer, after_acking};
     ghost use Rattle.lane_core.specs.Fresh.{fresh_value};
 
-    /// A lane at the start of its session, in a ring of `entries` zeroed positions with payloads of up to `max` bytes. On a
+    /// A lane at the start of its session, in a ring of `entries` zeroed slots with payloads of up to `max` bytes. On a
     /// `strict` lane no write passes another; else the fields of an entry may pass any write.
     pub fn new(
         alloc: Global,
@@ -128,11 +128,11 @@ impl Lane {
         requires open { IsOpen self.old.lane }
         requires few { length self.old.lane.sent < 2 ^ 46 }
         ensures answer { IfOk result (λ begun. begun ≡ down_answer self.old.lane) }
-        ensures after { IfOk result (λ begun. self.new ≡ with_lane self.old (after_beginning self.old.lane LinkDown begun)) }
+        ensures after { IfOk result (λ begun. self.new ≡ with_lane self.old (after_beginning self.old.lane GoesDown begun)) }
         ensures err { OnErr result (self.new ≡ self.old) }
         ensures law { HoldsRingLaw self.new.lane }
     {
-        self.begin_entry(Entry::LinkDown)
+        self.begin_entry(Entry::GoesDown)
     }
 
     // Begins an entry that fits the ring, after the test that speaks of frames alone.
@@ -174,7 +174,7 @@ impl Lane {
     {
         let mark = self.todo.pop_front()?;
         let strict = self.strict;
-        post(&mut self.flight, self.up, Write { mark, strict });
+        post(&mut self.flight, self.up, PostedWrite { mark, strict });
         Some(label(self.queue, &self.sent, mark))
     }
 
@@ -188,7 +188,7 @@ impl Lane {
         match self.flight.land(place) {
             LandAnswer::Nothing => LaneLand::Nothing,
             LandAnswer::Blocked => LaneLand::Blocked,
-            LandAnswer::Landed(Write { mark, .. }) => {
+            LandAnswer::Landed(PostedWrite { mark, .. }) => {
                 store(&mut self.ring, self.entries, &self.sent, mark);
                 self.flagged += landed_flags(mark);
                 LaneLand::Landed(label(self.queue, &self.sent, mark))
@@ -234,7 +234,7 @@ impl Lane {
         let place = &self.ring[position_of(self.entries, number) as usize];
         match place.shows() {
             Shown::Nothing => Ok(LaneLook::Empty),
-            Shown::LinkDown => Ok(LaneLook::PeerDown),
+            Shown::GoesDown => Ok(LaneLook::PeerDown),
             Shown::Frame => {
                 let len = place.len;
                 let buffer = Vec::with_capacity(self.alloc, len as usize)?;

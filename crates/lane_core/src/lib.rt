@@ -12,8 +12,8 @@
 mod answers;
 mod entry;
 mod lane;
-mod place;
 mod ring;
+mod slot;
 mod write;
 
 pub use answers::{Begun, LaneCopy, LaneLand, LaneLook};

@@ -1,32 +1,32 @@
-//! The ring in the receiver's memory: its positions one after another.
+//! The ring in the receiver's memory: its slots one after another.
 
 ghost use Rattle.std.specs.Prelude.{◌≡◌, ◌+◌, ◌-◌, ◌*◌, ◌%◌, ◌<◌, ◌≤◌, ◌↔◌, ◌++◌, length, map, replicate, take, vec_len, vec_capacity, IfOk, IsTrue};
-ghost use Rattle.lane_model.specs.Lane.{LinkDown, chunk_of, chunk_size};
-ghost use Rattle.lane_model.specs.declared.Mark.TheVariants.{Cell};
+ghost use Rattle.lane_model.specs.Lane.{GoesDown, chunk_of, chunk_size};
+ghost use Rattle.lane_model.specs.declared.Write.TheVariants.{Data};
 ghost use Rattle.lane_model.specs.Ring.{free_entries};
 ghost use Rattle.ledger_model.specs.Labels.{label_of};
 ghost use Rattle.lane_core.specs.Calls.{number_of};
-ghost use Rattle.lane_core.specs.Fresh.{zero_place};
+ghost use Rattle.lane_core.specs.Fresh.{zeroed_slot};
 ghost use Rattle.lane_core.specs.Parts.{entry_in, entry_seen, place_seen, CanStore, IsKnown, ring_after, with_flags_at};
 
 use crate::entry::Entry;
-use crate::place::{CHUNK, Place};
-use lane_model::{Field, Mark};
+use crate::slot::{CHUNK, Slot};
+use lane_model::{Field, Write};
 use std::alloc::{AllocError, Global};
 use step_kinds::Label;
 
-/// A ring of so many zeroed positions.
-pub fn zeroed_ring(alloc: Global, entries: u32, largest: u32) -> Result<Vec<Place>, AllocError>
-    ensures { IfOk result (λ ring. map place_seen ring.items ≡ replicate entries (zero_place largest)) }
+/// A ring of so many zeroed slots.
+pub fn zeroed_ring(alloc: Global, entries: u32, largest: u32) -> Result<Vec<Slot>, AllocError>
+    ensures { IfOk result (λ ring. map place_seen ring.items ≡ replicate entries (zeroed_slot largest)) }
 {
     let mut ring = Vec::with_capacity(alloc, entries as usize)?;
     for _ in 0..entries {
-        ring.push(Place::zeroed(alloc, largest)?)?;
+        ring.push(Slot::zeroed(alloc, largest)?)?;
     }
     Ok(ring)
 }
 
-/// The position of the entry of this number, in a ring of `entries` positions.
+/// The position of the entry of this number, in a ring of `entries` slots.
 pub fn position_of(entries: u32, number: u64) -> u32
     requires { 0 < entries }
     ensures value { result ≡ number % entries }
@@ -48,26 +48,26 @@ pub fn free_between(entries: u32, head: u32, tail: u32) -> u32
 }
 
 /// Stores what a write of the lane writes: a field or the flags of its entry, in the place of that entry.
-pub fn store(ring: &mut [Place], entries: u32, sent: &[Entry], mark: Mark)
+pub fn store(ring: &mut [Slot], entries: u32, sent: &[Entry], mark: Write)
     requires ring { length ring.old ≡ entries }
     requires can { CanStore (map place_seen ring.old) (map entry_seen sent.now) mark }
     ensures { map place_seen ring.new ≡ ring_after (map place_seen ring.old) (map entry_seen sent.now) mark }
 {
     match mark {
-        Mark::Cell { number, field } => {
+        Write::Data { number, field } => {
             let place = &mut ring[position_of(entries, number) as usize];
             place.put(number, &sent[number as usize], field);
         }
-        Mark::Flag { number } => {
+        Write::Flag { number } => {
             let flags = sent[number as usize].flags();
             put_flags(ring, entries, number, flags);
         }
-        Mark::Bell => {}
+        Write::Bell => {}
     }
 }
 
 /// Puts these flags into the place of the entry of this number.
-pub fn put_flags(ring: &mut [Place], entries: u32, number: u64, flags: u32)
+pub fn put_flags(ring: &mut [Slot], entries: u32, number: u64, flags: u32)
     requires some { 0 < entries }
     requires ring { length ring.old ≡ entries }
     ensures { map place_seen ring.new ≡ with_flags_at (map place_seen ring.old) number flags }
@@ -78,7 +78,7 @@ pub fn put_flags(ring: &mut [Place], entries: u32, number: u64, flags: u32)
 
 /// Copies chunk `part` of the frame that stands in a place behind what was copied before, in room that was reserved, and answers
 /// whether more of the frame is left.
-pub fn copy_chunk(copied: &mut Vec<u8>, place: &Place, part: u32) -> bool
+pub fn copy_chunk(copied: &mut Vec<u8>, place: &Slot, part: u32) -> bool
     requires begins { chunk_size * part ≤ place.now.len }
     requires stands { place.now.len ≤ length place.now.payload.items }
     requires room { vec_len copied.old + (place.now.len - chunk_size * part) ≤ vec_capacity copied.old }
@@ -105,23 +105,23 @@ fn append_reserved(out: &mut Vec<u8>, bytes: &[u8])
 }
 
 /// The label of a write of the lane on a queue.
-pub fn label(queue: u32, sent: &[Entry], mark: Mark) -> Label
+pub fn label(queue: u32, sent: &[Entry], mark: Write) -> Label
     requires { IsKnown mark (length sent.now) }
     ensures { result ≡ label_of queue (entry_in (map entry_seen sent.now) (number_of mark)) mark }
 {
     match mark {
-        Mark::Cell { number, field } => field_label(queue, number, field),
-        Mark::Flag { number } => match sent[number as usize] {
+        Write::Data { number, field } => field_label(queue, number, field),
+        Write::Flag { number } => match sent[number as usize] {
             Entry::Carries(_) => Label::Flag { queue, number },
-            Entry::LinkDown => Label::Down { queue, number },
+            Entry::GoesDown => Label::Down { queue, number },
         },
-        Mark::Bell => Label::Bell { queue },
+        Write::Bell => Label::Bell { queue },
     }
 }
 
 // The label of a field.
 fn field_label(queue: u32, number: u64, field: Field) -> Label
-    ensures { result ≡ label_of queue LinkDown (Cell number field) }
+    ensures { result ≡ label_of queue GoesDown (Data number field) }
 {
     match field {
         Field::Chunk { part } => Label::Chunk {

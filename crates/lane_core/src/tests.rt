@@ -1,5 +1,5 @@
 ghost use Rattle.std.specs.Prelude.{◌≡◌, ◌+◌, ◌<◌, ◌≤◌, ◌^◌, length, vec_len, IfOk};
-ghost use Rattle.lane_model.specs.Kept.{IsOpen};
+ghost use Rattle.lane_laws.specs.Laws.{IsOpen};
 
 use super::*;
 use std::alloc::{AllocError, Global};

@@ -6,26 +6,26 @@ ghost use Rattle.lane_model.specs.Lane.{bytes_of, chunks_in, writes_of};
 ghost use Rattle.lane_core.specs.Parts.{entry_seen, flags_landed};
 
 use crate::entry::Entry;
-use lane_model::{Field, Mark};
+use lane_model::{Field, Write};
 use order_rules::{RELAXED, STRICT};
 use posted_queue::{Ordered, Queue};
 use std::collections::VecDeque;
 
 /// A write in flight towards the receiver.
 #[derive(Clone, Copy)]
-pub struct Write {
-    pub mark: Mark,
+pub struct PostedWrite {
+    pub mark: Write,
     pub strict: bool,
 }
 
-impl Ordered for Write {
+impl Ordered for PostedWrite {
     ghost use Rattle.lane_core.specs.Calls.{order_of_mark};
 
     ghost order = { λ write. order_of_mark write.strict write.mark };
 
     fn kind(&self) -> usize {
         match self.mark {
-            Mark::Cell { .. } if !self.strict => RELAXED,
+            Write::Data { .. } if !self.strict => RELAXED,
             _ => STRICT,
         }
     }
@@ -59,34 +59,34 @@ pub fn post<W: Ordered + Drop>(flight: &mut Queue<W>, up: bool, write: W)
 }
 
 /// Puts the writes of an entry behind those that are left to post, in room that was reserved.
-pub fn fill_todo(todo: &mut VecDeque<Mark>, number: u64, entry: &Entry)
+pub fn fill_todo(todo: &mut VecDeque<Write>, number: u64, entry: &Entry)
     requires { deque_len todo.old + chunks_in (length (bytes_of (entry_seen entry.now))) + 4 ≤ deque_capacity todo.old }
     ensures { todo.new.items ≡ todo.old.items ++ writes_of number (entry_seen entry.now) }
 {
     for part in 0..entry.chunks() {
-        todo.push_back_reserved(Mark::Cell {
+        todo.push_back_reserved(Write::Data {
             number,
             field: Field::Chunk { part },
         });
     }
-    todo.push_back_reserved(Mark::Cell {
+    todo.push_back_reserved(Write::Data {
         number,
         field: Field::Length,
     });
-    todo.push_back_reserved(Mark::Cell {
+    todo.push_back_reserved(Write::Data {
         number,
         field: Field::Version,
     });
-    todo.push_back_reserved(Mark::Flag { number });
-    todo.push_back_reserved(Mark::Bell);
+    todo.push_back_reserved(Write::Flag { number });
+    todo.push_back_reserved(Write::Bell);
 }
 
 /// How many entries have their flags landed by this write: one, where it is an entry's flags.
-pub fn landed_flags(mark: Mark) -> u64
+pub fn landed_flags(mark: Write) -> u64
     ensures { result ≡ flags_landed mark }
 {
     match mark {
-        Mark::Flag { .. } => 1,
+        Write::Flag { .. } => 1,
         _ => 0,
     }
 }

@@ -5,43 +5,43 @@ use Rattle.std.specs.Prelude.{ℕ, zero, suc, ◌+◌, ◌-◌, ◌*◌, ◌/◌
 use Rattle.lane_model.specs.Ring.{head_of, free_entries}
 pub use Rattle.lane_model.specs.declared.Field.{Field}
 pub use Rattle.lane_model.specs.declared.Field.TheVariants.{Chunk, Length, Version}
-pub use Rattle.lane_model.specs.declared.Mark.{Mark}
-pub use Rattle.lane_model.specs.declared.Mark.TheVariants.{Cell, Flag, Bell}
+pub use Rattle.lane_model.specs.declared.Write.{Write}
+pub use Rattle.lane_model.specs.declared.Write.TheVariants.{Data, Flag, Bell}
 use Rattle.lane_model.specs.declared.Phase.{Phase}
 
 -- What a sender puts into one entry of the ring: a frame's bytes, or the word that this end of the queue goes down.
 pub data Entry : Type 0 where
   Carries : (bytes : List ℕ) → Entry
-  LinkDown : Entry
+  GoesDown : Entry
 
 abbrev pub bytes_of : Entry → List ℕ
 bytes_of (Carries bytes) = bytes
-bytes_of LinkDown = []
+bytes_of GoesDown = []
 
--- A position of the ring: the payload at its beginning, and the three fields of the header at its end.
-pub record Place : Type 0 where
+-- A slot of the ring: the payload at its beginning, and the three fields of the header at its end.
+pub record Slot : Type 0 where
   pub payload : List ℕ
   pub len : ℕ
   pub ver : ℕ
   pub flags : ℕ
 
-abbrev pub blank : Place
-blank = record { payload = []; len = 0; ver = 0; flags = 0 }
+abbrev pub blank_slot : Slot
+blank_slot = record { payload = []; len = 0; ver = 0; flags = 0 }
 
 pub record Lane : Type 0 where
-  -- how many positions the ring has, and the most bytes that a payload takes
+  -- how many slots the ring has, and the most bytes that a payload takes
   pub entries : ℕ
   pub largest : ℕ
   -- whether what is posted is on its way; once the link is lost it is not
   pub up : Bool
   -- the entries that the sender began in this session, numbered from 0, and the writes of the last one that are left to post
   pub sent : List Entry
-  pub todo : List Mark
+  pub todo : List Write
   -- the writes in flight towards the receiver, and the numbers of the index writes in flight back to the sender
-  pub flight : List Mark
+  pub flight : List Write
   pub returning : List ℕ
   -- the ring in the receiver's memory, and the index word in the sender's
-  pub ring : List Place
+  pub ring : List Slot
   pub index_word : ℕ
   -- how many entries have their flags landed, were taken whole, were cleared, had their index write posted and had it landed
   pub flagged : ℕ
@@ -75,11 +75,11 @@ count_from from zero = []
 count_from from (suc more) = from ∷ count_from (suc from) more
 
 -- the writes of an entry: its chunks, its length and its version, then its flags, then the doorbell
-abbrev pub cells_of : ℕ → Entry → List Mark
-cells_of n entry = map (λ part. Cell n (Chunk part)) (count_from 0 (chunks_in (length (bytes_of entry)))) ++ Cell n Length ∷ Cell n Version ∷ []
+abbrev pub data_of : ℕ → Entry → List Write
+data_of n entry = map (λ part. Data n (Chunk part)) (count_from 0 (chunks_in (length (bytes_of entry)))) ++ Data n Length ∷ Data n Version ∷ []
 
-abbrev pub writes_of : ℕ → Entry → List Mark
-writes_of n entry = cells_of n entry ++ Flag n ∷ Bell ∷ []
+abbrev pub writes_of : ℕ → Entry → List Write
+writes_of n entry = data_of n entry ++ Flag n ∷ Bell ∷ []
 
 -- the flags of a header: DONE, and LINK_DOWN beside it
 abbrev pub done : ℕ
@@ -87,7 +87,7 @@ done = 1
 
 abbrev pub flags_of : Entry → ℕ
 flags_of (Carries bytes) = done
-flags_of LinkDown = done + 2
+flags_of GoesDown = done + 2
 
 -- the version of a header is the entry's number in 32 bits
 abbrev pub version_of : ℕ → ℕ
@@ -95,29 +95,29 @@ version_of n = n % 2 ^ 32
 
 -- entry n
 abbrev pub entry_of : Lane → ℕ → Entry
-entry_of lane n = slice_index_or lane.sent n LinkDown
+entry_of lane n = slice_index_or lane.sent n GoesDown
 
--- the position of entry n
-abbrev pub place_of : Lane → ℕ → Place
-place_of lane n = slice_index_or lane.ring (n % lane.entries) blank
+-- the slot of entry n
+abbrev pub slot_of : Lane → ℕ → Slot
+slot_of lane n = slice_index_or lane.ring (n % lane.entries) blank_slot
 
--- the ring with another place at the position of entry n
-abbrev pub ring_with : Lane → ℕ → Place → List Place
-ring_with lane n place = slice_set lane.ring (n % lane.entries) place
+-- the ring with another slot at the slot of entry n
+abbrev pub ring_with : Lane → ℕ → Slot → List Slot
+ring_with lane n slot = slice_set lane.ring (n % lane.entries) slot
 
--- bytes written over others from a place on
+-- bytes written over others from a slot on
 abbrev pub overwritten : ℕ → List ℕ → List ℕ → List ℕ
 overwritten at bytes old = take at old ++ bytes ++ drop (at + length bytes) old
 
--- a place with a field of entry n in it
-abbrev pub with_field : Place → ℕ → Entry → Field → Place
-with_field place n entry (Chunk part) =
-    record { payload = overwritten (chunk_size * part) (chunk_of (bytes_of entry) part) place.payload; len = place.len; ver = place.ver; flags = place.flags }
-with_field place n entry Length = record { payload = place.payload; len = length (bytes_of entry); ver = place.ver; flags = place.flags }
-with_field place n entry Version = record { payload = place.payload; len = place.len; ver = version_of n; flags = place.flags }
+-- a slot with a field of entry n in it
+abbrev pub with_field : Slot → ℕ → Entry → Field → Slot
+with_field slot n entry (Chunk part) =
+    record { payload = overwritten (chunk_size * part) (chunk_of (bytes_of entry) part) slot.payload; len = slot.len; ver = slot.ver; flags = slot.flags }
+with_field slot n entry Length = record { payload = slot.payload; len = length (bytes_of entry); ver = slot.ver; flags = slot.flags }
+with_field slot n entry Version = record { payload = slot.payload; len = slot.len; ver = version_of n; flags = slot.flags }
 
-abbrev pub with_flags : Place → ℕ → Place
-with_flags place flags = record { payload = place.payload; len = place.len; ver = place.ver; flags = flags }
+abbrev pub with_flags : Slot → ℕ → Slot
+with_flags slot flags = record { payload = slot.payload; len = slot.len; ver = slot.ver; flags = flags }
 
 -- the free entries, as the sender counts them by its head and the index word in its memory
 abbrev pub free_in : Lane → ℕ

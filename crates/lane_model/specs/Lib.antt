@@ -1,4 +1,4 @@
-pub mod Kept
+pub mod Examples
 pub mod Lane
 pub mod Law
 pub mod Order

@@ -2,11 +2,11 @@
 -- `begun` counts the entries that the sender ever began, `freed` those that the receiver gave back.
 use Rattle.std.specs.Prelude.{ℕ, ◌+◌, ◌-◌, ◌%◌, if◌then◌else◌, nat_le}
 
--- the position of the next entry
+-- the slot of the next entry
 abbrev pub head_of : ℕ → ℕ → ℕ
 head_of entries begun = begun % entries
 
--- the position of the last entry that was given back: what the index word says
+-- the slot of the last entry that was given back: what the index word says
 abbrev pub tail_of : ℕ → ℕ → ℕ
 tail_of entries freed = (freed + entries - 1) % entries
 

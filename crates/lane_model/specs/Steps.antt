@@ -1,6 +1,6 @@
 -- The steps of a lane, each in closed form. Whether a step may be made is said elsewhere: here is what it changes.
 use Rattle.std.specs.Prelude.{ℕ, ◌+◌, ◌%◌, Bool, false, List, [], ◌∷◌, ◌++◌, length, if◌then◌else◌, nat_lt}
-use Rattle.lane_model.specs.Lane.{Entry, Mark, Cell, Flag, Bell, Lane, bytes_of, chunks_in, writes_of, flags_of, entry_of, place_of, ring_with, with_field, with_flags}
+use Rattle.lane_model.specs.Lane.{Entry, Write, Data, Flag, Bell, Lane, bytes_of, chunks_in, writes_of, flags_of, entry_of, slot_of, ring_with, with_field, with_flags}
 use Rattle.lane_model.specs.declared.Phase.TheVariants.{Idle, Copying, Copied, Cleared}
 
 -- the sender begins an entry
@@ -8,13 +8,13 @@ abbrev pub after_begin : Lane → Entry → Lane
 after_begin lane entry = record lane { sent = lane.sent ++ entry ∷ []; todo = writes_of (length lane.sent) entry }
 
 -- the sender posts the next write, `rest` being those behind it
-abbrev pub after_post : Lane → Mark → List Mark → Lane
-after_post lane mark rest = record lane { todo = rest; flight = (if lane.up then lane.flight ++ mark ∷ [] else lane.flight) }
+abbrev pub after_post : Lane → Write → List Write → Lane
+after_post lane write rest = record lane { todo = rest; flight = (if lane.up then lane.flight ++ write ∷ [] else lane.flight) }
 
 -- a write lands, `rest` being the others in flight
-abbrev pub after_landing : Lane → Mark → List Mark → Lane
-after_landing lane (Cell n field) rest = record lane { flight = rest; ring = ring_with lane n (with_field (place_of lane n) n (entry_of lane n) field) }
-after_landing lane (Flag n) rest = record lane { flight = rest; ring = ring_with lane n (with_flags (place_of lane n) (flags_of (entry_of lane n))); flagged = lane.flagged + 1 }
+abbrev pub after_landing : Lane → Write → List Write → Lane
+after_landing lane (Data n field) rest = record lane { flight = rest; ring = ring_with lane n (with_field (slot_of lane n) n (entry_of lane n) field) }
+after_landing lane (Flag n) rest = record lane { flight = rest; ring = ring_with lane n (with_flags (slot_of lane n) (flags_of (entry_of lane n))); flagged = lane.flagged + 1 }
 after_landing lane Bell rest = record lane { flight = rest }
 
 -- the receiver finds a frame
@@ -31,7 +31,7 @@ after_copy lane = if more_to_copy lane then record lane { part = lane.part + 1 }
 
 -- the receiver clears the flags
 abbrev pub after_clear : Lane → Lane
-after_clear lane = record lane { ring = ring_with lane lane.cleared (with_flags (place_of lane lane.cleared) 0); cleared = lane.cleared + 1; phase = Cleared }
+after_clear lane = record lane { ring = ring_with lane lane.cleared (with_flags (slot_of lane lane.cleared) 0); cleared = lane.cleared + 1; phase = Cleared }
 
 -- the receiver posts the index write
 abbrev pub after_ack : Lane → Lane

@@ -1,10 +1,12 @@
-//! The model of one lane: its ring in the peer's memory, what is on its way there, and the law that holds of both.
+//! The model of one lane: its ring in the peer's memory, what is on its way there, and the statement of the law that
+//! holds of both.
 //!
 //! A lane carries frames from one side of a bridge to the other through one queue. This crate has definitions
-//! and laws alone, over lists and numbers. It knows nothing of pairs, bytes in a window or objects of a program.
+//! alone, over lists and numbers; `lane_laws` proves the law of them. It knows nothing of pairs, bytes in a window or
+//! objects of a program.
 #![tactic(auto)]
 
-pub mod laws;
+pub mod examples;
 
 /// Where a receiver stands with the frame at the front of its ring.
 #[derive(Clone, Copy, Debug, PartialEq, Eq)]
@@ -32,9 +34,9 @@ pub enum Field {
 
 /// A posted write of a lane.
 #[derive(Clone, Copy, Debug, PartialEq, Eq)]
-pub enum Mark {
+pub enum Write {
     /// A field of an entry.
-    Cell { number: u64, field: Field },
+    Data { number: u64, field: Field },
     /// The flags of an entry: DONE, and LINK_DOWN where the entry says so.
     Flag { number: u64 },
     /// The doorbell.

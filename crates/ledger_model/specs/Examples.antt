@@ -10,8 +10,9 @@ use Rattle.step_kinds.specs.declared.steps.Label.TheVariants.{Chunk, Len, Ver, F
 use Rattle.step_kinds.specs.declared.steps.Answer.{Answer}
 use Rattle.step_kinds.specs.declared.steps.Answer.TheVariants.{Ok as Done, OkSession, OkNumber, Dirty, NotEnabled, NotUp, NotClosing, NotDown, LinkDown, Already, Offered, Version, Queues, Windows, Size, Up, NotReady, Joined, Closed, TooLong, Busy, Stopped, Again, Idle, Posted, Nothing, Blocked, Landed, OutOfTurn, Empty, PeerDown, ReadyFrame, Delivered, Cleared, Acked, Awake, Irq as IrqBits, QueueShown, PadValue}
 use Rattle.step_kinds.specs.declared.steps.Step.{Step}
-use Rattle.step_kinds.specs.declared.steps.Step.TheVariants.{Enable, Train, Break, DropDone, Clean, Check, Ready, Join, Begin, QpDown, Xbegin, Post, Land, Look, Copy, Ack, Wake, Irq, Mask, Unmask, ShowQueue, ShowPad}
-use Rattle.ledger_model.specs.Log.{log_of}
+use Rattle.step_kinds.specs.declared.steps.Step.TheVariants.{Enable, Train, Break, DropDone, Clean, Offer, Check, Ready, Join, Begin, QpDown, Xbegin, Post, Land, Look, Copy, Ack, Wake, Irq, Mask, Unmask, ShowQueue, ShowPad}
+use Rattle.ledger_model.specs.Ledger.{tally_of}
+use Rattle.ledger_model.specs.Log.{Memories, ledger_of, log_of}
 use Rattle.ledger_model.specs.Macros.{send, xmit, land_all, receive, offer_all}
 
 -- a side of one window and one queue with 4,096 bytes
@@ -25,8 +26,12 @@ small_pair = record { name = 112 ∷ []; a = small_side; b = small_side; mtu = 1
 abbrev pub plan_of : PairPlan → List DevPlan → Plan
 plan_of pair devs = record { pairs = pair ∷ []; devs = devs; steps = []; traffic = [] }
 
+-- memories of which nothing is shown
+abbrev pub no_memory : Memories
+no_memory = λ log k side at len. []
+
 abbrev pub answers : PairPlan → List DevPlan → List Step → List Answer
-answers pair devs steps = map (λ made. made.answer) (log_of (plan_of pair devs) (λ log k side at len. []) steps)
+answers pair devs steps = map (λ made. made.answer) (log_of (plan_of pair devs) no_memory steps)
 
 -- a frame of one byte
 abbrev pub letter : List ℕ
@@ -187,6 +192,24 @@ StepByStep =
     drop 10 (answers small_pair [] (send 0 A 0 letter ++ land_all 0 A 4 ++ Look 0 B 0 ∷ Look 0 B 0 ∷ Ack 0 B 0 ∷ Copy 0 B 0 ∷ Copy 0 B 0 ∷ Post 0 A 0 ∷ []))
     ≡ ReadyFrame 0 1 ∷ OutOfTurn ∷ OutOfTurn ∷ Delivered 0 letter ∷ OutOfTurn ∷ Idle ∷ []
 
+-- on a link that is down each step that needs one is refused
+abbrev pub LinkIsNeeded : Type 0
+LinkIsNeeded =
+    answers (record small_pair { up = false }) []
+    (Offer 0 A ∷ Check 0 A ∷ Ready 0 A 0 ∷ Join 0 A 0 ∷ Begin 0 A 0 letter ∷ QpDown 0 A 0 ∷ Xbegin 0 A 0 0 [] 2048 letter ∷ [])
+    ≡ replicate 7 LinkDown
+
+-- each frame is counted once where it is accepted and once where it is delivered, in its session
+abbrev pub TalliesCount : Type 0
+TalliesCount =
+    tally_of (ledger_of (plan_of small_pair []) no_memory (send 0 A 0 letter ++ send 0 A 0 letter ++ land_all 0 A 5 ++ receive 0 B 0 1) 0) A 0 1
+    ≡ record { accepted = 2; delivered = 1 }
+
+-- a train begins the next session
+abbrev pub SessionsCountUp : Type 0
+SessionsCountUp =
+    (ledger_of (plan_of small_pair []) no_memory (Break 0 ∷ DropDone 0 ∷ Clean 0 A ∷ Clean 0 B ∷ Enable 0 A ∷ Enable 0 B ∷ Train 0 ∷ []) 0).link.session ≡ 2
+
 pub record ExamplesHold : Type 0 where
   pub one_frame : OneFrame
   pub ring_full : RingFull
@@ -209,3 +232,6 @@ pub record ExamplesHold : Type 0 where
   pub link_down_frame : LinkDownFrame
   pub device_stops_and_wakes : DeviceStopsAndWakes
   pub step_by_step : StepByStep
+  pub link_is_needed : LinkIsNeeded
+  pub tallies_count : TalliesCount
+  pub sessions_count_up : SessionsCountUp

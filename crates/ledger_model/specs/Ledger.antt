@@ -8,7 +8,7 @@ use Rattle.step_kinds.specs.declared.plan.SidePlan.{SidePlan}
 use Rattle.step_kinds.specs.declared.plan.PairPlan.{PairPlan}
 use Rattle.step_kinds.specs.declared.steps.Label.{Label}
 use Rattle.lane_model.specs.Ring.{head_of, tail_of, room_of}
-use Rattle.lane_model.specs.Lane.{Entry, LinkDown}
+use Rattle.lane_model.specs.Lane.{Entry, GoesDown}
 use Rattle.lane_model.specs.declared.Phase.{Phase}
 use Rattle.ring_geometry.specs.Geometry.{Layout, entries_of, max_payload_of}
 use Rattle.ledger_model.specs.Both.{Both, at_side, with_side}
@@ -100,7 +100,7 @@ posts pair side label =
 
 -- the numbers of a lane's ring
 pub record Sizes : Type 0 where
-  -- positions of the ring, and the most bytes of a frame
+  -- slots of the ring, and the most bytes of a frame
   pub entries : ℕ
   pub largest : ℕ
 
@@ -133,7 +133,7 @@ tail_in sizes lane = tail_of sizes.entries lane.freed
 
 -- entry n of a lane
 abbrev pub entry_in : LanePart → ℕ → Entry
-entry_in lane n = slice_index_or lane.sent n LinkDown
+entry_in lane n = slice_index_or lane.sent n GoesDown
 
 -- the numbers of the scratchpads that the handshake uses
 abbrev pub version_pad : ℕ

@@ -4,7 +4,6 @@ pub mod Examples
 pub mod Handshake
 pub mod Labels
 pub mod Ledger
-pub mod Laws
 pub mod Link
 pub mod LinkSteps
 pub mod Log

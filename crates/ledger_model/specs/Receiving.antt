@@ -9,7 +9,7 @@ use Rattle.step_kinds.specs.declared.steps.Label.{Label}
 use Rattle.step_kinds.specs.declared.steps.Label.TheVariants.{Flag, Down, Bell, Index, Pad}
 use Rattle.step_kinds.specs.declared.steps.Answer.{Answer}
 use Rattle.step_kinds.specs.declared.steps.Answer.TheVariants.{NotReady, Closed, OutOfTurn, Empty, PeerDown, ReadyFrame, Copied as CopiedPart, Delivered, Cleared as ClearedFrame, Acked, Nothing, Blocked, Landed}
-use Rattle.lane_model.specs.Lane.{Entry, Carries, LinkDown, bytes_of, chunks_in}
+use Rattle.lane_model.specs.Lane.{Entry, Carries, GoesDown, bytes_of, chunks_in}
 use Rattle.lane_model.specs.Order.{may_land}
 use Rattle.lane_model.specs.declared.Phase.{Phase}
 use Rattle.lane_model.specs.declared.Phase.TheVariants.{Idle, Copying, Copied, Cleared}
@@ -69,7 +69,7 @@ look_at pair side queue lane (Carries bytes) =
       answer = ReadyFrame lane.got (length bytes);
       after = with_lane pair (other_side side) queue (record lane { phase = Copying; part = 0 });
     }
-look_at pair side queue lane LinkDown =
+look_at pair side queue lane GoesDown =
     let own = side_of pair side in
     record { answer = PeerDown; after = with_side_part pair side (record own { closed = with_bit own.closed queue }) }
 

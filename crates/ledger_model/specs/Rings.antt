@@ -1,7 +1,6 @@
--- The ring of a lane as the log leaves it: what the landed writes, the checks and the clears of a run put into its positions and its
+-- The ring of a lane as the log leaves it: what the landed writes, the checks and the clears of a run put into its slots and its
 -- index word. With it the ledger shows a whole lane, of which the law of the ring speaks.
-use Rattle.std.specs.Prelude.{◌≡◌, ℕ, ◌-◌, ◌%◌, ◌==◌, Bool, true, Option, Some, None, List, [], ◌∷◌, ◌++◌, map, replicate, slice_index_or, slice_set, if◌then◌else◌}
-use Rattle.std.specs.List.{AllByRecursion}
+use Rattle.std.specs.Prelude.{ℕ, ◌-◌, ◌%◌, ◌==◌, Bool, Option, Some, None, List, [], ◌∷◌, ◌++◌, map, replicate, slice_index_or, slice_set, if◌then◌else◌}
 use Rattle.step_kinds.specs.Sides.{other_side}
 use Rattle.step_kinds.specs.declared.names.LaneName.{LaneName}
 use Rattle.step_kinds.specs.declared.names.Side.{Side}
@@ -11,43 +10,40 @@ use Rattle.step_kinds.specs.declared.steps.Answer.{Answer}
 use Rattle.step_kinds.specs.declared.steps.Answer.TheVariants.{Landed, Up, Cleared}
 use Rattle.step_kinds.specs.declared.steps.Step.{Step}
 use Rattle.step_kinds.specs.declared.steps.Step.TheVariants.{Land, Check, Clear}
-use Rattle.lane_model.specs.declared.Mark.{Mark}
-use Rattle.lane_model.specs.declared.Mark.TheVariants.{Cell, Flag, Bell}
-use Rattle.lane_model.specs.Lane.{Place, Lane, flags_of, with_field, with_flags, blank}
-use Rattle.lane_model.specs.Law.{HoldsRingLaw}
-use Rattle.ring_geometry.specs.Geometry.{HasRing}
-use Rattle.ledger_model.specs.Labels.{mark_of, index_of, marks_of, indexes_of}
-use Rattle.ledger_model.specs.Ledger.{LanePart, PairPart, Sizes, side_of, lane_of, link_up, entry_in, layout_of, sizes_of}
-use Rattle.ledger_model.specs.Laws.{IsOrdinaryOn}
-use Rattle.ledger_model.specs.Log.{Answered, Memories, answered, ledger_of, is_on, same_side}
+use Rattle.lane_model.specs.declared.Write.{Write}
+use Rattle.lane_model.specs.declared.Write.TheVariants.{Data, Flag, Bell}
+use Rattle.lane_model.specs.Lane.{Slot, Lane, flags_of, with_field, with_flags, blank_slot}
+use Rattle.ledger_model.specs.Labels.{write_of, index_of, writes_among, indexes_among}
+use Rattle.ledger_model.specs.Ledger.{LanePart, PairPart, Sizes, side_of, lane_of, link_up, entry_in, sizes_of}
+use Rattle.ledger_model.specs.Log.{Answered, Memories, answered, is_on, same_side}
 use Rattle.ledger_model.specs.Next.{Ledger, start, ledger_after, pair_plan}
 
 pub record RingPart : Type 0 where
-  pub ring : List Place
+  pub ring : List Slot
   pub index_word : ℕ
 
--- a position of which all bytes are zero
-abbrev pub zero_place : ℕ → Place
-zero_place largest = record { payload = replicate largest 0; len = 0; ver = 0; flags = 0 }
+-- a slot of which all bytes are zero
+abbrev pub zeroed_slot : ℕ → Slot
+zeroed_slot largest = record { payload = replicate largest 0; len = 0; ver = 0; flags = 0 }
 
 -- before any step; on a pair that starts up the index word says that no entry is taken
 abbrev pub fresh_ring : Sizes → Bool → RingPart
-fresh_ring sizes up = record { ring = replicate sizes.entries (zero_place sizes.largest); index_word = (if up then sizes.entries - 1 else 0) }
+fresh_ring sizes up = record { ring = replicate sizes.entries (zeroed_slot sizes.largest); index_word = (if up then sizes.entries - 1 else 0) }
 
 -- a write of the lane lands
-abbrev pub with_mark : ℕ → LanePart → List Place → Option Mark → List Place
-with_mark entries lane ring None = ring
-with_mark entries lane ring (Some (Cell n field)) =
-    slice_set ring (n % entries) (with_field (slice_index_or ring (n % entries) blank) n (entry_in lane n) field)
-with_mark entries lane ring (Some (Flag n)) = slice_set ring (n % entries) (with_flags (slice_index_or ring (n % entries) blank) (flags_of (entry_in lane n)))
-with_mark entries lane ring (Some Bell) = ring
+abbrev pub with_write : ℕ → LanePart → List Slot → Option Write → List Slot
+with_write entries lane ring None = ring
+with_write entries lane ring (Some (Data n field)) =
+    slice_set ring (n % entries) (with_field (slice_index_or ring (n % entries) blank_slot) n (entry_in lane n) field)
+with_write entries lane ring (Some (Flag n)) = slice_set ring (n % entries) (with_flags (slice_index_or ring (n % entries) blank_slot) (flags_of (entry_in lane n)))
+with_write entries lane ring (Some Bell) = ring
 
 abbrev pub with_index : ℕ → ℕ → Option ℕ → ℕ
 with_index entries word None = word
 with_index entries word (Some n) = n % entries
 
--- a position whose header is zeroed
-abbrev pub without_header : Place → Place
+-- a slot whose header is zeroed
+abbrev pub without_header : Slot → Slot
 without_header place = record { payload = place.payload; len = 0; ver = 0; flags = 0 }
 
 -- what a step does to the ring of a lane, the lane being as it was before the step
@@ -56,7 +52,7 @@ ring_next sizes name lane now made = changed made.step made.answer where
   landed : Side → Label → RingPart
   landed from label =
       if same_side from name.from
-      then record { ring = with_mark sizes.entries lane now.ring (mark_of name.queue label); index_word = now.index_word }
+      then record { ring = with_write sizes.entries lane now.ring (write_of name.queue label); index_word = now.index_word }
       else record { ring = now.ring; index_word = with_index sizes.entries now.index_word (index_of name.queue label) }
 
   checked : Side → RingPart
@@ -70,7 +66,7 @@ ring_next sizes name lane now made = changed made.step made.answer where
   changed (Check pair side) Up = if pair == name.pair then checked side else now
   changed (Clear pair side queue) (Cleared n) =
       if is_on name pair (other_side side) queue
-      then record { ring = slice_set now.ring (n % sizes.entries) (with_flags (slice_index_or now.ring (n % sizes.entries) blank) 0); index_word = now.index_word }
+      then record { ring = slice_set now.ring (n % sizes.entries) (with_flags (slice_index_or now.ring (n % sizes.entries) blank_slot) 0); index_word = now.index_word }
       else now
   changed step answer = now
 
@@ -97,9 +93,9 @@ shown_lane sizes pair ring from queue =
       largest = sizes.largest;
       up = link_up pair;
       sent = lane.sent;
-      todo = marks_of queue lane.todo;
-      flight = marks_of queue (side_of pair from).flight;
-      returning = indexes_of queue (side_of pair (other_side from)).flight;
+      todo = writes_among queue lane.todo;
+      flight = writes_among queue (side_of pair from).flight;
+      returning = indexes_among queue (side_of pair (other_side from)).flight;
       ring = ring.ring;
       index_word = ring.index_word;
       flagged = lane.flagged;
@@ -110,11 +106,3 @@ shown_lane sizes pair ring from queue =
       phase = lane.phase;
       part = lane.part;
     }
-
--- Whenever both sides of an ordinary pair are up, the law of the ring holds of each of its lanes.
-abbrev pub RingLawHolds : Type 0
-RingLawHolds = (plan : Plan) (memories : Memories) (steps : List Step) (name : LaneName) →
-    let pair = pair_plan plan name.pair in
-    let now = ledger_of plan memories steps name.pair in
-    AllByRecursion (IsOrdinaryOn name.pair) steps → HasRing (layout_of pair name.from name.queue) → (side_of now name.from).up ≡ true → (side_of now (other_side name.from)).up ≡ true →
-    HoldsRingLaw (shown_lane (sizes_of pair name.from name.queue) now (ring_of plan memories steps name) name.from name.queue)

@@ -6,7 +6,7 @@ use Rattle.step_kinds.specs.declared.plan.DevPlan.{DevPlan}
 use Rattle.step_kinds.specs.declared.steps.Label.{Label}
 use Rattle.step_kinds.specs.declared.steps.Answer.{Answer}
 use Rattle.step_kinds.specs.declared.steps.Answer.TheVariants.{OkNumber, LinkDown, NotReady, Closed, TooLong, Busy, Stopped, Again, Idle, Posted, Awake}
-use Rattle.lane_model.specs.Lane.{Entry, Carries, LinkDown as GoesDown}
+use Rattle.lane_model.specs.Lane.{Entry, Carries, GoesDown}
 use Rattle.ledger_model.specs.Device.{Flow, ethernet_frame, stopped_after_send, stays_stopped, count_taken, count_refused}
 use Rattle.ledger_model.specs.Labels.{labels_of}
 use Rattle.ledger_model.specs.Ledger.{LanePart, DevPart, PairPart, Sizes, side_of, lane_of, dev_of, tally_of, with_side_part, with_lane, with_dev, with_tally, link_up, posts, free_of, head_in, tail_in}

@@ -1,10 +1,11 @@
-//! The model of a cluster of pairs: the ledger that a script's steps change, the answer to each step, the log of a
-//! run, and the laws of every log.
+//! The model of a cluster of pairs: the ledger that a script's steps change, the answer to each step, and the log of a
+//! run.
 //!
-//! It has definitions and laws alone, over lists and numbers, and the plain types that code and definitions share.
+//! It has definitions alone, over lists and numbers, the plain types that code and definitions share, and worked
+//! examples by which the definitions can be read. The laws of every log stand in `ledger_laws`.
 #![tactic(auto)]
 
-pub mod laws;
+pub mod examples;
 
 /// Where the link of a pair stands.
 #[derive(Clone, Copy, Debug, PartialEq, Eq)]

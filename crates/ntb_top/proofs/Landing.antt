@@ -8,13 +8,13 @@ use Rattle.step_kinds.specs.declared.plan.PairPlan.{PairPlan}
 use Rattle.step_kinds.specs.declared.steps.Label.{Label}
 use Rattle.step_kinds.specs.declared.steps.Label.TheVariants.{Index}
 use Rattle.step_kinds.specs.declared.steps.Answer.TheVariants.{Landed, Blocked}
-use Rattle.lane_model.specs.Lane.{Lane, Place}
+use Rattle.lane_model.specs.Lane.{Lane, Slot}
 use Rattle.lane_model.specs.Law.{HoldsRingLaw}
 use Rattle.lane_model.specs.Order.{may_land}
 use Rattle.lane_model.specs.Steps.{after_landing, after_index}
 use Rattle.lane_model.specs.declared.Field.TheVariants.{Chunk, Length, Version}
-use Rattle.lane_model.specs.declared.Mark.{Mark}
-use Rattle.lane_model.specs.declared.Mark.TheVariants.{Cell, Flag, Bell}
+use Rattle.lane_model.specs.declared.Write.{Write}
+use Rattle.lane_model.specs.declared.Write.TheVariants.{Data, Flag, Bell}
 use Rattle.lane_core.specs.Calls as calls
 use Rattle.lane_core.specs.Calls.{LaneValue, label_in, order_of_mark, may_land_in, may_land_index, land_answer, after_land, after_found, land_index_answer, after_land_index, index_found, after_index_found}
 use Rattle.lane_core.specs.declared.answers.LaneLand.{LaneLand}
@@ -36,7 +36,7 @@ land_cases P now new lane next label there true p q = p refl
 land_cases P now new lane next label there false p q = q
 
 -- a landing of a field, of flags and of a doorbell: the write is taken out of those in flight, and the ring may be another
-cell_shows : (value : LaneValue) (plan : PairPlan) (now : PairPart) (taken given : ℕ) (place : ℕ) (ring : List Place) → Shows value plan now taken given
+cell_shows : (value : LaneValue) (plan : PairPlan) (now : PairPart) (taken given : ℕ) (place : ℕ) (ring : List Slot) → Shows value plan now taken given
     → HoldsRingLaw (record value.lane { flight = remove value.lane.flight place; ring = ring })
     → Shows (calls.with_lane value (record value.lane { flight = remove value.lane.flight place; ring = ring })) plan (taken_out now A place) taken given
 cell_shows value plan now taken given place ring h law =
@@ -147,24 +147,24 @@ bell_shows value plan now taken given place h law =
       only_frames = h.only_frames;
     }
 
-landed_shows : (value : LaneValue) (plan : PairPlan) (now : PairPart) (taken given : ℕ) (mark : Mark) (place : ℕ) → Shows value plan now taken given
+landed_shows : (value : LaneValue) (plan : PairPlan) (now : PairPart) (taken given : ℕ) (mark : Write) (place : ℕ) → Shows value plan now taken given
     → HoldsRingLaw (after_landing value.lane mark (remove value.lane.flight place))
     → Shows (calls.with_lane value (after_landing value.lane mark (remove value.lane.flight place))) plan (lands_on (taken_out now A place) A (frame_label mark)) taken given
-landed_shows value plan now taken given (Cell n (Chunk part)) place h law = cell_shows value plan now taken given place _ h law
-landed_shows value plan now taken given (Cell n Length) place h law = cell_shows value plan now taken given place _ h law
-landed_shows value plan now taken given (Cell n Version) place h law = cell_shows value plan now taken given place _ h law
+landed_shows value plan now taken given (Data n (Chunk part)) place h law = cell_shows value plan now taken given place _ h law
+landed_shows value plan now taken given (Data n Length) place h law = cell_shows value plan now taken given place _ h law
+landed_shows value plan now taken given (Data n Version) place h law = cell_shows value plan now taken given place _ h law
 landed_shows value plan now taken given (Flag n) place h law = flag_shows value plan now taken given place n h law
 landed_shows value plan now taken given Bell place h law = bell_shows value plan now taken given place h law
 
 -- Landing at a place of those in flight to the receiver
 
 -- a write that is found in flight is among those left to land
-found_among : (lane : Lane) (place : ℕ) (mark : Mark) → slice_get lane.flight place ≡ Some mark → Contains (lane.flight ++ lane.todo) mark
+found_among : (lane : Lane) (place : ℕ) (mark : Write) → slice_get lane.flight place ≡ Some mark → Contains (lane.flight ++ lane.todo) mark
 found_among lane place mark found =
     Contains-append_left lane.flight lane.todo mark
     (place, slice_get_within lane.flight place mark found, get_or_from_slice_get lane.flight place mark mark found)
 
-land_at : (value : LaneValue) (plan : PairPlan) (now : PairPart) (taken given : ℕ) (place : ℕ) (found : Option Mark) → slice_get value.lane.flight place ≡ found
+land_at : (value : LaneValue) (plan : PairPlan) (now : PairPart) (taken given : ℕ) (place : ℕ) (found : Option Write) → slice_get value.lane.flight place ≡ found
     → Shows value plan now taken given → HoldsRingLaw (after_found value place found)
     → (landed_answer (calls.land_found value place found) ≡ (land_found plan now A place (option_map frame_label found)).answer)
     × Shows (calls.with_lane value (after_found value place found)) plan (land_found plan now A place (option_map frame_label found)).after taken given

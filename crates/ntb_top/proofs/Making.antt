@@ -11,8 +11,8 @@ use Rattle.step_kinds.specs.declared.steps.Step.TheVariants.{Begin, Post, Land, 
 use Rattle.lane_model.specs.Lane.{Entry, Carries, Lane}
 use Rattle.lane_model.specs.Law.{HoldsRingLaw}
 use Rattle.lane_model.specs.Steps.{after_landing}
-use Rattle.lane_model.specs.declared.Mark.{Mark}
-use Rattle.lane_model.specs.declared.Mark.TheVariants.{Cell, Flag, Bell}
+use Rattle.lane_model.specs.declared.Write.{Write}
+use Rattle.lane_model.specs.declared.Write.TheVariants.{Data, Flag, Bell}
 use Rattle.lane_core.specs.Calls.{LaneValue, with_lane, begin_answer, after_beginning, post_answer, after_posting, after_first_post, land_answer, after_land, after_found, may_land_in, land_index_answer, after_land_index, after_index_found, may_land_index, look_answer, after_looking, copy_answer, after_copying, is_copying, clear_answer, after_clearing, is_copied, ack_answer, after_acking, is_cleared}
 use Rattle.lane_core.specs.declared.answers.Begun.{Begun}
 use Rattle.lane_core.specs.declared.answers.Begun.TheVariants.{Ok as Began, TooLong, Busy, NoRoom}
@@ -74,7 +74,7 @@ begin_made old frame begun found lane accepted few same_begun answered_found aft
           (pair_next [] plan bytes now (Begin 0 A 0 frame)).after taken old.delivered) same both.1,
     ))
 
-posted_same : (lane : Lane) (marks : List Mark) → length (after_first_post lane marks).sent ≤ length lane.sent + 1
+posted_same : (lane : Lane) (marks : List Write) → length (after_first_post lane marks).sent ≤ length lane.sent + 1
 posted_same lane [] = omega arith
 posted_same lane (mark ∷ marks) = omega arith
 
@@ -87,12 +87,12 @@ post_made old label lane answered after law =
 
 -- Landing
 
-landing_same : (lane : Lane) (mark : Mark) (rest : List Mark) → length (after_landing lane mark rest).sent ≤ length lane.sent + 1
-landing_same lane (Cell n field) rest = omega arith
+landing_same : (lane : Lane) (mark : Write) (rest : List Write) → length (after_landing lane mark rest).sent ≤ length lane.sent + 1
+landing_same lane (Data n field) rest = omega arith
 landing_same lane (Flag n) rest = omega arith
 landing_same lane Bell rest = omega arith
 
-landed_same : (value : LaneValue) (place : ℕ) (found : Option Mark) → length (after_found value place found).sent ≤ length value.lane.sent + 1
+landed_same : (value : LaneValue) (place : ℕ) (found : Option Write) → length (after_found value place found).sent ≤ length value.lane.sent + 1
 landed_same value place None = omega arith
 landed_same value place (Some mark) =
     cond_both (may_land_in value place) _ value.lane (λ (lane : Lane). length lane.sent ≤ length value.lane.sent + 1)

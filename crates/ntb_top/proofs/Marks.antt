@@ -4,15 +4,15 @@ use Rattle.std.specs.List.{remove, take-map, drop-map}
 use Rattle.std.proofs.lemmas.List.{map-append}
 use Rattle.std.proofs.lemmas.List.Elements.{Contains-append_cases, Contains-append_left, Contains-append_right}
 use Rattle.step_kinds.specs.declared.steps.Label.TheVariants.{Index}
-use Rattle.lane_model.specs.Lane.{Entry, Carries, LinkDown, Lane, entry_of}
+use Rattle.lane_model.specs.Lane.{Entry, Carries, GoesDown, Lane, entry_of}
 use Rattle.lane_model.specs.declared.Field.{Field}
 use Rattle.lane_model.specs.declared.Field.TheVariants.{Chunk, Length, Version}
-use Rattle.lane_model.specs.declared.Mark.{Mark}
-use Rattle.lane_model.specs.declared.Mark.TheVariants.{Cell, Flag, Bell}
+use Rattle.lane_model.specs.declared.Write.{Write}
+use Rattle.lane_model.specs.declared.Write.TheVariants.{Data, Flag, Bell}
 use Rattle.lane_model.specs.Law.{HoldsRingLaw, AreLeft, IsPickedFrom, Nothing, Taken, Left}
 use Rattle.lane_model.specs.Order.{strict}
-use Rattle.lane_model.specs.Kept.{IsOpen}
-use Rattle.lane_model.proofs.Chunks.{contains_cases, contains_none, contains_later, field_of_cell}
+use Rattle.lane_laws.specs.Laws.{IsOpen}
+use Rattle.lane_laws.proofs.Chunks.{contains_cases, contains_none, contains_later, field_of_data}
 use Rattle.lane_core.specs.Calls as calls
 use Rattle.lane_core.specs.Calls.{label_in, order_of_mark}
 use Rattle.ledger_model.specs.Labels.{label_of, order_of}
@@ -32,15 +32,15 @@ is_empty-map f (x ∷ xs) = refl
 
 -- Orders
 
-pub order_of_label : (is_strict : Bool) (mark : Mark) → order_of is_strict (frame_label mark) ≡ order_of_mark is_strict mark
+pub order_of_label : (is_strict : Bool) (mark : Write) → order_of is_strict (frame_label mark) ≡ order_of_mark is_strict mark
 order_of_label true mark = refl
-order_of_label false (Cell n (Chunk part)) = refl
-order_of_label false (Cell n Length) = refl
-order_of_label false (Cell n Version) = refl
+order_of_label false (Data n (Chunk part)) = refl
+order_of_label false (Data n Length) = refl
+order_of_label false (Data n Version) = refl
 order_of_label false (Flag n) = refl
 order_of_label false Bell = refl
 
-pub orders_of_labels : (is_strict : Bool) (marks : List Mark) → map (order_of is_strict) (map frame_label marks) ≡ map (order_of_mark is_strict) marks
+pub orders_of_labels : (is_strict : Bool) (marks : List Write) → map (order_of is_strict) (map frame_label marks) ≡ map (order_of_mark is_strict) marks
 orders_of_labels is_strict [] = refl
 orders_of_labels is_strict (mark ∷ marks) =
     ap (λ k. k ∷ map (order_of is_strict) (map frame_label marks)) (order_of_label is_strict mark)
@@ -58,34 +58,34 @@ orders_of_indexes is_strict (n ∷ ns) =
 
 -- Labels
 
-label_of_cell : (entry : Entry) (n : ℕ) (field : Field) → label_of 0 entry (Cell n field) ≡ frame_label (Cell n field)
+label_of_cell : (entry : Entry) (n : ℕ) (field : Field) → label_of 0 entry (Data n field) ≡ frame_label (Data n field)
 label_of_cell (Carries bytes) n (Chunk part) = refl
 label_of_cell (Carries bytes) n Length = refl
 label_of_cell (Carries bytes) n Version = refl
-label_of_cell LinkDown n (Chunk part) = refl
-label_of_cell LinkDown n Length = refl
-label_of_cell LinkDown n Version = refl
+label_of_cell GoesDown n (Chunk part) = refl
+label_of_cell GoesDown n Length = refl
+label_of_cell GoesDown n Version = refl
 
-label_of_flag : (entry : Entry) (n : ℕ) → entry ≢ LinkDown → label_of 0 entry (Flag n) ≡ frame_label (Flag n)
+label_of_flag : (entry : Entry) (n : ℕ) → entry ≢ GoesDown → label_of 0 entry (Flag n) ≡ frame_label (Flag n)
 label_of_flag (Carries bytes) n carries = refl
-label_of_flag LinkDown n carries = absurd (carries refl)
+label_of_flag GoesDown n carries = absurd (carries refl)
 
 label_of_bell : (entry : Entry) → label_of 0 entry Bell ≡ frame_label Bell
 label_of_bell (Carries bytes) = refl
-label_of_bell LinkDown = refl
+label_of_bell GoesDown = refl
 
-label_of_frame : (bytes : List ℕ) (mark : Mark) → label_of 0 (Carries bytes) mark ≡ frame_label mark
-label_of_frame bytes (Cell n field) = label_of_cell (Carries bytes) n field
+label_of_frame : (bytes : List ℕ) (mark : Write) → label_of 0 (Carries bytes) mark ≡ frame_label mark
+label_of_frame bytes (Data n field) = label_of_cell (Carries bytes) n field
 label_of_frame bytes (Flag n) = refl
 label_of_frame bytes Bell = label_of_bell (Carries bytes)
 
-pub labels_of_frame : (bytes : List ℕ) (marks : List Mark) → map (label_of 0 (Carries bytes)) marks ≡ map frame_label marks
+pub labels_of_frame : (bytes : List ℕ) (marks : List Write) → map (label_of 0 (Carries bytes)) marks ≡ map frame_label marks
 labels_of_frame bytes [] = refl
 labels_of_frame bytes (mark ∷ marks) =
     ap (λ l. l ∷ map (label_of 0 (Carries bytes)) marks) (label_of_frame bytes mark)
     ∙ ap (λ ls. frame_label mark ∷ ls) (labels_of_frame bytes marks)
 
-picked_among : {zs ys : List Mark} → IsPickedFrom zs ys → (x : Mark) → Contains zs x → Contains ys x
+picked_among : {zs ys : List Write} → IsPickedFrom zs ys → (x : Write) → Contains zs x → Contains ys x
 picked_among Nothing x h = absurd (contains_none x h)
 picked_among (Taken {x = z} {xs = zs} {ys = ys} p) x h = elim (contains_cases z zs x h) [
   | inl same ↦ (0, omega arith, same)
@@ -94,12 +94,12 @@ picked_among (Taken {x = z} {xs = zs} {ys = ys} p) x h = elim (contains_cases z 
 picked_among (Left {y = y} {ys = ys} p) x h = contains_later y ys x (picked_among p x h)
 
 -- flags that are left to land are those of an entry that was begun
-flag_left : (entries : List Entry) (n : ℕ) (marks : List Mark) (k : ℕ) → AreLeft n entries marks → Contains marks (Flag k) → k < n + length entries
+flag_left : (entries : List Entry) (n : ℕ) (marks : List Write) (k : ℕ) → AreLeft n entries marks → Contains marks (Flag k) → k < n + length entries
 flag_left [] n marks k none among = absurd (contains_none (Flag k) (subst (λ w. Contains w (Flag k)) none among))
 flag_left (entry ∷ entries) n marks k h among =
     elim (Contains-append_cases h.0 (Flag n ∷ Bell ∷ h.1) (Flag k) (subst (λ w. Contains w (Flag k)) h.2 among)) [
       | inl cell ↦
-          let f = field_of_cell n entry (Flag k) (picked_among h.3 (Flag k) cell) in
+          let f = field_of_data n entry (Flag k) (picked_among h.3 (Flag k) cell) in
           absurd (cc (f.1))
       | inr later ↦ elim (contains_cases (Flag n) (Bell ∷ h.1) (Flag k) later) [
         | inl e ↦ let same : n ≡ k = cc in omega arith
@@ -125,7 +125,7 @@ flag_known lane k law among = elim law.2.left [
       | inr to_post ↦ Contains-append_right (lane.flight ++ law.0) lane.todo (Flag k) to_post
     ]
 
-    at_entries : (marks : List Mark) → AreLeft lane.flagged (drop lane.flagged lane.sent) marks → Contains marks (Flag k) → k < length lane.sent
+    at_entries : (marks : List Write) → AreLeft lane.flagged (drop lane.flagged lane.sent) marks → Contains marks (Flag k) → k < length lane.sent
     at_entries marks left there =
         let below = flag_left (drop lane.flagged lane.sent) lane.flagged marks k left there in
         let rest = length-drop lane.flagged lane.sent in
@@ -133,7 +133,7 @@ flag_known lane k law among = elim law.2.left [
         omega arith
 
 -- the label of a write that is left to land, of a lane that carries frames alone
-pub label_in_open : (lane : Lane) (mark : Mark) → IsOpen lane → HoldsRingLaw lane → Contains (lane.flight ++ lane.todo) mark → label_in 0 lane mark ≡ frame_label mark
-label_in_open lane (Cell n field) frames law among = label_of_cell (entry_of lane n) n field
+pub label_in_open : (lane : Lane) (mark : Write) → IsOpen lane → HoldsRingLaw lane → Contains (lane.flight ++ lane.todo) mark → label_in 0 lane mark ≡ frame_label mark
+label_in_open lane (Data n field) frames law among = label_of_cell (entry_of lane n) n field
 label_in_open lane (Flag n) frames law among = label_of_flag (entry_of lane n) n (frames n (flag_known lane n law among))
 label_in_open lane Bell frames law among = label_of_bell (entry_of lane 0)

@@ -10,7 +10,7 @@ use Rattle.step_kinds.specs.declared.steps.Label.{Label}
 use Rattle.step_kinds.specs.declared.steps.Label.TheVariants.{Index}
 use Rattle.step_kinds.specs.declared.steps.Answer.{Answer}
 use Rattle.step_kinds.specs.declared.steps.Answer.TheVariants.{NotReady, Closed, OutOfTurn, Empty, ReadyFrame, Copied as CopiedPart, Delivered, Cleared as ClearedFrame, Acked}
-use Rattle.lane_model.specs.Lane.{Entry, Carries, LinkDown, Lane, bytes_of, chunks_in, entry_of}
+use Rattle.lane_model.specs.Lane.{Entry, Carries, GoesDown, Lane, bytes_of, chunks_in, entry_of}
 use Rattle.lane_model.specs.Law.{HoldsRingLaw}
 use Rattle.lane_model.specs.Steps.{after_look, after_clear, after_ack, more_to_copy}
 use Rattle.lane_model.specs.declared.Phase.{Phase}
@@ -123,13 +123,13 @@ look_cases P now found made true true p q r = q
 look_cases P now found made true false p q r = r refl
 
 -- a frame is found
-found_shows : (value : LaneValue) (plan : PairPlan) (now : PairPart) (taken given : ℕ) (entry : Entry) → entry ≢ LinkDown → Shows value plan now taken given
+found_shows : (value : LaneValue) (plan : PairPlan) (now : PairPart) (taken given : ℕ) (entry : Entry) → entry ≢ GoesDown → Shows value plan now taken given
     → HoldsRingLaw (after_looking value.lane (calls.look_at value.lane.got entry))
     → (looked_answer (calls.look_at value.lane.got entry) ≡ (look_at now B 0 (lane_of now A 0) entry).answer)
     × Shows (calls.with_lane value (after_looking value.lane (calls.look_at value.lane.got entry))) plan (look_at now B 0 (lane_of now A 0) entry).after taken given
 found_shows value plan now taken given (Carries bytes) frame h law =
     (ap (λ (n : ℕ). ReadyFrame n (length bytes)) (sym h.lane.got), looked_shows value plan now taken given h law)
-found_shows value plan now taken given LinkDown frame h law = absurd (frame refl)
+found_shows value plan now taken given GoesDown frame h law = absurd (frame refl)
 
 pub look_shows : (value : LaneValue) (plan : PairPlan) (now : PairPart) (taken given : ℕ) → Shows value plan now taken given
     → HoldsRingLaw (after_looking value.lane (look_answer value.lane))

@@ -10,15 +10,15 @@ use Rattle.step_kinds.specs.declared.names.Side.TheVariants.{A}
 use Rattle.step_kinds.specs.declared.plan.PairPlan.{PairPlan}
 use Rattle.step_kinds.specs.declared.steps.Label.{Label}
 use Rattle.step_kinds.specs.declared.steps.Answer.{Answer}
-use Rattle.step_kinds.specs.declared.steps.Answer.TheVariants.{OkNumber, LinkDown as NoLink, NotReady, Closed, TooLong, Busy, Again, Posted}
-use Rattle.lane_model.specs.Kept.{IsOpen}
-use Rattle.lane_model.specs.Lane.{Entry, Carries, LinkDown, Lane, free_in, writes_of}
+use Rattle.step_kinds.specs.declared.steps.Answer.TheVariants.{OkNumber, LinkDown, NotReady, Closed, TooLong, Busy, Again, Posted}
+use Rattle.lane_laws.specs.Laws.{IsOpen}
+use Rattle.lane_model.specs.Lane.{Entry, Carries, GoesDown, Lane, free_in, writes_of}
 use Rattle.lane_model.specs.Law.{HoldsRingLaw}
 use Rattle.lane_model.specs.Ring.{head_of, tail_of, room_of}
 use Rattle.lane_model.specs.Steps.{after_begin, after_post}
-use Rattle.lane_model.specs.declared.Mark.{Mark}
-use Rattle.lane_model.proofs.Chunks.{contains_first}
-use Rattle.lane_model.proofs.Holds.{free_is_room}
+use Rattle.lane_model.specs.declared.Write.{Write}
+use Rattle.lane_laws.proofs.Chunks.{contains_first}
+use Rattle.lane_laws.proofs.Holds.{free_is_room}
 use Rattle.lane_core.specs.Calls as calls
 use Rattle.lane_core.specs.Calls.{LaneValue, begin_answer, after_beginning, first_label, post_answer, after_first_post, after_posting}
 use Rattle.lane_core.specs.declared.answers.Begun.{Begun}
@@ -41,7 +41,7 @@ refuse_not test refusal later e = ap (λ t. refuse_if t refusal later) e
 sender_may : (value : LaneValue) (plan : PairPlan) (now : PairPart) (taken given : ℕ) → Shows value plan now taken given
     → (later : Option Answer) → refuse_sender now A 0 later ≡ later
 sender_may value plan now taken given h later =
-    refuse_not (not (link_up now)) NoLink _ (ap not h.link_up)
+    refuse_not (not (link_up now)) LinkDown _ (ap not h.link_up)
     ∙ refuse_not (not (has_bit (side_of now A).joined 0)) NotReady _ (ap not h.joined_a)
     ∙ refuse_not (has_bit (side_of now A).closed 0) Closed later h.open_a
 
@@ -88,11 +88,11 @@ begin_cases P now new len largest head tail n false true false p q r s = s
 
 open_begun : (lane : Lane) (frame : List ℕ) → IsOpen lane → IsOpen (after_begin lane (Carries frame))
 open_begun lane frame frames n below down = elim (cases_eq n (length lane.sent)) [
-  | inl last ↦ absurd (cc (get_or_push lane.sent (Carries frame) LinkDown n (sym last), down))
+  | inl last ↦ absurd (cc (get_or_push lane.sent (Carries frame) GoesDown n (sym last), down))
   | inr other ↦
       let one_more = length_push lane.sent (Carries frame) in
       let before : n < length lane.sent = omega arith in
-      frames n before (sym (get_or_append_left lane.sent (Carries frame ∷ []) LinkDown n before) ∙ down)
+      frames n before (sym (get_or_append_left lane.sent (Carries frame ∷ []) GoesDown n before) ∙ down)
 ]
 
 -- the tally of the session that a pair is in
@@ -173,11 +173,11 @@ pub posts_up : (pair : PairPart) (side : Side) (label : Label) → link_up pair 
     → posts pair side label ≡ with_side_part pair side (record (side_of pair side) { flight = (side_of pair side).flight ++ label ∷ [] })
 posts_up pair side label e = cond-true (link_up pair) _ _ e
 
-post_up : (lane : Lane) (mark : Mark) (rest : List Mark) → lane.up ≡ true
+post_up : (lane : Lane) (mark : Write) (rest : List Write) → lane.up ≡ true
     → after_post lane mark rest ≡ record lane { todo = rest; flight = lane.flight ++ mark ∷ [] }
-post_up lane mark rest e = ap (λ (flight : List Mark). record lane { todo = rest; flight = flight }) (cond-true lane.up _ _ e)
+post_up lane mark rest e = ap (λ (flight : List Write). record lane { todo = rest; flight = flight }) (cond-true lane.up _ _ e)
 
-posted_shows : (value : LaneValue) (plan : PairPlan) (now : PairPart) (taken given : ℕ) (mark : Mark) (rest : List Mark) → Shows value plan now taken given
+posted_shows : (value : LaneValue) (plan : PairPlan) (now : PairPart) (taken given : ℕ) (mark : Write) (rest : List Write) → Shows value plan now taken given
     → HoldsRingLaw (record value.lane { todo = rest; flight = value.lane.flight ++ mark ∷ [] })
     → Shows (calls.with_lane value (record value.lane { todo = rest; flight = value.lane.flight ++ mark ∷ [] })) plan
     (let put = with_lane now A 0 (record (lane_of now A 0) { todo = map frame_label rest }) in
@@ -217,7 +217,7 @@ posted_shows value plan now taken given mark rest h law =
       only_frames = h.only_frames;
     }
 
-post_at : (value : LaneValue) (plan : PairPlan) (now : PairPart) (taken given : ℕ) (marks : List Mark) → value.lane.todo ≡ marks → Shows value plan now taken given
+post_at : (value : LaneValue) (plan : PairPlan) (now : PairPart) (taken given : ℕ) (marks : List Write) → value.lane.todo ≡ marks → Shows value plan now taken given
     → HoldsRingLaw (after_first_post value.lane marks)
     → (posted_answer (first_label value.queue value.lane marks) ≡ (post_first now A 0 (map frame_label marks)).answer)
     × Shows (calls.with_lane value (after_first_post value.lane marks)) plan (post_first now A 0 (map frame_label marks)).after taken given

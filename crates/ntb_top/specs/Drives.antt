@@ -10,10 +10,10 @@ use Rattle.step_kinds.specs.declared.steps.Answer.{Answer}
 use Rattle.step_kinds.specs.declared.steps.Label.{Label}
 use Rattle.step_kinds.specs.declared.steps.Label.TheVariants.{Index}
 use Rattle.step_kinds.specs.declared.steps.Step.{Step}
-use Rattle.lane_model.specs.Kept.{IsOpen}
+use Rattle.lane_laws.specs.Laws.{IsOpen}
 use Rattle.lane_model.specs.Lane.{Carries, Lane}
 use Rattle.lane_model.specs.Law.{HoldsRingLaw}
-use Rattle.lane_model.specs.declared.Mark.{Mark}
+use Rattle.lane_model.specs.declared.Write.{Write}
 use Rattle.lane_core.specs.Calls.{LaneValue}
 use Rattle.ledger_model.specs.Labels.{label_of}
 use Rattle.ledger_model.specs.Ledger.{LanePart, PairPart, side_of, lane_of, tally_of, sizes_of}
@@ -23,7 +23,7 @@ use Rattle.ntb_top.specs.Script.{Script, side_with, most_steps}
 use Rattle.ntb_top.specs.declared.engine.Engine.{Engine}
 
 -- the label of a write of a lane that carries frames alone
-abbrev pub frame_label : Mark → Label
+abbrev pub frame_label : Write → Label
 frame_label mark = label_of 0 (Carries []) mark
 
 -- a lane's part in the ledger is that of the model's lane

@@ -5,7 +5,7 @@ use Rattle.step_kinds.specs.declared.names.LaneName.{LaneName}
 use Rattle.step_kinds.specs.declared.plan.Plan.{Plan}
 use Rattle.step_kinds.specs.declared.steps.Answer.{Answer}
 use Rattle.step_kinds.specs.declared.steps.Step.{Step}
-use Rattle.ledger_model.specs.Laws.{IsInOrder, times_of, lane_begun_by, GoesOn, is_again, refused_before_room, entries_in, is_link_down, needs_link}
+use Rattle.ledger_laws.specs.Laws.{IsInOrder, times_of, lane_begun_by, GoesOn, is_again, refused_before_room, entries_in, is_link_down, needs_link}
 use Rattle.ledger_model.specs.Log.{log_of, delivered, room_in, up_at}
 use Rattle.ntb_top.specs.Report.{no_memories, log_of_plan}
 use Rattle.ntb_top.specs.Script.{Script, script_of, plan_of}

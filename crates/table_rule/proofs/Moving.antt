@@ -136,7 +136,7 @@ stores_header N m slots j n is held left h =
     let front : lane.flight ≡ split.0 ++ (map (Data n) (fields_of entry) ++ split.1) =
         h.parts.flight ∙ split.2 ∙ ap (λ (d : List Write). split.0 ++ (d ++ split.1)) (ap (data_of n) same_entry ∙ data_is_fields n entry) in
     let entries = h.of.entries in
-    let positions : length lane.ring ≡ lane.entries = h.law.2.positions in
+    let positions : length lane.ring ≡ lane.entries = h.law.2.slots in
     let two : 2 ≤ lane.entries = h.law.2.two_entries in
     let within : n % lane.entries < length lane.ring = let small : n % lane.entries < lane.entries = mod-lt n (omega arith) in omega arith in
     let slot : Slot = with_fields (slot_of lane n) n entry (fields_of entry) in

@@ -138,7 +138,7 @@ new_moment N payload = record { words = first_words N; lane = new_lane N payload
 is_fresh : (N : ℕ) (payload : List ℕ) → 2 ≤ N → length payload ≡ 65536 → IsFresh (new_lane N payload)
 is_fresh N payload two long = record {
   two_entries = two;
-  positions = length-replicate N (new_slot payload);
+  slots = length-replicate N (new_slot payload);
   rooms = λ k below. ap (λ (s : Slot). length s.payload) (get_or-replicate N (k % N) (new_slot payload) blank_slot (mod-lt k (omega arith))) ∙ long;
   no_flags = λ k. ap (λ (s : Slot). s.flags) (get_or-replicate N (k % N) (new_slot payload) blank_slot (mod-lt k (omega arith)));
   index_word = refl;

@@ -1,5 +1,5 @@
 use Rattle.std.proofs.Common.{◌≤◌, length}
-use Rattle.lane_model.specs.Kept.{IsOpen}
+use Rattle.lane_laws.specs.Laws.{IsOpen}
 use Rattle.lane_core.proofs.tests.follow.Given as goal
 
 abbrev pub invariant-loop-call : goal.invariant-loop-call

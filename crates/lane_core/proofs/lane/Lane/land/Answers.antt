@@ -12,8 +12,8 @@ use Rattle.lane_core.specs.Parts.{IsKnown, entry_in, entry_seen, place_seen, rin
 use Rattle.lane_core.specs.Seen.{lane_seen, value_seen}
 use Rattle.lane_core.specs.declared.answers.LaneLand.TheVariants.{Landed, Blocked, Nothing}
 use Rattle.lane_core.specs.declared.entry.Entry.{Entry}
-use Rattle.lane_core.specs.declared.place.Place.{Place}
-use Rattle.lane_core.specs.declared.write.Write.{Write}
+use Rattle.lane_core.specs.declared.slot.Slot.{Slot}
+use Rattle.lane_core.specs.declared.write.PostedWrite.{PostedWrite}
 use Rattle.lane_core.proofs.Landing.{was_nothing, was_blocked, has_landed, is_held_back, landed_lane, past_the_end, answer_nothing, after_nothing, answer_landed, after_landed}
 use Rattle.lane_core.proofs.lane.Lane.land.Goals as goal
 
@@ -22,7 +22,7 @@ invariant_of-self c =
     let kept = c.self.invariant in
     let old = c.self.inside in
     let found = was_nothing _ _ c.in-Nothing.ensures.answer in
-    let same : c.land.new.self ≡ old.flight = c.in-Nothing.ensures.after ∙ cond-false _ _ _ (past_the_end (λ (w : Write). order_of_mark w.strict w.mark) old.flight.writes c.args.place found) in
+    let same : c.land.new.self ≡ old.flight = c.in-Nothing.ensures.after ∙ cond-false _ _ _ (past_the_end (λ (w : PostedWrite). order_of_mark w.strict w.mark) old.flight.writes c.args.place found) in
     rw same kept
 
 pub returns-in-Nothing-clause-law : goal.returns-in-Nothing-clause-law
@@ -32,7 +32,7 @@ pub returns-in-Nothing-clause-answer : goal.returns-in-Nothing-clause-answer
 returns-in-Nothing-clause-answer c =
     let old = c.self.inside in
     let found = was_nothing _ _ c.in-Nothing.ensures.answer in
-    let none : slice_get (lane_seen old).flight c.args.place ≡ None = slice_get-map (λ (w : Write). w.mark) old.flight.writes c.args.place ∙ ap (option_map (λ (w : Write). w.mark)) found in
+    let none : slice_get (lane_seen old).flight c.args.place ≡ None = slice_get-map (λ (w : PostedWrite). w.mark) old.flight.writes c.args.place ∙ ap (option_map (λ (w : PostedWrite). w.mark)) found in
     subst (λ (value : LaneValue). Nothing ≡ land_answer value c.args.place) c.self.view_is (sym (answer_nothing (value_seen old) c.args.place none))
 
 pub invariant_of-self-in-Blocked : goal.invariant_of-self-in-Blocked
@@ -50,8 +50,8 @@ pub returns-in-Nothing-clause-after : goal.returns-in-Nothing-clause-after
 returns-in-Nothing-clause-after c =
     let old = c.self.inside in
     let found = was_nothing _ _ c.in-Nothing.ensures.answer in
-    let none : slice_get (lane_seen old).flight c.args.place ≡ None = slice_get-map (λ (w : Write). w.mark) old.flight.writes c.args.place ∙ ap (option_map (λ (w : Write). w.mark)) found in
-    let same : c.land.new.self ≡ old.flight = c.in-Nothing.ensures.after ∙ cond-false _ _ _ (past_the_end (λ (w : Write). order_of_mark w.strict w.mark) old.flight.writes c.args.place found) in
+    let none : slice_get (lane_seen old).flight c.args.place ≡ None = slice_get-map (λ (w : PostedWrite). w.mark) old.flight.writes c.args.place ∙ ap (option_map (λ (w : PostedWrite). w.mark)) found in
+    let same : c.land.new.self ≡ old.flight = c.in-Nothing.ensures.after ∙ cond-false _ _ _ (past_the_end (λ (w : PostedWrite). order_of_mark w.strict w.mark) old.flight.writes c.args.place found) in
     rw same (subst (λ (value : LaneValue). value_seen old ≡ with_lane value (after_land value c.args.place)) c.self.view_is (ap (with_lane (value_seen old)) (sym (after_nothing (value_seen old) c.args.place none))))
 
 pub returns-in-Blocked-clause-answer : goal.returns-in-Blocked-clause-answer
@@ -82,7 +82,7 @@ label-requires c =
 
 -- the lane after the landing is the model's
 lane_after : (c : goal.After-label) → record (lane_seen c.self.inside) {
-  flight = map (λ (w : Write). w.mark) c.land.new.self.writes;
+  flight = map (λ (w : PostedWrite). w.mark) c.land.new.self.writes;
   ring = map place_seen (with_items c.self.inside.ring c.store.new.ring).items;
   flagged = c.self.inside.flagged + c.landed_flags.result;
 } ≡ after_landing (lane_seen c.self.inside) c.in-Landed.field-0.mark (remove (lane_seen c.self.inside).flight c.args.place)
@@ -93,9 +93,9 @@ lane_after c =
     let ring =
     ap (map place_seen) (with_items_is old.ring c.store.new.ring (omega arith))
     ∙ c.store.ensures
-    ∙ ap (λ (places : List Place). ring_after (map place_seen places) (map entry_seen c.deref.result.now) mark) c.deref_mut.ensures.value
+    ∙ ap (λ (places : List Slot). ring_after (map place_seen places) (map entry_seen c.deref.result.now) mark) c.deref_mut.ensures.value
     ∙ ap (λ (entries : List Entry). ring_after (map place_seen old.ring.items) (map entry_seen entries) mark) c.deref.ensures.value in
-    landed_lane (lane_seen old) _ _ _ _ mark c.self.invariant.law.2.positions landed.marks ring (ap (λ count. old.flagged + count) c.landed_flags.ensures)
+    landed_lane (lane_seen old) _ _ _ _ mark c.self.invariant.law.2.slots landed.marks ring (ap (λ count. old.flagged + count) c.landed_flags.ensures)
 
 pub invariant_of-self-in-Landed : goal.invariant_of-self-in-Landed
 invariant_of-self-in-Landed c =

@@ -1,7 +1,7 @@
 use Rattle.std.proofs.Common.{◌≡◌, length, ap, ◌∙◌, arith}
 use Rattle.std.proofs.lemmas.List.{length-map}
-use Rattle.lane_model.specs.Lane.{Place, bytes_of, entry_of}
-use Rattle.lane_model.proofs.Holds.{look_keeps}
+use Rattle.lane_model.specs.Lane.{Slot, bytes_of, entry_of}
+use Rattle.lane_laws.proofs.Holds.{look_keeps}
 use Rattle.lane_core.specs.Parts.{place_seen}
 use Rattle.lane_core.specs.Seen.{lane_seen}
 use Rattle.lane_core.proofs.Looking.{read_place, finds_entry}
@@ -15,7 +15,7 @@ invariant_of-self-in-Frame c =
     let count = length-map old.ring.items place_seen in
     let here = read_place old old.got c.position_of.result place c.position_of.ensures.value (omega arith) c.index-place.ensures in
     let frame = finds_entry (lane_seen old) c.in-Idle.is (rw here (λ e. cc (c.in-Frame.ensures.nothing e))) kept.law in
-    let size : length (bytes_of (entry_of (lane_seen old) old.got)) ≡ place.len = frame.size ∙ ap (λ (p : Place). p.len) here in
+    let size : length (bytes_of (entry_of (lane_seen old) old.got)) ≡ place.len = frame.size ∙ ap (λ (p : Slot). p.len) here in
     rw c.in_ok-promise-in-Frame.ensures.ok
     (record {
       law = look_keeps (lane_seen old) c.in-Idle.is frame.more kept.law;

@@ -2,11 +2,11 @@ use Rattle.std.proofs.Common.{length, ap, ◌∙◌, sym, subst, arith, map, Lis
 use Rattle.std.proofs.lemmas.List.{length-map}
 use Rattle.lane_model.specs.Law.{HoldsRingLaw}
 use Rattle.lane_model.specs.Steps.{after_post}
-use Rattle.lane_model.specs.declared.Mark.{Mark}
-use Rattle.lane_model.proofs.Holds.{post_keeps}
+use Rattle.lane_model.specs.declared.Write.{Write}
+use Rattle.lane_laws.proofs.Holds.{post_keeps}
 use Rattle.lane_core.specs.Parts.{IsKnown, entry_seen}
 use Rattle.lane_core.specs.Seen.{lane_seen}
-use Rattle.lane_core.specs.declared.write.Write.{Write}
+use Rattle.lane_core.specs.declared.write.PostedWrite.{PostedWrite}
 use Rattle.lane_core.proofs.Parts.{All-posted, map-posted}
 use Rattle.lane_core.proofs.Writes.{next_is_known}
 use Rattle.lane_core.proofs.lane.Lane.post.Goals as goal
@@ -24,11 +24,11 @@ invariant_of-self-2 c =
     let old = c.self.inside in
     let mark = c.in_ok-mark.mark in
     let rest = c.pop_front.new.self.items in
-    let write : Write = record { mark = mark; strict = old.strict } in
-    let flight = ap (map (λ (w : Write). w.mark)) c.post.ensures.writes ∙ map-posted (λ (w : Write). w.mark) old.up old.flight.writes write in
+    let write : PostedWrite = record { mark = mark; strict = old.strict } in
+    let flight = ap (map (λ (w : PostedWrite). w.mark)) c.post.ensures.writes ∙ map-posted (λ (w : PostedWrite). w.mark) old.up old.flight.writes write in
     let one_less = ap length c.in_ok-mark.ensures.items in
     record {
-      law = subst (λ (marks : List Mark). HoldsRingLaw (record (after_post (lane_seen old) mark rest) { flight = marks })) (sym flight) (post_keeps (lane_seen old) mark rest c.in_ok-mark.ensures.items kept.law);
+      law = subst (λ (marks : List Write). HoldsRingLaw (record (after_post (lane_seen old) mark rest) { flight = marks })) (sym flight) (post_keeps (lane_seen old) mark rest c.in_ok-mark.ensures.items kept.law);
       few = kept.few;
       small = kept.small;
       orders = All-posted old.strict old.up old.flight.writes mark c.post.new.flight.writes c.post.ensures.writes kept.orders;

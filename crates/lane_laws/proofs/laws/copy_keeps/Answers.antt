@@ -1,0 +1,5 @@
+use Rattle.lane_laws.proofs.Holds.{copy_keeps}
+use Rattle.lane_laws.proofs.laws.copy_keeps.Goals as goal
+
+pub returns : goal.returns
+returns c = copy_keeps

@@ -1,0 +1,5 @@
+use Rattle.lane_laws.proofs.Holds.{copy_sees}
+use Rattle.lane_laws.proofs.laws.copy_sees.Goals as goal
+
+pub returns : goal.returns
+returns c = copy_sees

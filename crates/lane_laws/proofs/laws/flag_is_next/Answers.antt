@@ -1,0 +1,5 @@
+use Rattle.lane_laws.proofs.Holds.{flag_is_next}
+use Rattle.lane_laws.proofs.laws.flag_is_next.Goals as goal
+
+pub returns : goal.returns
+returns c = flag_is_next

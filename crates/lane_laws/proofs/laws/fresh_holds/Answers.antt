@@ -1,0 +1,5 @@
+use Rattle.lane_laws.proofs.Holds.{fresh_holds}
+use Rattle.lane_laws.proofs.laws.fresh_holds.Goals as goal
+
+pub returns : goal.returns
+returns c = fresh_holds

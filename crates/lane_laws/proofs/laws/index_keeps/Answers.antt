@@ -1,0 +1,5 @@
+use Rattle.lane_laws.proofs.Holds.{index_keeps}
+use Rattle.lane_laws.proofs.laws.index_keeps.Goals as goal
+
+pub returns : goal.returns
+returns c = index_keeps

@@ -1,0 +1,5 @@
+use Rattle.lane_laws.proofs.Holds.{nothing_left}
+use Rattle.lane_laws.proofs.laws.nothing_left.Goals as goal
+
+pub returns : goal.returns
+returns c = nothing_left

@@ -1,5 +1,0 @@
-use Rattle.lane_model.proofs.Holds.{ack_keeps}
-use Rattle.lane_model.proofs.laws.ack_keeps.Goals as goal
-
-pub returns : goal.returns
-returns c = ack_keeps

@@ -1,5 +1,0 @@
-use Rattle.lane_model.proofs.Holds.{clear_keeps}
-use Rattle.lane_model.proofs.laws.clear_keeps.Goals as goal
-
-pub returns : goal.returns
-returns c = clear_keeps

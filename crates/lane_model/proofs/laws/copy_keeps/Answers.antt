@@ -1,5 +1,0 @@
-use Rattle.lane_model.proofs.Holds.{copy_keeps}
-use Rattle.lane_model.proofs.laws.copy_keeps.Goals as goal
-
-pub returns : goal.returns
-returns c = copy_keeps

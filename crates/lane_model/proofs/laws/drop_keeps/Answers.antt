@@ -1,5 +1,0 @@
-use Rattle.lane_model.proofs.Holds.{drop_keeps}
-use Rattle.lane_model.proofs.laws.drop_keeps.Goals as goal
-
-pub returns : goal.returns
-returns c = drop_keeps

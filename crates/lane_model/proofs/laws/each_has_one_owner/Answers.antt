@@ -1,5 +1,0 @@
-use Rattle.lane_model.proofs.Holds.{each_has_one_owner}
-use Rattle.lane_model.proofs.laws.each_has_one_owner.Goals as goal
-
-pub returns : goal.returns
-returns c = each_has_one_owner

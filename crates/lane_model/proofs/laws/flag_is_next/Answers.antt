@@ -1,5 +1,0 @@
-use Rattle.lane_model.proofs.Holds.{flag_is_next}
-use Rattle.lane_model.proofs.laws.flag_is_next.Goals as goal
-
-pub returns : goal.returns
-returns c = flag_is_next

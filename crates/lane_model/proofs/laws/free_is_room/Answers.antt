@@ -1,5 +1,0 @@
-use Rattle.lane_model.proofs.Holds.{free_is_room}
-use Rattle.lane_model.proofs.laws.free_is_room.Goals as goal
-
-pub returns : goal.returns
-returns c = free_is_room

@@ -1,5 +1,0 @@
-use Rattle.lane_model.proofs.Holds.{index_keeps}
-use Rattle.lane_model.proofs.laws.index_keeps.Goals as goal
-
-pub returns : goal.returns
-returns c = index_keeps

@@ -1,5 +1,0 @@
-use Rattle.lane_model.proofs.Holds.{land_bell_keeps}
-use Rattle.lane_model.proofs.laws.land_bell_keeps.Goals as goal
-
-pub returns : goal.returns
-returns c = land_bell_keeps

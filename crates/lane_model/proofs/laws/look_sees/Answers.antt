@@ -1,5 +1,0 @@
-use Rattle.lane_model.proofs.Holds.{look_sees}
-use Rattle.lane_model.proofs.laws.look_sees.Goals as goal
-
-pub returns : goal.returns
-returns c = look_sees

@@ -1,0 +1,5 @@
+use Rattle.ledger_laws.proofs.RingRuns.{ring_law_holds}
+use Rattle.ledger_laws.proofs.laws.ring_law_holds.Goals as goal
+
+pub returns : goal.returns
+returns c = ring_law_holds

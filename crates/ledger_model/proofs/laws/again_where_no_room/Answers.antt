@@ -1,5 +1,0 @@
-use Rattle.ledger_model.proofs.laws.again_where_no_room.Goals as goal
-use Rattle.ledger_model.proofs.Room.{again_where_no_room}
-
-pub returns : goal.returns
-returns c = again_where_no_room

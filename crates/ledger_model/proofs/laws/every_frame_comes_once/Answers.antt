@@ -1,5 +1,0 @@
-use Rattle.ledger_model.proofs.laws.every_frame_comes_once.Goals as goal
-use Rattle.ledger_model.proofs.Sessions.{every_frame_comes_once}
-
-pub returns : goal.returns
-returns c = every_frame_comes_once

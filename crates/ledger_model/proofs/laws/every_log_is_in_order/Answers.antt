@@ -1,5 +1,0 @@
-use Rattle.ledger_model.proofs.laws.every_log_is_in_order.Goals as goal
-use Rattle.ledger_model.proofs.Sessions.{every_log_is_in_order}
-
-pub returns : goal.returns
-returns c = every_log_is_in_order

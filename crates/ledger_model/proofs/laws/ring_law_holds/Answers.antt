@@ -1,5 +1,0 @@
-use Rattle.ledger_model.proofs.RingRuns.{ring_law_holds}
-use Rattle.ledger_model.proofs.laws.ring_law_holds.Goals as goal
-
-pub returns : goal.returns
-returns c = ring_law_holds

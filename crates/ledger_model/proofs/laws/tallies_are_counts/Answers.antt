@@ -1,5 +1,0 @@
-use Rattle.ledger_model.proofs.laws.tallies_are_counts.Goals as goal
-use Rattle.ledger_model.proofs.Sessions.{tallies_are_counts}
-
-pub returns : goal.returns
-returns c = tallies_are_counts
