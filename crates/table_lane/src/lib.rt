@@ -3,12 +3,15 @@
 
 mod back;
 mod board;
+mod ends;
+
 mod mover;
 mod recv;
 mod send;
 mod steps;
 
 pub use back::{BackAnswer, BackEnd, CutEnd};
+pub use ends::make;
 pub use mover::{MoveAnswer, MoveEnd};
 pub use recv::{RecvAnswer, RecvEnd};
 pub use send::{SendAnswer, SendEnd};

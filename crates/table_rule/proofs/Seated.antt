@@ -7,7 +7,7 @@ use mathlib.Core.Option as home
 use lib.ListN.{get_elem?}
 use Rattle.atomic_table.specs.Table.{State, Splits, Joins, opening}
 use Rattle.table_rule.specs.LaneNames.{Lane, Slot, blank_slot, slot_of, HoldsRingLaw, Idle, tail_of}
-use Rattle.table_rule.specs.Words.{Words, AreSized, words_of}
+use Rattle.table_rule.specs.Words.{Words, AreSized, words_of, first_words}
 use Rattle.table_rule.specs.Views.{Bytes, LaneView, joined, no_parts, without_mover, mover_alone, without_recv, recv_alone, without_back, back_alone, without_cut, cut_alone, all_parts, new_send, new_move, new_recv, new_back, new_cut}
 use Rattle.table_rule.specs.Borders.{Borders, Slots, slot_at}
 use Rattle.table_rule.specs.Shows.{borders_of}
@@ -91,10 +91,6 @@ seats_join N id view other second board h at apart at_other = (h.0, record {
   knows = h.1.knows;
   shows = h.1.shows;
 })
-
--- the words of a new table
-abbrev pub first_words : ℕ → Words
-first_words N = record { posted = replicate N 0; headers = replicate N 0; flags = replicate N 0; index_out = tail_of N 0; index = tail_of N 0; link = 0 }
 
 map-replicate : {A B : Type 0} (f : A → B) (n : ℕ) (x : A) → map f (replicate n x) ≡ replicate n (f x)
 map-replicate f zero x = refl

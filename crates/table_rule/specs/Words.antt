@@ -1,6 +1,6 @@
 -- The words of a table with N positions: three for each position, and three for the lane.
-use Rattle.std.specs.Prelude.{◌≡◌, ℕ, ◌+◌, ◌*◌, ◌%◌, ◌^◌, List, [], ◌∷◌, ◌++◌, length}
-use Rattle.table_rule.specs.LaneNames.{version_of}
+use Rattle.std.specs.Prelude.{◌≡◌, ℕ, ◌+◌, ◌*◌, ◌%◌, ◌^◌, List, [], ◌∷◌, ◌++◌, length, replicate}
+use Rattle.table_rule.specs.LaneNames.{tail_of, version_of}
 
 pub record Words : Type 0 where
   -- by position, what the sender stored: `header_of` the newest entry there, and 0 where none was sent
@@ -53,3 +53,7 @@ pub record AreSized (N : ℕ) (words : Words) : Type 0 where
   pub posted : length words.posted ≡ N
   pub headers : length words.headers ≡ N
   pub flags : length words.flags ≡ N
+
+-- the words of a new table
+abbrev pub first_words : ℕ → Words
+first_words N = record { posted = replicate N 0; headers = replicate N 0; flags = replicate N 0; index_out = tail_of N 0; index = tail_of N 0; link = 0 }
