@@ -5,12 +5,14 @@
 #![tactic(auto)]
 
 mod frame;
+mod frame_list;
 mod items;
 mod names;
 mod plan;
 mod steps;
 
 pub use frame::Frame;
+pub use frame_list::FrameList;
 pub use items::Items;
 pub use names::{LaneName, Name, Side};
 pub use plan::{Counters, DevPlan, Line, LineAnswer, PairPlan, Plan, SidePlan, Traffic};
