@@ -67,6 +67,8 @@ pub record IsRecvEnd (end : recv.Inside) : Type 0 where
   pub entries : (the_recv end.seat.me.0).entries ≡ end.entries
   pub got : length (the_recv end.seat.me.0).got ≡ end.got
   pub counted : end.got ≤ 2 ^ 62
+  pub nothing_left : end.left.frames ≡ []
+  pub room : end.entries ≤ end.left.spare + 1
 
 abbrev pub way_back_of : back.Inside → WayBack
 way_back_of end = record { lane = end.seat.table_id; part = the_back end.seat.me.0 }

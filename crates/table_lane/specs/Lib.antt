@@ -1,3 +1,5 @@
+pub mod EndInside
+pub mod Ending
 pub mod Ends
 pub mod Inside
 pub mod Moves

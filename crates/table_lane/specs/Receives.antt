@@ -2,7 +2,10 @@
 use Rattle.std.specs.Prelude.{◌≡◌, ◌≢◌, ◌==◌, ◌+◌, ◌%◌, ℕ, if◌then◌else◌, List, [], ◌∷◌, ◌++◌, length}
 use Rattle.table_rule.specs.declared.parts.RecvPart.{RecvPart}
 use Rattle.table_rule.specs.declared.parts.BackPart.{BackPart}
+use Rattle.table_rule.specs.LaneNames as phase
 use Rattle.table_rule.specs.LaneNames.{done, tail_of}
+use Rattle.table_rule.specs.Rule.{Sitter}
+use Rattle.table_rule.specs.Views.{the_recv, with_recv}
 use Rattle.table_rule.specs.Learns.{flag_loaded, index_out_loaded, index_named, index_stored}
 use Rattle.table_lane.specs.declared.recv.RecvAnswer.{RecvAnswer}
 use Rattle.table_lane.specs.declared.recv.RecvAnswer.TheVariants.{Got, Empty}
@@ -17,6 +20,20 @@ frame_received part frame = record part { got = part.got ++ frame ∷ [] }
 abbrev pub Receives : RecvPart → RecvAnswer → RecvPart → Type 0
 Receives before (Got number frame) after = (after.flag ≡ done) × (number ≡ length before.got) × (after ≡ frame_received (flag_loaded before done) frame)
 Receives before Empty after = (after.flag ≢ done) × (after ≡ flag_loaded before after.flag)
+
+-- the receiver looks at no frame, and the next one is entry n
+pub record IsReady (N n : ℕ) (part : RecvPart) : Type 0 where
+  pub idle : part.phase ≡ phase.Idle
+  pub no_frame : part.hand ≡ []
+  pub of : part.entries ≡ N
+  pub next : n ≡ length part.got
+
+-- what a seat knows where the flag was not up, and where a frame came; its other parts and its slots are as before
+abbrev pub NothingCame : Sitter → ℕ → Sitter → Type 0
+NothingCame before found after = (found ≢ done) × (after ≡ (with_recv before.0 (flag_loaded (the_recv before.0) found), before.1))
+
+abbrev pub FrameCame : Sitter → List ℕ → Sitter → Type 0
+FrameCame before frame after = after ≡ (with_recv before.0 (frame_received (flag_loaded (the_recv before.0) done) frame), before.1)
 
 -- by the index out that this call loads: new where it isn't the index word that was stored last
 abbrev pub back_answer : BackPart → BackAnswer

@@ -12,6 +12,7 @@ use crate::send::SendEnd;
 use std::alloc::{AllocError, Global};
 use std::collections::VecDeque;
 use std::sync::Arc;
+use step_kinds::FrameList;
 use table_rule::plays::{SplitsBack, SplitsCut, SplitsMove, SplitsRecv};
 
 // The words of a new table: all 0, but both indices name the last position.
@@ -58,6 +59,8 @@ pub fn make(
     let entries = u64::from(entries);
     let words = start_words(alloc, entries)?;
     let waiting = VecDeque::with_capacity(alloc, entries as usize)?;
+    let mut left = FrameList::new(alloc);
+    left.promise(entries as usize)?;
     let (table, mut seat) = LaneTable::vacant(alloc, &words, entries as usize, &entries)?;
     let (mover, recv, back, cut) = split_off(&table.shared, &mut seat);
     let table = Arc::new(alloc, table)?;
@@ -74,6 +77,7 @@ pub fn make(
         seat: recv,
         entries,
         got: 0,
+        left,
     };
     let back = BackEnd {
         table: Arc::try_clone(&table)?,

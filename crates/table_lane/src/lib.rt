@@ -5,6 +5,7 @@ mod back;
 mod board;
 mod ends;
 
+mod lane_end;
 mod mover;
 mod recv;
 mod send;
@@ -12,6 +13,7 @@ mod steps;
 
 pub use back::{BackAnswer, BackEnd, CutEnd};
 pub use ends::make;
+pub use lane_end::{LaneEnd, LaneProof, finish};
 pub use mover::{MoveAnswer, MoveEnd};
 pub use recv::{RecvAnswer, RecvEnd};
 pub use send::{SendAnswer, SendEnd};

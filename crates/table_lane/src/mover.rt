@@ -1,5 +1,5 @@
 //! The mover's end.
-ghost use Rattle.std.specs.Prelude.{◌≡◌, ◌+◌, ◌<◌, ◌==◌, true, false, List, ℕ, length, slice_get, slice_index, slice_index_or, MatchBool, Some};
+ghost use Rattle.std.specs.Prelude.{◌≡◌, ◌+◌, ◌<◌, ◌==◌, true, false, List, [], ℕ, length, slice_get, slice_index, slice_index_or, MatchBool, Some};
 ghost use Rattle.table_rule.specs.Words.{header_of};
 ghost use Rattle.table_rule.specs.Learns.{taken, posted_loaded, frame_taken, header_stored, flag_stored};
 ghost use Rattle.table_lane.specs.Moves.{waiting, open_moves, Makes, Moves};
@@ -124,6 +124,29 @@ impl MoveEnd {
         }
         let number = self.store_first();
         MoveAnswer::Flag { number }
+    }
+
+    // Stores the flag of the first held entry, and its header before where it waits for it. False where nothing is held.
+    fn settle_first(&mut self) -> bool
+        ensures lane { self.new.lane ≡ self.old.lane }
+        ensures cases { MatchBool result (length self.new.part.held + 1 ≡ length self.old.part.held) ((self.new ≡ self.old) × (self.old.part.held ≡ [])) }
+    {
+        if self.flagged == self.taken {
+            return false;
+        }
+        if !self.is_flag_open() {
+            self.store_waiting(0);
+        }
+        self.store_first();
+        true
+    }
+
+    // Stores the headers and the flags of all held entries.
+    pub(crate) fn settle(&mut self)
+        ensures lane { self.new.lane ≡ self.old.lane }
+        ensures nothing_held { self.new.part.held ≡ [] }
+    {
+        while self.settle_first() {}
     }
 
     /// Makes one move. The open moves are the header of each held entry that waits for it, by rising number, and then the flag of

@@ -1,13 +1,15 @@
 //! The receiver's end.
-ghost use Rattle.std.specs.Prelude.{◌≡◌};
-ghost use Rattle.table_lane.specs.Receives.{Receives};
+ghost use Rattle.std.specs.Prelude.{◌≡◌, ◌≤◌, ◌<◌, ◌^◌, ℕ, length, take, MatchOption, IfSome, IfNone};
+ghost use Rattle.table_rule.specs.Views.{HasRecv, the_recv};
+ghost use Rattle.table_lane.specs.Table.{IsTableOf};
+ghost use Rattle.table_lane.specs.Receives.{Receives, IsReady, NothingCame, FrameCame};
 
-use crate::board::{DONE, LaneSeat, LaneTable};
+use crate::board::{Board, DONE, LaneSeat, LaneTable};
 use crate::steps::{acknowledge, clear_flag, load_flag, load_header};
 use std::alloc::Global;
 use std::marker::Model;
 use std::sync::Arc;
-use step_kinds::Frame;
+use step_kinds::{Frame, FrameList};
 
 /// What came of an attempt to receive a frame.
 #[derive(Debug, Drop)]
@@ -27,6 +29,8 @@ pub struct RecvEnd {
     pub(crate) seat: LaneSeat,
     pub(crate) entries: u64,
     pub(crate) got: u64,
+    /// Room for all frames that a ring can have, for what `finish` takes out.
+    pub(crate) left: FrameList,
 }
 
 impl Model for RecvEnd {
@@ -41,6 +45,29 @@ impl Model for RecvEnd {
     ghost invariant = { IsRecvEnd };
 }
 
+// Receives the next frame, entry `number`, where its flag is up: takes it out of its slot, clears the flag and acknowledges it.
+pub(crate) fn receive(
+    board: &Board,
+    seat: &mut LaneSeat,
+    entries: u64,
+    number: u64,
+) -> Option<Frame>
+    requires table { (seat.old.table_id ≡ board.now.table_id) × IsTableOf entries board.now.table_id board.now.key }
+    requires part { HasRecv seat.old.me.0 × IsReady entries number (the_recv seat.old.me.0) }
+    ensures table { seat.new.table_id ≡ seat.old.table_id }
+    ensures knows { MatchOption result ((found : ℕ) × NothingCame seat.old.me found seat.new.me) (λ frame. (number < 2 ^ 62) × FrameCame seat.old.me frame seat.new.me) }
+    ensures begins { IfSome seat.old.me.0.send (λ send. (the_recv seat.new.me.0).got ≡ take (length (the_recv seat.new.me.0).got) send.sent) }
+    ensures comes { IfNone result (IfSome seat.old.me.0.mover (λ mover. mover.flagged ≤ number)) }
+{
+    if load_flag(board, seat, entries, number) != DONE {
+        return None;
+    }
+    let _header = load_header(board, seat, entries, number);
+    let frame = clear_flag(board, seat, entries, number).unwrap();
+    acknowledge(board, seat, entries, number);
+    Some(frame)
+}
+
 impl RecvEnd {
     /// Receives the next frame, if the flag that this call loads says that it has landed: then the flag is cleared, the slot is
     /// empty and index out names the entry.
@@ -48,15 +75,13 @@ impl RecvEnd {
         ensures lane { self.new.lane ≡ self.old.lane }
         ensures receives { Receives self.old.part result self.new.part }
     {
-        let board = &self.table.shared;
         let number = self.got;
-        if load_flag(board, &mut self.seat, self.entries, number) != DONE {
-            return RecvAnswer::Empty;
+        match receive(&self.table.shared, &mut self.seat, self.entries, number) {
+            None => RecvAnswer::Empty,
+            Some(frame) => {
+                self.got = number + 1;
+                RecvAnswer::Got { number, frame }
+            }
         }
-        let _header = load_header(board, &mut self.seat, self.entries, number);
-        let frame = clear_flag(board, &mut self.seat, self.entries, number).unwrap();
-        acknowledge(board, &mut self.seat, self.entries, number);
-        self.got = number + 1;
-        RecvAnswer::Got { number, frame }
     }
 }

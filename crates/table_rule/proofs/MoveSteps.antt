@@ -8,12 +8,12 @@ use lib.ListN.{get_elem?}
 use Rattle.atomic_table.specs.Table.{Allows, keeps, takes, gives}
 use Rattle.table_rule.specs.LaneNames.{done}
 use Rattle.table_rule.specs.Words.{AreSized, words_of, posted_word, header_word, flag_word, header_of}
-use Rattle.table_rule.specs.Views.{Bytes, SendPart, MovePart, LaneView, the_move, HasMove, with_move}
+use Rattle.table_rule.specs.Views.{Bytes, SendPart, MovePart, RecvPart, LaneView, the_move, HasMove, with_move}
 use Rattle.table_rule.specs.Shows.{number_at}
 use Rattle.table_rule.specs.Moment.{Moment, ShowsLane}
 use Rattle.table_rule.specs.Rule.{Content, Board, Sitter, IsMoment, ShowsALane}
 use Rattle.table_rule.specs.Learns.{taken, posted_loaded, frame_taken, header_stored, flag_stored}
-use Rattle.table_rule.specs.Plays.{sees_posted, stores_header, stores_flag}
+use Rattle.table_rule.specs.Plays.{KnowsSent, sees_posted, stores_header, stores_flag}
 use Rattle.table_rule.proofs.LaneLaws.{number_is}
 use Rattle.table_rule.proofs.Seating.{mover_seats}
 use Rattle.table_rule.proofs.Seats.{part_changes}
@@ -33,6 +33,14 @@ sender_too N board m id view P at now holds = by_cases view.send refl
     by_cases None is = tt
     by_cases (Some p) is = subst P (sym (part_changes (λ v. v.send) board.views id view p m.send at is now.seats.send).0) holds
 
+-- the same of the receiver's part
+recv_too : (N : ℕ) (board : Board) (m : Moment) (id : ℕ) (view : LaneView) (P : RecvPart → Type 0) → get_elem? board.views id ≡ some view → IsMoment N m board → P m.recv → IfSome view.recv P
+recv_too N board m id view P at now holds = by_cases view.recv refl
+  where
+    by_cases : (o : Option RecvPart) → view.recv ≡ o → IfSome o P
+    by_cases None is = tt
+    by_cases (Some p) is = subst P (sym (part_changes (λ v. v.recv) board.views id view p m.recv at is now.seats.recv).0) holds
+
 pub sees_posted_allowed : (N slots id : ℕ) (me : Sitter) (i : ℕ) → i ≡ posted_word N (taken (the_move me.0)) → HasMove me.0 → Allows (ShowsALane N) slots id me i (λ n. n) (sees_posted me)
 sees_posted_allowed N slots id me i is has board h counted at fits =
     let seats = mover_seats board.views id me.0 h.0.send h.0.mover h.0.recv h.0.back h.0.cut at h.1.seats has in
@@ -47,8 +55,13 @@ sees_posted_allowed N slots id me i is has board h counted at fits =
     let knows : part.entries ≡ N = now.knows.mover in
     let within = now.shows.holding.within in
     let counted_sent = now.shows.room.counted in
-    let surely : IfSome me.0.send (λ send. n < length send.sent → found ≡ header_of n) =
-        sender_too N board m id me.0 (λ send. n < length send.sent → found ≡ header_of n) at now (λ below. word ∙ now.shows.posted.newest n below (omega (arith, o.claimed))) in
+    let room : length m.send.sent + 1 ≤ length m.recv.got + part.entries = omega (arith, o.freed, o.acked, o.cleared, o.sent, o.claimed) in
+    let surely : IfSome me.0.send (KnowsSent part found me.0.recv) =
+        sender_too N board m id me.0 (KnowsSent part found me.0.recv) at now (
+          (λ below. word ∙ now.shows.posted.newest n below (omega (arith, o.claimed))),
+          (λ new. (moving.takes N m board.homes n refl (sym word ∙ new) now.shows).0),
+          recv_too N board m id me.0 (λ r. length m.send.sent + 1 ≤ length r.got + part.entries) at now room,
+        ) in
     elim (cases_eq found (header_of n)) [
       | inl new ↦
           let take = moving.takes N m board.homes n refl (sym word ∙ new) now.shows in

@@ -18,6 +18,10 @@ use Rattle.table_rule.proofs.Order.{in_order}
 use Rattle.table_rule.proofs.Sending.{borders_in, entry_is_frame}
 use Rattle.table_rule.proofs.Moving.{ring_stores_flag}
 
+pub none_long : (xs : List Bytes) → length xs ≡ 0 → xs ≡ []
+none_long [] e = refl
+none_long (x ∷ xs) e = absurd (omega arith)
+
 -- a flag word is the flags of its position
 flag_is : (N : ℕ) (m : Moment) (slots : Slots) (n : ℕ) → ShowsLane N m slots → get_or m.words.flags (n % N) 0 ≡ (slot_of m.lane n).flags
 flag_is N m slots n h =
@@ -95,10 +99,6 @@ looks N m slots n is idle raised h =
       ),
       below,
     )
-  where
-    none_long : (xs : List Bytes) → length xs ≡ 0 → xs ≡ []
-    none_long [] e = refl
-    none_long (x ∷ xs) e = absurd (omega arith)
 
 -- the header word of the entry that is looked at has its version
 pub version_stands : (N : ℕ) (m : Moment) (slots : Slots) (n : ℕ) → n ≡ length m.recv.got → m.recv.phase ≡ Copying → ShowsLane N m slots → get_or m.words.headers (n % N) 0 % 2 ^ 32 ≡ version_of n

@@ -9,6 +9,7 @@ use Rattle.atomic_table.specs.Table.{Allows, keeps, takes, gives}
 use Rattle.table_rule.specs.LaneNames.{done, Idle, Copying, Copied, Cleared, flags_of, entry_of, slot_of}
 use Rattle.table_rule.specs.Words.{AreSized, words_of, header_word, flag_word, index_out_word}
 use Rattle.table_rule.specs.Views.{Bytes, SendPart, MovePart, RecvPart, LaneView, the_recv, HasRecv, with_recv}
+use Rattle.table_rule.specs.Shows.{hand_in}
 use Rattle.table_rule.specs.Moment.{Moment, ShowsLane}
 use Rattle.table_rule.specs.Rule.{Content, Board, Sitter, IsMoment, ShowsALane}
 use Rattle.table_rule.specs.Learns.{flag_loaded, frame_found, frame_copied, flag_cleared, acknowledged}
@@ -18,6 +19,7 @@ use Rattle.table_rule.proofs.Seats.{part_changes}
 use Rattle.table_rule.proofs.WordLists.{header_at, flag_at, set_flag, set_index_out}
 use Rattle.table_rule.proofs.Order.{in_order}
 use Rattle.table_rule.proofs.MoveSteps.{sender_too}
+use Rattle.table_rule.proofs.Receiving.{none_long}
 use Rattle.table_rule.proofs.Receiving as receiving
 
 -- the moment with the receiver's part that the seat has
@@ -47,6 +49,11 @@ sees_flag_allowed N slots id me i is has idle board h counted at fits =
     let counted_sent = now.shows.room.counted in
     let surely : IfSome me.0.mover (λ mover. n < mover.flagged → found ≡ done) =
         mover_too N board m id me.0 (λ mover. n < mover.flagged → found ≡ done) at now (λ below. word ∙ receiving.raised N m board.homes n refl idle below now.shows) in
+    let no_hand : length part.hand ≡ 0 = now.shows.receiving.in_hand ∙ ap hand_in idle in
+    let prefix : part.got ≡ take (length part.got) m.send.sent =
+        sym (append-nil part.got) ∙ ap (λ (w : List Bytes). part.got ++ w) (sym (none_long part.hand no_hand)) ∙ now.shows.receiving.prefix
+        ∙ ap (λ (j : ℕ). take j m.send.sent) (let e : length part.got + length part.hand ≡ length part.got = omega arith in e) in
+    let begins = sender_too N board m id me.0 (λ send. part.got ≡ take (length part.got) send.sent) at now prefix in
     elim (cases_eq found done) [
       | inl up ↦
           let look = receiving.looks N m board.homes n refl idle (sym word ∙ up) now.shows in
@@ -66,7 +73,7 @@ sees_flag_allowed N slots id me i is has idle board h counted at fits =
               knows = now.knows;
               shows = subst (λ (k : ℕ). ShowsLane N (record m { lane = look.1.0; recv = frame_found part frame }) (set board.homes k none)) at_place look.1.1;
             }),
-            (rw hit (frame, refl, below), surely),
+            (rw hit (frame, refl, below), surely, begins),
           )
       | inr down ↦
           let after : RecvPart = flag_loaded part found in
@@ -76,7 +83,7 @@ sees_flag_allowed N slots id me i is has idle board h counted at fits =
             keeps,
             tt,
             (record m { recv = after }, record { words = set-get_or board.words i 0 ∙ now.words; sized = now.sized; seats = seats.1 after; knows = now.knows; shows = now.shows }),
-            (rw miss refl, surely),
+            (rw miss refl, surely, begins),
           )
     ]
 

@@ -3,7 +3,7 @@ use Rattle.std.specs.Prelude.{◌≡◌, ℕ, ◌+◌, ◌-◌, ◌%◌, ◌^◌
 use Rattle.atomic_table.specs.Table.{rest}
 use Rattle.table_rule.specs.LaneNames.{done, version_of}
 use Rattle.table_rule.specs.Words.{header_of}
-use Rattle.table_rule.specs.Views.{Bytes, the_send, the_move, the_recv, the_back, the_cut, with_send, with_move, with_recv, with_back, with_cut}
+use Rattle.table_rule.specs.Views.{Bytes, SendPart, MovePart, RecvPart, the_send, the_move, the_recv, the_back, the_cut, with_send, with_move, with_recv, with_back, with_cut}
 use Rattle.table_rule.specs.Shows.{number_at}
 use Rattle.table_rule.specs.Rule.{Content, Sitter}
 use Rattle.table_rule.specs.Learns.{link_loaded, index_loaded, head, free_by, slot_claimed, frame_sent, taken, posted_loaded, frame_taken, header_stored, flag_stored, flag_loaded, frame_found, frame_copied, flag_cleared, acknowledged, index_out_loaded, index_stored, link_cut}
@@ -32,7 +32,14 @@ frame_in ((slot, Some frame) ∷ others) = frame
 abbrev pub stores_posted : Tells
 stores_posted before found after = after ≡ (with_send before.0 (frame_sent (the_send before.0) (frame_in before.1)), rest before.1)
 
--- where the posted header is that of the next entry, its slot goes to the mover; who has the sender's part too knows whether it is
+-- who has the sender's part too knows whether a posted header is new; and with the receiver's part, that the ring has room for what is left
+abbrev pub KnowsSent : MovePart → ℕ → Option RecvPart → SendPart → Type 0
+KnowsSent part found recv send =
+    (taken part < length send.sent → found ≡ header_of (taken part))
+    × (found ≡ header_of (taken part) → taken part < length send.sent)
+    × IfSome recv (λ r. length send.sent + 1 ≤ length r.got + part.entries)
+
+-- where the posted header is that of the next entry, its slot goes to the mover
 abbrev pub sees_posted : Tells
 sees_posted before found after =
     let part = the_move before.0 in
@@ -41,7 +48,7 @@ sees_posted before found after =
             × (after ≡ (with_move before.0 (frame_taken (posted_loaded part found) frame), (taken part % part.entries, Some frame) ∷ before.1))
             × (taken part < 2 ^ 62) × (length part.held + 2 ≤ part.entries))
         (after ≡ (with_move before.0 (posted_loaded part found), before.1))
-    × IfSome before.0.send (λ send. taken part < length send.sent → found ≡ header_of (taken part))
+    × IfSome before.0.send (KnowsSent part found before.0.recv)
 
 -- the word tells whose header it is
 abbrev pub stores_header : ℕ → Tells
@@ -52,7 +59,8 @@ stores_header word before found after =
 abbrev pub stores_flag : Tells
 stores_flag before found after = after ≡ (with_move before.0 (flag_stored (the_move before.0)), rest before.1)
 
--- where the flag is up, the slot of the next entry goes to the receiver; who has the mover's part too knows whether it is
+-- Where the flag is up, the slot of the next entry goes to the receiver. Who has the mover's part too knows whether it is; who has the
+-- sender's part too knows that what was received is how what was sent begins.
 abbrev pub sees_flag : Tells
 sees_flag before found after =
     let part = the_recv before.0 in
@@ -62,8 +70,9 @@ sees_flag before found after =
             × (length part.got < 2 ^ 62))
         (after ≡ (with_recv before.0 (flag_loaded part found), before.1))
     × IfSome before.0.mover (λ mover. length part.got < mover.flagged → found ≡ done)
+    × IfSome before.0.send (λ send. part.got ≡ take (length part.got) send.sent)
 
--- the header has the entry's version; who has the sender's part too knows that what was received is how what was sent begins
+-- the header has the entry's version; who has the sender's part too knows the same of what is then received
 abbrev pub copies_frame : Tells
 copies_frame before found after =
     let part = frame_copied (the_recv before.0) in
