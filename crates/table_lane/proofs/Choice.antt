@@ -31,8 +31,8 @@ makes_first before seen after found choice answer loaded old past some makes =
     let none : slice_get moves (choice % (length moves + 1)) ≡ None = slice_get_past moves (choice % (length moves + 1)) past in
     let same : after.posted ≡ found = first.1 in
     let P : ℕ → Type 0 = λ f.
-        let seen_then : MovePart = posted_loaded before f in
-        MatchBool (eqb f (header_of (taken before))) ((answer ≡ Took (taken before)) × ((frame : List ℕ) × (after ≡ frame_taken seen_then frame))) (MakesFirst moves seen_then answer after) in
+    let seen_then : MovePart = posted_loaded before f in
+    MatchBool (eqb f (header_of (taken before))) ((answer ≡ Took (taken before)) × ((frame : List ℕ) × (after ≡ frame_taken seen_then frame))) (MakesFirst moves seen_then answer after) in
     let at_found : P found = rw old first.0 in
     rw none (subst P (sym same) at_found)
 

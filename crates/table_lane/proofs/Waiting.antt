@@ -76,8 +76,7 @@ module _ (N first next : ℕ) (waits : List ℕ) (me : Sitter) (h : MovesWith N 
       let at : number ≡ get_or (waiting part.flagged part.stored) k 0 = is ∙ ap (λ (ws : List ℕ). get_or ws k number) (sym same) ∙ same_item (waiting part.flagged part.stored) k number 0 below in
       let w = waiting-store part.flagged k part.stored below in
       let marks = h.marks in
-      let place : number - part.flagged ≡ w.0 = omega (arith, w.1) in
-      (
+      let place : number - part.flagged ≡ w.0 = omega (arith, w.1) in (
         omega (arith, w.1),
         omega (arith, w.1, w.2),
         ap (λ (j : ℕ). get_or part.stored j false) place ∙ w.3,

@@ -28,10 +28,7 @@ fn start_words(alloc: Global, entries: u64) -> Result<Vec<u64>, AllocError>
 }
 
 // The seats of the mover, the receiver, the way back and the cut, split off that of the sender.
-fn split_off(
-    board: &Board,
-    send: &mut LaneSeat,
-) -> (LaneSeat, LaneSeat, LaneSeat, LaneSeat)
+fn split_off(board: &Board, send: &mut LaneSeat) -> (LaneSeat, LaneSeat, LaneSeat, LaneSeat)
     requires table { (send.old.table_id ≡ board.now.table_id) × (0 < board.now.table_id.words) }
     ensures table { (send.new.table_id ≡ board.now.table_id) × (result.0.table_id ≡ board.now.table_id) × (result.1.table_id ≡ board.now.table_id) × (result.2.table_id ≡ board.now.table_id) × (result.3.table_id ≡ board.now.table_id) }
     ensures mover { result.0.me ≡ (mover_alone send.old.me.0, []) }

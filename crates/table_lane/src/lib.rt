@@ -4,12 +4,13 @@
 mod back;
 mod board;
 mod ends;
-
 mod lane_end;
 mod mover;
 mod recv;
 mod send;
 mod steps;
+#[cfg(test)]
+mod tests;
 
 pub use back::{BackAnswer, BackEnd, CutEnd};
 pub use ends::make;

@@ -103,7 +103,9 @@ impl MoveEnd {
         ensures knows { let seen = posted_loaded self.old.part self.new.part.posted in MatchBool result ((frame : List ℕ) × (self.new.part ≡ frame_taken seen frame)) (self.new.part ≡ seen) }
     {
         let number = self.taken;
-        if load_posted(&self.table.shared, &mut self.seat, self.entries, number) != header_of(number) {
+        if load_posted(&self.table.shared, &mut self.seat, self.entries, number)
+            != header_of(number)
+        {
             return false;
         }
         self.seat.turn();

@@ -9,9 +9,15 @@ ghost use Rattle.table_rule.specs.Plays.{sees_link, sees_index, stores_posted, s
 ghost use Rattle.table_rule.specs.Words.{cut_word};
 ghost use Rattle.table_lane.specs.Table.{IsTableOf};
 
-use crate::board::{Board, CUT, DONE, LaneSeat, flag_word, header_of, header_word, index_out_word, index_word, link_word, posted_word};
+use crate::board::{
+    Board, CUT, DONE, LaneSeat, flag_word, header_of, header_word, index_out_word, index_word,
+    link_word, posted_word,
+};
 use step_kinds::Frame;
-use table_rule::plays::{ClearsFlag, CopiesFrame, CutsLink, SeesFlag, SeesIndex, SeesIndexOut, SeesLink, SeesPosted, StoresFlag, StoresHeader, StoresIndex, StoresIndexOut, StoresPosted};
+use table_rule::plays::{
+    ClearsFlag, CopiesFrame, CutsLink, SeesFlag, SeesIndex, SeesIndexOut, SeesLink, SeesPosted,
+    StoresFlag, StoresHeader, StoresIndex, StoresIndexOut, StoresPosted,
+};
 
 // The sender loads the link word.
 pub(crate) fn load_link(table: &Board, seat: &mut LaneSeat, entries: u64) -> u64

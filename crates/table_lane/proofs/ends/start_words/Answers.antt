@@ -9,7 +9,7 @@ words_are N last is =
     let zeros : List ℕ = replicate N 0 in
     let thrice : 3 * N ≡ N + (N + N) = omega arith in
     let three : replicate (3 * N) 0 ≡ zeros ++ (zeros ++ zeros) =
-        ap (λ (n : ℕ). replicate n 0) thrice ∙ sym (replicate-append-replicate N (N + N) 0) ∙ ap (λ xs. zeros ++ xs) (sym (replicate-append-replicate N N 0)) in
+    ap (λ (n : ℕ). replicate n 0) thrice ∙ sym (replicate-append-replicate N (N + N) 0) ∙ ap (λ xs. zeros ++ xs) (sym (replicate-append-replicate N N 0)) in
     let tail : List ℕ = last ∷ last ∷ 0 ∷ [] in
     append_assoc (replicate (3 * N) 0 ++ last ∷ []) (last ∷ []) (0 ∷ []) ∙ append_assoc (replicate (3 * N) 0) (last ∷ []) (last ∷ 0 ∷ [])
     ∙ ap (λ xs. xs ++ tail) three ∙ append_assoc zeros (zeros ++ zeros) tail ∙ ap (λ xs. zeros ++ xs) (append_assoc zeros zeros tail)

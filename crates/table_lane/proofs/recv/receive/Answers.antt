@@ -10,5 +10,5 @@ clear_flag-requires-clause-slot c =
     let ready = c.requires.part.1 in
     let others : List (ℕ × Content) = c.args.seat.now.me.1 in
     let hand : c.load_header-header.new.seat.me.1 ≡ (c.args.number % c.args.entries, Some found.0) ∷ others =
-        ap (λ (m : Sitter). m.1) c.load_header-header.ensures.tells.0 ∙ ap (λ (m : Sitter). m.1) found.1 ∙ (λ i. (sym ready.next i % ready.of i, Some found.0) ∷ others) in
+    ap (λ (m : Sitter). m.1) c.load_header-header.ensures.tells.0 ∙ ap (λ (m : Sitter). m.1) found.1 ∙ (λ i. (sym ready.next i % ready.of i, Some found.0) ∷ others) in
     (Some found.0, hand ∙ ap (λ (slots : List (ℕ × Content)). (c.args.number % c.args.entries, Some found.0) ∷ slots) (sym (ap rest hand)))

@@ -13,8 +13,7 @@ store-requires c =
     let small : c.args.n % c.args.entries < c.args.entries = mod-lt c.args.n (omega (arith, t.two)) in
     let swapped = c.exchange-empty.ensures in
     let view : c.exchange-empty.new.seat.me.0 ≡ c.args.seat.now.me.0 = ap (λ (m : Sitter). m.0) swapped.3 in
-    let n : c.args.n ≡ length (the_send c.exchange-empty.new.seat.me.0).sent = c.requires.part.2 ∙ ap (λ (v : LaneView). length (the_send v).sent) (sym view) in
-    (
+    let n : c.args.n ≡ length (the_send c.exchange-empty.new.seat.me.0).sent = c.requires.part.2 ∙ ap (λ (v : LaneView). length (the_send v).sent) (sym view) in (
       swapped.0 ∙ c.requires.table.0,
       omega (arith, t.words),
       stores_posted_allowed _ _ _ _ _ _ c.args.frame _ (rest c.args.seat.now.me.1) (c.posted_word-slot.ensures ∙ (λ i. posted_word (sym t.key i) (n i))) (c.header_of.ensures ∙ ap header_of n) (ap (λ (m : Sitter). m.1) swapped.3)

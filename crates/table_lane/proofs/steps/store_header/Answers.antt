@@ -13,8 +13,7 @@ pub store-requires : goal.store-requires
 store-requires c =
     let t = c.requires.table.1 in
     let small : c.args.n % c.args.entries < c.args.entries = mod-lt c.args.n (omega (arith, t.two)) in
-    let held = c.requires.held in
-    (
+    let held = c.requires.held in (
       c.requires.table.0,
       omega (arith, t.words),
       stores_header_allowed _ _ _ _ _ _ c.args.n (c.header_word.ensures ∙ ap (λ (N : ℕ). header_word N c.args.n) (sym t.key)) c.header_of.ensures c.requires.part.0 (c.requires.part.1 ∙ sym t.key) held.0 held.1 held.3,

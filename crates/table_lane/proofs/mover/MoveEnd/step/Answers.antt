@@ -13,7 +13,7 @@ pub returns-clause-moves : goal.returns-clause-moves
 returns-clause-moves c =
     let part : MovePart = c.args.self.now.part in
     let total : c.waiting_count.result + c.from.result ≡ length (open_moves part) =
-        (λ i. c.waiting_count.ensures.value i + (c.from.ensures ∙ ap bool_byte c.is_flag_open.ensures ∙ byte_of _) i) ∙ sym (open_length part) in
+    (λ i. c.waiting_count.ensures.value i + (c.from.ensures ∙ ap bool_byte c.is_flag_open.ensures ∙ byte_of _) i) ∙ sym (open_length part) in
     let past : length (open_moves part) ≤ c.args.choice % (length (open_moves part) + 1) = subst (λ (k : ℕ). k ≤ c.args.choice % (k + 1)) total c.if-chosen-open.false in
     let some : 0 < length (open_moves part) = let none = c.if-open-eq0.false in omega arith in
     let told = c.if-take_posted.ensures in

@@ -27,8 +27,8 @@ invariant_of-self-2 c =
     let told = rw hit at c.load_posted.ensures.tells.0 in
     let view : LaneView = with_move old.0 (frame_taken (posted_loaded part found) told.0) in
     let me : c.turn.new.self.me ≡ (view, old.1 ++ (c.self.inside.taken % c.self.inside.entries, Some told.0) ∷ []) =
-        c.turn.ensures.2 ∙ ap (λ (m : Sitter). (let n : Sitter = (m.0, turned m.1) in n)) told.1
-        ∙ (λ i. (view, old.1 ++ (next i % inv.me.entries i, Some told.0) ∷ [])) in
+    c.turn.ensures.2 ∙ ap (λ (m : Sitter). (let n : Sitter = (m.0, turned m.1) in n)) told.1
+    ∙ (λ i. (view, old.1 ++ (next i % inv.me.entries i, Some told.0) ∷ [])) in
     let room : length part.held + 2 ≤ c.self.inside.entries = subst (λ (n : ℕ). length part.held + 2 ≤ n) inv.me.entries told.3 in
     let after = with_frame _ _ _ _ _ inv.me found told.0 room in
     let P : List ℕ → Sitter → Type 0 = MovesWith c.self.inside.entries c.self.inside.flagged (c.self.inside.taken + 1) in
