@@ -157,10 +157,10 @@ fn left_bytes(alloc: Global) -> Result<Vec<u8>, Fail> {
     send_each(alloc, &mut send, b"c", &mut log)?;
     move_each(alloc, &mut mover, &[0], &mut log)?;
     send_each(alloc, &mut send, b"d", &mut log)?;
-    let mut end = finish(send, mover, recv, back, cut);
+    let end = finish(send, mover, recv, back, cut);
     let mut left = Vec::new(alloc);
-    while let Some(frame) = end.left.take_first() {
-        left.extend_from_slice(frame.bytes())?;
+    for place in 0..end.left.len() {
+        left.extend_from_slice(end.left.frame_at(place).bytes())?;
     }
     Ok(left)
 }

@@ -5,6 +5,7 @@ pub mod LaneRuns
 pub mod MoveSteps
 pub mod Moving
 pub mod Order
+pub mod Owners
 pub mod RecvSteps
 pub mod Receiving
 pub mod Returning

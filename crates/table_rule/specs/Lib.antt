@@ -2,6 +2,7 @@ pub mod Borders
 pub mod LaneNames
 pub mod Learns
 pub mod Moment
+pub mod Owners
 pub mod Plays
 pub mod Rule
 pub mod Shows

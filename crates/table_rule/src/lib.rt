@@ -6,6 +6,7 @@
 //! but the names of the steps.
 #![tactic(auto)]
 
+pub mod laws;
 pub mod parts;
 pub mod plays;
 pub mod rule;
