@@ -17,7 +17,8 @@ fn frame_of(alloc: Global, byte: u8) -> Result<Frame, AllocError>
 // Adds to a log what became of each of these frames of one byte.
 fn send_each(alloc: Global, end: &mut SendEnd, bytes: &[u8], log: &mut String) -> Result<(), Fail>
     requires { length end.old.part.sent + length bytes.now < 1000 }
-    ensures { length end.new.part.sent ≤ length end.old.part.sent + length bytes.now }
+    ensures lane { end.new.lane ≡ end.old.lane }
+    ensures few { length end.new.part.sent ≤ length end.old.part.sent + length bytes.now }
 {
     for byte in bytes {
         let text = sent_text(alloc, end.send(frame_of(alloc, *byte)?))?;
@@ -42,7 +43,9 @@ fn move_each(
     end: &mut MoveEnd,
     choices: &[u64],
     log: &mut String,
-) -> Result<(), Fail> {
+) -> Result<(), Fail>
+    ensures { end.new.lane ≡ end.old.lane }
+{
     for choice in choices {
         let text = format!(in alloc; "{:?}; ", end.step(*choice))?;
         log.push_str(&text)?;
@@ -51,7 +54,9 @@ fn move_each(
 }
 
 // Adds to a log what so many attempts to receive bring.
-fn recv_times(alloc: Global, end: &mut RecvEnd, times: u32, log: &mut String) -> Result<(), Fail> {
+fn recv_times(alloc: Global, end: &mut RecvEnd, times: u32, log: &mut String) -> Result<(), Fail>
+    ensures { end.new.lane ≡ end.old.lane }
+{
     for _ in 0..times {
         let text = match end.recv() {
             RecvAnswer::Got { number, frame } => {

@@ -1,13 +1,13 @@
 -- The atomic steps of the way back and of the cut keep the rule and tell what they are to tell.
-use Rattle.std.proofs.Common.{◌≡◌, ◌≢◌, ℕ, ◌+◌, ◌-◌, ◌%◌, ◌^◌, ◌<◌, ◌≤◌, length, set, get_or, refl, sym, subst, ap, ◌∙◌, arith, mod-lt}
+use Rattle.std.proofs.Common.{◌≡◌, ◌≢◌, ℕ, ◌+◌, ◌<◌, ◌≤◌, length, set, get_or, refl, sym, subst, ap, ◌∙◌, arith}
 use Rattle.std.proofs.lemmas.List.{set-get_or}
 use Rattle.atomic_table.specs.Table.{Allows, keeps}
 use Rattle.table_rule.specs.LaneNames.{tail_of}
-use Rattle.table_rule.specs.Words.{AreSized, words_of, index_out_word, index_word, link_word, cut_word}
+use Rattle.table_rule.specs.Words.{index_out_word, index_word, link_word, cut_word}
 use Rattle.table_rule.specs.Views.{BackPart, CutPart, the_back, the_cut, HasBack, HasCut, with_back, with_cut}
 use Rattle.table_rule.specs.Shows.{number_at}
 use Rattle.table_rule.specs.Moment.{Moment, ShowsLane}
-use Rattle.table_rule.specs.Rule.{Content, Board, Sitter, IsMoment, ShowsALane}
+use Rattle.table_rule.specs.Rule.{Board, Sitter, IsMoment, ShowsALane}
 use Rattle.table_rule.specs.Learns.{index_out_loaded, index_stored, link_cut}
 use Rattle.table_rule.specs.Plays.{sees_index_out, stores_index, cuts_link}
 use Rattle.table_rule.proofs.Seating.{back_seats, cut_seats}
@@ -36,18 +36,20 @@ sees_index_out_allowed N slots id me i is has board h counted at fits =
     let knows : part.entries ≡ N = now.knows.back in
     let below : m.words.index_out < N = loaded.index.position in
     let counted_sent = now.shows.room.counted in
-    let low : part.freed ≤ length m.send.sent = omega (arith, o.freed, o.acked, o.cleared, o.looked, o.taken) in
-    (
+    let low : part.freed ≤ length m.send.sent = omega (arith, o.freed, o.acked, o.cleared, o.looked, o.taken) in (
       with_back me.0 after,
       keeps,
       tt,
-      (record m { back = after }, record {
-        words = set-get_or board.words i 0 ∙ now.words;
-        sized = now.sized;
-        seats = seats.1 after;
-        knows = now.knows;
-        shows = subst (λ (index : ℕ). ShowsLane N (record m { back = record part { index = index } }) board.homes) (sym word) loaded;
-      }),
+      (
+        record m { back = after },
+        record {
+          words = set-get_or board.words i 0 ∙ now.words;
+          sized = now.sized;
+          seats = seats.1 after;
+          knows = now.knows;
+          shows = subst (λ (index : ℕ). ShowsLane N (record m { back = record part { index = index } }) board.homes) (sym word) loaded;
+        },
+      ),
       (refl, omega arith, omega arith),
     )
 
@@ -60,18 +62,20 @@ stores_index_allowed N slots id me i new is index has entries newer board h coun
     let now = with_the_back N board h.0 part seats.0 h.1 in
     let stored = returning.stores_index N m board.homes newer now.shows in
     let after : BackPart = index_stored part in
-    let freed : number_at N part.freed part.index + 1 ≡ after.freed = ap (λ (k : ℕ). number_at k part.freed part.index + 1) (sym entries) in
-    (
+    let freed : number_at N part.freed part.index + 1 ≡ after.freed = ap (λ (k : ℕ). number_at k part.freed part.index + 1) (sym entries) in (
       with_back me.0 after,
       keeps,
       tt,
-      (record m { words = record m.words { index = part.index }; lane = stored.0; back = after }, record {
-        words = (λ q. set (now.words q) (is q) (index q)) ∙ set_index N m.words now.sized part.index;
-        sized = record { posted = now.sized.posted; headers = now.sized.headers; flags = now.sized.flags };
-        seats = seats.1 after;
-        knows = now.knows;
-        shows = subst (λ (f : ℕ). ShowsLane N (record m { words = record m.words { index = part.index }; lane = stored.0; back = record part { freed = f } }) board.homes) freed stored.1;
-      }),
+      (
+        record m { words = record m.words { index = part.index }; lane = stored.0; back = after },
+        record {
+          words = (λ q. set (now.words q) (is q) (index q)) ∙ set_index N m.words now.sized part.index;
+          sized = record { posted = now.sized.posted; headers = now.sized.headers; flags = now.sized.flags };
+          seats = seats.1 after;
+          knows = now.knows;
+          shows = subst (λ (f : ℕ). ShowsLane N (record m { words = record m.words { index = part.index }; lane = stored.0; back = record part { freed = f } }) board.homes) freed stored.1;
+        },
+      ),
       refl,
     )
 
@@ -81,17 +85,19 @@ cuts_link_allowed N slots id me i is has board h counted at fits =
     let part : CutPart = the_cut me.0 in
     let m : Moment = record h.0 { cut = part } in
     let now = with_the_cut N board h.0 part seats.0 h.1 in
-    let after : CutPart = link_cut part in
-    (
+    let after : CutPart = link_cut part in (
       with_cut me.0 after,
       keeps,
       tt,
-      (record m { words = record m.words { link = cut_word }; cut = after }, record {
-        words = (λ q. set (now.words q) (is q) cut_word) ∙ set_link N m.words now.sized cut_word;
-        sized = record { posted = now.sized.posted; headers = now.sized.headers; flags = now.sized.flags };
-        seats = seats.1 after;
-        knows = now.knows;
-        shows = returning.cuts N m board.homes now.shows;
-      }),
+      (
+        record m { words = record m.words { link = cut_word }; cut = after },
+        record {
+          words = (λ q. set (now.words q) (is q) cut_word) ∙ set_link N m.words now.sized cut_word;
+          sized = record { posted = now.sized.posted; headers = now.sized.headers; flags = now.sized.flags };
+          seats = seats.1 after;
+          knows = now.knows;
+          shows = returning.cuts N m board.homes now.shows;
+        },
+      ),
       refl,
     )

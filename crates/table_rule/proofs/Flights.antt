@@ -34,8 +34,7 @@ in_flight-store n zero m (s ∷ stored) (x ∷ entries) low below is left =
     ([], behind, ap (λ b. (if b then [] else data_of n x) ++ behind) left ∙ ap (λ k. data_of k x ++ behind) same, refl)
 in_flight-store n (suc j) m (s ∷ stored) (x ∷ entries) low below is left =
     let next = in_flight-store (suc n) j m stored entries (omega arith) (omega arith) (omega arith) left in
-    let front : List Write = fields_left n (s ∷ stored) x in
-    (
+    let front : List Write = fields_left n (s ∷ stored) x in (
       front ++ Flag n ∷ Bell ∷ next.0,
       next.1,
       ap (λ w. front ++ Flag n ∷ Bell ∷ w) next.2 ∙ sym (append_assoc front (Flag n ∷ Bell ∷ next.0) _),

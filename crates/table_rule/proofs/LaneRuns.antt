@@ -1,9 +1,9 @@
 -- Steps of a lane, made one after another, keep the law of its ring.
-use Rattle.std.proofs.Common.{◌≡◌, ℕ, zero, suc, ◌+◌, ◌-◌, ◌%◌, ◌<◌, ◌≤◌, ◌≢◌, Bool, true, false, List, [], ◌∷◌, ◌++◌, length, map, set, get_or, refl, sym, subst, ap, ◌∙◌, inl, inr, append-nil, append_assoc, arith, mod-lt, get_or-set_same, if◌then◌else◌, length-set}
+use Rattle.std.proofs.Common.{◌≡◌, ℕ, zero, suc, ◌+◌, ◌-◌, ◌%◌, ◌<◌, ◌≤◌, true, false, List, [], ◌∷◌, ◌++◌, length, map, set, refl, sym, subst, ap, ◌∙◌, inl, inr, append-nil, append_assoc, arith, get_or-set_same, if◌then◌else◌, length-set}
 use Rattle.std.proofs.lemmas.List.{set-get_or, map-append}
 use Rattle.std.proofs.lemmas.Bool.{cases_Bool, cond-true, cond-false, le-ltb}
-use Rattle.table_rule.specs.LaneNames.{Entry, Write, Data, Flag, Bell, Field, Chunk, Length, Version, Slot, blank_slot, slot_of, ring_with, with_field, data_of, writes_of, version_of, bytes_of, Lane, entry_of, HoldsRingLaw, Copying, Copied, tail_of}
-use Rattle.table_rule.proofs.LaneLaws.{count_from, chunks_in, after_post, after_landing, more_to_copy, after_copy, after_index, post_keeps, land_data_keeps, land_flag_keeps, land_bell_keeps, copy_keeps, index_keeps}
+use Rattle.table_rule.specs.LaneNames.{Entry, Write, Data, Flag, Bell, Field, Chunk, Length, Version, Slot, blank_slot, slot_of, ring_with, with_field, data_of, version_of, bytes_of, Lane, entry_of, HoldsRingLaw, Copying, Copied}
+use Rattle.table_rule.proofs.LaneLaws.{count_from, chunks_in, after_post, after_landing, more_to_copy, after_index, post_keeps, land_data_keeps, land_flag_keeps, land_bell_keeps, copy_keeps, index_keeps}
 
 -- all writes that are left are posted
 pub post_all : (writes : List Write) (lane : Lane) → lane.todo ≡ writes → lane.up ≡ true → HoldsRingLaw lane → HoldsRingLaw (record lane { todo = []; flight = lane.flight ++ writes })
@@ -12,7 +12,7 @@ post_all [] lane none up law =
 post_all (write ∷ writes) lane front up law =
     let next : Lane = after_post lane write writes in
     let flight : (if lane.up then lane.flight ++ write ∷ [] else lane.flight) ++ writes ≡ lane.flight ++ write ∷ writes =
-        ap (λ w. w ++ writes) (cond-true lane.up _ _ up) ∙ append_assoc lane.flight (write ∷ []) writes in
+    ap (λ w. w ++ writes) (cond-true lane.up _ _ up) ∙ append_assoc lane.flight (write ∷ []) writes in
     subst (λ (f : List Write). HoldsRingLaw (record lane { todo = []; flight = f })) flight (post_all writes next refl up (post_keeps lane write writes front law))
 
 -- the fields of an entry in the order of its writes

@@ -1,15 +1,15 @@
 -- The mover's steps: a slot goes to the mover, its header is stored, and it is home again with its flag.
-use Rattle.std.proofs.Common.{◌≡◌, ◌≢◌, ℕ, zero, suc, ◌+◌, ◌-◌, ◌%◌, ◌^◌, ◌<◌, ◌≤◌, Bool, true, false, List, [], ◌∷◌, ◌++◌, length, map, drop, set, get_or, refl, sym, subst, ap, ◌∙◌, inl, inr, arith, add-one, mod-lt, mod-eq_of_lt, length-set, get_or-set_same, drop-cons, Some, nat_lt}
+use Rattle.std.proofs.Common.{◌≡◌, ℕ, suc, ◌+◌, ◌-◌, ◌%◌, ◌^◌, ◌<◌, ◌≤◌, Bool, true, false, List, [], ◌∷◌, ◌++◌, length, map, drop, set, get_or, refl, sym, subst, ap, ◌∙◌, inl, inr, arith, mod-lt, mod-eq_of_lt, length-set, drop-cons, Some, nat_lt}
 use native.Mathlib.Nat.{add-mod_right, add-mod_left, mod-mod}
-use Rattle.std.proofs.lemmas.Bool.{lt-ltb, le-ltb, cases_eq, cases_lt}
+use Rattle.std.proofs.lemmas.Bool.{lt-ltb, le-ltb, cases_lt}
 use Rattle.std.proofs.lemmas.List.{length_push, get_or_push, get_or_append_left, length-map, length-drop, get_or-drop, map-set}
 use Rattle.std.proofs.Math.Seq.{map-set_same}
-use mathlib.Core.Option.{some, none}
+use mathlib.Core.Option.{some}
 use lib.ListN.{get_elem?}
-use Rattle.table_rule.specs.LaneNames.{Entry, Carries, GoesDown, Write, Data, Flag, Bell, Slot, blank_slot, Lane, HoldsRingLaw, slot_of, ring_with, with_flags, flags_of, done, entry_of, data_of, version_of}
-use Rattle.table_rule.specs.Words.{Words, AreSized, header_of}
+use Rattle.table_rule.specs.LaneNames.{Entry, Carries, GoesDown, Write, Data, Flag, Bell, Slot, blank_slot, Lane, slot_of, ring_with, with_flags, flags_of, done, entry_of, data_of}
+use Rattle.table_rule.specs.Words.{header_of}
 use Rattle.table_rule.specs.Views.{Bytes}
-use Rattle.table_rule.specs.Borders.{Borders, Slots, empty, out, full, slot_at}
+use Rattle.table_rule.specs.Borders.{Borders, Slots, out, full}
 use Rattle.table_rule.specs.Shows.{in_flight, PostedStand, RingStands}
 use Rattle.table_rule.specs.Moment.{Moment, ShowsLane}
 use Rattle.table_rule.proofs.LaneLaws.{same_number}
@@ -60,8 +60,7 @@ takes N m slots n is shown h =
     let l1 : nat_lt n k.looked ≡ false = le-ltb n k.looked (omega arith) in
     let l2 : nat_lt n k.flagged ≡ false = le-ltb n k.flagged (omega arith) in
     let l4 : nat_lt n k.sent ≡ true = lt-ltb n k.sent below in
-    let low : m.back.freed ≤ n = omega arith in
-    (
+    let low : m.back.freed ≤ n = omega arith in (
       below,
       h.places.at n low (omega arith) ∙ ap some (slot_is k m.send.sent n l0 l1 l2 (le-ltb n k.taken (omega arith)) l4 refl),
       record {
@@ -91,7 +90,7 @@ takes N m slots n is shown h =
         room = h.room;
         places = slot_changes N k after m.send.sent m.send.sent slots n out (omega (arith, o.two)) h.places refl low (omega arith)
             (λ j other. ap (λ b. slot_by (nat_lt j k.cleared) (nat_lt j k.looked) (nat_lt j k.flagged) b (nat_lt j k.sent) (nat_lt j k.claimed) (full m.send.sent j))
-                (ap (nat_lt j) one ∙ moves_past j k.taken (λ e. other (e ∙ sym is))))
+            (ap (nat_lt j) one ∙ moves_past j k.taken (λ e. other (e ∙ sym is))))
             (slot_is after m.send.sent n l0 l1 l2 (lt-ltb n after.taken (omega arith)) l4 refl);
       },
     )
@@ -134,15 +133,14 @@ stores_header N m slots j n is held left h =
     let split = in_flight-store m.mover.flagged j n m.mover.stored rest (omega arith) (omega (arith, o.taken)) is left in
     let same_entry : get_or rest j GoesDown ≡ entry = get_or-drop m.mover.flagged lane.sent j GoesDown ∙ ap (λ (i : ℕ). get_or lane.sent i GoesDown) (sym is) in
     let front : lane.flight ≡ split.0 ++ (map (Data n) (fields_of entry) ++ split.1) =
-        h.parts.flight ∙ split.2 ∙ ap (λ (d : List Write). split.0 ++ (d ++ split.1)) (ap (data_of n) same_entry ∙ data_is_fields n entry) in
+    h.parts.flight ∙ split.2 ∙ ap (λ (d : List Write). split.0 ++ (d ++ split.1)) (ap (data_of n) same_entry ∙ data_is_fields n entry) in
     let entries = h.of.entries in
     let positions : length lane.ring ≡ lane.entries = h.law.2.slots in
     let two : 2 ≤ lane.entries = h.law.2.two_entries in
     let within : n % lane.entries < length lane.ring = let small : n % lane.entries < lane.entries = mod-lt n (omega arith) in omega arith in
     let slot : Slot = with_fields (slot_of lane n) n entry (fields_of entry) in
     let version : slot.ver ≡ header_of n % 2 ^ 32 = fields_give_version (slot_of lane n) n entry ∙ sym (mod-mod n (2 ^ 32)) ∙ sym (add-mod_left (2 ^ 32) (n % 2 ^ 32)) in
-    let next : Lane = record lane { flight = split.0 ++ split.1; ring = ring_with lane n slot } in
-    (
+    let next : Lane = record lane { flight = split.0 ++ split.1; ring = ring_with lane n slot } in (
       next,
       record {
         law = land_fields (fields_of entry) lane n split.0 split.1 front within h.law;
@@ -170,7 +168,7 @@ stores_header N m slots j n is held left h =
 -- the flags of the first held entry are stored, and its slot is at home with its frame
 pub stores_flag : (N : ℕ) (m : Moment) (slots : Slots) (frame : Bytes) (held : List Bytes) (stored : List Bool) → m.mover.held ≡ frame ∷ held → m.mover.stored ≡ true ∷ stored → ShowsLane N m slots
     → (lane : Lane) × ShowsLane N (record m { words = record m.words { flags = set m.words.flags (m.mover.flagged % N) done }; lane = lane; mover = record m.mover { flagged = m.mover.flagged + 1; held = held; stored = stored } })
-        (set slots (m.mover.flagged % N) (some (Some frame)))
+    (set slots (m.mover.flagged % N) (some (Some frame)))
 stores_flag N m slots frame held stored has marked h =
     let o = in_order N m slots h in
     let k = borders_in m in
@@ -183,11 +181,11 @@ stores_flag N m slots frame held stored has marked h =
     let entry : Entry = entry_of lane n in
     let is_frame : entry ≡ Carries (get_or m.send.sent n []) = ap (λ es. get_or es n GoesDown) h.parts.entries ∙ entry_is_frame m.send.sent n below in
     let same_frame : frame ≡ get_or m.send.sent n [] =
-        ap (λ fs. get_or fs 0 []) (sym has) ∙ h.holding.frames 0 (omega arith) ∙ ap (λ (i : ℕ). get_or m.send.sent i []) (let e : n + 0 ≡ n = omega arith in e) in
+    ap (λ fs. get_or fs 0 []) (sym has) ∙ h.holding.frames 0 (omega arith) ∙ ap (λ (i : ℕ). get_or m.send.sent i []) (let e : n + 0 ≡ n = omega arith in e) in
     let rest : List Write = in_flight (suc n) stored (drop (suc n) lane.sent) in
     let below_lane : n < length lane.sent = omega arith in
     let front : lane.flight ≡ Flag n ∷ Bell ∷ rest =
-        h.parts.flight ∙ (λ i. in_flight n (marked i) (drop-cons lane.sent n GoesDown below_lane i)) in
+    h.parts.flight ∙ (λ i. in_flight n (marked i) (drop-cons lane.sent n GoesDown below_lane i)) in
     let entries = h.of.entries in
     let whole = h.parts.whole in
     let slot : Slot = with_flags (slot_of lane n) (flags_of entry) in
@@ -196,8 +194,7 @@ stores_flag N m slots frame held stored has marked h =
     let same_taken : after.taken ≡ k.taken = omega arith in
     let low : m.back.freed ≤ n = omega arith in
     let l0 : nat_lt n k.cleared ≡ false = le-ltb n k.cleared (omega arith) in
-    let l1 : nat_lt n k.looked ≡ false = le-ltb n k.looked (omega arith) in
-    (
+    let l1 : nat_lt n k.looked ≡ false = le-ltb n k.looked (omega arith) in (
       next,
       record {
         law = land_flag_and_bell lane n rest front h.law;

@@ -1,5 +1,5 @@
 -- The borders of a ring follow one another.
-use Rattle.std.proofs.Common.{◌≡◌, ℕ, ◌+◌, ◌<◌, ◌≤◌, Bool, true, false, List, length, refl, sym, subst, ap, ◌∙◌, arith, if◌then◌else◌}
+use Rattle.std.proofs.Common.{◌≡◌, ℕ, ◌+◌, ◌<◌, ◌≤◌, Bool, true, false, length, sym, ap, ◌∙◌, arith}
 use Rattle.table_rule.specs.LaneNames.{Lane, Phase, PhaseCounts, Idle, Copying, Copied, Cleared}
 use Rattle.table_rule.specs.Borders.{Slots}
 use Rattle.table_rule.specs.Shows.{hand_in, claimed_by}

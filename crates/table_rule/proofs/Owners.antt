@@ -1,15 +1,13 @@
 -- Each slot is where its owner has it.
-use Rattle.std.proofs.Common.{◌≡◌, ◌≢◌, ℕ, ◌+◌, ◌%◌, ◌<◌, ◌≤◌, Bool, true, false, List, length, refl, sym, subst, ap, ◌∙◌, inl, inr, ◌⊎◌, arith, eqb, eq-eqb, ne_eqb, ◌&&◌, if◌then◌else◌, nat_lt}
-use Rattle.std.proofs.lemmas.Bool.{lt-ltb, le-ltb, cases_eq, cases_lt, cases_Bool}
+use Rattle.std.proofs.Common.{◌≡◌, ℕ, ◌+◌, ◌<◌, ◌≤◌, Bool, true, false, length, refl, sym, subst, ap, ◌∙◌, inl, inr, ◌⊎◌, arith, eqb, eq-eqb, ne_eqb, ◌&&◌, if◌then◌else◌, nat_lt}
+use Rattle.std.proofs.lemmas.Bool.{lt-ltb, le-ltb, cases_eq, cases_lt}
 use Rattle.std.proofs.lemmas.List.{length-map}
 use mathlib.Core.Option.{some}
-use lib.ListN.{get_elem?}
 use Rattle.table_rule.specs.LaneNames.{Carries, Lane, Phase, PhaseCounts, Idle, Copying, Copied, Cleared, Owner, Sender, InFlight, Landed, Receiver, Returning, owner_of}
-use Rattle.table_rule.specs.Borders.{Borders, Slots, empty, out, full, slot_at}
+use Rattle.table_rule.specs.Borders.{empty, out, full}
 use Rattle.table_rule.specs.Shows.{hand_in, claimed_by}
-use Rattle.table_rule.specs.Moment.{Moment, ShowsLane}
 use Rattle.table_rule.specs.Owners.{is_copying, is_copied, place_by, OwnersHaveSlots}
-use Rattle.table_rule.proofs.Slots.{slot_by, slot_is}
+use Rattle.table_rule.proofs.Slots.{slot_is}
 use Rattle.table_rule.proofs.Order.{in_order}
 use Rattle.table_rule.proofs.Sending.{borders_in}
 

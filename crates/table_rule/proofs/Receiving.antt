@@ -1,12 +1,11 @@
 -- The receiver's steps: look at the next entry, copy it whole, clear its flags, acknowledge it.
-use Rattle.std.proofs.Common.{◌≡◌, ◌≢◌, ℕ, zero, suc, ◌+◌, ◌-◌, ◌%◌, ◌^◌, ◌<◌, ◌≤◌, Bool, true, false, List, [], ◌∷◌, ◌++◌, length, map, take, drop, set, get_or, refl, sym, subst, ap, ◌∙◌, inl, inr, arith, mod-lt, length-set, length-append, append-nil, Some, nat_lt}
-use Rattle.std.proofs.lemmas.Bool.{lt-ltb, le-ltb, cases_eq, cases_lt}
+use Rattle.std.proofs.Common.{◌≡◌, ℕ, suc, ◌+◌, ◌%◌, ◌^◌, ◌<◌, ◌≤◌, false, List, [], ◌∷◌, ◌++◌, length, map, take, set, get_or, refl, sym, subst, ap, ◌∙◌, inl, inr, arith, length-append, append-nil, nat_lt}
+use Rattle.std.proofs.lemmas.Bool.{lt-ltb, le-ltb, cases_lt}
 use Rattle.std.proofs.Math.ListN.{get_or-map}
 use Rattle.std.proofs.Math.Seq.{take-suc}
-use mathlib.Core.Option.{some, none}
+use mathlib.Core.Option.{some}
 use lib.ListN.{get_elem?}
-use Rattle.table_rule.specs.LaneNames.{Lane, Slot, blank_slot, slot_of, ring_with, with_flags, done, HoldsRingLaw, PhaseCounts, Idle, Copying, Copied, Cleared, tail_of, bytes_of, entry_of, flags_of, version_of, Carries, GoesDown}
-use Rattle.table_rule.specs.Words.{Words, header_of}
+use Rattle.table_rule.specs.LaneNames.{Lane, Slot, blank_slot, slot_of, with_flags, done, PhaseCounts, Idle, Copying, Copied, Cleared, bytes_of, entry_of, flags_of, version_of, Carries, GoesDown}
 use Rattle.table_rule.specs.Views.{Bytes}
 use Rattle.table_rule.specs.Borders.{Borders, Slots, empty, out, full, slot_at}
 use Rattle.table_rule.specs.Shows.{RingStands, hand_in}
@@ -74,9 +73,8 @@ looks N m slots n is idle raised h =
     let low : m.back.freed ≤ n = omega arith in
     let l0 : nat_lt n k.cleared ≡ false = le-ltb n k.cleared (omega arith) in
     let prefix : m.recv.got ++ frame ∷ [] ≡ take (length m.recv.got + 1) m.send.sent =
-        ap (λ gs. gs ++ frame ∷ []) (sym (append-nil m.recv.got) ∙ ap (λ w. m.recv.got ++ w) (sym empty_hand) ∙ h.receiving.prefix ∙ ap (λ (j : ℕ). take j m.send.sent) (let e : length m.recv.got + length m.recv.hand ≡ n = omega arith in e))
-        ∙ sym (take-suc m.send.sent n [] below) ∙ ap (λ (j : ℕ). take j m.send.sent) (let e : suc n ≡ length m.recv.got + 1 = omega arith in e) in
-    (
+    ap (λ gs. gs ++ frame ∷ []) (sym (append-nil m.recv.got) ∙ ap (λ w. m.recv.got ++ w) (sym empty_hand) ∙ h.receiving.prefix ∙ ap (λ (j : ℕ). take j m.send.sent) (let e : length m.recv.got + length m.recv.hand ≡ n = omega arith in e))
+    ∙ sym (take-suc m.send.sent n [] below) ∙ ap (λ (j : ℕ). take j m.send.sent) (let e : suc n ≡ length m.recv.got + 1 = omega arith in e) in (
       h.places.at n low (omega arith) ∙ ap some (slot_is k m.send.sent n l0 (le-ltb n k.looked (omega arith)) (lt-ltb n k.flagged (omega arith)) refl refl refl),
       (
         after_look lane,
@@ -93,7 +91,7 @@ looks N m slots n is idle raised h =
           room = h.room;
           places = slot_changes N k after m.send.sent m.send.sent slots n out (omega (arith, o.two)) h.places refl low (omega arith)
               (λ j other. ap (λ b. slot_by (nat_lt j k.cleared) b (nat_lt j k.flagged) (nat_lt j k.taken) (nat_lt j k.sent) (nat_lt j k.claimed) (full m.send.sent j))
-                  (ap (nat_lt j) one_more ∙ moves_past j k.looked (λ e. other (omega arith))))
+              (ap (nat_lt j) one_more ∙ moves_past j k.looked (λ e. other (omega arith))))
               (slot_is after m.send.sent n l0 (lt-ltb n after.looked (omega arith)) refl refl refl refl);
         },
       ),
@@ -123,8 +121,7 @@ copies N m slots copying h =
     let one : length m.recv.hand ≡ 1 = h.receiving.in_hand ∙ ap hand_in copying in
     let long : length (m.recv.got ++ m.recv.hand) ≡ length m.recv.got + length m.recv.hand = length-append m.recv.got m.recv.hand in
     let copied = h.parts.copied in
-    let same : length (m.recv.got ++ m.recv.hand) + 0 ≡ length m.recv.got + length m.recv.hand = omega arith in
-    (
+    let same : length (m.recv.got ++ m.recv.hand) + 0 ≡ length m.recv.got + length m.recv.hand = omega arith in (
       next,
       record {
         law = all.1;
@@ -157,8 +154,7 @@ clears N m slots n is copied_phase h =
     let slot : Slot = with_flags (slot_of lane lane.cleared) 0 in
     let after : Borders = record k { cleared = lane.cleared + 1 } in
     let ring : RingStands next.ring m.words.headers (set m.words.flags (lane.cleared % lane.entries) 0) =
-        ring_stores_flag lane.ring m.words.headers m.words.flags (lane.cleared % lane.entries) slot 0 refl refl h.ring in
-    (
+    ring_stores_flag lane.ring m.words.headers m.words.flags (lane.cleared % lane.entries) slot 0 refl refl h.ring in (
       next,
       record {
         law = clear_keeps lane lane_copied h.law;
@@ -173,7 +169,7 @@ clears N m slots n is copied_phase h =
         room = h.room;
         places = slot_changes N k after m.send.sent m.send.sent slots n empty (omega (arith, o.two)) h.places refl (omega arith) (omega arith)
             (λ j other. ap (λ b. slot_by b (nat_lt j k.looked) (nat_lt j k.flagged) (nat_lt j k.taken) (nat_lt j k.sent) (nat_lt j k.claimed) (full m.send.sent j))
-                (moves_past j lane.cleared (λ e. other (e ∙ same))))
+            (moves_past j lane.cleared (λ e. other (e ∙ same))))
             (slot_is after m.send.sent n (lt-ltb n after.cleared (omega arith)) refl refl refl refl refl);
       },
     )
@@ -190,8 +186,7 @@ acks N m slots n is cleared_phase h =
     let acked_one : lane.acked + 1 ≡ lane.cleared = counts.0 in
     let cleared_all : lane.cleared ≡ lane.got = counts.1 in
     let same : n ≡ lane.acked = omega arith in
-    let next : Lane = after_ack lane in
-    (
+    let next : Lane = after_ack lane in (
       next,
       record {
         law = ack_keeps lane lane_cleared h.law;

@@ -1,14 +1,14 @@
 -- The steps of the way back and of the cut: entries are given back to the sender, and later frames are refused.
-use Rattle.std.proofs.Common.{◌≡◌, ◌≢◌, ℕ, ◌+◌, ◌-◌, ◌%◌, ◌<◌, ◌≤◌, true, false, List, length, refl, sym, subst, ap, ◌∙◌, inl, inr, arith, mod-lt, ◌⊎◌}
+use Rattle.std.proofs.Common.{◌≡◌, ◌≢◌, ℕ, ◌+◌, ◌-◌, ◌%◌, ◌<◌, ◌≤◌, true, List, refl, sym, ap, ◌∙◌, inl, inr, arith, mod-lt, ◌⊎◌}
 use native.Mathlib.Nat.{add-mod_right}
 use Rattle.std.proofs.lemmas.Bool.{lt-ltb, le-ltb, cases_eq, cases_lt}
 use mathlib.Core.Option.{some}
 use lib.ListN.{get_elem?}
 use Rattle.table_rule.specs.LaneNames.{Lane, tail_of}
-use Rattle.table_rule.specs.Words.{Words, cut_word}
+use Rattle.table_rule.specs.Words.{cut_word}
 use Rattle.table_rule.specs.Views.{Bytes}
-use Rattle.table_rule.specs.Borders.{Borders, Slots, slot_at, SlotsStand}
-use Rattle.table_rule.specs.Shows.{number_at, IndexStands}
+use Rattle.table_rule.specs.Borders.{Borders, Slots, SlotsStand}
+use Rattle.table_rule.specs.Shows.{number_at}
 use Rattle.table_rule.specs.Moment.{Moment, ShowsLane}
 use Rattle.table_rule.proofs.LaneLaws.{number_is, number_from, tail_after}
 use Rattle.table_rule.proofs.LaneRuns.{index_all}
@@ -65,7 +65,7 @@ gives_back N k sent slots freed a b c d e f g near stand = record {
         let back : old + N ≡ n = omega arith in
         ap (get_elem? slots) (ap (λ (j : ℕ). j % N) (sym back) ∙ add-mod_right old N) ∙ stand.at old (omega arith) (omega arith)
         ∙ ap some (slot_is k sent old (lt-ltb old k.cleared (omega arith)) refl refl refl refl refl
-            ∙ sym (slot_is k sent n (le-ltb n k.cleared (omega arith)) (le-ltb n k.looked (omega arith)) (le-ltb n k.flagged (omega arith)) (le-ltb n k.taken (omega arith)) (le-ltb n k.sent (omega arith)) (le-ltb n k.claimed (omega arith))))
+        ∙ sym (slot_is k sent n (le-ltb n k.cleared (omega arith)) (le-ltb n k.looked (omega arith)) (le-ltb n k.flagged (omega arith)) (le-ltb n k.taken (omega arith)) (le-ltb n k.sent (omega arith)) (le-ltb n k.claimed (omega arith))))
   ];
 }
 
@@ -84,8 +84,7 @@ stores_index N m slots new h =
     let run = index_all (n + 1 - lane.freed) lane (n + 1) (omega arith) (omega arith) h.of.up h.law in
     let next : Lane = record lane { returning = run.0; freed = n + 1; index_word = run.1 } in
     let named : m.back.index ≡ tail_of N (n + 1) = sym found.2 ∙ tail_after N n o.two in
-    let one_free = h.room.one_free in
-    (
+    let one_free = h.room.one_free in (
       next,
       record {
         law = run.2;

@@ -1,96 +1,110 @@
 -- Seats that are cut in two and joined keep the rule, and so does the table at the start.
-use Rattle.std.proofs.Common.{◌≡◌, ◌≢◌, ℕ, zero, suc, ◌+◌, ◌-◌, ◌*◌, ◌%◌, ◌^◌, ◌<◌, ◌≤◌, true, false, List, [], ◌∷◌, ◌++◌, length, map, set, get_or, refl, sym, subst, ap, ◌∙◌, inl, inr, arith, mod-lt, append_assoc, Option, Some, None, replicate}
+use Rattle.std.proofs.Common.{◌≡◌, ℕ, zero, suc, ◌+◌, ◌-◌, ◌%◌, ◌^◌, ◌<◌, ◌≤◌, true, false, List, [], ◌∷◌, length, map, refl, sym, ap, ◌∙◌, inl, inr, arith, mod-lt, None, replicate}
 use Rattle.std.proofs.lemmas.Bool.{le-ltb}
 use Rattle.std.proofs.lemmas.List.{length-replicate, get_or-replicate}
 use mathlib.Core.Option.{some, none}
 use mathlib.Core.Option as home
 use lib.ListN.{get_elem?}
-use Rattle.atomic_table.specs.Table.{State, Splits, Joins, opening}
-use Rattle.table_rule.specs.LaneNames.{Lane, Slot, blank_slot, slot_of, HoldsRingLaw, Idle, tail_of}
-use Rattle.table_rule.specs.Words.{Words, AreSized, words_of, first_words}
-use Rattle.table_rule.specs.Views.{Bytes, LaneView, joined, no_parts, without_mover, mover_alone, without_recv, recv_alone, without_back, back_alone, without_cut, cut_alone, all_parts, new_send, new_move, new_recv, new_back, new_cut}
-use Rattle.table_rule.specs.Borders.{Borders, Slots, slot_at}
+use Rattle.atomic_table.specs.Table.{Splits, Joins, opening}
+use Rattle.table_rule.specs.LaneNames.{Lane, Slot, blank_slot, Idle, tail_of}
+use Rattle.table_rule.specs.Words.{words_of, first_words}
+use Rattle.table_rule.specs.Views.{LaneView, joined, no_parts, without_mover, mover_alone, without_recv, recv_alone, without_back, back_alone, without_cut, cut_alone, all_parts, new_send, new_move, new_recv, new_back, new_cut}
 use Rattle.table_rule.specs.Shows.{borders_of}
 use Rattle.table_rule.specs.Moment.{Moment, ShowsLane}
-use Rattle.table_rule.specs.Rule.{Content, Board, IsMoment, ShowsALane}
+use Rattle.table_rule.specs.Rule.{Content, ShowsALane}
 use Rattle.table_rule.proofs.LaneLaws.{IsFresh, fresh_holds}
 use Rattle.table_rule.proofs.Seats.{part_splits, part_joins}
 use Rattle.table_rule.proofs.Slots.{slot_is}
 
 pub mover_splits : (N id : ℕ) (view : LaneView) → Splits (ShowsALane N) id view (without_mover view) (mover_alone view)
-mover_splits N id view board h at = (h.0, record {
-  words = h.1.words;
-  sized = h.1.sized;
-  seats = record {
-    send = part_splits (λ v. v.send) board.views id view (without_mover view) (mover_alone view) h.0.send at h.1.seats.send (inl (refl, refl));
-    mover = part_splits (λ v. v.mover) board.views id view (without_mover view) (mover_alone view) h.0.mover at h.1.seats.mover (inr (refl, refl));
-    recv = part_splits (λ v. v.recv) board.views id view (without_mover view) (mover_alone view) h.0.recv at h.1.seats.recv (inl (refl, refl));
-    back = part_splits (λ v. v.back) board.views id view (without_mover view) (mover_alone view) h.0.back at h.1.seats.back (inl (refl, refl));
-    cut = part_splits (λ v. v.cut) board.views id view (without_mover view) (mover_alone view) h.0.cut at h.1.seats.cut (inl (refl, refl));
-  };
-  knows = h.1.knows;
-  shows = h.1.shows;
-})
+mover_splits N id view board h at = (
+  h.0,
+  record {
+    words = h.1.words;
+    sized = h.1.sized;
+    seats = record {
+      send = part_splits (λ v. v.send) board.views id view (without_mover view) (mover_alone view) h.0.send at h.1.seats.send (inl (refl, refl));
+      mover = part_splits (λ v. v.mover) board.views id view (without_mover view) (mover_alone view) h.0.mover at h.1.seats.mover (inr (refl, refl));
+      recv = part_splits (λ v. v.recv) board.views id view (without_mover view) (mover_alone view) h.0.recv at h.1.seats.recv (inl (refl, refl));
+      back = part_splits (λ v. v.back) board.views id view (without_mover view) (mover_alone view) h.0.back at h.1.seats.back (inl (refl, refl));
+      cut = part_splits (λ v. v.cut) board.views id view (without_mover view) (mover_alone view) h.0.cut at h.1.seats.cut (inl (refl, refl));
+    };
+    knows = h.1.knows;
+    shows = h.1.shows;
+  },
+)
 
 pub recv_splits : (N id : ℕ) (view : LaneView) → Splits (ShowsALane N) id view (without_recv view) (recv_alone view)
-recv_splits N id view board h at = (h.0, record {
-  words = h.1.words;
-  sized = h.1.sized;
-  seats = record {
-    send = part_splits (λ v. v.send) board.views id view (without_recv view) (recv_alone view) h.0.send at h.1.seats.send (inl (refl, refl));
-    mover = part_splits (λ v. v.mover) board.views id view (without_recv view) (recv_alone view) h.0.mover at h.1.seats.mover (inl (refl, refl));
-    recv = part_splits (λ v. v.recv) board.views id view (without_recv view) (recv_alone view) h.0.recv at h.1.seats.recv (inr (refl, refl));
-    back = part_splits (λ v. v.back) board.views id view (without_recv view) (recv_alone view) h.0.back at h.1.seats.back (inl (refl, refl));
-    cut = part_splits (λ v. v.cut) board.views id view (without_recv view) (recv_alone view) h.0.cut at h.1.seats.cut (inl (refl, refl));
-  };
-  knows = h.1.knows;
-  shows = h.1.shows;
-})
+recv_splits N id view board h at = (
+  h.0,
+  record {
+    words = h.1.words;
+    sized = h.1.sized;
+    seats = record {
+      send = part_splits (λ v. v.send) board.views id view (without_recv view) (recv_alone view) h.0.send at h.1.seats.send (inl (refl, refl));
+      mover = part_splits (λ v. v.mover) board.views id view (without_recv view) (recv_alone view) h.0.mover at h.1.seats.mover (inl (refl, refl));
+      recv = part_splits (λ v. v.recv) board.views id view (without_recv view) (recv_alone view) h.0.recv at h.1.seats.recv (inr (refl, refl));
+      back = part_splits (λ v. v.back) board.views id view (without_recv view) (recv_alone view) h.0.back at h.1.seats.back (inl (refl, refl));
+      cut = part_splits (λ v. v.cut) board.views id view (without_recv view) (recv_alone view) h.0.cut at h.1.seats.cut (inl (refl, refl));
+    };
+    knows = h.1.knows;
+    shows = h.1.shows;
+  },
+)
 
 pub back_splits : (N id : ℕ) (view : LaneView) → Splits (ShowsALane N) id view (without_back view) (back_alone view)
-back_splits N id view board h at = (h.0, record {
-  words = h.1.words;
-  sized = h.1.sized;
-  seats = record {
-    send = part_splits (λ v. v.send) board.views id view (without_back view) (back_alone view) h.0.send at h.1.seats.send (inl (refl, refl));
-    mover = part_splits (λ v. v.mover) board.views id view (without_back view) (back_alone view) h.0.mover at h.1.seats.mover (inl (refl, refl));
-    recv = part_splits (λ v. v.recv) board.views id view (without_back view) (back_alone view) h.0.recv at h.1.seats.recv (inl (refl, refl));
-    back = part_splits (λ v. v.back) board.views id view (without_back view) (back_alone view) h.0.back at h.1.seats.back (inr (refl, refl));
-    cut = part_splits (λ v. v.cut) board.views id view (without_back view) (back_alone view) h.0.cut at h.1.seats.cut (inl (refl, refl));
-  };
-  knows = h.1.knows;
-  shows = h.1.shows;
-})
+back_splits N id view board h at = (
+  h.0,
+  record {
+    words = h.1.words;
+    sized = h.1.sized;
+    seats = record {
+      send = part_splits (λ v. v.send) board.views id view (without_back view) (back_alone view) h.0.send at h.1.seats.send (inl (refl, refl));
+      mover = part_splits (λ v. v.mover) board.views id view (without_back view) (back_alone view) h.0.mover at h.1.seats.mover (inl (refl, refl));
+      recv = part_splits (λ v. v.recv) board.views id view (without_back view) (back_alone view) h.0.recv at h.1.seats.recv (inl (refl, refl));
+      back = part_splits (λ v. v.back) board.views id view (without_back view) (back_alone view) h.0.back at h.1.seats.back (inr (refl, refl));
+      cut = part_splits (λ v. v.cut) board.views id view (without_back view) (back_alone view) h.0.cut at h.1.seats.cut (inl (refl, refl));
+    };
+    knows = h.1.knows;
+    shows = h.1.shows;
+  },
+)
 
 pub cut_splits : (N id : ℕ) (view : LaneView) → Splits (ShowsALane N) id view (without_cut view) (cut_alone view)
-cut_splits N id view board h at = (h.0, record {
-  words = h.1.words;
-  sized = h.1.sized;
-  seats = record {
-    send = part_splits (λ v. v.send) board.views id view (without_cut view) (cut_alone view) h.0.send at h.1.seats.send (inl (refl, refl));
-    mover = part_splits (λ v. v.mover) board.views id view (without_cut view) (cut_alone view) h.0.mover at h.1.seats.mover (inl (refl, refl));
-    recv = part_splits (λ v. v.recv) board.views id view (without_cut view) (cut_alone view) h.0.recv at h.1.seats.recv (inl (refl, refl));
-    back = part_splits (λ v. v.back) board.views id view (without_cut view) (cut_alone view) h.0.back at h.1.seats.back (inl (refl, refl));
-    cut = part_splits (λ v. v.cut) board.views id view (without_cut view) (cut_alone view) h.0.cut at h.1.seats.cut (inr (refl, refl));
-  };
-  knows = h.1.knows;
-  shows = h.1.shows;
-})
+cut_splits N id view board h at = (
+  h.0,
+  record {
+    words = h.1.words;
+    sized = h.1.sized;
+    seats = record {
+      send = part_splits (λ v. v.send) board.views id view (without_cut view) (cut_alone view) h.0.send at h.1.seats.send (inl (refl, refl));
+      mover = part_splits (λ v. v.mover) board.views id view (without_cut view) (cut_alone view) h.0.mover at h.1.seats.mover (inl (refl, refl));
+      recv = part_splits (λ v. v.recv) board.views id view (without_cut view) (cut_alone view) h.0.recv at h.1.seats.recv (inl (refl, refl));
+      back = part_splits (λ v. v.back) board.views id view (without_cut view) (cut_alone view) h.0.back at h.1.seats.back (inl (refl, refl));
+      cut = part_splits (λ v. v.cut) board.views id view (without_cut view) (cut_alone view) h.0.cut at h.1.seats.cut (inr (refl, refl));
+    };
+    knows = h.1.knows;
+    shows = h.1.shows;
+  },
+)
 
 pub seats_join : (N id : ℕ) (view : LaneView) (other : ℕ) (second : LaneView) → Joins (ShowsALane N) id view other second (joined view second) no_parts
-seats_join N id view other second board h at apart at_other = (h.0, record {
-  words = h.1.words;
-  sized = h.1.sized;
-  seats = record {
-    send = part_joins (λ v. v.send) board.views id other view second (joined view second) h.0.send at apart at_other refl refl h.1.seats.send;
-    mover = part_joins (λ v. v.mover) board.views id other view second (joined view second) h.0.mover at apart at_other refl refl h.1.seats.mover;
-    recv = part_joins (λ v. v.recv) board.views id other view second (joined view second) h.0.recv at apart at_other refl refl h.1.seats.recv;
-    back = part_joins (λ v. v.back) board.views id other view second (joined view second) h.0.back at apart at_other refl refl h.1.seats.back;
-    cut = part_joins (λ v. v.cut) board.views id other view second (joined view second) h.0.cut at apart at_other refl refl h.1.seats.cut;
-  };
-  knows = h.1.knows;
-  shows = h.1.shows;
-})
+seats_join N id view other second board h at apart at_other = (
+  h.0,
+  record {
+    words = h.1.words;
+    sized = h.1.sized;
+    seats = record {
+      send = part_joins (λ v. v.send) board.views id other view second (joined view second) h.0.send at apart at_other refl refl h.1.seats.send;
+      mover = part_joins (λ v. v.mover) board.views id other view second (joined view second) h.0.mover at apart at_other refl refl h.1.seats.mover;
+      recv = part_joins (λ v. v.recv) board.views id other view second (joined view second) h.0.recv at apart at_other refl refl h.1.seats.recv;
+      back = part_joins (λ v. v.back) board.views id other view second (joined view second) h.0.back at apart at_other refl refl h.1.seats.back;
+      cut = part_joins (λ v. v.cut) board.views id other view second (joined view second) h.0.cut at apart at_other refl refl h.1.seats.cut;
+    };
+    knows = h.1.knows;
+    shows = h.1.shows;
+  },
+)
 
 map-replicate : {A B : Type 0} (f : A → B) (n : ℕ) (x : A) → map f (replicate n x) ≡ replicate n (f x)
 map-replicate f zero x = refl
@@ -180,11 +194,13 @@ new_shows N payload two small long = record {
 -- a new table shows a fresh lane
 pub opens : (N : ℕ) → 2 ≤ N → N ≤ 65535 → ShowsALane N (opening (words_of (first_words N)) (replicate N None) (all_parts N))
 opens N two small =
-    let payload = some_payload 65536 in
-    (new_moment N payload.0, record {
-      words = refl;
-      sized = record { posted = length-replicate N 0; headers = length-replicate N 0; flags = length-replicate N 0 };
-      seats = record { send = refl; mover = refl; recv = refl; back = refl; cut = refl };
-      knows = record { send = refl; mover = refl; recv = refl; back = refl; cut = refl };
-      shows = new_shows N payload.0 two small payload.1;
-    })
+    let payload = some_payload 65536 in (
+      new_moment N payload.0,
+      record {
+        words = refl;
+        sized = record { posted = length-replicate N 0; headers = length-replicate N 0; flags = length-replicate N 0 };
+        seats = record { send = refl; mover = refl; recv = refl; back = refl; cut = refl };
+        knows = record { send = refl; mover = refl; recv = refl; back = refl; cut = refl };
+        shows = new_shows N payload.0 two small payload.1;
+      },
+    )

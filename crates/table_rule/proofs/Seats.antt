@@ -1,10 +1,10 @@
 -- The parts that seats have, after the view of one seat changed.
-use Rattle.std.proofs.Common.{◌≡◌, ◌≢◌, ℕ, zero, suc, List, [], ◌∷◌, ◌++◌, length, set, refl, sym, ap, ◌∙◌, append-nil, append_assoc, Option, Some, None, inl, inr, ◌⊎◌, arith}
+use Rattle.std.proofs.Common.{◌≡◌, ◌≢◌, ℕ, zero, suc, List, [], ◌∷◌, ◌++◌, set, refl, sym, ap, ◌∙◌, append-nil, append_assoc, Option, Some, None, inl, inr, ◌⊎◌}
 use Rattle.std.specs.Option.{option_to_list}
 use mathlib.Core.Option.{some, some-injective, some-ne-none}
 use lib.ListN.{get_elem?}
-use Rattle.atomic_table.proofs.Lists.{set_here, set_else}
-use Rattle.table_rule.specs.Views.{LaneView, parts_of, joined, no_parts, first_of}
+use Rattle.atomic_table.proofs.Lists.{set_else}
+use Rattle.table_rule.specs.Views.{LaneView, parts_of, no_parts, first_of}
 
 -- a list with something in it is not empty
 not_empty : {A : Type 0} (xs : List A) (p : A) (ys : List A) → xs ++ (p ∷ ys) ≢ []

@@ -1,11 +1,11 @@
 -- The sender's steps: the slot of the next entry goes to the sender, and comes back with a frame.
-use Rattle.std.proofs.Common.{◌≡◌, ◌≢◌, ℕ, zero, suc, ◌+◌, ◌-◌, ◌%◌, ◌^◌, ◌<◌, ◌≤◌, Bool, true, false, List, [], ◌∷◌, ◌++◌, length, map, take, drop, set, get_or, refl, sym, subst, ap, ◌∙◌, inl, inr, arith, mod-lt, mod-eq_of_lt, length-set, length-drop, get_or-set_same, get_or-set_other, Some, None, if◌then◌else◌, nat_lt}
+use Rattle.std.proofs.Common.{◌≡◌, ◌≢◌, ℕ, zero, suc, ◌+◌, ◌-◌, ◌%◌, ◌^◌, ◌<◌, ◌≤◌, true, false, List, [], ◌∷◌, ◌++◌, length, map, drop, set, get_or, refl, sym, subst, ap, ◌∙◌, inl, inr, arith, mod-lt, mod-eq_of_lt, length-drop, get_or-set_same, get_or-set_other, Some, nat_lt}
 use Rattle.std.proofs.lemmas.Bool.{lt-ltb, le-ltb, cases_eq, cases_lt}
 use Rattle.std.proofs.lemmas.List.{map-append, length_push, get_or_push, get_or_append_left, take-append-le, length-map, drop-append-le}
-use mathlib.Core.Option.{some, none}
+use mathlib.Core.Option.{some}
 use lib.ListN.{get_elem?}
-use Rattle.table_rule.specs.LaneNames.{Entry, Carries, GoesDown, Lane, HoldsRingLaw, entry_of, free_entries, head_of, free_in, writes_of, bytes_of, tail_of}
-use Rattle.table_rule.specs.Words.{Words, AreSized, header_of}
+use Rattle.table_rule.specs.LaneNames.{Entry, Carries, GoesDown, Lane, HoldsRingLaw, entry_of, free_entries, head_of, free_in, writes_of, tail_of}
+use Rattle.table_rule.specs.Words.{AreSized, header_of}
 use Rattle.table_rule.specs.Views.{Bytes}
 use Rattle.table_rule.specs.Borders.{Borders, Slots, empty, out, full, slot_at}
 use Rattle.table_rule.specs.Shows.{borders_of, claimed_by, in_flight, PostedStand}
@@ -52,8 +52,7 @@ claims N m slots free_hand free h =
     let l2 : nat_lt n k.flagged ≡ false = le-ltb n k.flagged (omega arith) in
     let l3 : nat_lt n k.taken ≡ false = le-ltb n k.taken (omega arith) in
     let l4 : nat_lt n k.sent ≡ false = le-ltb n k.sent (omega arith) in
-    let next : Borders = record k { claimed = n + 1 } in
-    (
+    let next : Borders = record k { claimed = n + 1 } in (
       h.places.at n low (omega arith) ∙ ap some (slot_is k m.send.sent n l0 l1 l2 l3 l4 (le-ltb n k.claimed (omega arith))),
       record {
         law = h.law;
@@ -68,7 +67,7 @@ claims N m slots free_hand free h =
         room = record { one_free = omega arith; counted = h.room.counted };
         places = slot_changes N k next m.send.sent m.send.sent slots n out (omega (arith, o.two)) h.places refl low (omega arith)
             (λ j other. ap (λ b. slot_by (nat_lt j k.cleared) (nat_lt j k.looked) (nat_lt j k.flagged) (nat_lt j k.taken) (nat_lt j k.sent) b (full m.send.sent j))
-                (moves_past j n other ∙ ap (nat_lt j) (sym none_claimed)))
+            (moves_past j n other ∙ ap (nat_lt j) (sym none_claimed)))
             (slot_is next m.send.sent n l0 l1 l2 l3 l4 (lt-ltb n (n + 1) (omega arith)));
       },
     )
@@ -92,7 +91,7 @@ posts N posted n more some_slot is long h =
 -- the frame stands in its slot, which is at home, and its writes are on their way
 pub sends : (N : ℕ) (m : Moment) (slots : Slots) (frame : Bytes) → m.send.claims ≡ true → length frame ≤ 65536 → length m.send.sent < 2 ^ 62 → AreSized N m.words → ShowsLane N m slots
     → (lane : Lane) × ShowsLane N (record m { words = record m.words { posted = set m.words.posted (length m.send.sent % N) (header_of (length m.send.sent)) }; lane = lane; send = record m.send { sent = m.send.sent ++ frame ∷ []; claims = false } })
-        (set slots (length m.send.sent % N) (some (Some frame)))
+    (set slots (length m.send.sent % N) (some (Some frame)))
 sends N m slots frame claimed fits counted sized h =
     let o = in_order N m slots h in
     let n : ℕ = length m.send.sent in
@@ -109,16 +108,16 @@ sends N m slots frame claimed fits counted sized h =
     let flagged = h.parts.whole in
     let free : 0 < free_in lane = omega arith in
     let open_yet : (j : ℕ) → j < length lane.sent → entry_of lane j ≢ GoesDown =
-        λ j below down. let below_n : j < n = omega arith in let is : get_or lane.sent j GoesDown ≡ Carries (get_or m.send.sent j []) = ap (λ es. get_or es j GoesDown) h.parts.entries ∙ entry_is_frame m.send.sent j below_n in cc in
+    λ j below down. let below_n : j < n = omega arith in let is : get_or lane.sent j GoesDown ≡ Carries (get_or m.send.sent j []) = ap (λ es. get_or es j GoesDown) h.parts.entries ∙ entry_is_frame m.send.sent j below_n in cc in
     let begun : HoldsRingLaw (after_begin lane entry) = begin_keeps lane entry h.of.todo free (subst (λ (most : ℕ). length frame ≤ most) (sym h.of.largest) fits) open_yet h.law in
     let next : Lane = record lane { sent = lane.sent ++ entry ∷ []; todo = []; flight = lane.flight ++ writes_of (length lane.sent) entry } in
     let dropped : drop m.mover.flagged (lane.sent ++ entry ∷ []) ≡ drop m.mover.flagged lane.sent ++ entry ∷ [] = drop-append-le m.mover.flagged lane.sent (entry ∷ []) (omega arith) in
     let left : length (drop m.mover.flagged lane.sent) ≡ length lane.sent - m.mover.flagged = length-drop m.mover.flagged lane.sent in
     let marks = h.holding.marks in
     let flight : lane.flight ++ writes_of (length lane.sent) entry ≡ in_flight m.mover.flagged m.mover.stored (drop m.mover.flagged (lane.sent ++ entry ∷ [])) =
-        ap (λ w. w ++ writes_of (length lane.sent) entry) h.parts.flight
-        ∙ sym (in_flight-send m.mover.flagged (length lane.sent) m.mover.stored (drop m.mover.flagged lane.sent) entry (omega arith) (omega arith))
-        ∙ ap (in_flight m.mover.flagged m.mover.stored) (sym dropped) in
+    ap (λ w. w ++ writes_of (length lane.sent) entry) h.parts.flight
+    ∙ sym (in_flight-send m.mover.flagged (length lane.sent) m.mover.stored (drop m.mover.flagged lane.sent) entry (omega arith) (omega arith))
+    ∙ ap (in_flight m.mover.flagged m.mover.stored) (sym dropped) in
     let after : Borders = record k { sent = length (m.send.sent ++ frame ∷ []); claimed = claimed_by (length (m.send.sent ++ frame ∷ [])) false } in
     let low : m.back.freed ≤ n = omega arith in
     let same_claimed : after.claimed ≡ k.claimed = omega arith in
@@ -135,8 +134,7 @@ sends N m slots frame claimed fits counted sized h =
           let past_flagged : nat_lt j k.flagged ≡ false = le-ltb j k.flagged (omega arith) in
           slot_is after (m.send.sent ++ frame ∷ []) j refl refl past_flagged refl (le-ltb j after.sent (omega arith)) (ap (nat_lt j) same_claimed)
           ∙ sym (slot_is k m.send.sent j refl refl past_flagged refl (le-ltb j k.sent (omega arith)) refl)
-    ] in
-    (
+    ] in (
       next,
       record {
         law = post_all (writes_of (length lane.sent) entry) (after_begin lane entry) refl h.of.up begun;

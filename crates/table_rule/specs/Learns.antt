@@ -1,5 +1,5 @@
 -- How a step changes what a part knows.
-use Rattle.std.specs.Prelude.{ℕ, ◌+◌, ◌-◌, ◌%◌, Bool, true, false, List, [], ◌∷◌, ◌++◌, length, drop, slice_set}
+use Rattle.std.specs.Prelude.{ℕ, ◌+◌, ◌-◌, true, false, [], ◌∷◌, ◌++◌, length, drop, slice_set}
 use Rattle.table_rule.specs.LaneNames.{Idle, Copying, Copied, Cleared, free_entries, head_of}
 use Rattle.table_rule.specs.Views.{Bytes, SendPart, MovePart, RecvPart, BackPart, CutPart}
 use Rattle.table_rule.specs.Shows.{number_at}

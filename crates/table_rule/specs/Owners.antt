@@ -1,5 +1,5 @@
 -- Where a slot is, by its owner in the lane that the table shows.
-use Rattle.std.specs.Prelude.{◌≡◌, ℕ, ◌+◌, ◌%◌, ◌<◌, ◌≤◌, ◌==◌, ◌&&◌, Bool, true, false, List, length, Option, if◌then◌else◌, nat_lt}
+use Rattle.std.specs.Prelude.{◌≡◌, ℕ, ◌+◌, ◌%◌, ◌<◌, ◌≤◌, ◌==◌, ◌&&◌, Bool, true, false, length, Option, if◌then◌else◌, nat_lt}
 use mathlib.Core.Option.{some}
 use mathlib.Core.Option as home
 use lib.ListN.{get_elem?}

@@ -20,8 +20,8 @@ sees_index before found after =
     let part = the_send before.0 in
     (found < part.entries)
     × MatchBool (nat_lt 0 (free_by part found))
-        (after ≡ (with_send before.0 (slot_claimed (index_loaded part found)), (head part, None) ∷ before.1))
-        (after ≡ (with_send before.0 (index_loaded part found), before.1))
+    (after ≡ (with_send before.0 (slot_claimed (index_loaded part found)), (head part, None) ∷ before.1))
+    (after ≡ (with_send before.0 (index_loaded part found), before.1))
 
 -- the frame in the slot that a seat took last
 abbrev pub frame_in : List (ℕ × Content) → Bytes
@@ -44,10 +44,10 @@ abbrev pub sees_posted : Tells
 sees_posted before found after =
     let part = the_move before.0 in
     MatchBool (found == header_of (taken part))
-        ((frame : Bytes)
-            × (after ≡ (with_move before.0 (frame_taken (posted_loaded part found) frame), (taken part % part.entries, Some frame) ∷ before.1))
-            × (taken part < 2 ^ 62) × (length part.held + 2 ≤ part.entries))
-        (after ≡ (with_move before.0 (posted_loaded part found), before.1))
+    ((frame : Bytes)
+    × (after ≡ (with_move before.0 (frame_taken (posted_loaded part found) frame), (taken part % part.entries, Some frame) ∷ before.1))
+    × (taken part < 2 ^ 62) × (length part.held + 2 ≤ part.entries))
+    (after ≡ (with_move before.0 (posted_loaded part found), before.1))
     × IfSome before.0.send (KnowsSent part found before.0.recv)
 
 -- the word tells whose header it is
@@ -65,10 +65,10 @@ abbrev pub sees_flag : Tells
 sees_flag before found after =
     let part = the_recv before.0 in
     MatchBool (found == done)
-        ((frame : Bytes)
-            × (after ≡ (with_recv before.0 (frame_found (flag_loaded part found) frame), (length part.got % part.entries, Some frame) ∷ before.1))
-            × (length part.got < 2 ^ 62))
-        (after ≡ (with_recv before.0 (flag_loaded part found), before.1))
+    ((frame : Bytes)
+    × (after ≡ (with_recv before.0 (frame_found (flag_loaded part found) frame), (length part.got % part.entries, Some frame) ∷ before.1))
+    × (length part.got < 2 ^ 62))
+    (after ≡ (with_recv before.0 (flag_loaded part found), before.1))
     × IfSome before.0.mover (λ mover. length part.got < mover.flagged → found ≡ done)
     × IfSome before.0.send (λ send. part.got ≡ take (length part.got) send.sent)
 

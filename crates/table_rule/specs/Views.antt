@@ -1,5 +1,5 @@
 -- What seats know, part by part.
-use Rattle.std.specs.Prelude.{◌≡◌, ℕ, ◌-◌, false, List, [], ◌∷◌, ◌++◌, Option, Some, None, unwrap_or}
+use Rattle.std.specs.Prelude.{◌≡◌, ℕ, false, List, [], ◌∷◌, ◌++◌, Option, Some, None, unwrap_or}
 use Rattle.std.specs.Option.{option_to_list}
 use Rattle.table_rule.specs.LaneNames.{Idle, tail_of}
 pub use Rattle.table_rule.specs.declared.parts.SendPart.{SendPart}
