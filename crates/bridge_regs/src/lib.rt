@@ -13,7 +13,8 @@ pub mod laws;
 #[cfg(test)]
 mod tests;
 
-/// The 16 scratchpads of one side, each a word of 32 bits.
+/// The 16 scratchpads of one side, each a word of 32 bits, numbered from 0. The peer writes them
+/// (`ntb_peer_spad_write`) and the side reads them (`ntb_spad_read`). Contracts see the list of the words.
 #[derive(Clone, Copy, Debug, PartialEq, Eq)]
 pub struct Pads {
     words: [u32; 16],
@@ -37,7 +38,7 @@ impl Pads {
         Pads { words: [0; 16] }
     }
 
-    /// The word of the scratchpad `i`, counted from 0.
+    /// The word of the scratchpad `i`, counted from 0, which has to be below 16.
     pub fn get(&self, i: u32) -> u32
         requires { i < 16 }
         ensures value { result ≡ slice_index self.now i }
@@ -46,7 +47,7 @@ impl Pads {
         self.words[i as usize]
     }
 
-    /// Puts `value` into the scratchpad `i`, counted from 0.
+    /// Puts `value` into the scratchpad `i`, counted from 0, which has to be below 16. The others stay.
     pub fn set(&mut self, i: u32, value: u32)
         requires { i < 16 }
         ensures changed { self.new ≡ slice_set self.old i value }
@@ -56,8 +57,9 @@ impl Pads {
     }
 }
 
-/// The doorbell of one side: the bits that the peer rang and the side has not yet taken, and the bits that the side
-/// has masked. There are 32 bits, from 0.
+/// The doorbell of one side: the bits that the peer rang (`ntb_peer_db_set`) and the side has not yet taken, and the
+/// bits that the side has masked (`ntb_db_set_mask`). There are 32 bits, from 0; bit k of a number of bits has the
+/// value 2^k.
 #[derive(Clone, Copy, Debug, PartialEq, Eq)]
 pub struct Bells {
     pending: u32,
@@ -87,7 +89,7 @@ impl Bells {
         }
     }
 
-    /// Rings a bit: it is pending from now on, masked or not.
+    /// Rings a bit, which has to be below 32: it is pending from now on, masked or not, and stays so until it is taken.
     pub fn ring(&mut self, bit: u32)
         requires { bit < 32 }
         ensures { self.new ≡ with_pending self.old (with_bit self.old.pending bit) }
@@ -109,7 +111,8 @@ impl Bells {
         self.masked
     }
 
-    /// Takes the pending bits that aren't masked: they are pending no more, and masked ones stay pending.
+    /// Takes the pending bits that aren't masked and answers them: they are pending no more, and masked ones stay
+    /// pending.
     #[tactic(auto, using(crate::proofs::BitByBit::and_not_is, crate::proofs::BitByBit::left_by_take))]
     pub fn take(&mut self) -> u32
         ensures taken { result ≡ unmasked_pending self.old }
@@ -121,14 +124,14 @@ impl Bells {
         taken
     }
 
-    /// Masks these bits too.
+    /// Masks these bits too. What is pending stays so.
     pub fn mask(&mut self, bits: u32)
         ensures { self.new ≡ with_masked self.old (bit_or self.old.masked bits) }
     {
         self.masked |= bits;
     }
 
-    /// Masks these bits no more. What is pending stays so.
+    /// Masks these bits no more, and leaves the mask of the others. What is pending stays so.
     #[tactic(auto, using(crate::proofs::BitByBit::and_not_is))]
     pub fn unmask(&mut self, bits: u32)
         ensures { self.new ≡ with_masked self.old (without_bits self.old.masked bits) }

@@ -1,1 +1,3 @@
+pub mod Paged
+pub mod Pieces
 pub mod Writes

@@ -1,16 +1,21 @@
--- A write leaves what stands apart from it.
-use Rattle.std.proofs.Common.{◌≡◌, ℕ, ◌+◌, ◌<◌, List, length, get_or, take, drop, sym, ◌∙◌, ap, lit<, arith}
+-- What a write does to each byte.
+use Rattle.std.proofs.Common.{◌≡◌, ◌⊎◌, ℕ, ◌+◌, ◌-◌, ◌<◌, ◌≤◌, List, length, get_or, take, drop, sym, inl, inr, ⊎_elim, ◌∙◌, ap, lit<, arith}
 use Rattle.std.proofs.lemmas.Grind.{common_steps}
 use Rattle.std.proofs.lemmas.List.{places, same_lists, get_or-take}
 use Rattle.byteorder.specs.Endian.{little_number}
 use Rattle.host_memory.specs.Memory.{written, bytes_at, word_at}
 use Rattle.host_memory.specs.Laws.{LiesIn, StandsApart}
 
-written_outside : (at : ℕ) (bytes mem : List ℕ) → LiesIn at bytes mem → (k d : ℕ) → StandsApart k 1 at (length bytes)
+pub written_inside : (at : ℕ) (bytes mem : List ℕ) → LiesIn at bytes mem → (k d : ℕ) → at ≤ k → k < at + length bytes
+    → get_or (written at bytes mem) k d ≡ get_or bytes (k - at) d
+written_inside at bytes mem h k d from to = grind (arith, common_steps)
+
+-- a write leaves what stands apart from it
+pub written_outside : (at : ℕ) (bytes mem : List ℕ) → LiesIn at bytes mem → (k d : ℕ) → (k < at) ⊎ (at + length bytes ≤ k)
     → get_or (written at bytes mem) k d ≡ get_or mem k d
 written_outside at bytes mem h k d apart = grind (arith, common_steps)
 
-length-written : (at : ℕ) (bytes mem : List ℕ) → LiesIn at bytes mem → length (written at bytes mem) ≡ length mem
+pub length-written : (at : ℕ) (bytes mem : List ℕ) → LiesIn at bytes mem → length (written at bytes mem) ≡ length mem
 length-written at bytes mem h = grind (arith, common_steps)
 
 -- two memories of one length that agree on a stretch
@@ -23,7 +28,7 @@ pub reads_elsewhere : (at : ℕ) (bytes mem : List ℕ) → LiesIn at bytes mem 
     → StandsApart from len at (length bytes) → bytes_at from len (written at bytes mem) ≡ bytes_at from len mem
 reads_elsewhere at bytes mem h from len apart =
     bytes_at_same from len _ _ (length-written at bytes mem h)
-    (λ k d p. written_outside at bytes mem h (from + k) d (grind arith))
+    (λ k d p. written_outside at bytes mem h (from + k) d (⊎_elim (λ before. inl (omega (arith, before, p))) (λ behind. inr (omega (arith, behind))) apart))
 
 -- a word is a number of four bytes
 little_number-take : (xs : List ℕ) → little_number 4 (take 4 xs) ≡ little_number 4 xs

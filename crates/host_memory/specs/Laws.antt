@@ -1,6 +1,6 @@
--- What a write to memory does, address by address.
-use Rattle.std.specs.Prelude.{◌≡◌, ℕ, ◌+◌, ◌^◌, ◌<◌, ◌≤◌, ◌⊎◌, List, length, slice_index}
-use Rattle.host_memory.specs.Memory.{written, bytes_at, word_at, word_bytes}
+-- What a write to memory does, address by address, and which ranges are promised with others.
+use Rattle.std.specs.Prelude.{◌≡◌, ℕ, ◌+◌, ◌^◌, ◌<◌, ◌≤◌, ◌⊎◌, List, Contains, length, slice_index}
+use Rattle.host_memory.specs.Memory.{ArePromised, written, bytes_at, word_at, word_bytes}
 
 -- the bytes that are written lie in the memory
 abbrev pub LiesIn : ℕ → List ℕ → List ℕ → Type 0
@@ -37,3 +37,15 @@ WordReadsBack = (at value : ℕ) (mem : List ℕ) → at + 4 ≤ length mem → 
 -- a word elsewhere is what it was before
 abbrev pub WordElsewhere : Type 0
 WordElsewhere = (at : ℕ) (bytes mem : List ℕ) → LiesIn at bytes mem → (from : ℕ) → StandsApart from 4 at (length bytes) → word_at from (written at bytes mem) ≡ word_at from mem
+
+-- a part of a range is promised with the range
+abbrev pub PartPromised : Type 0
+PartPromised = (at len from size : ℕ) (promised : List ℕ) → ArePromised at len promised → at ≤ from → from + size ≤ at + len → ArePromised from size promised
+
+-- two ranges that meet are promised together
+abbrev pub BothPromised : Type 0
+BothPromised = (at len more : ℕ) (promised : List ℕ) → ArePromised at len promised → ArePromised (at + len) more promised → ArePromised at (len + more) promised
+
+-- what is promised stays so where further pages are
+abbrev pub StaysPromised : Type 0
+StaysPromised = (at len : ℕ) (promised more : List ℕ) → ArePromised at len promised → ((page : ℕ) → Contains promised page → Contains more page) → ArePromised at len more

@@ -1,6 +1,12 @@
--- The bytes of a host's memory, as a list. A byte's address is its place in the list, from 0.
-use Rattle.std.specs.Prelude.{ℕ, ◌+◌, List, ◌++◌, length, take, drop}
+-- A host's memory: its bytes as a list, in which a byte's address is its place from 0, and the pages that were
+-- promised.
+use Rattle.std.specs.Prelude.{◌≡◌, ◌≢◌, ℕ, ◌+◌, ◌<◌, ◌≤◌, ◌/◌, List, ◌++◌, Contains, length, take, drop, slice_index}
 use Rattle.byteorder.specs.Endian.{little_bytes, little_number}
+
+-- the bytes, and the numbers of the pages that were promised: these may be written
+pub record Contents : Type 0 where
+  pub bytes : List ℕ
+  pub promised : List ℕ
 
 -- the memory after these bytes are written from an address on
 abbrev pub written : ℕ → List ℕ → List ℕ → List ℕ
@@ -17,3 +23,19 @@ word_at at mem = little_number 4 (drop at mem)
 -- the four bytes of a word, the lowest first
 abbrev pub word_bytes : ℕ → List ℕ
 word_bytes value = little_bytes 4 value
+
+-- the number of the page that an address lies on
+abbrev pub page_of : ℕ → ℕ
+page_of address = address / 4096
+
+-- the range of so many bytes from an address on has a byte on the page
+abbrev pub Touches : ℕ → ℕ → ℕ → Type 0
+Touches at len page = (address : ℕ) × (at ≤ address) × (address < at + len) × (page_of address ≡ page)
+
+-- each page that the range touches is promised
+abbrev pub ArePromised : ℕ → ℕ → List ℕ → Type 0
+ArePromised at len promised = (page : ℕ) → Touches at len page → Contains promised page
+
+-- no page stands twice
+abbrev pub NoRepeats : List ℕ → Type 0
+NoRepeats pages = (i j : ℕ) → i < j → j < length pages → slice_index pages i ≢ slice_index pages j

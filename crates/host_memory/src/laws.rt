@@ -1,10 +1,14 @@
-//! What a write to memory does, address by address. Each function here does nothing: its clause is the law.
+//! What a write to memory does, address by address, and which ranges are promised with others. Each function here does
+//! nothing: its clause is the law.
 
 ghost use Rattle.host_memory.specs.Laws.{
+  BothPromised,
   LengthStays,
   OldOutside,
+  PartPromised,
   ReadsBack,
   ReadsElsewhere,
+  StaysPromised,
   WordElsewhere,
   WordReadsBack,
   WrittenInside,
@@ -43,4 +47,19 @@ pub fn word_reads_back()
 /// A word that shares no byte with a write is what it was before.
 pub fn word_elsewhere()
     ensures { WordElsewhere }
+{}
+
+/// Each part of a promised range is promised.
+pub fn part_promised()
+    ensures { PartPromised }
+{}
+
+/// A range is promised where its front and the rest are.
+pub fn both_promised()
+    ensures { BothPromised }
+{}
+
+/// What is promised stays promised where further pages are.
+pub fn stays_promised()
+    ensures { StaysPromised }
 {}

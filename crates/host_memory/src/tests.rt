@@ -1,23 +1,72 @@
+ghost use Rattle.std.specs.Prelude.{◌≡◌, ◌+◌, ◌≤◌, length, IfOk};
+
 use super::*;
+use std::alloc::{AllocError, Global};
 use std::test::Fail;
+
+// A fresh memory of which a proof knows the length alone, and no list of zeros.
+fn fresh(alloc: Global, len: u64) -> Result<Memory, AllocError>
+    ensures { IfOk result (λ memory. length memory.bytes ≡ len) }
+{
+    Memory::new(alloc, len)
+}
+
+// Promises the pages of these bytes and writes them.
+fn put(memory: &mut Memory, at: u64, bytes: &[u8]) -> Result<(), AllocError>
+    requires { at + length bytes.now ≤ length memory.old.bytes }
+    ensures { length memory.new.bytes ≡ length memory.old.bytes }
+{
+    memory.promise(at, bytes.len() as u64)?;
+    memory.write(at, bytes);
+    Ok(())
+}
 
 #[test]
 fn writes_are_read_back(rt: HostRuntime) -> Result<(), Fail> {
-    let mut memory = Memory::new(rt.alloc(), 16)?;
+    let mut memory = fresh(rt.alloc(), 16)?;
     assert_eq!(rt; memory.len(), 16);
     assert!(rt; !memory.is_empty());
-    memory.write(3, &[1, 2, 3]);
+    put(&mut memory, 3, &[1, 2, 3])?;
     let mut out = [9u8; 5];
     memory.read(2, &mut out);
     assert_eq!(rt; out, [0, 1, 2, 3, 0]);
-    memory.promise(0, 16)?;
     assert_eq!(rt; memory.len(), 16);
     Ok(())
 }
 
 #[test]
+fn writes_go_on_behind_a_page(rt: HostRuntime) -> Result<(), Fail> {
+    let mut memory = fresh(rt.alloc(), 16_384)?;
+    put(&mut memory, 4094, &[1, 2, 3, 4])?;
+    put(&mut memory, 8191, &[5, 6])?;
+    assert_eq!(rt; memory.page_count(), 3);
+    let mut first = [9u8; 6];
+    memory.read(4093, &mut first);
+    assert_eq!(rt; first, [0, 1, 2, 3, 4, 0]);
+    let mut second = [9u8; 6];
+    memory.read(8189, &mut second);
+    assert_eq!(rt; second, [0, 0, 5, 6, 0, 0]);
+    Ok(())
+}
+
+#[test]
+fn pages_that_are_not_there_are_zeros(rt: HostRuntime) -> Result<(), Fail> {
+    let mut memory = fresh(rt.alloc(), 1 << 40)?;
+    let mut out = [9u8; 3];
+    memory.read((1 << 40) - 3, &mut out);
+    assert_eq!(rt; out, [0, 0, 0]);
+    memory.promise(5000, 0)?;
+    assert_eq!(rt; memory.page_count(), 0);
+    memory.promise(8191, 2)?;
+    memory.promise(8191, 1)?;
+    assert_eq!(rt; memory.page_count(), 2);
+    Ok(())
+}
+
+#[test]
 fn words_are_little_endian(rt: HostRuntime) -> Result<(), Fail> {
-    let mut memory = Memory::new(rt.alloc(), 8)?;
+    let mut memory = fresh(rt.alloc(), 8)?;
+    memory.promise(2, 4)?;
     memory.set_u32(2, 0x0102_0304);
     let mut out = [9u8; 8];
     memory.read(0, &mut out);
@@ -25,6 +74,45 @@ fn words_are_little_endian(rt: HostRuntime) -> Result<(), Fail> {
     assert_eq!(rt; memory.u32_at(2), 0x0102_0304);
     assert_eq!(rt; memory.u32_at(3), 0x0001_0203);
     Ok(())
+}
+
+#[test]
+fn words_lie_on_two_pages(rt: HostRuntime) -> Result<(), Fail> {
+    let mut memory = fresh(rt.alloc(), 8192)?;
+    memory.promise(4095, 4)?;
+    memory.set_u32(4095, 0x0102_0304);
+    assert_eq!(rt; memory.u32_at(4095), 0x0102_0304);
+    assert_eq!(rt; memory.u32_at(4096), 0x0001_0203);
+    Ok(())
+}
+
+// The memory of a side with four windows of 256 MiB, with one byte written in each.
+fn largest_side(alloc: Global) -> Result<Memory, AllocError> {
+    let mut memory = fresh(alloc, 1 << 30)?;
+    put(&mut memory, 0, &[1])?;
+    put(&mut memory, 300_000_000, &[2])?;
+    put(&mut memory, 536_870_912, &[3])?;
+    put(&mut memory, 1_073_741_823, &[4])?;
+    Ok(memory)
+}
+
+// The sides of sixteen pairs have 32 GiB of memory, of which 128 pages are there. `tools/bench-memory` measures it.
+#[test]
+fn sixteen_pairs_of_the_largest_windows(rt: HostRuntime) -> Result<(), Fail> {
+    let mut sides = Vec::new(rt.alloc());
+    for _ in 0..32 {
+        sides.push(largest_side(rt.alloc())?)?;
+    }
+    assert_eq!(rt; sides.len(), 32);
+    for side in &sides {
+        assert_eq!(rt; side.page_count(), 4);
+    }
+    Ok(())
+}
+
+#[test]
+fn a_memory_too_large_for_any_machine_is_refused(rt: HostRuntime) {
+    assert!(rt; fresh(rt.alloc(), 1 << 63).is_err());
 }
 
 #[test]

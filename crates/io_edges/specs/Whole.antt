@@ -1,5 +1,5 @@
 -- What is left of a source, and what a sink holds, after many reads or writes, where it is told (`Some`).
-use Rattle.std.specs.Prelude.{◌≡◌, ℕ, ◌<◌, ◌≤◌, List, ◌++◌, length, take, Option, Some, None}
+use Rattle.std.specs.Prelude.{◌≡◌, ℕ, ◌+◌, ◌<◌, ◌≤◌, List, ◌++◌, length, take, Option, Some, None}
 
 -- These bytes were the front of the content, and what is left is the rest of it. Content that isn't told stays so.
 abbrev pub HasGiven : Option (List ℕ) → Option (List ℕ) → List ℕ → Type 0
@@ -9,6 +9,12 @@ HasGiven (Some content) left bytes = (rest : List ℕ) × (content ≡ bytes ++ 
 -- The source has given a front of its content, of at most so many bytes.
 abbrev pub HasGivenAtMost : ℕ → Option (List ℕ) → Option (List ℕ) → Type 0
 HasGivenAtMost most before left = (front : List ℕ) × (length front ≤ most) × HasGiven before left front
+
+-- The source has given a front of its content, of at most so many bytes, and each read but the last one gave a byte
+-- of it.
+abbrev pub HasGivenAtReads : ℕ → Option (List ℕ) → Option (List ℕ) → ℕ → ℕ → Type 0
+HasGivenAtReads most before left reads reads' =
+    (front : List ℕ) × (length front ≤ most) × (reads' ≤ reads + length front + 1) × HasGiven before left front
 
 -- The source has given a piece, which stands behind the bytes that were there.
 pub record AddsPiece (before left : Option (List ℕ)) (old new : List ℕ) : Type 0 where

@@ -1,5 +1,5 @@
 //! A source in memory that gives small pieces, and fails where it is told to.
-ghost use Rattle.std.specs.Prelude.{◌≡◌, ◌<◌, ◌≤◌, length, IfOk, Some};
+ghost use Rattle.std.specs.Prelude.{◌≡◌, ◌+◌, ◌<◌, ◌≤◌, length, IfOk, Some};
 ghost use Rattle.io_edges.specs.Causes.{HasCause};
 ghost use Rattle.io_edges.specs.Streams.{Reads};
 ghost use Rattle.io_edges.specs.MemorySource.{ReadsExactly};
@@ -57,10 +57,13 @@ impl Source for MemorySource {
 
     ghost faults = { λ source. source.plan.faults };
 
+    ghost reads = { λ source. source.plan.calls };
+
     fn read(&mut self, out: &mut [u8]) -> Result<usize, Failed>
         ensures bound { IfOk result (λ count. count ≤ length out.new) }
         ensures bytes { Reads (Some self.old.left) (Some self.new.left) result out.new }
         ensures cause { HasCause self.old.plan.faults self.new.plan.faults result }
+        ensures reads { self.new.plan.calls ≤ self.old.plan.calls + 1 }
         ensures exact { ReadsExactly self.old self.new out.old out.new result }
     {
         if self.plan.is_due() {

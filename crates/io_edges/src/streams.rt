@@ -1,5 +1,5 @@
 //! What the program asks of the outside.
-ghost use Rattle.std.specs.Prelude.{◌<◌, ◌≤◌, ℕ, List, Option, length, IfOk};
+ghost use Rattle.std.specs.Prelude.{◌+◌, ◌<◌, ◌≤◌, ℕ, List, Option, length, IfOk};
 ghost use Rattle.io_edges.specs.Causes.{HasCause};
 ghost use Rattle.io_edges.specs.Streams.{Reads, Writes};
 
@@ -18,6 +18,9 @@ pub trait Source {
     /// How often the source has failed, up to the last value of a `u64`.
     ghost faults: { Self → ℕ };
 
+    /// How often it was read from, where it counts that; else always 0.
+    ghost reads: { Self → ℕ } = { λ _. 0 };
+
     /// Reads some bytes into the front of the buffer and returns their number, at most the buffer's length. With room
     /// in the buffer it returns 0 only at the end.
     ///
@@ -27,7 +30,8 @@ pub trait Source {
     fn read(&mut self, out: &mut [u8]) -> Result<usize, Failed>
         ensures bound { IfOk result (λ count. count ≤ length out.new) }
         ensures bytes { Reads (left self.old) (left self.new) result out.new }
-        ensures cause { HasCause (faults self.old) (faults self.new) result };
+        ensures cause { HasCause (faults self.old) (faults self.new) result }
+        ensures reads { reads self.new ≤ reads self.old + 1 };
 }
 
 /// A sink of bytes. It tells the bytes that it holds, where it can, and a count of faults that never falls.

@@ -56,6 +56,32 @@ fn a_read_fails_in_mid_stream(rt: HostRuntime) -> Result<(), Fail> {
     Ok(())
 }
 
+// The read that fails is the one behind those that are needed, so it is still to come.
+#[test]
+fn no_read_is_made_in_vain(rt: HostRuntime) -> Result<(), Fail> {
+    let alloc = rt.alloc();
+    let mut out = [0; 4];
+    let mut long = MemorySource::new(bytes_of(alloc, "hello world")?, 3, [3].to_vec(alloc)?);
+    assert_eq!(rt;
+        read_all(alloc, &mut long, 8).err(),
+        Some(ReadError::TooLong)
+    );
+    assert_eq!(rt; long.read(&mut out), Err(Failed));
+
+    let mut whole = MemorySource::new(bytes_of(alloc, "hello")?, 5, [2].to_vec(alloc)?);
+    let bytes = read_all(alloc, &mut whole, 5)?;
+    assert_eq!(rt; bytes.as_slice(), b"hello".as_slice());
+    assert_eq!(rt; whole.read(&mut out), Err(Failed));
+
+    let mut failing = MemorySource::new(bytes_of(alloc, "hello")?, 5, [1, 2].to_vec(alloc)?);
+    assert_eq!(rt;
+        read_all(alloc, &mut failing, 5).err(),
+        Some(ReadError::ReadFault)
+    );
+    assert_eq!(rt; failing.read(&mut out), Err(Failed));
+    Ok(())
+}
+
 #[test]
 fn all_is_written(rt: HostRuntime) -> Result<(), Fail> {
     let alloc = rt.alloc();

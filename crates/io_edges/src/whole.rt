@@ -2,7 +2,7 @@
 ghost use Rattle.std.specs.Prelude.{◌≡◌, ◌+◌, ◌-◌, ◌^◌, ◌<◌, ◌≤◌, [], length, drop, vec_len, IfOk, OnOk, OnErr, IfSome, IsErrOf};
 ghost use Rattle.io_edges.specs.Causes.{Rose};
 ghost use Rattle.io_edges.specs.declared.whole.ReadError.TheVariants.{ReadFault, OutOfMemory};
-ghost use Rattle.io_edges.specs.Whole.{HasGivenAtMost, AddsPiece, HoldsAll, HoldsPart};
+ghost use Rattle.io_edges.specs.Whole.{HasGivenAtMost, HasGivenAtReads, AddsPiece, HoldsAll, HoldsPart};
 
 use crate::{Failed, Sink, Source};
 use std::alloc::{AllocError, Global};
@@ -54,12 +54,17 @@ impl From<Failed> for WriteFault {
 /// The most bytes that one read asks for.
 const PIECE: usize = 65_536;
 
-/// Reads all the bytes of a source, which may be `limit` bytes at most. It takes `limit + 1` bytes at most.
+/// Reads all the bytes of a source, which may be `limit` bytes at most; `limit` is below 2^32 - 1. It takes `limit +
+/// 1` bytes at most. Each read but the last one gives a byte: nothing is read behind the end, behind a fault or
+/// behind a byte too many.
+///
+/// `Ok` has all the bytes, and the source is at its end.
 ///
 /// # Errors
 ///
-/// `TooLong` where the source has more than `limit` bytes: `limit + 1` are taken then. `ReadFault` where a read failed,
-/// and `OutOfMemory`: a part of the bytes may be taken then.
+/// [`ReadError::TooLong`] exactly where more than `limit` bytes were taken, which are then `limit + 1`.
+/// [`ReadError::ReadFault`] only where a read failed, and [`ReadError::OutOfMemory`] from want of memory alone: at most
+/// `limit` bytes from the front of the source are taken then.
 pub fn read_all<S: Source>(
     alloc: Global,
     source: &mut S,
@@ -74,12 +79,15 @@ pub fn read_all<S: Source>(
     ensures too_long { IfSome (S.left source.old) (λ content. IsErrOf result ReadError.TooLong → limit < length content) }
     ensures taken { IfSome (S.left source.old) (λ content.
         IsErrOf result ReadError.TooLong → S.left source.new ≡ Some (drop (limit + 1) content)) }
+    ensures only { (IsErrOf result ReadError.TooLong → ⊥) → HasGivenAtMost limit (S.left source.old) (S.left source.new) }
 
     ensures fault { IsErrOf result ReadError.ReadFault → Rose (S.faults source.old) (S.faults source.new) }
     ensures later { S.faults source.old ≤ S.faults source.new }
 
     // In every outcome.
     ensures rest { HasGivenAtMost (limit + 1) (S.left source.old) (S.left source.new) }
+    ensures reads { HasGivenAtReads (limit + 1) (S.left source.old) (S.left source.new) (S.reads source.old) (S.reads source.new) }
+    ensures reads_long { IsErrOf result ReadError.TooLong → S.reads source.new ≤ S.reads source.old + limit + 1 }
 {
     let mut buffer = zeros(alloc, PIECE.min(limit + 1))?;
     let mut bytes = Vec::new(alloc);
@@ -100,7 +108,8 @@ fn zeros(alloc: Global, len: usize) -> Result<Vec<u8>, AllocError>
     vec![in alloc; 0; len]
 }
 
-/// Reads once through the buffer, and puts what came behind the bytes. Returns how many came.
+/// Reads once through the buffer, and puts what came behind the bytes. Returns how many came. Room for them is made
+/// before the read, so that an error takes nothing from the source.
 fn read_piece<S: Source>(
     source: &mut S,
     buffer: &mut [u8],
@@ -109,6 +118,7 @@ fn read_piece<S: Source>(
     ensures bound { IfOk result (λ count. count ≤ length buffer.old) }
     ensures len { IfOk result (λ count. vec_len bytes.new ≡ vec_len bytes.old + count) }
     ensures given { OnOk result (AddsPiece (S.left source.old) (S.left source.new) bytes.old.items bytes.new.items) }
+    ensures none { OnErr result (S.left source.new ≡ S.left source.old) }
 
     ensures at_end { IfOk result (λ count. count ≡ 0 → 0 < length buffer.old →
         IfSome (S.left source.old) (λ content. content ≡ [])) }
@@ -116,10 +126,11 @@ fn read_piece<S: Source>(
     ensures fault { IsErrOf result ReadError.ReadFault → Rose (S.faults source.old) (S.faults source.new) }
     ensures not_long { IsErrOf result ReadError.TooLong → ⊥ }
     ensures later { S.faults source.old ≤ S.faults source.new }
-    ensures rest { HasGivenAtMost (length buffer.old) (S.left source.old) (S.left source.new) }
+    ensures reads { S.reads source.new ≤ S.reads source.old + 1 }
 {
+    bytes.reserve(buffer.len())?;
     let count = source.read(buffer)?;
-    bytes.extend_from_slice(&buffer[..count])?;
+    bytes.extend_from_slice(&buffer[..count]).unwrap();
     Ok(count)
 }
 

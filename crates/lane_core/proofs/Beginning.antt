@@ -7,7 +7,7 @@ use Rattle.lane_model.specs.Lane.{Lane, bytes_of, chunk_size, entry_of, free_in,
 use Rattle.lane_model.specs.Steps.{after_begin}
 use Rattle.lane_model.specs.declared.Write.{Write}
 use Rattle.lane_model.specs.declared.Phase.TheVariants.{Copying}
-use Rattle.lane_laws.proofs.Holds.{copy_sees}
+use Rattle.lane_laws.proofs.Facade.{copy_sees}
 use Rattle.lane_core.specs.Parts.{entry_seen}
 use Rattle.lane_core.specs.Seen.{Buffers, IsKept, lane_seen}
 use Rattle.lane_core.specs.declared.entry.Entry.{Entry}
@@ -41,4 +41,4 @@ buffers_stay l entry sent pushed kept = record {
         let law = kept.law in
         let sees = copy_sees (lane_seen l) copying law in
         ap (λ (entries : List model.Entry). get_or entries l.got model.GoesDown) (ap (map entry_seen) pushed ∙ map_push entry_seen l.sent.items entry)
-        ∙ get_or_append_left (map entry_seen l.sent.items) (entry_seen entry ∷ []) model.GoesDown l.got (omega (arith, sees.0, law.2.flagged_first))
+        ∙ get_or_append_left (map entry_seen l.sent.items) (entry_seen entry ∷ []) model.GoesDown l.got (omega (arith, sees.0, law.2.counts.flagged_first))

@@ -6,7 +6,7 @@ use Rattle.lane_model.specs.Lane as model
 use Rattle.lane_model.specs.Lane.{Lane, bytes_of, chunk_of, chunk_size, copies_of, entry_of, slot_of}
 use Rattle.lane_model.specs.Steps.{more_to_copy}
 use Rattle.lane_model.specs.declared.Phase.TheVariants.{Copying}
-use Rattle.lane_laws.proofs.Holds.{copy_sees}
+use Rattle.lane_laws.proofs.Facade.{copy_sees}
 use Rattle.lane_core.specs.Calls.{copy_answer, is_copying}
 use Rattle.lane_core.specs.Parts.{place_seen}
 use Rattle.lane_core.specs.declared.answers.LaneCopy.TheVariants.{Whole, OutOfTurn}
@@ -26,7 +26,7 @@ take_both n m xs =
 abbrev pub bytes_at : Inside → List ℕ
 bytes_at l = bytes_of (entry_of (lane_seen l) l.got)
 
--- what is known of a place that is copied from, and of the bytes copied so far
+-- what is known of a slot that is copied from, and of the bytes copied so far
 pub record CopiesFrom (l : Inside) (place : Slot) (buffer : List ℕ) : Type 0 where
   pub len : place.len ≡ length (bytes_at l)
   pub copied : buffer ≡ take (chunk_size * l.part + chunk_size) (bytes_at l)
@@ -42,7 +42,7 @@ copies_from l place copied here copying kept now =
     let payload : take place.len place.payload.items ≡ bytes_at l =
     ap (λ n. take n place.payload.items) len ∙ ap (λ (p : model.Slot). take (length (bytes_at l)) p.payload) (sym here) ∙ whole.payload in
     let h = kept.law.2 in
-    let fits = h.fits l.got (omega (arith, sees.0, h.flagged_first)) in
+    let fits = h.frames.fits l.got (omega (arith, sees.0, h.counts.flagged_first)) in
     record {
       len = len;
       copied = now

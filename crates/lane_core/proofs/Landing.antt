@@ -1,4 +1,5 @@
--- Landing: what the queue of writes in flight answers is what the model's lane answers, and the ring law holds after it.
+-- Landing: what the queue of writes in flight answers is what the model's lane answers, and the ring law holds after
+-- it.
 use Rattle.std.proofs.Common.{◌≡◌, ℕ, zero, suc, ◌+◌, ◌%◌, ◌<◌, ◌≤◌, ◌⊎◌, Bool, true, false, List, [], ◌∷◌, Option, Some, None, length, map, take, drop, get_or, set, slice_get, option_map, refl, sym, ap, ◌∙◌, subst, inl, inr, arith, mod-lt, All, Contains}
 use Rattle.std.specs.List.{remove}
 use Rattle.std.proofs.lemmas.Bool.{cases_lt, cond-true, cond-false, eqb-true, or_cases}
@@ -13,8 +14,8 @@ use Rattle.lane_model.specs.declared.Field.{Field}
 use Rattle.lane_model.specs.declared.Field.TheVariants.{Chunk, Length, Version}
 use Rattle.lane_model.specs.declared.Write.{Write}
 use Rattle.lane_model.specs.declared.Write.TheVariants.{Data, Flag, Bell}
-use Rattle.lane_laws.proofs.Chunks.{field_among}
-use Rattle.lane_laws.proofs.Holds.{land_data_keeps, land_flag_keeps, land_bell_keeps, data_is_ahead, flag_is_next}
+use Rattle.lane_laws.proofs.Facade.{field_among}
+use Rattle.lane_laws.proofs.Facade.{land_data_keeps, land_flag_keeps, land_bell_keeps, data_is_ahead, flag_is_next}
 use Rattle.posted_queue.specs.Flight.{Flight}
 use Rattle.posted_queue.specs.Landing.{answer_for, land_answer as queue_answer, after_landing as queue_after}
 use Rattle.posted_queue.specs.declared.LandAnswer.TheVariants.{Landed as QueueLanded, Blocked as QueueBlocked, Nothing as QueueNothing}
@@ -100,15 +101,15 @@ pub record Lands (lane : Lane) (place : ℕ) (mark : Write) : Type 0 where
   pub counts : lane.flagged + flags_landed mark ≤ length lane.sent
   pub law : HoldsRingLaw (after_landing lane mark (remove lane.flight place))
 
--- the room of an entry's place
+-- the room of an entry's slot
 room_of_place : (lane : Lane) (n : ℕ) → n < length lane.sent → HoldsRingLaw lane → length (bytes_of (entry_of lane n)) ≤ length (get_or lane.ring (n % length lane.ring) blank_slot).payload
 room_of_place lane n below law =
     let h = law.2 in
-    let two = h.two_entries in
+    let two = h.room.two_entries in
     let here : n % lane.entries < lane.entries = mod-lt n (omega arith) in
-    let room = h.rooms (n % lane.entries) here in
-    let fits = h.fits n below in
-    subst (λ count. length (bytes_of (entry_of lane n)) ≤ length (get_or lane.ring (n % count) blank_slot).payload) (sym h.slots) (omega (arith, room, fits))
+    let room = h.room.rooms (n % lane.entries) here in
+    let fits = h.frames.fits n below in
+    subst (λ count. length (bytes_of (entry_of lane n)) ≤ length (get_or lane.ring (n % count) blank_slot).payload) (sym h.room.slots) (omega (arith, room, fits))
 
 begins_within : (lane : Lane) (n : ℕ) (field : Field) → Contains (data_of n (entry_of lane n)) (Data n field) → BeginsWithin (entry_of lane n) field
 begins_within lane n (Chunk part) among = omega (arith, (field_among n n (entry_of lane n) (Chunk part) among).1)
@@ -120,12 +121,12 @@ cell_lands lane place n field found law =
     let there : Contains lane.flight (Data n field) = (place, slice_get_within lane.flight place (Data n field) found, get_or_from_slice_get lane.flight place (Data n field) (Data n field) found) in
     let ahead = data_is_ahead lane n field there law in
     let h = law.2 in
-    let two = h.two_entries in
-    let slots = h.slots in
+    let two = h.room.two_entries in
+    let slots = h.room.slots in
     record {
       can = (omega arith, ahead.1, begins_within lane n field ahead.2, room_of_place lane n ahead.1 law);
       known = tt;
-      counts = omega (arith, h.flagged_first);
+      counts = omega (arith, h.counts.flagged_first);
       law = land_data_keeps lane n field (take place lane.flight) (drop (suc place) lane.flight) (split-at_place lane.flight place (Data n field) found).0 law;
     }
 
@@ -134,8 +135,8 @@ flag_lands lane place n found first law =
     let front : lane.flight ≡ Flag n ∷ remove lane.flight 0 = first_apart lane.flight (Flag n) (ap (slice_get lane.flight) (sym first) ∙ found) in
     let next = flag_is_next lane n (remove lane.flight 0) front law in
     let h = law.2 in
-    let two = h.two_entries in
-    let slots = h.slots in
+    let two = h.room.two_entries in
+    let slots = h.room.slots in
     record {
       can = (omega arith, next.1);
       known = next.1;
@@ -149,7 +150,7 @@ bell_lands lane place found first law =
     record {
       can = tt;
       known = tt;
-      counts = omega (arith, law.2.flagged_first);
+      counts = omega (arith, law.2.counts.flagged_first);
       law = subst (λ i. HoldsRingLaw (after_landing lane Bell (remove lane.flight i))) (sym first) (land_bell_keeps lane (remove lane.flight 0) front law);
     }
 

@@ -1,17 +1,17 @@
--- What a receiver reads in the place of its next entry.
+-- What a receiver reads in the slot of its next entry.
 use Rattle.std.proofs.Common.{◌≡◌, ℕ, ◌%◌, ◌<◌, length, map, get_or, sym, ap, ◌∙◌, inl, inr, arith}
 use Rattle.std.proofs.lemmas.Bool.{cases_lt}
 use Rattle.std.proofs.lemmas.List.{get_or-map}
 use Rattle.lane_model.specs.Lane.{Lane, blank_slot, bytes_of, entry_of, slot_of}
 use Rattle.lane_model.specs.Law.{HoldsRingLaw}
 use Rattle.lane_model.specs.declared.Phase.TheVariants.{Idle}
-use Rattle.lane_laws.proofs.Holds.{look_sees}
+use Rattle.lane_laws.proofs.Facade.{look_sees}
 use Rattle.lane_core.specs.Parts.{place_seen}
 use Rattle.lane_core.specs.Seen.{lane_seen}
 use Rattle.lane_core.specs.declared.lane.Lane.TheInside.{Inside}
 use Rattle.lane_core.specs.declared.slot.Slot.{Slot}
 
--- the place that was read is the model's
+-- the slot that was read is the model's
 pub read_place : (l : Inside) (n position : ℕ) (place : Slot) → position ≡ n % l.entries → position < length l.ring.items → place ≡ get_or l.ring.items position place
     → slot_of (lane_seen l) n ≡ place_seen place
 read_place l n position place at within read =

@@ -6,7 +6,7 @@ use Rattle.std.proofs.lemmas.Option.{slice_get-map}
 use Rattle.lane_model.specs.Order.{relaxed, strict, may_land}
 use Rattle.lane_model.specs.Law.{HoldsRingLaw}
 use Rattle.lane_model.specs.Steps.{after_index}
-use Rattle.lane_laws.proofs.Holds.{index_is_next, index_keeps}
+use Rattle.lane_laws.proofs.Facade.{index_is_next, index_keeps}
 use Rattle.posted_queue.specs.Flight.{Flight}
 use Rattle.posted_queue.specs.Landing.{land_answer as queue_answer, after_landing as queue_after}
 use Rattle.posted_queue.specs.declared.LandAnswer.TheVariants.{Landed as QueueLanded, Blocked as QueueBlocked, Nothing as QueueNothing}
@@ -66,7 +66,7 @@ has_returned l place write returning answer after law =
       answer = ap (index_found (value_seen l) place) found ∙ cond-true _ _ _ may;
       after = ap (after_index_found lane place) found ∙ cond-true _ _ _ may ∙ ap (after_index lane n) (sym numbers);
       law = subst (λ (ns : List ℕ). HoldsRingLaw (after_index lane n ns)) rest (index_keeps lane n (remove lane.returning 0) front law);
-      begun = omega (arith, next.1, h.acked_first, h.cleared_first, h.got_first, h.flagged_first);
+      begun = omega (arith, next.1, h.counts.acked_first, h.counts.cleared_first, h.counts.got_first, h.counts.flagged_first);
       spare = ap (λ (f : Flight IndexWrite). f.spare) now;
     }
 

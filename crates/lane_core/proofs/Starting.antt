@@ -4,7 +4,7 @@ use Rattle.std.proofs.lemmas.List.{length-replicate, get_or-replicate}
 use Rattle.lane_model.specs.Lane.{Slot, blank_slot, slot_of}
 use Rattle.lane_laws.specs.Laws.{IsFresh}
 use Rattle.lane_model.specs.Law.{HoldsRingLaw}
-use Rattle.lane_laws.proofs.Holds.{fresh_holds}
+use Rattle.lane_laws.proofs.Facade.{fresh_holds}
 use Rattle.lane_model.specs.declared.Write.{Write}
 use Rattle.posted_queue.specs.Flight.{Flight, nothing_in_flight}
 use Rattle.lane_core.specs.Parts.{entry_seen, place_seen}

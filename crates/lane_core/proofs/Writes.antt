@@ -7,8 +7,8 @@ use Rattle.lane_model.specs.declared.Write.{Write}
 use Rattle.lane_model.specs.declared.Write.TheVariants.{Data, Flag, Bell}
 use Rattle.lane_model.specs.Lane.{Entry, Lane, bytes_of, chunks_in, count_from, data_of, writes_of, entry_of}
 use Rattle.lane_model.specs.Law.{EndTheLast}
-use Rattle.lane_laws.proofs.Numbers.{length-count_from, count_from-push}
-use Rattle.lane_laws.proofs.Chunks.{field_of_data, contains_cases, contains_none, contains_first}
+use Rattle.lane_laws.proofs.Facade.{length-count_from, count_from-push}
+use Rattle.lane_laws.proofs.Facade.{field_of_data, contains_cases, contains_none, contains_first}
 use Rattle.lane_core.specs.Parts.{IsKnown}
 
 abbrev pub chunk_cells : ℕ → ℕ → List Write
@@ -60,7 +60,7 @@ known_among n entry (Flag k) h = elim (Contains-append_cases (data_of n entry) (
 ]
 
 -- the next write to post is of the entry that was begun last
-pub next_is_known : (lane : Lane) (mark : Write) (rest : List Write) → lane.todo ≡ mark ∷ rest → EndTheLast lane → IsKnown mark (length lane.sent)
+pub next_is_known : (lane : Lane) (mark : Write) (rest : List Write) → lane.todo ≡ mark ∷ rest → EndTheLast lane.sent lane.todo → IsKnown mark (length lane.sent)
 next_is_known lane mark rest front last = elim last [
   | inl nothing ↦ absurd (cc (nothing, front))
   | inr ending ↦

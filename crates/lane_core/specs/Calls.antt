@@ -36,9 +36,11 @@ is_empty_list (x ∷ xs) = false
 
 -- Beginning
 
+-- the last test of a beginning: whether the ring has room
 abbrev pub has_room : Lane → Begun
 has_room lane = if free_in lane == 0 then NoRoom (head_of lane.entries (length lane.sent)) lane.index_word else Began (length lane.sent)
 
+-- of a link-down entry, which fits every ring, and of a frame, whose length is tested first
 abbrev pub down_answer : Lane → Begun
 down_answer lane = if is_empty_list lane.todo then has_room lane else Busy
 
@@ -62,6 +64,7 @@ number_of Bell = 0
 abbrev pub label_in : ℕ → Lane → Write → Label
 label_in queue lane mark = label_of queue (entry_of lane (number_of mark)) mark
 
+-- the label of the first of the writes that are left to post
 abbrev pub first_label : ℕ → Lane → List Write → Option Label
 first_label queue lane [] = None
 first_label queue lane (mark ∷ rest) = Some (label_in queue lane mark)
@@ -137,6 +140,7 @@ abbrev pub is_cleared : Phase → Bool
 is_cleared Cleared = true
 is_cleared phase = false
 
+-- what a look says of an entry that has landed
 abbrev pub look_at : ℕ → Entry → LaneLook
 look_at n (Carries bytes) = Ready n (length bytes)
 look_at n GoesDown = PeerDown

@@ -4,11 +4,11 @@ use Rattle.lane_model.specs.Lane.{Slot, Lane}
 use Rattle.lane_model.specs.declared.Phase.TheVariants.{Idle}
 use Rattle.lane_core.specs.Calls.{LaneValue}
 
--- a position of which all bytes are zero
+-- a slot of which all bytes are zero
 abbrev pub zeroed_slot : ℕ → Slot
 zeroed_slot largest = record { payload = replicate largest 0; len = 0; ver = 0; flags = 0 }
 
--- nothing was begun, the ring is zeroed, and the index word says that no entry is taken
+-- nothing was begun, the ring is zeroed, and the index word says that all entries but one are free
 abbrev pub fresh_lane : ℕ → ℕ → Lane
 fresh_lane entries largest =
     record {

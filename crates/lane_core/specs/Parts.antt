@@ -23,18 +23,18 @@ BeginsWithin entry (Chunk part) = chunk_size * part < length (bytes_of entry)
 BeginsWithin entry Length = Unit {0}
 BeginsWithin entry Version = Unit {0}
 
--- the entry of a number, and the place of its position in a ring
+-- the entry of a number, and its slot in a ring
 abbrev pub entry_in : List model.Entry → ℕ → model.Entry
 entry_in sent n = slice_index_or sent n model.GoesDown
 
 abbrev pub place_in : List model.Slot → ℕ → model.Slot
 place_in ring n = slice_index_or ring (n % length ring) blank_slot
 
--- the ring with other flags at the position of entry n
+-- the ring with other flags in the slot of entry n
 abbrev pub with_flags_at : List model.Slot → ℕ → ℕ → List model.Slot
 with_flags_at ring n flags = slice_set ring (n % length ring) (with_flags (place_in ring n) flags)
 
--- a write finds its place and its entry
+-- a write finds its slot and its entry
 abbrev pub CanStore : List model.Slot → List model.Entry → Write → Type 0
 CanStore ring sent (Data n field) =
     (0 < length ring) × (n < length sent) × BeginsWithin (entry_in sent n) field × (length (bytes_of (entry_in sent n)) ≤ length (place_in ring n).payload)

@@ -20,7 +20,8 @@ use std::marker::Model;
 use std::mem;
 use step_kinds::{Frame, Label};
 
-/// One lane in one session. Entries and frames are numbered from 0.
+/// One lane in one session: what its sender began, the writes in flight in both directions, the ring in the receiver's
+/// memory and the index word in the sender's. Entries are numbered from 0.
 #[derive(Drop)]
 pub struct Lane {
     alloc: Global,
@@ -61,8 +62,16 @@ impl Lane {
     ghost use Rattle.lane_core.specs.Calls.{with_lane, begin_answer, down_answer, after_beginning, post_answer, after_posting, land_answer, after_land, land_index_answer, after_land_index, look_answer, after_looking, copy_answer, after_copying, clear_answer, after_clearing, ack_answer, after_acking};
     ghost use Rattle.lane_core.specs.Fresh.{fresh_value};
 
-    /// A lane at the start of its session, in a ring of `entries` zeroed slots with payloads of up to `max` bytes. On a
-    /// `strict` lane no write passes another; else the fields of an entry may pass any write.
+    /// A lane at the start of its session: nothing was begun, and the index word says that all entries are free but the
+    /// one that always stays so. `queue` stands in its labels alone.
+    ///
+    /// The ring has `entries` zeroed slots, 2 at least, of which one always stays free; a slot takes payloads of up to
+    /// `max` bytes, from 1 to 65,536. On a `strict` lane no write passes another; else the fields of an entry may pass
+    /// any write, as PCI Express permits writes with relaxed ordering (Base 4.0, section 2.4).
+    ///
+    /// # Errors
+    ///
+    /// [`AllocError`] from want of memory alone: the ring takes `entries` times `max` bytes, and some more.
     pub fn new(
         alloc: Global,
         queue: u32,
@@ -101,9 +110,19 @@ impl Lane {
         })
     }
 
-    /// Begins to send a frame. `TooLong`, `Busy` and `NoRoom` come in this order, and change nothing; else the frame has the
-    /// next number and all its writes are left to post. The only error is want of memory, and then nothing changes: room for
-    /// the later calls of this frame is taken here.
+    /// Begins to send a frame. It gets the next number, and its writes are left to post: its chunks of 128 bytes, its
+    /// length and version, its flags, the doorbell.
+    ///
+    /// The frame has a byte at least. No link-down entry was begun on the lane before, since after it comes no other,
+    /// and fewer than 2^46 entries were begun.
+    ///
+    /// [`Begun::TooLong`], [`Begun::Busy`] and [`Begun::NoRoom`] are tested in this order, and change nothing. Room is
+    /// read from the next entry's slot and the index word (`ntb_transport` too), so an entry that was given back is
+    /// free only once its index write has landed. A lost link doesn't matter here: a cut lane begins entries as before.
+    ///
+    /// # Errors
+    ///
+    /// [`AllocError`] from want of memory alone, and then nothing changes. Room for the frame's posts is taken here.
     pub fn begin(&mut self, frame: Frame) -> Result<Begun, AllocError>
         requires some_bytes { 0 < length frame }
         requires open { IsOpen self.old.lane }
@@ -122,8 +141,17 @@ impl Lane {
         self.begin_entry(Entry::Carries(frame))
     }
 
-    /// Begins a link-down entry. `Busy` and `NoRoom` come in this order, and change nothing. After it no entry may be begun.
-    /// The only error is want of memory, and then nothing changes.
+    /// Begins a link-down entry: the word to the receiver that the sender's end of the queue goes down (`ntb_transport`
+    /// sends an entry with the flag LINK_DOWN). It has no payload, and is numbered with the frames. Its writes, length,
+    /// version, flags and doorbell, are left to post. After it no entry may be begun.
+    ///
+    /// As for [`Lane::begin`], no link-down entry was begun before, and fewer than 2^46 entries were begun.
+    ///
+    /// [`Begun::Busy`] and [`Begun::NoRoom`] are tested in this order, and change nothing.
+    ///
+    /// # Errors
+    ///
+    /// [`AllocError`] from want of memory alone, and then nothing changes.
     pub fn down(&mut self) -> Result<Begun, AllocError>
         requires open { IsOpen self.old.lane }
         requires few { length self.old.lane.sent < 2 ^ 46 }
@@ -165,8 +193,10 @@ impl Lane {
         Ok(Begun::Ok { number })
     }
 
-    /// Posts the next write of the entry that was begun last. `None` exactly where no write is left. Once the link was cut the
-    /// write is lost, and the label is answered all the same.
+    /// Posts the next write of the entry that was begun last, and answers its label. It is last of those in flight
+    /// then; once the link was cut it is lost instead, and the label is answered all the same, since nobody tells a
+    /// sender that a posted write went nowhere. `None` exactly where no write is left to post, and then nothing
+    /// changes.
     pub fn post(&mut self) -> Option<Label>
         ensures answer { result ≡ post_answer self.old }
         ensures after { self.new ≡ with_lane self.old (after_posting self.old.lane) }
@@ -178,8 +208,13 @@ impl Lane {
         Some(label(self.queue, &self.sent, mark))
     }
 
-    /// Lands the write at a place of those in flight towards the receiver, counted from 0 for the one that was posted first:
-    /// `Nothing` past their end, `Blocked` where it may not pass one before it, and neither changes anything.
+    /// Lands the write at a place of those in flight towards the receiver, counted from 0 for the one that was posted
+    /// first: what it writes stands in its entry's slot then (the doorbell writes nothing there), and the others in
+    /// flight keep their order.
+    ///
+    /// [`LaneLand::Nothing`] where no more than `place` writes are in flight, and else [`LaneLand::Blocked`] where the
+    /// write may not pass one before it: where it is strict and not at place 0 (PCI Express Base 4.0, section 2.4).
+    /// Neither changes anything. What was in flight when the link was cut still lands.
     pub fn land(&mut self, place: usize) -> LaneLand
         ensures answer { result ≡ land_answer self.old place }
         ensures after { self.new ≡ with_lane self.old (after_land self.old place) }
@@ -196,8 +231,11 @@ impl Lane {
         }
     }
 
-    /// Lands the index write at a place of those in flight back to the sender: `Nothing` past their end, `Blocked` behind
-    /// another, and neither changes anything.
+    /// Lands the index write at a place of those in flight back to the sender, counted from 0: the index word is its
+    /// entry's slot then, and the entry is free (`ntb_transport` writes its receiver's index back in the same way).
+    ///
+    /// [`LaneLand::Nothing`] where no more than `place` index writes are in flight, and else [`LaneLand::Blocked`]
+    /// where `place` isn't 0, since index writes are strict on every lane. Neither changes anything.
     pub fn land_index(&mut self, place: usize) -> LaneLand
         ensures answer { result ≡ land_index_answer self.old place }
         ensures after { self.new ≡ with_lane self.old (after_land_index self.old.lane place) }
@@ -217,10 +255,16 @@ impl Lane {
         }
     }
 
-    /// Looks for the next entry by the flags of its position. `OutOfTurn` where the receiver is still at another entry,
-    /// `Empty` where the flags lack DONE, `PeerDown` at a link-down entry, each time again; none of them changes anything. Else
-    /// the frame is there to be copied. The only error is want of memory, and then nothing changes: room for the later calls of
-    /// this frame is taken here.
+    /// Looks for the next entry by the flags in its slot. Where a frame stands there it is to be copied now.
+    ///
+    /// Tested in this order: [`LaneLook::OutOfTurn`] where the receiver is still at another entry; [`LaneLook::Empty`]
+    /// where the flags lack DONE; [`LaneLook::PeerDown`] at a link-down entry, at each look again. None of them changes
+    /// anything. The doorbell is not asked.
+    ///
+    /// # Errors
+    ///
+    /// [`AllocError`] from want of memory alone, and then nothing changes. Room for the frame's copies and its index
+    /// write is taken here.
     pub fn look(&mut self) -> Result<LaneLook, AllocError>
         ensures answer { IfOk result (λ look. look ≡ look_answer self.old.lane) }
         ensures after { IfOk result (λ look. self.new ≡ with_lane self.old (after_looking self.old.lane look)) }
@@ -247,8 +291,9 @@ impl Lane {
         }
     }
 
-    /// Copies the next 128 bytes of the frame that was found, the last part shorter. The last copy answers the whole frame.
-    /// `OutOfTurn` where no frame is being copied, and then nothing changes.
+    /// Copies the next part of the frame that was found: 128 bytes, or what is left of the frame. With the last part it
+    /// answers the whole frame. [`LaneCopy::OutOfTurn`] exactly where no frame is being copied, and then nothing
+    /// changes.
     pub fn copy(&mut self) -> LaneCopy
         ensures answer { result ≡ copy_answer self.old.lane }
         ensures after { self.new ≡ with_lane self.old (after_copying self.old.lane) }
@@ -273,8 +318,9 @@ impl Lane {
         }
     }
 
-    /// Clears the flags of the frame that was copied, and answers its number. `None` exactly where no frame was just copied, and
-    /// then nothing changes.
+    /// Clears the flags in the slot of the frame that was copied, and answers its number: the slot is empty for the
+    /// next round (`ntb_transport` clears them before it gives the entry back). `None` exactly where the receiver has
+    /// not just copied a frame whole, and then nothing changes.
     pub fn clear(&mut self) -> Option<u64>
         ensures answer { result ≡ clear_answer self.old.lane }
         ensures after { self.new ≡ with_lane self.old (after_clearing self.old.lane) }
@@ -290,8 +336,9 @@ impl Lane {
         Some(number)
     }
 
-    /// Posts the index write that gives the cleared frame's entry back, and answers the frame's number. `None` exactly where no
-    /// flags were just cleared, and then nothing changes. Once the link was cut the write is lost.
+    /// Posts the index write that gives the cleared frame's entry back, and answers the frame's number. `None` exactly
+    /// where no flags were just cleared, and then nothing changes. Once the link was cut the write is lost, and the
+    /// number is answered all the same.
     pub fn ack(&mut self) -> Option<u64>
         ensures answer { result ≡ ack_answer self.old.lane }
         ensures after { self.new ≡ with_lane self.old (after_acking self.old.lane) }
@@ -307,7 +354,11 @@ impl Lane {
         Some(number)
     }
 
-    /// The link is lost: what is posted from now on is lost. What is in flight may still land.
+    /// The link is lost. What is posted from now on, towards the receiver or back, is lost: [`Lane::post`] and
+    /// [`Lane::ack`] answer as before, and their writes are not in flight. What is in flight already may still land,
+    /// until [`Lane::drop_all`], and the receiver goes on with what has landed. A lane that was cut stays so, and a
+    /// second call changes nothing. That a write on a lost link is lost without a word is this project's reading of a
+    /// posted write.
     pub fn cut(&mut self)
         ensures after { self.new ≡ with_lane self.old (after_cut self.old.lane) }
         ensures law { HoldsRingLaw self.new.lane }
@@ -315,7 +366,9 @@ impl Lane {
         self.up = false;
     }
 
-    /// Drops all that is in flight in both directions on a lost link.
+    /// Drops all that is in flight in both directions. The link has to be lost already ([`Lane::cut`]). From then on no
+    /// place has a write, and each landing answers [`LaneLand::Nothing`]; ring, index word and what is left to post
+    /// stay.
     pub fn drop_all(&mut self)
         requires { self.old.lane.up ≡ false }
         ensures after { self.new ≡ with_lane self.old (after_drop self.old.lane) }

@@ -26,7 +26,7 @@ pub fn zeroed_ring(alloc: Global, entries: u32, largest: u32) -> Result<Vec<Slot
     Ok(ring)
 }
 
-/// The position of the entry of this number, in a ring of `entries` slots.
+/// The slot of the entry of this number, in a ring of `entries` slots.
 pub fn position_of(entries: u32, number: u64) -> u32
     requires { 0 < entries }
     ensures value { result ≡ number % entries }
@@ -35,7 +35,7 @@ pub fn position_of(entries: u32, number: u64) -> u32
     (number % u64::from(entries)) as u32
 }
 
-/// The free entries of a ring, by the position of the next entry and the index word.
+/// The free entries of a ring, by the slot of the next entry and the index word.
 pub fn free_between(entries: u32, head: u32, tail: u32) -> u32
     requires { head < entries }
     ensures { result ≡ free_entries entries head tail }
@@ -47,7 +47,7 @@ pub fn free_between(entries: u32, head: u32, tail: u32) -> u32
     }
 }
 
-/// Stores what a write of the lane writes: a field or the flags of its entry, in the place of that entry.
+/// Stores what a write of the lane writes: a field or the flags of its entry, in the slot of that entry.
 pub fn store(ring: &mut [Slot], entries: u32, sent: &[Entry], mark: Write)
     requires ring { length ring.old ≡ entries }
     requires can { CanStore (map place_seen ring.old) (map entry_seen sent.now) mark }
@@ -66,7 +66,7 @@ pub fn store(ring: &mut [Slot], entries: u32, sent: &[Entry], mark: Write)
     }
 }
 
-/// Puts these flags into the place of the entry of this number.
+/// Puts these flags into the slot of the entry of this number.
 pub fn put_flags(ring: &mut [Slot], entries: u32, number: u64, flags: u32)
     requires some { 0 < entries }
     requires ring { length ring.old ≡ entries }
@@ -76,8 +76,8 @@ pub fn put_flags(ring: &mut [Slot], entries: u32, number: u64, flags: u32)
     place.flags = flags;
 }
 
-/// Copies chunk `part` of the frame that stands in a place behind what was copied before, in room that was reserved, and answers
-/// whether more of the frame is left.
+/// Copies part `part` of the frame that stands in a slot behind what was copied before, in room that was reserved, and
+/// answers whether more of the frame is left.
 pub fn copy_chunk(copied: &mut Vec<u8>, place: &Slot, part: u32) -> bool
     requires begins { chunk_size * part ≤ place.now.len }
     requires stands { place.now.len ≤ length place.now.payload.items }

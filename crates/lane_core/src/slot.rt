@@ -1,4 +1,4 @@
-//! Positions of the ring in the receiver's memory.
+//! Slots of the ring in the receiver's memory.
 
 ghost use Rattle.std.specs.Prelude.{◌≡◌, ◌*◌, ◌<◌, ◌≤◌, length, IfOk};
 ghost use Rattle.lane_model.specs.Lane.{bytes_of, chunk_of, chunk_size, overwritten, with_field};
@@ -16,7 +16,7 @@ pub const DONE: u32 = 1;
 /// The bit of a header's flags that says that the sender's end of the queue goes down.
 pub const LINK_DOWN: u32 = 2;
 
-/// One position: the payload at its beginning and the fields of the header at its end.
+/// One slot: the payload at its beginning and the fields of the header at its end.
 #[derive(Drop)]
 pub struct Slot {
     pub payload: Vec<u8>,
@@ -25,7 +25,7 @@ pub struct Slot {
     pub flags: u32,
 }
 
-/// What the flags of a position say.
+/// What the flags of a slot say.
 #[derive(Clone, Copy)]
 pub enum Shown {
     Nothing,
@@ -37,7 +37,7 @@ impl Slot {
     ghost use Rattle.lane_core.specs.Fresh.{zeroed_slot};
     ghost use Rattle.lane_core.specs.Parts.{entry_seen, place_seen, BeginsWithin};
 
-    /// A position of which all bytes are zero, with room for payloads of up to `largest` bytes.
+    /// A slot of which all bytes are zero, with room for payloads of up to `largest` bytes.
     pub fn zeroed(alloc: Global, largest: u32) -> Result<Slot, AllocError>
         ensures { IfOk result (λ place. place_seen place ≡ zeroed_slot largest) }
     {
@@ -79,7 +79,7 @@ impl Slot {
     }
 }
 
-// Stores the chunk `part` of these bytes in its place of the payload.
+// Stores the chunk `part` of these bytes at its offset in the payload.
 fn put_chunk(payload: &mut [u8], part: u32, bytes: &[u8])
     requires begins { chunk_size * part < length bytes.now }
     requires fits { length bytes.now ≤ length payload.old }

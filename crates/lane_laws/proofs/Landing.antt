@@ -11,8 +11,8 @@ use Rattle.lane_model.specs.Steps.{after_landing}
 use Rattle.lane_laws.proofs.Numbers.{other_number}
 use Rattle.lane_laws.proofs.Ring.{place_same, place_other, each_place, length-ring_with}
 use Rattle.lane_laws.proofs.Chunks.{IsFieldOf, contains_cases, contains_first, field_among, cell_of_field, stands_written, stands_still, stands_under_flags, flags_stay, room_stays, fields_make_whole}
-use Rattle.lane_laws.proofs.Left.{flag_in_front, bell_in_front, left_nothing, cell_left, left_to_land_without, cell_to_land}
-use Rattle.lane_laws.proofs.Receiver.{same_counts}
+use Rattle.lane_laws.proofs.WritesToCome.{flag_in_front, bell_in_front, left_nothing, cell_left, left_to_land_without, cell_to_land}
+use Rattle.lane_laws.proofs.Receiver.{more_flagged}
 
 -- the writes to come, with the first in flight apart
 front_apart : (flight : List Write) (write : Write) (rest lost todo : List Write) → flight ≡ write ∷ rest → (flight ++ lost) ++ todo ≡ write ∷ ((rest ++ lost) ++ todo)
@@ -24,44 +24,39 @@ land_bell_keeps lost lost_back lane rest front h =
     let coming : List Write = (rest ++ lost) ++ lane.todo in
     let apart : (lane.flight ++ lost) ++ lane.todo ≡ Bell ∷ coming = front_apart lane.flight Bell rest lost lane.todo front in
     record {
-      two_entries = h.two_entries;
-      slots = h.slots;
-      rooms = h.rooms;
-      fits = h.fits;
-      freed_first = h.freed_first;
-      acked_first = h.acked_first;
-      cleared_first = h.cleared_first;
-      got_first = h.got_first;
-      flagged_first = h.flagged_first;
-      one_free = h.one_free;
-      phase_counts = same_counts lane.phase lane (after_landing lane Bell rest) refl refl refl (omega arith) h.phase_counts;
-      part_first = h.part_first;
-      left = elim h.left [
+      room = h.room;
+      frames = h.frames;
+      counts = h.counts;
+      receiver = h.receiver;
+      coming = record {
+        left = elim h.coming.left [
         | inl none ↦ absurd (bell_in_front (drop lane.flagged lane.sent) lane.flagged coming (subst (AreLeft lane.flagged (drop lane.flagged lane.sent)) apart none))
         | inr bell ↦
             let same : bell.0 ≡ coming = cc (bell.1, apart) in
             inl (subst (AreLeft lane.flagged (drop lane.flagged lane.sent)) same bell.3)
       ];
-      last = h.last;
+        last = h.coming.last;
+      };
       none_lost = h.none_lost;
-      whole = h.whole;
-      empty = h.empty;
-      landed = λ n field low high among. elim (h.landed n field low high among) [
+      standing = record {
+        whole = h.standing.whole;
+        empty = h.standing.empty;
+        landed = λ n field low high among. elim (h.standing.landed n field low high among) [
         | inl comes ↦ elim (contains_cases Bell coming (Data n field) (subst (λ w. Contains w (Data n field)) apart comes)) [
           | inl e ↦ absurd (cc e)
           | inr later ↦ inl later
         ]
         | inr stands ↦ inr stands
       ];
-      returning = h.returning;
-      index_word = h.index_word;
-      down_is_last = h.down_is_last;
+      };
+      back = h.back;
     }
 
 -- flags in front are those of the first entry that has none
 pub flag_is_next : (lost : List Write) (lost_back : List ℕ) (lane : Lane) (n : ℕ) (rest : List Write) → lane.flight ≡ Flag n ∷ rest → RingLaw lost lost_back lane
     → (n ≡ lane.flagged) × (n < length lane.sent) × (left : List Write) × ((rest ++ lost) ++ lane.todo ≡ Bell ∷ left) × AreLeft (lane.flagged + 1) (drop (lane.flagged + 1) lane.sent) left
-flag_is_next lost lost_back lane n rest front h = elim h.left [
+flag_is_next lost lost_back lane n rest front h =
+    elim h.coming.left [
   | inl left ↦
       let f = flag_in_front (drop lane.flagged lane.sent) lane.flagged n coming (subst (AreLeft lane.flagged (drop lane.flagged lane.sent)) apart left) in
       let d = length-drop lane.flagged lane.sent in
@@ -80,7 +75,7 @@ flag_is_next lost lost_back lane n rest front h = elim h.left [
 pub data_is_ahead : (lost : List Write) (lost_back : List ℕ) (lane : Lane) (n : ℕ) (field : Field) → Contains lane.flight (Data n field)
     → RingLaw lost lost_back lane → (lane.flagged ≤ n) × (n < length lane.sent) × Contains (data_of n (entry_of lane n)) (Data n field)
 data_is_ahead lost lost_back lane n field among h =
-    cell_to_land lane ((lane.flight ++ lost) ++ lane.todo) n field h.flagged_first h.left
+    cell_to_land lane ((lane.flight ++ lost) ++ lane.todo) n field h.counts.flagged_first h.coming.left
     (Contains-append_left (lane.flight ++ lost) lane.todo (Data n field) (Contains-append_left lane.flight lost (Data n field) among))
 
 -- where nothing is on its way, every entry has its flags
@@ -89,7 +84,7 @@ pub nothing_left : (lost : List Write) (lost_back : List ℕ) (lane : Lane) → 
 nothing_left lost lost_back lane up no_flight no_todo h =
     let none : lost ≡ [] = (h.none_lost up).0 in
     let nothing : (lane.flight ++ lost) ++ lane.todo ≡ [] = ap (λ w. (w ++ lost) ++ lane.todo) no_flight ∙ ap (λ w. w ++ lane.todo) none ∙ no_todo in
-    elim h.left [
+    elim h.coming.left [
       | inl left ↦
           let e : length (drop lane.flagged lane.sent) ≡ 0 = left_nothing (drop lane.flagged lane.sent) lane.flagged (subst (AreLeft lane.flagged (drop lane.flagged lane.sent)) nothing left) in
           omega (arith, length-drop lane.flagged lane.sent)
@@ -104,10 +99,10 @@ whole_under_flags lost lost_back lane n rest front h =
     let apart : (lane.flight ++ lost) ++ lane.todo ≡ Flag n ∷ ((rest ++ lost) ++ lane.todo) = front_apart lane.flight (Flag n) rest lost lane.todo front in
     let begun : n < length lane.sent = next.1 in
     let low : lane.flagged ≤ n = omega (arith, next.0) in
-    let room : length (slot_of lane n).payload ≡ lane.largest = h.rooms (n % lane.entries) (mod-lt n (omega arith)) in
-    let fits : length (bytes_of (entry_of lane n)) ≤ lane.largest = h.fits n begun in
+    let room : length (slot_of lane n).payload ≡ lane.largest = h.room.rooms (n % lane.entries) (mod-lt n (omega arith)) in
+    let fits : length (bytes_of (entry_of lane n)) ≤ lane.largest = h.frames.fits n begun in
     fields_make_whole (with_flags (slot_of lane n) (flags_of (entry_of lane n))) n (entry_of lane n) (omega arith)
-    (λ field among. stands_under_flags (slot_of lane n) n (entry_of lane n) field (flags_of (entry_of lane n)) (elim (h.landed n field low begun (cell_of_field n (entry_of lane n) field among)) [
+    (λ field among. stands_under_flags (slot_of lane n) n (entry_of lane n) field (flags_of (entry_of lane n)) (elim (h.standing.landed n field low begun (cell_of_field n (entry_of lane n) field among)) [
       | inl comes ↦ elim (contains_cases (Flag n) ((rest ++ lost) ++ lane.todo) (Data n field) (subst (λ w. Contains w (Data n field)) apart comes)) [
         | inl e ↦ absurd (cc e)
         | inr later ↦ elim (contains_cases Bell next.2 (Data n field) (subst (λ w. Contains w (Data n field)) next.3 later)) [
@@ -136,38 +131,46 @@ land_flag_keeps lost lost_back lane n rest front h =
     let elsewhere_above : (m : ℕ) → n < m → m < n + lane.entries → slot_of after m ≡ slot_of lane m =
     λ m low high. place_other lane n m slot (other_number lane.entries n m low high) in
     let whole_now : StandsWhole (slot_of after n) n (entry_of lane n) =
-    subst (λ p. StandsWhole p n (entry_of lane n)) (sym (place_same lane n n slot h.slots h.two_entries refl)) (whole_under_flags lost lost_back lane n rest front h) in
+    subst (λ p. StandsWhole p n (entry_of lane n)) (sym (place_same lane n n slot h.room.slots h.room.two_entries refl)) (whole_under_flags lost lost_back lane n rest front h) in
     record {
-      two_entries = h.two_entries;
-      slots = length-ring_with lane n slot h.slots;
-      rooms = λ k below. each_place lane n k slot (λ p. length p.payload ≡ lane.largest) h.slots below (h.rooms (n % lane.entries) in_ring) (h.rooms k below);
-      fits = h.fits;
-      freed_first = h.freed_first;
-      acked_first = h.acked_first;
-      cleared_first = h.cleared_first;
-      got_first = omega arith;
-      flagged_first = omega arith;
-      one_free = h.one_free;
-      phase_counts = same_counts lane.phase lane after refl refl refl (omega arith) h.phase_counts;
-      part_first = h.part_first;
-      left = inr (next.2, next.3, omega arith, next.4);
-      last = h.last;
+      room = record {
+        two_entries = h.room.two_entries;
+        slots = length-ring_with lane n slot h.room.slots;
+        rooms = λ k below. each_place lane n k slot (λ p. length p.payload ≡ lane.largest) h.room.slots below (h.room.rooms (n % lane.entries) in_ring) (h.room.rooms k below);
+      };
+      frames = h.frames;
+      counts = record {
+        freed_first = h.counts.freed_first;
+        acked_first = h.counts.acked_first;
+        cleared_first = h.counts.cleared_first;
+        got_first = omega arith;
+        flagged_first = omega arith;
+        one_free = h.counts.one_free;
+      };
+      receiver = record {
+        phase_counts = more_flagged lane.phase lane.acked lane.cleared lane.got lane.flagged (lane.flagged + 1) (omega arith) h.receiver.phase_counts;
+        part_first = h.receiver.part_first;
+      };
+      coming = record {
+        left = inr (next.2, next.3, omega arith, next.4);
+        last = h.coming.last;
+      };
       none_lost = h.none_lost;
-      whole = λ m low high. elim (cases_eq n m) [
+      standing = record {
+        whole = λ m low high. elim (cases_eq n m) [
         | inl same ↦ subst (λ k. StandsWhole (slot_of after k) k (entry_of lane k)) same whole_now
-        | inr apart_from ↦ subst (λ p. StandsWhole p m (entry_of lane m)) (sym (elsewhere_below m (omega arith) (omega arith))) (h.whole m low (omega arith))
+        | inr apart_from ↦ subst (λ p. StandsWhole p m (entry_of lane m)) (sym (elsewhere_below m (omega arith) (omega arith))) (h.standing.whole m low (omega arith))
       ];
-      empty = λ m low high. ap (λ p. p.flags) (elsewhere_above m (omega arith) (omega arith)) ∙ h.empty m (omega arith) high;
-      landed = λ m field low high among. elim (h.landed m field (omega arith) high among) [
+        empty = λ m low high. ap (λ p. p.flags) (elsewhere_above m (omega arith) (omega arith)) ∙ h.standing.empty m (omega arith) high;
+        landed = λ m field low high among. elim (h.standing.landed m field (omega arith) high among) [
         | inl comes ↦ elim (contains_cases (Flag n) ((rest ++ lost) ++ lane.todo) (Data m field) (subst (λ w. Contains w (Data m field)) apart comes)) [
           | inl e ↦ absurd (cc e)
           | inr later ↦ inl later
         ]
         | inr stands ↦ inr (subst (λ p. Stands p m (entry_of lane m) field) (sym (elsewhere_above m (omega arith) (omega arith))) stands)
       ];
-      returning = h.returning;
-      index_word = h.index_word;
-      down_is_last = h.down_is_last;
+      };
+      back = h.back;
     }
 
 -- the writes to come, with one of those in flight apart
@@ -202,10 +205,10 @@ land_data_keeps lost lost_back lane n field before behind middle h =
     let after : Lane = after_landing lane (Data n field) (before ++ behind) in
     let slot : Slot = with_field (slot_of lane n) n (entry_of lane n) field in
     let in_ring : n % lane.entries < lane.entries = mod-lt n (omega arith) in
-    let room : length (slot_of lane n).payload ≡ lane.largest = h.rooms (n % lane.entries) in_ring in
-    let fits : length (bytes_of (entry_of lane n)) ≤ length (slot_of lane n).payload = omega (arith, h.fits n high_n) in
+    let room : length (slot_of lane n).payload ≡ lane.largest = h.room.rooms (n % lane.entries) in_ring in
+    let fits : length (bytes_of (entry_of lane n)) ≤ length (slot_of lane n).payload = omega (arith, h.frames.fits n high_n) in
     let stays = room_stays (slot_of lane n) n (entry_of lane n) field of_entry fits in
-    let same_place : slot_of after n ≡ slot = place_same lane n n slot h.slots h.two_entries refl in
+    let same_place : slot_of after n ≡ slot = place_same lane n n slot h.room.slots h.room.two_entries refl in
     let elsewhere_below : (m : ℕ) → m < n → n < m + lane.entries → slot_of after m ≡ slot_of lane m =
     λ m low high. place_other lane n m slot (λ e. other_number lane.entries m n low high (sym e)) in
     let elsewhere_above : (m : ℕ) → n < m → m < n + lane.entries → slot_of after m ≡ slot_of lane m =
@@ -216,30 +219,29 @@ land_data_keeps lost lost_back lane n field before behind middle h =
     let still : (f : Field) → Stands (slot_of lane n) n (entry_of lane n) f → Stands (slot_of after n) n (entry_of lane n) f = λ f stands.
     subst (λ p. Stands p n (entry_of lane n) f) (sym same_place) (stands_still (slot_of lane n) n (entry_of lane n) field f of_entry fits stands) in
     record {
-      two_entries = h.two_entries;
-      slots = length-ring_with lane n slot h.slots;
-      rooms = λ k below. each_place lane n k slot (λ p. length p.payload ≡ lane.largest) h.slots below (stays ∙ room) (h.rooms k below);
-      fits = h.fits;
-      freed_first = h.freed_first;
-      acked_first = h.acked_first;
-      cleared_first = h.cleared_first;
-      got_first = h.got_first;
-      flagged_first = h.flagged_first;
-      one_free = h.one_free;
-      phase_counts = same_counts lane.phase lane after refl refl refl (omega arith) h.phase_counts;
-      part_first = h.part_first;
-      left = subst (AreLeftToLand lane) (sym left_now) (left_to_land_without lane before tail n field (subst (AreLeftToLand lane) apart h.left));
-      last = h.last;
+      room = record {
+        two_entries = h.room.two_entries;
+        slots = length-ring_with lane n slot h.room.slots;
+        rooms = λ k below. each_place lane n k slot (λ p. length p.payload ≡ lane.largest) h.room.slots below (stays ∙ room) (h.room.rooms k below);
+      };
+      frames = h.frames;
+      counts = h.counts;
+      receiver = h.receiver;
+      coming = record {
+        left = subst (AreLeftToLand lane.flagged lane.sent) (sym left_now) (left_to_land_without lane before tail n field (subst (AreLeftToLand lane.flagged lane.sent) apart h.coming.left));
+        last = h.coming.last;
+      };
       none_lost = h.none_lost;
-      whole = λ m low high. subst (λ p. StandsWhole p m (entry_of lane m)) (sym (elsewhere_below m (omega arith) (omega arith))) (h.whole m low high);
-      empty = λ m low high. elim (cases_order m n) [
-        | inl same ↦ ap (λ p. p.flags) (place_same lane n m slot h.slots h.two_entries (ap (λ k. k % lane.entries) same)) ∙ flags_stay (slot_of lane n) n (entry_of lane n) field ∙ h.empty n low_n (omega arith)
+      standing = record {
+        whole = λ m low high. subst (λ p. StandsWhole p m (entry_of lane m)) (sym (elsewhere_below m (omega arith) (omega arith))) (h.standing.whole m low high);
+        empty = λ m low high. elim (cases_order m n) [
+        | inl same ↦ ap (λ p. p.flags) (place_same lane n m slot h.room.slots h.room.two_entries (ap (λ k. k % lane.entries) same)) ∙ flags_stay (slot_of lane n) n (entry_of lane n) field ∙ h.standing.empty n low_n (omega arith)
         | inr other ↦ elim other [
-          | inl below ↦ ap (λ p. p.flags) (elsewhere_below m below (omega arith)) ∙ h.empty m low high
-          | inr above ↦ ap (λ p. p.flags) (elsewhere_above m above (omega arith)) ∙ h.empty m low high
+          | inl below ↦ ap (λ p. p.flags) (elsewhere_below m below (omega arith)) ∙ h.standing.empty m low high
+          | inr above ↦ ap (λ p. p.flags) (elsewhere_above m above (omega arith)) ∙ h.standing.empty m low high
         ]
       ];
-      landed = λ m f low high among. elim (h.landed m f low high among) [
+        landed = λ m f low high among. elim (h.standing.landed m f low high among) [
         | inl comes ↦ elim (contains_without before tail (Data n field) (Data m f) (subst (λ w. Contains w (Data m f)) apart comes)) [
           | inl e ↦
               let same_n : n ≡ m = cc in
@@ -255,7 +257,6 @@ land_data_keeps lost lost_back lane n field before behind middle h =
           ]
         ])
       ];
-      returning = h.returning;
-      index_word = h.index_word;
-      down_is_last = h.down_is_last;
+      };
+      back = h.back;
     }

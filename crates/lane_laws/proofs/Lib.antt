@@ -1,8 +1,9 @@
 pub mod Chunks
-pub mod Holds
+pub mod Facade
 pub mod Landing
-pub mod Left
+pub mod LaneLaws
 pub mod Numbers
 pub mod Receiver
 pub mod Ring
 pub mod Sender
+pub mod WritesToCome

@@ -17,105 +17,81 @@ use Rattle.lane_laws.proofs.Ring.{place_same, place_other, each_place, length-ri
 -- what an idle receiver reads, and what a copying one does
 pub look_sees : (lost : List Write) (lost_back : List ℕ) (lane : Lane) → lane.phase ≡ Idle → RingLaw lost lost_back lane → SeesNext lane
 look_sees lost lost_back lane idle h =
-    let counts : PhaseCounts Idle lane = subst (λ p. PhaseCounts p lane) idle h.phase_counts in record {
-      nothing = λ none. h.empty lane.got (omega arith) (omega arith);
-      an_entry = λ more. h.whole lane.got h.cleared_first more;
-      one_of_both = h.got_first;
+    let counts : PhaseCounts Idle lane.acked lane.cleared lane.got lane.flagged = subst (λ p. PhaseCounts p lane.acked lane.cleared lane.got lane.flagged) idle h.receiver.phase_counts in record {
+      nothing = λ none. h.standing.empty lane.got (omega arith) (omega arith);
+      an_entry = λ more. h.standing.whole lane.got h.counts.cleared_first more;
+      one_of_both = h.counts.got_first;
     }
 
 pub copy_sees : (lost : List Write) (lost_back : List ℕ) (lane : Lane) → lane.phase ≡ Copying → RingLaw lost lost_back lane
     → (lane.got < lane.flagged) × StandsWhole (slot_of lane lane.got) lane.got (entry_of lane lane.got)
     × (lane.part < copies_of (entry_of lane lane.got)) × Stands (slot_of lane lane.got) lane.got (entry_of lane lane.got) (Chunk lane.part)
 copy_sees lost lost_back lane copying h =
-    let counts : PhaseCounts Copying lane = subst (λ p. PhaseCounts p lane) copying h.phase_counts in
-    let whole = h.whole lane.got h.cleared_first counts.2 in
-    (counts.2, whole, h.part_first copying, chunk_of_whole (slot_of lane lane.got) lane.got (entry_of lane lane.got) lane.part whole)
+    let counts : PhaseCounts Copying lane.acked lane.cleared lane.got lane.flagged = subst (λ p. PhaseCounts p lane.acked lane.cleared lane.got lane.flagged) copying h.receiver.phase_counts in
+    let whole = h.standing.whole lane.got h.counts.cleared_first counts.2 in
+    (counts.2, whole, h.receiver.part_first copying, chunk_of_whole (slot_of lane lane.got) lane.got (entry_of lane lane.got) lane.part whole)
 
 -- the counts of a phase where only more flags landed
-pub same_counts : (phase : Phase) (lane next : Lane) → next.acked ≡ lane.acked → next.cleared ≡ lane.cleared → next.got ≡ lane.got → lane.flagged ≤ next.flagged
-    → PhaseCounts phase lane → PhaseCounts phase next
-same_counts Idle lane next a b c d h = (omega arith, omega arith)
-same_counts Copying lane next a b c d h = (omega arith, omega arith, omega arith)
-same_counts Copied lane next a b c d h = (omega arith, omega arith)
-same_counts Cleared lane next a b c d h = (omega arith, omega arith)
+pub more_flagged : (phase : Phase) (acked cleared got flagged more : ℕ) → flagged ≤ more → PhaseCounts phase acked cleared got flagged → PhaseCounts phase acked cleared got more
+more_flagged Idle acked cleared got flagged more low h = h
+more_flagged Copying acked cleared got flagged more low h = (h.0, h.1, omega (arith, h.2))
+more_flagged Copied acked cleared got flagged more low h = h
+more_flagged Cleared acked cleared got flagged more low h = h
 
 pub look_keeps : (lost : List Write) (lost_back : List ℕ) (lane : Lane) → lane.phase ≡ Idle → lane.got < lane.flagged
     → RingLaw lost lost_back lane → RingLaw lost lost_back (after_look lane)
 look_keeps lost lost_back lane idle more h =
-    let counts : PhaseCounts Idle lane = subst (λ p. PhaseCounts p lane) idle h.phase_counts in
+    let counts : PhaseCounts Idle lane.acked lane.cleared lane.got lane.flagged = subst (λ p. PhaseCounts p lane.acked lane.cleared lane.got lane.flagged) idle h.receiver.phase_counts in
     record {
-      two_entries = h.two_entries;
-      slots = h.slots;
-      rooms = h.rooms;
-      fits = h.fits;
-      freed_first = h.freed_first;
-      acked_first = h.acked_first;
-      cleared_first = h.cleared_first;
-      got_first = h.got_first;
-      flagged_first = h.flagged_first;
-      one_free = h.one_free;
-      phase_counts = (counts.0, counts.1, more);
-      part_first = λ copying. omega arith;
-      left = h.left;
-      last = h.last;
+      room = h.room;
+      frames = h.frames;
+      counts = h.counts;
+      receiver = record {
+        phase_counts = (counts.0, counts.1, more);
+        part_first = λ copying. omega arith;
+      };
+      coming = h.coming;
       none_lost = h.none_lost;
-      whole = h.whole;
-      empty = h.empty;
-      landed = h.landed;
-      returning = h.returning;
-      index_word = h.index_word;
-      down_is_last = h.down_is_last;
+      standing = h.standing;
+      back = h.back;
     }
 
 pub copy_keeps : (lost : List Write) (lost_back : List ℕ) (lane : Lane) → lane.phase ≡ Copying → RingLaw lost lost_back lane → RingLaw lost lost_back (after_copy lane)
 copy_keeps lost lost_back lane copying h =
-    let counts : PhaseCounts Copying lane = subst (λ p. PhaseCounts p lane) copying h.phase_counts in
+    let counts : PhaseCounts Copying lane.acked lane.cleared lane.got lane.flagged = subst (λ p. PhaseCounts p lane.acked lane.cleared lane.got lane.flagged) copying h.receiver.phase_counts in
     let one_part : more_to_copy lane ≡ true → RingLaw lost lost_back (record lane { part = lane.part + 1 }) = λ more. record {
-      two_entries = h.two_entries;
-      slots = h.slots;
-      rooms = h.rooms;
-      fits = h.fits;
-      freed_first = h.freed_first;
-      acked_first = h.acked_first;
-      cleared_first = h.cleared_first;
-      got_first = h.got_first;
-      flagged_first = h.flagged_first;
-      one_free = h.one_free;
-      phase_counts = same_counts lane.phase lane (record lane { part = lane.part + 1 }) refl refl refl (omega arith) h.phase_counts;
-      part_first = λ again. omega (arith, ltb-true _ _ more);
-      left = h.left;
-      last = h.last;
+      room = h.room;
+      frames = h.frames;
+      counts = h.counts;
+      receiver = record {
+        phase_counts = h.receiver.phase_counts;
+        part_first = λ again. omega (arith, ltb-true _ _ more);
+      };
+      coming = h.coming;
       none_lost = h.none_lost;
-      whole = h.whole;
-      empty = h.empty;
-      landed = h.landed;
-      returning = h.returning;
-      index_word = h.index_word;
-      down_is_last = h.down_is_last;
+      standing = h.standing;
+      back = h.back;
     } in
     let the_last : RingLaw lost lost_back (record lane { got = lane.got + 1; phase = Copied }) =
     record {
-      two_entries = h.two_entries;
-      slots = h.slots;
-      rooms = h.rooms;
-      fits = h.fits;
-      freed_first = h.freed_first;
-      acked_first = h.acked_first;
-      cleared_first = omega arith;
-      got_first = omega arith;
-      flagged_first = h.flagged_first;
-      one_free = h.one_free;
-      phase_counts = (counts.0, omega arith);
-      part_first = λ copying_still. absurd (cc copying_still);
-      left = h.left;
-      last = h.last;
+      room = h.room;
+      frames = h.frames;
+      counts = record {
+        freed_first = h.counts.freed_first;
+        acked_first = h.counts.acked_first;
+        cleared_first = omega arith;
+        got_first = omega arith;
+        flagged_first = h.counts.flagged_first;
+        one_free = h.counts.one_free;
+      };
+      receiver = record {
+        phase_counts = (counts.0, omega arith);
+        part_first = λ copying_still. absurd (cc copying_still);
+      };
+      coming = h.coming;
       none_lost = h.none_lost;
-      whole = h.whole;
-      empty = h.empty;
-      landed = h.landed;
-      returning = h.returning;
-      index_word = h.index_word;
-      down_is_last = h.down_is_last;
+      standing = h.standing;
+      back = h.back;
     } in
     elim (cases_Bool (more_to_copy lane)) [
       | inl more ↦ subst (RingLaw lost lost_back) (sym (cond-true (more_to_copy lane) _ _ more)) (one_part more)
@@ -124,112 +100,117 @@ copy_keeps lost lost_back lane copying h =
 
 pub clear_keeps : (lost : List Write) (lost_back : List ℕ) (lane : Lane) → lane.phase ≡ Copied → RingLaw lost lost_back lane → RingLaw lost lost_back (after_clear lane)
 clear_keeps lost lost_back lane copied h =
-    let counts : PhaseCounts Copied lane = subst (λ p. PhaseCounts p lane) copied h.phase_counts in
+    let counts : PhaseCounts Copied lane.acked lane.cleared lane.got lane.flagged = subst (λ p. PhaseCounts p lane.acked lane.cleared lane.got lane.flagged) copied h.receiver.phase_counts in
     let cleared_place : Slot = with_flags (slot_of lane lane.cleared) 0 in
     let in_ring : lane.cleared % lane.entries < lane.entries = mod-lt lane.cleared (omega arith) in
     let elsewhere : (n : ℕ) → lane.cleared < n → n < lane.cleared + lane.entries → slot_of (after_clear lane) n ≡ slot_of lane n =
     λ n low high. place_other lane lane.cleared n cleared_place (other_number lane.entries lane.cleared n low high) in
     record {
-      two_entries = h.two_entries;
-      slots = length-ring_with lane lane.cleared cleared_place h.slots;
-      rooms = λ k below. each_place lane lane.cleared k cleared_place (λ p. length p.payload ≡ lane.largest) h.slots below (h.rooms (lane.cleared % lane.entries) in_ring) (h.rooms k below);
-      fits = h.fits;
-      freed_first = h.freed_first;
-      acked_first = omega arith;
-      cleared_first = omega arith;
-      got_first = h.got_first;
-      flagged_first = h.flagged_first;
-      one_free = h.one_free;
-      phase_counts = (omega arith, omega arith);
-      part_first = λ copying. absurd (cc copying);
-      left = h.left;
-      last = h.last;
+      room = record {
+        two_entries = h.room.two_entries;
+        slots = length-ring_with lane lane.cleared cleared_place h.room.slots;
+        rooms = λ k below. each_place lane lane.cleared k cleared_place (λ p. length p.payload ≡ lane.largest) h.room.slots below (h.room.rooms (lane.cleared % lane.entries) in_ring) (h.room.rooms k below);
+      };
+      frames = h.frames;
+      counts = record {
+        freed_first = h.counts.freed_first;
+        acked_first = omega arith;
+        cleared_first = omega arith;
+        got_first = h.counts.got_first;
+        flagged_first = h.counts.flagged_first;
+        one_free = h.counts.one_free;
+      };
+      receiver = record {
+        phase_counts = (omega arith, omega arith);
+        part_first = λ copying. absurd (cc copying);
+      };
+      coming = h.coming;
       none_lost = h.none_lost;
-      whole = λ n low high. subst (λ p. StandsWhole p n (entry_of lane n)) (sym (elsewhere n (omega arith) (omega arith))) (h.whole n (omega arith) high);
-      empty = λ n low high. elim (cases_eq n (lane.cleared + lane.entries)) [
-        | inl round ↦ ap (λ p. p.flags) (place_same lane lane.cleared n cleared_place h.slots h.two_entries (ap (λ j. j % lane.entries) round ∙ add-mod_right lane.cleared lane.entries))
-        | inr before ↦ ap (λ p. p.flags) (elsewhere n (omega arith) (omega arith)) ∙ h.empty n low (omega arith)
+      standing = record {
+        whole = λ n low high. subst (λ p. StandsWhole p n (entry_of lane n)) (sym (elsewhere n (omega arith) (omega arith))) (h.standing.whole n (omega arith) high);
+        empty = λ n low high. elim (cases_eq n (lane.cleared + lane.entries)) [
+        | inl round ↦ ap (λ p. p.flags) (place_same lane lane.cleared n cleared_place h.room.slots h.room.two_entries (ap (λ j. j % lane.entries) round ∙ add-mod_right lane.cleared lane.entries))
+        | inr before ↦ ap (λ p. p.flags) (elsewhere n (omega arith) (omega arith)) ∙ h.standing.empty n low (omega arith)
       ];
-      landed = λ n field low high among. elim (h.landed n field low high among) [
+        landed = λ n field low high among. elim (h.standing.landed n field low high among) [
         | inl coming ↦ inl coming
         | inr stands ↦ inr (subst (λ p. Stands p n (entry_of lane n) field) (sym (elsewhere n (omega arith) (omega arith))) stands)
       ];
-      returning = h.returning;
-      index_word = h.index_word;
-      down_is_last = h.down_is_last;
+      };
+      back = h.back;
     }
 
 pub ack_keeps : (lost : List Write) (lost_back : List ℕ) (lane : Lane) → lane.phase ≡ Cleared → lane.up ≡ true → RingLaw lost lost_back lane → RingLaw lost lost_back (after_ack lane)
 ack_keeps lost lost_back lane cleared up h =
-    let counts : PhaseCounts Cleared lane = subst (λ p. PhaseCounts p lane) cleared h.phase_counts in
+    let counts : PhaseCounts Cleared lane.acked lane.cleared lane.got lane.flagged = subst (λ p. PhaseCounts p lane.acked lane.cleared lane.got lane.flagged) cleared h.receiver.phase_counts in
     let none : lost_back ≡ [] = (h.none_lost up).1 in
-    let before : lane.returning ≡ count_from lane.freed (lane.acked - lane.freed) = sym (append-nil lane.returning) ∙ ap (λ b. lane.returning ++ b) (sym none) ∙ h.returning in
+    let before : lane.returning ≡ count_from lane.freed (lane.acked - lane.freed) = sym (append-nil lane.returning) ∙ ap (λ b. lane.returning ++ b) (sym none) ∙ h.back.returning in
     let now : (if lane.up then lane.returning ++ lane.acked ∷ [] else lane.returning) ≡ lane.returning ++ lane.acked ∷ [] = cond-true lane.up _ _ up in
     let one_more : suc (lane.acked - lane.freed) ≡ lane.acked + 1 - lane.freed = omega arith in
     let pushed : lane.returning ++ lane.acked ∷ [] ≡ count_from lane.freed (lane.acked + 1 - lane.freed) =
     ap (λ b. b ++ lane.acked ∷ []) before ∙ count_from-push lane.freed (lane.acked - lane.freed) lane.acked (omega arith) ∙ ap (count_from lane.freed) one_more in
     record {
-      two_entries = h.two_entries;
-      slots = h.slots;
-      rooms = h.rooms;
-      fits = h.fits;
-      freed_first = omega arith;
-      acked_first = omega arith;
-      cleared_first = h.cleared_first;
-      got_first = h.got_first;
-      flagged_first = h.flagged_first;
-      one_free = h.one_free;
-      phase_counts = (omega arith, omega arith);
-      part_first = λ copying. absurd (cc copying);
-      left = h.left;
-      last = h.last;
+      room = h.room;
+      frames = h.frames;
+      counts = record {
+        freed_first = omega arith;
+        acked_first = omega arith;
+        cleared_first = h.counts.cleared_first;
+        got_first = h.counts.got_first;
+        flagged_first = h.counts.flagged_first;
+        one_free = h.counts.one_free;
+      };
+      receiver = record {
+        phase_counts = (omega arith, omega arith);
+        part_first = λ copying. absurd (cc copying);
+      };
+      coming = h.coming;
       none_lost = h.none_lost;
-      whole = h.whole;
-      empty = h.empty;
-      landed = h.landed;
-      returning = ap (λ b. b ++ lost_back) now ∙ ap (λ b. (lane.returning ++ lane.acked ∷ []) ++ b) none ∙ append-nil _ ∙ pushed;
-      index_word = h.index_word;
-      down_is_last = h.down_is_last;
+      standing = h.standing;
+      back = record {
+        returning = ap (λ b. b ++ lost_back) now ∙ ap (λ b. (lane.returning ++ lane.acked ∷ []) ++ b) none ∙ append-nil _ ∙ pushed;
+        index_word_is = h.back.index_word_is;
+      };
     }
 
 -- on a lost link the index write is lost
 pub ack_keeps_lost : (lost : List Write) (lost_back : List ℕ) (lane : Lane) → lane.phase ≡ Cleared → lane.up ≡ false → RingLaw lost lost_back lane
     → RingLaw lost (lost_back ++ lane.acked ∷ []) (after_ack lane)
 ack_keeps_lost lost lost_back lane cleared down h =
-    let counts : PhaseCounts Cleared lane = subst (λ p. PhaseCounts p lane) cleared h.phase_counts in
+    let counts : PhaseCounts Cleared lane.acked lane.cleared lane.got lane.flagged = subst (λ p. PhaseCounts p lane.acked lane.cleared lane.got lane.flagged) cleared h.receiver.phase_counts in
     let now : (if lane.up then lane.returning ++ lane.acked ∷ [] else lane.returning) ≡ lane.returning = cond-false lane.up _ _ down in
     let one_more : suc (lane.acked - lane.freed) ≡ lane.acked + 1 - lane.freed = omega arith in
     let pushed : (lane.returning ++ lost_back) ++ lane.acked ∷ [] ≡ count_from lane.freed (lane.acked + 1 - lane.freed) =
-    ap (λ b. b ++ lane.acked ∷ []) h.returning ∙ count_from-push lane.freed (lane.acked - lane.freed) lane.acked (omega arith) ∙ ap (count_from lane.freed) one_more in
+    ap (λ b. b ++ lane.acked ∷ []) h.back.returning ∙ count_from-push lane.freed (lane.acked - lane.freed) lane.acked (omega arith) ∙ ap (count_from lane.freed) one_more in
     record {
-      two_entries = h.two_entries;
-      slots = h.slots;
-      rooms = h.rooms;
-      fits = h.fits;
-      freed_first = omega arith;
-      acked_first = omega arith;
-      cleared_first = h.cleared_first;
-      got_first = h.got_first;
-      flagged_first = h.flagged_first;
-      one_free = h.one_free;
-      phase_counts = (omega arith, omega arith);
-      part_first = λ copying. absurd (cc copying);
-      left = h.left;
-      last = h.last;
+      room = h.room;
+      frames = h.frames;
+      counts = record {
+        freed_first = omega arith;
+        acked_first = omega arith;
+        cleared_first = h.counts.cleared_first;
+        got_first = h.counts.got_first;
+        flagged_first = h.counts.flagged_first;
+        one_free = h.counts.one_free;
+      };
+      receiver = record {
+        phase_counts = (omega arith, omega arith);
+        part_first = λ copying. absurd (cc copying);
+      };
+      coming = h.coming;
       none_lost = λ up. absurd (true≢false (sym up ∙ down));
-      whole = h.whole;
-      empty = h.empty;
-      landed = h.landed;
-      returning = ap (λ b. b ++ (lost_back ++ lane.acked ∷ [])) now ∙ sym (append_assoc lane.returning lost_back (lane.acked ∷ [])) ∙ pushed;
-      index_word = h.index_word;
-      down_is_last = h.down_is_last;
+      standing = h.standing;
+      back = record {
+        returning = ap (λ b. b ++ (lost_back ++ lane.acked ∷ [])) now ∙ sym (append_assoc lane.returning lost_back (lane.acked ∷ [])) ∙ pushed;
+        index_word_is = h.back.index_word_is;
+      };
     }
 
 -- what the index write on its way says
 pub index_is_next : (lost : List Write) (lost_back : List ℕ) (lane : Lane) (n : ℕ) (rest : List ℕ) → lane.returning ≡ n ∷ rest
     → RingLaw lost lost_back lane → (n ≡ lane.freed) × (n < lane.acked) × (rest ++ lost_back ≡ count_from (suc lane.freed) (lane.acked - lane.freed - 1))
 index_is_next lost lost_back lane n rest front h =
-    let first = count_from-first lane.freed (lane.acked - lane.freed) n (rest ++ lost_back) (sym (ap (λ b. b ++ lost_back) front) ∙ h.returning) in
+    let first = count_from-first lane.freed (lane.acked - lane.freed) n (rest ++ lost_back) (sym (ap (λ b. b ++ lost_back) front) ∙ h.back.returning) in
     (first.0, omega arith, first.2)
 
 pub index_keeps : (lost : List Write) (lost_back : List ℕ) (lane : Lane) (n : ℕ) (rest : List ℕ) → lane.returning ≡ n ∷ rest
@@ -239,76 +220,49 @@ index_keeps lost lost_back lane n rest front h =
     let one_on : suc lane.freed ≡ n + 1 = omega arith in
     let one_less : lane.acked - lane.freed - 1 ≡ lane.acked - (n + 1) = omega arith in
     record {
-      two_entries = h.two_entries;
-      slots = h.slots;
-      rooms = h.rooms;
-      fits = h.fits;
-      freed_first = omega arith;
-      acked_first = h.acked_first;
-      cleared_first = h.cleared_first;
-      got_first = h.got_first;
-      flagged_first = h.flagged_first;
-      one_free = omega arith;
-      phase_counts = same_counts lane.phase lane (after_index lane n rest) refl refl refl (omega arith) h.phase_counts;
-      part_first = h.part_first;
-      left = h.left;
-      last = h.last;
+      room = h.room;
+      frames = h.frames;
+      counts = record {
+        freed_first = omega arith;
+        acked_first = h.counts.acked_first;
+        cleared_first = h.counts.cleared_first;
+        got_first = h.counts.got_first;
+        flagged_first = h.counts.flagged_first;
+        one_free = omega arith;
+      };
+      receiver = h.receiver;
+      coming = h.coming;
       none_lost = h.none_lost;
-      whole = h.whole;
-      empty = h.empty;
-      landed = h.landed;
-      returning = next.2 ∙ ap (λ f. count_from f (lane.acked - lane.freed - 1)) one_on ∙ ap (count_from (n + 1)) one_less;
-      index_word = tail_after lane.entries n h.two_entries;
-      down_is_last = h.down_is_last;
+      standing = h.standing;
+      back = record {
+        returning = next.2 ∙ ap (λ f. count_from f (lane.acked - lane.freed - 1)) one_on ∙ ap (count_from (n + 1)) one_less;
+        index_word_is = tail_after lane.entries n h.room.two_entries;
+      };
     }
 
 pub cut_keeps : (lost : List Write) (lost_back : List ℕ) (lane : Lane) → RingLaw lost lost_back lane → RingLaw lost lost_back (after_cut lane)
-cut_keeps lost lost_back lane h = record {
-  two_entries = h.two_entries;
-  slots = h.slots;
-  rooms = h.rooms;
-  fits = h.fits;
-  freed_first = h.freed_first;
-  acked_first = h.acked_first;
-  cleared_first = h.cleared_first;
-  got_first = h.got_first;
-  flagged_first = h.flagged_first;
-  one_free = h.one_free;
-  phase_counts = same_counts lane.phase lane (after_cut lane) refl refl refl (omega arith) h.phase_counts;
-  part_first = h.part_first;
-  left = h.left;
-  last = h.last;
+cut_keeps lost lost_back lane h =
+    record {
+  room = h.room;
+  frames = h.frames;
+  counts = h.counts;
+  receiver = h.receiver;
+  coming = h.coming;
   none_lost = λ up. absurd (true≢false (sym up));
-  whole = h.whole;
-  empty = h.empty;
-  landed = h.landed;
-  returning = h.returning;
-  index_word = h.index_word;
-  down_is_last = h.down_is_last;
+  standing = h.standing;
+  back = h.back;
 }
 
 pub drop_keeps : (lost : List Write) (lost_back : List ℕ) (lane : Lane) → lane.up ≡ false → RingLaw lost lost_back lane
     → RingLaw (lane.flight ++ lost) (lane.returning ++ lost_back) (after_drop lane)
-drop_keeps lost lost_back lane down h = record {
-  two_entries = h.two_entries;
-  slots = h.slots;
-  rooms = h.rooms;
-  fits = h.fits;
-  freed_first = h.freed_first;
-  acked_first = h.acked_first;
-  cleared_first = h.cleared_first;
-  got_first = h.got_first;
-  flagged_first = h.flagged_first;
-  one_free = h.one_free;
-  phase_counts = same_counts lane.phase lane (after_drop lane) refl refl refl (omega arith) h.phase_counts;
-  part_first = h.part_first;
-  left = h.left;
-  last = h.last;
+drop_keeps lost lost_back lane down h =
+    record {
+  room = h.room;
+  frames = h.frames;
+  counts = h.counts;
+  receiver = h.receiver;
+  coming = h.coming;
   none_lost = λ up. absurd (true≢false (sym up ∙ down));
-  whole = h.whole;
-  empty = h.empty;
-  landed = h.landed;
-  returning = h.returning;
-  index_word = h.index_word;
-  down_is_last = h.down_is_last;
+  standing = h.standing;
+  back = h.back;
 }

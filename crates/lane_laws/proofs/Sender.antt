@@ -12,8 +12,7 @@ use Rattle.lane_model.specs.Steps.{after_begin, after_post}
 use Rattle.lane_laws.specs.Laws.{IsFresh, IsOpen}
 use Rattle.lane_model.specs.declared.Phase.TheVariants.{Copying}
 use Rattle.lane_laws.proofs.Numbers as numbers
-use Rattle.lane_laws.proofs.Left.{left_to_land_more}
-use Rattle.lane_laws.proofs.Receiver.{same_counts}
+use Rattle.lane_laws.proofs.WritesToCome.{left_to_land_more}
 
 pub fresh_holds : (lane : Lane) → IsFresh lane → RingLaw [] [] lane
 fresh_holds lane fresh =
@@ -28,27 +27,41 @@ fresh_holds lane fresh =
     let freed = fresh.freed in
     let two = fresh.two_entries in
     record {
-      two_entries = fresh.two_entries;
-      slots = fresh.slots;
-      rooms = λ k below. subst (λ j. length (get_or lane.ring j blank_slot).payload ≡ lane.largest) (mod-eq_of_lt below) (fresh.rooms k below);
-      fits = λ n below. absurd (omega arith);
-      freed_first = omega arith;
-      acked_first = omega arith;
-      cleared_first = omega arith;
-      got_first = omega arith;
-      flagged_first = omega arith;
-      one_free = omega arith;
-      phase_counts = subst (λ p. PhaseCounts p lane) (sym fresh.phase) (acked ∙ sym cleared, cleared ∙ sym got);
-      part_first = λ copying. absurd (cc (fresh.phase, copying));
-      left = inl (subst (λ es. AreLeft lane.flagged es ((lane.flight ++ []) ++ lane.todo)) (sym no_entries) no_marks);
-      last = inl fresh.todo;
+      room = record {
+        two_entries = fresh.two_entries;
+        slots = fresh.slots;
+        rooms = λ k below. subst (λ j. length (get_or lane.ring j blank_slot).payload ≡ lane.largest) (mod-eq_of_lt below) (fresh.rooms k below);
+      };
+      frames = record {
+        fits = λ n below. absurd (omega arith);
+        down_is_last = λ n below down. absurd (omega arith);
+      };
+      counts = record {
+        freed_first = omega arith;
+        acked_first = omega arith;
+        cleared_first = omega arith;
+        got_first = omega arith;
+        flagged_first = omega arith;
+        one_free = omega arith;
+      };
+      receiver = record {
+        phase_counts = subst (λ p. PhaseCounts p lane.acked lane.cleared lane.got lane.flagged) (sym fresh.phase) (acked ∙ sym cleared, cleared ∙ sym got);
+        part_first = λ copying. absurd (cc (fresh.phase, copying));
+      };
+      coming = record {
+        left = inl (subst (λ es. AreLeft lane.flagged es ((lane.flight ++ []) ++ lane.todo)) (sym no_entries) no_marks);
+        last = inl fresh.todo;
+      };
       none_lost = λ up. (refl, refl);
-      whole = λ n low high. absurd (omega arith);
-      empty = λ n low high. fresh.no_flags n;
-      landed = λ n field low high among. absurd (omega arith);
-      returning = append-nil lane.returning ∙ fresh.returning ∙ ap (count_from lane.freed) none_back;
-      index_word = fresh.index_word ∙ ap (tail_of lane.entries) (sym freed);
-      down_is_last = λ n below down. absurd (omega arith);
+      standing = record {
+        whole = λ n low high. absurd (omega arith);
+        empty = λ n low high. fresh.no_flags n;
+        landed = λ n field low high among. absurd (omega arith);
+      };
+      back = record {
+        returning = append-nil lane.returning ∙ fresh.returning ∙ ap (count_from lane.freed) none_back;
+        index_word_is = fresh.index_word ∙ ap (tail_of lane.entries) (sym freed);
+      };
     }
   where
     append-nil-twice : (a b : List Write) → a ≡ [] → b ≡ [] → (a ++ []) ++ b ≡ []
@@ -67,7 +80,7 @@ entry_last lane entry n e = get_or_push lane.sent entry GoesDown n (sym e)
 pub free_is_room : (lost : List Write) (lost_back : List ℕ) (lane : Lane) → RingLaw lost lost_back lane → free_in lane ≡ room_of lane.entries (length lane.sent) lane.freed
 free_is_room lost lost_back lane h =
     let low : lane.freed ≤ length lane.sent = omega arith in
-    ap (free_entries lane.entries (head_of lane.entries (length lane.sent))) h.index_word ∙ numbers.free_is_room lane.entries (length lane.sent) lane.freed h.two_entries low h.one_free
+    ap (free_entries lane.entries (head_of lane.entries (length lane.sent))) h.back.index_word_is ∙ numbers.free_is_room lane.entries (length lane.sent) lane.freed h.room.two_entries low h.counts.one_free
 
 pub begin_keeps : (lost : List Write) (lost_back : List ℕ) (lane : Lane) (entry : Entry) → lane.todo ≡ [] → 0 < free_in lane
     → length (bytes_of entry) ≤ lane.largest → IsOpen lane → RingLaw lost lost_back lane → RingLaw lost lost_back (after_begin lane entry)
@@ -79,34 +92,47 @@ begin_keeps lost lost_back lane entry no_todo free fits open_yet h =
     let new_writes : List Write = writes_of (length lane.sent) entry in
     let no_more : coming ++ lane.todo ≡ coming = ap (λ w. coming ++ w) no_todo ∙ append-nil coming in
     record {
-      two_entries = h.two_entries;
-      slots = h.slots;
-      rooms = h.rooms;
-      fits = λ n below. elim (cases_eq n (length lane.sent)) [
+      room = h.room;
+      frames = record {
+        fits = λ n below. elim (cases_eq n (length lane.sent)) [
         | inl new ↦ subst (λ e. length (bytes_of e) ≤ lane.largest) (sym (entry_last lane entry n new)) fits
         | inr old ↦
             let before : n < length lane.sent = omega arith in
-            subst (λ e. length (bytes_of e) ≤ lane.largest) (sym (entry_before lane entry n before)) (h.fits n before)
+            subst (λ e. length (bytes_of e) ≤ lane.largest) (sym (entry_before lane entry n before)) (h.frames.fits n before)
       ];
-      freed_first = h.freed_first;
-      acked_first = h.acked_first;
-      cleared_first = h.cleared_first;
-      got_first = h.got_first;
-      flagged_first = omega arith;
-      one_free = omega arith;
-      phase_counts = same_counts lane.phase lane next refl refl refl (omega arith) h.phase_counts;
-      part_first = λ copying.
-          let counts : PhaseCounts Copying lane = subst (λ p. PhaseCounts p lane) copying h.phase_counts in
+        down_is_last = λ n below down. elim (cases_eq n (length lane.sent)) [
+        | inl new ↦ omega arith
+        | inr old ↦
+            let before : n < length lane.sent = omega arith in
+            absurd (open_yet n before (sym (entry_before lane entry n before) ∙ down))
+      ];
+      };
+      counts = record {
+        freed_first = h.counts.freed_first;
+        acked_first = h.counts.acked_first;
+        cleared_first = h.counts.cleared_first;
+        got_first = h.counts.got_first;
+        flagged_first = omega arith;
+        one_free = omega arith;
+      };
+      receiver = record {
+        phase_counts = h.receiver.phase_counts;
+        part_first = λ copying.
+          let counts : PhaseCounts Copying lane.acked lane.cleared lane.got lane.flagged = subst (λ p. PhaseCounts p lane.acked lane.cleared lane.got lane.flagged) copying h.receiver.phase_counts in
           let before : lane.got < length lane.sent = omega (arith, counts.2) in
-          subst (λ e. lane.part < copies_of e) (sym (entry_before lane entry lane.got before)) (h.part_first copying);
-      left = left_to_land_more lane coming entry h.flagged_first (subst (AreLeftToLand lane) no_more h.left);
-      last = inr (length lane.sent, [], sym one_more, ap (writes_of (length lane.sent)) (entry_last lane entry (length lane.sent) refl));
+          subst (λ e. lane.part < copies_of e) (sym (entry_before lane entry lane.got before)) (h.receiver.part_first copying);
+      };
+      coming = record {
+        left = left_to_land_more lane coming entry h.counts.flagged_first (subst (AreLeftToLand lane.flagged lane.sent) no_more h.coming.left);
+        last = inr (length lane.sent, [], sym one_more, ap (writes_of (length lane.sent)) (entry_last lane entry (length lane.sent) refl));
+      };
       none_lost = h.none_lost;
-      whole = λ n low high.
+      standing = record {
+        whole = λ n low high.
           let before : n < length lane.sent = omega arith in
-          subst (StandsWhole (slot_of lane n) n) (sym (entry_before lane entry n before)) (h.whole n low high);
-      empty = h.empty;
-      landed = λ n field low high among. elim (cases_eq n (length lane.sent)) [
+          subst (StandsWhole (slot_of lane n) n) (sym (entry_before lane entry n before)) (h.standing.whole n low high);
+        empty = h.standing.empty;
+        landed = λ n field low high among. elim (cases_eq n (length lane.sent)) [
         | inl new ↦
             let of_entry : Contains (data_of n entry) (Data n field) = subst (λ e. Contains (data_of n e) (Data n field)) (entry_last lane entry n new) among in
             let of_last : Contains (data_of (length lane.sent) entry) (Data n field) = subst (λ m. Contains (data_of m entry) (Data n field)) new of_entry in
@@ -114,19 +140,13 @@ begin_keeps lost lost_back lane entry no_todo free fits open_yet h =
         | inr old ↦
             let before : n < length lane.sent = omega arith in
             let same = entry_before lane entry n before in
-            elim (h.landed n field low before (subst (λ e. Contains (data_of n e) (Data n field)) same among)) [
+            elim (h.standing.landed n field low before (subst (λ e. Contains (data_of n e) (Data n field)) same among)) [
               | inl comes ↦ inl (Contains-append_left coming new_writes (Data n field) (subst (λ w. Contains w (Data n field)) no_more comes))
               | inr stands ↦ inr (subst (λ e. Stands (slot_of lane n) n e field) (sym same) stands)
             ]
       ];
-      returning = h.returning;
-      index_word = h.index_word;
-      down_is_last = λ n below down. elim (cases_eq n (length lane.sent)) [
-        | inl new ↦ omega arith
-        | inr old ↦
-            let before : n < length lane.sent = omega arith in
-            absurd (open_yet n before (sym (entry_before lane entry n before) ∙ down))
-      ];
+      };
+      back = h.back;
     }
 
 -- posting changes neither what is left to land nor its order
@@ -135,33 +155,27 @@ posted : (lost lost_now : List Write) (lost_back : List ℕ) (lane : Lane) (writ
     → RingLaw lost lost_back lane → RingLaw lost_now lost_back (after_post lane write rest)
 posted lost lost_now lost_back lane write rest front same none h =
     record {
-      two_entries = h.two_entries;
-      slots = h.slots;
-      rooms = h.rooms;
-      fits = h.fits;
-      freed_first = h.freed_first;
-      acked_first = h.acked_first;
-      cleared_first = h.cleared_first;
-      got_first = h.got_first;
-      flagged_first = h.flagged_first;
-      one_free = h.one_free;
-      phase_counts = same_counts lane.phase lane (after_post lane write rest) refl refl refl (omega arith) h.phase_counts;
-      part_first = h.part_first;
-      left = subst (AreLeftToLand lane) (sym same) h.left;
-      last = elim h.last [
+      room = h.room;
+      frames = h.frames;
+      counts = h.counts;
+      receiver = h.receiver;
+      coming = record {
+        left = subst (AreLeftToLand lane.flagged lane.sent) (sym same) h.coming.left;
+        last = elim h.coming.last [
         | inl nothing ↦ absurd (cc (nothing, front))
         | inr ending ↦ inr (ending.0, ending.1 ++ write ∷ [], ending.2, ending.3 ∙ ap (λ w. ending.1 ++ w) front ∙ sym (append_assoc ending.1 (write ∷ []) rest))
       ];
+      };
       none_lost = none;
-      whole = h.whole;
-      empty = h.empty;
-      landed = λ n field low high among. elim (h.landed n field low high among) [
+      standing = record {
+        whole = h.standing.whole;
+        empty = h.standing.empty;
+        landed = λ n field low high among. elim (h.standing.landed n field low high among) [
         | inl comes ↦ inl (subst (λ w. Contains w (Data n field)) (sym same) comes)
         | inr stands ↦ inr stands
       ];
-      returning = h.returning;
-      index_word = h.index_word;
-      down_is_last = h.down_is_last;
+      };
+      back = h.back;
     }
 
 pub post_keeps : (lost : List Write) (lost_back : List ℕ) (lane : Lane) (write : Write) (rest : List Write) → lane.todo ≡ write ∷ rest → lane.up ≡ true

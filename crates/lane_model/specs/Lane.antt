@@ -34,7 +34,8 @@ pub record Lane : Type 0 where
   pub largest : ℕ
   -- whether what is posted is on its way; once the link is lost it is not
   pub up : Bool
-  -- the entries that the sender began in this session, numbered from 0, and the writes of the last one that are left to post
+  -- the entries that the sender began in this session, numbered from 0, and the writes of the last one that are left to
+  -- post
   pub sent : List Entry
   pub todo : List Write
   -- the writes in flight towards the receiver, and the numbers of the index writes in flight back to the sender
@@ -43,7 +44,8 @@ pub record Lane : Type 0 where
   -- the ring in the receiver's memory, and the index word in the sender's
   pub ring : List Slot
   pub index_word : ℕ
-  -- how many entries have their flags landed, were taken whole, were cleared, had their index write posted and had it landed
+  -- how many entries have their flags landed, were copied whole, were cleared, had their index write posted and had it
+  -- landed
   pub flagged : ℕ
   pub got : ℕ
   pub cleared : ℕ

@@ -1,7 +1,7 @@
 -- The law of a lane's ring: who owns each slot at each moment, and what stands there.
 --
--- The law holds of a lane from the start of its session until the receiver forgets the session. It speaks of relaxed and of
--- strict lanes at once: only which landings may happen tells them apart.
+-- The law holds of a lane from the start of its session until the receiver forgets the session. It speaks of relaxed
+-- and of strict lanes at once: only which landings may happen tells them apart.
 use Rattle.std.specs.Prelude.{◌≡◌, ℕ, suc, ◌+◌, ◌-◌, ◌*◌, ◌%◌, ◌<◌, ◌≤◌, true, List, [], ◌∷◌, ◌++◌, length, drop, take, slice_index_or, if◌then◌else◌, nat_lt, ◌⊎◌, Contains}
 use Rattle.lane_model.specs.Ring.{tail_of}
 use Rattle.lane_model.specs.Lane.{Entry, GoesDown, Field, Chunk, Length, Version, Write, Data, Flag, Bell, Slot, blank_slot, Lane, bytes_of, chunk_of, chunk_size, count_from, copies_of, data_of, writes_of, flags_of, version_of, entry_of, slot_of}
@@ -9,11 +9,11 @@ use Rattle.lane_model.specs.declared.Phase.{Phase}
 use Rattle.lane_model.specs.declared.Phase.TheVariants.{Idle, Copying, Copied, Cleared}
 
 -- How far the receiver's counts are apart in each phase.
-abbrev pub PhaseCounts : Phase → Lane → Type 0
-PhaseCounts Idle lane = (lane.acked ≡ lane.cleared) × (lane.cleared ≡ lane.got)
-PhaseCounts Copying lane = (lane.acked ≡ lane.cleared) × (lane.cleared ≡ lane.got) × (lane.got < lane.flagged)
-PhaseCounts Copied lane = (lane.acked ≡ lane.cleared) × (lane.cleared + 1 ≡ lane.got)
-PhaseCounts Cleared lane = (lane.acked + 1 ≡ lane.cleared) × (lane.cleared ≡ lane.got)
+abbrev pub PhaseCounts : Phase → (acked cleared got flagged : ℕ) → Type 0
+PhaseCounts Idle acked cleared got flagged = (acked ≡ cleared) × (cleared ≡ got)
+PhaseCounts Copying acked cleared got flagged = (acked ≡ cleared) × (cleared ≡ got) × (got < flagged)
+PhaseCounts Copied acked cleared got flagged = (acked ≡ cleared) × (cleared + 1 ≡ got)
+PhaseCounts Cleared acked cleared got flagged = (acked + 1 ≡ cleared) × (cleared ≡ got)
 
 -- these are some of those, in their order
 pub data IsPickedFrom : List Write → List Write → Type 0 where
@@ -26,15 +26,22 @@ abbrev pub AreLeft : ℕ → List Entry → List Write → Type 0
 AreLeft n [] writes = writes ≡ []
 AreLeft n (entry ∷ entries) writes = (fields : List Write) × (rest : List Write) × (writes ≡ fields ++ Flag n ∷ Bell ∷ rest) × IsPickedFrom fields (data_of n entry) × AreLeft (suc n) entries rest
 
--- The same with the doorbell of the entry before in front of it or not.
-abbrev pub AreLeftToLand : Lane → List Write → Type 0
-AreLeftToLand lane writes =
-    AreLeft lane.flagged (drop lane.flagged lane.sent) writes
-    ⊎ ((rest : List Write) × (writes ≡ Bell ∷ rest) × (0 < lane.flagged) × AreLeft lane.flagged (drop lane.flagged lane.sent) rest)
+-- The same with the doorbell of the entry before in front of it or not, so many entries having their flags.
+abbrev pub AreLeftToLand : ℕ → List Entry → List Write → Type 0
+AreLeftToLand flagged sent writes =
+    AreLeft flagged (drop flagged sent) writes ⊎ ((rest : List Write) × (writes ≡ Bell ∷ rest) × (0 < flagged) × AreLeft flagged (drop flagged sent) rest)
+
+-- entry n of those that were begun
+abbrev pub entry_among : List Entry → ℕ → Entry
+entry_among sent n = slice_index_or sent n GoesDown
+
+-- the slot of entry n in a ring
+abbrev pub slot_among : ℕ → List Slot → ℕ → Slot
+slot_among entries ring n = slice_index_or ring (n % entries) blank_slot
 
 -- the writes that are left to post end those of the entry that was begun last
-abbrev pub EndTheLast : Lane → Type 0
-EndTheLast lane = (lane.todo ≡ []) ⊎ ((n : ℕ) × (posted : List Write) × (n + 1 ≡ length lane.sent) × (writes_of n (entry_of lane n) ≡ posted ++ lane.todo))
+abbrev pub EndTheLast : List Entry → List Write → Type 0
+EndTheLast sent todo = (todo ≡ []) ⊎ ((n : ℕ) × (posted : List Write) × (n + 1 ≡ length sent) × (writes_of n (entry_among sent n) ≡ posted ++ todo))
 
 -- a field of entry n stands in a slot
 abbrev pub Stands : Slot → ℕ → Entry → Field → Type 0
@@ -49,39 +56,61 @@ pub record StandsWhole (slot : Slot) (n : ℕ) (entry : Entry) : Type 0 where
   pub ver : slot.ver ≡ version_of n
   pub flags : slot.flags ≡ flags_of entry
 
--- The law, `lost` being the writes that were posted, or were in flight, when the link was lost and will not land any more, and
--- `lost_back` the same of index writes.
+-- The law falls into parts, each over the numbers and lists that it speaks of.
+
+-- the ring has its slots, each with room for the largest payload
+pub record HasSlots (entries largest : ℕ) (ring : List Slot) : Type 0 where
+  pub two_entries : 2 ≤ entries
+  pub slots : length ring ≡ entries
+  pub rooms : (k : ℕ) → k < entries → length (slice_index_or ring k blank_slot).payload ≡ largest
+
+-- each frame fits, and after a link-down entry comes no other
+pub record EntriesFit (largest : ℕ) (sent : List Entry) : Type 0 where
+  pub fits : (n : ℕ) → n < length sent → length (bytes_of (entry_among sent n)) ≤ largest
+  pub down_is_last : (n : ℕ) → n < length sent → entry_among sent n ≡ GoesDown → n + 1 ≡ length sent
+
+-- the counts follow one another, and one entry stays free
+pub record CountsFollow (entries begun flagged got cleared acked freed : ℕ) : Type 0 where
+  pub freed_first : freed ≤ acked
+  pub acked_first : acked ≤ cleared
+  pub cleared_first : cleared ≤ got
+  pub got_first : got ≤ flagged
+  pub flagged_first : flagged ≤ begun
+  pub one_free : begun + 1 ≤ freed + entries
+
+-- where the receiver stands; a copying one has a copy left to make
+pub record ReceiverStands (phase : Phase) (part acked cleared got flagged : ℕ) (sent : List Entry) : Type 0 where
+  pub phase_counts : PhaseCounts phase acked cleared got flagged
+  pub part_first : phase ≡ Copying → part < copies_of (entry_among sent got)
+
+-- what the sender began lands in this order, fields alone excepted, `coming` being what is in flight, lost and to post
+pub record WritesCome (flagged : ℕ) (sent : List Entry) (coming todo : List Write) : Type 0 where
+  pub left : AreLeftToLand flagged sent coming
+  pub last : EndTheLast sent todo
+
+-- the receiver finds DONE just where an entry stands whole; each field of an entry without its flags is to come or stands
+pub record SlotsStand (entries : ℕ) (ring : List Slot) (sent : List Entry) (cleared flagged : ℕ) (coming : List Write) : Type 0 where
+  pub whole : (n : ℕ) → cleared ≤ n → n < flagged → StandsWhole (slot_among entries ring n) n (entry_among sent n)
+  pub empty : (n : ℕ) → flagged ≤ n → n < cleared + entries → (slot_among entries ring n).flags ≡ 0
+  pub landed : (n : ℕ) (field : Field) → flagged ≤ n → n < length sent → Contains (data_of n (entry_among sent n)) (Data n field)
+      → Contains coming (Data n field) ⊎ Stands (slot_among entries ring n) n (entry_among sent n) field
+
+-- the index writes on their way are those of the entries that were acknowledged and not yet given back
+pub record IndexesCome (entries freed acked index_word : ℕ) (coming : List ℕ) : Type 0 where
+  pub returning : coming ≡ count_from freed (acked - freed)
+  pub index_word_is : index_word ≡ tail_of entries freed
+
+-- The law, `lost` being the writes that were posted, or were in flight, when the link was lost and will not land any
+-- more, and `lost_back` the same of index writes.
 pub record RingLaw (lost : List Write) (lost_back : List ℕ) (lane : Lane) : Type 0 where
-  -- the ring has its slots, each with room for the largest payload, and each frame fits
-  pub two_entries : 2 ≤ lane.entries
-  pub slots : length lane.ring ≡ lane.entries
-  pub rooms : (k : ℕ) → k < lane.entries → length (slice_index_or lane.ring k blank_slot).payload ≡ lane.largest
-  pub fits : (n : ℕ) → n < length lane.sent → length (bytes_of (entry_of lane n)) ≤ lane.largest
-  -- the counts follow one another, and one entry stays free
-  pub freed_first : lane.freed ≤ lane.acked
-  pub acked_first : lane.acked ≤ lane.cleared
-  pub cleared_first : lane.cleared ≤ lane.got
-  pub got_first : lane.got ≤ lane.flagged
-  pub flagged_first : lane.flagged ≤ length lane.sent
-  pub one_free : length lane.sent + 1 ≤ lane.freed + lane.entries
-  pub phase_counts : PhaseCounts lane.phase lane
-  -- a copying receiver has a copy left to make
-  pub part_first : lane.phase ≡ Copying → lane.part < copies_of (entry_of lane lane.got)
-  -- what the sender began lands in this order, fields alone excepted
-  pub left : AreLeftToLand lane (lane.flight ++ lost ++ lane.todo)
-  pub last : EndTheLast lane
+  pub room : HasSlots lane.entries lane.largest lane.ring
+  pub frames : EntriesFit lane.largest lane.sent
+  pub counts : CountsFollow lane.entries (length lane.sent) lane.flagged lane.got lane.cleared lane.acked lane.freed
+  pub receiver : ReceiverStands lane.phase lane.part lane.acked lane.cleared lane.got lane.flagged lane.sent
+  pub coming : WritesCome lane.flagged lane.sent (lane.flight ++ lost ++ lane.todo) lane.todo
   pub none_lost : lane.up ≡ true → (lost ≡ []) × (lost_back ≡ [])
-  -- the receiver finds DONE just where an entry stands whole
-  pub whole : (n : ℕ) → lane.cleared ≤ n → n < lane.flagged → StandsWhole (slot_of lane n) n (entry_of lane n)
-  pub empty : (n : ℕ) → lane.flagged ≤ n → n < lane.cleared + lane.entries → (slot_of lane n).flags ≡ 0
-  -- each field of an entry without its flags is still to land or stands in its slot
-  pub landed : (n : ℕ) (field : Field) → lane.flagged ≤ n → n < length lane.sent → Contains (data_of n (entry_of lane n)) (Data n field)
-      → Contains (lane.flight ++ lost ++ lane.todo) (Data n field) ⊎ Stands (slot_of lane n) n (entry_of lane n) field
-  -- the index writes on their way are those of the entries that were acknowledged and not yet given back
-  pub returning : lane.returning ++ lost_back ≡ count_from lane.freed (lane.acked - lane.freed)
-  pub index_word : lane.index_word ≡ tail_of lane.entries lane.freed
-  -- after a link-down entry comes no other
-  pub down_is_last : (n : ℕ) → n < length lane.sent → entry_of lane n ≡ GoesDown → n + 1 ≡ length lane.sent
+  pub standing : SlotsStand lane.entries lane.ring lane.sent lane.cleared lane.flagged (lane.flight ++ lost ++ lane.todo)
+  pub back : IndexesCome lane.entries lane.freed lane.acked lane.index_word (lane.returning ++ lost_back)
 
 -- the law holds, whatever was lost
 abbrev pub HoldsRingLaw : Lane → Type 0
@@ -93,9 +122,9 @@ pub data Owner : Type 0 where
   Sender : Owner
   -- writes to it are on their way
   InFlight : Owner
-  -- its flags say DONE and the receiver has not taken it
+  -- its flags say DONE and the receiver has not copied it whole
   Landed : Owner
-  -- the receiver has taken it
+  -- the receiver has copied it and has not given it back
   Receiver : Owner
   -- the receiver has given it back and the sender has not heard of it
   Returning : Owner

@@ -1,4 +1,6 @@
--- The steps of a lane, each in closed form. Whether a step may be made is said elsewhere: here is what it changes.
+-- The steps of a lane, each in closed form: what a step changes where it is made. When it may be made, and what it
+-- answers, is no matter of the model of a lane: the machine of a lane and the ledger of a cluster say it, each for its
+-- own steps.
 use Rattle.std.specs.Prelude.{ℕ, ◌+◌, ◌%◌, Bool, false, List, [], ◌∷◌, ◌++◌, length, if◌then◌else◌, nat_lt}
 use Rattle.lane_model.specs.Lane.{Entry, Write, Data, Flag, Bell, Lane, bytes_of, chunks_in, writes_of, flags_of, entry_of, slot_of, ring_with, with_field, with_flags}
 use Rattle.lane_model.specs.declared.Phase.TheVariants.{Idle, Copying, Copied, Cleared}
@@ -21,7 +23,7 @@ after_landing lane Bell rest = record lane { flight = rest }
 abbrev pub after_look : Lane → Lane
 after_look lane = record lane { phase = Copying; part = 0 }
 
--- how many copies an entry takes: one for each chunk, and one where there is none
+-- whether the entry that is being copied has a part behind the next one
 abbrev pub more_to_copy : Lane → Bool
 more_to_copy lane = nat_lt (lane.part + 1) (chunks_in (length (bytes_of (entry_of lane lane.got))))
 

@@ -8,37 +8,44 @@
 
 pub mod examples;
 
-/// Where a receiver stands with the frame at the front of its ring.
+/// Where a receiver stands with the frame in the next slot of its ring. The order of the phases is that of
+/// `ntb_transport`'s receiver: it copies, clears the flags and writes the index back; that a script can put steps
+/// between them is this project's own.
 #[derive(Clone, Copy, Debug, PartialEq, Eq)]
 pub enum Phase {
-    /// No frame is looked at.
+    /// No frame is looked at: the next one may be looked for.
     Idle,
-    /// A frame was found and some of its bytes are still to be copied.
+    /// A frame was found, and at least one part of it is still to be copied.
     Copying,
-    /// The whole frame was copied and its flags still stand in the ring.
+    /// The whole frame was copied, and its flags still stand in the ring.
     Copied,
-    /// The flags are cleared and the index is still to be written back.
+    /// The flags are cleared, and the index write that gives the entry back is still to be posted.
     Cleared,
 }
 
-/// A part of an entry that is written before its flags.
+/// A field of an entry: what is written of it before its flags. The payload is cut into chunks of 128 bytes, each a
+/// write of its own; `ntb_transport` writes length and version beside it. Of the fields of one entry, and of several,
+/// any may land before any other where the pair's writes are relaxed (PCI Express Base 4.0, section 2.4).
 #[derive(Clone, Copy, Debug, PartialEq, Eq)]
 pub enum Field {
-    /// The bytes of the payload from 128 times `part` on, at most 128 of them.
+    /// The bytes of the payload from 128 times `part` on: 128 of them, or what is left. Parts are numbered from 0, and
+    /// a payload of up to 65,536 bytes has at most 512.
     Chunk { part: u32 },
-    /// The length in the header.
+    /// The length in the header: the bytes of the payload.
     Length,
-    /// The version in the header.
+    /// The version in the header: the entry's number modulo 2^32.
     Version,
 }
 
-/// A posted write of a lane.
+/// A posted write of a lane towards the receiver, by what it writes. `number` is its entry's, counted from 0 in the
+/// session. Index writes, which go the other way, are only their numbers.
 #[derive(Clone, Copy, Debug, PartialEq, Eq)]
 pub enum Write {
-    /// A field of an entry.
+    /// A field of an entry. It is relaxed on a pair that isn't declared strict.
     Data { number: u64, field: Field },
-    /// The flags of an entry: DONE, and LINK_DOWN where the entry says so.
+    /// The flags of an entry: DONE, and LINK_DOWN beside it at a link-down entry. Strict on every pair.
     Flag { number: u64 },
-    /// The doorbell.
+    /// The doorbell of the queue. Strict on every pair. It has no number, since a doorbell doesn't say which entry
+    /// rang.
     Bell,
 }

@@ -1,4 +1,6 @@
-//! The laws of every log, each the clause of a function with an empty body.
+//! The laws of every log, each the clause of a function with an empty body: it holds of every plan, every list of steps
+//! and whatever the memories show, but for the premises that a law's text names. In each, steps may be refused, and
+//! pairs, sides and queues be any.
 
 ghost use Rattle.ledger_laws.specs.Laws.{
   AgainWhereNoRoom,
@@ -12,48 +14,59 @@ ghost use Rattle.ledger_laws.specs.Laws.{
 };
 ghost use Rattle.ledger_laws.specs.Rings.{RingLawHolds};
 
-/// In every log, what was delivered on a lane in a session is a prefix of what was accepted there, and both are numbered
-/// from 0 on.
+/// In every log, what was delivered on a lane in a session is a prefix of what was accepted there, and both are
+/// numbered from 0 on. No premise.
 pub fn every_log_is_in_order()
     ensures { EveryLogIsInOrder }
 {}
 
-/// In every log no frame of a lane and a session is delivered twice.
+/// In every log no number of a lane and a session is delivered twice. No premise.
 pub fn every_frame_comes_once()
     ensures { EveryFrameComesOnce }
 {}
 
-/// A step that begins an entry is answered `again` exactly where no refusal before it does and the ring has no room.
+/// A step that begins an entry is answered `again` exactly where the answer is no refusal that is tested before the room,
+/// and the room is 0: the ring's entries less one, less the entries begun and plus the index writes landed in the
+/// session. No premise.
 pub fn again_where_no_room()
     ensures { AgainWhereNoRoom }
 {}
 
-/// A step that needs the link is answered `linkdown` exactly where the last link step of the pair left it not up.
+/// A step that needs the link is answered `linkdown` exactly where the last link step of the pair that wasn't refused
+/// left it not up, and no other step is. No premise.
 pub fn link_down_where_not_up()
     ensures { LinkDownWhereNotUp }
 {}
 
-/// The ledger's tallies are the numbers of frames that the log accepted and delivered.
+/// The ledger's tallies are the numbers of frames that the log accepted and delivered, for each lane and session. No
+/// premise.
 pub fn tallies_are_counts()
     ensures { TalliesAreCounts }
 {}
 
-/// The answers to the steps on one pair don't depend on the steps on other pairs.
+/// The answers to the steps on one pair don't depend on the steps on other pairs. Premise: what each pair's memories
+/// show depends on the steps on that pair alone.
 pub fn pairs_are_separate()
     ensures { PairsAreSeparate }
 {}
 
-/// A check that is answered `up` has found the peer's numbers in the scratchpads, all landed in the session, and they agree.
+/// A check that is answered `up` has found the peer's numbers in the scratchpads, all landed in the session, and they
+/// agree with the side's own. Premises: the pair stands in the plan, each pair has numbers that a script can declare,
+/// and among the steps on the pair none writes a scratchpad below 12 or bytes past the transport.
 pub fn up_means_agreement()
     ensures { UpMeansAgreement }
 {}
 
 /// Where nothing is on its way to a receiver and it has seen so, all that was accepted in the session was delivered.
+/// Premises, all of the moment: the link is up, the queue is joined and open at the receiver, nothing is in flight
+/// towards it or left to post on the queue, its doorbell isn't pending, and the last look since it was taken was
+/// `empty`.
 pub fn quiet_means_done()
     ensures { QuietMeansDone }
 {}
 
-/// Whenever both sides of an ordinary pair are up, the law of the ring holds of each of its lanes.
+/// Whenever both sides of a pair are up, the law of the ring holds of each of its lanes. Premises: the lane's window
+/// has a ring, and among the steps on the pair none writes a scratchpad below 12 or bytes past the transport.
 pub fn ring_law_holds()
     ensures { RingLawHolds }
 {}

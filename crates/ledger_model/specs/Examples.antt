@@ -21,7 +21,7 @@ small_side = record { version = 4; queues = 1; windows = 1; size = 4096; cap = 4
 
 -- one pair of such sides with an mtu of 1,023: a ring of 4 entries, with payloads of up to 1,011 bytes
 abbrev pub small_pair : PairPlan
-small_pair = record { name = 112 ∷ []; a = small_side; b = small_side; mtu = 1023; up = true; strict = true; raw = false }
+small_pair = record { name = 112 ∷ []; a = small_side; b = small_side; mtu = 1023; up = true; strict = true; raw = false; class_a = replicate 16 0; class_b = replicate 16 0 }
 
 abbrev pub plan_of : PairPlan → List DevPlan → Plan
 plan_of pair devs = record { pairs = pair ∷ []; devs = devs; steps = []; traffic = [] }
@@ -63,7 +63,7 @@ RoomAfterIndex =
     (send 0 A 0 letter ++ send 0 A 0 letter ++ send 0 A 0 letter ++ land_all 0 A 15 ++ receive 0 B 0 1 ++ Land 0 B 0 ∷ [] ++ send 0 A 0 letter ++ Begin 0 A 0 letter ∷ []))
     ≡ received_answers 0 letter ++ Landed (Index 0 0) ∷ [] ++ sent_answers 3 ++ Again 0 0 ∷ []
 
--- the largest payload is taken, one byte more is too long, and a lane with writes left to post is busy
+-- the largest payload is accepted, one byte more is too long, and a lane with writes left to post is busy
 abbrev pub LongAndBusy : Type 0
 LongAndBusy = answers small_pair [] (Begin 0 A 0 (replicate 1011 7) ∷ Begin 0 A 0 (replicate 1012 7) ∷ Begin 0 A 0 letter ∷ [])
     ≡ OkNumber 0 ∷ TooLong 1012 1011 ∷ Busy ∷ []
@@ -161,7 +161,7 @@ MaskedDoorbell =
     drop 12 (answers small_pair [] (Mask 0 B 1 ∷ send 0 A 0 letter ++ land_all 0 A 5 ++ Irq 0 B ∷ Unmask 0 B 1 ∷ Irq 0 B ∷ Irq 0 B ∷ receive 0 B 0 1))
     ≡ IrqBits 0 ∷ Done ∷ IrqBits 1 ∷ IrqBits 0 ∷ received_answers 0 letter
 
--- a link-down frame closes the queue at the sender at once and at the receiver when it is looked at
+-- a link-down entry closes the queue at the sender at once and at the receiver when it is looked at
 abbrev pub LinkDownFrame : Type 0
 LinkDownFrame =
     answers small_pair [] (QpDown 0 A 0 ∷ Begin 0 A 0 letter ∷ replicate 4 (Post 0 A 0) ++ land_all 0 A 3 ++ Look 0 B 0 ∷ Begin 0 B 0 letter ∷ Look 0 B 0 ∷ [])

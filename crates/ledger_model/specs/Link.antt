@@ -46,14 +46,14 @@ abbrev pub refused_where : Bool → LinkRefusal → Option LinkRefusal → Optio
 refused_where true refusal later = Some refusal
 refused_where false refusal later = later
 
--- a side agrees to bring the link up
+-- why a side may not agree to bring the link up, and the link where it does
 abbrev pub enable_refusal : Link → Side → Option LinkRefusal
 enable_refusal link side = refused_where (not (is_down link.state)) NotDown (refused_where (not (at_side link.clean side)) Dirty None)
 
 abbrev pub enabled_link : Link → Side → Link
 enabled_link link side = record { state = link.state; session = link.session; enabled = with_side link.enabled side true; clean = link.clean }
 
--- the link comes up in the next session, once both sides agreed
+-- why the link may not come up, and the link in its next session where it does
 abbrev pub train_refusal : Link → Option LinkRefusal
 train_refusal link =
     refused_where (not (is_down link.state)) NotDown
@@ -62,21 +62,22 @@ train_refusal link =
 abbrev pub trained_link : Link → Link
 trained_link link = record { state = Up; session = link.session + 1; enabled = link.enabled; clean = link.clean }
 
--- the link is lost
+-- why the link can't be lost, and the link that is closing where it is
 abbrev pub cut_refusal : Link → Option LinkRefusal
 cut_refusal link = refused_where (not (is_up link.state)) NotUp None
 
 abbrev pub cut_link : Link → Link
 cut_link link = record { state = Closing; session = link.session; enabled = link.enabled; clean = link.clean }
 
--- nothing of the lost session is in flight any more, and both sides have it still in mind
+-- why what is in flight can't be dropped, and the link where it is: down, and both sides have the lost session still in
+-- mind
 abbrev pub drop_refusal : Link → Option LinkRefusal
 drop_refusal link = refused_where (not (is_closing link.state)) NotClosing None
 
 abbrev pub dropped_link : Link → Link
 dropped_link link = record { state = Down; session = link.session; enabled = both_of false; clean = both_of false }
 
--- a side forgets the lost session
+-- why a side can't forget the lost session, and the link where it does
 abbrev pub clean_refusal : Link → Option LinkRefusal
 clean_refusal link = refused_where (not (is_down link.state)) NotDown None
 

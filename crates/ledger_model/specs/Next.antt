@@ -78,7 +78,7 @@ abbrev pub no_side : SidePlan
 no_side = record { version = 0; queues = 0; windows = 0; size = 0; cap = 0 }
 
 abbrev pub no_pair : PairPlan
-no_pair = record { name = []; a = no_side; b = no_side; mtu = 0; up = false; strict = false; raw = false }
+no_pair = record { name = []; a = no_side; b = no_side; mtu = 0; up = false; strict = false; raw = false; class_a = replicate 16 0; class_b = replicate 16 0 }
 
 abbrev pub no_dev : DevPlan
 no_dev = record { name = []; pair = 0; side = A; queue = 0; address = []; stop = 0; start = 0 }

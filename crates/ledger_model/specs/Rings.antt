@@ -26,7 +26,7 @@ pub record RingPart : Type 0 where
 abbrev pub zeroed_slot : ℕ → Slot
 zeroed_slot largest = record { payload = replicate largest 0; len = 0; ver = 0; flags = 0 }
 
--- before any step; on a pair that starts up the index word says that no entry is taken
+-- before any step; on a pair that starts up the index word says that all entries but one are free
 abbrev pub fresh_ring : Sizes → Bool → RingPart
 fresh_ring sizes up = record { ring = replicate sizes.entries (zeroed_slot sizes.largest); index_word = (if up then sizes.entries - 1 else 0) }
 

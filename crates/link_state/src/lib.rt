@@ -38,7 +38,8 @@ use flags::Flags;
 /// The last session that a pair can have.
 const LAST_SESSION: u32 = 65535;
 
-/// The link of one pair.
+/// The link of one pair. Contracts see its state, the number of its session, and for each side whether it has enabled
+/// the link and whether it is clean.
 #[derive(Clone, Copy, Debug, PartialEq, Eq)]
 pub struct Link {
     state: LinkState,
@@ -104,7 +105,7 @@ impl Link {
         self.clean.at(side)
     }
 
-    /// The side agrees to bring the link up.
+    /// The side agrees to bring the link up (`ntb_link_enable`). A second call changes nothing.
     ///
     /// # Errors
     ///
@@ -149,7 +150,8 @@ impl Link {
         Ok(self.session)
     }
 
-    /// The link is lost.
+    /// The link is lost: it is closing, and what is in flight may still land until [`Link::drop_done`]. The session's
+    /// number stays.
     ///
     /// # Errors
     ///
@@ -184,7 +186,8 @@ impl Link {
         Ok(())
     }
 
-    /// The side has forgotten the lost session: it is clean.
+    /// The side has forgotten the lost session: it is clean, and may enable the link again. A second call changes
+    /// nothing.
     ///
     /// # Errors
     ///

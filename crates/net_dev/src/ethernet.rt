@@ -1,4 +1,5 @@
-//! Ethernet frames: two addresses of six bytes, the kind of the payload, and the payload.
+//! Ethernet frames (IEEE 802.3, without tags and checksum): the address of six bytes that a frame goes to, that of the
+//! device that it comes from, the kind of the payload, and the payload.
 
 ghost use Rattle.std.specs.Prelude.{IfErr, IfOk, IsErr, drop, length, ◌<◌, ◌↔◌, ◌≡◌, ◌≤◌};
 ghost use Rattle.ledger_model.specs.Device.{ethernet_frame, ethernet_header};
@@ -17,7 +18,7 @@ pub struct Header {
     pub dst: [u8; 6],
     /// The address of the device that it comes from.
     pub src: [u8; 6],
-    /// The kind of the payload.
+    /// The kind of the payload (its EtherType), 0 to 65,535: two bytes of the frame, the higher one first.
     pub kind: u16,
 }
 
@@ -29,12 +30,13 @@ pub struct Short {
     pub len: u32,
 }
 
-/// The Ethernet frame with these addresses and this kind, its high byte first, around a payload of at most 65,522
-/// bytes.
+/// The Ethernet frame with these addresses and this kind, its high byte first, before a payload, which has to have at
+/// most 65,522 bytes: with the 14 bytes before it the frame has at most 65,536. So the largest payload of a device is
+/// 14 bytes below the longest frame of its queue.
 ///
 /// # Errors
 ///
-/// [`AllocError`] where the machine has no memory left.
+/// [`AllocError`] from want of memory alone.
 pub fn encode(
     alloc: Global,
     dst: [u8; 6],
@@ -53,12 +55,12 @@ pub fn encode(
     Ok(Frame::of_vec(bytes))
 }
 
-/// Reads the addresses and the kind of an Ethernet frame of at most 65,536 bytes. Its payload is what follows the
-/// first 14 bytes.
+/// Reads the addresses and the kind of an Ethernet frame, which has to have at most 65,536 bytes. Its payload is what
+/// follows the first 14 bytes, and may be empty. It takes no memory.
 ///
 /// # Errors
 ///
-/// [`Short`], with the number of bytes, where these are fewer than 14.
+/// [`Short`], with the number of bytes, exactly where these are fewer than 14.
 pub fn decode(bytes: &[u8]) -> Result<Header, Short>
     requires { length bytes.now ≤ 65536 }
     ensures exact { IsErr result ↔ (length bytes.now < ethernet_header) }

@@ -5,7 +5,8 @@ ghost use Rattle.std.specs.Prelude.{false, not, ◌≡◌};
 use std::marker::Model;
 
 /// The flow of a device: whether it is stopped, and the limits at which it stops and goes on, in free entries of its
-/// ring.
+/// ring (the transmit queue of `ntb_netdev` stops below one limit and starts again at another). Limits are 0 to 65,535
+/// in a script, and `start` is at least `stop` there; here each number is taken as it is.
 #[derive(Clone, Copy, Debug, PartialEq, Eq)]
 pub struct Flow {
     stop: u32,
@@ -46,8 +47,8 @@ impl Flow {
         self.stopped
     }
 
-    /// A frame was sent and left `free` entries: the device stops where these are fewer than its limit, and else
-    /// stays as it is.
+    /// A frame was sent and left `free` entries: the device stops where these are fewer than `stop`, and else stays as
+    /// it is, stopped or not.
     pub fn after_send(&mut self, free: u32)
         ensures { self.new ≡ with_stopped self.old (stopped_after_send self.old free) }
     {
@@ -56,8 +57,8 @@ impl Flow {
         }
     }
 
-    /// Lets the device go on, unless it is stopped and fewer than `start` entries are free. Answers whether it goes
-    /// on now.
+    /// Lets the device go on, unless it is stopped and fewer than `start` entries are free. Answers `true` exactly
+    /// where the device isn't stopped afterwards.
     pub fn try_wake(&mut self, free: u32) -> bool
         ensures answer { result ≡ not (stays_stopped self.old free) }
         ensures after { self.new ≡ with_stopped self.old (stays_stopped self.old free) }
@@ -69,7 +70,7 @@ impl Flow {
         true
     }
 
-    /// The device goes on, as after its link was lost.
+    /// The device goes on, as at the clean of its side after its link was lost.
     pub fn reset(&mut self)
         ensures { self.new ≡ with_stopped self.old false }
     {

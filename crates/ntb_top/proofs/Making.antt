@@ -149,8 +149,8 @@ copy_made old copy lane delivered few answered after law counted =
     (λ known plan bytes now h.
     let both = copy_shows old.lane plan now old.accepted old.delivered h known in
     let all = h.given_all in
-    let within = h.law.2.got_first in
-    let begun = h.law.2.flagged_first in
+    let within = h.law.2.counts.got_first in
+    let begun = h.law.2.counts.flagged_first in
     let same : given_after answer old.delivered ≡ delivered = sym (counted (omega arith) ∙ ap (λ (c : LaneCopy). given_after c old.delivered) answered) in (
       both.0,
       subst (λ (given : ℕ). Shows (with_lane old.lane (after_copying old.lane.lane)) plan

@@ -12,7 +12,7 @@ use Rattle.lane_model.specs.declared.Write.TheVariants.{Data, Flag, Bell}
 use Rattle.lane_model.specs.Law.{HoldsRingLaw, AreLeft, IsPickedFrom, Nothing, Taken, Left}
 use Rattle.lane_model.specs.Order.{strict}
 use Rattle.lane_laws.specs.Laws.{IsOpen}
-use Rattle.lane_laws.proofs.Chunks.{contains_cases, contains_none, contains_later, field_of_data}
+use Rattle.lane_laws.proofs.Facade.{contains_cases, contains_none, contains_later, field_of_data}
 use Rattle.lane_core.specs.Calls as calls
 use Rattle.lane_core.specs.Calls.{label_in, order_of_mark}
 use Rattle.ledger_model.specs.Labels.{label_of, order_of}
@@ -111,7 +111,7 @@ flag_left (entry ∷ entries) n marks k h among =
     ]
 
 pub flag_known : (lane : Lane) (k : ℕ) → HoldsRingLaw lane → Contains (lane.flight ++ lane.todo) (Flag k) → k < length lane.sent
-flag_known lane k law among = elim law.2.left [
+flag_known lane k law among = elim law.2.coming.left [
   | inl left ↦ at_entries ((lane.flight ++ law.0) ++ lane.todo) left still
   | inr bell ↦ elim (contains_cases Bell bell.0 (Flag k) (subst (λ w. Contains w (Flag k)) bell.1 still)) [
     | inl e ↦ absurd (cc e)
@@ -129,7 +129,7 @@ flag_known lane k law among = elim law.2.left [
     at_entries marks left there =
         let below = flag_left (drop lane.flagged lane.sent) lane.flagged marks k left there in
         let rest = length-drop lane.flagged lane.sent in
-        let first = law.2.flagged_first in
+        let first = law.2.counts.flagged_first in
         omega arith
 
 -- the label of a write that is left to land, of a lane that carries frames alone

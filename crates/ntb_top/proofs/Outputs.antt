@@ -10,9 +10,9 @@ use Rattle.ntb_top.specs.declared.program.Stop.{Stop}
 use Rattle.std.proofs.lemmas.List.{length-replicate}
 use Rattle.std.specs.Prelude.{nat_lt}
 use Rattle.std.proofs.lemmas.Bool.{lt-ltb}
-use Rattle.ledger_laws.proofs.LinkAnswers.{link_down_where_not_up}
-use Rattle.ledger_laws.proofs.Room.{again_where_no_room}
-use Rattle.ledger_laws.proofs.Sessions.{every_frame_comes_once, every_log_is_in_order}
+use Rattle.ledger_laws.proofs.Facade.{link_down_where_not_up}
+use Rattle.ledger_laws.proofs.Facade.{again_where_no_room}
+use Rattle.ledger_laws.proofs.Facade.{every_frame_comes_once, every_log_is_in_order}
 use Rattle.ntb_top.specs.Headline.{IsTrueReplay}
 use Rattle.ntb_top.specs.Output.{AreBytesOf, IsOutput, IsOutputStatus, is_command, most_bytes, output_of, replayed, too_long, usage}
 use Rattle.ntb_top.specs.Report.{no_memories}

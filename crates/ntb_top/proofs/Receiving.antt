@@ -152,8 +152,8 @@ look_shows value plan now taken given h law =
     (λ turn. (refl, h)) (λ nothing. (refl, h))
     (λ other.
     let apart = eqb-false lane.flagged lane.got other in
-    let within = h.law.2.got_first in
-    let begun = h.law.2.flagged_first in
+    let within = h.law.2.counts.got_first in
+    let begun = h.law.2.counts.flagged_first in
     found_shows value plan now taken given entry (h.only_frames lane.got (omega arith)) h)))
     law
 

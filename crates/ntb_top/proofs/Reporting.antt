@@ -17,8 +17,8 @@ use Rattle.lane_model.specs.Lane.{count_from}
 use Rattle.ledger_model.specs.Ledger.{PairPart, Tally}
 use Rattle.ledger_model.specs.Log.{Answered, Memories, answered, log_from, ledger_from, log_of, ledger_of, trains, accepted, delivered}
 use Rattle.ledger_model.specs.Next.{Bytes, Ledger, pair_next, pair_plan, outcome_in, ledger_after, start as begin_of}
-use Rattle.ledger_laws.proofs.Runs.{log_of-last}
-use Rattle.ledger_laws.proofs.Sessions.{tallies_are_counts}
+use Rattle.ledger_laws.proofs.Facade.{log_of-last}
+use Rattle.ledger_laws.proofs.Facade.{tallies_are_counts}
 use Rattle.ntb_top.specs.Drives.{EngineShows, IsMade, IsBuiltPair, plan_of_pair}
 use Rattle.ntb_top.specs.Report.{answer_line, answer_lines, counts_line, lane_line, last_session_of, pairs_lines, no_memories, log_of_plan, counted_report, line_of, report_of}
 use Rattle.ntb_top.specs.Script.{Script, plan_of}

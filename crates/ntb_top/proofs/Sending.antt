@@ -17,8 +17,8 @@ use Rattle.lane_model.specs.Law.{HoldsRingLaw}
 use Rattle.lane_model.specs.Ring.{head_of, tail_of, room_of}
 use Rattle.lane_model.specs.Steps.{after_begin, after_post}
 use Rattle.lane_model.specs.declared.Write.{Write}
-use Rattle.lane_laws.proofs.Chunks.{contains_first}
-use Rattle.lane_laws.proofs.Holds.{free_is_room}
+use Rattle.lane_laws.proofs.Facade.{contains_first}
+use Rattle.lane_laws.proofs.Facade.{free_is_room}
 use Rattle.lane_core.specs.Calls as calls
 use Rattle.lane_core.specs.Calls.{LaneValue, begin_answer, after_beginning, first_label, post_answer, after_first_post, after_posting}
 use Rattle.lane_core.specs.declared.answers.Begun.{Begun}
@@ -69,7 +69,7 @@ refusal_read value plan now taken given len h =
     ∙ ap (λ labels. long lane.largest (busy (sending.is_empty_list labels) (refuse_full sizes part))) h.lane.todo
     ∙ ap (λ empty. long lane.largest (busy empty (refuse_full sizes part))) (is_empty-map frame_label lane.todo)
     ∙ ap (λ full. long lane.largest (busy (calls.is_empty_list lane.todo) full))
-    (full_same lane.entries sizes.entries lane.sent part.sent lane.freed part.freed (free_in lane) lane.index_word h.entries h.lane.sent h.lane.freed (free_is_room lane h.law) h.law.2.index_word)
+    (full_same lane.entries sizes.entries lane.sent part.sent lane.freed part.freed (free_in lane) lane.index_word h.entries h.lane.sent h.lane.freed (free_is_room lane h.law) h.law.2.back.index_word_is)
 
 -- Beginning
 

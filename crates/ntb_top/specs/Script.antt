@@ -1,6 +1,6 @@
 -- What a script means, as far as its lines are built: what each line gives after those before it, and the plan that all of them
 -- declare. A line that gives nothing isn't built.
-use Rattle.std.specs.Prelude.{ℕ, ◌+◌, ◌%◌, ◌==◌, Bool, true, false, not, ◌&&◌, Option, Some, None, Result, Ok, Err, List, [], ◌∷◌, ◌++◌, length, map, nat_lt, nat_le, is_some, is_none, unwrap_or, option_and_then, option_to_list, codes, if◌then◌else◌}
+use Rattle.std.specs.Prelude.{ℕ, ◌+◌, ◌%◌, ◌==◌, Bool, true, false, not, ◌&&◌, Option, Some, None, Result, Ok, Err, List, [], ◌∷◌, ◌++◌, length, map, replicate, nat_lt, nat_le, is_some, is_none, unwrap_or, option_and_then, option_to_list, codes, if◌then◌else◌}
 use Rattle.std.specs.Str.{bytes_eq}
 use Rattle.std.specs.List.{list_any}
 use Rattle.step_kinds.specs.declared.names.Side.{Side}
@@ -94,7 +94,7 @@ side_with size = record { version = 4; queues = 1; windows = 1; size = size; cap
 abbrev pub pair_with : List ℕ → Options → PairPlan
 pair_with name options =
     let side = side_with (unwrap_or options.size 65536) in
-    record { name = name; a = side; b = side; mtu = unwrap_or options.mtu 65536; up = options.up; strict = options.strict; raw = false }
+    record { name = name; a = side; b = side; mtu = unwrap_or options.mtu 65536; up = options.up; strict = options.strict; raw = false; class_a = replicate 16 0; class_b = replicate 16 0 }
 
 -- a pair: at most one, of two declared hosts
 abbrev pub pair_line : Script → List ℕ → List ℕ → List ℕ → List (List ℕ) → Option Script

@@ -11,7 +11,7 @@ use step_kinds::{Name, PairPlan};
 /// What one line gives.
 #[derive(Drop)]
 pub enum Given {
-    /// Nothing: a blank_slot line or a comment.
+    /// Nothing: a blank line or a comment.
     Nothing,
     /// The header.
     Header,

@@ -132,6 +132,8 @@ impl Options {
             up: self.up,
             strict: self.strict,
             raw: false,
+            class_a: [0; 16],
+            class_b: [0; 16],
         }
     }
 }

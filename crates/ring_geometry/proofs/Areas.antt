@@ -7,7 +7,7 @@ use Rattle.ring_geometry.specs.Geometry.{Layout, HasRing, window_of, queues_in_w
 use Rattle.ring_geometry.specs.Laws.{IsSameSide, StandApart}
 
 -- an earlier quotient leaves room for the next
-row_ends : (size a b : ℕ) → a < b → size * a + size ≤ size * b
+pub row_ends : (size a b : ℕ) → a < b → size * a + size ≤ size * b
 row_ends size a b h = grind (arith, mul-le-mul_left {m = a + 1} {n = b} size (omega arith))
 
 -- of the queues in one window, those before a queue are fewer than all

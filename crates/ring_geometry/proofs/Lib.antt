@@ -1,3 +1,4 @@
 pub mod Areas
 pub mod Room
+pub mod SpotLemmas
 pub mod Within

@@ -53,6 +53,10 @@ entries_of l = ring_bytes l / frame_size l
 abbrev pub max_payload_of : Layout → ℕ
 max_payload_of l = frame_size l - l.header
 
+-- the most bytes of a frame that may take several entries: those that are free in an empty ring, and 65,536 at most
+abbrev pub longest_of : Layout → ℕ
+longest_of l = min 65536 ((entries_of l - 1) * max_payload_of l)
+
 -- where an entry begins in the window
 abbrev pub slot_of : Layout → ℕ → ℕ
 slot_of l i = area_start l + i * frame_size l

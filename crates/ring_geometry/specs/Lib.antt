@@ -1,3 +1,4 @@
 pub mod Geometry
 pub mod Kept
 pub mod Laws
+pub mod Spots

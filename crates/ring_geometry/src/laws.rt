@@ -9,6 +9,7 @@ ghost use Rattle.ring_geometry.specs.Laws.{
   IndexFollowsSlots,
   SlotsStandApart,
 };
+ghost use Rattle.ring_geometry.specs.Spots.{SpotsLieInside, SpotsStandApart};
 
 /// A ring has two entries at least.
 pub fn ring_has_two_entries()
@@ -43,4 +44,15 @@ pub fn area_lies_in_window()
 /// What head and index word show as free is what the counts of entries begun and given back say.
 pub fn free_is_room()
     ensures { FreeIsRoom }
+{}
+
+/// Payloads, header fields and index words of all rings in one memory share no byte, also where the windows of the peer
+/// are smaller than those that the memory gives.
+pub fn spots_stand_apart()
+    ensures { SpotsStandApart }
+{}
+
+/// Each of them lies within its window and in the memory.
+pub fn spots_lie_inside()
+    ensures { SpotsLieInside }
 {}

@@ -17,6 +17,7 @@ ghost use Rattle.ring_geometry.specs.Geometry.{
   header_of,
   index_of,
   layout_with,
+  longest_of,
   max_payload_of,
   slot_of,
   window_of,
@@ -67,15 +68,17 @@ impl Model for Geometry {
 }
 
 impl Geometry {
-    /// Places the ring of the queue `queue` of `queues` on a side with `windows` translation windows.
+    /// Places the ring of the queue `queue` of `queues`, counted from 0, on a side with `windows` translation
+    /// windows: at most 16 queues and 4 windows.
     ///
-    /// `window` is the size of the queue's window, `mtu` the largest entry and `header` the size of a header, each in
-    /// bytes. An entry is `mtu` bytes long, or half of what the area has for entries where that is less.
+    /// `window` is the size of the queue's window, at most 268,435,456, `mtu` the largest entry, at most 65,536, and
+    /// `header` the size of a header, at most 16 (12 on version 4 of the transport, 16 on version 5), each in bytes. An
+    /// entry is `mtu` bytes long, or half of what the area has for entries where that is less.
     ///
     /// # Errors
     ///
-    /// [`BadGeometry`] where `windows` is 0, `queue` is not below `queues`, the area has no four bytes for the index
-    /// word, or an entry has not the header and four bytes more.
+    /// [`BadGeometry`] exactly where `windows` is 0, `queue` is not below `queues`, the area has no four bytes for the
+    /// index word, or an entry has not the header and four bytes more.
     pub fn new(
         window: u64,
         windows: u32,
@@ -145,6 +148,17 @@ impl Geometry {
         self.frame_bytes - self.header
     }
 
+    /// The most bytes of a frame that may take several entries, as on version 5 of the transport: it fits into an empty
+    /// ring, in which one entry stays free, and has 65,536 bytes at most. A frame of one entry has at most
+    /// [`Geometry::max_payload`] bytes.
+    pub fn longest(&self) -> u32
+        ensures { result ≡ longest_of self.now }
+    {
+        (self.entries - 1)
+            .saturating_mul(self.max_payload())
+            .min(65_536)
+    }
+
     /// The number of the translation window that the ring lies in, from 0.
     pub fn window_of(&self) -> u32
         ensures { result ≡ window_of self.now }
@@ -161,7 +175,7 @@ impl Geometry {
         self.area_begin + self.area_bytes - 4
     }
 
-    /// Where the entry `i` begins, in bytes from the beginning of the window.
+    /// Where the slot `i`, which has to be below the entries, begins, in bytes from the beginning of the window.
     pub fn slot_at(&self, i: u32) -> u64
         requires { i < entries_of self.now }
         ensures value { result ≡ slot_of self.now i }
@@ -171,7 +185,8 @@ impl Geometry {
         self.area_begin + u64::from(i) * u64::from(self.frame_bytes)
     }
 
-    /// Where the header of the entry `i` begins, in bytes from the beginning of the window.
+    /// Where the header of the slot `i`, which has to be below the entries, begins, in bytes from the beginning of the
+    /// window.
     pub fn header_at(&self, i: u32) -> u64
         requires { i < entries_of self.now }
         ensures value { result ≡ header_of self.now i }
@@ -181,7 +196,8 @@ impl Geometry {
         self.slot_at(i) + u64::from(self.frame_bytes) - u64::from(self.header)
     }
 
-    /// How many entries the sender may begin, by the next entry's position `head` and the index word's `tail`.
+    /// How many entries the sender may begin, by the next entry's slot `head` and the index word `tail`, both of
+    /// which have to be below the entries. One entry always stays free.
     pub fn free(&self, head: u32, tail: u32) -> u32
         requires head { head < entries_of self.now }
         requires tail { tail < entries_of self.now }
@@ -195,7 +211,7 @@ impl Geometry {
     }
 }
 
-/// The number that a header carries for the `n`th frame of a queue: its lowest 32 bits.
+/// The number that a header carries for the entry `n` of a lane in this session, counted from 0: its lowest 32 bits.
 pub fn ver_of(n: u64) -> u32
     ensures { result ≡ n % 2 ^ 32 }
 {

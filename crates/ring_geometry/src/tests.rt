@@ -48,6 +48,30 @@ fn large_window_of_four_queues(rt: HostRuntime) -> Result<(), Fail> {
 }
 
 #[test]
+fn headers_of_sixteen_bytes(rt: HostRuntime) -> Result<(), Fail> {
+    let ring = Geometry::new(4096, 1, 1, 0, 1023, 16)?;
+    assert_eq!(rt; ring.entries(), 4);
+    assert_eq!(rt; ring.max_payload(), 1007);
+    assert_eq!(rt; ring.header_at(0), 1007);
+    assert_eq!(rt; ring.header_at(1), 2030);
+    assert_eq!(rt; ring.longest(), 3021);
+    assert_eq!(rt; Geometry::new(4096, 1, 1, 0, 19, 16), Err(BadGeometry));
+    Ok(())
+}
+
+#[test]
+fn largest_window(rt: HostRuntime) -> Result<(), Fail> {
+    let ring = Geometry::new(268_435_456, 4, 16, 15, 65536, 16)?;
+    assert_eq!(rt; ring.entries(), 1023);
+    assert_eq!(rt; ring.window_of(), 3);
+    assert_eq!(rt; ring.slot_at(0), 201_326_592);
+    assert_eq!(rt; ring.slot_at(1022), 268_304_384);
+    assert_eq!(rt; ring.index_at(), 268_435_452);
+    assert_eq!(rt; ring.longest(), 65536);
+    Ok(())
+}
+
+#[test]
 fn numbers_that_make_no_ring(rt: HostRuntime) {
     assert_eq!(rt;
         Geometry::new(4096, 0, 1, 0, 1023, HEADER),

@@ -1,14 +1,17 @@
 //! The plain types of ntbsim's surface: sides and lanes, frames and names, the steps of a script and their answers,
-//! and the plan that a script declares.
+//! the plan that a script declares and the record of a threaded run; and the surface's limits.
 //!
-//! Contracts see a [`Frame`] and a [`Name`] as their lists of bytes, and [`Items`] as a list.
+//! Contracts see a [`Frame`] and a [`Name`] as their lists of bytes, [`Items`] as a list, and a [`FrameList`] as a list
+//! of frames and the number of frames for which room is promised.
 #![tactic(auto)]
 
 mod frame;
 mod frame_list;
 mod items;
+pub mod limits;
 mod names;
 mod plan;
+mod runs;
 mod steps;
 
 pub use frame::Frame;
@@ -16,6 +19,7 @@ pub use frame_list::FrameList;
 pub use items::Items;
 pub use names::{LaneName, Name, Side};
 pub use plan::{Counters, DevPlan, Line, LineAnswer, PairPlan, Plan, SidePlan, Traffic};
+pub use runs::{LaneRun, RunRecord, SessionRun};
 pub use steps::{Answer, Label, Step};
 
 #[cfg(test)]

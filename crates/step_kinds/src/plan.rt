@@ -8,15 +8,18 @@ use crate::steps::{Answer, Step};
 /// One side of a pair, as it is declared.
 #[derive(Clone, Copy, Debug, PartialEq, Eq)]
 pub struct SidePlan {
-    /// The version of the transport that the side speaks.
+    /// The version of the transport that the side speaks, 3 to 5. Version 3 stands for a peer that is refused, 4 has
+    /// headers of 12 bytes, and 5, which a pair speaks where both sides declare it, headers of 16 bytes.
     pub version: u32,
     /// The number of queues, 1 to 16.
     pub queues: u32,
     /// The number of translation windows that the side sends through, 1 to 4.
     pub windows: u32,
-    /// The size in bytes of each window that the side sends through; the window lies in the peer's memory.
+    /// The size in bytes of each window that the side sends through: 4,096 to 268,435,456, a multiple of 4,096. The
+    /// window lies in the peer's memory.
     pub size: u64,
-    /// The size in bytes of the largest window that the side's own memory gives.
+    /// The size in bytes of the largest window that the side's own memory gives, in the same range. The side's memory
+    /// has `windows` times `cap` bytes.
     pub cap: u64,
 }
 
@@ -37,6 +40,12 @@ pub struct PairPlan {
     pub strict: bool,
     /// Whether bytes and scratchpads may be written past the transport.
     pub raw: bool,
+    /// The traffic class, 0 to 7, of the writes that side A posts for each queue, its index writes among them. No order
+    /// holds between posted writes of different classes (PCI Express Base 4.0, section 2.4). Writes of scratchpads and
+    /// writes past the transport have class 0.
+    pub class_a: [u32; 16],
+    /// The same for the writes that side B posts.
+    pub class_b: [u32; 16],
 }
 
 /// A network device on one queue of one side.
@@ -50,11 +59,11 @@ pub struct DevPlan {
     pub side: Side,
     /// Its queue.
     pub queue: u32,
-    /// Its Ethernet address.
+    /// Its Ethernet address, the six bytes as they are sent.
     pub address: [u8; 6],
-    /// The device stops where fewer entries of its ring than these are free.
+    /// The device stops where fewer entries of its ring than these are free: 0 to 65,535.
     pub stop: u32,
-    /// The device wakes where at least these entries are free.
+    /// The device wakes where at least these entries are free: at least `stop`, at most 65,535.
     pub start: u32,
 }
 

@@ -6,33 +6,43 @@ ghost use Rattle.step_kinds.specs.Subject.{subject_of};
 use crate::frame::Frame;
 use crate::names::Side;
 
-/// What a posted write in flight writes.
+/// What a posted write in flight writes. `queue` is the number of a queue of the writer, `number` the number of an
+/// entry of the ring in this link session, both from 0. The fields of a header and the index word are little-endian.
+///
+/// The names are those of `ntb_transport`: a header has a version, a length and flags, and the index word is what the
+/// receiver writes back. Their layout is this project's own.
 #[derive(Clone, Copy, Debug, PartialEq, Eq)]
 pub enum Label {
-    /// The bytes of a frame from 128 times `part` on, at most 128 of them.
+    /// The bytes of an entry's payload from 128 times `part` on, at most 128 of them. Relaxed.
     Chunk { queue: u32, number: u64, part: u32 },
-    /// The length field of a frame's header.
+    /// The length field of an entry's header: the bytes of the payload. Relaxed.
     Len { queue: u32, number: u64 },
-    /// The version field of a frame's header: the frame's number modulo 2^32.
+    /// The version field of an entry's header: the entry's number modulo 2^32. Where the pair speaks version 5 the
+    /// write has the field `left` before it, how many entries of the frame follow: 8 bytes in place of 4. Relaxed.
     Ver { queue: u32, number: u64 },
-    /// The flags field of a frame's header, with the bit DONE.
+    /// The flags field of a frame's header, with the bit DONE: the number 1. Strict.
     Flag { queue: u32, number: u64 },
-    /// The flags field of an entry without a frame, with the bits DONE and LINK_DOWN.
+    /// The flags field of a link-down entry, with the bits DONE and LINK_DOWN: the number 3. Strict.
     Down { queue: u32, number: u64 },
-    /// The doorbell bit of a queue.
+    /// The doorbell bit of the queue, which has the queue's number. Strict.
     Bell { queue: u32 },
-    /// The index word of the lane towards the writer: the number of the frame that is given back.
+    /// The index word of the lane towards the writer: the number of the entry that is given back, modulo the entries of
+    /// the ring. Strict.
     Index { queue: u32, number: u64 },
-    /// A scratchpad of the peer.
+    /// The scratchpad `index` of the peer, 0 to 15, and what is written to it. Strict.
     Pad { index: u32, value: u32 },
-    /// Bytes through a window, past the transport.
+    /// `len` bytes, 1 to 128, from the byte `offset` of a window on, past the transport. Relaxed.
     Raw { window: u32, offset: u64, len: u32 },
 }
 
-/// A step of a script. `pair` is the pair's number, `side` the side that makes the step, `queue` its queue.
+/// A step of a script. `pair` is the number of the pair in order of declaration, from 0, `side` the side that makes the
+/// step, and `queue` a queue of that side, from 0.
+///
+/// The link's steps are those of Linux `Documentation/driver-api/ntb.rst`; the handshake by scratchpads, the queues and
+/// the devices work as `ntb_transport` and `ntb_netdev` do.
 #[derive(Drop)]
 pub enum Step {
-    /// The side agrees to bring the link up.
+    /// The side agrees to bring the link up (`ntb_link_enable`).
     Enable {
         pair: u32,
         side: Side,
@@ -59,7 +69,7 @@ pub enum Step {
         pair: u32,
         side: Side,
     },
-    /// The side reads the peer's offer.
+    /// The side reads the peer's offer in its own scratchpads.
     Check {
         pair: u32,
         side: Side,
@@ -76,11 +86,12 @@ pub enum Step {
         side: Side,
         queue: u32,
     },
-    /// The side begins to send a frame.
+    /// The side begins to send a frame of at least one byte.
     Begin {
         pair: u32,
         side: Side,
         queue: u32,
+        /// The frame, of 1 to 65,536 bytes.
         frame: Frame,
     },
     /// The side begins to send a link-down entry and closes the queue.
@@ -89,41 +100,47 @@ pub enum Step {
         side: Side,
         queue: u32,
     },
-    /// A device begins to send an Ethernet frame.
+    /// A device begins to send an Ethernet frame: the destination, the device's own address, the kind (two bytes, the
+    /// higher one first) and the payload. The pair, the side and the queue are the device's.
     Xbegin {
         pair: u32,
         side: Side,
         queue: u32,
+        /// The number of the device in order of declaration, from 0.
         dev: u32,
+        /// The destination: the six bytes of an Ethernet address, as they are sent.
         dst: [u8; 6],
+        /// The kind of the frame (its EtherType), 0 to 65,535.
         kind: u16,
+        /// The payload, of 1 to 65,522 bytes.
         payload: Frame,
     },
-    /// The side posts the next write of the frame that it sends.
+    /// The side posts the next write of the entry that it sends.
     Post {
         pair: u32,
         side: Side,
         queue: u32,
     },
-    /// The write at a place of those in flight from the side lands at its peer.
+    /// A write that the side posted lands at its peer.
     Land {
         pair: u32,
         side: Side,
+        /// Where the write stands among the side's writes in flight: 0 for the one that was posted first.
         place: u32,
     },
-    /// The side looks for the next frame.
+    /// The side looks for the next entry of the ring that it receives in.
     Look {
         pair: u32,
         side: Side,
         queue: u32,
     },
-    /// The side copies the next 128 bytes of the frame that it found.
+    /// The side copies the next 128 bytes of the entry that it found.
     Copy {
         pair: u32,
         side: Side,
         queue: u32,
     },
-    /// The side clears the flags of the frame that it copied.
+    /// The side clears the flags of the entry that it copied.
     Clear {
         pair: u32,
         side: Side,
@@ -135,62 +152,74 @@ pub enum Step {
         side: Side,
         queue: u32,
     },
-    /// A stopped device tries to go on.
+    /// A stopped device tries to go on. The pair, the side and the queue are the device's.
     Wake {
         pair: u32,
         side: Side,
         queue: u32,
+        /// The number of the device in order of declaration, from 0.
         dev: u32,
     },
-    /// The side takes its pending doorbells.
+    /// The side takes its pending doorbells that aren't masked.
     Irq {
         pair: u32,
         side: Side,
     },
-    /// The side masks doorbells.
+    /// The side masks doorbells (`ntb_db_set_mask`).
     Mask {
         pair: u32,
         side: Side,
+        /// The doorbells as bits: bit q is the doorbell of queue q. Those that are masked already stay so.
         bits: u32,
     },
-    /// The side unmasks doorbells.
+    /// The side unmasks doorbells (`ntb_db_clear_mask`).
     Unmask {
         pair: u32,
         side: Side,
+        /// The doorbells as bits: bit q is the doorbell of queue q. Those that aren't masked stay so.
         bits: u32,
     },
-    /// The side writes a scratchpad of its peer.
+    /// The side writes a scratchpad of its peer (`ntb_peer_spad_write`).
     Spad {
         pair: u32,
         side: Side,
+        /// The scratchpad, 0 to 15, and on a pair that isn't raw 12 to 15: the transport has those below.
         index: u32,
+        /// What is written.
         value: u32,
     },
-    /// The side writes bytes through a window, past the transport.
+    /// The side posts bytes through a window, past the transport. The pair is raw.
     Poke {
         pair: u32,
         side: Side,
+        /// The window, from 0, below the windows of both sides.
         window: u32,
+        /// The first byte in the window. All bytes lie below the side's size and below the peer's cap.
         offset: u64,
+        /// The bytes, 1 to 128 of them.
         bytes: Frame,
     },
-    /// Shows bytes of the side's memory.
+    /// Shows bytes of the side's own memory.
     ShowMem {
         pair: u32,
         side: Side,
+        /// The address of the first byte. All bytes lie in the memory.
         at: u64,
+        /// How many bytes, 1 to 64.
         len: u32,
     },
     /// Shows a scratchpad of the side.
     ShowPad {
         pair: u32,
         side: Side,
+        /// The scratchpad, 0 to 15.
         index: u32,
     },
     /// Shows how many writes of the side are in flight, and the one at a place.
     ShowQueue {
         pair: u32,
         side: Side,
+        /// The place, 0 for the write that was posted first.
         place: u32,
     },
 }
@@ -232,14 +261,15 @@ impl Step {
     }
 }
 
-/// The answer to a step.
+/// The answer to a step. `number` is the number of a frame or link-down entry in this link session, from 0; `seen` is
+/// what was read and `own` what the side itself has there.
 #[derive(Drop)]
 pub enum Answer {
     /// The step was made.
     Ok,
-    /// The link is up in this session.
+    /// The link is up in this session, 1 to 65,535.
     OkSession { session: u32 },
-    /// The frame or link-down entry has this number.
+    /// The frame or link-down entry was begun and has this number.
     OkNumber { number: u64 },
     /// The link isn't down.
     NotDown,
@@ -257,7 +287,9 @@ pub enum Answer {
     LinkDown,
     /// The step was made before in this session.
     Already,
-    /// The scratchpad of this number was posted.
+    /// The scratchpad of this number, 0 to 15, was posted: for each window the high half of its size at 4 and every
+    /// second one from there, and the low half behind it; then the number of windows at 3, that of queues at 2 and the
+    /// version at 0.
     Offered { index: u32 },
     /// The peer has not said so yet.
     NotYet,
@@ -267,25 +299,26 @@ pub enum Answer {
     Queues { seen: u32, own: u32 },
     /// The peer has another number of windows.
     Windows { seen: u32, own: u32 },
-    /// A window of the peer is larger than the side's memory gives.
+    /// A window of the peer has `seen` bytes, and the side's memory gives `cap` bytes, which is less. It is the first
+    /// such window.
     Size { seen: u64, cap: u64 },
     /// The sides agree, and the side is up.
     Up,
     /// The side isn't up.
     NotChecked,
-    /// The queue isn't ready or isn't joined.
+    /// The queue isn't ready or isn't joined on the side.
     NotReady,
     /// The queue is joined.
     Joined,
     /// The queue was closed by a link-down entry.
     Closed,
-    /// The frame is longer than the largest payload, both in bytes.
+    /// The frame is longer than the longest that the queue sends, both in bytes.
     TooLong { len: u32, max: u32 },
-    /// A frame of the lane has writes left to post.
+    /// An entry of the lane has writes left to post.
     Busy,
     /// The device is stopped.
     Stopped,
-    /// The ring has no room: the position of the next entry and the index word.
+    /// The ring has no room: the slot of the next entry and the index word, both below the entries of the ring.
     Again { head: u32, tail: u32 },
     /// Nothing is left to post.
     Idle,
@@ -299,32 +332,32 @@ pub enum Answer {
     Landed { label: Label },
     /// The receiver is in another phase.
     OutOfTurn,
-    /// No frame stands at the front of the ring.
+    /// No entry stands at the front of the ring.
     Empty,
-    /// A link-down entry stands at the front of the ring.
+    /// A link-down entry stands at the front of the ring, and the queue is closed on this side.
     PeerDown,
-    /// The header's version isn't that of the next frame.
+    /// The header's version isn't the number of the next entry modulo 2^32. On raw pairs alone.
     VerDiffers { seen: u32, own: u32 },
-    /// The header's length is above the largest payload, both in bytes.
+    /// The header's length is above the largest payload, both in bytes. On raw pairs alone.
     Long { len: u32, max: u32 },
-    /// A frame of this number and length in bytes stands at the front of the ring.
+    /// An entry stands at the front of the ring: its number and the bytes of its payload.
     ReadyFrame { number: u64, len: u32 },
-    /// The part of this number of the frame was copied, and more is left.
+    /// The part of this number was copied, 128 bytes from 128 times `part` on, and more of the frame is left.
     Copied { number: u64, part: u32 },
     /// The last part was copied: the whole frame.
     Delivered { number: u64, frame: Frame },
-    /// The flags of the frame's entry are cleared.
+    /// The flags of the entry are cleared.
     Cleared { number: u64 },
-    /// The index write of the frame was posted.
+    /// The index write of the entry was posted.
     Acked { number: u64 },
     /// The device isn't stopped.
     Awake,
-    /// The doorbells that were taken, as bits.
+    /// The doorbells that were taken, as bits: bit q is the doorbell of queue q.
     Irq { bits: u32 },
-    /// Bytes of the memory.
+    /// Bytes of the memory, in order of their addresses.
     Mem { bytes: Frame },
     /// The scratchpad's value.
     PadValue { value: u32 },
-    /// How many writes are in flight, and the label of the one at the place.
+    /// How many writes are in flight, and the label of the one at the place: none where no more than `place` are.
     QueueShown { count: u64, label: Option<Label> },
 }

@@ -73,7 +73,7 @@ stores_index_allowed N slots id me i new is index has entries newer board h coun
           sized = record { posted = now.sized.posted; headers = now.sized.headers; flags = now.sized.flags };
           seats = seats.1 after;
           knows = now.knows;
-          shows = subst (λ (f : ℕ). ShowsLane N (record m { words = record m.words { index = part.index }; lane = stored.0; back = record part { freed = f } }) board.homes) freed stored.1;
+          shows = subst (λ (f : ℕ). ShowsLane N (record m { words = record m.words { index = part.index }; lane = stored.0; back = record part { freed = f } }) board.homes) freed stored.2;
         },
       ),
       refl,

@@ -120,7 +120,7 @@ stores_header_allowed N slots id me i new n is header has entries low high left 
           sized = record { posted = now.sized.posted; headers = length-set m.words.headers (n % N) (header_of n) ∙ now.sized.headers; flags = now.sized.flags };
           seats = seats.1 after;
           knows = now.knows;
-          shows = landed.1;
+          shows = landed.2;
         },
       ),
       ap (λ (k : ℕ). (with_move me.0 (header_stored part k), me.1)) (sym named),
@@ -152,7 +152,7 @@ stores_flag_allowed N slots id me i k frame others held stored is hand slot has 
           sized = record { posted = now.sized.posted; headers = now.sized.headers; flags = length-set m.words.flags (n % N) done ∙ now.sized.flags };
           seats = seats.1 after;
           knows = now.knows;
-          shows = subst (λ (j : ℕ). ShowsLane N (record m { words = record m.words { flags = set m.words.flags (n % N) done }; lane = landed.0; mover = after }) (set board.homes j (some (Some frame)))) (sym slot) landed.1;
+          shows = subst (λ (j : ℕ). ShowsLane N (record m { words = record m.words { flags = set m.words.flags (n % N) done }; lane = landed.0; mover = after }) (set board.homes j (some (Some frame)))) (sym slot) landed.2;
         },
       ),
       ap (λ (p : MovePart). (with_move me.0 p, others)) same,

@@ -11,9 +11,11 @@ use Rattle.table_rule.specs.Words.{header_of}
 use Rattle.table_rule.specs.Views.{Bytes}
 use Rattle.table_rule.specs.Borders.{Borders, Slots, out, full}
 use Rattle.table_rule.specs.Shows.{in_flight, PostedStand, RingStands}
+use Rattle.table_rule.specs.LaneSteps.{Land, Runs, header_steps, flag_steps}
+use Rattle.table_rule.specs.Kinds.{Takes, StoresHeader, StoresFlag}
 use Rattle.table_rule.specs.Moment.{Moment, ShowsLane}
 use Rattle.table_rule.proofs.LaneLaws.{same_number}
-use Rattle.table_rule.proofs.LaneRuns.{fields_of, data_is_fields, with_fields, fields_keep_flags, fields_give_version, land_fields, land_flag_and_bell}
+use Rattle.table_rule.proofs.LaneRuns.{runs_keep, fields_of, data_is_fields, with_fields, fields_keep_flags, fields_give_version, land_fields, land_flag_and_bell}
 use Rattle.table_rule.proofs.Flights.{in_flight-take, in_flight-store}
 use Rattle.table_rule.proofs.Slots.{slot_by, slot_is, moves_past, slot_changes}
 use Rattle.table_rule.proofs.Order.{in_order}
@@ -42,9 +44,7 @@ sent_if_posted N posted n sent some_slot small low h shown = elim (cases_lt n se
 ]
 
 -- the slot of the next entry goes to the mover
-pub takes : (N : ℕ) (m : Moment) (slots : Slots) (n : ℕ) → n ≡ m.mover.flagged + length m.mover.held → get_or m.words.posted (n % N) 0 ≡ header_of n → ShowsLane N m slots
-    → (n < length m.send.sent) × (get_elem? slots (n % N) ≡ some (full m.send.sent n))
-    × ShowsLane N (record m { mover = record m.mover { held = m.mover.held ++ get_or m.send.sent n [] ∷ []; stored = m.mover.stored ++ false ∷ [] } }) (set slots (n % N) out)
+pub takes : Takes
 takes N m slots n is shown h =
     let o = in_order N m slots h in
     let k = borders_in m in
@@ -120,8 +120,7 @@ ring_stores_flag ring headers flags at slot flag same raised h = record {
 }
 
 -- the header of a held entry is stored: its fields land
-pub stores_header : (N : ℕ) (m : Moment) (slots : Slots) (j n : ℕ) → n ≡ m.mover.flagged + j → j < length m.mover.held → get_or m.mover.stored j false ≡ false → ShowsLane N m slots
-    → (lane : Lane) × ShowsLane N (record m { words = record m.words { headers = set m.words.headers (n % N) (header_of n) }; lane = lane; mover = record m.mover { stored = set m.mover.stored j true } }) slots
+pub stores_header : StoresHeader
 stores_header N m slots j n is held left h =
     let o = in_order N m slots h in
     let lane : Lane = m.lane in
@@ -135,15 +134,19 @@ stores_header N m slots j n is held left h =
     let front : lane.flight ≡ split.0 ++ (map (Data n) (fields_of entry) ++ split.1) =
     h.parts.flight ∙ split.2 ∙ ap (λ (d : List Write). split.0 ++ (d ++ split.1)) (ap (data_of n) same_entry ∙ data_is_fields n entry) in
     let entries = h.of.entries in
-    let positions : length lane.ring ≡ lane.entries = h.law.2.slots in
-    let two : 2 ≤ lane.entries = h.law.2.two_entries in
+    let positions : length lane.ring ≡ lane.entries = h.law.2.room.slots in
+    let two : 2 ≤ lane.entries = h.law.2.room.two_entries in
     let within : n % lane.entries < length lane.ring = let small : n % lane.entries < lane.entries = mod-lt n (omega arith) in omega arith in
     let slot : Slot = with_fields (slot_of lane n) n entry (fields_of entry) in
     let version : slot.ver ≡ header_of n % 2 ^ 32 = fields_give_version (slot_of lane n) n entry ∙ sym (mod-mod n (2 ^ 32)) ∙ sym (add-mod_left (2 ^ 32) (n % 2 ^ 32)) in
-    let next : Lane = record lane { flight = split.0 ++ split.1; ring = ring_with lane n slot } in (
+    let next : Lane = record lane { flight = split.0 ++ split.1; ring = ring_with lane n slot } in
+    let runs : Runs (header_steps n entry) lane next =
+        subst (λ (ds : List Write). Runs (map Land ds) lane next) (sym (data_is_fields n entry)) (land_fields (fields_of entry) lane n split.0 split.1 front within) in
+    (
       next,
+      runs,
       record {
-        law = land_fields (fields_of entry) lane n split.0 split.1 front within h.law;
+        law = runs_keep (header_steps n entry) lane next runs h.law;
         of = record { entries = h.of.entries; largest = h.of.largest; up = h.of.up; todo = h.of.todo; small = h.of.small };
         parts = record {
           entries = h.parts.entries;
@@ -166,9 +169,7 @@ stores_header N m slots j n is held left h =
     )
 
 -- the flags of the first held entry are stored, and its slot is at home with its frame
-pub stores_flag : (N : ℕ) (m : Moment) (slots : Slots) (frame : Bytes) (held : List Bytes) (stored : List Bool) → m.mover.held ≡ frame ∷ held → m.mover.stored ≡ true ∷ stored → ShowsLane N m slots
-    → (lane : Lane) × ShowsLane N (record m { words = record m.words { flags = set m.words.flags (m.mover.flagged % N) done }; lane = lane; mover = record m.mover { flagged = m.mover.flagged + 1; held = held; stored = stored } })
-    (set slots (m.mover.flagged % N) (some (Some frame)))
+pub stores_flag : StoresFlag
 stores_flag N m slots frame held stored has marked h =
     let o = in_order N m slots h in
     let k = borders_in m in
@@ -194,10 +195,13 @@ stores_flag N m slots frame held stored has marked h =
     let same_taken : after.taken ≡ k.taken = omega arith in
     let low : m.back.freed ≤ n = omega arith in
     let l0 : nat_lt n k.cleared ≡ false = le-ltb n k.cleared (omega arith) in
-    let l1 : nat_lt n k.looked ≡ false = le-ltb n k.looked (omega arith) in (
+    let l1 : nat_lt n k.looked ≡ false = le-ltb n k.looked (omega arith) in
+    let runs : Runs (flag_steps n) lane next = land_flag_and_bell lane n rest front in
+    (
       next,
+      runs,
       record {
-        law = land_flag_and_bell lane n rest front h.law;
+        law = runs_keep (flag_steps n) lane next runs h.law;
         of = record { entries = h.of.entries; largest = h.of.largest; up = h.of.up; todo = h.of.todo; small = h.of.small };
         parts = record {
           entries = h.parts.entries;

@@ -16,7 +16,7 @@ pub record InOrder (N : ℕ) (m : Moment) : Type 0 where
   pub claimed : claimed_by (length m.send.sent) m.send.claims < m.back.freed + N
 
 -- a copying receiver looks at a landed entry
-looked_within : (phase : Phase) (lane : Lane) → lane.got ≤ lane.flagged → PhaseCounts phase lane → lane.got + hand_in phase ≤ lane.flagged
+looked_within : (phase : Phase) (lane : Lane) → lane.got ≤ lane.flagged → PhaseCounts phase lane.acked lane.cleared lane.got lane.flagged → lane.got + hand_in phase ≤ lane.flagged
 looked_within Idle lane low counts = omega arith
 looked_within Copying lane low counts = let c = counts.2 in omega arith
 looked_within Copied lane low counts = omega arith
@@ -29,11 +29,11 @@ one_or_none false n = omega arith
 pub in_order : (N : ℕ) (m : Moment) (slots : Slots) → ShowsLane N m slots → InOrder N m
 in_order N m slots h =
     let law = h.law.2 in
-    let two : 2 ≤ m.lane.entries = law.two_entries in
-    let a : m.lane.freed ≤ m.lane.acked = law.freed_first in
-    let b : m.lane.acked ≤ m.lane.cleared = law.acked_first in
-    let c : m.lane.cleared ≤ m.lane.got = law.cleared_first in
-    let d : m.lane.got + hand_in m.lane.phase ≤ m.lane.flagged = looked_within m.lane.phase m.lane law.got_first law.phase_counts in
+    let two : 2 ≤ m.lane.entries = law.room.two_entries in
+    let a : m.lane.freed ≤ m.lane.acked = law.counts.freed_first in
+    let b : m.lane.acked ≤ m.lane.cleared = law.counts.acked_first in
+    let c : m.lane.cleared ≤ m.lane.got = law.counts.cleared_first in
+    let d : m.lane.got + hand_in m.lane.phase ≤ m.lane.flagged = looked_within m.lane.phase m.lane law.counts.got_first law.receiver.phase_counts in
     let e : hand_in m.lane.phase ≡ length m.recv.hand = ap hand_in h.parts.stage ∙ sym h.receiving.in_hand in
     let entries = h.of.entries in
     let freed = h.parts.given_back in

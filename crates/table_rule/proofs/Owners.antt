@@ -19,7 +19,7 @@ owner_is : (lane : Lane) (n : ℕ) {a b c d e : Bool} → nat_lt n lane.freed �
 owner_is lane n p q r s t = λ i. owner_by (p i) (q i) (r i) (s i) (t i)
 
 -- the receiver's slots, by phase
-receivers : (phase : Phase) (lane : Lane) (n hand : ℕ) → hand ≡ hand_in phase → PhaseCounts phase lane → lane.acked ≤ n → n < lane.got
+receivers : (phase : Phase) (lane : Lane) (n hand : ℕ) → hand ≡ hand_in phase → PhaseCounts phase lane.acked lane.cleared lane.got lane.flagged → lane.acked ≤ n → n < lane.got
     → ((is_copied phase ≡ true) × (lane.cleared ≤ n) × (n < lane.got + hand)) ⊎ ((is_copied phase ≡ false) × (n < lane.cleared))
 receivers Idle lane n hand is counts low high = let a = counts.0 in let b = counts.1 in absurd (omega arith)
 receivers Copying lane n hand is counts low high = let a = counts.0 in let b = counts.1 in absurd (omega arith)
@@ -54,7 +54,7 @@ owners_have_slots N m slots h n from to =
     let flagged = h.parts.whole in
     let count : length lane.sent ≡ length m.send.sent = ap length h.parts.entries ∙ length-map m.send.sent Carries in
     let stands = h.places.at n (omega arith) (omega arith) in
-    let counts : PhaseCounts m.recv.phase lane = subst (λ p. PhaseCounts p lane) h.parts.stage h.law.2.phase_counts in
+    let counts : PhaseCounts m.recv.phase lane.acked lane.cleared lane.got lane.flagged = subst (λ p. PhaseCounts p lane.acked lane.cleared lane.got lane.flagged) h.parts.stage h.law.2.receiver.phase_counts in
     let f0 : nat_lt n lane.freed ≡ false = le-ltb n lane.freed from in
     stands ∙ ap some (elim (cases_lt n lane.acked) [
       | inl back ↦

@@ -1,17 +1,19 @@
 -- The receiver's steps: look at the next entry, copy it whole, clear its flags, acknowledge it.
-use Rattle.std.proofs.Common.{◌≡◌, ℕ, suc, ◌+◌, ◌%◌, ◌^◌, ◌<◌, ◌≤◌, false, List, [], ◌∷◌, ◌++◌, length, map, take, set, get_or, refl, sym, subst, ap, ◌∙◌, inl, inr, arith, length-append, append-nil, nat_lt}
+use Rattle.std.proofs.Common.{◌≡◌, ℕ, suc, ◌+◌, ◌%◌, ◌^◌, ◌<◌, ◌≤◌, false, List, [], ◌∷◌, ◌++◌, length, map, take, set, get_or, refl, sym, subst, ap, ◌∙◌, inl, inr, arith, length-append, append-nil, nat_lt, replicate}
 use Rattle.std.proofs.lemmas.Bool.{lt-ltb, le-ltb, cases_lt}
 use Rattle.std.proofs.Math.ListN.{get_or-map}
 use Rattle.std.proofs.Math.Seq.{take-suc}
 use mathlib.Core.Option.{some}
 use lib.ListN.{get_elem?}
-use Rattle.table_rule.specs.LaneNames.{Lane, Slot, blank_slot, slot_of, with_flags, done, PhaseCounts, Idle, Copying, Copied, Cleared, bytes_of, entry_of, flags_of, version_of, Carries, GoesDown}
+use Rattle.table_rule.specs.LaneNames.{Lane, Slot, blank_slot, slot_of, with_flags, done, PhaseCounts, Idle, Copying, Copied, Cleared, bytes_of, entry_of, flags_of, version_of, Carries, GoesDown, after_look, after_clear, after_ack}
 use Rattle.table_rule.specs.Views.{Bytes}
 use Rattle.table_rule.specs.Borders.{Borders, Slots, empty, out, full, slot_at}
 use Rattle.table_rule.specs.Shows.{RingStands, hand_in}
+use Rattle.table_rule.specs.LaneSteps.{Look, Copy, Clear, Acknowledge, Runs}
+use Rattle.table_rule.specs.Kinds.{Looks, Copies, Clears, Acknowledges}
 use Rattle.table_rule.specs.Moment.{Moment, ShowsLane}
-use Rattle.table_rule.proofs.LaneLaws.{chunks_in, look_sees, copy_sees, look_keeps, clear_keeps, ack_keeps, after_look, after_clear, after_ack, tail_after}
-use Rattle.table_rule.proofs.LaneRuns.{copy_all}
+use Rattle.table_rule.proofs.LaneLaws.{chunks_in, look_sees, copy_sees, tail_after}
+use Rattle.table_rule.proofs.LaneRuns.{runs_keep, copy_all}
 use Rattle.table_rule.proofs.Slots.{slot_by, slot_is, moves_past, slot_changes}
 use Rattle.table_rule.proofs.Order.{in_order}
 use Rattle.table_rule.proofs.Sending.{borders_in, entry_is_frame}
@@ -42,10 +44,7 @@ raised N m slots n is idle below h =
     flag_is N m slots n h ∙ ap (λ (j : ℕ). (slot_of m.lane j).flags) (sym at) ∙ stands.flags ∙ ap (λ (j : ℕ). flags_of (entry_of m.lane j)) at ∙ ap flags_of is_frame
 
 -- the next frame has landed: its slot goes to the receiver
-pub looks : (N : ℕ) (m : Moment) (slots : Slots) (n : ℕ) → n ≡ length m.recv.got → m.recv.phase ≡ Idle → get_or m.words.flags (n % N) 0 ≡ done → ShowsLane N m slots
-    → (get_elem? slots (n % N) ≡ some (full m.send.sent n))
-    × ((lane : Lane) × ShowsLane N (record m { lane = lane; recv = record m.recv { phase = Copying; hand = get_or m.send.sent n [] ∷ [] } }) (set slots (n % N) out))
-    × (n < length m.send.sent)
+pub looks : Looks
 looks N m slots n is idle raised h =
     let o = in_order N m slots h in
     let k = borders_in m in
@@ -54,7 +53,7 @@ looks N m slots n is idle raised h =
     let copied = h.parts.copied in
     let whole = h.parts.whole in
     let lane_idle : lane.phase ≡ Idle = h.parts.stage ∙ idle in
-    let counts : PhaseCounts Idle lane = subst (λ p. PhaseCounts p lane) lane_idle h.law.2.phase_counts in
+    let counts : PhaseCounts Idle lane.acked lane.cleared lane.got lane.flagged = subst (λ p. PhaseCounts p lane.acked lane.cleared lane.got lane.flagged) lane_idle h.law.2.receiver.phase_counts in
     let cleared = counts.1 in
     let no_hand : length m.recv.hand ≡ 0 = h.receiving.in_hand ∙ ap hand_in idle in
     let empty_hand : m.recv.hand ≡ [] = none_long m.recv.hand no_hand in
@@ -74,12 +73,16 @@ looks N m slots n is idle raised h =
     let l0 : nat_lt n k.cleared ≡ false = le-ltb n k.cleared (omega arith) in
     let prefix : m.recv.got ++ frame ∷ [] ≡ take (length m.recv.got + 1) m.send.sent =
     ap (λ gs. gs ++ frame ∷ []) (sym (append-nil m.recv.got) ∙ ap (λ w. m.recv.got ++ w) (sym empty_hand) ∙ h.receiving.prefix ∙ ap (λ (j : ℕ). take j m.send.sent) (let e : length m.recv.got + length m.recv.hand ≡ n = omega arith in e))
-    ∙ sym (take-suc m.send.sent n [] below) ∙ ap (λ (j : ℕ). take j m.send.sent) (let e : suc n ≡ length m.recv.got + 1 = omega arith in e) in (
+    ∙ sym (take-suc m.send.sent n [] below) ∙ ap (λ (j : ℕ). take j m.send.sent) (let e : suc n ≡ length m.recv.got + 1 = omega arith in e) in
+    let runs : Runs (Look ∷ []) lane (after_look lane) = (after_look lane, (lane_idle, more, refl), refl) in
+    (
       h.places.at n low (omega arith) ∙ ap some (slot_is k m.send.sent n l0 (le-ltb n k.looked (omega arith)) (lt-ltb n k.flagged (omega arith)) refl refl refl),
+      below,
       (
         after_look lane,
+        runs,
         record {
-          law = look_keeps lane lane_idle more h.law;
+          law = runs_keep (Look ∷ []) lane (after_look lane) runs h.law;
           of = record { entries = h.of.entries; largest = h.of.largest; up = h.of.up; todo = h.of.todo; small = h.of.small };
           parts = record { entries = h.parts.entries; whole = h.parts.whole; flight = h.parts.flight; copied = h.parts.copied; stage = refl; given_back = h.parts.given_back };
           posted = h.posted;
@@ -95,7 +98,6 @@ looks N m slots n is idle raised h =
               (slot_is after m.send.sent n l0 (lt-ltb n after.looked (omega arith)) refl refl refl refl);
         },
       ),
-      below,
     )
 
 -- the header word of the entry that is looked at has its version
@@ -110,21 +112,22 @@ version_stands N m slots n is copying h =
     ∙ ap (λ (j : ℕ). (slot_of m.lane j).ver) (sym at) ∙ whole.ver ∙ ap version_of at
 
 -- the frame in hand is received
-pub copies : (N : ℕ) (m : Moment) (slots : Slots) → m.recv.phase ≡ Copying → ShowsLane N m slots
-    → (lane : Lane) × ShowsLane N (record m { lane = lane; recv = record m.recv { phase = Copied; got = m.recv.got ++ m.recv.hand; hand = [] } }) slots
+pub copies : Copies
 copies N m slots copying h =
     let lane : Lane = m.lane in
     let lane_copying : lane.phase ≡ Copying = h.parts.stage ∙ copying in
     let chunks : ℕ = chunks_in (length (bytes_of (entry_of lane lane.got))) in
-    let all = copy_all chunks lane lane_copying (omega arith) h.law in
-    let next : Lane = record lane { part = all.0; got = lane.got + 1; phase = Copied } in
+    let all = copy_all chunks lane lane_copying (omega arith) in
+    let next : Lane = record lane { part = all.1; got = lane.got + 1; phase = Copied } in
     let one : length m.recv.hand ≡ 1 = h.receiving.in_hand ∙ ap hand_in copying in
     let long : length (m.recv.got ++ m.recv.hand) ≡ length m.recv.got + length m.recv.hand = length-append m.recv.got m.recv.hand in
     let copied = h.parts.copied in
     let same : length (m.recv.got ++ m.recv.hand) + 0 ≡ length m.recv.got + length m.recv.hand = omega arith in (
+      all.0,
       next,
+      all.2,
       record {
-        law = all.1;
+        law = runs_keep (Copy ∷ replicate all.0 Copy) lane next all.2 h.law;
         of = record { entries = h.of.entries; largest = h.of.largest; up = h.of.up; todo = h.of.todo; small = h.of.small };
         parts = record { entries = h.parts.entries; whole = h.parts.whole; flight = h.parts.flight; copied = omega arith; stage = refl; given_back = h.parts.given_back };
         posted = h.posted;
@@ -139,14 +142,13 @@ copies N m slots copying h =
     )
 
 -- the flags are cleared, and the slot is at home and empty
-pub clears : (N : ℕ) (m : Moment) (slots : Slots) (n : ℕ) → n + 1 ≡ length m.recv.got → m.recv.phase ≡ Copied → ShowsLane N m slots
-    → (lane : Lane) × ShowsLane N (record m { words = record m.words { flags = set m.words.flags (n % N) 0 }; lane = lane; recv = record m.recv { phase = Cleared } }) (set slots (n % N) empty)
+pub clears : Clears
 clears N m slots n is copied_phase h =
     let o = in_order N m slots h in
     let k = borders_in m in
     let lane : Lane = m.lane in
     let lane_copied : lane.phase ≡ Copied = h.parts.stage ∙ copied_phase in
-    let counts : PhaseCounts Copied lane = subst (λ p. PhaseCounts p lane) lane_copied h.law.2.phase_counts in
+    let counts : PhaseCounts Copied lane.acked lane.cleared lane.got lane.flagged = subst (λ p. PhaseCounts p lane.acked lane.cleared lane.got lane.flagged) lane_copied h.law.2.receiver.phase_counts in
     let copied = h.parts.copied in
     let cleared_one : lane.cleared + 1 ≡ lane.got = counts.1 in
     let same : lane.cleared ≡ n = omega arith in
@@ -154,10 +156,13 @@ clears N m slots n is copied_phase h =
     let slot : Slot = with_flags (slot_of lane lane.cleared) 0 in
     let after : Borders = record k { cleared = lane.cleared + 1 } in
     let ring : RingStands next.ring m.words.headers (set m.words.flags (lane.cleared % lane.entries) 0) =
-    ring_stores_flag lane.ring m.words.headers m.words.flags (lane.cleared % lane.entries) slot 0 refl refl h.ring in (
+    ring_stores_flag lane.ring m.words.headers m.words.flags (lane.cleared % lane.entries) slot 0 refl refl h.ring in
+    let runs : Runs (Clear ∷ []) lane next = (next, (lane_copied, refl), refl) in
+    (
       next,
+      runs,
       record {
-        law = clear_keeps lane lane_copied h.law;
+        law = runs_keep (Clear ∷ []) lane next runs h.law;
         of = record { entries = h.of.entries; largest = h.of.largest; up = h.of.up; todo = h.of.todo; small = h.of.small };
         parts = record { entries = h.parts.entries; whole = h.parts.whole; flight = h.parts.flight; copied = h.parts.copied; stage = refl; given_back = h.parts.given_back };
         posted = h.posted;
@@ -175,21 +180,23 @@ clears N m slots n is copied_phase h =
     )
 
 -- index out names the entry
-pub acks : (N : ℕ) (m : Moment) (slots : Slots) (n : ℕ) → n + 1 ≡ length m.recv.got → m.recv.phase ≡ Cleared → ShowsLane N m slots
-    → (lane : Lane) × ShowsLane N (record m { words = record m.words { index_out = n % N }; lane = lane; recv = record m.recv { phase = Idle } }) slots
+pub acks : Acknowledges
 acks N m slots n is cleared_phase h =
     let o = in_order N m slots h in
     let lane : Lane = m.lane in
     let lane_cleared : lane.phase ≡ Cleared = h.parts.stage ∙ cleared_phase in
-    let counts : PhaseCounts Cleared lane = subst (λ p. PhaseCounts p lane) lane_cleared h.law.2.phase_counts in
+    let counts : PhaseCounts Cleared lane.acked lane.cleared lane.got lane.flagged = subst (λ p. PhaseCounts p lane.acked lane.cleared lane.got lane.flagged) lane_cleared h.law.2.receiver.phase_counts in
     let copied = h.parts.copied in
     let acked_one : lane.acked + 1 ≡ lane.cleared = counts.0 in
     let cleared_all : lane.cleared ≡ lane.got = counts.1 in
     let same : n ≡ lane.acked = omega arith in
-    let next : Lane = after_ack lane in (
+    let next : Lane = after_ack lane in
+    let runs : Runs (Acknowledge ∷ []) lane next = (next, (lane_cleared, refl), refl) in
+    (
       next,
+      runs,
       record {
-        law = ack_keeps lane lane_cleared h.law;
+        law = runs_keep (Acknowledge ∷ []) lane next runs h.law;
         of = record { entries = h.of.entries; largest = h.of.largest; up = h.of.up; todo = h.of.todo; small = h.of.small };
         parts = record { entries = h.parts.entries; whole = h.parts.whole; flight = h.parts.flight; copied = h.parts.copied; stage = refl; given_back = h.parts.given_back };
         posted = h.posted;

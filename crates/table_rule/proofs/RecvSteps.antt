@@ -61,18 +61,18 @@ sees_flag_allowed N slots id me i is has idle board h counted at fits =
           let after : RecvPart = frame_found (flag_loaded part found) frame in
           let at_place : n % N ≡ n % part.entries = ap (λ (k : ℕ). n % k) (sym knows) in
           let hit : eqb found done ≡ true = eq-eqb found done up in
-          let below : n < 2 ^ 62 = omega (arith, look.2) in (
+          let below : n < 2 ^ 62 = omega (arith, look.1) in (
             with_recv me.0 after,
             takes (n % part.entries) (Some frame),
             ap (get_elem? board.homes) (sym at_place) ∙ look.0,
             (
-              record m { lane = look.1.0; recv = after },
+              record m { lane = look.2.0; recv = after },
               record {
                 words = set-get_or board.words i 0 ∙ now.words;
                 sized = now.sized;
                 seats = seats.1 after;
                 knows = now.knows;
-                shows = subst (λ (k : ℕ). ShowsLane N (record m { lane = look.1.0; recv = frame_found part frame }) (set board.homes k none)) at_place look.1.1;
+                shows = subst (λ (k : ℕ). ShowsLane N (record m { lane = look.2.0; recv = frame_found part frame }) (set board.homes k none)) at_place look.2.2;
               },
             ),
             (rw hit (frame, refl, below), surely, begins),
@@ -101,11 +101,11 @@ copies_frame_allowed N slots id me i is has copying board h counted at fits =
     let copy = receiving.copies N m board.homes copying now.shows in
     let after : RecvPart = frame_copied part in
     let prefix : after.got ≡ take (length after.got) m.send.sent =
-    sym (append-nil after.got) ∙ copy.1.receiving.prefix ∙ ap (λ (j : ℕ). take j m.send.sent) (let e : length after.got + 0 ≡ length after.got = omega arith in e) in (
+    sym (append-nil after.got) ∙ copy.3.receiving.prefix ∙ ap (λ (j : ℕ). take j m.send.sent) (let e : length after.got + 0 ≡ length after.got = omega arith in e) in (
       with_recv me.0 after,
       keeps,
       tt,
-      (record m { lane = copy.0; recv = after }, record { words = set-get_or board.words i 0 ∙ now.words; sized = now.sized; seats = seats.1 after; knows = now.knows; shows = copy.1 }),
+      (record m { lane = copy.1; recv = after }, record { words = set-get_or board.words i 0 ∙ now.words; sized = now.sized; seats = seats.1 after; knows = now.knows; shows = copy.3 }),
       (refl, ap (λ (header : ℕ). header % 2 ^ 32) word ∙ receiving.version_stands N m board.homes n refl copying now.shows, sender_too N board m id me.0 (λ send. after.got ≡ take (length after.got) send.sent) at now prefix),
     )
 
@@ -132,7 +132,7 @@ clears_flag_allowed N slots id me i n k others is last hand slot has copied =
           sized = record { posted = now.sized.posted; headers = now.sized.headers; flags = length-set m.words.flags (n % N) 0 ∙ now.sized.flags };
           seats = seats.1 after;
           knows = now.knows;
-          shows = subst (λ (j : ℕ). ShowsLane N (record m { words = record m.words { flags = set m.words.flags (n % N) 0 }; lane = clear.0; recv = after }) (set board.homes j (some None))) (sym slot) clear.1;
+          shows = subst (λ (j : ℕ). ShowsLane N (record m { words = record m.words { flags = set m.words.flags (n % N) 0 }; lane = clear.0; recv = after }) (set board.homes j (some None))) (sym slot) clear.2;
         },
       ),
       refl,
@@ -157,7 +157,7 @@ stores_index_out_allowed N slots id me i n new is last index has cleared board h
           sized = record { posted = now.sized.posted; headers = now.sized.headers; flags = now.sized.flags };
           seats = seats.1 after;
           knows = now.knows;
-          shows = ack.1;
+          shows = ack.2;
         },
       ),
       refl,

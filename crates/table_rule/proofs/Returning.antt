@@ -9,9 +9,11 @@ use Rattle.table_rule.specs.Words.{cut_word}
 use Rattle.table_rule.specs.Views.{Bytes}
 use Rattle.table_rule.specs.Borders.{Borders, Slots, SlotsStand}
 use Rattle.table_rule.specs.Shows.{number_at}
+use Rattle.table_rule.specs.LaneSteps.{Runs, index_steps}
+use Rattle.table_rule.specs.Kinds.{LoadsIndex, StoresIndex, Cuts}
 use Rattle.table_rule.specs.Moment.{Moment, ShowsLane}
 use Rattle.table_rule.proofs.LaneLaws.{number_is, number_from, tail_after}
-use Rattle.table_rule.proofs.LaneRuns.{index_all}
+use Rattle.table_rule.proofs.LaneRuns.{runs_keep, index_all}
 use Rattle.table_rule.proofs.Slots.{slot_is}
 use Rattle.table_rule.proofs.Order.{in_order}
 use Rattle.table_rule.proofs.Sending.{borders_in}
@@ -29,7 +31,7 @@ shown N freed acked index_out two low high is = elim (cases_eq acked freed) [
 ]
 
 -- index out is loaded
-pub loads_index : (N : ℕ) (m : Moment) (slots : Slots) → ShowsLane N m slots → ShowsLane N (record m { back = record m.back { index = m.words.index_out } }) slots
+pub loads_index : LoadsIndex
 loads_index N m slots h =
     let o = in_order N m slots h in
     let small : tail_of N m.lane.acked < N = mod-lt (m.lane.acked + N - 1) (omega (arith, o.two)) in
@@ -70,8 +72,7 @@ gives_back N k sent slots freed a b c d e f g near stand = record {
 }
 
 -- the index that was loaded is stored, where it is new
-pub stores_index : (N : ℕ) (m : Moment) (slots : Slots) → m.back.index ≢ tail_of N m.back.freed → ShowsLane N m slots
-    → (lane : Lane) × ShowsLane N (record m { words = record m.words { index = m.back.index }; lane = lane; back = record m.back { freed = number_at N m.back.freed m.back.index + 1 } }) slots
+pub stores_index : StoresIndex
 stores_index N m slots new h =
     let o = in_order N m slots h in
     let k = borders_in m in
@@ -84,10 +85,13 @@ stores_index N m slots new h =
     let run = index_all (n + 1 - lane.freed) lane (n + 1) (omega arith) (omega arith) h.of.up h.law in
     let next : Lane = record lane { returning = run.0; freed = n + 1; index_word = run.1 } in
     let named : m.back.index ≡ tail_of N (n + 1) = sym found.2 ∙ tail_after N n o.two in
-    let one_free = h.room.one_free in (
+    let one_free = h.room.one_free in
+    let runs : Runs (index_steps lane.freed (n + 1 - lane.freed)) lane next = run.2 in
+    (
       next,
+      runs,
       record {
-        law = run.2;
+        law = runs_keep (index_steps lane.freed (n + 1 - lane.freed)) lane next runs h.law;
         of = record { entries = h.of.entries; largest = h.of.largest; up = h.of.up; todo = h.of.todo; small = h.of.small };
         parts = record { entries = h.parts.entries; whole = h.parts.whole; flight = h.parts.flight; copied = h.parts.copied; stage = h.parts.stage; given_back = refl };
         posted = h.posted;
@@ -102,7 +106,7 @@ stores_index N m slots new h =
     )
 
 -- the link is cut
-pub cuts : (N : ℕ) (m : Moment) (slots : Slots) → ShowsLane N m slots → ShowsLane N (record m { words = record m.words { link = cut_word }; cut = record m.cut { cut = true } }) slots
+pub cuts : Cuts
 cuts N m slots h = record {
   law = h.law;
   of = h.of;

@@ -105,7 +105,7 @@ stores_posted_allowed N slots id me i new frame k others is header hand slot fit
           sized = record { posted = length-set m.words.posted (n % N) (header_of n) ∙ now.sized.posted; headers = now.sized.headers; flags = now.sized.flags };
           seats = seats.1 after;
           knows = now.knows;
-          shows = subst (λ (j : ℕ). ShowsLane N (record m { words = record m.words { posted = set m.words.posted (n % N) (header_of n) }; lane = sent.0; send = after }) (set board.homes j (some (Some frame)))) (sym slot) sent.1;
+          shows = subst (λ (j : ℕ). ShowsLane N (record m { words = record m.words { posted = set m.words.posted (n % N) (header_of n) }; lane = sent.0; send = after }) (set board.homes j (some (Some frame)))) (sym slot) sent.2;
         },
       ),
       refl,

@@ -4,14 +4,16 @@ use Rattle.std.proofs.lemmas.Bool.{lt-ltb, le-ltb, cases_eq, cases_lt}
 use Rattle.std.proofs.lemmas.List.{map-append, length_push, get_or_push, get_or_append_left, take-append-le, length-map, drop-append-le}
 use mathlib.Core.Option.{some}
 use lib.ListN.{get_elem?}
-use Rattle.table_rule.specs.LaneNames.{Entry, Carries, GoesDown, Lane, HoldsRingLaw, entry_of, free_entries, head_of, free_in, writes_of, tail_of}
+use Rattle.table_rule.specs.LaneNames.{Entry, Carries, GoesDown, Lane, HoldsRingLaw, entry_of, free_entries, head_of, free_in, writes_of, tail_of, after_begin}
 use Rattle.table_rule.specs.Words.{AreSized, header_of}
 use Rattle.table_rule.specs.Views.{Bytes}
 use Rattle.table_rule.specs.Borders.{Borders, Slots, empty, out, full, slot_at}
 use Rattle.table_rule.specs.Shows.{borders_of, claimed_by, in_flight, PostedStand}
+use Rattle.table_rule.specs.LaneSteps.{Runs, send_steps}
+use Rattle.table_rule.specs.Kinds.{Claims, Sends}
 use Rattle.table_rule.specs.Moment.{Moment, ShowsLane}
-use Rattle.table_rule.proofs.LaneLaws.{free_is_room, begin_keeps, after_begin, other_number}
-use Rattle.table_rule.proofs.LaneRuns.{post_all}
+use Rattle.table_rule.proofs.LaneLaws.{free_is_room, other_number}
+use Rattle.table_rule.proofs.LaneRuns.{runs_keep, post_all}
 use Rattle.table_rule.proofs.Flights.{in_flight-send}
 use Rattle.table_rule.proofs.Slots.{slot_by, slot_is, moves_past, slot_changes}
 use Rattle.table_rule.proofs.Order.{in_order}
@@ -30,7 +32,7 @@ pub room_shown : (N : ℕ) (m : Moment) (slots : Slots) → 0 < free_entries N (
 room_shown N m slots free h =
     let o = in_order N m slots h in
     let length_sent : length m.lane.sent ≡ length m.send.sent = ap length h.parts.entries ∙ length-map m.send.sent Carries in
-    let word : m.lane.index_word ≡ m.words.index = h.law.2.index_word ∙ (λ i. tail_of (h.of.entries i) (h.parts.given_back i)) ∙ sym h.index.homeward in
+    let word : m.lane.index_word ≡ m.words.index = h.law.2.back.index_word_is ∙ (λ i. tail_of (h.of.entries i) (h.parts.given_back i)) ∙ sym h.index.homeward in
     let same : free_in m.lane ≡ free_entries N (head_of N (length m.send.sent)) m.words.index = λ i. free_entries (h.of.entries i) (head_of (h.of.entries i) (length_sent i)) (word i) in
     let shown = free_is_room m.lane h.law in
     let entries = h.of.entries in
@@ -38,8 +40,7 @@ room_shown N m slots free h =
     omega arith
 
 -- the slot of the next entry goes to the sender
-pub claims : (N : ℕ) (m : Moment) (slots : Slots) → m.send.claims ≡ false → 0 < free_entries N (head_of N (length m.send.sent)) m.words.index → ShowsLane N m slots
-    → (get_elem? slots (length m.send.sent % N) ≡ some empty) × ShowsLane N (record m { send = record m.send { claims = true } }) (set slots (length m.send.sent % N) out)
+pub claims : Claims
 claims N m slots free_hand free h =
     let o = in_order N m slots h in
     let n : ℕ = length m.send.sent in
@@ -89,9 +90,7 @@ posts N posted n more some_slot is long h =
     }
 
 -- the frame stands in its slot, which is at home, and its writes are on their way
-pub sends : (N : ℕ) (m : Moment) (slots : Slots) (frame : Bytes) → m.send.claims ≡ true → length frame ≤ 65536 → length m.send.sent < 2 ^ 62 → AreSized N m.words → ShowsLane N m slots
-    → (lane : Lane) × ShowsLane N (record m { words = record m.words { posted = set m.words.posted (length m.send.sent % N) (header_of (length m.send.sent)) }; lane = lane; send = record m.send { sent = m.send.sent ++ frame ∷ []; claims = false } })
-    (set slots (length m.send.sent % N) (some (Some frame)))
+pub sends : Sends
 sends N m slots frame claimed fits counted sized h =
     let o = in_order N m slots h in
     let n : ℕ = length m.send.sent in
@@ -109,8 +108,9 @@ sends N m slots frame claimed fits counted sized h =
     let free : 0 < free_in lane = omega arith in
     let open_yet : (j : ℕ) → j < length lane.sent → entry_of lane j ≢ GoesDown =
     λ j below down. let below_n : j < n = omega arith in let is : get_or lane.sent j GoesDown ≡ Carries (get_or m.send.sent j []) = ap (λ es. get_or es j GoesDown) h.parts.entries ∙ entry_is_frame m.send.sent j below_n in cc in
-    let begun : HoldsRingLaw (after_begin lane entry) = begin_keeps lane entry h.of.todo free (subst (λ (most : ℕ). length frame ≤ most) (sym h.of.largest) fits) open_yet h.law in
     let next : Lane = record lane { sent = lane.sent ++ entry ∷ []; todo = []; flight = lane.flight ++ writes_of (length lane.sent) entry } in
+    let runs : Runs (send_steps (length lane.sent) frame) lane next =
+        (after_begin lane entry, (h.of.todo, free, subst (λ (most : ℕ). length frame ≤ most) (sym h.of.largest) fits, open_yet, refl), post_all (writes_of (length lane.sent) entry) (after_begin lane entry) refl h.of.up) in
     let dropped : drop m.mover.flagged (lane.sent ++ entry ∷ []) ≡ drop m.mover.flagged lane.sent ++ entry ∷ [] = drop-append-le m.mover.flagged lane.sent (entry ∷ []) (omega arith) in
     let left : length (drop m.mover.flagged lane.sent) ≡ length lane.sent - m.mover.flagged = length-drop m.mover.flagged lane.sent in
     let marks = h.holding.marks in
@@ -136,8 +136,9 @@ sends N m slots frame claimed fits counted sized h =
           ∙ sym (slot_is k m.send.sent j refl refl past_flagged refl (le-ltb j k.sent (omega arith)) refl)
     ] in (
       next,
+      runs,
       record {
-        law = post_all (writes_of (length lane.sent) entry) (after_begin lane entry) refl h.of.up begun;
+        law = runs_keep (send_steps (length lane.sent) frame) lane next runs h.law;
         of = record { entries = h.of.entries; largest = h.of.largest; up = h.of.up; todo = refl; small = h.of.small };
         parts = record {
           entries = ap (λ es. es ++ entry ∷ []) h.parts.entries ∙ sym (map-append Carries m.send.sent (frame ∷ []));

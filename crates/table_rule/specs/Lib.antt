@@ -1,5 +1,7 @@
 pub mod Borders
+pub mod Kinds
 pub mod LaneNames
+pub mod LaneSteps
 pub mod Learns
 pub mod Moment
 pub mod Owners

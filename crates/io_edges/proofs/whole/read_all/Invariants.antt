@@ -7,6 +7,7 @@ invariant-loop-buffer g l = record {
   given : HasGiven (g.S.Source.left l.initial.source) (g.S.Source.left l.source) l.bytes.items;
   short : vec_len l.bytes ≤ l.limit + 1;
   room : vec_len l.buffer ≡ min 65536 (l.limit + 1);
+  reads : g.S.Source.reads l.source ≤ g.S.Source.reads l.initial.source + vec_len l.bytes;
   later : g.S.Source.faults l.initial.source ≤ g.S.Source.faults l.source;
 }
 

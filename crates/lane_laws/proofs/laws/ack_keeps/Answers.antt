@@ -1,4 +1,4 @@
-use Rattle.lane_laws.proofs.Holds.{ack_keeps}
+use Rattle.lane_laws.proofs.LaneLaws.{ack_keeps}
 use Rattle.lane_laws.proofs.laws.ack_keeps.Goals as goal
 
 pub returns : goal.returns

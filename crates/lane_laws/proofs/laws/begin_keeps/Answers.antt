@@ -1,4 +1,4 @@
-use Rattle.lane_laws.proofs.Holds.{begin_keeps}
+use Rattle.lane_laws.proofs.LaneLaws.{begin_keeps}
 use Rattle.lane_laws.proofs.laws.begin_keeps.Goals as goal
 
 pub returns : goal.returns

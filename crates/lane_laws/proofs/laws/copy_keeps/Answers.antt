@@ -1,4 +1,4 @@
-use Rattle.lane_laws.proofs.Holds.{copy_keeps}
+use Rattle.lane_laws.proofs.LaneLaws.{copy_keeps}
 use Rattle.lane_laws.proofs.laws.copy_keeps.Goals as goal
 
 pub returns : goal.returns

@@ -1,4 +1,4 @@
-use Rattle.lane_laws.proofs.Holds.{copy_sees}
+use Rattle.lane_laws.proofs.LaneLaws.{copy_sees}
 use Rattle.lane_laws.proofs.laws.copy_sees.Goals as goal
 
 pub returns : goal.returns

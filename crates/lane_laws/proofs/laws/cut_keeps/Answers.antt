@@ -1,4 +1,4 @@
-use Rattle.lane_laws.proofs.Holds.{cut_keeps}
+use Rattle.lane_laws.proofs.LaneLaws.{cut_keeps}
 use Rattle.lane_laws.proofs.laws.cut_keeps.Goals as goal
 
 pub returns : goal.returns

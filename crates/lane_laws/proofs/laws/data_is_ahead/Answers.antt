@@ -1,4 +1,4 @@
-use Rattle.lane_laws.proofs.Holds.{data_is_ahead}
+use Rattle.lane_laws.proofs.LaneLaws.{data_is_ahead}
 use Rattle.lane_laws.proofs.laws.data_is_ahead.Goals as goal
 
 pub returns : goal.returns

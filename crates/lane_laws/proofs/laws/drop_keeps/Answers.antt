@@ -1,4 +1,4 @@
-use Rattle.lane_laws.proofs.Holds.{drop_keeps}
+use Rattle.lane_laws.proofs.LaneLaws.{drop_keeps}
 use Rattle.lane_laws.proofs.laws.drop_keeps.Goals as goal
 
 pub returns : goal.returns

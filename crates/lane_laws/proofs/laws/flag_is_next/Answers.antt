@@ -1,4 +1,4 @@
-use Rattle.lane_laws.proofs.Holds.{flag_is_next}
+use Rattle.lane_laws.proofs.LaneLaws.{flag_is_next}
 use Rattle.lane_laws.proofs.laws.flag_is_next.Goals as goal
 
 pub returns : goal.returns

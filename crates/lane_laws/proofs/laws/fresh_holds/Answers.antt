@@ -1,4 +1,4 @@
-use Rattle.lane_laws.proofs.Holds.{fresh_holds}
+use Rattle.lane_laws.proofs.LaneLaws.{fresh_holds}
 use Rattle.lane_laws.proofs.laws.fresh_holds.Goals as goal
 
 pub returns : goal.returns

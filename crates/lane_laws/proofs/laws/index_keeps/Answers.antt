@@ -1,4 +1,4 @@
-use Rattle.lane_laws.proofs.Holds.{index_keeps}
+use Rattle.lane_laws.proofs.LaneLaws.{index_keeps}
 use Rattle.lane_laws.proofs.laws.index_keeps.Goals as goal
 
 pub returns : goal.returns

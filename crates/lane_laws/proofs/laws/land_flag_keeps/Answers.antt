@@ -1,4 +1,4 @@
-use Rattle.lane_laws.proofs.Holds.{land_flag_keeps}
+use Rattle.lane_laws.proofs.LaneLaws.{land_flag_keeps}
 use Rattle.lane_laws.proofs.laws.land_flag_keeps.Goals as goal
 
 pub returns : goal.returns

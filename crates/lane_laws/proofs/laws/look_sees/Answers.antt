@@ -1,4 +1,4 @@
-use Rattle.lane_laws.proofs.Holds.{look_sees}
+use Rattle.lane_laws.proofs.LaneLaws.{look_sees}
 use Rattle.lane_laws.proofs.laws.look_sees.Goals as goal
 
 pub returns : goal.returns

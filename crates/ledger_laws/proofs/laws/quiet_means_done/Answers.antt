@@ -1,5 +1,5 @@
+use Rattle.ledger_laws.proofs.QuietMeansDone.{quiet_means_done}
 use Rattle.ledger_laws.proofs.laws.quiet_means_done.Goals as goal
-use Rattle.ledger_laws.proofs.Quiet.{quiet_means_done}
 
 pub returns : goal.returns
 returns c = quiet_means_done

@@ -1,4 +1,4 @@
-use Rattle.ledger_laws.proofs.RingRuns.{ring_law_holds}
+use Rattle.ledger_laws.proofs.RingLawHolds.{ring_law_holds}
 use Rattle.ledger_laws.proofs.laws.ring_law_holds.Goals as goal
 
 pub returns : goal.returns

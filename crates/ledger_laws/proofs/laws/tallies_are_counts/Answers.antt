@@ -1,5 +1,5 @@
 use Rattle.ledger_laws.proofs.laws.tallies_are_counts.Goals as goal
-use Rattle.ledger_laws.proofs.Sessions.{tallies_are_counts}
+use Rattle.ledger_laws.proofs.FramesInOrder.{tallies_are_counts}
 
 pub returns : goal.returns
 returns c = tallies_are_counts

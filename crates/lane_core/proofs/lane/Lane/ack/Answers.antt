@@ -2,7 +2,7 @@ use Rattle.std.proofs.Common.{ap, ◌∙◌, sym, subst, arith, map, List, ℕ}
 use Rattle.lane_model.specs.Law.{HoldsRingLaw}
 use Rattle.lane_model.specs.Steps.{after_ack}
 use Rattle.lane_model.specs.declared.Phase.TheVariants.{Idle}
-use Rattle.lane_laws.proofs.Holds.{ack_keeps}
+use Rattle.lane_laws.proofs.Facade.{ack_keeps}
 use Rattle.lane_core.specs.Seen.{lane_seen}
 use Rattle.lane_core.specs.declared.write.IndexWrite.{IndexWrite}
 use Rattle.lane_core.proofs.Parts.{not_copying, map-posted}

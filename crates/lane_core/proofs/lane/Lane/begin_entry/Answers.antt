@@ -4,7 +4,7 @@ use Rattle.std.proofs.lemmas.List.{length-map, length_push, nil_from_length}
 use Rattle.lane_laws.specs.Laws.{IsOpen}
 use Rattle.lane_model.specs.Lane.{bytes_of, writes_of}
 use Rattle.lane_model.specs.Law.{HoldsRingLaw}
-use Rattle.lane_laws.proofs.Holds.{begin_keeps}
+use Rattle.lane_laws.proofs.Facade.{begin_keeps}
 use Rattle.lane_core.specs.Calls.{LaneValue}
 use Rattle.lane_core.specs.Parts.{entry_seen}
 use Rattle.lane_core.specs.Seen.{lane_seen}

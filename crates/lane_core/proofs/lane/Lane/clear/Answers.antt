@@ -5,7 +5,7 @@ use Rattle.lane_model.specs.Law.{HoldsRingLaw}
 use Rattle.lane_model.specs.Steps.{after_clear}
 use Rattle.lane_model.specs.declared.Phase.{Phase}
 use Rattle.lane_model.specs.declared.Phase.TheVariants.{Cleared}
-use Rattle.lane_laws.proofs.Holds.{clear_keeps}
+use Rattle.lane_laws.proofs.Facade.{clear_keeps}
 use Rattle.lane_core.specs.Parts.{place_seen, with_flags_at}
 use Rattle.lane_core.specs.Seen.{index_room, lane_seen}
 use Rattle.lane_core.proofs.Parts.{not_copying}
@@ -20,7 +20,7 @@ invariant_of-self c =
     ap (map place_seen) (with_items_is old.ring c.put_flags.new.ring (omega arith))
     ∙ c.put_flags.ensures
     ∙ ap (λ places. with_flags_at (map place_seen places) old.cleared 0) c.deref_mut.ensures.value
-    ∙ with_flags_at-is (lane_seen old) old.cleared 0 kept.law.2.slots in
+    ∙ with_flags_at-is (lane_seen old) old.cleared 0 kept.law.2.room.slots in
     record {
       law = subst (λ (places : List Slot). HoldsRingLaw (record (after_clear (lane_seen old)) { ring = places })) (sym ring) (clear_keeps (lane_seen old) c.in-Copied.is kept.law);
       few = kept.few;

@@ -6,7 +6,7 @@ use Rattle.lane_model.specs.Law.{HoldsRingLaw}
 use Rattle.lane_model.specs.Steps.{more_to_copy}
 use Rattle.lane_model.specs.declared.Phase.{Phase}
 use Rattle.lane_model.specs.declared.Phase.TheVariants.{Copied}
-use Rattle.lane_laws.proofs.Holds.{copy_keeps}
+use Rattle.lane_laws.proofs.Facade.{copy_keeps}
 use Rattle.lane_core.specs.Calls.{LaneValue, with_lane, after_copying, copy_answer, is_copying}
 use Rattle.lane_core.specs.Parts.{place_seen}
 use Rattle.lane_core.specs.Seen.{index_room, lane_seen, value_seen}

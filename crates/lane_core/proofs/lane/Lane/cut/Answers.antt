@@ -1,4 +1,4 @@
-use Rattle.lane_laws.proofs.Holds.{cut_keeps}
+use Rattle.lane_laws.proofs.Facade.{cut_keeps}
 use Rattle.lane_core.specs.Seen.{lane_seen}
 use Rattle.lane_core.proofs.lane.Lane.cut.Goals as goal
 

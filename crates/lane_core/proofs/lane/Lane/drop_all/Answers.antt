@@ -1,5 +1,5 @@
 use Rattle.std.proofs.Common.{ap, ◌∙◌, arith}
-use Rattle.lane_laws.proofs.Holds.{drop_keeps}
+use Rattle.lane_laws.proofs.Facade.{drop_keeps}
 use Rattle.lane_core.specs.Calls.{LaneValue}
 use Rattle.lane_core.specs.Seen.{lane_seen}
 use Rattle.lane_core.proofs.lane.Lane.drop_all.Goals as goal

@@ -95,7 +95,7 @@ lane_after c =
     ∙ c.store.ensures
     ∙ ap (λ (places : List Slot). ring_after (map place_seen places) (map entry_seen c.deref.result.now) mark) c.deref_mut.ensures.value
     ∙ ap (λ (entries : List Entry). ring_after (map place_seen old.ring.items) (map entry_seen entries) mark) c.deref.ensures.value in
-    landed_lane (lane_seen old) _ _ _ _ mark c.self.invariant.law.2.slots landed.marks ring (ap (λ count. old.flagged + count) c.landed_flags.ensures)
+    landed_lane (lane_seen old) _ _ _ _ mark c.self.invariant.law.2.room.slots landed.marks ring (ap (λ count. old.flagged + count) c.landed_flags.ensures)
 
 pub invariant_of-self-in-Landed : goal.invariant_of-self-in-Landed
 invariant_of-self-in-Landed c =

@@ -3,7 +3,7 @@ use Rattle.std.proofs.lemmas.List.{length-map}
 use Rattle.lane_model.specs.Law.{HoldsRingLaw}
 use Rattle.lane_model.specs.Steps.{after_post}
 use Rattle.lane_model.specs.declared.Write.{Write}
-use Rattle.lane_laws.proofs.Holds.{post_keeps}
+use Rattle.lane_laws.proofs.Facade.{post_keeps}
 use Rattle.lane_core.specs.Parts.{IsKnown, entry_seen}
 use Rattle.lane_core.specs.Seen.{lane_seen}
 use Rattle.lane_core.specs.declared.write.PostedWrite.{PostedWrite}
@@ -14,7 +14,7 @@ use Rattle.lane_core.proofs.lane.Lane.post.Goals as goal
 pub label-requires : goal.label-requires
 label-requires c =
     let old = c.self.inside in
-    let known = next_is_known (lane_seen old) c.in_ok-mark.mark c.pop_front.new.self.items c.in_ok-mark.ensures.items c.self.invariant.law.2.last in
+    let known = next_is_known (lane_seen old) c.in_ok-mark.mark c.pop_front.new.self.items c.in_ok-mark.ensures.items c.self.invariant.law.2.coming.last in
     let count = length-map old.sent.items entry_seen ∙ sym (ap length c.deref.ensures.value) in
     subst (IsKnown c.in_ok-mark.mark) count known
 

@@ -1,0 +1,99 @@
+-- The law of the ring is kept by each step, whatever was lost: one lemma for each law of this crate.
+use Rattle.std.proofs.Common.{◌≡◌, ℕ, ◌≤◌, [], ◌∷◌, ◌++◌, length, ◌∙◌, ap, inl, inr, arith, le-ltb}
+use Rattle.std.proofs.lemmas.Bool.{cond-false, cases_lt, cases_Bool}
+use Rattle.lane_model.specs.Lane.{Lane}
+use Rattle.lane_model.specs.Law.{Sender, owner_of, entry_at}
+use Rattle.lane_laws.specs.Laws.{LookSees, CopySees, FreshHolds, BeginKeeps, PostKeeps, LandDataKeeps, LandFlagKeeps, LandBellKeeps, FlagIsNext, DataIsAhead, NothingLeft, LookKeeps, CopyKeeps, ClearKeeps, AckKeeps, IndexKeeps, CutKeeps, DropKeeps, FreeIsRoom, IndexIsNext, EachHasOneOwner}
+use Rattle.lane_laws.proofs.Numbers as numbers
+use Rattle.lane_laws.proofs.Receiver as receiver
+use Rattle.lane_laws.proofs.Sender as sender
+use Rattle.lane_laws.proofs.Landing as landing
+
+pub fresh_holds : FreshHolds
+fresh_holds lane fresh = ([], [], sender.fresh_holds lane fresh)
+
+pub free_is_room : FreeIsRoom
+free_is_room lane law = sender.free_is_room law.0 law.1 lane law.2
+
+pub begin_keeps : BeginKeeps
+begin_keeps lane entry no_todo free fits open_yet law = (law.0, law.1, sender.begin_keeps law.0 law.1 lane entry no_todo free fits open_yet law.2)
+
+pub post_keeps : PostKeeps
+post_keeps lane write rest front law = elim (cases_Bool lane.up) [
+  | inl up ↦ (law.0, law.1, sender.post_keeps law.0 law.1 lane write rest front up law.2)
+  | inr down ↦ (law.0 ++ write ∷ [], law.1, sender.post_keeps_lost law.0 law.1 lane write rest front down law.2)
+]
+
+pub land_data_keeps : LandDataKeeps
+land_data_keeps lane n field before behind middle law = (law.0, law.1, landing.land_data_keeps law.0 law.1 lane n field before behind middle law.2)
+
+pub land_flag_keeps : LandFlagKeeps
+land_flag_keeps lane n rest front law = (law.0, law.1, landing.land_flag_keeps law.0 law.1 lane n rest front law.2)
+
+pub land_bell_keeps : LandBellKeeps
+land_bell_keeps lane rest front law = (law.0, law.1, landing.land_bell_keeps law.0 law.1 lane rest front law.2)
+
+pub look_keeps : LookKeeps
+look_keeps lane idle more law = (law.0, law.1, receiver.look_keeps law.0 law.1 lane idle more law.2)
+
+pub copy_keeps : CopyKeeps
+copy_keeps lane copying law = (law.0, law.1, receiver.copy_keeps law.0 law.1 lane copying law.2)
+
+pub clear_keeps : ClearKeeps
+clear_keeps lane copied law = (law.0, law.1, receiver.clear_keeps law.0 law.1 lane copied law.2)
+
+pub ack_keeps : AckKeeps
+ack_keeps lane cleared law = elim (cases_Bool lane.up) [
+  | inl up ↦ (law.0, law.1, receiver.ack_keeps law.0 law.1 lane cleared up law.2)
+  | inr down ↦ (law.0, law.1 ++ lane.acked ∷ [], receiver.ack_keeps_lost law.0 law.1 lane cleared down law.2)
+]
+
+pub index_keeps : IndexKeeps
+index_keeps lane n rest front law = (law.0, law.1, receiver.index_keeps law.0 law.1 lane n rest front law.2)
+
+pub cut_keeps : CutKeeps
+cut_keeps lane law = (law.0, law.1, receiver.cut_keeps law.0 law.1 lane law.2)
+
+pub drop_keeps : DropKeeps
+drop_keeps lane down law = (lane.flight ++ law.0, lane.returning ++ law.1, receiver.drop_keeps law.0 law.1 lane down law.2)
+
+pub look_sees : LookSees
+look_sees lane idle law = receiver.look_sees law.0 law.1 lane idle law.2
+
+pub copy_sees : CopySees
+copy_sees lane copying law = receiver.copy_sees law.0 law.1 lane copying law.2
+
+pub index_is_next : IndexIsNext
+index_is_next lane n rest front law =
+    let next = receiver.index_is_next law.0 law.1 lane n rest front law.2 in (next.0, next.1)
+
+pub flag_is_next : FlagIsNext
+flag_is_next lane n rest front law =
+    let next = landing.flag_is_next law.0 law.1 lane n rest front law.2 in (next.0, next.1)
+
+pub data_is_ahead : DataIsAhead
+data_is_ahead lane n field among law = landing.data_is_ahead law.0 law.1 lane n field among law.2
+
+pub nothing_left : NothingLeft
+nothing_left lane up no_flight no_todo law = landing.nothing_left law.0 law.1 lane up no_flight no_todo law.2
+
+-- an entry that was not begun is the sender's
+not_begun : (lane : Lane) (n : ℕ) → lane.freed ≤ n → lane.acked ≤ n → lane.got ≤ n → lane.flagged ≤ n → length lane.sent ≤ n → owner_of lane n ≡ Sender
+not_begun lane n a b c d e =
+    cond-false _ _ _ (le-ltb n lane.freed a)
+    ∙ cond-false _ _ _ (le-ltb n lane.acked b)
+    ∙ cond-false _ _ _ (le-ltb n lane.got c)
+    ∙ cond-false _ _ _ (le-ltb n lane.flagged d)
+    ∙ cond-false _ _ _ (le-ltb n (length lane.sent) e)
+
+pub each_has_one_owner : EachHasOneOwner
+each_has_one_owner lane law =
+    let h = law.2 in record {
+      of_entry = λ n low high. ap (owner_of lane) (numbers.number_at lane.entries lane.freed n low (omega arith));
+      of_none = λ slot below none.
+          let at = numbers.number_from lane.entries lane.freed slot below in
+          elim (cases_lt (entry_at lane slot) (length lane.sent)) [
+            | inl begun ↦ absurd (none (entry_at lane slot) at.0 begun at.2)
+            | inr free ↦ not_begun lane (entry_at lane slot) (omega arith) (omega arith) (omega arith) (omega arith) free
+          ];
+    }

@@ -1,0 +1,9 @@
+-- What crates above may cite of the proofs of this crate: the laws of every log, one name for each, and how a log grows by a step.
+pub use Rattle.ledger_laws.proofs.AgainWhereNoRoom.{again_where_no_room}
+pub use Rattle.ledger_laws.proofs.FramesInOrder.{every_log_is_in_order, every_frame_comes_once, tallies_are_counts}
+pub use Rattle.ledger_laws.proofs.LinkDownWhereNotUp.{link_down_where_not_up}
+pub use Rattle.ledger_laws.proofs.PairsAreSeparate.{pairs_are_separate}
+pub use Rattle.ledger_laws.proofs.QuietMeansDone.{quiet_means_done}
+pub use Rattle.ledger_laws.proofs.RingLawHolds.{ring_law_holds}
+pub use Rattle.ledger_laws.proofs.LogGrowth.{log_of-last}
+pub use Rattle.ledger_laws.proofs.UpMeansAgreement.{up_means_agreement}

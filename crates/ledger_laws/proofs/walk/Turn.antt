@@ -1,0 +1,207 @@
+-- What a step can be for a lane: one constructor for each kind of thing that can happen to it, with what the step has passed in
+-- a record, and with the sight after it in closed form. Steps on other lanes of the pair arrive as resting, as another lane's
+-- write that is said or lands, or as a queue that is shut.
+use Rattle.std.specs.Prelude.{◌≡◌, ℕ, ◌+◌, ◌==◌, ◌≤◌, Bool, true, false, Some, None, List, [], ◌∷◌, length, map, remove, replicate, slice_get, slice_set, slice_index, slice_index_or, nat_lt, bit_and}
+use Rattle.step_kinds.specs.Bits.{has_bit, with_bit, without_bits}
+use Rattle.step_kinds.specs.declared.names.LaneName.{LaneName}
+use Rattle.step_kinds.specs.declared.plan.Plan.{Plan}
+use Rattle.step_kinds.specs.declared.plan.SidePlan.{SidePlan}
+use Rattle.step_kinds.specs.declared.steps.Label.{Label}
+use Rattle.step_kinds.specs.declared.steps.Label.TheVariants.{Chunk, Len, Ver, Flag, Down, Bell, Index, Pad}
+use Rattle.lane_model.specs.Lane.{Carries, GoesDown, bytes_of, chunks_in}
+use Rattle.lane_model.specs.Order.{may_land}
+use Rattle.lane_model.specs.declared.Field.{Field}
+use Rattle.lane_model.specs.declared.Phase.TheVariants.{Idle, Copying, Copied, Cleared}
+use Rattle.lane_model.specs.declared.Write.TheVariants.{Data, Flag as EntryFlag}
+use Rattle.ledger_model.specs.Handshake.{offers, check_refusal}
+use Rattle.ledger_model.specs.Labels.{order_of, write_of, index_of}
+use Rattle.ledger_model.specs.Ledger.{LanePart, Sizes, Tally, entry_in, free_of, links_pad, side_plan, sizes_of, updated}
+use Rattle.ledger_model.specs.Link.{is_up, is_down, is_closing}
+use Rattle.ledger_model.specs.LinkSteps.{fresh_lane}
+use Rattle.ledger_model.specs.Log.{Answered}
+use Rattle.ledger_model.specs.Next.{pair_plan}
+use Rattle.ledger_model.specs.Receiving.{is_idle, is_copying, is_copied, is_cleared}
+use Rattle.ledger_model.specs.Sending.{begun_lane}
+use Rattle.ledger_model.specs.declared.LinkState.TheVariants.{Down as LinkIsDown, Up as LinkIsUp, Closing}
+use Rattle.ledger_laws.specs.Laws.{IsOrdinaryOn}
+use Rattle.ledger_laws.proofs.walk.Sight.{End, Sight, Role, Sender, Receiver, peer_of, end_at, on_sender, on_receiver, with_up, with_ready, with_joined, with_closed, with_offered, with_pads, with_pending, with_masked, with_flight, with_clean, with_enabled, side_at, part_of, posted}
+use Rattle.ledger_laws.proofs.walk.News.{News, no_news, Tells, looked_news, pads_landed, ring_landed, ring_freed, ring_checked, ring_cleared, sees_taken}
+
+-- What a step has passed
+
+pub record MayEnable (s : Sight) (e : Role) : Type 0 where
+  pub down : is_down s.state ≡ true
+  pub clean : (end_at s e).clean ≡ true
+
+pub record MayTrain (s : Sight) : Type 0 where
+  pub down : is_down s.state ≡ true
+  pub sender : s.sender.enabled ≡ true
+  pub receiver : s.receiver.enabled ≡ true
+
+abbrev pub is_pad : Label → Bool
+is_pad (Pad i value) = true
+is_pad label = false
+
+-- whether a label writes the scratchpad of the queues that are ready
+abbrev pub is_link_pad : Label → Bool
+is_link_pad (Pad i value) = i == links_pad
+is_link_pad label = false
+
+-- the handshake, `own` being the side's numbers
+pub record MayOffer (own : SidePlan) (s : Sight) (e : Role) (label : Label) : Type 0 where
+  pub up : is_up s.state ≡ true
+  pub is_next : label ≡ slice_index_or (offers own) (end_at s e).offered (Pad 0 0)
+  pub a_pad : is_pad label ≡ true
+  pub no_link : is_link_pad label ≡ false
+  pub more : ((end_at s e).offered == length (offers own)) ≡ false
+
+pub record MayCheck (own : SidePlan) (s : Sight) (e : Role) : Type 0 where
+  pub up : is_up s.state ≡ true
+  pub not_yet : (end_at s e).up ≡ false
+  pub passes : check_refusal own (part_of (end_at s e)) (is_up s.state) ≡ None
+
+pub record MayReady (s : Sight) (e : Role) : Type 0 where
+  pub up : is_up s.state ≡ true
+  pub checked : (end_at s e).up ≡ true
+
+pub record MayJoin (s : Sight) (e : Role) (queue : ℕ) : Type 0 where
+  pub up : is_up s.state ≡ true
+  pub ready : has_bit (end_at s e).ready queue ≡ true
+  pub asked : has_bit (slice_index (end_at s e).pads links_pad) queue ≡ true
+
+-- an entry of so many bytes is begun on queue `q`
+pub record MayBegin (sizes : Sizes) (q : ℕ) (s : Sight) (len : ℕ) : Type 0 where
+  pub up : is_up s.state ≡ true
+  pub joined : has_bit s.sender.joined q ≡ true
+  pub not_closed : has_bit s.sender.closed q ≡ false
+  pub not_busy : s.lane.todo ≡ []
+  pub room : (free_of sizes s.lane == 0) ≡ false
+  pub fits : len ≤ sizes.largest
+
+-- a write of a lane on this queue
+abbrev pub on_queue : ℕ → Label → Bool
+on_queue q (Chunk p n part) = p == q
+on_queue q (Len p n) = p == q
+on_queue q (Ver p n) = p == q
+on_queue q (Flag p n) = p == q
+on_queue q (Down p n) = p == q
+on_queue q (Bell p) = p == q
+on_queue q label = false
+
+pub record MayPost (q : ℕ) (s : Sight) (label : Label) (rest : List Label) : Type 0 where
+  pub next : s.lane.todo ≡ label ∷ rest
+  pub own : on_queue q label ≡ true
+
+-- not a write of this lane, where this end posts it
+abbrev pub IsForeign : ℕ → Role → Label → Type 0
+IsForeign q Sender label = write_of q label ≡ None
+IsForeign q Receiver label = index_of q label ≡ None
+
+-- whether a label writes a scratchpad of the handshake
+abbrev pub is_handshake : Label → Bool
+is_handshake (Pad i value) = nat_lt i 12
+is_handshake label = false
+
+-- what an end says beside its lane; on an ordinary pair it writes no scratchpad of the handshake by hand
+pub record IsAside (lane : LaneName) (made : Answered) (e : Role) (label : Label) : Type 0 where
+  pub foreign : IsForeign lane.queue e label
+  pub no_handshake : IsOrdinaryOn lane.pair made.step → is_handshake label ≡ false
+
+-- the write at a place lands
+pub record MayLand (strict_pair : Bool) (s : Sight) (e : Role) (place : ℕ) (label : Label) : Type 0 where
+  pub there : slice_get (end_at s e).flight place ≡ Some label
+  pub may : may_land (map (order_of strict_pair) (end_at s e).flight) place ≡ true
+
+pub record MayLook (q : ℕ) (s : Sight) : Type 0 where
+  pub joined : has_bit s.receiver.joined q ≡ true
+  pub not_closed : has_bit s.receiver.closed q ≡ false
+  pub idle : is_idle s.lane.phase ≡ true
+
+-- What a step leaves
+
+-- a write of an end is taken out of those in flight
+abbrev pub taken : Role → ℕ → Sight → Sight
+taken e place s = with_flight e (remove (end_at s e).flight place) s
+
+-- an end forgets its session
+abbrev pub forgotten_lane : Role → LanePart → LanePart
+forgotten_lane e lane = record lane { todo = on_sender e [] lane.todo; phase = on_receiver e Idle lane.phase; part = on_receiver e 0 lane.part }
+
+abbrev pub forgotten : Role → Sight → Sight
+forgotten e s =
+    let less = with_closed e 0 (with_joined e 0 (with_ready e 0 (with_up e false s))) in
+    record (with_clean e true (with_pending e 0 (with_pads e (replicate 16 0) (with_offered e 0 less)))) { lane = forgotten_lane e s.lane }
+
+abbrev pub dropped_end : End → End
+dropped_end own = record own { flight = []; clean = false; enabled = false }
+
+abbrev pub more_accepted : Tally → Tally
+more_accepted tally = record tally { accepted = tally.accepted + 1 }
+
+abbrev pub more_delivered : Tally → Tally
+more_delivered tally = record tally { delivered = tally.delivered + 1 }
+
+-- The turns
+
+pub data Turn (plan : Plan) (lane : LaneName) (s : Sight) (made : Answered) : News → Sight → Type 0 where
+  -- nothing happens to the lane; its receiver may have looked and found no reason to think that nothing is there
+  Rests : (looked : Bool) → Turn plan lane s made (looked_news looked) s
+  FindsNone : MayLook lane.queue s → (s.lane.flagged == s.lane.got) ≡ true → Turn plan lane s made (record no_news { sees = λ saw. true }) s
+  -- the link
+  Enables : (e : Role) → MayEnable s e → Turn plan lane s made no_news (with_enabled e true s)
+  Trains : MayTrain s → Turn plan lane s made (record no_news { starts = true }) (record s { state = LinkIsUp; session = s.session + 1; lane = fresh_lane })
+  Breaks : is_up s.state ≡ true → Turn plan lane s made (record no_news { ends = true }) (record s { state = Closing })
+  Drops : is_closing s.state ≡ true → Turn plan lane s made no_news (record s { state = LinkIsDown; sender = dropped_end s.sender; receiver = dropped_end s.receiver })
+  Forgets : (e : Role) → is_down s.state ≡ true → Turn plan lane s made no_news (forgotten e s)
+  -- the handshake
+  Offers : (e : Role) (label : Label) → MayOffer (side_plan (pair_plan plan lane.pair) (side_at lane.from e)) s e label
+      → Turn plan lane s made no_news (posted e label (with_offered e ((end_at s e).offered + 1) s))
+  Checks : (e : Role) → MayCheck (side_plan (pair_plan plan lane.pair) (side_at lane.from e)) s e → Turn plan lane s made (record no_news { ring = ring_checked e }) (with_up e true s)
+  Readies : (e : Role) (queue : ℕ) → MayReady s e → Turn plan lane s made no_news (posted e (Pad links_pad (with_bit (end_at s e).ready queue)) (with_ready e (with_bit (end_at s e).ready queue) s))
+  Joins : (e : Role) (queue : ℕ) → MayJoin s e queue → Turn plan lane s made no_news (with_joined e (with_bit (end_at s e).joined queue) s)
+  -- sending
+  Begins : (bytes : List ℕ) → MayBegin (sizes_of (pair_plan plan lane.pair) lane.from lane.queue) lane.queue s (length bytes)
+      → Turn plan lane s made (record no_news { takes = true; accepted = record { number = length s.lane.sent; bytes = bytes } ∷ [] })
+      (record s { lane = begun_lane lane.queue s.lane (Carries bytes); tally = updated s.tally s.session (more_accepted (s.tally s.session)) })
+  Closes : MayBegin (sizes_of (pair_plan plan lane.pair) lane.from lane.queue) lane.queue s 0 → Turn plan lane s made (record no_news { takes = true })
+      (record s { sender = record s.sender { closed = with_bit s.sender.closed lane.queue }; lane = begun_lane lane.queue s.lane GoesDown })
+  Posts : (label : Label) (rest : List Label) → MayPost lane.queue s label rest → Turn plan lane s made no_news (posted Sender label (record s { lane = record s.lane { todo = rest } }))
+  -- a queue is closed on an end, and a write that isn't the lane's is posted
+  Shuts : (e : Role) (queue : ℕ) (looked : Bool) → Turn plan lane s made (looked_news looked) (with_closed e (with_bit (end_at s e).closed queue) s)
+  Says : (e : Role) (label : Label) → IsAside lane made e label → Turn plan lane s made no_news (posted e label s)
+  -- landing
+  LandsFlag : (place : ℕ) (label : Label) (n : ℕ) → MayLand (pair_plan plan lane.pair).strict s Sender place label → write_of lane.queue label ≡ Some (EntryFlag n)
+      → Turn plan lane s made (record no_news { ring = ring_landed s.lane (EntryFlag n) }) (record (taken Sender place s) { lane = record s.lane { flagged = s.lane.flagged + 1 } })
+  LandsField : (place : ℕ) (label : Label) (n : ℕ) (field : Field) → MayLand (pair_plan plan lane.pair).strict s Sender place label
+      → write_of lane.queue label ≡ Some (Data n field) → Turn plan lane s made (record no_news { ring = ring_landed s.lane (Data n field) }) (taken Sender place s)
+  LandsIndex : (place : ℕ) (n : ℕ) → MayLand (pair_plan plan lane.pair).strict s Receiver place (Index lane.queue n)
+      → Turn plan lane s made (record no_news { gives = true; ring = ring_freed n }) (record (taken Receiver place s) { lane = record s.lane { freed = n + 1 } })
+  LandsBell : (e : Role) (place queue : ℕ) → MayLand (pair_plan plan lane.pair).strict s e place (Bell queue)
+      → Turn plan lane s made no_news (with_pending (peer_of e) (with_bit (end_at s (peer_of e)).pending queue) (taken e place s))
+  LandsPad : (e : Role) (place i value : ℕ) → MayLand (pair_plan plan lane.pair).strict s e place (Pad i value)
+      → Turn plan lane s made (record no_news { pads = pads_landed e i value }) (with_pads (peer_of e) (slice_set (end_at s (peer_of e)).pads i value) (taken e place s))
+  LandsAside : (e : Role) (place : ℕ) (label : Label) → MayLand (pair_plan plan lane.pair).strict s e place label → IsForeign lane.queue e label → is_handshake label ≡ false
+      → Turn plan lane s made no_news (taken e place s)
+  -- receiving
+  Looks : (bytes : List ℕ) → MayLook lane.queue s → (s.lane.flagged == s.lane.got) ≡ false → entry_in s.lane s.lane.got ≡ Carries bytes
+      → Turn plan lane s made (looked_news true) (record s { lane = record s.lane { phase = Copying; part = 0 } })
+  CopiesPart : is_copying s.lane.phase ≡ true → nat_lt (s.lane.part + 1) (chunks_in (length (bytes_of (entry_in s.lane s.lane.got)))) ≡ true
+      → Turn plan lane s made no_news (record s { lane = record s.lane { part = s.lane.part + 1 } })
+  CopiesLast : is_copying s.lane.phase ≡ true → nat_lt (s.lane.part + 1) (chunks_in (length (bytes_of (entry_in s.lane s.lane.got)))) ≡ false
+      → Turn plan lane s made (record no_news { delivered = record { number = s.lane.got; bytes = bytes_of (entry_in s.lane s.lane.got) } ∷ [] })
+      (record s { lane = record s.lane { got = s.lane.got + 1; phase = Copied }; tally = updated s.tally s.session (more_delivered (s.tally s.session)) })
+  Clears : is_copied s.lane.phase ≡ true → Turn plan lane s made (record no_news { ring = ring_cleared s.lane.cleared }) (record s { lane = record s.lane { cleared = s.lane.cleared + 1; phase = Cleared } })
+  Acks : is_cleared s.lane.phase ≡ true → Turn plan lane s made no_news (posted Receiver (Index lane.queue s.lane.acked) (record s { lane = record s.lane { acked = s.lane.acked + 1; phase = Idle } }))
+  -- doorbells
+  TakesBells : (e : Role) → Turn plan lane s made (record no_news { sees = sees_taken lane.queue e (without_bits (end_at s e).pending (end_at s e).masked) }) (with_pending e (bit_and (end_at s e).pending (end_at s e).masked) s)
+  Masks : (e : Role) (masked : ℕ) → Turn plan lane s made no_news (with_masked e masked s)
+
+-- a turn, with what the step tells
+pub record Turned (plan : Plan) (lane : LaneName) (s : Sight) (made : Answered) (t : Sight) : Type 0 where
+  pub news : News
+  pub tells : Tells plan lane s.lane made news
+  pub turn : Turn plan lane s made news t
+
+pub turned : {plan : Plan} {lane : LaneName} {s : Sight} {made : Answered} {news : News} {t : Sight} → Turn plan lane s made news t → Tells plan lane s.lane made news
+    → Turned plan lane s made t
+turned {news} turn tells = record { news = news; tells = tells; turn = turn }
