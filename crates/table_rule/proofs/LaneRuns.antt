@@ -30,7 +30,7 @@ post_all [] lane none up = λ i. record lane { todo = sym none i; flight = appen
 post_all (write ∷ writes) lane front up =
     let next : Lane = after_post lane write writes in
     let flight : (if lane.up then lane.flight ++ write ∷ [] else lane.flight) ++ writes ≡ lane.flight ++ write ∷ writes =
-        ap (λ w. w ++ writes) (cond-true lane.up _ _ up) ∙ append_assoc lane.flight (write ∷ []) writes in
+    ap (λ w. w ++ writes) (cond-true lane.up _ _ up) ∙ append_assoc lane.flight (write ∷ []) writes in
     (next, (write, writes, front, refl), subst (λ (f : List Write). Runs (map (λ w. Post) writes) next (record lane { todo = []; flight = f })) flight (post_all writes next refl up))
 
 -- the fields of an entry in the order of its writes
@@ -82,8 +82,7 @@ land_fields (field ∷ fields) lane n before behind front within =
     let first : Slot = with_field (slot_of lane n) n (entry_of lane n) field in
     let next : Lane = after_landing lane (Data n field) (before ++ others) in
     let at : ℕ = n % lane.entries in
-    let rest = land_fields fields next n before behind refl (subst (λ (k : ℕ). at < k) (sym (length-set lane.ring at first)) within) in
-    (
+    let rest = land_fields fields next n before behind refl (subst (λ (k : ℕ). at < k) (sym (length-set lane.ring at first)) within) in (
       next,
       (before, others, front, refl),
       subst (λ (slots : List Slot). Runs (map Land (map (Data n) fields)) next (record lane { flight = before ++ behind; ring = slots }))

@@ -1,19 +1,17 @@
 -- The mover's steps: a slot goes to the mover, its header is stored, and it is home again with its flag.
-use Rattle.std.proofs.Common.{◌≡◌, ℕ, suc, ◌+◌, ◌-◌, ◌%◌, ◌^◌, ◌<◌, ◌≤◌, Bool, true, false, List, [], ◌∷◌, ◌++◌, length, map, drop, set, get_or, refl, sym, subst, ap, ◌∙◌, inl, inr, arith, mod-lt, mod-eq_of_lt, length-set, drop-cons, Some, nat_lt}
+use Rattle.std.proofs.Common.{◌≡◌, ℕ, suc, ◌+◌, ◌-◌, ◌%◌, ◌^◌, ◌<◌, ◌≤◌, true, false, List, [], ◌∷◌, ◌++◌, length, map, drop, set, get_or, refl, sym, subst, ap, ◌∙◌, inl, inr, arith, mod-lt, mod-eq_of_lt, length-set, drop-cons, Some, nat_lt}
 use native.Mathlib.Nat.{add-mod_right, add-mod_left, mod-mod}
 use Rattle.std.proofs.lemmas.Bool.{lt-ltb, le-ltb, cases_lt}
 use Rattle.std.proofs.lemmas.List.{length_push, get_or_push, get_or_append_left, length-map, length-drop, get_or-drop, map-set}
 use Rattle.std.proofs.Math.Seq.{map-set_same}
 use mathlib.Core.Option.{some}
-use lib.ListN.{get_elem?}
 use Rattle.table_rule.specs.LaneNames.{Entry, Carries, GoesDown, Write, Data, Flag, Bell, Slot, blank_slot, Lane, slot_of, ring_with, with_flags, flags_of, done, entry_of, data_of}
 use Rattle.table_rule.specs.Words.{header_of}
 use Rattle.table_rule.specs.Views.{Bytes}
-use Rattle.table_rule.specs.Borders.{Borders, Slots, out, full}
+use Rattle.table_rule.specs.Borders.{Borders, out, full}
 use Rattle.table_rule.specs.Shows.{in_flight, PostedStand, RingStands}
 use Rattle.table_rule.specs.LaneSteps.{Land, Runs, header_steps, flag_steps}
 use Rattle.table_rule.specs.Kinds.{Takes, StoresHeader, StoresFlag}
-use Rattle.table_rule.specs.Moment.{Moment, ShowsLane}
 use Rattle.table_rule.proofs.LaneLaws.{same_number}
 use Rattle.table_rule.proofs.LaneRuns.{runs_keep, fields_of, data_is_fields, with_fields, fields_keep_flags, fields_give_version, land_fields, land_flag_and_bell}
 use Rattle.table_rule.proofs.Flights.{in_flight-take, in_flight-store}
@@ -141,8 +139,7 @@ stores_header N m slots j n is held left h =
     let version : slot.ver ≡ header_of n % 2 ^ 32 = fields_give_version (slot_of lane n) n entry ∙ sym (mod-mod n (2 ^ 32)) ∙ sym (add-mod_left (2 ^ 32) (n % 2 ^ 32)) in
     let next : Lane = record lane { flight = split.0 ++ split.1; ring = ring_with lane n slot } in
     let runs : Runs (header_steps n entry) lane next =
-        subst (λ (ds : List Write). Runs (map Land ds) lane next) (sym (data_is_fields n entry)) (land_fields (fields_of entry) lane n split.0 split.1 front within) in
-    (
+    subst (λ (ds : List Write). Runs (map Land ds) lane next) (sym (data_is_fields n entry)) (land_fields (fields_of entry) lane n split.0 split.1 front within) in (
       next,
       runs,
       record {
@@ -196,8 +193,7 @@ stores_flag N m slots frame held stored has marked h =
     let low : m.back.freed ≤ n = omega arith in
     let l0 : nat_lt n k.cleared ≡ false = le-ltb n k.cleared (omega arith) in
     let l1 : nat_lt n k.looked ≡ false = le-ltb n k.looked (omega arith) in
-    let runs : Runs (flag_steps n) lane next = land_flag_and_bell lane n rest front in
-    (
+    let runs : Runs (flag_steps n) lane next = land_flag_and_bell lane n rest front in (
       next,
       runs,
       record {

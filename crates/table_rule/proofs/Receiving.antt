@@ -4,7 +4,6 @@ use Rattle.std.proofs.lemmas.Bool.{lt-ltb, le-ltb, cases_lt}
 use Rattle.std.proofs.Math.ListN.{get_or-map}
 use Rattle.std.proofs.Math.Seq.{take-suc}
 use mathlib.Core.Option.{some}
-use lib.ListN.{get_elem?}
 use Rattle.table_rule.specs.LaneNames.{Lane, Slot, blank_slot, slot_of, with_flags, done, PhaseCounts, Idle, Copying, Copied, Cleared, bytes_of, entry_of, flags_of, version_of, Carries, GoesDown, after_look, after_clear, after_ack}
 use Rattle.table_rule.specs.Views.{Bytes}
 use Rattle.table_rule.specs.Borders.{Borders, Slots, empty, out, full, slot_at}
@@ -74,8 +73,7 @@ looks N m slots n is idle raised h =
     let prefix : m.recv.got ++ frame ∷ [] ≡ take (length m.recv.got + 1) m.send.sent =
     ap (λ gs. gs ++ frame ∷ []) (sym (append-nil m.recv.got) ∙ ap (λ w. m.recv.got ++ w) (sym empty_hand) ∙ h.receiving.prefix ∙ ap (λ (j : ℕ). take j m.send.sent) (let e : length m.recv.got + length m.recv.hand ≡ n = omega arith in e))
     ∙ sym (take-suc m.send.sent n [] below) ∙ ap (λ (j : ℕ). take j m.send.sent) (let e : suc n ≡ length m.recv.got + 1 = omega arith in e) in
-    let runs : Runs (Look ∷ []) lane (after_look lane) = (after_look lane, (lane_idle, more, refl), refl) in
-    (
+    let runs : Runs (Look ∷ []) lane (after_look lane) = (after_look lane, (lane_idle, more, refl), refl) in (
       h.places.at n low (omega arith) ∙ ap some (slot_is k m.send.sent n l0 (le-ltb n k.looked (omega arith)) (lt-ltb n k.flagged (omega arith)) refl refl refl),
       below,
       (
@@ -157,8 +155,7 @@ clears N m slots n is copied_phase h =
     let after : Borders = record k { cleared = lane.cleared + 1 } in
     let ring : RingStands next.ring m.words.headers (set m.words.flags (lane.cleared % lane.entries) 0) =
     ring_stores_flag lane.ring m.words.headers m.words.flags (lane.cleared % lane.entries) slot 0 refl refl h.ring in
-    let runs : Runs (Clear ∷ []) lane next = (next, (lane_copied, refl), refl) in
-    (
+    let runs : Runs (Clear ∷ []) lane next = (next, (lane_copied, refl), refl) in (
       next,
       runs,
       record {
@@ -191,8 +188,7 @@ acks N m slots n is cleared_phase h =
     let cleared_all : lane.cleared ≡ lane.got = counts.1 in
     let same : n ≡ lane.acked = omega arith in
     let next : Lane = after_ack lane in
-    let runs : Runs (Acknowledge ∷ []) lane next = (next, (lane_cleared, refl), refl) in
-    (
+    let runs : Runs (Acknowledge ∷ []) lane next = (next, (lane_cleared, refl), refl) in (
       next,
       runs,
       record {

@@ -1,17 +1,15 @@
 -- The steps of the way back and of the cut: entries are given back to the sender, and later frames are refused.
-use Rattle.std.proofs.Common.{◌≡◌, ◌≢◌, ℕ, ◌+◌, ◌-◌, ◌%◌, ◌<◌, ◌≤◌, true, List, refl, sym, ap, ◌∙◌, inl, inr, arith, mod-lt, ◌⊎◌}
+use Rattle.std.proofs.Common.{◌≡◌, ℕ, ◌+◌, ◌-◌, ◌%◌, ◌<◌, ◌≤◌, List, refl, sym, ap, ◌∙◌, inl, inr, arith, mod-lt, ◌⊎◌}
 use native.Mathlib.Nat.{add-mod_right}
 use Rattle.std.proofs.lemmas.Bool.{lt-ltb, le-ltb, cases_eq, cases_lt}
 use mathlib.Core.Option.{some}
 use lib.ListN.{get_elem?}
 use Rattle.table_rule.specs.LaneNames.{Lane, tail_of}
-use Rattle.table_rule.specs.Words.{cut_word}
 use Rattle.table_rule.specs.Views.{Bytes}
 use Rattle.table_rule.specs.Borders.{Borders, Slots, SlotsStand}
 use Rattle.table_rule.specs.Shows.{number_at}
 use Rattle.table_rule.specs.LaneSteps.{Runs, index_steps}
 use Rattle.table_rule.specs.Kinds.{LoadsIndex, StoresIndex, Cuts}
-use Rattle.table_rule.specs.Moment.{Moment, ShowsLane}
 use Rattle.table_rule.proofs.LaneLaws.{number_is, number_from, tail_after}
 use Rattle.table_rule.proofs.LaneRuns.{runs_keep, index_all}
 use Rattle.table_rule.proofs.Slots.{slot_is}
@@ -86,8 +84,7 @@ stores_index N m slots new h =
     let next : Lane = record lane { returning = run.0; freed = n + 1; index_word = run.1 } in
     let named : m.back.index ≡ tail_of N (n + 1) = sym found.2 ∙ tail_after N n o.two in
     let one_free = h.room.one_free in
-    let runs : Runs (index_steps lane.freed (n + 1 - lane.freed)) lane next = run.2 in
-    (
+    let runs : Runs (index_steps lane.freed (n + 1 - lane.freed)) lane next = run.2 in (
       next,
       runs,
       record {

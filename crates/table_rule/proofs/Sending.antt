@@ -1,13 +1,12 @@
 -- The sender's steps: the slot of the next entry goes to the sender, and comes back with a frame.
-use Rattle.std.proofs.Common.{◌≡◌, ◌≢◌, ℕ, zero, suc, ◌+◌, ◌-◌, ◌%◌, ◌^◌, ◌<◌, ◌≤◌, true, false, List, [], ◌∷◌, ◌++◌, length, map, drop, set, get_or, refl, sym, subst, ap, ◌∙◌, inl, inr, arith, mod-lt, mod-eq_of_lt, length-drop, get_or-set_same, get_or-set_other, Some, nat_lt}
+use Rattle.std.proofs.Common.{◌≡◌, ◌≢◌, ℕ, zero, suc, ◌+◌, ◌-◌, ◌%◌, ◌<◌, ◌≤◌, false, List, [], ◌∷◌, ◌++◌, length, map, drop, set, get_or, refl, sym, subst, ap, ◌∙◌, inl, inr, arith, mod-lt, mod-eq_of_lt, length-drop, get_or-set_same, get_or-set_other, Some, nat_lt}
 use Rattle.std.proofs.lemmas.Bool.{lt-ltb, le-ltb, cases_eq, cases_lt}
 use Rattle.std.proofs.lemmas.List.{map-append, length_push, get_or_push, get_or_append_left, take-append-le, length-map, drop-append-le}
 use mathlib.Core.Option.{some}
-use lib.ListN.{get_elem?}
-use Rattle.table_rule.specs.LaneNames.{Entry, Carries, GoesDown, Lane, HoldsRingLaw, entry_of, free_entries, head_of, free_in, writes_of, tail_of, after_begin}
-use Rattle.table_rule.specs.Words.{AreSized, header_of}
+use Rattle.table_rule.specs.LaneNames.{Entry, Carries, GoesDown, Lane, entry_of, free_entries, head_of, free_in, writes_of, tail_of, after_begin}
+use Rattle.table_rule.specs.Words.{header_of}
 use Rattle.table_rule.specs.Views.{Bytes}
-use Rattle.table_rule.specs.Borders.{Borders, Slots, empty, out, full, slot_at}
+use Rattle.table_rule.specs.Borders.{Borders, Slots, out, full, slot_at}
 use Rattle.table_rule.specs.Shows.{borders_of, claimed_by, in_flight, PostedStand}
 use Rattle.table_rule.specs.LaneSteps.{Runs, send_steps}
 use Rattle.table_rule.specs.Kinds.{Claims, Sends}
@@ -110,7 +109,7 @@ sends N m slots frame claimed fits counted sized h =
     λ j below down. let below_n : j < n = omega arith in let is : get_or lane.sent j GoesDown ≡ Carries (get_or m.send.sent j []) = ap (λ es. get_or es j GoesDown) h.parts.entries ∙ entry_is_frame m.send.sent j below_n in cc in
     let next : Lane = record lane { sent = lane.sent ++ entry ∷ []; todo = []; flight = lane.flight ++ writes_of (length lane.sent) entry } in
     let runs : Runs (send_steps (length lane.sent) frame) lane next =
-        (after_begin lane entry, (h.of.todo, free, subst (λ (most : ℕ). length frame ≤ most) (sym h.of.largest) fits, open_yet, refl), post_all (writes_of (length lane.sent) entry) (after_begin lane entry) refl h.of.up) in
+    (after_begin lane entry, (h.of.todo, free, subst (λ (most : ℕ). length frame ≤ most) (sym h.of.largest) fits, open_yet, refl), post_all (writes_of (length lane.sent) entry) (after_begin lane entry) refl h.of.up) in
     let dropped : drop m.mover.flagged (lane.sent ++ entry ∷ []) ≡ drop m.mover.flagged lane.sent ++ entry ∷ [] = drop-append-le m.mover.flagged lane.sent (entry ∷ []) (omega arith) in
     let left : length (drop m.mover.flagged lane.sent) ≡ length lane.sent - m.mover.flagged = length-drop m.mover.flagged lane.sent in
     let marks = h.holding.marks in

@@ -21,8 +21,8 @@ abbrev pub Sends : Type 0
 Sends = (N : ℕ) (m : Moment) (slots : Slots) (frame : Bytes) → m.send.claims ≡ true → length frame ≤ 65536 → length m.send.sent < 2 ^ 62 → AreSized N m.words → ShowsLane N m slots
     → (lane : Lane) × Runs (send_steps (length m.lane.sent) frame) m.lane lane
     × ShowsLane N
-        (record m { words = record m.words { posted = slice_set m.words.posted (length m.send.sent % N) (header_of (length m.send.sent)) }; lane = lane; send = record m.send { sent = m.send.sent ++ frame ∷ []; claims = false } })
-        (slice_set slots (length m.send.sent % N) (some (Some frame)))
+    (record m { words = record m.words { posted = slice_set m.words.posted (length m.send.sent % N) (header_of (length m.send.sent)) }; lane = lane; send = record m.send { sent = m.send.sent ++ frame ∷ []; claims = false } })
+    (slice_set slots (length m.send.sent % N) (some (Some frame)))
 
 -- the mover takes the slot of the next entry, where its posted header is new
 abbrev pub Takes : Type 0
@@ -41,15 +41,15 @@ abbrev pub StoresFlag : Type 0
 StoresFlag = (N : ℕ) (m : Moment) (slots : Slots) (frame : Bytes) (held : List Bytes) (stored : List Bool) → m.mover.held ≡ frame ∷ held → m.mover.stored ≡ true ∷ stored → ShowsLane N m slots
     → (lane : Lane) × Runs (flag_steps m.mover.flagged) m.lane lane
     × ShowsLane N
-        (record m { words = record m.words { flags = slice_set m.words.flags (m.mover.flagged % N) done }; lane = lane; mover = record m.mover { flagged = m.mover.flagged + 1; held = held; stored = stored } })
-        (slice_set slots (m.mover.flagged % N) (some (Some frame)))
+    (record m { words = record m.words { flags = slice_set m.words.flags (m.mover.flagged % N) done }; lane = lane; mover = record m.mover { flagged = m.mover.flagged + 1; held = held; stored = stored } })
+    (slice_set slots (m.mover.flagged % N) (some (Some frame)))
 
 -- the receiver takes the slot of the next entry, where its flag is up
 abbrev pub Looks : Type 0
 Looks = (N : ℕ) (m : Moment) (slots : Slots) (n : ℕ) → n ≡ length m.recv.got → m.recv.phase ≡ Idle → slice_index m.words.flags (n % N) ≡ done → ShowsLane N m slots
     → (get_elem? slots (n % N) ≡ some (full m.send.sent n)) × (n < length m.send.sent)
     × ((lane : Lane) × Runs (Look ∷ []) m.lane lane
-      × ShowsLane N (record m { lane = lane; recv = record m.recv { phase = Copying; hand = slice_index_or m.send.sent n [] ∷ [] } }) (slice_set slots (n % N) out))
+    × ShowsLane N (record m { lane = lane; recv = record m.recv { phase = Copying; hand = slice_index_or m.send.sent n [] ∷ [] } }) (slice_set slots (n % N) out))
 
 -- it loads the header, and has the frame: all copies, one after another
 abbrev pub Copies : Type 0
