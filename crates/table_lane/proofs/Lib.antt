@@ -1,2 +1,2 @@
-pub mod Choice
-pub mod Waiting
+pub mod FirstMove
+pub mod WaitingEntries

@@ -1,9 +1,9 @@
-pub mod EndInside
-pub mod Ending
+pub mod EndFields
+pub mod EndOfLane
 pub mod Ends
-pub mod Inside
-pub mod Moves
-pub mod New
-pub mod Receives
-pub mod Sends
+pub mod MoveChoice
+pub mod NewEnds
+pub mod ProofFields
+pub mod RecvAnswers
+pub mod SendAnswers
 pub mod Table

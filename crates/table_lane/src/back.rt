@@ -1,9 +1,9 @@
 //! The way back, and the cut.
 ghost use Rattle.std.specs.Prelude.{◌≡◌, ◌+◌, ◌-◌, ◌%◌, ◌≤◌, ◌<◌, ◌^◌};
-ghost use Rattle.table_rule.specs.Shows.{number_at};
+ghost use Rattle.table_rule.specs.ShownLane.{number_at};
 ghost use Rattle.table_rule.specs.LaneNames.{tail_of};
-ghost use Rattle.table_rule.specs.Learns.{link_cut};
-ghost use Rattle.table_lane.specs.Receives.{GivesBack};
+ghost use Rattle.table_rule.specs.Knowledge.{link_cut};
+ghost use Rattle.table_lane.specs.RecvAnswers.{GivesBack};
 
 use crate::board::{LaneSeat, LaneTable};
 use crate::steps::{cut_link, load_index_out, store_index};
@@ -36,7 +36,7 @@ impl Model for BackEnd {
 
     ghost Value = { WayBack };
 
-    ghost use Rattle.table_lane.specs.Inside.{way_back_of, IsBackEnd};
+    ghost use Rattle.table_lane.specs.EndFields.{way_back_of, IsBackEnd};
 
     ghost view = { way_back_of };
 
@@ -58,7 +58,7 @@ impl Model for CutEnd {
 
     ghost Value = { Cutter };
 
-    ghost use Rattle.table_lane.specs.Inside.{cutter_of, IsCutEnd};
+    ghost use Rattle.table_lane.specs.EndFields.{cutter_of, IsCutEnd};
 
     ghost view = { cutter_of };
 

@@ -2,7 +2,7 @@
 ghost use Rattle.std.specs.Prelude.{◌≡◌, ◌≤◌, ◌<◌, [], IfOk};
 ghost use Rattle.table_rule.specs.Views.{without_mover, mover_alone, without_recv, recv_alone, without_back, back_alone, without_cut, cut_alone};
 ghost use Rattle.table_rule.specs.Words.{first_words, words_of};
-ghost use Rattle.table_lane.specs.New.{AreNew};
+ghost use Rattle.table_lane.specs.NewEnds.{AreNew};
 
 use crate::back::{BackEnd, CutEnd};
 use crate::board::{Board, LaneSeat, LaneTable};

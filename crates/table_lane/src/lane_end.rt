@@ -2,9 +2,9 @@
 ghost use Rattle.std.specs.Prelude.{◌≡◌, ◌≤◌, ◌<◌, ◌+◌, ◌++◌, ◌^◌, [], length, IfSome, MatchBool};
 ghost use Rattle.table_rule.specs.Views.{joined, the_send, the_move, the_recv, the_cut};
 ghost use Rattle.table_lane.specs.Table.{IsTableOf};
-ghost use Rattle.table_lane.specs.New.{AreOfOneLane};
-ghost use Rattle.table_lane.specs.Receives.{IsReady};
-ghost use Rattle.table_lane.specs.Ending.{HasAll, MovesNext, OthersStay, shown_by};
+ghost use Rattle.table_lane.specs.NewEnds.{AreOfOneLane};
+ghost use Rattle.table_lane.specs.RecvAnswers.{IsReady};
+ghost use Rattle.table_lane.specs.EndOfLane.{HasAll, MovesNext, OthersStay, shown_by};
 
 use crate::back::{BackEnd, CutEnd};
 use crate::board::{Board, LaneSeat, header_of};
@@ -29,11 +29,11 @@ pub struct LaneProof {
 }
 
 impl Model for LaneProof {
-    ghost use Rattle.table_lane.specs.Ending.{Shown};
+    ghost use Rattle.table_lane.specs.EndOfLane.{Shown};
 
     ghost Value = { Shown };
 
-    ghost use Rattle.table_lane.specs.EndInside.{shown_of, IsLaneProof};
+    ghost use Rattle.table_lane.specs.ProofFields.{shown_of, IsLaneProof};
 
     ghost view = { shown_of };
 

@@ -1,8 +1,8 @@
 //! The mover's end.
 ghost use Rattle.std.specs.Prelude.{◌≡◌, ◌+◌, ◌<◌, ◌==◌, true, false, List, [], ℕ, length, slice_get, slice_index, slice_index_or, MatchBool, Some};
 ghost use Rattle.table_rule.specs.Words.{header_of};
-ghost use Rattle.table_rule.specs.Learns.{taken, posted_loaded, frame_taken, header_stored, flag_stored};
-ghost use Rattle.table_lane.specs.Moves.{waiting, open_moves, Makes, Moves};
+ghost use Rattle.table_rule.specs.Knowledge.{taken, posted_loaded, frame_taken, header_stored, flag_stored};
+ghost use Rattle.table_lane.specs.MoveChoice.{waiting, open_moves, Makes, Moves};
 ghost use Rattle.table_lane.specs.declared.mover.MoveAnswer.{MoveAnswer};
 
 use crate::board::{LaneSeat, LaneTable, header_of};
@@ -46,7 +46,7 @@ impl Model for MoveEnd {
 
     ghost Value = { Mover };
 
-    ghost use Rattle.table_lane.specs.Inside.{mover_of, IsMoveEnd};
+    ghost use Rattle.table_lane.specs.EndFields.{mover_of, IsMoveEnd};
 
     ghost view = { mover_of };
 

@@ -2,7 +2,7 @@
 ghost use Rattle.std.specs.Prelude.{◌≡◌, ◌≤◌, ◌<◌, ◌^◌, ℕ, length, take, MatchOption, IfSome, IfNone};
 ghost use Rattle.table_rule.specs.Views.{HasRecv, the_recv};
 ghost use Rattle.table_lane.specs.Table.{IsTableOf};
-ghost use Rattle.table_lane.specs.Receives.{Receives, IsReady, NothingCame, FrameCame};
+ghost use Rattle.table_lane.specs.RecvAnswers.{Receives, IsReady, NothingCame, FrameCame};
 
 use crate::board::{Board, DONE, LaneSeat, LaneTable};
 use crate::steps::{acknowledge, clear_flag, load_flag, load_header};
@@ -38,7 +38,7 @@ impl Model for RecvEnd {
 
     ghost Value = { Receiver };
 
-    ghost use Rattle.table_lane.specs.Inside.{receiver_of, IsRecvEnd};
+    ghost use Rattle.table_lane.specs.EndFields.{receiver_of, IsRecvEnd};
 
     ghost view = { receiver_of };
 

@@ -1,7 +1,7 @@
 //! The sender's end.
 ghost use Rattle.std.specs.Prelude.{◌≡◌, ◌≢◌, ◌<◌, ◌^◌, ◌≤◌, [], length};
 ghost use Rattle.table_rule.specs.LaneNames.{free_entries};
-ghost use Rattle.table_lane.specs.Sends.{Sends};
+ghost use Rattle.table_lane.specs.SendAnswers.{Sends};
 
 use crate::board::{CUT, LaneSeat, LaneTable};
 use crate::steps::{load_index, load_link, post_frame};
@@ -38,7 +38,7 @@ impl Model for SendEnd {
 
     ghost Value = { Sender };
 
-    ghost use Rattle.table_lane.specs.Inside.{sender_of, IsSendEnd};
+    ghost use Rattle.table_lane.specs.EndFields.{sender_of, IsSendEnd};
 
     ghost view = { sender_of };
 

@@ -3,7 +3,7 @@ ghost use Rattle.std.specs.Prelude.{◌≡◌, ◌≢◌, ℕ, ◌+◌, ◌-◌,
 ghost use Rattle.atomic_table.specs.Table.{rest};
 ghost use Rattle.table_rule.specs.LaneNames.{Idle, Copying, Copied, Cleared, tail_of};
 ghost use Rattle.table_rule.specs.Views.{Bytes, HasSend, HasMove, HasRecv, HasBack, HasCut, the_send, the_move, the_recv, the_back, the_cut, with_send, with_move};
-ghost use Rattle.table_rule.specs.Learns.{frame_sent, header_stored, taken};
+ghost use Rattle.table_rule.specs.Knowledge.{frame_sent, header_stored, taken};
 ghost use Rattle.table_rule.specs.Rule.{Content};
 ghost use Rattle.table_rule.specs.Plays.{sees_link, sees_index, stores_posted, sees_posted, stores_flag, sees_flag, copies_frame, clears_flag, stores_index_out, sees_index_out, stores_index, cuts_link};
 ghost use Rattle.table_rule.specs.Words.{cut_word};

@@ -5,15 +5,15 @@ use Rattle.atomic_table.specs.Table.{Allows, keeps}
 use Rattle.table_rule.specs.LaneNames.{tail_of}
 use Rattle.table_rule.specs.Words.{index_out_word, index_word, link_word, cut_word}
 use Rattle.table_rule.specs.Views.{BackPart, CutPart, the_back, the_cut, HasBack, HasCut, with_back, with_cut}
-use Rattle.table_rule.specs.Shows.{number_at}
+use Rattle.table_rule.specs.ShownLane.{number_at}
 use Rattle.table_rule.specs.Moment.{Moment, ShowsLane}
 use Rattle.table_rule.specs.Rule.{Board, Sitter, IsMoment, ShowsALane}
-use Rattle.table_rule.specs.Learns.{index_out_loaded, index_stored, link_cut}
+use Rattle.table_rule.specs.Knowledge.{index_out_loaded, index_stored, link_cut}
 use Rattle.table_rule.specs.Plays.{sees_index_out, stores_index, cuts_link}
-use Rattle.table_rule.proofs.Seating.{back_seats, cut_seats}
+use Rattle.table_rule.proofs.SeatChanges.{back_seats, cut_seats}
 use Rattle.table_rule.proofs.WordLists.{index_out_at, set_index, set_link}
 use Rattle.table_rule.proofs.Order.{in_order}
-use Rattle.table_rule.proofs.Returning as returning
+use Rattle.table_rule.proofs.WayBackShows as returning
 
 -- the moment with the part that the seat has
 with_the_back : (N : ℕ) (board : Board) (m : Moment) (part : BackPart) → part ≡ m.back → IsMoment N m board → IsMoment N (record m { back = part }) board

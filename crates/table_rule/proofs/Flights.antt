@@ -1,7 +1,7 @@
 -- The list in flight, as its entries come and go.
 use Rattle.std.proofs.Common.{◌≡◌, ℕ, zero, suc, ◌+◌, ◌<◌, ◌≤◌, Bool, true, false, List, [], ◌∷◌, ◌++◌, length, drop, set, get_or, refl, sym, ap, ◌∙◌, append_assoc, length-drop, arith, if◌then◌else◌}
 use Rattle.table_rule.specs.LaneNames.{Entry, GoesDown, Write, Flag, Bell, data_of, writes_of}
-use Rattle.table_rule.specs.Shows.{in_flight}
+use Rattle.table_rule.specs.ShownLane.{in_flight}
 
 -- the fields of an entry, where its header is not stored
 abbrev fields_left : ℕ → List Bool → Entry → List Write

@@ -9,17 +9,17 @@ use Rattle.atomic_table.specs.Table.{Allows, keeps, takes, gives}
 use Rattle.table_rule.specs.LaneNames.{done}
 use Rattle.table_rule.specs.Words.{posted_word, header_word, flag_word, header_of}
 use Rattle.table_rule.specs.Views.{Bytes, SendPart, MovePart, RecvPart, LaneView, the_move, HasMove, with_move}
-use Rattle.table_rule.specs.Shows.{number_at}
+use Rattle.table_rule.specs.ShownLane.{number_at}
 use Rattle.table_rule.specs.Moment.{Moment, ShowsLane}
 use Rattle.table_rule.specs.Rule.{Content, Board, Sitter, IsMoment, ShowsALane}
-use Rattle.table_rule.specs.Learns.{taken, posted_loaded, frame_taken, header_stored, flag_stored}
+use Rattle.table_rule.specs.Knowledge.{taken, posted_loaded, frame_taken, header_stored, flag_stored}
 use Rattle.table_rule.specs.Plays.{KnowsSent, sees_posted, stores_header, stores_flag}
 use Rattle.table_rule.proofs.LaneLaws.{number_is}
-use Rattle.table_rule.proofs.Seating.{mover_seats}
+use Rattle.table_rule.proofs.SeatChanges.{mover_seats}
 use Rattle.table_rule.proofs.Seats.{part_changes}
 use Rattle.table_rule.proofs.WordLists.{posted_at, set_header, set_flag}
 use Rattle.table_rule.proofs.Order.{in_order}
-use Rattle.table_rule.proofs.Moving as moving
+use Rattle.table_rule.proofs.MoverShows as moving
 
 -- the moment with the mover's part that the seat has
 with_the_move : (N : ℕ) (board : Board) (m : Moment) (part : MovePart) → part ≡ m.mover → IsMoment N m board → IsMoment N (record m { mover = part }) board

@@ -2,7 +2,7 @@
 use Rattle.std.proofs.Common.{◌≡◌, ℕ, ◌+◌, ◌<◌, ◌≤◌, Bool, true, false, length, sym, ap, ◌∙◌, arith}
 use Rattle.table_rule.specs.LaneNames.{Lane, Phase, PhaseCounts, Idle, Copying, Copied, Cleared}
 use Rattle.table_rule.specs.Borders.{Slots}
-use Rattle.table_rule.specs.Shows.{hand_in, claimed_by}
+use Rattle.table_rule.specs.ShownLane.{hand_in, claimed_by}
 use Rattle.table_rule.specs.Moment.{Moment, ShowsLane}
 
 pub record InOrder (N : ℕ) (m : Moment) : Type 0 where

@@ -5,11 +5,11 @@ use Rattle.std.proofs.lemmas.List.{length-map}
 use mathlib.Core.Option.{some}
 use Rattle.table_rule.specs.LaneNames.{Carries, Lane, Phase, PhaseCounts, Idle, Copying, Copied, Cleared, Owner, Sender, InFlight, Landed, Receiver, Returning, owner_of}
 use Rattle.table_rule.specs.Borders.{empty, out, full}
-use Rattle.table_rule.specs.Shows.{hand_in, claimed_by}
+use Rattle.table_rule.specs.ShownLane.{hand_in, claimed_by}
 use Rattle.table_rule.specs.Owners.{is_copying, is_copied, place_by, OwnersHaveSlots}
 use Rattle.table_rule.proofs.Slots.{slot_is}
 use Rattle.table_rule.proofs.Order.{in_order}
-use Rattle.table_rule.proofs.Sending.{borders_in}
+use Rattle.table_rule.proofs.SenderShows.{borders_in}
 
 -- the owner by what is known of the number
 abbrev owner_by : (a b c d e : Bool) → Owner

@@ -9,18 +9,18 @@ use Rattle.atomic_table.specs.Table.{Allows, keeps, takes, gives}
 use Rattle.table_rule.specs.LaneNames.{done, Idle, Copying, Copied, Cleared}
 use Rattle.table_rule.specs.Words.{header_word, flag_word, index_out_word}
 use Rattle.table_rule.specs.Views.{Bytes, MovePart, RecvPart, LaneView, the_recv, HasRecv, with_recv}
-use Rattle.table_rule.specs.Shows.{hand_in}
+use Rattle.table_rule.specs.ShownLane.{hand_in}
 use Rattle.table_rule.specs.Moment.{Moment, ShowsLane}
 use Rattle.table_rule.specs.Rule.{Content, Board, Sitter, IsMoment, ShowsALane}
-use Rattle.table_rule.specs.Learns.{flag_loaded, frame_found, frame_copied, flag_cleared, acknowledged}
+use Rattle.table_rule.specs.Knowledge.{flag_loaded, frame_found, frame_copied, flag_cleared, acknowledged}
 use Rattle.table_rule.specs.Plays.{sees_flag, copies_frame, clears_flag, stores_index_out}
-use Rattle.table_rule.proofs.Seating.{recv_seats}
+use Rattle.table_rule.proofs.SeatChanges.{recv_seats}
 use Rattle.table_rule.proofs.Seats.{part_changes}
 use Rattle.table_rule.proofs.WordLists.{header_at, flag_at, set_flag, set_index_out}
 use Rattle.table_rule.proofs.Order.{in_order}
 use Rattle.table_rule.proofs.MoveSteps.{sender_too}
-use Rattle.table_rule.proofs.Receiving.{none_long}
-use Rattle.table_rule.proofs.Receiving as receiving
+use Rattle.table_rule.proofs.ReceiverShows.{none_long}
+use Rattle.table_rule.proofs.ReceiverShows as receiving
 
 -- the moment with the receiver's part that the seat has
 with_the_recv : (N : ℕ) (board : Board) (m : Moment) (part : RecvPart) → part ≡ m.recv → IsMoment N m board → IsMoment N (record m { recv = part }) board

@@ -10,12 +10,12 @@ use Rattle.table_rule.specs.Words.{posted_word, index_word, header_of}
 use Rattle.table_rule.specs.Views.{Bytes, SendPart, the_send, HasSend, with_send}
 use Rattle.table_rule.specs.Moment.{Moment, ShowsLane}
 use Rattle.table_rule.specs.Rule.{Content, Board, Sitter, IsMoment, ShowsALane}
-use Rattle.table_rule.specs.Learns.{link_loaded, index_loaded, head, free_by, slot_claimed, frame_sent}
+use Rattle.table_rule.specs.Knowledge.{link_loaded, index_loaded, head, free_by, slot_claimed, frame_sent}
 use Rattle.table_rule.specs.Plays.{sees_link, sees_index, stores_posted}
-use Rattle.table_rule.proofs.Seating.{send_seats}
+use Rattle.table_rule.proofs.SeatChanges.{send_seats}
 use Rattle.table_rule.proofs.WordLists.{index_at, set_posted}
 use Rattle.table_rule.proofs.Order.{in_order}
-use Rattle.table_rule.proofs.Sending as sending
+use Rattle.table_rule.proofs.SenderShows as sending
 
 -- the moment with the sender's part that the seat has
 with_the_send : (N : ℕ) (board : Board) (m : Moment) (part : SendPart) → part ≡ m.send → IsMoment N m board → IsMoment N (record m { send = part }) board

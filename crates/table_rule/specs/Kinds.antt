@@ -7,7 +7,7 @@ use Rattle.table_rule.specs.LaneNames.{Lane, entry_of, done, free_entries, head_
 use Rattle.table_rule.specs.Words.{AreSized, header_of, cut_word}
 use Rattle.table_rule.specs.Views.{Bytes}
 use Rattle.table_rule.specs.Borders.{Slots, empty, out, full}
-use Rattle.table_rule.specs.Shows.{number_at}
+use Rattle.table_rule.specs.ShownLane.{number_at}
 use Rattle.table_rule.specs.Moment.{Moment, ShowsLane}
 use Rattle.table_rule.specs.LaneSteps.{Look, Copy, Clear, Acknowledge, Runs, send_steps, header_steps, flag_steps, index_steps}
 

@@ -1,12 +1,12 @@
 pub mod Borders
 pub mod Kinds
+pub mod Knowledge
 pub mod LaneNames
 pub mod LaneSteps
-pub mod Learns
 pub mod Moment
 pub mod Owners
 pub mod Plays
 pub mod Rule
-pub mod Shows
+pub mod ShownLane
 pub mod Views
 pub mod Words

@@ -4,7 +4,7 @@ use Rattle.table_rule.specs.LaneNames.{Lane}
 use Rattle.table_rule.specs.Words.{Words}
 use Rattle.table_rule.specs.Views.{SendPart, MovePart, RecvPart, BackPart, CutPart, LaneView, parts_of}
 use Rattle.table_rule.specs.Borders.{Slots}
-use Rattle.table_rule.specs.Shows.{Shows}
+use Rattle.table_rule.specs.ShownLane.{Shows}
 
 pub record Moment : Type 0 where
   pub words : Words

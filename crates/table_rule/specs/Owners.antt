@@ -6,7 +6,7 @@ use lib.ListN.{get_elem?}
 use Rattle.table_rule.specs.LaneNames.{Phase, Idle, Copying, Copied, Cleared, Owner, Sender, InFlight, Landed, Receiver, Returning, owner_of}
 use Rattle.table_rule.specs.Views.{Bytes}
 use Rattle.table_rule.specs.Borders.{Slots, empty, out, full}
-use Rattle.table_rule.specs.Learns.{taken}
+use Rattle.table_rule.specs.Knowledge.{taken}
 use Rattle.table_rule.specs.Moment.{Moment, ShowsLane}
 
 abbrev pub is_copying : Phase → Bool

@@ -4,9 +4,9 @@ use Rattle.atomic_table.specs.Table.{rest}
 use Rattle.table_rule.specs.LaneNames.{done, version_of}
 use Rattle.table_rule.specs.Words.{header_of}
 use Rattle.table_rule.specs.Views.{Bytes, SendPart, MovePart, RecvPart, the_send, the_move, the_recv, the_back, the_cut, with_send, with_move, with_recv, with_back, with_cut}
-use Rattle.table_rule.specs.Shows.{number_at}
+use Rattle.table_rule.specs.ShownLane.{number_at}
 use Rattle.table_rule.specs.Rule.{Content, Sitter}
-use Rattle.table_rule.specs.Learns.{link_loaded, index_loaded, head, free_by, slot_claimed, frame_sent, taken, posted_loaded, frame_taken, header_stored, flag_stored, flag_loaded, frame_found, frame_copied, flag_cleared, acknowledged, index_out_loaded, index_stored, link_cut}
+use Rattle.table_rule.specs.Knowledge.{link_loaded, index_loaded, head, free_by, slot_claimed, frame_sent, taken, posted_loaded, frame_taken, header_stored, flag_stored, flag_loaded, frame_found, frame_copied, flag_cleared, acknowledged, index_out_loaded, index_stored, link_cut}
 
 abbrev pub Tells : Type 1
 Tells = Sitter → ℕ → Sitter → Type 0

@@ -2,7 +2,7 @@ use Rattle.std.proofs.Common.{rules, arith, ◌≡◌, ℕ, ◌≤◌, List, sub
 use Rattle.atomic_table.specs.Table.{opening}
 use Rattle.table_rule.specs.Rule.{Content, ShowsALane}
 use Rattle.table_rule.specs.Views.{all_parts}
-use Rattle.table_rule.proofs.Seated.{opens}
+use Rattle.table_rule.proofs.SplitsAndJoins.{opens}
 use Rattle.table_lane.proofs.ends.make.Goals as goal
 
 pub vacant-requires : goal.vacant-requires

@@ -1,5 +1,5 @@
 use Rattle.std.proofs.Common.{rules}
-use Rattle.table_rule.proofs.Seated.{mover_splits, recv_splits, back_splits, cut_splits}
+use Rattle.table_rule.proofs.SplitsAndJoins.{mover_splits, recv_splits, back_splits, cut_splits}
 use Rattle.table_lane.proofs.ends.split_off.Goals as goal
 
 pub split_seat-mover-requires : goal.split_seat-mover-requires

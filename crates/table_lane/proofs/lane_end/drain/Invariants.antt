@@ -1,7 +1,7 @@
 use Rattle.std.proofs.Common.{◌≡◌, ◌+◌, ◌-◌, ◌≤◌, ◌++◌, length}
 use Rattle.table_rule.specs.Views.{the_send, the_move, the_recv}
-use Rattle.table_lane.specs.Receives.{IsReady}
-use Rattle.table_lane.specs.Ending.{HasAll, OthersStay}
+use Rattle.table_lane.specs.RecvAnswers.{IsReady}
+use Rattle.table_lane.specs.EndOfLane.{HasAll, OthersStay}
 use Rattle.table_lane.proofs.lane_end.drain.Given as goal
 
 abbrev pub invariant-loop-frame : goal.invariant-loop-frame

@@ -1,6 +1,6 @@
 use Rattle.std.proofs.Common.{◌≡◌, ◌-◌, length}
 use Rattle.table_rule.specs.Views.{the_send, the_move, the_recv}
-use Rattle.table_lane.specs.Ending.{HasAll, MovesNext, OthersStay}
+use Rattle.table_lane.specs.EndOfLane.{HasAll, MovesNext, OthersStay}
 use Rattle.table_lane.proofs.lane_end.move_all.Given as goal
 
 abbrev pub invariant-loop-number : goal.invariant-loop-number

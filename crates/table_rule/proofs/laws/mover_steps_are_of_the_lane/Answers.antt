@@ -1,4 +1,4 @@
-use Rattle.table_rule.proofs.Moving as lane
+use Rattle.table_rule.proofs.MoverShows as lane
 use Rattle.table_rule.proofs.laws.mover_steps_are_of_the_lane.Goals as goal
 
 pub returns-clause-takes : goal.returns-clause-takes

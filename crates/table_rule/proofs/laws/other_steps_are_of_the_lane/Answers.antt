@@ -1,4 +1,4 @@
-use Rattle.table_rule.proofs.Returning as lane
+use Rattle.table_rule.proofs.WayBackShows as lane
 use Rattle.table_rule.proofs.laws.other_steps_are_of_the_lane.Goals as goal
 
 pub returns-clause-loads_index : goal.returns-clause-loads_index

@@ -1,4 +1,4 @@
-use Rattle.table_rule.proofs.Receiving as lane
+use Rattle.table_rule.proofs.ReceiverShows as lane
 use Rattle.table_rule.proofs.laws.receiver_steps_are_of_the_lane.Goals as goal
 
 pub returns-clause-looks : goal.returns-clause-looks

@@ -1,4 +1,4 @@
-use Rattle.table_rule.proofs.Sending as lane
+use Rattle.table_rule.proofs.SenderShows as lane
 use Rattle.table_rule.proofs.laws.sender_steps_are_of_the_lane.Goals as goal
 
 pub returns-clause-claims : goal.returns-clause-claims

@@ -2,8 +2,8 @@ use Rattle.std.proofs.Common.{◌≡◌, ℕ, ◌<◌, List, length, get_or, not
 use Rattle.table_rule.specs.declared.parts.MovePart.{MovePart}
 use Rattle.table_rule.specs.Views.{the_move}
 use Rattle.table_lane.specs.Ends.{Mover}
-use Rattle.table_lane.specs.Moves.{waiting}
-use Rattle.table_lane.proofs.Waiting.{stored_by_first}
+use Rattle.table_lane.specs.MoveChoice.{waiting}
+use Rattle.table_lane.proofs.WaitingEntries.{stored_by_first}
 use Rattle.table_lane.proofs.mover.MoveEnd.is_flag_open.Goals as goal
 
 pub returns-in-Some : goal.returns-in-Some

@@ -1,8 +1,8 @@
 use Rattle.std.proofs.Common.{◌≡◌, ◌≢◌, ℕ, ◌+◌, ◌%◌, ◌<◌, ◌≤◌, Bool, true, false, List, length, refl, arith, sym, ap, ◌∙◌, subst, eqb, if◌then◌else◌}
 use mir.Val.{bool_byte}
 use Rattle.table_rule.specs.declared.parts.MovePart.{MovePart}
-use Rattle.table_lane.specs.Moves.{open_moves}
-use Rattle.table_lane.proofs.Choice.{makes_first, open_length}
+use Rattle.table_lane.specs.MoveChoice.{open_moves}
+use Rattle.table_lane.proofs.FirstMove.{makes_first, open_length}
 use Rattle.table_lane.proofs.mover.MoveEnd.step.Goals as goal
 
 byte_of : (b : Bool) → bool_byte b ≡ (if b then 1 else 0)

@@ -4,9 +4,9 @@ use Rattle.table_rule.specs.declared.parts.MovePart.{MovePart}
 use Rattle.table_rule.specs.Rule.{Sitter}
 use Rattle.table_rule.specs.Views.{the_move}
 use Rattle.table_lane.specs.Ends.{Mover}
-use Rattle.table_lane.specs.Inside.{MovesWith}
-use Rattle.table_lane.specs.Moves.{waiting}
-use Rattle.table_lane.proofs.Waiting.{waits_at, with_header}
+use Rattle.table_lane.specs.EndFields.{MovesWith}
+use Rattle.table_lane.specs.MoveChoice.{waiting}
+use Rattle.table_lane.proofs.WaitingEntries.{waits_at, with_header}
 use Rattle.table_lane.proofs.mover.MoveEnd.store_waiting.Goals as goal
 
 pub store_header-requires-clause-held : goal.store_header-requires-clause-held

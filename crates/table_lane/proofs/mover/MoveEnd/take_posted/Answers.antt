@@ -5,9 +5,9 @@ use Rattle.table_rule.specs.declared.parts.LaneView.{LaneView}
 use Rattle.table_rule.specs.Words.{header_of}
 use Rattle.table_rule.specs.Rule.{Sitter, Content}
 use Rattle.table_rule.specs.Views.{the_move, with_move}
-use Rattle.table_rule.specs.Learns.{taken, posted_loaded, frame_taken}
-use Rattle.table_lane.specs.Inside.{MovesWith}
-use Rattle.table_lane.proofs.Waiting.{waits_few, with_frame}
+use Rattle.table_rule.specs.Knowledge.{taken, posted_loaded, frame_taken}
+use Rattle.table_lane.specs.EndFields.{MovesWith}
+use Rattle.table_lane.proofs.WaitingEntries.{waits_few, with_frame}
 use Rattle.table_lane.proofs.mover.MoveEnd.take_posted.Goals as goal
 
 pub push_back_reserved-requires : goal.push_back_reserved-requires

@@ -7,14 +7,14 @@ use lib.ListN.{get_elem?}
 use Rattle.table_rule.specs.LaneNames.{Lane, tail_of}
 use Rattle.table_rule.specs.Views.{Bytes}
 use Rattle.table_rule.specs.Borders.{Borders, Slots, SlotsStand}
-use Rattle.table_rule.specs.Shows.{number_at}
+use Rattle.table_rule.specs.ShownLane.{number_at}
 use Rattle.table_rule.specs.LaneSteps.{Runs, index_steps}
 use Rattle.table_rule.specs.Kinds.{LoadsIndex, StoresIndex, Cuts}
 use Rattle.table_rule.proofs.LaneLaws.{number_is, number_from, tail_after}
 use Rattle.table_rule.proofs.LaneRuns.{runs_keep, index_all}
 use Rattle.table_rule.proofs.Slots.{slot_is}
 use Rattle.table_rule.proofs.Order.{in_order}
-use Rattle.table_rule.proofs.Sending.{borders_in}
+use Rattle.table_rule.proofs.SenderShows.{borders_in}
 
 -- what index out says: nothing new, or the entry that was acknowledged last
 shown : (N freed acked index_out : ℕ) → 2 ≤ N → freed ≤ acked → acked < freed + N → index_out ≡ tail_of N acked → (index_out ≡ tail_of N freed) ⊎ (number_at N freed index_out < acked)

@@ -6,7 +6,7 @@ use Rattle.table_rule.specs.LaneNames as phase
 use Rattle.table_rule.specs.LaneNames.{done, tail_of}
 use Rattle.table_rule.specs.Rule.{Sitter}
 use Rattle.table_rule.specs.Views.{the_recv, with_recv}
-use Rattle.table_rule.specs.Learns.{flag_loaded, index_out_loaded, index_named, index_stored}
+use Rattle.table_rule.specs.Knowledge.{flag_loaded, index_out_loaded, index_named, index_stored}
 use Rattle.table_lane.specs.declared.recv.RecvAnswer.{RecvAnswer}
 use Rattle.table_lane.specs.declared.recv.RecvAnswer.TheVariants.{Got, Empty}
 use Rattle.table_lane.specs.declared.back.BackAnswer.{BackAnswer}

@@ -5,11 +5,11 @@ use Rattle.atomic_table.specs.Table.{rest}
 use Rattle.table_rule.specs.declared.parts.MovePart.{MovePart}
 use Rattle.table_rule.specs.declared.parts.LaneView.{LaneView}
 use Rattle.table_rule.specs.Views.{the_move, with_move}
-use Rattle.table_rule.specs.Learns.{posted_loaded, frame_taken, header_stored, flag_stored}
+use Rattle.table_rule.specs.Knowledge.{posted_loaded, frame_taken, header_stored, flag_stored}
 use Rattle.std.specs.Prelude.{remove}
 use Rattle.table_rule.specs.Rule.{Content, Sitter}
-use Rattle.table_lane.specs.Moves.{waiting}
-use Rattle.table_lane.specs.Inside.{slots_of, MovesWith}
+use Rattle.table_lane.specs.MoveChoice.{waiting}
+use Rattle.table_lane.specs.EndFields.{slots_of, MovesWith}
 
 -- one more entry is held
 pub waiting-push : (n m : ℕ) (stored : List Bool) → m ≡ n + length stored → waiting n (stored ++ false ∷ []) ≡ waiting n stored ++ m ∷ []

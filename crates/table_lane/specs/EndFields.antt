@@ -8,7 +8,7 @@ use Rattle.table_lane.specs.Ends.{Sender, send_only, Mover, move_only, Receiver,
 use Rattle.table_lane.specs.declared.send.SendEnd.TheInside as send
 use Rattle.table_lane.specs.declared.mover.MoveEnd.TheInside as mover
 use Rattle.table_rule.specs.Rule.{Content, Sitter}
-use Rattle.table_lane.specs.Moves.{waiting}
+use Rattle.table_lane.specs.MoveChoice.{waiting}
 use Rattle.table_lane.specs.declared.recv.RecvEnd.TheInside as recv
 use Rattle.table_lane.specs.declared.back.BackEnd.TheInside as back
 use Rattle.table_lane.specs.declared.back.CutEnd.TheInside as cut

@@ -7,7 +7,7 @@ use Rattle.table_rule.specs.LaneNames.{Entry, Carries, GoesDown, Lane, entry_of,
 use Rattle.table_rule.specs.Words.{header_of}
 use Rattle.table_rule.specs.Views.{Bytes}
 use Rattle.table_rule.specs.Borders.{Borders, Slots, out, full, slot_at}
-use Rattle.table_rule.specs.Shows.{borders_of, claimed_by, in_flight, PostedStand}
+use Rattle.table_rule.specs.ShownLane.{borders_of, claimed_by, in_flight, PostedStand}
 use Rattle.table_rule.specs.LaneSteps.{Runs, send_steps}
 use Rattle.table_rule.specs.Kinds.{Claims, Sends}
 use Rattle.table_rule.specs.Moment.{Moment, ShowsLane}

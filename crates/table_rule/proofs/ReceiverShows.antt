@@ -7,7 +7,7 @@ use mathlib.Core.Option.{some}
 use Rattle.table_rule.specs.LaneNames.{Lane, Slot, blank_slot, slot_of, with_flags, done, PhaseCounts, Idle, Copying, Copied, Cleared, bytes_of, entry_of, flags_of, version_of, Carries, GoesDown, after_look, after_clear, after_ack}
 use Rattle.table_rule.specs.Views.{Bytes}
 use Rattle.table_rule.specs.Borders.{Borders, Slots, empty, out, full, slot_at}
-use Rattle.table_rule.specs.Shows.{RingStands, hand_in}
+use Rattle.table_rule.specs.ShownLane.{RingStands, hand_in}
 use Rattle.table_rule.specs.LaneSteps.{Look, Copy, Clear, Acknowledge, Runs}
 use Rattle.table_rule.specs.Kinds.{Looks, Copies, Clears, Acknowledges}
 use Rattle.table_rule.specs.Moment.{Moment, ShowsLane}
@@ -15,8 +15,8 @@ use Rattle.table_rule.proofs.LaneLaws.{chunks_in, look_sees, copy_sees, tail_aft
 use Rattle.table_rule.proofs.LaneRuns.{runs_keep, copy_all}
 use Rattle.table_rule.proofs.Slots.{slot_by, slot_is, moves_past, slot_changes}
 use Rattle.table_rule.proofs.Order.{in_order}
-use Rattle.table_rule.proofs.Sending.{borders_in, entry_is_frame}
-use Rattle.table_rule.proofs.Moving.{ring_stores_flag}
+use Rattle.table_rule.proofs.SenderShows.{borders_in, entry_is_frame}
+use Rattle.table_rule.proofs.MoverShows.{ring_stores_flag}
 
 pub none_long : (xs : List Bytes) → length xs ≡ 0 → xs ≡ []
 none_long [] e = refl

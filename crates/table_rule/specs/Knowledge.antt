@@ -2,7 +2,7 @@
 use Rattle.std.specs.Prelude.{ℕ, ◌+◌, ◌-◌, true, false, [], ◌∷◌, ◌++◌, length, drop, slice_set}
 use Rattle.table_rule.specs.LaneNames.{Idle, Copying, Copied, Cleared, free_entries, head_of}
 use Rattle.table_rule.specs.Views.{Bytes, SendPart, MovePart, RecvPart, BackPart, CutPart}
-use Rattle.table_rule.specs.Shows.{number_at}
+use Rattle.table_rule.specs.ShownLane.{number_at}
 
 -- the sender loads the link word, or the index word
 abbrev pub link_loaded : SendPart → ℕ → SendPart

@@ -9,7 +9,7 @@ use Rattle.table_rule.specs.LaneNames.{Entry, Carries, GoesDown, Write, Data, Fl
 use Rattle.table_rule.specs.Words.{header_of}
 use Rattle.table_rule.specs.Views.{Bytes}
 use Rattle.table_rule.specs.Borders.{Borders, out, full}
-use Rattle.table_rule.specs.Shows.{in_flight, PostedStand, RingStands}
+use Rattle.table_rule.specs.ShownLane.{in_flight, PostedStand, RingStands}
 use Rattle.table_rule.specs.LaneSteps.{Land, Runs, header_steps, flag_steps}
 use Rattle.table_rule.specs.Kinds.{Takes, StoresHeader, StoresFlag}
 use Rattle.table_rule.proofs.LaneLaws.{same_number}
@@ -17,7 +17,7 @@ use Rattle.table_rule.proofs.LaneRuns.{runs_keep, fields_of, data_is_fields, wit
 use Rattle.table_rule.proofs.Flights.{in_flight-take, in_flight-store}
 use Rattle.table_rule.proofs.Slots.{slot_by, slot_is, moves_past, slot_changes}
 use Rattle.table_rule.proofs.Order.{in_order}
-use Rattle.table_rule.proofs.Sending.{borders_in, entry_is_frame}
+use Rattle.table_rule.proofs.SenderShows.{borders_in, entry_is_frame}
 
 -- a posted header that shows entry n tells that it was sent
 pub sent_if_posted : (N : ℕ) (posted : List ℕ) (n sent : ℕ) → 0 < N → N ≤ 65535 → n ≤ sent → PostedStand N posted sent → get_or posted (n % N) 0 ≡ header_of n → n < sent

@@ -9,7 +9,7 @@ use Rattle.atomic_table.specs.Table.{Splits, Joins, opening}
 use Rattle.table_rule.specs.LaneNames.{Lane, Slot, blank_slot, Idle, tail_of}
 use Rattle.table_rule.specs.Words.{words_of, first_words}
 use Rattle.table_rule.specs.Views.{LaneView, joined, no_parts, without_mover, mover_alone, without_recv, recv_alone, without_back, back_alone, without_cut, cut_alone, all_parts, new_send, new_move, new_recv, new_back, new_cut}
-use Rattle.table_rule.specs.Shows.{borders_of}
+use Rattle.table_rule.specs.ShownLane.{borders_of}
 use Rattle.table_rule.specs.Moment.{Moment, ShowsLane}
 use Rattle.table_rule.specs.Rule.{Content, ShowsALane}
 use Rattle.table_rule.proofs.LaneLaws.{IsFresh, fresh_holds}

@@ -2,7 +2,7 @@
 use Rattle.std.specs.Prelude.{◌≡◌, ◌==◌, ℕ, nat_lt, if◌then◌else◌, List, length}
 use Rattle.table_rule.specs.declared.parts.SendPart.{SendPart}
 use Rattle.table_rule.specs.Words.{cut_word}
-use Rattle.table_rule.specs.Learns.{link_loaded, index_loaded, head, free_by, frame_sent}
+use Rattle.table_rule.specs.Knowledge.{link_loaded, index_loaded, head, free_by, frame_sent}
 use Rattle.table_lane.specs.declared.send.SendAnswer.{SendAnswer}
 use Rattle.table_lane.specs.declared.send.SendAnswer.TheVariants.{Sent, NoRoom, Cut}
 

@@ -5,10 +5,10 @@ use Rattle.std.proofs.lemmas.Option.{slice_get_past}
 use Rattle.std.specs.Prelude.{slice_get, MatchOption, MatchBool}
 use Rattle.table_rule.specs.declared.parts.MovePart.{MovePart}
 use Rattle.table_rule.specs.Words.{header_of}
-use Rattle.table_rule.specs.Learns.{taken, posted_loaded, frame_taken}
+use Rattle.table_rule.specs.Knowledge.{taken, posted_loaded, frame_taken}
 use Rattle.table_lane.specs.declared.mover.MoveAnswer.{MoveAnswer}
 use Rattle.table_lane.specs.declared.mover.MoveAnswer.TheVariants.{Took, Header, Flag, Idle}
-use Rattle.table_lane.specs.Moves.{waiting, open_moves, after_move, Makes, MakesFirst, TakesOrMakes, Moves}
+use Rattle.table_lane.specs.MoveChoice.{waiting, open_moves, after_move, Makes, MakesFirst, TakesOrMakes, Moves}
 
 -- a move loads no posted header
 keeps_load : (part : MovePart) (move : MoveAnswer) → (after_move part move).posted ≡ part.posted

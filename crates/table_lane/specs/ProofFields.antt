@@ -1,7 +1,7 @@
 -- The fields of a lane's proof.
 use Rattle.std.specs.Prelude.{◌≡◌, ◌≤◌, ℕ, [], ◌∷◌, length}
 use Rattle.table_rule.specs.Views.{the_recv}
-use Rattle.table_lane.specs.Ending.{HasAll, Shown, view_in, shown_by}
+use Rattle.table_lane.specs.EndOfLane.{HasAll, Shown, view_in, shown_by}
 use Rattle.table_lane.specs.declared.lane_end.LaneProof.TheInside.{Inside}
 
 abbrev pub shown_of : Inside → Shown
