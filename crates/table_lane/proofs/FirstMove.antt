@@ -1,14 +1,14 @@
 -- The mover makes its first open move where the load that was chosen showed nothing new.
-use Rattle.std.proofs.Common.{◌≡◌, ℕ, zero, suc, ◌+◌, ◌%◌, ◌<◌, ◌≤◌, false, List, [], ◌∷◌, length, arith, refl, sym, ap, ◌∙◌, subst, eqb, get_or, map, length-append, Bool, true, if◌then◌else◌, ◌++◌, Some, None}
+use Rattle.std.proofs.Common.{◌≡◌, ℕ, ◌+◌, ◌%◌, ◌<◌, ◌≤◌, false, List, [], ◌∷◌, length, arith, refl, sym, ap, ◌∙◌, subst, eqb, get_or, map, length-append, Bool, true, if◌then◌else◌, Some, None}
 use Rattle.std.proofs.lemmas.List.{length-map}
 use Rattle.std.proofs.lemmas.Option.{slice_get_past}
-use Rattle.std.specs.Prelude.{slice_get, MatchOption, MatchBool}
+use Rattle.std.specs.Prelude.{slice_get, MatchBool}
 use Rattle.table_rule.specs.declared.parts.MovePart.{MovePart}
 use Rattle.table_rule.specs.Words.{header_of}
 use Rattle.table_rule.specs.Knowledge.{taken, posted_loaded, frame_taken}
 use Rattle.table_lane.specs.declared.mover.MoveAnswer.{MoveAnswer}
 use Rattle.table_lane.specs.declared.mover.MoveAnswer.TheVariants.{Took, Header, Flag, Idle}
-use Rattle.table_lane.specs.MoveChoice.{waiting, open_moves, after_move, Makes, MakesFirst, TakesOrMakes, Moves}
+use Rattle.table_lane.specs.MoveChoice.{waiting, open_moves, after_move, Makes, MakesFirst, Moves}
 
 -- a move loads no posted header
 keeps_load : (part : MovePart) (move : MoveAnswer) → (after_move part move).posted ≡ part.posted

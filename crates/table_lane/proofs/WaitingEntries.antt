@@ -1,5 +1,5 @@
 -- The entries that wait for their header, and the slots that the mover has.
-use Rattle.std.proofs.Common.{◌≡◌, ℕ, zero, suc, ◌+◌, ◌-◌, ◌%◌, ◌<◌, ◌≤◌, Bool, true, false, List, [], ◌∷◌, ◌++◌, length, take, drop, set, get_or, refl, sym, ap, ◌∙◌, arith, not, eqb, eq-eqb, ne_eqb, ◌≢◌, length-set, Some}
+use Rattle.std.proofs.Common.{◌≡◌, ℕ, zero, suc, ◌+◌, ◌-◌, ◌%◌, ◌<◌, ◌≤◌, Bool, true, false, List, [], ◌∷◌, ◌++◌, length, drop, set, get_or, refl, sym, ap, ◌∙◌, arith, not, eqb, eq-eqb, ne_eqb, ◌≢◌, length-set, Some}
 use Rattle.std.proofs.lemmas.List.{length_push}
 use Rattle.atomic_table.specs.Table.{rest}
 use Rattle.table_rule.specs.declared.parts.MovePart.{MovePart}

@@ -1,12 +1,9 @@
 -- One seat with all five parts, in which a lane ends, and what its proof shows.
-use Rattle.std.specs.Prelude.{◌≡◌, ◌+◌, ◌≤◌, ◌<◌, ◌^◌, ℕ, Bool, List, [], ◌∷◌, length, take, Some}
-use Rattle.table_rule.specs.declared.parts.SendPart.{SendPart}
+use Rattle.std.specs.Prelude.{◌≡◌, ℕ, Bool, List, [], ◌∷◌, take}
 use Rattle.table_rule.specs.declared.parts.MovePart.{MovePart}
-use Rattle.table_rule.specs.declared.parts.RecvPart.{RecvPart}
-use Rattle.table_rule.specs.declared.parts.CutPart.{CutPart}
 use Rattle.table_rule.specs.declared.parts.LaneView.{LaneView}
 use Rattle.table_rule.specs.Rule.{Sitter}
-use Rattle.table_rule.specs.Views.{no_parts, the_send, the_move, the_recv, the_back, the_cut, HasSend, HasMove, HasRecv, HasBack, HasCut}
+use Rattle.table_rule.specs.Views.{no_parts, the_send, the_recv, the_cut, HasSend, HasMove, HasRecv, HasBack, HasCut}
 
 -- a seat that has all parts, and no slot
 pub record HasAll (me : Sitter) : Type 0 where

@@ -1,5 +1,5 @@
 -- What contracts see of the ends: the table that they stand at, and what they know.
-use Rattle.std.specs.Prelude.{◌≡◌, ◌≤◌, ◌<◌, ◌^◌, ℕ, List, [], length, Some, None}
+use Rattle.std.specs.Prelude.{Some}
 use Rattle.atomic_table.specs.Seated.{TableId}
 use Rattle.table_rule.specs.declared.parts.SendPart.{SendPart}
 use Rattle.table_rule.specs.declared.parts.MovePart.{MovePart}

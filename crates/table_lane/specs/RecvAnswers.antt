@@ -1,5 +1,5 @@
 -- What the receiver's end, the way back and the cut answer, and what they then know, by what they load.
-use Rattle.std.specs.Prelude.{◌≡◌, ◌≢◌, ◌==◌, ◌+◌, ◌%◌, ℕ, if◌then◌else◌, List, [], ◌∷◌, ◌++◌, length}
+use Rattle.std.specs.Prelude.{◌≡◌, ◌≢◌, ◌==◌, ℕ, if◌then◌else◌, List, [], ◌∷◌, ◌++◌, length}
 use Rattle.table_rule.specs.declared.parts.RecvPart.{RecvPart}
 use Rattle.table_rule.specs.declared.parts.BackPart.{BackPart}
 use Rattle.table_rule.specs.LaneNames as phase

@@ -1,6 +1,6 @@
-use Rattle.std.proofs.Common.{rules, arith, ◌≡◌, ℕ, ◌≤◌, List, subst, sym, ap, ◌∙◌, replicate, None}
+use Rattle.std.proofs.Common.{rules, ℕ, ◌≤◌, List, subst, sym, ◌∙◌, replicate, None}
 use Rattle.atomic_table.specs.Table.{opening}
-use Rattle.table_rule.specs.Rule.{Content, ShowsALane}
+use Rattle.table_rule.specs.Rule.{ShowsALane}
 use Rattle.table_rule.specs.Views.{all_parts}
 use Rattle.table_rule.proofs.SplitsAndJoins.{opens}
 use Rattle.table_lane.proofs.ends.make.Goals as goal

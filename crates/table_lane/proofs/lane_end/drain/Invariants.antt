@@ -1,4 +1,4 @@
-use Rattle.std.proofs.Common.{◌≡◌, ◌+◌, ◌-◌, ◌≤◌, ◌++◌, length}
+use Rattle.std.proofs.Common.{◌≡◌, ◌+◌, ◌-◌, ◌++◌, length}
 use Rattle.table_rule.specs.Views.{the_send, the_move, the_recv}
 use Rattle.table_lane.specs.RecvAnswers.{IsReady}
 use Rattle.table_lane.specs.EndOfLane.{HasAll, OthersStay}

@@ -1,4 +1,4 @@
-use Rattle.std.proofs.Common.{◌≡◌, ℕ, ◌%◌, List, [], ◌∷◌, eqb, eq-eqb, true, refl, sym, ap, ◌∙◌, Some}
+use Rattle.std.proofs.Common.{◌≡◌, ℕ, ◌%◌, List, ◌∷◌, eqb, eq-eqb, true, sym, ap, ◌∙◌, Some}
 use Rattle.atomic_table.specs.Table.{rest}
 use Rattle.table_rule.specs.Rule.{Sitter, Content}
 use Rattle.table_lane.proofs.recv.receive.Goals as goal

@@ -1,4 +1,4 @@
-use Rattle.std.proofs.Common.{arith, rules, ◌≡◌, ℕ, ◌+◌, ◌%◌, ◌<◌, List, [], ◌∷◌, refl, sym, ap, ◌∙◌, subst, mod-lt, Some, None}
+use Rattle.std.proofs.Common.{arith, sym, ap, ◌∙◌}
 use Rattle.table_rule.specs.Words.{link_word}
 use Rattle.table_rule.proofs.BackSteps.{cuts_link_allowed}
 use Rattle.table_lane.proofs.steps.cut_link.Goals as goal

@@ -1,4 +1,4 @@
-use Rattle.std.proofs.Common.{arith, rules, ◌≡◌, ℕ, ◌+◌, ◌%◌, ◌<◌, List, [], ◌∷◌, refl, sym, ap, ◌∙◌, subst, mod-lt, Some, None}
+use Rattle.std.proofs.Common.{arith, ◌%◌, ◌<◌, sym, ◌∙◌, mod-lt}
 use Rattle.table_rule.specs.Words.{header_word}
 use Rattle.table_rule.proofs.RecvSteps.{copies_frame_allowed}
 use Rattle.table_lane.proofs.steps.load_header.Goals as goal

@@ -1,4 +1,4 @@
-use Rattle.std.proofs.Common.{arith, rules, ◌≡◌, ℕ, ◌+◌, ◌%◌, ◌<◌, List, [], ◌∷◌, refl, sym, ap, ◌∙◌, subst, Some, None}
+use Rattle.std.proofs.Common.{arith, sym, ap, ◌∙◌}
 use Rattle.table_rule.specs.Words.{index_word}
 use Rattle.table_rule.proofs.SendSteps.{sees_index_allowed}
 use Rattle.table_lane.proofs.steps.load_index.Goals as goal

@@ -1,4 +1,4 @@
-use Rattle.std.proofs.Common.{arith, rules, ◌≡◌, ℕ, ◌+◌, ◌%◌, ◌<◌, List, [], ◌∷◌, refl, sym, ap, ◌∙◌, subst, Some, None}
+use Rattle.std.proofs.Common.{arith}
 use Rattle.table_rule.proofs.SendSteps.{sees_link_allowed}
 use Rattle.table_lane.proofs.steps.load_link.Goals as goal
 

@@ -1,8 +1,6 @@
-use Rattle.std.proofs.Common.{arith, rules, ◌≡◌, ℕ, ◌+◌, ◌%◌, ◌<◌, List, [], ◌∷◌, refl, sym, ap, ◌∙◌, subst, Some, None}
+use Rattle.std.proofs.Common.{arith, ◌%◌, ◌<◌, sym, ◌∙◌}
 use Rattle.std.proofs.Common.{mod-lt}
 use Rattle.table_rule.specs.Words.{posted_word}
-use Rattle.table_rule.specs.Knowledge.{taken}
-use Rattle.table_rule.specs.Views.{the_move}
 use Rattle.table_rule.proofs.MoveSteps.{sees_posted_allowed}
 use Rattle.table_lane.proofs.steps.load_posted.Goals as goal
 

@@ -1,4 +1,4 @@
-use Rattle.std.proofs.Common.{arith, length, ◌^◌, rules, ◌≡◌, ℕ, ◌+◌, ◌%◌, ◌<◌, List, [], ◌∷◌, refl, sym, ap, ◌∙◌, subst, mod-lt, Some, None}
+use Rattle.std.proofs.Common.{arith, length, ◌^◌, ◌≡◌, ℕ, ◌%◌, ◌<◌, sym, ap, ◌∙◌, subst, mod-lt}
 use Rattle.table_rule.specs.Words.{posted_word, header_of}
 use Rattle.table_rule.specs.Rule.{Sitter}
 use Rattle.table_rule.specs.declared.parts.LaneView.{LaneView}

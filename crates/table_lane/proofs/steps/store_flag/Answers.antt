@@ -1,4 +1,4 @@
-use Rattle.std.proofs.Common.{arith, rules, ◌≡◌, ℕ, ◌+◌, ◌%◌, ◌<◌, List, [], ◌∷◌, refl, sym, ap, ◌∙◌, subst, mod-lt, Some, None}
+use Rattle.std.proofs.Common.{arith, ◌%◌, ◌<◌, sym, ◌∙◌, mod-lt}
 use Rattle.table_rule.specs.Words.{flag_word}
 use Rattle.table_rule.proofs.MoveSteps.{stores_flag_allowed}
 use Rattle.table_lane.proofs.steps.store_flag.Goals as goal

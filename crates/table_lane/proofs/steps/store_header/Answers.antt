@@ -1,10 +1,10 @@
-use Rattle.std.proofs.Common.{arith, ◌≡◌, ℕ, ◌+◌, ◌-◌, ◌%◌, ◌<◌, ◌≤◌, length, refl, sym, ap, ◌∙◌, mod-lt}
+use Rattle.std.proofs.Common.{arith, ◌≡◌, ℕ, ◌+◌, ◌-◌, ◌%◌, ◌<◌, sym, ap, ◌∙◌, mod-lt}
 use Rattle.table_rule.specs.declared.parts.MovePart.{MovePart}
 use Rattle.table_rule.specs.ShownLane.{number_at}
 use Rattle.table_rule.specs.Words.{header_word}
 use Rattle.table_rule.specs.Rule.{Sitter}
 use Rattle.table_rule.specs.Views.{the_move, with_move}
-use Rattle.table_rule.specs.Knowledge.{taken, header_stored}
+use Rattle.table_rule.specs.Knowledge.{header_stored}
 use Rattle.table_rule.proofs.LaneLaws.{number_is}
 use Rattle.table_rule.proofs.MoveSteps.{stores_header_allowed}
 use Rattle.table_lane.proofs.steps.store_header.Goals as goal

@@ -1,5 +1,4 @@
-use Rattle.std.proofs.Common.{arith, rules, ◌≡◌, ℕ, ◌+◌, ◌%◌, ◌<◌, List, [], ◌∷◌, refl, sym, ap, ◌∙◌, subst, mod-lt, Some, None}
-use Rattle.std.proofs.Common.{◌≢◌}
+use Rattle.std.proofs.Common.{arith, ℕ, sym, ap, ◌∙◌}
 use Rattle.table_rule.specs.LaneNames.{tail_of}
 use Rattle.table_rule.specs.Words.{index_word}
 use Rattle.table_rule.specs.Views.{the_back}

@@ -1,4 +1,4 @@
-use Rattle.std.proofs.Common.{◌≤◌, ◌+◌, length}
+use Rattle.std.proofs.Common.{◌≤◌, length}
 use Rattle.table_lane.proofs.tests.send_counting.Given as goal
 
 abbrev pub invariant-loop-turn : goal.invariant-loop-turn

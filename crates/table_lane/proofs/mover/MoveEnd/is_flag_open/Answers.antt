@@ -1,4 +1,4 @@
-use Rattle.std.proofs.Common.{◌≡◌, ℕ, ◌<◌, List, length, get_or, not, eqb, false, arith, refl, sym, ap, ◌∙◌, subst}
+use Rattle.std.proofs.Common.{◌≡◌, ℕ, ◌<◌, List, length, get_or, false, refl, ap, ◌∙◌, subst}
 use Rattle.table_rule.specs.declared.parts.MovePart.{MovePart}
 use Rattle.table_rule.specs.Views.{the_move}
 use Rattle.table_lane.specs.Ends.{Mover}

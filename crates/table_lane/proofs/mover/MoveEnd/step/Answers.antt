@@ -1,4 +1,4 @@
-use Rattle.std.proofs.Common.{◌≡◌, ◌≢◌, ℕ, ◌+◌, ◌%◌, ◌<◌, ◌≤◌, Bool, true, false, List, length, refl, arith, sym, ap, ◌∙◌, subst, eqb, if◌then◌else◌}
+use Rattle.std.proofs.Common.{◌≡◌, ℕ, ◌+◌, ◌%◌, ◌<◌, ◌≤◌, Bool, true, false, length, refl, arith, sym, ap, ◌∙◌, subst, if◌then◌else◌}
 use mir.Val.{bool_byte}
 use Rattle.table_rule.specs.declared.parts.MovePart.{MovePart}
 use Rattle.table_lane.specs.MoveChoice.{open_moves}

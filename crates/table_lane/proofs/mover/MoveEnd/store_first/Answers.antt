@@ -1,8 +1,6 @@
-use Rattle.std.proofs.Common.{◌≡◌, ℕ, get_or, true, false, sym, ap, ◌∙◌}
-use Rattle.table_rule.specs.Rule.{Sitter}
+use Rattle.std.proofs.Common.{get_or, false, ap, ◌∙◌}
 use Rattle.table_lane.specs.Ends.{Mover}
-use Rattle.table_lane.specs.EndFields.{MovesWith}
-use Rattle.table_lane.proofs.WaitingEntries.{first_slot, with_flag}
+use Rattle.table_lane.proofs.WaitingEntries.{first_slot}
 use Rattle.table_lane.proofs.mover.MoveEnd.store_first.Goals as goal
 
 pub store_flag-requires-clause-held : goal.store_flag-requires-clause-held

@@ -1,8 +1,6 @@
-use Rattle.std.proofs.Common.{◌≡◌, ℕ, ◌<◌, ◌≤◌, List, length, get_or, arith, sym, ap, ◌∙◌, subst}
+use Rattle.std.proofs.Common.{ℕ, ◌<◌, ◌≤◌, List, length, arith, sym, ◌∙◌, subst}
 use Rattle.std.specs.Prelude.{remove}
-use Rattle.table_rule.specs.declared.parts.MovePart.{MovePart}
 use Rattle.table_rule.specs.Rule.{Sitter}
-use Rattle.table_rule.specs.Views.{the_move}
 use Rattle.table_lane.specs.Ends.{Mover}
 use Rattle.table_lane.specs.EndFields.{MovesWith}
 use Rattle.table_lane.specs.MoveChoice.{waiting}
