@@ -35,8 +35,8 @@ slots_of N n (frame ∷ frames) = (n % N, Some frame) ∷ slots_of N (suc n) fra
 abbrev pub mover_of : mover.Inside → Mover
 mover_of end = record { lane = end.seat.table_id; part = the_move end.seat.me.0 }
 
--- The seat has the mover's part alone and the slots of the held entries, which are those from `first` up to `next`. `waits` are those
--- that wait for their header.
+-- The seat has the mover's part alone and the slots of the held entries, which are those from `first` up to `next`.
+-- `waits` are those that wait for their header.
 pub record MovesWith (N first next : ℕ) (waits : List ℕ) (me : Sitter) : Type 0 where
   pub view : me.0 ≡ move_only (the_move me.0)
   pub slots : me.1 ≡ slots_of N first (the_move me.0).held

@@ -26,8 +26,8 @@ pub record OthersStay (before after : LaneView) : Type 0 where
   pub send : the_send after ≡ the_send before
   pub cut : the_cut after ≡ the_cut before
 
--- what a lane's proof shows: the frames that were sent, those that were received before the end, the number of entries, and whether the
--- link was cut
+-- what a lane's proof shows: the frames that were sent, those that were received before the end, the number of
+-- entries, and whether the link was cut
 pub record Shown : Type 0 where
   pub sent : List (List ℕ)
   pub got : List (List ℕ)

@@ -12,8 +12,8 @@ waiting n [] = []
 waiting n (true ∷ stored) = waiting (suc n) stored
 waiting n (false ∷ stored) = n ∷ waiting (suc n) stored
 
--- The open moves: the header of each held entry that waits for it, by rising number, and the flag of the lowest held entry where
--- its header is stored.
+-- The open moves: the header of each held entry that waits for it, by rising number, and the flag of the lowest held
+-- entry where its header is stored.
 abbrev pub open_moves : MovePart → List MoveAnswer
 open_moves part = map Header (waiting part.flagged part.stored) ++ (if slice_index_or part.stored 0 false then Flag part.flagged ∷ [] else [])
 
@@ -31,7 +31,8 @@ abbrev pub MakesFirst : List MoveAnswer → MovePart → MoveAnswer → MovePart
 MakesFirst [] before answer after = (answer ≡ Idle) × (after ≡ before)
 MakesFirst (move ∷ moves) before answer after = Makes before move answer after
 
--- the posted header of the next entry is loaded: where it is new, the entry is taken; else the first open move is made, if there is one
+-- the posted header of the next entry is loaded: where it is new, the entry is taken; else the first open move is
+-- made, if there is one
 abbrev pub TakesOrMakes : List MoveAnswer → MovePart → MoveAnswer → MovePart → Type 0
 TakesOrMakes moves before answer after =
     let found = after.posted in

@@ -83,8 +83,8 @@ fn number_at(entries: u64, freed: u64, position: u64) -> u64
 }
 
 impl BackEnd {
-    /// Loads index out, and stores it in the index word where it is new: the sender then has the entries up to the one that it
-    /// names.
+    /// Loads index out, and stores it in the index word where it is new: the sender then has the entries up to the
+    /// one that it names.
     pub fn step(&mut self) -> BackAnswer
         ensures lane { self.new.lane ≡ self.old.lane }
         ensures gives_back { GivesBack self.old.part result self.new.part }

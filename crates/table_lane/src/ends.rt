@@ -1,8 +1,9 @@
 //! A lane is made: one table, and an end for each part.
 ghost use Rattle.std.specs.Prelude.{◌≡◌, ◌≤◌, ◌<◌, [], IfOk};
-ghost use Rattle.table_rule.specs.Views.{without_mover, mover_alone, without_recv, recv_alone, without_back, back_alone, without_cut, cut_alone};
+ghost use Rattle.table_rule.specs.Views.{all_parts, without_mover, mover_alone, without_recv, recv_alone, without_back, back_alone, without_cut, cut_alone};
 ghost use Rattle.table_rule.specs.Words.{first_words, words_of};
 ghost use Rattle.table_lane.specs.NewEnds.{AreNew};
+ghost use Rattle.table_lane.specs.Table.{IsTableOf};
 
 use crate::back::{BackEnd, CutEnd};
 use crate::board::{Board, LaneSeat, LaneTable};
@@ -27,6 +28,25 @@ fn start_words(alloc: Global, entries: u64) -> Result<Vec<u64>, AllocError>
     Ok(words)
 }
 
+// A table that shows a new lane, and the seat with all its parts.
+fn new_table(alloc: Global, entries: u64) -> Result<(LaneTable, LaneSeat), AllocError>
+    requires { (2 ≤ entries) × (entries ≤ 65535) }
+    ensures { IfOk result (λ t. IsTableOf entries t.0.shared.table_id t.0.shared.key × (t.1.table_id ≡ t.0.shared.table_id) × (t.1.me ≡ (all_parts entries, []))) }
+{
+    let words = start_words(alloc, entries)?;
+    LaneTable::vacant(alloc, &words, entries as usize, &entries)
+}
+
+// An empty list with room for so many frames.
+fn room_for(alloc: Global, entries: u64) -> Result<FrameList, AllocError>
+    requires { entries ≤ 65535 }
+    ensures { IfOk result (λ list. (list.frames ≡ []) × (list.spare ≡ entries)) }
+{
+    let mut list = FrameList::new(alloc);
+    list.promise(entries as usize)?;
+    Ok(list)
+}
+
 // The seats of the mover, the receiver, the way back and the cut, split off that of the sender.
 fn split_off(board: &Board, send: &mut LaneSeat) -> (LaneSeat, LaneSeat, LaneSeat, LaneSeat)
     requires table { (send.old.table_id ≡ board.now.table_id) × (0 < board.now.table_id.words) }
@@ -44,8 +64,8 @@ fn split_off(board: &Board, send: &mut LaneSeat) -> (LaneSeat, LaneSeat, LaneSea
     (mover, recv, back, cut)
 }
 
-/// Makes a lane with a ring of `entries` entries, from 2 to 65,535, of which one always stays free. Its five ends may go to
-/// any threads. The only error is want of memory; no other call of the ends takes any.
+/// Makes a lane with a ring of `entries` entries, from 2 to 65,535, of which one always stays free. Its five ends may
+/// go to any threads. The only error is want of memory; no other call of the ends takes any.
 pub fn make(
     alloc: Global,
     entries: u32,
@@ -54,11 +74,9 @@ pub fn make(
     ensures { IfOk result (λ ends. AreNew entries ends.0 ends.1 ends.2 ends.3 ends.4) }
 {
     let entries = u64::from(entries);
-    let words = start_words(alloc, entries)?;
     let waiting = VecDeque::with_capacity(alloc, entries as usize)?;
-    let mut left = FrameList::new(alloc);
-    left.promise(entries as usize)?;
-    let (table, mut seat) = LaneTable::vacant(alloc, &words, entries as usize, &entries)?;
+    let left = room_for(alloc, entries)?;
+    let (table, mut seat) = new_table(alloc, entries)?;
     let (mover, recv, back, cut) = split_off(&table.shared, &mut seat);
     let table = Arc::new(alloc, table)?;
     let mover = MoveEnd {

@@ -20,8 +20,8 @@ use table_rule::plays::JoinsSeats;
 
 /// What a lane did, by the seat of all its parts. Nothing else makes one but [`finish`].
 ///
-/// A contract sees the frames that were sent, those that were received before [`finish`], the number of entries, and whether
-/// the link was cut.
+/// A contract sees the frames that were sent, those that were received before [`finish`], the number of entries, and
+/// whether the link was cut.
 #[derive(Drop)]
 pub struct LaneProof {
     badge: Badge<LaneView>,
@@ -120,9 +120,9 @@ fn join_all(
     all
 }
 
-/// Ends a lane: what the mover holds is moved, the seats become one, and what is left in the ring is received with it. The
-/// ends are those of one [`make`](crate::make). What was sent is what was received before this call, followed by what is
-/// left. It takes no memory.
+/// Ends a lane: what the mover holds is moved, the seats become one, and what is left in the ring is received with
+/// it. The ends are those of one [`make`](crate::make). What was sent is what was received before this call, followed
+/// by what is left. It takes no memory.
 pub fn finish(
     send: SendEnd,
     mut mover: MoveEnd,

@@ -25,8 +25,8 @@ pub enum MoveAnswer {
     Idle,
 }
 
-/// The end that moves frames: it takes them, stores their headers in any order, and their flags in order, each after its header.
-/// It never waits and takes no memory.
+/// The end that moves frames: it takes them, stores their headers in any order, and their flags in order, each after
+/// its header. It never waits and takes no memory.
 ///
 /// A contract sees which table it stands at, and what it knows: the entries that it holds, and its loads.
 #[derive(Drop)]
@@ -128,7 +128,8 @@ impl MoveEnd {
         MoveAnswer::Flag { number }
     }
 
-    // Stores the flag of the first held entry, and its header before where it waits for it. False where nothing is held.
+    // Stores the flag of the first held entry, and its header before where it waits for it. False where nothing is
+    // held.
     fn settle_first(&mut self) -> bool
         ensures lane { self.new.lane ≡ self.old.lane }
         ensures cases { MatchBool result (length self.new.part.held + 1 ≡ length self.old.part.held) ((self.new ≡ self.old) × (self.old.part.held ≡ [])) }
@@ -151,10 +152,10 @@ impl MoveEnd {
         while self.settle_first() {}
     }
 
-    /// Makes one move. The open moves are the header of each held entry that waits for it, by rising number, and then the flag of
-    /// the first held entry, where its header is stored. Of these and a load of the next posted header, the one whose number is
-    /// `choice` modulo their count is made. Where that load shows a new header, the entry is taken; else the first open move is
-    /// made, and where there is none the answer is `Idle`.
+    /// Makes one move. The open moves are the header of each held entry that waits for it, by rising number, and then
+    /// the flag of the first held entry, where its header is stored. Of these and a load of the next posted header,
+    /// the one whose number is `choice` modulo their count is made. Where that load shows a new header, the entry is
+    /// taken; else the first open move is made, and where there is none the answer is `Idle`.
     pub fn step(&mut self, choice: u64) -> MoveAnswer
         ensures lane { self.new.lane ≡ self.old.lane }
         ensures moves { Moves self.old.part choice result self.new.part }

@@ -45,7 +45,8 @@ impl Model for RecvEnd {
     ghost invariant = { IsRecvEnd };
 }
 
-// Receives the next frame, entry `number`, where its flag is up: takes it out of its slot, clears the flag and acknowledges it.
+// Receives the next frame, entry `number`, where its flag is up: takes it out of its slot, clears the flag and
+// acknowledges it.
 pub(crate) fn receive(
     board: &Board,
     seat: &mut LaneSeat,
@@ -69,8 +70,8 @@ pub(crate) fn receive(
 }
 
 impl RecvEnd {
-    /// Receives the next frame, if the flag that this call loads says that it has landed: then the flag is cleared, the slot is
-    /// empty and index out names the entry.
+    /// Receives the next frame, if the flag that this call loads says that it has landed: then the flag is cleared,
+    /// the slot is empty and index out names the entry.
     pub fn recv(&mut self) -> RecvAnswer
         ensures lane { self.new.lane ≡ self.old.lane }
         ensures receives { Receives self.old.part result self.new.part }

@@ -15,8 +15,8 @@ use step_kinds::Frame;
 pub enum SendAnswer {
     /// The frame was sent, as the entry with this number, counted from 0.
     Sent { number: u64 },
-    /// The index word that this call loaded showed no free entry. Here are the frame, the position of the next entry, and
-    /// the index word.
+    /// The index word that this call loaded showed no free entry. Here are the frame, the position of the next entry,
+    /// and the index word.
     NoRoom { frame: Frame, head: u32, tail: u32 },
     /// The link word that this call loaded showed that the link is cut. Here is the frame.
     Cut { frame: Frame },
@@ -58,9 +58,9 @@ fn free_entries(entries: u64, head: u64, tail: u64) -> u64
 }
 
 impl SendEnd {
-    /// Sends a frame of at least one byte, unless the link is cut or the ring has no free entry: then the same frame comes back.
-    /// Fewer than 2^62 frames may have been sent. Each call loads the link word once, and the index word once where the link
-    /// isn't cut; which answer comes is decided by these loads.
+    /// Sends a frame of at least one byte, unless the link is cut or the ring has no free entry: then the same frame
+    /// comes back. Fewer than 2^62 frames may have been sent. Each call loads the link word once, and the index word
+    /// once where the link isn't cut; which answer comes is decided by these loads.
     pub fn send(&mut self, frame: Frame) -> SendAnswer
         requires byte { frame ≢ [] }
         requires counted { length self.old.part.sent < 2 ^ 62 }

@@ -1,4 +1,5 @@
-//! The atomic steps, each over the shared table and a seat that has the part which the step needs, whatever other parts it has.
+//! The atomic steps, each over the shared table and a seat that has the part which the step needs, whatever other
+//! parts it has.
 ghost use Rattle.std.specs.Prelude.{◌≡◌, ◌≢◌, ℕ, ◌+◌, ◌-◌, ◌%◌, ◌^◌, ◌≤◌, ◌<◌, List, [], ◌∷◌, false, true, length, slice_index_or, Some, None, drop};
 ghost use Rattle.atomic_table.specs.Table.{rest};
 ghost use Rattle.table_rule.specs.LaneNames.{Idle, Copying, Copied, Cleared, tail_of};

@@ -138,8 +138,8 @@ fn chosen_moves(alloc: Global) -> Result<String, Fail> {
     Ok(log)
 }
 
-// With nothing held each choice is the load; with one header to store, 1 is the load, which here shows nothing new, so that
-// the header is stored.
+// With nothing held each choice is the load; with one header to store, 1 is the load, which here shows nothing new,
+// so that the header is stored.
 #[test]
 fn headers_go_in_any_order_and_flags_in_order(rt: HostRuntime) -> Result<(), Fail> {
     let log = chosen_moves(rt.alloc())?;

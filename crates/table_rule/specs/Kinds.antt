@@ -1,5 +1,6 @@
--- Each kind of step on the table: where it may be made, which steps of the lane it is, and that the table then shows the lane after them.
--- Loads alone change neither words nor slots nor the lane, but that a slot may go to the seat that loads.
+-- Each kind of step on the table: where it may be made, which steps of the lane it is, and that the table then shows
+-- the lane after them. Loads alone change neither words nor slots nor the lane, but that a slot may go to the seat
+-- that loads.
 use Rattle.std.specs.Prelude.{◌≡◌, ◌≢◌, ℕ, ◌+◌, ◌-◌, ◌%◌, ◌^◌, ◌<◌, ◌≤◌, Bool, true, false, List, [], ◌∷◌, ◌++◌, length, slice_index, slice_index_or, slice_set, replicate, Some}
 use mathlib.Core.Option.{some}
 use lib.ListN.{get_elem?}

@@ -29,7 +29,8 @@ frame_sent part frame = record part { sent = part.sent ++ frame ∷ []; claims =
 abbrev pub taken : MovePart → ℕ
 taken part = part.flagged + length part.held
 
--- the mover loads a posted header, takes a frame, stores the header of entry n, stores the flags of the first held entry
+-- the mover loads a posted header, takes a frame, stores the header of entry n, stores the flags of the first held
+-- entry
 abbrev pub posted_loaded : MovePart → ℕ → MovePart
 posted_loaded part found = record part { loads = part.loads + 1; posted = found }
 

@@ -32,7 +32,8 @@ frame_in ((slot, Some frame) ∷ others) = frame
 abbrev pub stores_posted : Tells
 stores_posted before found after = after ≡ (with_send before.0 (frame_sent (the_send before.0) (frame_in before.1)), rest before.1)
 
--- who has the sender's part too knows whether a posted header is new; and with the receiver's part, that the ring has room for what is left
+-- who has the sender's part too knows whether a posted header is new; and with the receiver's part, that the ring has
+-- room for what is left
 abbrev pub KnowsSent : MovePart → ℕ → Option RecvPart → SendPart → Type 0
 KnowsSent part found recv send =
     (taken part < length send.sent → found ≡ header_of (taken part))
@@ -59,8 +60,8 @@ stores_header word before found after =
 abbrev pub stores_flag : Tells
 stores_flag before found after = after ≡ (with_move before.0 (flag_stored (the_move before.0)), rest before.1)
 
--- Where the flag is up, the slot of the next entry goes to the receiver. Who has the mover's part too knows whether it is; who has the
--- sender's part too knows that what was received is how what was sent begins.
+-- Where the flag is up, the slot of the next entry goes to the receiver. Who has the mover's part too knows whether
+-- it is; who has the sender's part too knows that what was received is how what was sent begins.
 abbrev pub sees_flag : Tells
 sees_flag before found after =
     let part = the_recv before.0 in

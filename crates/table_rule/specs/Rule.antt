@@ -1,4 +1,5 @@
--- The rule of a table: between any two steps it shows a lane with the law of the ring, and each part and each slot has one owner.
+-- The rule of a table: between any two steps it shows a lane with the law of the ring, and each part and each slot
+-- has one owner.
 use Rattle.std.specs.Prelude.{◌≡◌, ℕ, Option}
 use Rattle.atomic_table.specs.Table.{State, Me}
 use Rattle.table_rule.specs.Words.{AreSized, words_of}

@@ -5,7 +5,8 @@ use Rattle.table_rule.specs.Words.{Words, header_of, cut_word}
 use Rattle.table_rule.specs.Views.{Bytes}
 use Rattle.table_rule.specs.Borders.{Borders, Slots, SlotsStand}
 
--- What is on its way of the entries from number n on: all writes of each, without its fields where its header is stored.
+-- What is on its way of the entries from number n on: all writes of each, without its fields where its header is
+-- stored.
 abbrev pub in_flight : ℕ → List Bool → List Entry → List Write
 in_flight n stored [] = []
 in_flight n stored (entry ∷ entries) = (if slice_index_or stored 0 false then [] else data_of n entry) ++ Flag n ∷ Bell ∷ in_flight (suc n) (drop 1 stored) entries
@@ -41,7 +42,8 @@ pub record RingStands (ring : List Slot) (headers flags : List ℕ) : Type 0 whe
 abbrev pub number_at : ℕ → ℕ → ℕ → ℕ
 number_at N freed index = freed + (index + N - freed % N) % N
 
--- index words, and what the way back loaded last: the index that it stored, or that of an entry which was acknowledged since
+-- index words, and what the way back loaded last: the index that it stored, or that of an entry which was
+-- acknowledged since
 pub record IndexStands (N : ℕ) (index_out index : ℕ) (acked freed loaded : ℕ) : Type 0 where
   pub outward : index_out ≡ tail_of N acked
   pub homeward : index ≡ tail_of N freed

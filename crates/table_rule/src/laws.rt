@@ -8,23 +8,24 @@ pub fn slots_are_with_their_owners()
     ensures { OwnersHaveSlots }
 {}
 
-/// Each step of the sender on the table is its steps of the lane, which the table then shows: none where the slot of the next
-/// entry goes to the sender, and the entry begun with all its writes posted where its posted header is stored.
+/// Each step of the sender on the table is its steps of the lane, which the table then shows: none where the slot of
+/// the next entry goes to the sender, and the entry begun with all its writes posted where its posted header is
+/// stored.
 pub fn sender_steps_are_of_the_lane()
     ensures claims { Claims }
     ensures sends { Sends }
 {}
 
-/// The same of the mover: none where a slot goes to it, the fields of an entry land with its header, and the flags and the
-/// doorbell with its flag.
+/// The same of the mover: none where a slot goes to it, the fields of an entry land with its header, and the flags
+/// and the doorbell with its flag.
 pub fn mover_steps_are_of_the_lane()
     ensures takes { Takes }
     ensures stores_header { StoresHeader }
     ensures stores_flag { StoresFlag }
 {}
 
-/// The same of the receiver: it looks with the slot, copies all parts with the header, clears with the flag, and acknowledges
-/// with index out.
+/// The same of the receiver: it looks with the slot, copies all parts with the header, clears with the flag, and
+/// acknowledges with index out.
 pub fn receiver_steps_are_of_the_lane()
     ensures looks { Looks }
     ensures copies { Copies }
@@ -32,8 +33,8 @@ pub fn receiver_steps_are_of_the_lane()
     ensures acknowledges { Acknowledges }
 {}
 
-/// The same of the way back, with which all index writes land up to the one that it loaded, and of the cut, which is no step
-/// of the lane.
+/// The same of the way back, with which all index writes land up to the one that it loaded, and of the cut, which is
+/// no step of the lane.
 pub fn other_steps_are_of_the_lane()
     ensures loads_index { LoadsIndex }
     ensures stores_index { StoresIndex }

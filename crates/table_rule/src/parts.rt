@@ -1,5 +1,5 @@
-//! What the ends of a lane know. No value of these types is made: they are the views of seats, for contracts and proofs. A
-//! contract reads an array as a list of any length.
+//! What the ends of a lane know. No value of these types is made: they are the views of seats, for contracts and
+//! proofs. A contract reads an array as a list of any length.
 
 use lane_model::Phase;
 use step_kinds::Frame;

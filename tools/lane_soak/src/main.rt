@@ -1,5 +1,5 @@
-//! A million frames through a lane by four threads, and as many through the ring of `rtrb` by two, for comparison. Each frame
-//! says its number; what comes has to be 0, 1, 2 and so on.
+//! A million frames through a lane by four threads, and as many through the ring of `rtrb` by two, for comparison.
+//! Each frame says its number; what comes has to be 0, 1, 2 and so on.
 //!
 //! Words: `lane` or `rtrb`, and the number of entries. Nothing here is proved.
 #![tactic(auto)]
