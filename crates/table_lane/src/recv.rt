@@ -1,6 +1,7 @@
 //! The receiver's end.
 ghost use Rattle.std.specs.Prelude.{◌≡◌, ◌≤◌, ◌<◌, ◌^◌, ℕ, length, take, MatchOption, IfSome, IfNone};
 ghost use Rattle.table_rule.specs.Views.{HasRecv, the_recv};
+ghost use Rattle.table_rule.specs.LaneNames.{Idle};
 ghost use Rattle.table_lane.specs.Table.{IsTableOf};
 ghost use Rattle.table_lane.specs.RecvAnswers.{Receives, IsReady, NothingCame, FrameCame};
 
@@ -75,6 +76,7 @@ impl RecvEnd {
     pub fn recv(&mut self) -> RecvAnswer
         ensures lane { self.new.lane ≡ self.old.lane }
         ensures receives { Receives self.old.part result self.new.part }
+        ensures idle { self.new.part.phase ≡ Idle }
     {
         let number = self.got;
         match receive(&self.table.shared, &mut self.seat, self.entries, number) {
