@@ -1,0 +1,4 @@
+pub mod Addresses
+pub mod Examples
+pub mod Headers
+pub mod Stores

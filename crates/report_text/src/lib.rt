@@ -1,0 +1,14 @@
+//! The texts of answers, of the report of a replay and of the record of a threaded run: exact bytes, appended to one
+//! buffer. Numbers are decimal, bytes lower-case hexadecimal, and each line ends with a line feed.
+#![tactic(auto)]
+
+mod answers;
+mod append;
+mod run;
+#[cfg(test)]
+mod tests;
+mod whole;
+
+pub use answers::{push_answer, text_of};
+pub use run::record_text;
+pub use whole::{LaneCount, report};
