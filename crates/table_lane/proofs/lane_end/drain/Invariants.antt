@@ -1,0 +1,19 @@
+use Rattle.std.proofs.Common.{◌≡◌, ◌+◌, ◌-◌, ◌++◌, length}
+use Rattle.table_rule.specs.Views.{the_send, the_move, the_recv}
+use Rattle.table_lane.specs.RecvAnswers.{IsReady}
+use Rattle.table_lane.specs.EndOfLane.{HasAll, OthersStay}
+use Rattle.table_lane.proofs.lane_end.drain.Given as goal
+
+abbrev pub invariant-loop-frame : goal.invariant-loop-frame
+invariant-loop-frame l = record {
+  table : l.seat.table_id ≡ l.initial.seat.table_id;
+  all : HasAll l.seat.me;
+  others : OthersStay l.initial.seat.me.0 l.seat.me.0;
+  mover : the_move l.seat.me.0 ≡ the_move l.initial.seat.me.0;
+  ready : IsReady l.entries l.number (the_recv l.seat.me.0);
+  got : (the_recv l.seat.me.0).got ≡ (the_recv l.initial.seat.me.0).got ++ l.left.frames;
+  room : l.left.spare + length l.left.frames ≡ l.initial.left.spare;
+}
+
+abbrev pub decreases-loop-frame : goal.decreases-loop-frame
+decreases-loop-frame l = length (the_send l.initial.seat.me.0).sent - l.number

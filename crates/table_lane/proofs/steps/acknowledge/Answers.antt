@@ -1,0 +1,12 @@
+use Rattle.std.proofs.Common.{arith, ℕ, ◌%◌, sym, ap, ◌∙◌}
+use Rattle.table_rule.specs.Words.{index_out_word}
+use Rattle.table_rule.proofs.RecvSteps.{stores_index_out_allowed}
+use Rattle.table_lane.proofs.steps.acknowledge.Goals as goal
+
+pub store-requires : goal.store-requires
+store-requires c =
+    let t = c.requires.table.1 in (
+      c.requires.table.0,
+      omega (arith, t.words),
+      stores_index_out_allowed _ _ _ _ _ c.args.n _ (c.index_out_word.ensures ∙ ap index_out_word (sym t.key)) c.requires.part.2 (ap (λ (N : ℕ). c.args.n % N) (sym t.key)) c.requires.part.0 c.requires.part.1,
+    )

@@ -1,0 +1,9 @@
+use Rattle.std.proofs.Common.{arith, sym, ap, ◌∙◌}
+use Rattle.table_rule.specs.Words.{index_out_word}
+use Rattle.table_rule.proofs.BackSteps.{sees_index_out_allowed}
+use Rattle.table_lane.proofs.steps.load_index_out.Goals as goal
+
+pub load-requires : goal.load-requires
+load-requires c =
+    let t = c.requires.table.1 in
+    (c.requires.table.0, omega (arith, t.words), sees_index_out_allowed _ _ _ _ _ (c.index_out_word.ensures ∙ ap index_out_word (sym t.key)) c.requires.part)

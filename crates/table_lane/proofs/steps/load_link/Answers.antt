@@ -1,0 +1,8 @@
+use Rattle.std.proofs.Common.{arith}
+use Rattle.table_rule.proofs.SendSteps.{sees_link_allowed}
+use Rattle.table_lane.proofs.steps.load_link.Goals as goal
+
+pub load-requires : goal.load-requires
+load-requires c =
+    let t = c.requires.table.1 in
+    (c.requires.table.0, omega (arith, t.words), sees_link_allowed _ _ _ _ _ c.requires.part)

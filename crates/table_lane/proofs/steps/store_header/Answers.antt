@@ -1,0 +1,32 @@
+use Rattle.std.proofs.Common.{arith, ◌≡◌, ℕ, ◌+◌, ◌-◌, ◌%◌, ◌<◌, sym, ap, ◌∙◌, mod-lt}
+use Rattle.table_rule.specs.declared.parts.MovePart.{MovePart}
+use Rattle.table_rule.specs.ShownLane.{number_at}
+use Rattle.table_rule.specs.Words.{header_word}
+use Rattle.table_rule.specs.Rule.{Sitter}
+use Rattle.table_rule.specs.Views.{the_move, with_move}
+use Rattle.table_rule.specs.Knowledge.{header_stored}
+use Rattle.table_rule.proofs.LaneLaws.{number_is}
+use Rattle.table_rule.proofs.MoveSteps.{stores_header_allowed}
+use Rattle.table_lane.proofs.steps.store_header.Goals as goal
+
+pub store-requires : goal.store-requires
+store-requires c =
+    let t = c.requires.table.1 in
+    let small : c.args.n % c.args.entries < c.args.entries = mod-lt c.args.n (omega (arith, t.two)) in
+    let held = c.requires.held in (
+      c.requires.table.0,
+      omega (arith, t.words),
+      stores_header_allowed _ _ _ _ _ _ c.args.n (c.header_word.ensures ∙ ap (λ (N : ℕ). header_word N c.args.n) (sym t.key)) c.header_of.ensures c.requires.part.0 (c.requires.part.1 ∙ sym t.key) held.0 held.1 held.3,
+    )
+
+pub returns-clause-knows : goal.returns-clause-knows
+returns-clause-knows c =
+    let part : MovePart = the_move c.args.seat.now.me.0 in
+    let N : ℕ = c.args.entries in
+    let held = c.requires.held in
+    let known : part.entries ≡ N = c.requires.part.1 in
+    let near : c.args.n < part.flagged + N = omega (arith, held.1, held.2) in
+    let word = c.header_word.ensures in
+    let position : c.header_word.result - part.entries ≡ c.args.n % N = omega arith in
+    c.store.ensures.2
+    ∙ ap (λ (n : ℕ). (let me : Sitter = (with_move c.args.seat.now.me.0 (header_stored part n), c.args.seat.now.me.1) in me)) ((λ i. number_at (known i) part.flagged (position i)) ∙ number_is N part.flagged c.args.n held.0 near)

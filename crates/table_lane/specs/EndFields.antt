@@ -1,0 +1,90 @@
+-- The fields of the ends: what each end shows of its seat, and what is true of it between two calls.
+use Rattle.std.specs.Prelude.{◌≡◌, ◌≤◌, ◌+◌, ◌%◌, ◌^◌, ℕ, suc, false, List, [], ◌∷◌, length, Some}
+use Rattle.std.specs.VecDeque.{deque_capacity}
+use Rattle.std.specs.Arc.{arc_value}
+use Rattle.table_rule.specs.Views.{the_send, the_move, the_recv, the_back, the_cut}
+use Rattle.table_lane.specs.Table.{IsTableOf}
+use Rattle.table_lane.specs.Ends.{Sender, send_only, Mover, move_only, Receiver, recv_only, WayBack, back_only, Cutter, cut_only}
+use Rattle.table_lane.specs.declared.send.SendEnd.TheInside as send
+use Rattle.table_lane.specs.declared.mover.MoveEnd.TheInside as mover
+use Rattle.table_rule.specs.Rule.{Content, Sitter}
+use Rattle.table_lane.specs.MoveChoice.{waiting}
+use Rattle.table_lane.specs.declared.recv.RecvEnd.TheInside as recv
+use Rattle.table_lane.specs.declared.back.BackEnd.TheInside as back
+use Rattle.table_lane.specs.declared.back.CutEnd.TheInside as cut
+use Rattle.table_rule.specs.LaneNames.{Idle}
+
+abbrev pub sender_of : send.Inside → Sender
+sender_of end = record { lane = end.seat.table_id; part = the_send end.seat.me.0 }
+
+-- the seat stands at the table and has the sender's part alone and no slot
+pub record IsSendEnd (end : send.Inside) : Type 0 where
+  pub stands : end.seat.table_id ≡ (arc_value end.table).shared.table_id
+  pub table : IsTableOf end.entries (arc_value end.table).shared.table_id (arc_value end.table).shared.key
+  pub me : end.seat.me ≡ (send_only (the_send end.seat.me.0), [])
+  pub claims : (the_send end.seat.me.0).claims ≡ false
+  pub entries : (the_send end.seat.me.0).entries ≡ end.entries
+  pub sent : length (the_send end.seat.me.0).sent ≡ end.sent
+  pub counted : end.sent ≤ 2 ^ 62
+
+-- the slots that the mover has, with their frames, from entry n on
+abbrev pub slots_of : ℕ → ℕ → List (List ℕ) → List (ℕ × Content)
+slots_of N n [] = []
+slots_of N n (frame ∷ frames) = (n % N, Some frame) ∷ slots_of N (suc n) frames
+
+abbrev pub mover_of : mover.Inside → Mover
+mover_of end = record { lane = end.seat.table_id; part = the_move end.seat.me.0 }
+
+-- The seat has the mover's part alone and the slots of the held entries, which are those from `first` up to `next`.
+-- `waits` are those that wait for their header.
+pub record MovesWith (N first next : ℕ) (waits : List ℕ) (me : Sitter) : Type 0 where
+  pub view : me.0 ≡ move_only (the_move me.0)
+  pub slots : me.1 ≡ slots_of N first (the_move me.0).held
+  pub entries : (the_move me.0).entries ≡ N
+  pub flagged : (the_move me.0).flagged ≡ first
+  pub taken : first + length (the_move me.0).held ≡ next
+  pub marks : length (the_move me.0).stored ≡ length (the_move me.0).held
+  pub waiting_are : waits ≡ waiting first (the_move me.0).stored
+  pub few : length (the_move me.0).held + 1 ≤ N
+
+pub record IsMoveEnd (end : mover.Inside) : Type 0 where
+  pub stands : end.seat.table_id ≡ (arc_value end.table).shared.table_id
+  pub table : IsTableOf end.entries (arc_value end.table).shared.table_id (arc_value end.table).shared.key
+  pub me : MovesWith end.entries end.flagged end.taken end.waiting.items end.seat.me
+  pub room : end.entries ≤ deque_capacity end.waiting
+  pub counted : end.taken ≤ 2 ^ 62
+
+abbrev pub receiver_of : recv.Inside → Receiver
+receiver_of end = record { lane = end.seat.table_id; part = the_recv end.seat.me.0 }
+
+-- the seat has the receiver's part alone and no slot, and looks at no frame
+pub record IsRecvEnd (end : recv.Inside) : Type 0 where
+  pub stands : end.seat.table_id ≡ (arc_value end.table).shared.table_id
+  pub table : IsTableOf end.entries (arc_value end.table).shared.table_id (arc_value end.table).shared.key
+  pub me : end.seat.me ≡ (recv_only (the_recv end.seat.me.0), [])
+  pub phase : (the_recv end.seat.me.0).phase ≡ Idle
+  pub hand : (the_recv end.seat.me.0).hand ≡ []
+  pub entries : (the_recv end.seat.me.0).entries ≡ end.entries
+  pub got : length (the_recv end.seat.me.0).got ≡ end.got
+  pub counted : end.got ≤ 2 ^ 62
+  pub nothing_left : end.left.frames ≡ []
+  pub room : end.entries ≤ end.left.spare + 1
+
+abbrev pub way_back_of : back.Inside → WayBack
+way_back_of end = record { lane = end.seat.table_id; part = the_back end.seat.me.0 }
+
+pub record IsBackEnd (end : back.Inside) : Type 0 where
+  pub stands : end.seat.table_id ≡ (arc_value end.table).shared.table_id
+  pub table : IsTableOf end.entries (arc_value end.table).shared.table_id (arc_value end.table).shared.key
+  pub me : end.seat.me ≡ (back_only (the_back end.seat.me.0), [])
+  pub entries : (the_back end.seat.me.0).entries ≡ end.entries
+  pub freed : (the_back end.seat.me.0).freed ≡ end.freed
+
+abbrev pub cutter_of : cut.Inside → Cutter
+cutter_of end = record { lane = end.seat.table_id; part = the_cut end.seat.me.0 }
+
+pub record IsCutEnd (end : cut.Inside) : Type 0 where
+  pub stands : end.seat.table_id ≡ (arc_value end.table).shared.table_id
+  pub table : IsTableOf end.entries (arc_value end.table).shared.table_id (arc_value end.table).shared.key
+  pub me : end.seat.me ≡ (cut_only (the_cut end.seat.me.0), [])
+  pub entries : (the_cut end.seat.me.0).entries ≡ end.entries

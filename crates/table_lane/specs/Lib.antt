@@ -1,0 +1,9 @@
+pub mod EndFields
+pub mod EndOfLane
+pub mod Ends
+pub mod MoveChoice
+pub mod NewEnds
+pub mod ProofFields
+pub mod RecvAnswers
+pub mod SendAnswers
+pub mod Table

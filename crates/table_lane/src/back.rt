@@ -1,0 +1,112 @@
+//! The way back, and the cut.
+ghost use Rattle.std.specs.Prelude.{◌≡◌, ◌+◌, ◌-◌, ◌%◌, ◌≤◌, ◌<◌, ◌^◌};
+ghost use Rattle.table_rule.specs.ShownLane.{number_at};
+ghost use Rattle.table_rule.specs.LaneNames.{tail_of};
+ghost use Rattle.table_rule.specs.Knowledge.{link_cut};
+ghost use Rattle.table_lane.specs.RecvAnswers.{GivesBack};
+
+use crate::board::{LaneSeat, LaneTable};
+use crate::steps::{cut_link, load_index_out, store_index};
+use std::alloc::Global;
+use std::marker::Model;
+use std::sync::Arc;
+
+/// What came of a step of the way back.
+#[derive(Clone, Copy, Debug, PartialEq, Eq, Drop)]
+pub enum BackAnswer {
+    /// The index word was stored: the entries up to the one with this number are given back to the sender.
+    Index { number: u64 },
+    /// The index out that this call loaded was not new.
+    Idle,
+}
+
+/// The end that brings indices back to the sender. It never waits and takes no memory.
+///
+/// A contract sees which table it stands at, and what it knows: how many entries were given back, and its loads.
+#[derive(Drop)]
+pub struct BackEnd {
+    pub(crate) table: Arc<LaneTable, Global>,
+    pub(crate) seat: LaneSeat,
+    pub(crate) entries: u64,
+    pub(crate) freed: u64,
+}
+
+impl Model for BackEnd {
+    ghost use Rattle.table_lane.specs.Ends.{WayBack};
+
+    ghost Value = { WayBack };
+
+    ghost use Rattle.table_lane.specs.EndFields.{way_back_of, IsBackEnd};
+
+    ghost view = { way_back_of };
+
+    ghost invariant = { IsBackEnd };
+}
+
+/// The end that cuts the link.
+///
+/// A contract sees which table it stands at, and whether the link was cut.
+#[derive(Drop)]
+pub struct CutEnd {
+    pub(crate) table: Arc<LaneTable, Global>,
+    pub(crate) seat: LaneSeat,
+    pub(crate) entries: u64,
+}
+
+impl Model for CutEnd {
+    ghost use Rattle.table_lane.specs.Ends.{Cutter};
+
+    ghost Value = { Cutter };
+
+    ghost use Rattle.table_lane.specs.EndFields.{cutter_of, IsCutEnd};
+
+    ghost view = { cutter_of };
+
+    ghost invariant = { IsCutEnd };
+}
+
+// The position of the last entry that was given back.
+fn tail_of(entries: u64, freed: u64) -> u64
+    requires { (2 ≤ entries) × (entries ≤ 65535) × (freed ≤ 2 ^ 62) }
+    ensures { result ≡ tail_of entries freed }
+{
+    (freed + entries - 1) % entries
+}
+
+// The number of the entry from `freed` on at this position.
+fn number_at(entries: u64, freed: u64, position: u64) -> u64
+    requires { (2 ≤ entries) × (entries ≤ 65535) × (freed ≤ 2 ^ 62) × (position < entries) }
+    ensures value { result ≡ number_at entries freed position }
+    ensures small { result < 2 ^ 63 }
+{
+    freed + (position + entries - freed % entries) % entries
+}
+
+impl BackEnd {
+    /// Loads index out, and stores it in the index word where it is new: the sender then has the entries up to the
+    /// one that it names.
+    pub fn step(&mut self) -> BackAnswer
+        ensures lane { self.new.lane ≡ self.old.lane }
+        ensures gives_back { GivesBack self.old.part result self.new.part }
+    {
+        let board = &self.table.shared;
+        let index = load_index_out(board, &mut self.seat, self.entries);
+        if index == tail_of(self.entries, self.freed) {
+            return BackAnswer::Idle;
+        }
+        let number = number_at(self.entries, self.freed, index);
+        store_index(board, &mut self.seat, self.entries, index);
+        self.freed = number + 1;
+        BackAnswer::Index { number }
+    }
+}
+
+impl CutEnd {
+    /// Cuts the link for good: later loads of the link word show it, and later frames are refused. All else goes on.
+    pub fn cut(&mut self)
+        ensures lane { self.new.lane ≡ self.old.lane }
+        ensures cuts { self.new.part ≡ link_cut self.old.part }
+    {
+        cut_link(&self.table.shared, &mut self.seat, self.entries);
+    }
+}

@@ -1,0 +1,79 @@
+//! The table of a lane, and the numbers of its words.
+ghost use Rattle.std.specs.Prelude.{◌≡◌, ◌≤◌, ◌<◌};
+ghost use Rattle.table_rule.specs.Words.{posted_word, header_word, flag_word, index_out_word, index_word, link_word, header_of};
+
+use atomic_table::{Seat, Shared, Table};
+use std::alloc::Global;
+use step_kinds::Frame;
+use table_rule::parts::LaneView;
+use table_rule::rule::LaneRule;
+
+/// The table of a lane: its words, its slots, and the rule over both.
+pub(crate) type LaneTable = Table<Option<Frame>, LaneView, u64, LaneRule, Global>;
+
+/// What the ends share of it.
+pub(crate) type Board = Shared<Option<Frame>, LaneView, u64, LaneRule>;
+
+/// What an end steps with.
+pub(crate) type LaneSeat = Seat<Option<Frame>, LaneView>;
+
+/// A flag word of an entry that stands whole.
+pub(crate) const DONE: u64 = 1;
+
+/// The link word once the link is cut.
+pub(crate) const CUT: u64 = 1;
+
+/// The header of entry `n`.
+pub(crate) fn header_of(n: u64) -> u64
+    ensures { result ≡ header_of n }
+{
+    (1 << 32) + n % (1 << 32)
+}
+
+/// The word that the sender stores for entry `n`.
+pub(crate) fn posted_word(entries: u64, n: u64) -> usize
+    requires { (2 ≤ entries) × (entries ≤ 65535) }
+    ensures { result ≡ posted_word entries n }
+{
+    (n % entries) as usize
+}
+
+/// The word that the mover stores for entry `n`.
+pub(crate) fn header_word(entries: u64, n: u64) -> usize
+    requires { (2 ≤ entries) × (entries ≤ 65535) }
+    ensures { result ≡ header_word entries n }
+{
+    (entries + n % entries) as usize
+}
+
+/// The word of the flag of entry `n`.
+pub(crate) fn flag_word(entries: u64, n: u64) -> usize
+    requires { (2 ≤ entries) × (entries ≤ 65535) }
+    ensures { result ≡ flag_word entries n }
+{
+    (2 * entries + n % entries) as usize
+}
+
+/// The word in which the receiver says how far it has given back.
+pub(crate) fn index_out_word(entries: u64) -> usize
+    requires { entries ≤ 65535 }
+    ensures { result ≡ index_out_word entries }
+{
+    (3 * entries) as usize
+}
+
+/// The word in which the sender reads it.
+pub(crate) fn index_word(entries: u64) -> usize
+    requires { entries ≤ 65535 }
+    ensures { result ≡ index_word entries }
+{
+    (3 * entries + 1) as usize
+}
+
+/// The word that says whether the link is cut.
+pub(crate) fn link_word(entries: u64) -> usize
+    requires { entries ≤ 65535 }
+    ensures { result ≡ link_word entries }
+{
+    (3 * entries + 2) as usize
+}

@@ -1,0 +1,115 @@
+//! A lane is made: one table, and an end for each part.
+ghost use Rattle.std.specs.Prelude.{◌≡◌, ◌≤◌, ◌<◌, [], IfOk};
+ghost use Rattle.table_rule.specs.Views.{all_parts, without_mover, mover_alone, without_recv, recv_alone, without_back, back_alone, without_cut, cut_alone};
+ghost use Rattle.table_rule.specs.Words.{first_words, words_of};
+ghost use Rattle.table_lane.specs.NewEnds.{AreNew};
+ghost use Rattle.table_lane.specs.Table.{IsTableOf};
+
+use crate::back::{BackEnd, CutEnd};
+use crate::board::{Board, LaneSeat, LaneTable};
+use crate::mover::MoveEnd;
+use crate::recv::RecvEnd;
+use crate::send::SendEnd;
+use std::alloc::{AllocError, Global};
+use std::collections::VecDeque;
+use std::sync::Arc;
+use step_kinds::FrameList;
+use table_rule::plays::{SplitsBack, SplitsCut, SplitsMove, SplitsRecv};
+
+// The words of a new table: all 0, but both indices name the last position.
+fn start_words(alloc: Global, entries: u64) -> Result<Vec<u64>, AllocError>
+    requires { (2 ≤ entries) × (entries ≤ 65535) }
+    ensures { IfOk result (λ words. words.items ≡ words_of (first_words entries)) }
+{
+    let mut words = vec![in alloc; 0; (3 * entries) as usize]?;
+    words.push(entries - 1)?;
+    words.push(entries - 1)?;
+    words.push(0)?;
+    Ok(words)
+}
+
+// A table that shows a new lane, and the seat with all its parts.
+fn new_table(alloc: Global, entries: u64) -> Result<(LaneTable, LaneSeat), AllocError>
+    requires { (2 ≤ entries) × (entries ≤ 65535) }
+    ensures { IfOk result (λ t. IsTableOf entries t.0.shared.table_id t.0.shared.key × (t.1.table_id ≡ t.0.shared.table_id) × (t.1.me ≡ (all_parts entries, []))) }
+{
+    let words = start_words(alloc, entries)?;
+    LaneTable::vacant(alloc, &words, entries as usize, &entries)
+}
+
+// An empty list with room for so many frames.
+fn room_for(alloc: Global, entries: u64) -> Result<FrameList, AllocError>
+    requires { entries ≤ 65535 }
+    ensures { IfOk result (λ list. (list.frames ≡ []) × (list.spare ≡ entries)) }
+{
+    let mut list = FrameList::new(alloc);
+    list.promise(entries as usize)?;
+    Ok(list)
+}
+
+// The seats of the mover, the receiver, the way back and the cut, split off that of the sender.
+fn split_off(board: &Board, send: &mut LaneSeat) -> (LaneSeat, LaneSeat, LaneSeat, LaneSeat)
+    requires table { (send.old.table_id ≡ board.now.table_id) × (0 < board.now.table_id.words) }
+    ensures table { (send.new.table_id ≡ board.now.table_id) × (result.0.table_id ≡ board.now.table_id) × (result.1.table_id ≡ board.now.table_id) × (result.2.table_id ≡ board.now.table_id) × (result.3.table_id ≡ board.now.table_id) }
+    ensures mover { result.0.me ≡ (mover_alone send.old.me.0, []) }
+    ensures recv { result.1.me ≡ (recv_alone (without_mover send.old.me.0), []) }
+    ensures back { result.2.me ≡ (back_alone (without_recv (without_mover send.old.me.0)), []) }
+    ensures cut { result.3.me ≡ (cut_alone (without_back (without_recv (without_mover send.old.me.0))), []) }
+    ensures send { send.new.me ≡ (without_cut (without_back (without_recv (without_mover send.old.me.0))), send.old.me.1) }
+{
+    let mover = board.split_seat::<SplitsMove>(send);
+    let recv = board.split_seat::<SplitsRecv>(send);
+    let back = board.split_seat::<SplitsBack>(send);
+    let cut = board.split_seat::<SplitsCut>(send);
+    (mover, recv, back, cut)
+}
+
+/// Makes a lane with a ring of `entries` entries, from 2 to 65,535, of which one always stays free. Its five ends may
+/// go to any threads. The only error is want of memory; no other call of the ends takes any.
+pub fn make(
+    alloc: Global,
+    entries: u32,
+) -> Result<(SendEnd, MoveEnd, RecvEnd, BackEnd, CutEnd), AllocError>
+    requires { (2 ≤ entries) × (entries ≤ 65535) }
+    ensures { IfOk result (λ ends. AreNew entries ends.0 ends.1 ends.2 ends.3 ends.4) }
+{
+    let entries = u64::from(entries);
+    let waiting = VecDeque::with_capacity(alloc, entries as usize)?;
+    let left = room_for(alloc, entries)?;
+    let (table, mut seat) = new_table(alloc, entries)?;
+    let (mover, recv, back, cut) = split_off(&table.shared, &mut seat);
+    let table = Arc::new(alloc, table)?;
+    let mover = MoveEnd {
+        table: Arc::try_clone(&table)?,
+        seat: mover,
+        entries,
+        flagged: 0,
+        taken: 0,
+        waiting,
+    };
+    let recv = RecvEnd {
+        table: Arc::try_clone(&table)?,
+        seat: recv,
+        entries,
+        got: 0,
+        left,
+    };
+    let back = BackEnd {
+        table: Arc::try_clone(&table)?,
+        seat: back,
+        entries,
+        freed: 0,
+    };
+    let cut = CutEnd {
+        table: Arc::try_clone(&table)?,
+        seat: cut,
+        entries,
+    };
+    let send = SendEnd {
+        table,
+        seat,
+        entries,
+        sent: 0,
+    };
+    Ok((send, mover, recv, back, cut))
+}

@@ -1,0 +1,90 @@
+//! The receiver's end.
+ghost use Rattle.std.specs.Prelude.{◌≡◌, ◌≤◌, ◌<◌, ◌^◌, ℕ, length, take, MatchOption, IfSome, IfNone};
+ghost use Rattle.table_rule.specs.Views.{HasRecv, the_recv};
+ghost use Rattle.table_rule.specs.LaneNames.{Idle};
+ghost use Rattle.table_lane.specs.Table.{IsTableOf};
+ghost use Rattle.table_lane.specs.RecvAnswers.{Receives, IsReady, NothingCame, FrameCame};
+
+use crate::board::{Board, DONE, LaneSeat, LaneTable};
+use crate::steps::{acknowledge, clear_flag, load_flag, load_header};
+use std::alloc::Global;
+use std::marker::Model;
+use std::sync::Arc;
+use step_kinds::{Frame, FrameList};
+
+/// What came of an attempt to receive a frame.
+#[derive(Debug, Drop)]
+pub enum RecvAnswer {
+    /// The frame of the entry with this number, counted from 0.
+    Got { number: u64, frame: Frame },
+    /// The flag that this call loaded showed no DONE.
+    Empty,
+}
+
+/// The end that receives frames. It never waits and takes no memory.
+///
+/// A contract sees which table it stands at, and what it knows: the frames that were received, and its loads.
+#[derive(Drop)]
+pub struct RecvEnd {
+    pub(crate) table: Arc<LaneTable, Global>,
+    pub(crate) seat: LaneSeat,
+    pub(crate) entries: u64,
+    pub(crate) got: u64,
+    /// Room for all frames that a ring can have, for what `finish` takes out.
+    pub(crate) left: FrameList,
+}
+
+impl Model for RecvEnd {
+    ghost use Rattle.table_lane.specs.Ends.{Receiver};
+
+    ghost Value = { Receiver };
+
+    ghost use Rattle.table_lane.specs.EndFields.{receiver_of, IsRecvEnd};
+
+    ghost view = { receiver_of };
+
+    ghost invariant = { IsRecvEnd };
+}
+
+// Receives the next frame, entry `number`, where its flag is up: takes it out of its slot, clears the flag and
+// acknowledges it.
+pub(crate) fn receive(
+    board: &Board,
+    seat: &mut LaneSeat,
+    entries: u64,
+    number: u64,
+) -> Option<Frame>
+    requires table { (seat.old.table_id ≡ board.now.table_id) × IsTableOf entries board.now.table_id board.now.key }
+    requires part { HasRecv seat.old.me.0 × IsReady entries number (the_recv seat.old.me.0) }
+    ensures table { seat.new.table_id ≡ seat.old.table_id }
+    ensures knows { MatchOption result ((found : ℕ) × NothingCame seat.old.me found seat.new.me) (λ frame. (number < 2 ^ 62) × FrameCame seat.old.me frame seat.new.me) }
+    ensures begins { IfSome seat.old.me.0.send (λ send. (the_recv seat.new.me.0).got ≡ take (length (the_recv seat.new.me.0).got) send.sent) }
+    ensures comes { IfNone result (IfSome seat.old.me.0.mover (λ mover. mover.flagged ≤ number)) }
+{
+    if load_flag(board, seat, entries, number) != DONE {
+        return None;
+    }
+    let _header = load_header(board, seat, entries, number);
+    let frame = clear_flag(board, seat, entries, number).unwrap();
+    acknowledge(board, seat, entries, number);
+    Some(frame)
+}
+
+impl RecvEnd {
+    /// Receives the next frame, if the flag that this call loads says that it has landed: then the flag is cleared,
+    /// the slot is empty and index out names the entry.
+    pub fn recv(&mut self) -> RecvAnswer
+        ensures lane { self.new.lane ≡ self.old.lane }
+        ensures receives { Receives self.old.part result self.new.part }
+        ensures idle { self.new.part.phase ≡ Idle }
+    {
+        let number = self.got;
+        match receive(&self.table.shared, &mut self.seat, self.entries, number) {
+            None => RecvAnswer::Empty,
+            Some(frame) => {
+                self.got = number + 1;
+                RecvAnswer::Got { number, frame }
+            }
+        }
+    }
+}

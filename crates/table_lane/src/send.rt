@@ -1,0 +1,89 @@
+//! The sender's end.
+ghost use Rattle.std.specs.Prelude.{◌≡◌, ◌≢◌, ◌<◌, ◌^◌, ◌≤◌, [], length};
+ghost use Rattle.table_rule.specs.LaneNames.{free_entries};
+ghost use Rattle.table_lane.specs.SendAnswers.{Sends};
+
+use crate::board::{CUT, LaneSeat, LaneTable};
+use crate::steps::{load_index, load_link, post_frame};
+use std::alloc::Global;
+use std::marker::Model;
+use std::sync::Arc;
+use step_kinds::Frame;
+
+/// What came of an attempt to send a frame.
+#[derive(Debug, Drop)]
+pub enum SendAnswer {
+    /// The frame was sent, as the entry with this number, counted from 0.
+    Sent { number: u64 },
+    /// The index word that this call loaded showed no free entry. Here are the frame, the position of the next entry,
+    /// and the index word.
+    NoRoom { frame: Frame, head: u32, tail: u32 },
+    /// The link word that this call loaded showed that the link is cut. Here is the frame.
+    Cut { frame: Frame },
+}
+
+/// The end that sends frames. It never waits and takes no memory.
+///
+/// A contract sees which table it stands at, and what it knows: the frames that were sent, and its loads.
+#[derive(Drop)]
+pub struct SendEnd {
+    pub(crate) table: Arc<LaneTable, Global>,
+    pub(crate) seat: LaneSeat,
+    pub(crate) entries: u64,
+    pub(crate) sent: u64,
+}
+
+impl Model for SendEnd {
+    ghost use Rattle.table_lane.specs.Ends.{Sender};
+
+    ghost Value = { Sender };
+
+    ghost use Rattle.table_lane.specs.EndFields.{sender_of, IsSendEnd};
+
+    ghost view = { sender_of };
+
+    ghost invariant = { IsSendEnd };
+}
+
+// The free entries, as head and index word show them.
+fn free_entries(entries: u64, head: u64, tail: u64) -> u64
+    requires { (head < entries) × (tail < entries) × (entries ≤ 65535) }
+    ensures { result ≡ free_entries entries head tail }
+{
+    if head <= tail {
+        tail - head
+    } else {
+        entries + tail - head
+    }
+}
+
+impl SendEnd {
+    /// Sends a frame of at least one byte, unless the link is cut or the ring has no free entry: then the same frame
+    /// comes back. Fewer than 2^62 frames may have been sent. Each call loads the link word once, and the index word
+    /// once where the link isn't cut; which answer comes is decided by these loads.
+    pub fn send(&mut self, frame: Frame) -> SendAnswer
+        requires byte { frame ≢ [] }
+        requires counted { length self.old.part.sent < 2 ^ 62 }
+        ensures lane { self.new.lane ≡ self.old.lane }
+        ensures sends { Sends self.old.part frame result self.new.part }
+    {
+        let board = &self.table.shared;
+        if load_link(board, &mut self.seat, self.entries) == CUT {
+            return SendAnswer::Cut { frame };
+        }
+        let head = self.sent % self.entries;
+        let tail = load_index(board, &mut self.seat, self.entries);
+        if free_entries(self.entries, head, tail) == 0 {
+            return SendAnswer::NoRoom {
+                frame,
+                head: head as u32,
+                tail: tail as u32,
+            };
+        }
+        let number = self.sent;
+        let _at_most = frame.len();
+        post_frame(board, &mut self.seat, self.entries, number, frame);
+        self.sent = number + 1;
+        SendAnswer::Sent { number }
+    }
+}

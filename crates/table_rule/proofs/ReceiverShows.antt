@@ -1,0 +1,212 @@
+-- The receiver's steps: look at the next entry, copy it whole, clear its flags, acknowledge it.
+use Rattle.std.proofs.Common.{◌≡◌, ℕ, suc, ◌+◌, ◌%◌, ◌^◌, ◌<◌, ◌≤◌, false, List, [], ◌∷◌, ◌++◌, length, map, take, set, get_or, refl, sym, subst, ap, ◌∙◌, inl, inr, arith, length-append, append-nil, nat_lt, replicate}
+use Rattle.std.proofs.lemmas.Bool.{lt-ltb, le-ltb, cases_lt}
+use Rattle.std.proofs.Math.ListN.{get_or-map}
+use Rattle.std.proofs.Math.Seq.{take-suc}
+use mathlib.Core.Option.{some}
+use Rattle.table_rule.specs.LaneNames.{Lane, Slot, blank_slot, slot_of, with_flags, done, PhaseCounts, Idle, Copying, Copied, Cleared, bytes_of, entry_of, flags_of, version_of, Carries, GoesDown, after_look, after_clear, after_ack}
+use Rattle.table_rule.specs.Views.{Bytes}
+use Rattle.table_rule.specs.Borders.{Borders, Slots, empty, out, full, slot_at}
+use Rattle.table_rule.specs.ShownLane.{RingStands, hand_in}
+use Rattle.table_rule.specs.LaneSteps.{Look, Copy, Clear, Acknowledge, Runs}
+use Rattle.table_rule.specs.Kinds.{Looks, Copies, Clears, Acknowledges}
+use Rattle.table_rule.specs.Moment.{Moment, ShowsLane}
+use Rattle.table_rule.proofs.LaneLaws.{chunks_in, look_sees, copy_sees, tail_after}
+use Rattle.table_rule.proofs.LaneRuns.{runs_keep, copy_all}
+use Rattle.table_rule.proofs.Slots.{slot_by, slot_is, moves_past, slot_changes}
+use Rattle.table_rule.proofs.Order.{in_order}
+use Rattle.table_rule.proofs.SenderShows.{borders_in, entry_is_frame}
+use Rattle.table_rule.proofs.MoverShows.{ring_stores_flag}
+
+pub none_long : (xs : List Bytes) → length xs ≡ 0 → xs ≡ []
+none_long [] e = refl
+none_long (x ∷ xs) e = absurd (omega arith)
+
+-- a flag word is the flags of its position
+flag_is : (N : ℕ) (m : Moment) (slots : Slots) (n : ℕ) → ShowsLane N m slots → get_or m.words.flags (n % N) 0 ≡ (slot_of m.lane n).flags
+flag_is N m slots n h =
+    ap (λ (k : ℕ). get_or m.words.flags (n % k) 0) (sym h.of.entries)
+    ∙ ap (λ (fs : List ℕ). get_or fs (n % m.lane.entries) 0) (sym h.ring.raised)
+    ∙ get_or-map (λ (s : Slot). s.flags) m.lane.ring (n % m.lane.entries) blank_slot
+
+-- a landed entry has its flag up
+pub raised : (N : ℕ) (m : Moment) (slots : Slots) (n : ℕ) → n ≡ length m.recv.got → m.recv.phase ≡ Idle → n < m.mover.flagged → ShowsLane N m slots → get_or m.words.flags (n % N) 0 ≡ done
+raised N m slots n is idle below h =
+    let copied = h.parts.copied in
+    let whole = h.parts.whole in
+    let at : m.lane.got ≡ n = copied ∙ sym is in
+    let sees = look_sees m.lane (h.parts.stage ∙ idle) h.law in
+    let stands = sees.an_entry (omega arith) in
+    let o = in_order N m slots h in
+    let within : n < length m.send.sent = omega (arith, o.taken) in
+    let is_frame : entry_of m.lane n ≡ Carries (get_or m.send.sent n []) = ap (λ es. get_or es n GoesDown) h.parts.entries ∙ entry_is_frame m.send.sent n within in
+    flag_is N m slots n h ∙ ap (λ (j : ℕ). (slot_of m.lane j).flags) (sym at) ∙ stands.flags ∙ ap (λ (j : ℕ). flags_of (entry_of m.lane j)) at ∙ ap flags_of is_frame
+
+-- the next frame has landed: its slot goes to the receiver
+pub looks : Looks
+looks N m slots n is idle raised h =
+    let o = in_order N m slots h in
+    let k = borders_in m in
+    let lane : Lane = m.lane in
+    let frame : Bytes = get_or m.send.sent n [] in
+    let copied = h.parts.copied in
+    let whole = h.parts.whole in
+    let lane_idle : lane.phase ≡ Idle = h.parts.stage ∙ idle in
+    let counts : PhaseCounts Idle lane.acked lane.cleared lane.got lane.flagged = subst (λ p. PhaseCounts p lane.acked lane.cleared lane.got lane.flagged) lane_idle h.law.2.receiver.phase_counts in
+    let cleared = counts.1 in
+    let no_hand : length m.recv.hand ≡ 0 = h.receiving.in_hand ∙ ap hand_in idle in
+    let empty_hand : m.recv.hand ≡ [] = none_long m.recv.hand no_hand in
+    let sees = look_sees lane lane_idle h.law in
+    let up : (slot_of lane lane.got).flags ≡ done = ap (λ (j : ℕ). (slot_of lane j).flags) (copied ∙ sym is) ∙ sym (flag_is N m slots n h) ∙ raised in
+    let more : lane.got < lane.flagged = elim (cases_lt lane.got lane.flagged) [
+      | inl landed ↦ landed
+      | inr nothing ↦
+          let one = sees.one_of_both in
+          let down = sees.nothing (omega arith) in
+          absurd (omega arith)
+    ] in
+    let below : n < length m.send.sent = omega (arith, o.taken) in
+    let after : Borders = record k { looked = length m.recv.got + 1 } in
+    let one_more : after.looked ≡ k.looked + 1 = omega arith in
+    let low : m.back.freed ≤ n = omega arith in
+    let l0 : nat_lt n k.cleared ≡ false = le-ltb n k.cleared (omega arith) in
+    let prefix : m.recv.got ++ frame ∷ [] ≡ take (length m.recv.got + 1) m.send.sent =
+    ap (λ gs. gs ++ frame ∷ []) (sym (append-nil m.recv.got) ∙ ap (λ w. m.recv.got ++ w) (sym empty_hand) ∙ h.receiving.prefix ∙ ap (λ (j : ℕ). take j m.send.sent) (let e : length m.recv.got + length m.recv.hand ≡ n = omega arith in e))
+    ∙ sym (take-suc m.send.sent n [] below) ∙ ap (λ (j : ℕ). take j m.send.sent) (let e : suc n ≡ length m.recv.got + 1 = omega arith in e) in
+    let runs : Runs (Look ∷ []) lane (after_look lane) = (after_look lane, (lane_idle, more, refl), refl) in (
+      h.places.at n low (omega arith) ∙ ap some (slot_is k m.send.sent n l0 (le-ltb n k.looked (omega arith)) (lt-ltb n k.flagged (omega arith)) refl refl refl),
+      below,
+      (
+        after_look lane,
+        runs,
+        record {
+          law = runs_keep (Look ∷ []) lane (after_look lane) runs h.law;
+          of = record { entries = h.of.entries; largest = h.of.largest; up = h.of.up; todo = h.of.todo; small = h.of.small };
+          parts = record { entries = h.parts.entries; whole = h.parts.whole; flight = h.parts.flight; copied = h.parts.copied; stage = refl; given_back = h.parts.given_back };
+          posted = h.posted;
+          ring = h.ring;
+          index = h.index;
+          link = h.link;
+          holding = h.holding;
+          receiving = record { prefix = prefix; in_hand = refl };
+          room = h.room;
+          places = slot_changes N k after m.send.sent m.send.sent slots n out (omega (arith, o.two)) h.places refl low (omega arith)
+              (λ j other. ap (λ b. slot_by (nat_lt j k.cleared) b (nat_lt j k.flagged) (nat_lt j k.taken) (nat_lt j k.sent) (nat_lt j k.claimed) (full m.send.sent j))
+              (ap (nat_lt j) one_more ∙ moves_past j k.looked (λ e. other (omega arith))))
+              (slot_is after m.send.sent n l0 (lt-ltb n after.looked (omega arith)) refl refl refl refl);
+        },
+      ),
+    )
+
+-- the header word of the entry that is looked at has its version
+pub version_stands : (N : ℕ) (m : Moment) (slots : Slots) (n : ℕ) → n ≡ length m.recv.got → m.recv.phase ≡ Copying → ShowsLane N m slots → get_or m.words.headers (n % N) 0 % 2 ^ 32 ≡ version_of n
+version_stands N m slots n is copying h =
+    let at : m.lane.got ≡ n = h.parts.copied ∙ sym is in
+    let whole = (copy_sees m.lane (h.parts.stage ∙ copying) h.law).1 in
+    sym (get_or-map (λ (header : ℕ). header % 2 ^ 32) m.words.headers (n % N) 0)
+    ∙ ap (λ (k : ℕ). get_or (map (λ (header : ℕ). header % 2 ^ 32) m.words.headers) (n % k) 0) (sym h.of.entries)
+    ∙ ap (λ (vs : List ℕ). get_or vs (n % m.lane.entries) 0) (sym h.ring.versions)
+    ∙ get_or-map (λ (s : Slot). s.ver) m.lane.ring (n % m.lane.entries) blank_slot
+    ∙ ap (λ (j : ℕ). (slot_of m.lane j).ver) (sym at) ∙ whole.ver ∙ ap version_of at
+
+-- the frame in hand is received
+pub copies : Copies
+copies N m slots copying h =
+    let lane : Lane = m.lane in
+    let lane_copying : lane.phase ≡ Copying = h.parts.stage ∙ copying in
+    let chunks : ℕ = chunks_in (length (bytes_of (entry_of lane lane.got))) in
+    let all = copy_all chunks lane lane_copying (omega arith) in
+    let next : Lane = record lane { part = all.1; got = lane.got + 1; phase = Copied } in
+    let one : length m.recv.hand ≡ 1 = h.receiving.in_hand ∙ ap hand_in copying in
+    let long : length (m.recv.got ++ m.recv.hand) ≡ length m.recv.got + length m.recv.hand = length-append m.recv.got m.recv.hand in
+    let copied = h.parts.copied in
+    let same : length (m.recv.got ++ m.recv.hand) + 0 ≡ length m.recv.got + length m.recv.hand = omega arith in (
+      all.0,
+      next,
+      all.2,
+      record {
+        law = runs_keep (Copy ∷ replicate all.0 Copy) lane next all.2 h.law;
+        of = record { entries = h.of.entries; largest = h.of.largest; up = h.of.up; todo = h.of.todo; small = h.of.small };
+        parts = record { entries = h.parts.entries; whole = h.parts.whole; flight = h.parts.flight; copied = omega arith; stage = refl; given_back = h.parts.given_back };
+        posted = h.posted;
+        ring = h.ring;
+        index = h.index;
+        link = h.link;
+        holding = h.holding;
+        receiving = record { prefix = append-nil (m.recv.got ++ m.recv.hand) ∙ h.receiving.prefix ∙ ap (λ (j : ℕ). take j m.send.sent) (sym same); in_hand = refl };
+        room = h.room;
+        places = record { count = h.places.count; at = λ n low high. h.places.at n low high ∙ ap (λ (j : ℕ). some (slot_at (record (borders_in m) { looked = j }) m.send.sent n)) (sym same) };
+      },
+    )
+
+-- the flags are cleared, and the slot is at home and empty
+pub clears : Clears
+clears N m slots n is copied_phase h =
+    let o = in_order N m slots h in
+    let k = borders_in m in
+    let lane : Lane = m.lane in
+    let lane_copied : lane.phase ≡ Copied = h.parts.stage ∙ copied_phase in
+    let counts : PhaseCounts Copied lane.acked lane.cleared lane.got lane.flagged = subst (λ p. PhaseCounts p lane.acked lane.cleared lane.got lane.flagged) lane_copied h.law.2.receiver.phase_counts in
+    let copied = h.parts.copied in
+    let cleared_one : lane.cleared + 1 ≡ lane.got = counts.1 in
+    let same : lane.cleared ≡ n = omega arith in
+    let next : Lane = after_clear lane in
+    let slot : Slot = with_flags (slot_of lane lane.cleared) 0 in
+    let after : Borders = record k { cleared = lane.cleared + 1 } in
+    let ring : RingStands next.ring m.words.headers (set m.words.flags (lane.cleared % lane.entries) 0) =
+    ring_stores_flag lane.ring m.words.headers m.words.flags (lane.cleared % lane.entries) slot 0 refl refl h.ring in
+    let runs : Runs (Clear ∷ []) lane next = (next, (lane_copied, refl), refl) in (
+      next,
+      runs,
+      record {
+        law = runs_keep (Clear ∷ []) lane next runs h.law;
+        of = record { entries = h.of.entries; largest = h.of.largest; up = h.of.up; todo = h.of.todo; small = h.of.small };
+        parts = record { entries = h.parts.entries; whole = h.parts.whole; flight = h.parts.flight; copied = h.parts.copied; stage = refl; given_back = h.parts.given_back };
+        posted = h.posted;
+        ring = subst (λ (p : ℕ × ℕ). RingStands next.ring m.words.headers (set m.words.flags (p.0 % p.1) 0)) (λ i. (same i, h.of.entries i)) ring;
+        index = h.index;
+        link = h.link;
+        holding = h.holding;
+        receiving = record { prefix = h.receiving.prefix; in_hand = h.receiving.in_hand ∙ ap hand_in copied_phase };
+        room = h.room;
+        places = slot_changes N k after m.send.sent m.send.sent slots n empty (omega (arith, o.two)) h.places refl (omega arith) (omega arith)
+            (λ j other. ap (λ b. slot_by b (nat_lt j k.looked) (nat_lt j k.flagged) (nat_lt j k.taken) (nat_lt j k.sent) (nat_lt j k.claimed) (full m.send.sent j))
+            (moves_past j lane.cleared (λ e. other (e ∙ same))))
+            (slot_is after m.send.sent n (lt-ltb n after.cleared (omega arith)) refl refl refl refl refl);
+      },
+    )
+
+-- index out names the entry
+pub acks : Acknowledges
+acks N m slots n is cleared_phase h =
+    let o = in_order N m slots h in
+    let lane : Lane = m.lane in
+    let lane_cleared : lane.phase ≡ Cleared = h.parts.stage ∙ cleared_phase in
+    let counts : PhaseCounts Cleared lane.acked lane.cleared lane.got lane.flagged = subst (λ p. PhaseCounts p lane.acked lane.cleared lane.got lane.flagged) lane_cleared h.law.2.receiver.phase_counts in
+    let copied = h.parts.copied in
+    let acked_one : lane.acked + 1 ≡ lane.cleared = counts.0 in
+    let cleared_all : lane.cleared ≡ lane.got = counts.1 in
+    let same : n ≡ lane.acked = omega arith in
+    let next : Lane = after_ack lane in
+    let runs : Runs (Acknowledge ∷ []) lane next = (next, (lane_cleared, refl), refl) in (
+      next,
+      runs,
+      record {
+        law = runs_keep (Acknowledge ∷ []) lane next runs h.law;
+        of = record { entries = h.of.entries; largest = h.of.largest; up = h.of.up; todo = h.of.todo; small = h.of.small };
+        parts = record { entries = h.parts.entries; whole = h.parts.whole; flight = h.parts.flight; copied = h.parts.copied; stage = refl; given_back = h.parts.given_back };
+        posted = h.posted;
+        ring = h.ring;
+        index = record {
+          outward = ap (λ (j : ℕ). j % N) same ∙ tail_after N lane.acked o.two;
+          homeward = h.index.homeward;
+          position = h.index.position;
+          last_load = elim h.index.last_load [ inl old ↦ inl old | inr new ↦ inr (omega arith) ];
+        };
+        link = h.link;
+        holding = h.holding;
+        receiving = record { prefix = h.receiving.prefix; in_hand = h.receiving.in_hand ∙ ap hand_in cleared_phase };
+        room = h.room;
+        places = h.places;
+      },
+    )

@@ -1,0 +1,206 @@
+-- Seats that are cut in two and joined keep the rule, and so does the table at the start.
+use Rattle.std.proofs.Common.{◌≡◌, ℕ, zero, suc, ◌+◌, ◌-◌, ◌%◌, ◌^◌, ◌<◌, ◌≤◌, true, false, List, [], ◌∷◌, length, map, refl, sym, ap, ◌∙◌, inl, inr, arith, mod-lt, None, replicate}
+use Rattle.std.proofs.lemmas.Bool.{le-ltb}
+use Rattle.std.proofs.lemmas.List.{length-replicate, get_or-replicate}
+use mathlib.Core.Option.{some, none}
+use mathlib.Core.Option as home
+use lib.ListN.{get_elem?}
+use Rattle.atomic_table.specs.Table.{Splits, Joins, opening}
+use Rattle.table_rule.specs.LaneNames.{Lane, Slot, blank_slot, Idle, tail_of}
+use Rattle.table_rule.specs.Words.{words_of, first_words}
+use Rattle.table_rule.specs.Views.{LaneView, joined, no_parts, without_mover, mover_alone, without_recv, recv_alone, without_back, back_alone, without_cut, cut_alone, all_parts, new_send, new_move, new_recv, new_back, new_cut}
+use Rattle.table_rule.specs.ShownLane.{borders_of}
+use Rattle.table_rule.specs.Moment.{Moment, ShowsLane}
+use Rattle.table_rule.specs.Rule.{Content, ShowsALane}
+use Rattle.table_rule.proofs.LaneLaws.{IsFresh, fresh_holds}
+use Rattle.table_rule.proofs.Seats.{part_splits, part_joins}
+use Rattle.table_rule.proofs.Slots.{slot_is}
+
+pub mover_splits : (N id : ℕ) (view : LaneView) → Splits (ShowsALane N) id view (without_mover view) (mover_alone view)
+mover_splits N id view board h at = (
+  h.0,
+  record {
+    words = h.1.words;
+    sized = h.1.sized;
+    seats = record {
+      send = part_splits (λ v. v.send) board.views id view (without_mover view) (mover_alone view) h.0.send at h.1.seats.send (inl (refl, refl));
+      mover = part_splits (λ v. v.mover) board.views id view (without_mover view) (mover_alone view) h.0.mover at h.1.seats.mover (inr (refl, refl));
+      recv = part_splits (λ v. v.recv) board.views id view (without_mover view) (mover_alone view) h.0.recv at h.1.seats.recv (inl (refl, refl));
+      back = part_splits (λ v. v.back) board.views id view (without_mover view) (mover_alone view) h.0.back at h.1.seats.back (inl (refl, refl));
+      cut = part_splits (λ v. v.cut) board.views id view (without_mover view) (mover_alone view) h.0.cut at h.1.seats.cut (inl (refl, refl));
+    };
+    knows = h.1.knows;
+    shows = h.1.shows;
+  },
+)
+
+pub recv_splits : (N id : ℕ) (view : LaneView) → Splits (ShowsALane N) id view (without_recv view) (recv_alone view)
+recv_splits N id view board h at = (
+  h.0,
+  record {
+    words = h.1.words;
+    sized = h.1.sized;
+    seats = record {
+      send = part_splits (λ v. v.send) board.views id view (without_recv view) (recv_alone view) h.0.send at h.1.seats.send (inl (refl, refl));
+      mover = part_splits (λ v. v.mover) board.views id view (without_recv view) (recv_alone view) h.0.mover at h.1.seats.mover (inl (refl, refl));
+      recv = part_splits (λ v. v.recv) board.views id view (without_recv view) (recv_alone view) h.0.recv at h.1.seats.recv (inr (refl, refl));
+      back = part_splits (λ v. v.back) board.views id view (without_recv view) (recv_alone view) h.0.back at h.1.seats.back (inl (refl, refl));
+      cut = part_splits (λ v. v.cut) board.views id view (without_recv view) (recv_alone view) h.0.cut at h.1.seats.cut (inl (refl, refl));
+    };
+    knows = h.1.knows;
+    shows = h.1.shows;
+  },
+)
+
+pub back_splits : (N id : ℕ) (view : LaneView) → Splits (ShowsALane N) id view (without_back view) (back_alone view)
+back_splits N id view board h at = (
+  h.0,
+  record {
+    words = h.1.words;
+    sized = h.1.sized;
+    seats = record {
+      send = part_splits (λ v. v.send) board.views id view (without_back view) (back_alone view) h.0.send at h.1.seats.send (inl (refl, refl));
+      mover = part_splits (λ v. v.mover) board.views id view (without_back view) (back_alone view) h.0.mover at h.1.seats.mover (inl (refl, refl));
+      recv = part_splits (λ v. v.recv) board.views id view (without_back view) (back_alone view) h.0.recv at h.1.seats.recv (inl (refl, refl));
+      back = part_splits (λ v. v.back) board.views id view (without_back view) (back_alone view) h.0.back at h.1.seats.back (inr (refl, refl));
+      cut = part_splits (λ v. v.cut) board.views id view (without_back view) (back_alone view) h.0.cut at h.1.seats.cut (inl (refl, refl));
+    };
+    knows = h.1.knows;
+    shows = h.1.shows;
+  },
+)
+
+pub cut_splits : (N id : ℕ) (view : LaneView) → Splits (ShowsALane N) id view (without_cut view) (cut_alone view)
+cut_splits N id view board h at = (
+  h.0,
+  record {
+    words = h.1.words;
+    sized = h.1.sized;
+    seats = record {
+      send = part_splits (λ v. v.send) board.views id view (without_cut view) (cut_alone view) h.0.send at h.1.seats.send (inl (refl, refl));
+      mover = part_splits (λ v. v.mover) board.views id view (without_cut view) (cut_alone view) h.0.mover at h.1.seats.mover (inl (refl, refl));
+      recv = part_splits (λ v. v.recv) board.views id view (without_cut view) (cut_alone view) h.0.recv at h.1.seats.recv (inl (refl, refl));
+      back = part_splits (λ v. v.back) board.views id view (without_cut view) (cut_alone view) h.0.back at h.1.seats.back (inl (refl, refl));
+      cut = part_splits (λ v. v.cut) board.views id view (without_cut view) (cut_alone view) h.0.cut at h.1.seats.cut (inr (refl, refl));
+    };
+    knows = h.1.knows;
+    shows = h.1.shows;
+  },
+)
+
+pub seats_join : (N id : ℕ) (view : LaneView) (other : ℕ) (second : LaneView) → Joins (ShowsALane N) id view other second (joined view second) no_parts
+seats_join N id view other second board h at apart at_other = (
+  h.0,
+  record {
+    words = h.1.words;
+    sized = h.1.sized;
+    seats = record {
+      send = part_joins (λ v. v.send) board.views id other view second (joined view second) h.0.send at apart at_other refl refl h.1.seats.send;
+      mover = part_joins (λ v. v.mover) board.views id other view second (joined view second) h.0.mover at apart at_other refl refl h.1.seats.mover;
+      recv = part_joins (λ v. v.recv) board.views id other view second (joined view second) h.0.recv at apart at_other refl refl h.1.seats.recv;
+      back = part_joins (λ v. v.back) board.views id other view second (joined view second) h.0.back at apart at_other refl refl h.1.seats.back;
+      cut = part_joins (λ v. v.cut) board.views id other view second (joined view second) h.0.cut at apart at_other refl refl h.1.seats.cut;
+    };
+    knows = h.1.knows;
+    shows = h.1.shows;
+  },
+)
+
+map-replicate : {A B : Type 0} (f : A → B) (n : ℕ) (x : A) → map f (replicate n x) ≡ replicate n (f x)
+map-replicate f zero x = refl
+map-replicate f (suc n) x = ap (λ ys. f x ∷ ys) (map-replicate f n x)
+
+at-home : (n k : ℕ) (x : Content) → k < n → get_elem? (map some (replicate n x)) k ≡ some (some x)
+at-home zero k x below = absurd (omega arith)
+at-home (suc n) zero x below = refl
+at-home (suc n) (suc k) x below = at-home n k x (omega arith)
+
+-- some payload of this length
+some_payload : (n : ℕ) → (payload : List ℕ) × (length payload ≡ n)
+some_payload n = (replicate n 0, length-replicate n 0)
+
+abbrev new_slot : List ℕ → Slot
+new_slot payload = record { payload = payload; len = 0; ver = 0; flags = 0 }
+
+abbrev new_lane : ℕ → List ℕ → Lane
+new_lane N payload = record {
+  entries = N;
+  largest = 65536;
+  up = true;
+  sent = [];
+  todo = [];
+  flight = [];
+  returning = [];
+  ring = replicate N (new_slot payload);
+  index_word = tail_of N 0;
+  flagged = 0;
+  got = 0;
+  cleared = 0;
+  acked = 0;
+  freed = 0;
+  phase = Idle;
+  part = 0;
+}
+
+abbrev new_moment : ℕ → List ℕ → Moment
+new_moment N payload = record { words = first_words N; lane = new_lane N payload; send = new_send N; mover = new_move N; recv = new_recv N; back = new_back N; cut = new_cut N }
+
+is_fresh : (N : ℕ) (payload : List ℕ) → 2 ≤ N → length payload ≡ 65536 → IsFresh (new_lane N payload)
+is_fresh N payload two long = record {
+  two_entries = two;
+  slots = length-replicate N (new_slot payload);
+  rooms = λ k below. ap (λ (s : Slot). length s.payload) (get_or-replicate N (k % N) (new_slot payload) blank_slot (mod-lt k (omega arith))) ∙ long;
+  no_flags = λ k. ap (λ (s : Slot). s.flags) (get_or-replicate N (k % N) (new_slot payload) blank_slot (mod-lt k (omega arith)));
+  index_word = refl;
+  sent = refl;
+  todo = refl;
+  flight = refl;
+  returning = refl;
+  flagged = refl;
+  got = refl;
+  cleared = refl;
+  acked = refl;
+  freed = refl;
+  phase = refl;
+}
+
+new_shows : (N : ℕ) (payload : List ℕ) → 2 ≤ N → N ≤ 65535 → length payload ≡ 65536 → ShowsLane N (new_moment N payload) (map some (replicate N None))
+new_shows N payload two small long = record {
+  law = fresh_holds (new_lane N payload) (is_fresh N payload two long);
+  of = record { entries = refl; largest = refl; up = refl; todo = refl; small = small };
+  parts = record { entries = refl; whole = refl; flight = refl; copied = refl; stage = refl; given_back = refl };
+  posted = record { newest = λ n below near. absurd (omega arith); never = λ position past below. get_or-replicate N position 0 0 below };
+  ring = record {
+    versions = map-replicate (λ (s : Slot). s.ver) N (new_slot payload) ∙ sym (map-replicate (λ (header : ℕ). header % 2 ^ 32) N 0);
+    raised = map-replicate (λ (s : Slot). s.flags) N (new_slot payload);
+  };
+  index = record { outward = refl; homeward = refl; position = mod-lt (0 + N - 1) (omega arith); last_load = inl refl };
+  link = refl;
+  holding = record { frames = λ k below. absurd (omega arith); within = omega arith; marks = refl };
+  receiving = record { prefix = refl; in_hand = refl };
+  room = record { one_free = omega arith; counted = omega arith };
+  places = record {
+    count = length_homes N;
+    at = λ n low high.
+        at-home N (n % N) None (mod-lt n (omega arith))
+        ∙ ap some (sym (slot_is (borders_of 0 0 0 0 0 0 false) [] n (le-ltb n 0 (omega arith)) (le-ltb n 0 (omega arith)) (le-ltb n 0 (omega arith)) (le-ltb n 0 (omega arith)) (le-ltb n 0 (omega arith)) (le-ltb n 0 (omega arith))));
+  };
+}
+  where
+    length_homes : (n : ℕ) → length (map {B = home.Option Content} some (replicate n None)) ≡ n
+    length_homes zero = refl
+    length_homes (suc n) = ap suc (length_homes n)
+
+-- a new table shows a fresh lane
+pub opens : (N : ℕ) → 2 ≤ N → N ≤ 65535 → ShowsALane N (opening (words_of (first_words N)) (replicate N None) (all_parts N))
+opens N two small =
+    let payload = some_payload 65536 in (
+      new_moment N payload.0,
+      record {
+        words = refl;
+        sized = record { posted = length-replicate N 0; headers = length-replicate N 0; flags = length-replicate N 0 };
+        seats = record { send = refl; mover = refl; recv = refl; back = refl; cut = refl };
+        knows = record { send = refl; mover = refl; recv = refl; back = refl; cut = refl };
+        shows = new_shows N payload.0 two small payload.1;
+      },
+    )

@@ -1,0 +1,12 @@
+pub mod Borders
+pub mod Kinds
+pub mod Knowledge
+pub mod LaneNames
+pub mod LaneSteps
+pub mod Moment
+pub mod Owners
+pub mod Plays
+pub mod Rule
+pub mod ShownLane
+pub mod Views
+pub mod Words

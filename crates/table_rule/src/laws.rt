@@ -1,0 +1,42 @@
+//! What holds of every table that shows a lane, each the clause of a function with an empty body.
+
+ghost use Rattle.table_rule.specs.Owners.{OwnersHaveSlots};
+ghost use Rattle.table_rule.specs.Kinds.{Claims, Sends, Takes, StoresHeader, StoresFlag, Looks, Copies, Clears, Acknowledges, LoadsIndex, StoresIndex, Cuts};
+
+/// Each slot has one owner, that of its entry in the lane that the table shows, and is where that owner has it.
+pub fn slots_are_with_their_owners()
+    ensures { OwnersHaveSlots }
+{}
+
+/// Each step of the sender on the table is its steps of the lane, which the table then shows: none where the slot of
+/// the next entry goes to the sender, and the entry begun with all its writes posted where its posted header is
+/// stored.
+pub fn sender_steps_are_of_the_lane()
+    ensures claims { Claims }
+    ensures sends { Sends }
+{}
+
+/// The same of the mover: none where a slot goes to it, the fields of an entry land with its header, and the flags
+/// and the doorbell with its flag.
+pub fn mover_steps_are_of_the_lane()
+    ensures takes { Takes }
+    ensures stores_header { StoresHeader }
+    ensures stores_flag { StoresFlag }
+{}
+
+/// The same of the receiver: it looks with the slot, copies all parts with the header, clears with the flag, and
+/// acknowledges with index out.
+pub fn receiver_steps_are_of_the_lane()
+    ensures looks { Looks }
+    ensures copies { Copies }
+    ensures clears { Clears }
+    ensures acknowledges { Acknowledges }
+{}
+
+/// The same of the way back, with which all index writes land up to the one that it loaded, and of the cut, which is
+/// no step of the lane.
+pub fn other_steps_are_of_the_lane()
+    ensures loads_index { LoadsIndex }
+    ensures stores_index { StoresIndex }
+    ensures cuts { Cuts }
+{}
