@@ -21,15 +21,19 @@ use Rattle.ledger_model.specs.Link.{is_up, is_down}
 use Rattle.ledger_model.specs.Log.{Answered}
 use Rattle.ledger_model.specs.Receiving.{is_idle, is_copying, is_copied, is_cleared}
 use Rattle.order_rules.specs.Order.{strict}
-use Rattle.plan_model.specs.Orders.{order_of}
+use Rattle.plan_model.specs.Orders.{kind_of, order_of}
 use Rattle.ledger_laws.proofs.AtStart.{down-not_up}
 use Rattle.ledger_laws.proofs.BitSets.{has-with_kept, has-with_same, stays_pending}
 use Rattle.ledger_laws.proofs.InFlight.{filter_map-last, filter_map-remove, lands_first, posted_unread, posted_up, EmptyOf}
-use Rattle.ledger_laws.proofs.Labels.{write_of-label, flag_strict, bell_strict}
+use Rattle.ledger_laws.proofs.Labels.{write_of-label, flag_strict, bell_strict, ReadsOneClass, writes_one_class}
+use Rattle.std.proofs.lemmas.Option.{none-some}
+use Rattle.plan_model.specs.Plans.{pair_plan}
+use Rattle.step_kinds.specs.declared.names.Side.{Side}
+use Rattle.step_kinds.specs.declared.plan.PairPlan.{PairPlan}
 use Rattle.ledger_laws.proofs.Offers.{pad-write}
 use Rattle.ledger_laws.proofs.walk.Sight.{Sight, Sender, Receiver, flight_with}
 use Rattle.ledger_laws.proofs.walk.News.{News}
-use Rattle.ledger_laws.proofs.walk.Turn.{Turn, Rests, FindsNone, Trains, Breaks, Drops, Forgets, Offers, Readies, Begins, Closes, Posts, Shuts, Says, LandsFlag, LandsField, LandsBell, LandsPad, LandsAside, Looks, CopiesLast, Clears, Acks, TakesBells, MayLand}
+use Rattle.ledger_laws.proofs.walk.Turn.{Turn, Rests, FindsNone, Trains, Breaks, Drops, Forgets, Offers, Readies, Begins, Closes, Posts, Shuts, Says, LandsFlag, LandsField, LandsBell, LandsPad, LandsAside, Looks, CopiesEntry, CopiesLast, Clears, Acks, TakesBells, MayLand, PostsNext, Strays, picked, IsRaw}
 
 -- The ticks of writes: true for the flags of an entry, false for its doorbell
 
@@ -126,14 +130,23 @@ ticks_posted q s label rest up next =
 ticks_said : (q : ℕ) (s : Sight) (label : Label) → write_of q label ≡ None → ticks_of q (flight_with s.state s.sender.flight label) ++ ticks_of q s.lane.todo ≡ left_of q s
 ticks_said q s label foreign = ap (λ ticks. ticks ++ ticks_of q s.lane.todo) (posted_unread (tick_of q) s.state s.sender.flight label (ap tick foreign))
 
-ticks_without : (q : ℕ) {strict_pair : Bool} (s : Sight) (place : ℕ) (label : Label) → MayLand strict_pair s Sender place label → tick_of q label ≡ None
+ticks_without : (q : ℕ) {own : PairPlan} {side : Side} (s : Sight) (place : ℕ) (label : Label) → MayLand own side s Sender place label → tick_of q label ≡ None
     → ticks_of q (remove s.sender.flight place) ++ ticks_of q s.lane.todo ≡ left_of q s
 ticks_without q s place label may none = ap (λ ticks. ticks ++ ticks_of q s.lane.todo) (filter_map-remove (tick_of q) s.sender.flight place label may.there none)
 
 -- a tick lands
-ticks_first : (q : ℕ) (strict_pair : Bool) (s : Sight) (place : ℕ) (label : Label) (b : Bool) → MayLand strict_pair s Sender place label → order_of strict_pair label ≡ strict → tick_of q label ≡ Some b
-    → left_of q s ≡ b ∷ (ticks_of q (remove s.sender.flight place) ++ ticks_of q s.lane.todo)
-ticks_first q strict_pair s place label b may is some = ap (λ ticks. ticks ++ ticks_of q s.lane.todo) (lands_first (tick_of q) strict_pair s Sender place label b may is some)
+ticks_one_class : (own : PairPlan) (side : Side) (q : ℕ) (label : Label) (write : Write) → write_of q label ≡ Some write → ReadsOneClass (tick_of q) own side label
+ticks_one_class own side q label write is other y some = go (write_of q other) refl
+  where
+    go : (o : Option Write) → write_of q other ≡ o → (order_of own side other).class ≡ (order_of own side label).class
+    go None e = absurd (none-some y (sym (ap tick e) ∙ some))
+    go (Some w) e = writes_one_class own side q label write is other w e
+
+ticks_first : (q : ℕ) (own : PairPlan) (side : Side) (s : Sight) (place : ℕ) (label : Label) (write : Write) (b : Bool) → MayLand own side s Sender place label → kind_of own.strict label ≡ strict
+    → write_of q label ≡ Some write → tick (Some write) ≡ Some b → left_of q s ≡ b ∷ (ticks_of q (remove s.sender.flight place) ++ ticks_of q s.lane.todo)
+ticks_first q own side s place label write b may is some ticks =
+    ap (λ found. found ++ ticks_of q s.lane.todo)
+    (lands_first (tick_of q) own side label is (ticks_one_class own side q label write some) s Sender place b may (ap tick some ∙ ticks))
 
 flag_first : (ringing : Bool) (left : ℕ) (rest : List Bool) → true ∷ rest ≡ ringing_rounds ringing left → (m : ℕ) × (rest ≡ false ∷ rounds m) × (left ≡ suc m)
 flag_first true left rest e = absurd (cc)
@@ -160,35 +173,38 @@ own_bell q = ap tick (cond-true (q == q) (Some QueueBell) None (eq-eqb q q refl)
 other_bell : (q queue : ℕ) → (q ≡ queue → ⊥) → tick_of q (Bell queue) ≡ None
 other_bell q queue ne = ap tick (cond-false (queue == q) (Some QueueBell) None (ne_eqb queue q (λ e. ne (sym e))))
 
-bell_lands : (q queue : ℕ) {strict_pair : Bool} (s : Sight) (place : ℕ) → MayLand strict_pair s Sender place (Bell queue) → (q ≡ queue) ⊎ (q ≡ queue → ⊥) → LinedOf q s
+bell_lands : (q queue : ℕ) {own : PairPlan} {side : Side} (s : Sight) (place : ℕ) → MayLand own side s Sender place (Bell queue) → (q ≡ queue) ⊎ (q ≡ queue → ⊥) → LinedOf q s
     → IsLined (ticks_of q (remove s.sender.flight place) ++ ticks_of q s.lane.todo) s.lane.flagged (length s.lane.sent)
-bell_lands q queue {strict_pair} s place may (inl e) h =
-    bell_lined (left_of q s) _ _ _ (ticks_first q strict_pair s place (Bell queue) false may (bell_strict strict_pair queue) (ap (λ k. tick_of q (Bell k)) (sym e) ∙ own_bell q)) h
+bell_lands q queue {own} {side} s place may (inl e) h =
+    bell_lined (left_of q s) _ _ _ (ticks_first q own side s place (Bell queue) QueueBell false may (bell_strict own.strict queue) (cond-true (queue == q) (Some QueueBell) None (eq-eqb queue q (sym e))) refl) h
 bell_lands q queue s place may (inr ne) h = lined_by (left_of q s) _ _ _ (ticks_without q s place (Bell queue) may (other_bell q queue ne)) h
 
 -- nothing of a session that is over
 over : (s : Sight) {X : Type 0} → is_down s.state ≡ true → is_up s.state ≡ true → X
 over s down up = absurd (both_ways (is_up s.state) (down-not_up s.state down) up)
 
-pub lined_kept : (plan : Plan) (lane : LaneName) (s : Sight) (made : Answered) (news : News) (t : Sight) → Turn plan lane s made news t → EmptyOf s
+pub lined_kept : (plan : Plan) (lane : LaneName) (s : Sight) (made : Answered) (news : News) (t : Sight) → IsRaw plan lane ≡ false → Turn plan lane s made news t → EmptyOf s
     → (is_up s.state ≡ true → LinedOf lane.queue s) → is_up t.state ≡ true → LinedOf lane.queue t
-lined_kept plan lane s made news t (Trains may) empty h up = record { ringing = false; left = 0; is = ap (λ flight. ticks_of lane.queue flight ++ []) (empty may.down).0; count = refl }
-lined_kept plan lane s made news t (Breaks may) empty h up = absurd (false≢true up)
-lined_kept plan lane s made news t (Drops may) empty h up = absurd (false≢true up)
-lined_kept plan lane s made news t (Forgets e may) empty h up = over s may.down up
-lined_kept plan lane s made news t (Offers Sender label may) empty h up = lined_by _ _ _ _ (ticks_said lane.queue s label (pad-write lane.queue label may.a_pad)) (h up)
-lined_kept plan lane s made news t (Readies Sender queue may) empty h up = lined_by _ _ _ _ (ticks_said lane.queue s _ refl) (h up)
-lined_kept plan lane s made news t (Begins bytes may) empty h up = lined_begun lane.queue s (Carries bytes) may.not_busy (h up)
-lined_kept plan lane s made news t (Closes may) empty h up = lined_begun lane.queue s GoesDown may.not_busy (h up)
-lined_kept plan lane s made news t (Posts label rest may) empty h up = lined_by _ _ _ _ (ticks_posted lane.queue s label rest up may.next) (h up)
-lined_kept plan lane s made news t (Says Sender label may) empty h up = lined_by _ _ _ _ (ticks_said lane.queue s label may.foreign) (h up)
-lined_kept plan lane s made news t (LandsFlag place label n may) empty h up =
-    (flag_lined _ _ _ _ (ticks_first lane.queue _ s place label true may.land (flag_strict lane.queue _ label n may.is) (ap tick may.is)) (h up)).1
-lined_kept plan lane s made news t (LandsField place label n field may) empty h up = lined_by _ _ _ _ (ticks_without lane.queue s place label may.land (ap tick may.is)) (h up)
-lined_kept plan lane s made news t (LandsBell Sender place queue may) empty h up = bell_lands lane.queue queue s place may (cases_eq lane.queue queue) (h up)
-lined_kept plan lane s made news t (LandsPad Sender place i value may) empty h up = lined_by _ _ _ _ (ticks_without lane.queue s place (Pad i value) may refl) (h up)
-lined_kept plan lane s made news t (LandsAside Sender place label may) empty h up = lined_by _ _ _ _ (ticks_without lane.queue s place label may.land (ap tick may.foreign)) (h up)
-lined_kept plan lane s made news t turn empty h up = h up
+lined_kept plan lane s made news t no_raw (Trains may) empty h up = record { ringing = false; left = 0; is = ap (λ flight. ticks_of lane.queue flight ++ []) (empty may.down).0; count = refl }
+lined_kept plan lane s made news t no_raw (Breaks may) empty h up = absurd (false≢true up)
+lined_kept plan lane s made news t no_raw (Drops may) empty h up = absurd (false≢true up)
+lined_kept plan lane s made news t no_raw (Forgets e may) empty h up = over s may.down up
+lined_kept plan lane s made news t no_raw (Offers Sender label may) empty h up = lined_by _ _ _ _ (ticks_said lane.queue s label (pad-write lane.queue label may.a_pad)) (h up)
+lined_kept plan lane s made news t no_raw (Readies Sender queue may) empty h up = lined_by _ _ _ _ (ticks_said lane.queue s _ refl) (h up)
+lined_kept plan lane s made news t no_raw (Begins bytes first others may cut) empty h up = lined_begun lane.queue s first may.not_busy (h up)
+lined_kept plan lane s made news t no_raw (Closes may) empty h up = lined_begun lane.queue s GoesDown may.not_busy (h up)
+lined_kept plan lane s made news t no_raw (Posts label rest may) empty h up = lined_by _ _ _ _ (ticks_posted lane.queue s label rest up may.next) (h up)
+lined_kept plan lane s made news t no_raw (PostsNext entry others label rest may) empty h up =
+    lined_by _ _ _ _ (ticks_posted lane.queue (record s { lane = picked lane.queue s.lane entry others }) label rest up may.next) (lined_begun lane.queue s entry may.idle (h up))
+lined_kept plan lane s made news t no_raw (Strays after may) empty h up = absurd (both_ways (IsRaw plan lane) no_raw may.raw_pair)
+lined_kept plan lane s made news t no_raw (Says Sender label may) empty h up = lined_by _ _ _ _ (ticks_said lane.queue s label may.foreign) (h up)
+lined_kept plan lane s made news t no_raw (LandsFlag place label n may) empty h up =
+    (flag_lined _ _ _ _ (ticks_first lane.queue (pair_plan plan lane.pair) lane.from s place label (EntryFlag n) true may.land (flag_strict lane.queue (pair_plan plan lane.pair).strict label n may.is) may.is refl) (h up)).1
+lined_kept plan lane s made news t no_raw (LandsField place label n field may) empty h up = lined_by _ _ _ _ (ticks_without lane.queue s place label may.land (ap tick may.is)) (h up)
+lined_kept plan lane s made news t no_raw (LandsBell Sender place queue may) empty h up = bell_lands lane.queue queue s place may (cases_eq lane.queue queue) (h up)
+lined_kept plan lane s made news t no_raw (LandsPad Sender place i value may) empty h up = lined_by _ _ _ _ (ticks_without lane.queue s place (Pad i value) may refl) (h up)
+lined_kept plan lane s made news t no_raw (LandsAside Sender place label may) empty h up = lined_by _ _ _ _ (ticks_without lane.queue s place label may.land (ap tick may.foreign)) (h up)
+lined_kept plan lane s made news t no_raw turn empty h up = h up
 
 -- A receiver that saw nothing
 
@@ -230,42 +246,46 @@ still_saw : (looked saw : Bool) → (if looked then false else saw) ≡ true →
 still_saw true saw e = absurd (false≢true e)
 still_saw false saw e = e
 
-watched_rung : (q queue : ℕ) {strict_pair : Bool} (s : Sight) (place : ℕ) → MayLand strict_pair s Sender place (Bell queue) → (q ≡ queue) ⊎ (q ≡ queue → ⊥) → WatchedOf q s
+watched_rung : (q queue : ℕ) {own : PairPlan} {side : Side} (s : Sight) (place : ℕ) → MayLand own side s Sender place (Bell queue) → (q ≡ queue) ⊎ (q ≡ queue → ⊥) → WatchedOf q s
     → IsWatched (ticks_of q (remove s.sender.flight place) ++ ticks_of q s.lane.todo) (has_bit (with_bit s.receiver.pending queue) q) s.lane.flagged s.lane.got s.lane.phase
 watched_rung q queue s place may (inl e) h = record { idle = h.idle; why = inr (inl (ap (λ k. has_bit (with_bit s.receiver.pending k) q) (sym e) ∙ has-with_same s.receiver.pending q)) }
 watched_rung q queue s place may (inr ne) h =
     watched_by (left_of q s) _ _ _ _ _ _ (λ rest is. (rest, ticks_without q s place (Bell queue) may (other_bell q queue ne) ∙ is)) (has-with_kept s.receiver.pending q queue) h
 
-pub watched_kept : (plan : Plan) (lane : LaneName) (s : Sight) (made : Answered) (news : News) (t : Sight) → Turn plan lane s made news t → (news.starts ≡ false) → (saw : Bool)
+pub watched_kept : (plan : Plan) (lane : LaneName) (s : Sight) (made : Answered) (news : News) (t : Sight) → IsRaw plan lane ≡ false → Turn plan lane s made news t → (news.starts ≡ false) → (saw : Bool)
     → (is_up s.state ≡ true → LinedOf lane.queue s × (saw ≡ true → WatchedOf lane.queue s)) → news.sees saw ≡ true → is_up t.state ≡ true → WatchedOf lane.queue t
-watched_kept plan lane s made news t (Rests looked) no_start saw h sees up = (h up).1 (still_saw looked saw sees)
-watched_kept plan lane s made news t (FindsNone may) no_start saw h sees up = record { idle = may.idle; why = inl (sym (eqb-true s.lane.flagged s.lane.got may.none)) }
-watched_kept plan lane s made news t (Trains may) no_start saw h sees up = absurd (true≢false no_start)
-watched_kept plan lane s made news t (Breaks may) no_start saw h sees up = absurd (false≢true up)
-watched_kept plan lane s made news t (Drops may) no_start saw h sees up = absurd (false≢true up)
-watched_kept plan lane s made news t (Forgets e may) no_start saw h sees up = over s may.down up
-watched_kept plan lane s made news t (Offers Sender label may) no_start saw h sees up = watched_alike (ticks_said lane.queue s label (pad-write lane.queue label may.a_pad)) ((h up).1 sees)
-watched_kept plan lane s made news t (Readies Sender queue may) no_start saw h sees up = watched_alike (ticks_said lane.queue s _ refl) ((h up).1 sees)
-watched_kept plan lane s made news t (Begins bytes may) no_start saw h sees up = watched_begun lane.queue s (Carries bytes) may.not_busy ((h up).1 sees)
-watched_kept plan lane s made news t (Closes may) no_start saw h sees up = watched_begun lane.queue s GoesDown may.not_busy ((h up).1 sees)
-watched_kept plan lane s made news t (Posts label rest may) no_start saw h sees up = watched_alike (ticks_posted lane.queue s label rest up may.next) ((h up).1 sees)
-watched_kept plan lane s made news t (Shuts e queue looked) no_start saw h sees up = (h up).1 (still_saw looked saw sees)
-watched_kept plan lane s made news t (Says Sender label may) no_start saw h sees up = watched_alike (ticks_said lane.queue s label may.foreign) ((h up).1 sees)
-watched_kept plan lane s made news t (LandsFlag place label n may) no_start saw h sees up =
+watched_kept plan lane s made news t no_raw (Rests looked) no_start saw h sees up = (h up).1 (still_saw looked saw sees)
+watched_kept plan lane s made news t no_raw (FindsNone may) no_start saw h sees up = record { idle = may.idle; why = inl (sym (eqb-true s.lane.flagged s.lane.got (may.none no_raw))) }
+watched_kept plan lane s made news t no_raw (Trains may) no_start saw h sees up = absurd (true≢false no_start)
+watched_kept plan lane s made news t no_raw (Breaks may) no_start saw h sees up = absurd (false≢true up)
+watched_kept plan lane s made news t no_raw (Drops may) no_start saw h sees up = absurd (false≢true up)
+watched_kept plan lane s made news t no_raw (Forgets e may) no_start saw h sees up = over s may.down up
+watched_kept plan lane s made news t no_raw (Offers Sender label may) no_start saw h sees up = watched_alike (ticks_said lane.queue s label (pad-write lane.queue label may.a_pad)) ((h up).1 sees)
+watched_kept plan lane s made news t no_raw (Readies Sender queue may) no_start saw h sees up = watched_alike (ticks_said lane.queue s _ refl) ((h up).1 sees)
+watched_kept plan lane s made news t no_raw (Begins bytes first others may cut) no_start saw h sees up = watched_begun lane.queue s first may.not_busy ((h up).1 sees)
+watched_kept plan lane s made news t no_raw (Closes may) no_start saw h sees up = watched_begun lane.queue s GoesDown may.not_busy ((h up).1 sees)
+watched_kept plan lane s made news t no_raw (Posts label rest may) no_start saw h sees up = watched_alike (ticks_posted lane.queue s label rest up may.next) ((h up).1 sees)
+watched_kept plan lane s made news t no_raw (PostsNext entry others label rest may) no_start saw h sees up =
+    watched_alike (ticks_posted lane.queue (record s { lane = picked lane.queue s.lane entry others }) label rest up may.next) (watched_begun lane.queue s entry may.idle ((h up).1 sees))
+watched_kept plan lane s made news t no_raw (Strays after may) no_start saw h sees up = absurd (both_ways (IsRaw plan lane) no_raw may.raw_pair)
+watched_kept plan lane s made news t no_raw (Shuts e queue looked) no_start saw h sees up = (h up).1 (still_saw looked saw sees)
+watched_kept plan lane s made news t no_raw (Says Sender label may) no_start saw h sees up = watched_alike (ticks_said lane.queue s label may.foreign) ((h up).1 sees)
+watched_kept plan lane s made news t no_raw (LandsFlag place label n may) no_start saw h sees up =
     let now = h up in
     record {
       idle = (now.1 sees).idle;
-      why = inr (inr (flag_lined _ _ _ _ (ticks_first lane.queue _ s place label true may.land (flag_strict lane.queue _ label n may.is) (ap tick may.is)) now.0).0);
+      why = inr (inr (flag_lined _ _ _ _ (ticks_first lane.queue (pair_plan plan lane.pair) lane.from s place label (EntryFlag n) true may.land (flag_strict lane.queue (pair_plan plan lane.pair).strict label n may.is) may.is refl) now.0).0);
     }
-watched_kept plan lane s made news t (LandsField place label n field may) no_start saw h sees up = watched_alike (ticks_without lane.queue s place label may.land (ap tick may.is)) ((h up).1 sees)
-watched_kept plan lane s made news t (LandsBell Sender place queue may) no_start saw h sees up = watched_rung lane.queue queue s place may (cases_eq lane.queue queue) ((h up).1 sees)
-watched_kept plan lane s made news t (LandsPad Sender place i value may) no_start saw h sees up = watched_alike (ticks_without lane.queue s place (Pad i value) may refl) ((h up).1 sees)
-watched_kept plan lane s made news t (LandsAside Sender place label may) no_start saw h sees up = watched_alike (ticks_without lane.queue s place label may.land (ap tick may.foreign)) ((h up).1 sees)
-watched_kept plan lane s made news t (Looks bytes may) no_start saw h sees up = absurd (false≢true sees)
-watched_kept plan lane s made news t (CopiesLast may) no_start saw h sees up = absurd (not_idle s.lane.phase is_copying refl ((h up).1 sees).idle may.turn)
-watched_kept plan lane s made news t (Clears may) no_start saw h sees up = absurd (not_idle s.lane.phase is_copied refl ((h up).1 sees).idle may.turn)
-watched_kept plan lane s made news t (Acks may) no_start saw h sees up = absurd (not_idle s.lane.phase is_cleared refl ((h up).1 sees).idle may.turn)
-watched_kept plan lane s made news t (TakesBells Receiver) no_start saw h sees up =
+watched_kept plan lane s made news t no_raw (LandsField place label n field may) no_start saw h sees up = watched_alike (ticks_without lane.queue s place label may.land (ap tick may.is)) ((h up).1 sees)
+watched_kept plan lane s made news t no_raw (LandsBell Sender place queue may) no_start saw h sees up = watched_rung lane.queue queue s place may (cases_eq lane.queue queue) ((h up).1 sees)
+watched_kept plan lane s made news t no_raw (LandsPad Sender place i value may) no_start saw h sees up = watched_alike (ticks_without lane.queue s place (Pad i value) may refl) ((h up).1 sees)
+watched_kept plan lane s made news t no_raw (LandsAside Sender place label may) no_start saw h sees up = watched_alike (ticks_without lane.queue s place label may.land (ap tick may.foreign)) ((h up).1 sees)
+watched_kept plan lane s made news t no_raw (Looks len left may) no_start saw h sees up = absurd (false≢true sees)
+watched_kept plan lane s made news t no_raw (CopiesEntry bytes may) no_start saw h sees up = absurd (not_idle s.lane.phase is_copying refl ((h up).1 sees).idle may.copy.turn)
+watched_kept plan lane s made news t no_raw (CopiesLast bytes may) no_start saw h sees up = absurd (not_idle s.lane.phase is_copying refl ((h up).1 sees).idle may.copy.turn)
+watched_kept plan lane s made news t no_raw (Clears may) no_start saw h sees up = absurd (not_idle s.lane.phase is_copied refl ((h up).1 sees).idle may.turn)
+watched_kept plan lane s made news t no_raw (Acks may) no_start saw h sees up = absurd (not_idle s.lane.phase is_cleared refl ((h up).1 sees).idle may.turn)
+watched_kept plan lane s made news t no_raw (TakesBells Receiver) no_start saw h sees up =
     let still = still_saw (has_bit (without_bits s.receiver.pending s.receiver.masked) lane.queue) saw sees in
     watched_by (left_of lane.queue s) _ _ _ _ _ _ (λ rest is. (rest, is))
     (λ pending. stays_pending s.receiver.pending s.receiver.masked lane.queue pending (not_taken _ saw sees)) ((h up).1 still)
@@ -273,7 +293,7 @@ watched_kept plan lane s made news t (TakesBells Receiver) no_start saw h sees u
     not_taken : (b saw : Bool) → (if b then false else saw) ≡ true → b ≡ false
     not_taken true saw e = absurd (false≢true e)
     not_taken false saw e = refl
-watched_kept plan lane s made news t turn no_start saw h sees up = (h up).1 sees
+watched_kept plan lane s made news t no_raw turn no_start saw h sees up = (h up).1 sees
 
 -- Where nothing is left, all entries have their flags, and a receiver that saw so took them
 pub nothing_left : (q : ℕ) (s : Sight) → LinedOf q s → WatchedOf q s → s.sender.flight ≡ [] → s.lane.todo ≡ [] → has_bit s.receiver.pending q ≡ false
