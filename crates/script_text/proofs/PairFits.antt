@@ -1,5 +1,5 @@
 -- A pair whose options are in their ranges and go together is as a script can declare it.
-use Rattle.std.proofs.Common.{◌≡◌, ℕ, ◌+◌, ◌≤◌, ◌%◌, ◌==◌, Bool, true, false, not, ◌&&◌, ◌||◌, cond, ◌⊎◌, inl, inr, Option, Some, None, Result, Ok, Err, List, [], ◌∷◌, ◌++◌, nat_le, refl, sym, ◌∙◌, ap, arith}
+use Rattle.std.proofs.Common.{◌≡◌, ℕ, ◌+◌, ◌≤◌, ◌%◌, ◌==◌, Bool, true, false, not, ◌&&◌, ◌||◌, cond, ◌⊎◌, inl, inr, Option, Some, None, Result, Ok, Err, List, [], ◌∷◌, ◌++◌, nat_le, unwrap_or, refl, sym, ◌∙◌, ap, arith}
 use Rattle.std.proofs.lemmas.Bool.Decides.{nat_tests}
 use Rattle.std.specs.List.{list_all}
 use Rattle.std.specs.Option.{option_or}
@@ -51,3 +51,32 @@ both_true : (a b : Bool) → (a && b) ≡ true → (a ≡ true) × (b ≡ true)
 both_true true true h = (refl, refl)
 both_true true false h = cc
 both_true false b h = cc
+
+-- the number of an option in its range
+number_in_range : (key : SideKey) (side : Option Side) (settings : List Setting) (n : ℕ) → list_all in_range settings ≡ true → number_at key side settings ≡ Some n
+    → in_range (OfSide key None n) ≡ true
+number_in_range key side [] n all h = cc
+number_in_range key side (Up ∷ settings) n all h = number_in_range key side settings n all h
+number_in_range key side (Strict ∷ settings) n all h = number_in_range key side settings n all h
+number_in_range key side (Raw ∷ settings) n all h = number_in_range key side settings n all h
+number_in_range key side (Mtu m ∷ settings) n all h = number_in_range key side settings n (both_true _ _ all).1 h
+number_in_range key side (OfSide other scope m ∷ settings) n all h = by (same_key key other && same_scope side scope) refl h
+  where
+    by : (t : Bool) → (same_key key other && same_scope side scope) ≡ t → cond t (Some m) (number_at key side settings) ≡ Some n → in_range (OfSide key None n) ≡ true
+    by true is e =
+        let same : key ≡ other = same_key_is key other (both_true _ _ is).0 in
+        let here : in_range (OfSide other scope m) ≡ true = (both_true _ _ all).0 in
+        let number : m ≡ n = cc in
+        rw (same, ← number, in_range_scope other None scope m) here
+    by false is e = number_in_range key side settings n (both_true _ _ all).1 e
+
+-- a side's number is in its range where the default is
+side_in_range : (settings : List Setting) (key : SideKey) (side : Side) (default : ℕ) → list_all in_range settings ≡ true → in_range (OfSide key None default) ≡ true
+    → in_range (OfSide key None (side_number settings key side default)) ≡ true
+side_in_range settings key side default all h = by (number_at key (Some side) settings) refl (number_at key None settings) refl
+  where
+    by : (own : Option ℕ) → number_at key (Some side) settings ≡ own → (plain : Option ℕ) → number_at key None settings ≡ plain
+        → in_range (OfSide key None (unwrap_or (option_or own plain) default)) ≡ true
+    by (Some n) is plain e = number_in_range key (Some side) settings n all is
+    by None is (Some n) e = number_in_range key None settings n all e
+    by None is None e = h
