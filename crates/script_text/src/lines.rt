@@ -1,0 +1,66 @@
+//! Lines of a script, and their words.
+
+ghost use Rattle.std.specs.Prelude.{◌≡◌, ◌∷◌, ◌==◌, ◌<◌, [], length, map, IfOk, IfSome};
+ghost use Rattle.std.specs.List.{slice_split};
+ghost use Rattle.std.specs.Option.{option_map_or};
+ghost use Rattle.script_text.specs.Words as spelled;
+
+use std::alloc::{AllocError, Global};
+
+/// What stands before the first of such bytes, and what stands behind it where there is one.
+pub fn cut(text: &[u8], at: u8) -> (&[u8], Option<&[u8]>)
+    ensures parts { slice_split (λ b. b == at) text.now ≡ result.0.now ∷ option_map_or (λ rest. slice_split (λ b. b == at) rest.now) result.1 [] }
+    ensures shorter { IfSome result.1 (λ rest. length rest.now < length text.now) }
+{
+    for (i, byte) in text.iter().enumerate() {
+        if *byte == at {
+            return (&text[..i], Some(&text[i + 1..]));
+        }
+    }
+    (text, None)
+}
+
+/// A line without the carriage return that may end it.
+pub fn without_return(line: &[u8]) -> &[u8]
+    ensures { result.now ≡ spelled.without_return line.now }
+{
+    match line {
+        [front @ .., b'\r'] => front,
+        _ => line,
+    }
+}
+
+/// Whether a line says nothing: it has no words, or its first byte behind its spaces is a number sign.
+pub fn is_skipped(line: &[u8]) -> bool
+    ensures { result ≡ spelled.is_skipped line.now }
+{
+    for byte in line {
+        if *byte != b' ' {
+            return *byte == b'#';
+        }
+    }
+    true
+}
+
+/// Whether all bytes of a line are printed characters or spaces.
+pub fn is_text(line: &[u8]) -> bool
+    ensures { result ≡ spelled.is_text line.now }
+{
+    line.iter().all(|byte| 32 <= *byte && *byte <= 126)
+}
+
+/// The words of a line: what stands between its spaces. The only error is want of memory.
+pub fn words_of(alloc: Global, line: &[u8]) -> Result<Vec<&[u8]>, AllocError>
+    ensures { IfOk result (λ words. map (λ word. word.now) words.items ≡ spelled.words_of line.now) }
+{
+    let mut words = Vec::new(alloc);
+    let mut rest = Some(line);
+    while let Some(text) = rest {
+        let (word, more) = cut(text, b' ');
+        if !word.is_empty() {
+            words.push(word)?;
+        }
+        rest = more;
+    }
+    Ok(words)
+}

@@ -1,0 +1,130 @@
+//! Lines of traffic: frames that a threaded run sends, and losses of a link beside them.
+#![tactic(auto, unfolding(crate::specs::Tests::and_then))]
+
+ghost use Rattle.std.specs.Prelude.{◌≡◌, ◌<◌, ◌≤◌, ◌*◌, length, map, sum, List, Ok, OnOk};
+ghost use Rattle.step_kinds.specs.declared.plan.Traffic.{Traffic};
+ghost use Rattle.plan_model.specs.Plans.{side_plan, pair_plan};
+ghost use Rattle.plan_model.specs.TrafficPlans.{frames_in, bytes_in};
+ghost use Rattle.script_text.specs.Before.{MoreTraffic};
+ghost use Rattle.script_text.specs.Compact.{given_of};
+ghost use Rattle.script_text.specs.Reads.{Reads, result_map};
+ghost use Rattle.script_text.specs.TrafficLines as rules;
+
+use crate::fault::{Cause, LineError};
+use crate::given::Given;
+use crate::lookups::{read_pair, read_queue};
+use crate::options::agrees;
+use crate::reader::Reader;
+use crate::rings::ring_of;
+use crate::words::{read_bytes, read_number_between, read_side};
+use std::alloc::Global;
+use step_kinds::limits::{MOST_BREAKS, MOST_TRAFFIC_ENTRIES};
+use step_kinds::{Frame, LaneName, PairPlan};
+
+/// Whether a pair may have traffic.
+fn may_have_traffic(pair: &PairPlan) -> bool
+    ensures { result ≡ rules.may_have_traffic pair.now }
+{
+    !pair.raw && agrees(pair)
+}
+
+/// Whether so many frames of so many bytes may be sent on a lane.
+fn test_lane(before: &Reader, lane: LaneName, len: u64, count: u64) -> Result<(), Cause>
+    requires declared { lane.pair < length before.now.plan.pairs }
+    requires among { lane.queue < (side_plan (pair_plan before.now.plan lane.pair) lane.from).queues }
+    requires len { len ≤ 16777216 }
+    requires count { count ≤ 100000 }
+    ensures value { (more : List Traffic) → sum (map frames_in more) ≡ count → sum (map bytes_in more) ≡ count * len → result_map (λ _. MoreTraffic more) result ≡ rules.traffic_within before.now lane len more }
+    ensures short { OnOk result (len ≤ 65536) }
+{
+    let pair = before.pair(lane.pair);
+    let ring = ring_of(pair, lane.from, lane.queue);
+    if len > ring.max_payload() as u64 || ring.entries() > MOST_TRAFFIC_ENTRIES {
+        return Err(Cause::BadGeometry);
+    }
+    if !may_have_traffic(pair) {
+        return Err(Cause::BadPair);
+    }
+    if !before.traffic().has_room(count, count * len) {
+        return Err(Cause::TooMany);
+    }
+    Ok(())
+}
+
+/// `break PAIR`
+fn break_line(before: &Reader, pair: &[u8]) -> Result<Given, Cause>
+    ensures { result_map given_of result ≡ rules.break_line before.now pair.now }
+{
+    let pair = read_pair(before, pair)?;
+    if !may_have_traffic(before.pair(pair)) {
+        return Err(Cause::BadPair);
+    }
+    if before.traffic().breaks_of(pair) >= MOST_BREAKS {
+        return Err(Cause::TooMany);
+    }
+    Ok(Given::Break { pair })
+}
+
+/// `frame PAIR SIDE QUEUE HEX`
+fn frame_line(
+    alloc: Global,
+    before: &Reader,
+    pair: &[u8],
+    side: &[u8],
+    queue: &[u8],
+    frame: &[u8],
+) -> Result<Given, LineError>
+    requires { length frame.now ≤ 16777216 }
+    ensures { Reads (result_map given_of result) (rules.traffic_frame_line before.now pair.now side.now queue.now frame.now) }
+{
+    let pair = read_pair(before, pair)?;
+    let from = read_side(side)?;
+    let queue = read_queue(before, pair, from, queue)?;
+    let bytes = read_bytes(alloc, frame)?;
+    let lane = LaneName { pair, from, queue };
+    test_lane(before, lane, bytes.len() as u64, 1)?;
+    let frame = Frame::of_vec(bytes.into_vec());
+    Ok(Given::Frame { lane, frame })
+}
+
+/// `flood PAIR SIDE QUEUE COUNT LEN`
+fn flood_line(
+    before: &Reader,
+    pair: &[u8],
+    side: &[u8],
+    queue: &[u8],
+    count: &[u8],
+    len: &[u8],
+) -> Result<Given, Cause>
+    ensures { result_map given_of result ≡ rules.flood_line before.now pair.now side.now queue.now count.now len.now }
+{
+    let pair = read_pair(before, pair)?;
+    let from = read_side(side)?;
+    let queue = read_queue(before, pair, from, queue)?;
+    let count = read_number_between(1, 100_000, count)?;
+    let len = read_number_between(1, 65_536, len)?;
+    let lane = LaneName { pair, from, queue };
+    test_lane(before, lane, len as u64, count as u64)?;
+    Ok(Given::Flood { lane, count, len })
+}
+
+/// A line among the traffic.
+pub fn traffic_line(
+    alloc: Global,
+    before: &Reader,
+    word: &[u8],
+    words: &[&[u8]],
+) -> Result<Given, LineError>
+    ensures { Reads (result_map given_of result) (rules.traffic_line before.now word.now (map (λ word. word.now) words.now)) }
+{
+    match words {
+        [pair] if word == b"break".as_slice() => Ok(break_line(before, pair)?),
+        [pair, side, queue, frame] if word == b"frame".as_slice() => {
+            frame_line(alloc, before, pair, side, queue, frame)
+        }
+        [pair, side, queue, count, len] if word == b"flood".as_slice() => {
+            Ok(flood_line(before, pair, side, queue, count, len)?)
+        }
+        _ => Err(LineError::Fault(Cause::UnknownWord)),
+    }
+}
