@@ -1,4 +1,0 @@
-pub mod Addresses
-pub mod Examples
-pub mod Headers
-pub mod Stores

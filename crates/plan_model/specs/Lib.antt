@@ -1,9 +1,0 @@
-pub mod Declared
-pub mod Ethernet
-pub mod Examples
-pub mod Laws
-pub mod Macros
-pub mod Orders
-pub mod Pads
-pub mod Plans
-pub mod Sizes
