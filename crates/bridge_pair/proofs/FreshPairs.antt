@@ -3,9 +3,9 @@ use Rattle.std.proofs.Common.{◌≡◌, ℕ, ◌<◌, ◌≤◌, ◌^◌, ◌�
 use Rattle.std.proofs.lemmas.Nat.{pow_pos}
 use Rattle.byte_model.specs.Stores.{Store}
 use Rattle.host_memory.specs.Memory.{Contents}
-use Rattle.ledger_model.specs.Both.{Both}
-use Rattle.memory_model.specs.Targets.{fresh_index_words}
-use Rattle.plan_model.specs.Declared.{IsPair}
+use Rattle.plan_model.specs.Both.{Both}
+use Rattle.byte_model.specs.FreshRings.{fresh_index_words}
+use Rattle.plan_model.specs.DeclaredPlans.{IsPair}
 use Rattle.plan_model.specs.Plans.{side_plan}
 use Rattle.step_kinds.specs.declared.names.Side.{Side}
 use Rattle.step_kinds.specs.declared.names.Side.TheVariants.{A, B}

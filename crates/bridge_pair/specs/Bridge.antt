@@ -4,10 +4,10 @@ use Rattle.std.specs.Prelude.{◌≡◌, ℕ, ◌+◌, ◌*◌, ◌^◌, ◌<◌
 use Rattle.step_kinds.specs.Sides.{other_side}
 use Rattle.step_kinds.specs.declared.names.Side.{Side}
 use Rattle.step_kinds.specs.declared.plan.PairPlan.{PairPlan}
-use Rattle.plan_model.specs.Declared.{IsPair}
+use Rattle.plan_model.specs.DeclaredPlans.{IsPair}
 use Rattle.plan_model.specs.Plans.{side_plan}
-use Rattle.ledger_model.specs.Both.{Both, at_side, with_side}
-use Rattle.ledger_model.specs.Link.{Link}
+use Rattle.plan_model.specs.Both.{Both, at_side, with_side}
+use Rattle.plan_model.specs.Link.{Link}
 use Rattle.bridge_regs.specs.Doorbell.{Doorbell}
 use Rattle.bridge_regs.specs.Laws.{FitsRegisters}
 use Rattle.host_memory.specs.Memory.{Contents}

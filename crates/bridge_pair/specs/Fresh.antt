@@ -8,10 +8,10 @@ use Rattle.step_kinds.specs.declared.plan.PairPlan.{PairPlan}
 use Rattle.bridge_regs.specs.Doorbell.{quiet}
 use Rattle.byte_model.specs.Stores.{Store}
 use Rattle.host_memory.specs.Memory.{Contents}
-use Rattle.ledger_model.specs.Both.{Both, both_of}
-use Rattle.ledger_model.specs.Link.{fresh_link}
-use Rattle.ledger_model.specs.Next.{agreed_pads}
-use Rattle.memory_model.specs.Targets.{fresh_index_words}
+use Rattle.plan_model.specs.Both.{Both, both_of}
+use Rattle.plan_model.specs.Link.{fresh_link}
+use Rattle.plan_model.specs.Pads.{agreed_pads}
+use Rattle.byte_model.specs.FreshRings.{fresh_index_words}
 use Rattle.plan_model.specs.Plans.{side_plan}
 use Rattle.posted_queue.specs.Flight.{nothing_in_flight}
 use Rattle.bridge_pair.specs.Bridge.{Bridge, bytes_of, memory_size, offer_length}

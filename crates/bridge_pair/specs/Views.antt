@@ -2,7 +2,7 @@
 use Rattle.std.specs.Prelude.{◌≡◌, ℕ, ◌<◌, ◌≤◌, List, length, take}
 use Rattle.step_kinds.specs.declared.names.Side.{Side}
 use Rattle.step_kinds.specs.declared.names.Side.TheVariants.{A, B}
-use Rattle.plan_model.specs.Declared.{IsPair}
+use Rattle.plan_model.specs.DeclaredPlans.{IsPair}
 use Rattle.bridge_pair.specs.Bridge.{Bridge, IsBook, memory_size}
 use Rattle.bridge_pair.specs.declared.pair.Pair.TheInside.{Inside}
 

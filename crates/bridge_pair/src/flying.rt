@@ -3,7 +3,7 @@
 ghost use Rattle.std.specs.Prelude.{◌≡◌, ◌<◌};
 ghost use Rattle.bridge_pair.specs.Flights.{Translates, arrival_of, flying_of};
 ghost use Rattle.bridge_pair.specs.Writes.{IsTarget};
-ghost use Rattle.plan_model.specs.Declared.{IsPair};
+ghost use Rattle.plan_model.specs.DeclaredPlans.{IsPair};
 ghost use Rattle.plan_model.specs.Plans.{side_plan as side_plan_of};
 
 use crate::plans::{class_among, classes_of, kind_of, side_plan};

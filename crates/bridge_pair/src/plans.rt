@@ -4,8 +4,8 @@ ghost use Rattle.std.specs.Prelude.{◌≡◌, ◌+◌, ◌*◌, ◌/◌, ◌%�
 ghost use Rattle.bridge_pair.specs.Bridge.{memory_size};
 ghost use Rattle.bridge_pair.specs.Words.{WindowsFit};
 ghost use Rattle.byte_model.specs.Addresses.{own_index_word};
-ghost use Rattle.ledger_model.specs.Handshake.{word};
-ghost use Rattle.plan_model.specs.Declared.{AreClasses, IsPair};
+ghost use Rattle.plan_model.specs.Pads.{word};
+ghost use Rattle.plan_model.specs.DeclaredPlans.{AreClasses, IsPair};
 ghost use Rattle.plan_model.specs.Orders.{class_of as order_class, classes_of as plan_classes, kind_of as order_kind};
 ghost use Rattle.plan_model.specs.Plans.{side_plan as side_plan_of};
 ghost use Rattle.ring_geometry.specs.Geometry.{IsPlaced};

@@ -1,4 +1,5 @@
 pub mod Addresses
 pub mod Examples
+pub mod FreshRings
 pub mod Headers
 pub mod Stores

@@ -7,7 +7,7 @@ use Rattle.byte_model.specs.Addresses.{own_header}
 use Rattle.byte_model.specs.Stores.{Store}
 use Rattle.host_memory.specs.Memory.{ArePromised, Touches, written}
 use Rattle.lane_model.specs.Lane.{count_from}
-use Rattle.memory_model.specs.Targets.{zeroed_header}
+use Rattle.byte_model.specs.FreshRings.{zeroed_header}
 use Rattle.plan_model.specs.Plans.{side_plan}
 use Rattle.plan_model.specs.Sizes.{agreed_version, header_bytes, layout_to}
 use Rattle.ring_geometry.specs.Geometry.{Layout, entries_of, header_of, window_of}

@@ -1,6 +1,6 @@
 -- What a side offers, place by place.
 use Rattle.std.proofs.Common.{◌≡◌, ℕ, zero, suc, ◌+◌, ◌*◌, ◌/◌, ◌%◌, ◌<◌, ◌≤◌, ◌==◌, length, slice_index_or, refl, arith, if◌then◌else◌}
-use Rattle.ledger_model.specs.Handshake.{offers, word}
+use Rattle.plan_model.specs.Pads.{offers, word}
 use Rattle.step_kinds.specs.declared.plan.SidePlan.{SidePlan}
 use Rattle.step_kinds.specs.declared.steps.Label.TheVariants.{Pad}
 

@@ -1,9 +1,9 @@
 -- Checking: a side compares the peer's offer, as it stands in the side's own scratchpads, with its own numbers.
 use Rattle.std.specs.Prelude.{◌≡◌, ℕ, ◌+◌, ◌*◌, ◌==◌, ◌&&◌, ◌||◌, ◌⊎◌, not, nat_lt, true, Option, Some, None, List, ◌++◌, find, slice_index, if◌then◌else◌}
 use Rattle.lane_model.specs.Lane.{count_from}
-use Rattle.ledger_model.specs.Handshake.{word}
-use Rattle.ledger_model.specs.Link.{is_up}
-use Rattle.memory_model.specs.Targets.{fresh_index_words, zeroed_headers}
+use Rattle.plan_model.specs.Pads.{word}
+use Rattle.plan_model.specs.Link.{is_up}
+use Rattle.byte_model.specs.FreshRings.{fresh_index_words, zeroed_headers}
 use Rattle.plan_model.specs.Pads.{version_pad, queues_pad, windows_pad, high_pad, low_pad}
 use Rattle.plan_model.specs.Plans.{side_plan}
 use Rattle.step_kinds.specs.declared.names.Side.{Side}

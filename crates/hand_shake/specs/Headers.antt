@@ -2,7 +2,7 @@
 use Rattle.std.specs.Prelude.{ℕ, ◌<◌, List, map}
 use Rattle.byte_model.specs.Stores.{Store}
 use Rattle.lane_model.specs.Lane.{count_from}
-use Rattle.memory_model.specs.Targets.{zeroed_header}
+use Rattle.byte_model.specs.FreshRings.{zeroed_header}
 use Rattle.byte_model.specs.Addresses.{own_header}
 use Rattle.host_memory.specs.Memory.{ArePromised, Touches}
 use Rattle.plan_model.specs.Plans.{side_plan}

@@ -3,8 +3,8 @@ use Rattle.std.specs.Prelude.{ℕ, ◌+◌, ◌==◌, not, List, [], ◌∷◌, 
 use Rattle.step_kinds.specs.declared.names.Side.{Side}
 use Rattle.step_kinds.specs.declared.steps.Label.{Label}
 use Rattle.step_kinds.specs.declared.steps.Label.TheVariants.{Pad}
-use Rattle.ledger_model.specs.Handshake.{offers, pad_index}
-use Rattle.ledger_model.specs.Link.{is_up}
+use Rattle.plan_model.specs.Pads.{offers, pad_index}
+use Rattle.plan_model.specs.Link.{is_up}
 use Rattle.plan_model.specs.Plans.{side_plan}
 use Rattle.bridge_pair.specs.Bridge.{Bridge, book_of, flight_of, with_book, with_flight}
 use Rattle.bridge_pair.specs.Flights.{flying_of}

@@ -2,7 +2,7 @@
 use Rattle.std.specs.Prelude.{ℕ, not, slice_index, if◌then◌else◌}
 use Rattle.step_kinds.specs.Bits.{has_bit, with_bit}
 use Rattle.step_kinds.specs.declared.names.Side.{Side}
-use Rattle.ledger_model.specs.Link.{is_up}
+use Rattle.plan_model.specs.Link.{is_up}
 use Rattle.plan_model.specs.Pads.{links_pad}
 use Rattle.bridge_pair.specs.Bridge.{Bridge, book_of, pads_of, with_book}
 use Rattle.bridge_pair.specs.Writes.{pad_write}

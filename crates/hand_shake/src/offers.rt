@@ -4,8 +4,8 @@ ghost use Rattle.std.specs.Prelude.{◌≡◌, ◌≢◌, ◌==◌, length, ◌+
 ghost use Rattle.hand_shake.specs.Offers.{after_offer, next_offer, offer_answer, pad_value, with_posted};
 ghost use Rattle.bridge_pair.specs.Bridge.{book_of, offer_length};
 ghost use Rattle.bridge_pair.specs.Writes.{pad_write};
-ghost use Rattle.ledger_model.specs.Handshake.{offers, pad_index, word};
-ghost use Rattle.ledger_model.specs.Link.{is_up as is_link_up};
+ghost use Rattle.plan_model.specs.Pads.{offers, pad_index, word};
+ghost use Rattle.plan_model.specs.Link.{is_up as is_link_up};
 ghost use Rattle.plan_model.specs.Plans.{side_plan as side_plan_of};
 ghost use Rattle.step_kinds.specs.Limits.{IsWindows};
 ghost use Rattle.step_kinds.specs.declared.steps.Label.TheVariants.{Pad};

@@ -5,13 +5,13 @@ use Rattle.std.proofs.lemmas.Bool.{false≢true}
 use Rattle.step_kinds.specs.declared.names.Side.{Side}
 use Rattle.step_kinds.specs.declared.names.Side.TheVariants.{A, B}
 use Rattle.step_kinds.specs.declared.plan.PairPlan.{PairPlan}
-use Rattle.ledger_model.specs.Both.{at_side, both_of}
+use Rattle.plan_model.specs.Both.{at_side, both_of}
 use Rattle.ledger_model.specs.Ledger.{side_of, lane_of}
-use Rattle.ledger_model.specs.Link.{is_up, is_down, is_closing}
+use Rattle.plan_model.specs.Link.{is_up, is_down, is_closing}
 use Rattle.ledger_model.specs.LinkSteps.{fresh_lane}
 use Rattle.ledger_model.specs.Next.{fresh_pair, agreed_side, idle_side}
-use Rattle.ledger_model.specs.declared.LinkState.{LinkState}
-use Rattle.ledger_model.specs.declared.LinkState.TheVariants.{Down, Up, Closing}
+use Rattle.plan_model.specs.declared.LinkState.{LinkState}
+use Rattle.plan_model.specs.declared.LinkState.TheVariants.{Down, Up, Closing}
 
 pub up-not_down : (state : LinkState) → is_up state ≡ true → is_down state ≡ false
 up-not_down Up e = refl

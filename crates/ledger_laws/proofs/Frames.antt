@@ -8,17 +8,17 @@ use Rattle.ledger_laws.specs.Laws.{Begins, NumberedFrom, times_of}
 use Rattle.ledger_model.specs.Log.{Numbered}
 
 -- The frames of entries, from a number and from bytes of a frame under way on: the pieces of a frame are joined up to the one that no
--- other follows; a link-down entry has a number of its own.
+-- other follows; a link-down entry is no frame.
 abbrev pub frames_from : ℕ → List ℕ → List Entry → List Numbered
 frames_from n rest [] = []
-frames_from n rest (GoesDown ∷ entries) = frames_from (n + 1) rest entries
+frames_from n rest (GoesDown ∷ entries) = frames_from n rest entries
 frames_from n rest (Carries bytes zero ∷ entries) = record { number = n; bytes = rest ++ bytes } ∷ frames_from (n + 1) [] entries
 frames_from n rest (Carries bytes (suc left) ∷ entries) = frames_from n (rest ++ bytes) entries
 
 -- the number of the next frame behind entries, and the bytes of the frame that is under way there
 abbrev pub number_after : ℕ → List Entry → ℕ
 number_after n [] = n
-number_after n (GoesDown ∷ entries) = number_after (n + 1) entries
+number_after n (GoesDown ∷ entries) = number_after n entries
 number_after n (Carries bytes zero ∷ entries) = number_after (n + 1) entries
 number_after n (Carries bytes (suc left) ∷ entries) = number_after n entries
 
@@ -30,13 +30,13 @@ rest_after rest (Carries bytes (suc left) ∷ entries) = rest_after (rest ++ byt
 
 pub frames-append : (n : ℕ) (rest : List ℕ) (xs ys : List Entry) → frames_from n rest (xs ++ ys) ≡ frames_from n rest xs ++ frames_from (number_after n xs) (rest_after rest xs) ys
 frames-append n rest [] ys = refl
-frames-append n rest (GoesDown ∷ xs) ys = frames-append (n + 1) rest xs ys
+frames-append n rest (GoesDown ∷ xs) ys = frames-append n rest xs ys
 frames-append n rest (Carries bytes zero ∷ xs) ys = ap (λ frames. record { number = n; bytes = rest ++ bytes } ∷ frames) (frames-append (n + 1) [] xs ys)
 frames-append n rest (Carries bytes (suc left) ∷ xs) ys = frames-append n (rest ++ bytes) xs ys
 
 pub number-append : (n : ℕ) (xs ys : List Entry) → number_after n (xs ++ ys) ≡ number_after (number_after n xs) ys
 number-append n [] ys = refl
-number-append n (GoesDown ∷ xs) ys = number-append (n + 1) xs ys
+number-append n (GoesDown ∷ xs) ys = number-append n xs ys
 number-append n (Carries bytes zero ∷ xs) ys = number-append (n + 1) xs ys
 number-append n (Carries bytes (suc left) ∷ xs) ys = number-append n xs ys
 

@@ -13,7 +13,7 @@ use Rattle.step_kinds.specs.declared.plan.PairPlan.{PairPlan}
 use Rattle.lane_model.specs.Lane.{Entry, Carries, GoesDown, bytes_of}
 use Rattle.lane_model.specs.declared.Phase.{Phase}
 use Rattle.ledger_model.specs.Ledger.{Tally, LanePart, lane_of, tally_of, entry_in, updated}
-use Rattle.ledger_model.specs.Link.{is_up}
+use Rattle.plan_model.specs.Link.{is_up}
 use Rattle.ledger_model.specs.LinkSteps.{fresh_lane}
 use Rattle.ledger_model.specs.Log.{Answered, Numbered, accepts, delivers, accepted, delivered, first_session, trains, made_in, log_of, ledger_of}
 use Rattle.ledger_model.specs.Next.{fresh_pair, no_tally}

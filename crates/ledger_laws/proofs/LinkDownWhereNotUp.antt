@@ -18,7 +18,7 @@ use Rattle.ledger_model.specs.Next.{pair_next, read_next, fresh_pair}
 use Rattle.ledger_model.specs.Reading.{Reading, reading_of}
 use Rattle.ledger_laws.proofs.Outcomes.{passed}
 use Rattle.ledger_laws.proofs.walk.Cases.{enable_cases, train_cases, break_cases, drop_cases, clean_cases, offer_cases, check_cases, ready_cases, join_cases, begin_cases, qpdown_cases, xbegin_cases, post_cases, land_cases, look_cases, copy_cases, clear_cases, ack_cases, wake_cases}
-use Rattle.ledger_model.specs.Link.{is_up}
+use Rattle.plan_model.specs.Link.{is_up}
 use Rattle.ledger_model.specs.Log.{Answered}
 use Rattle.step_kinds.specs.declared.names.LaneName.{LaneName}
 use Rattle.step_kinds.specs.declared.names.Side.TheVariants.{A}

@@ -7,7 +7,7 @@ use Rattle.step_kinds.specs.declared.plan.SidePlan.{SidePlan}
 use Rattle.step_kinds.specs.declared.steps.Label.{Label}
 use Rattle.step_kinds.specs.declared.steps.Label.TheVariants.{Pad}
 use Rattle.lane_model.specs.Lane.{count_from}
-use Rattle.ledger_model.specs.Handshake.{offers, word}
+use Rattle.plan_model.specs.Pads.{offers, word}
 use Rattle.ledger_model.specs.Labels.{write_of, index_of}
 use Rattle.plan_model.specs.Pads.{high_pad, low_pad, queues_pad, version_pad, windows_pad}
 use Rattle.ledger_laws.proofs.walk.Turn.{is_pad, is_link_pad}

@@ -11,8 +11,8 @@ use Rattle.step_kinds.specs.declared.plan.Plan.{Plan}
 use Rattle.step_kinds.specs.declared.plan.SidePlan.{SidePlan}
 use Rattle.step_kinds.specs.declared.steps.Label.{Label}
 use Rattle.step_kinds.specs.declared.steps.Label.TheVariants.{Pad}
-use Rattle.ledger_model.specs.Handshake.{offers}
-use Rattle.ledger_model.specs.Link.{is_up}
+use Rattle.plan_model.specs.Pads.{offers}
+use Rattle.plan_model.specs.Link.{is_up}
 use Rattle.ledger_model.specs.Log.{Answered, trains, landed_pad}
 use Rattle.plan_model.specs.Plans.{pair_plan, side_plan}
 use Rattle.order_rules.specs.Order.{strict}

@@ -13,9 +13,9 @@ use Rattle.step_kinds.specs.declared.plan.PairPlan.{PairPlan}
 use Rattle.step_kinds.specs.declared.plan.Plan.{Plan}
 use Rattle.lane_model.specs.Lane.{blank_slot}
 use Rattle.ring_geometry.specs.Geometry.{Layout, HasRing, ring_bytes, frame_size, entries_of}
-use Rattle.ledger_model.specs.Both.{both_of}
+use Rattle.plan_model.specs.Both.{both_of}
 use Rattle.ledger_model.specs.Ledger.{PairPart}
-use Rattle.ledger_model.specs.Link.{fresh_link}
+use Rattle.plan_model.specs.Link.{fresh_link}
 use Rattle.ledger_model.specs.LinkSteps.{fresh_lane}
 use Rattle.ledger_model.specs.Log.{ledger_of}
 use Rattle.ledger_model.specs.Next.{fresh_pair, agreed_side, idle_side}

@@ -23,7 +23,7 @@ use Rattle.lane_model.specs.declared.Write.TheVariants.{Data, Flag as EntryFlag,
 use Rattle.lane_laws.proofs.Facade.{fresh_holds, cut_keeps, drop_keeps, free_is_room, begin_keeps, post_keeps, land_data_keeps, land_flag_keeps, land_bell_keeps, look_keeps, copy_keeps, clear_keeps, ack_keeps, index_keeps}
 use Rattle.ledger_model.specs.Labels.{write_of, index_of, writes_among, indexes_among}
 use Rattle.ledger_model.specs.Ledger.{LanePart, free_of}
-use Rattle.ledger_model.specs.Link.{is_up}
+use Rattle.plan_model.specs.Link.{is_up}
 use Rattle.ledger_model.specs.LinkSteps.{fresh_lane}
 use Rattle.ledger_model.specs.Log.{Answered}
 use Rattle.ledger_model.specs.Receiving.{is_idle, is_copying, is_copied, is_cleared}

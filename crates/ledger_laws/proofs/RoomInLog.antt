@@ -20,10 +20,10 @@ use Rattle.ledger_laws.proofs.Frames.{CarriesAt, carries-within, carries-append}
 use Rattle.ledger_laws.proofs.Pieces.{length-pieces}
 use Rattle.lane_model.specs.declared.Phase.{Phase}
 use Rattle.ledger_model.specs.Labels.{index_of, indexes_among}
-use Rattle.ledger_model.specs.Link.{is_up}
+use Rattle.plan_model.specs.Link.{is_up}
 use Rattle.ledger_model.specs.Log.{Answered, trains, takes_room, gives_room, in_this_session, made_since}
 use Rattle.ledger_model.specs.Receiving.{is_copying, is_copied, is_cleared}
-use Rattle.ledger_model.specs.declared.LinkState.{LinkState}
+use Rattle.plan_model.specs.declared.LinkState.{LinkState}
 use Rattle.lane_laws.proofs.Facade.{count_from-push}
 use Rattle.ledger_laws.proofs.InFlight.{count_by-last, push_some, filter_map-remove, lands_first, posted_unread, posted_up, posted_lost, EmptyOf, empty_kept}
 use Rattle.ledger_laws.proofs.Labels.{index_strict, indexes_one_class}

@@ -12,7 +12,7 @@ use Rattle.step_kinds.specs.declared.steps.Answer.{Answer}
 use Rattle.step_kinds.specs.declared.steps.Answer.TheVariants.{LinkDown, NotReady, Closed, TooLong, Busy, Stopped, Again, Up}
 use Rattle.step_kinds.specs.declared.steps.Step.{Step}
 use Rattle.step_kinds.specs.declared.steps.Step.TheVariants.{Begin, QpDown, Xbegin, Offer, Check, Ready, Join, Spad, Poke}
-use Rattle.ledger_model.specs.Handshake.{word}
+use Rattle.plan_model.specs.Pads.{word}
 use Rattle.ledger_model.specs.Ledger.{PairPart, side_of, lane_of, tally_of, link_up}
 use Rattle.ledger_model.specs.Log.{Answered, Memories, Numbered, log_of, ledger_of, accepted, delivered, room_in, up_at, landed_pad, last_look_empty}
 use Rattle.plan_model.specs.Ethernet.{ethernet_frame}

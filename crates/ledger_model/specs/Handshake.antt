@@ -13,22 +13,8 @@ use Rattle.step_kinds.specs.declared.steps.Answer.TheVariants.{Ok as Done, LinkD
 use Rattle.lane_model.specs.Lane.{count_from}
 use Rattle.ledger_model.specs.Ledger.{SidePart, PairPart, side_of, with_side_part, link_up, posts}
 use Rattle.ledger_model.specs.Outcome.{Outcome, refuse_if, decided}
-use Rattle.plan_model.specs.Pads.{version_pad, links_pad, queues_pad, windows_pad, high_pad, low_pad}
+use Rattle.plan_model.specs.Pads.{version_pad, links_pad, queues_pad, windows_pad, high_pad, low_pad, word, offers, pad_index}
 use Rattle.plan_model.specs.Plans.{side_plan}
-
--- a scratchpad has 32 bits, so a window's size takes two
-abbrev pub word : ℕ
-word = 2 ^ 32
-
--- what a side offers, in this order: the size of each window in two halves, then windows, queues and version
-abbrev pub offers : SidePlan → List Label
-offers own =
-    flat_map (λ m. Pad (high_pad m) (own.size / word) ∷ Pad (low_pad m) (own.size % word) ∷ []) (count_from 0 own.windows)
-    ++ Pad windows_pad own.windows ∷ Pad queues_pad own.queues ∷ Pad version_pad own.version ∷ []
-
-abbrev pub pad_index : Label → ℕ
-pad_index (Pad i value) = i
-pad_index label = 0
 
 abbrev pub offer_step : PairPlan → PairPart → Side → Outcome
 offer_step plan pair side =

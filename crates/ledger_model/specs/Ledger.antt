@@ -13,8 +13,8 @@ use Rattle.lane_model.specs.Ring.{head_of, tail_of, room_of}
 use Rattle.lane_model.specs.Lane.{Entry, GoesDown}
 use Rattle.lane_model.specs.declared.Phase.{Phase}
 use Rattle.ring_geometry.specs.Geometry.{Layout, entries_of, max_payload_of}
-use Rattle.ledger_model.specs.Both.{Both, at_side, with_side}
-use Rattle.ledger_model.specs.Link.{Link, is_up}
+use Rattle.plan_model.specs.Both.{Both, at_side, with_side}
+use Rattle.plan_model.specs.Link.{Link, is_up}
 use Rattle.plan_model.specs.Sizes.{Sizes}
 
 -- A lane in the pair's session: what its sender began, what its receiver found, and how far each is. The labels in flight
@@ -25,7 +25,7 @@ pub record LanePart : Type 0 where
   pub sent : List Entry
   pub waiting : List Entry
   pub todo : List Label
-  -- how many frames and link-down entries were begun
+  -- how many frames were begun
   pub told : ℕ
   -- how many entries have their flags landed, were taken whole, were cleared, acknowledged and given back
   pub flagged : ℕ

@@ -1,10 +1,7 @@
-pub mod Both
-pub mod Device
 pub mod Examples
 pub mod Handshake
 pub mod Labels
 pub mod Ledger
-pub mod Link
 pub mod LinkSteps
 pub mod Log
 pub mod Next

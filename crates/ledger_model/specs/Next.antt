@@ -12,11 +12,11 @@ use Rattle.step_kinds.specs.declared.plan.Plan.{Plan}
 use Rattle.step_kinds.specs.declared.steps.Step.{Step}
 use Rattle.step_kinds.specs.declared.steps.Step.TheVariants.{Enable, Train, Break, DropDone, Clean, Offer, Check, Ready, Join, Begin, QpDown, Xbegin, Post, Land, Look, Copy, Clear, Ack, Wake, Irq, Mask, Unmask, Spad, Poke, ShowMem, ShowPad, ShowQueue}
 use Rattle.lane_model.specs.Lane.{count_from}
-use Rattle.ledger_model.specs.Both.{both_of}
-use Rattle.ledger_model.specs.Device.{no_counts}
-use Rattle.ledger_model.specs.Handshake.{word, offers, offer_step, check_step, ready_step, join_step}
+use Rattle.plan_model.specs.Both.{both_of}
+use Rattle.plan_model.specs.Device.{no_counts}
+use Rattle.ledger_model.specs.Handshake.{offer_step, check_step, ready_step, join_step}
 use Rattle.ledger_model.specs.Ledger.{SidePart, DevPart, Tally, PairPart, updated}
-use Rattle.ledger_model.specs.Link.{fresh_link}
+use Rattle.plan_model.specs.Link.{fresh_link}
 use Rattle.ledger_model.specs.LinkSteps.{fresh_lane, enable_step, train_step, break_step, drop_step, clean_step}
 use Rattle.ledger_model.specs.Outcome.{Outcome}
 use Rattle.byte_model.specs.Headers.{Bytes}
@@ -24,6 +24,7 @@ use Rattle.ledger_model.specs.Reading.{Reading, reading_of}
 use Rattle.ledger_model.specs.Receiving.{land_step, look_step, copy_step, clear_step, ack_step}
 use Rattle.ledger_model.specs.Registers.{irq_step, mask_step, unmask_step, spad_step, poke_step, show_mem_step, show_pad_step, show_queue_step}
 use Rattle.ledger_model.specs.Sending.{begin_step, qpdown_step, xbegin_step, post_step, wake_step}
+use Rattle.plan_model.specs.Pads.{offers, agreed_pads}
 use Rattle.plan_model.specs.Sizes.{sizes_of}
 use Rattle.plan_model.specs.Plans.{pair_plan, dev_plan}
 
@@ -33,12 +34,6 @@ use Rattle.plan_model.specs.Plans.{pair_plan, dev_plan}
 abbrev pub idle_side : SidePart
 idle_side =
     record { up = false; ready = 0; joined = 0; closed = 0; offered = 0; pads = replicate 16 0; pending = 0; masked = 0; flight = []; poked = [] }
-
--- the scratchpads of a side that has the peer's whole offer and the word that all its queues are ready
-abbrev pub agreed_pads : SidePlan → List ℕ
-agreed_pads peer =
-    peer.version ∷ all_below peer.queues ∷ peer.queues ∷ peer.windows
-    ∷ (flat_map (λ m. peer.size / word ∷ peer.size % word ∷ []) (count_from 0 peer.windows) ++ replicate (12 - 2 * peer.windows) 0)
 
 -- a side after a whole handshake
 abbrev pub agreed_side : SidePlan → SidePlan → SidePart

@@ -13,7 +13,7 @@ use Rattle.order_rules.specs.Order.{may_land}
 use Rattle.lane_model.specs.Lane.{chunks_in}
 pub use Rattle.lane_model.specs.Tests.{is_idle, is_copying, is_copied, is_cleared}
 use Rattle.lane_model.specs.declared.Phase.TheVariants.{Idle, Copying, Copied, Cleared}
-use Rattle.ledger_model.specs.Device.{count_delivered}
+use Rattle.plan_model.specs.Device.{count_delivered}
 use Rattle.ledger_model.specs.Ledger.{LanePart, SidePart, PairPart, side_of, lane_of, lane_to, dev_of, tally_of, with_side_part, with_lane, with_dev, with_tally}
 use Rattle.ledger_model.specs.Outcome.{Outcome, refuse_if, decided}
 use Rattle.byte_model.specs.Headers.{Found, NoEntry, ALinkDownEntry, AnotherVersion, TooManyBytes, AnEntry}

@@ -8,7 +8,7 @@ use Rattle.step_kinds.specs.declared.steps.Answer.{Answer}
 use Rattle.step_kinds.specs.declared.steps.Answer.TheVariants.{OkNumber, LinkDown, NotReady, Closed, TooLong, Busy, Stopped, Again, Idle, Posted, Awake}
 use Rattle.lane_model.specs.Lane.{Entry, GoesDown}
 pub use Rattle.lane_model.specs.Tests.{is_empty_list}
-use Rattle.ledger_model.specs.Device.{Flow, stopped_after_send, stays_stopped, count_accepted, count_refused}
+use Rattle.plan_model.specs.Device.{Flow, stopped_after_send, stays_stopped, count_accepted, count_refused}
 use Rattle.ledger_model.specs.Labels.{labels_of}
 use Rattle.ledger_model.specs.Ledger.{LanePart, DevPart, PairPart, side_of, lane_of, dev_of, tally_of, with_side_part, with_lane, with_dev, with_tally, link_up, posts, head_in}
 use Rattle.ledger_model.specs.Pieces.{pieces_of}
@@ -45,11 +45,15 @@ begin_refusal sizes reading pair side queue len =
     refuse_sender pair side queue
     (refuse_long len sizes.most (refuse_busy lane (refuse_full sizes reading lane side queue (pieces_in sizes.largest len))))
 
--- the lane with a frame, or a link-down entry, begun as these entries: all writes of the first are left to post, the others wait
+-- the lane with the first of these entries begun: all its writes are left to post, and the others wait
 abbrev pub begun_lane : ℕ → LanePart → List Entry → LanePart
 begun_lane queue lane [] = lane
 begun_lane queue lane (first ∷ others) =
-    record lane { sent = lane.sent ++ first ∷ []; waiting = others; todo = labels_of queue (length lane.sent) first; told = lane.told + 1 }
+    record lane { sent = lane.sent ++ first ∷ []; waiting = others; todo = labels_of queue (length lane.sent) first }
+
+-- the lane with a frame begun as these pieces: the next frame has the next number
+abbrev pub frame_begun : ℕ → LanePart → List Entry → LanePart
+frame_begun queue lane pieces = record (begun_lane queue lane pieces) { told = lane.told + 1 }
 
 -- one frame more is accepted in the pair's session
 abbrev pub counts_accepted : PairPart → Side → ℕ → PairPart
@@ -59,7 +63,7 @@ counts_accepted pair side queue =
 
 abbrev pub begun : Sizes → PairPart → Side → ℕ → List ℕ → PairPart
 begun sizes pair side queue bytes =
-    counts_accepted (with_lane pair side queue (begun_lane queue (lane_of pair side queue) (pieces_of sizes.largest bytes))) side queue
+    counts_accepted (with_lane pair side queue (frame_begun queue (lane_of pair side queue) (pieces_of sizes.largest bytes))) side queue
 
 abbrev pub begin_step : Sizes → Reading → PairPart → Side → ℕ → List ℕ → Outcome
 begin_step sizes reading pair side queue bytes =

@@ -8,8 +8,8 @@
 
 ghost use Rattle.std.specs.Prelude.{IfOk, ◌≡◌, ◌≤◌};
 ghost use Rattle.std.specs.Result.{result_err};
-ghost use Rattle.ledger_model.specs.Both.{at_side, with_side};
-ghost use Rattle.ledger_model.specs.Link.{
+ghost use Rattle.plan_model.specs.Both.{at_side, with_side};
+ghost use Rattle.plan_model.specs.Link.{
   clean_refusal,
   cleaned_link,
   cut_link,
@@ -25,7 +25,7 @@ ghost use Rattle.ledger_model.specs.Link.{
   trained_link,
 };
 
-pub use ledger_model::{LinkRefusal, LinkState};
+pub use plan_model::{LinkRefusal, LinkState};
 use std::marker::Model;
 use step_kinds::Side;
 
@@ -49,7 +49,7 @@ pub struct Link {
 }
 
 impl Model for Link {
-    ghost use Rattle.ledger_model.specs.Link.{Link as PairLink};
+    ghost use Rattle.plan_model.specs.Link.{Link as PairLink};
 
     ghost Value = { PairLink };
 

@@ -11,7 +11,7 @@ use Rattle.step_kinds.specs.declared.steps.Answer.{Answer}
 use Rattle.step_kinds.specs.declared.steps.Answer.TheVariants.{Landed, Up, Cleared}
 use Rattle.step_kinds.specs.declared.steps.Step.{Step}
 use Rattle.step_kinds.specs.declared.steps.Step.TheVariants.{Land, Check, Clear}
-use Rattle.ledger_model.specs.Both.{Both, at_side}
+use Rattle.plan_model.specs.Both.{Both, at_side}
 use Rattle.ledger_model.specs.Ledger.{PairPart, side_of}
 use Rattle.ledger_model.specs.Log.{Answered, Memories, same_side}
 use Rattle.ledger_model.specs.Next.{fresh_pair, pair_next}
@@ -19,7 +19,8 @@ use Rattle.ledger_model.specs.Outcome.{Outcome}
 use Rattle.byte_model.specs.Headers.{Bytes}
 use Rattle.ledger_model.specs.Receiving.{raws_before}
 use Rattle.byte_model.specs.Stores.{Store, bytes_in}
-use Rattle.memory_model.specs.Targets.{store_of, fresh_index_words, zeroed_headers, zeroed_flags}
+use Rattle.memory_model.specs.Targets.{store_of}
+use Rattle.byte_model.specs.FreshRings.{fresh_index_words, zeroed_headers, zeroed_flags}
 use Rattle.plan_model.specs.Plans.{pair_plan}
 
 -- A pair with all that was stored in the memories of its two sides.

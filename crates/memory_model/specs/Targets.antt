@@ -28,24 +28,3 @@ store_of plan pair side raw (Down q n) = Some (store_at (peer_header plan side q
 store_of plan pair side raw (Index q n) = Some (store_at (peer_index_word plan side q) (word_bytes (n % entries_of (layout_to plan side q))))
 store_of plan pair side raw (Raw window offset len) = Some (store_at (peer_address plan side window offset) raw)
 store_of plan pair side raw label = None
-
--- In a side's own memory
-
--- the index word of the lane that a side sends on a queue says that no entry is taken
-abbrev pub fresh_index_word : PairPlan → Side → ℕ → Store
-fresh_index_word plan side queue = store_at (own_index_word plan side queue) (word_bytes (entries_of (layout_of plan side queue) - 1))
-
-abbrev pub fresh_index_words : PairPlan → Side → List Store
-fresh_index_words plan side = map (fresh_index_word plan side) (count_from 0 (side_plan plan side).queues)
-
--- the headers of the rings that a side receives in are zero
-abbrev pub zeroed_header : PairPlan → Side → ℕ → ℕ → Store
-zeroed_header plan side queue n = store_at (own_header plan side queue n) (replicate (header_bytes plan) 0)
-
-abbrev pub zeroed_headers : PairPlan → Side → List Store
-zeroed_headers plan side =
-    flat_map (λ queue. map (zeroed_header plan side queue) (count_from 0 (entries_of (layout_to plan side queue)))) (count_from 0 (side_plan plan side).queues)
-
--- the flags of the slot in which a side received entry n are zero
-abbrev pub zeroed_flags : PairPlan → Side → ℕ → ℕ → Store
-zeroed_flags plan side queue n = store_at (own_header plan side queue n + flags_offset plan) (replicate 4 0)

@@ -2,7 +2,7 @@
 //! device that it comes from, the kind of the payload, and the payload.
 
 ghost use Rattle.std.specs.Prelude.{IfErr, IfOk, IsErr, drop, length, ◌<◌, ◌↔◌, ◌≡◌, ◌≤◌};
-ghost use Rattle.ledger_model.specs.Device.{ethernet_frame, ethernet_header};
+ghost use Rattle.plan_model.specs.Ethernet.{ethernet_frame, ethernet_header};
 
 use std::alloc::{AllocError, Global};
 use step_kinds::Frame;

@@ -17,7 +17,7 @@ use Rattle.lane_model.specs.declared.Write.{Write}
 use Rattle.lane_core.specs.Calls.{LaneValue}
 use Rattle.ledger_model.specs.Labels.{label_of}
 use Rattle.ledger_model.specs.Ledger.{LanePart, PairPart, side_of, lane_of, tally_of, sizes_of}
-use Rattle.ledger_model.specs.Link.{is_up}
+use Rattle.plan_model.specs.Link.{is_up}
 use Rattle.ledger_model.specs.Next.{Bytes, pair_next}
 use Rattle.ntb_top.specs.Script.{Script, side_with, most_steps}
 use Rattle.ntb_top.specs.declared.engine.Engine.{Engine}

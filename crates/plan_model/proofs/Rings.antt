@@ -9,7 +9,7 @@ use Rattle.step_kinds.specs.declared.names.Side.TheVariants.{A, B}
 use Rattle.step_kinds.specs.declared.plan.SidePlan.{SidePlan}
 use Rattle.step_kinds.specs.declared.plan.PairPlan.{PairPlan}
 use Rattle.ring_geometry.specs.Geometry.{Layout, IsPlaced, HasRing, FitsLimits, area, window_of, queues_in_window, frame_size, ring_bytes}
-use Rattle.plan_model.specs.Declared.{IsPair, IsSide}
+use Rattle.plan_model.specs.DeclaredPlans.{IsPair, IsSide}
 use Rattle.plan_model.specs.Laws.{EachQueueHasARing}
 use Rattle.plan_model.specs.Plans.{side_plan}
 use Rattle.plan_model.specs.Sizes.{agreed_version, header_bytes, layout_in, layout_of, layout_to}

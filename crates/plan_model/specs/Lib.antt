@@ -1,7 +1,10 @@
-pub mod Declared
+pub mod Both
+pub mod DeclaredPlans
+pub mod Device
 pub mod Ethernet
 pub mod Examples
 pub mod Laws
+pub mod Link
 pub mod Macros
 pub mod Orders
 pub mod Pads

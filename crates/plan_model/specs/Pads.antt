@@ -1,5 +1,12 @@
--- The scratchpads of the handshake, as `ntb_transport` uses them: which number stands in which.
-use Rattle.std.specs.Prelude.{ℕ, ◌+◌}
+-- The scratchpads of the handshake, as `ntb_transport` uses them: which number stands in which, what a side offers in its
+-- peer's, and what a side that is up has in its own.
+use Rattle.std.specs.Prelude.{ℕ, ◌+◌, ◌-◌, ◌*◌, ◌/◌, ◌%◌, ◌^◌, List, [], ◌∷◌, ◌++◌, replicate}
+use Rattle.std.specs.List.{flat_map}
+use Rattle.step_kinds.specs.Bits.{all_below}
+use Rattle.step_kinds.specs.declared.plan.SidePlan.{SidePlan}
+use Rattle.step_kinds.specs.declared.steps.Label.{Label}
+use Rattle.step_kinds.specs.declared.steps.Label.TheVariants.{Pad}
+use Rattle.lane_model.specs.Lane.{count_from}
 
 -- the numbers of the scratchpads that the handshake uses
 abbrev pub version_pad : ℕ
@@ -19,3 +26,23 @@ high_pad m = 4 + (m + m)
 
 abbrev pub low_pad : ℕ → ℕ
 low_pad m = 5 + (m + m)
+
+-- a scratchpad has 32 bits, so a window's size takes two
+abbrev pub word : ℕ
+word = 2 ^ 32
+
+-- what a side offers, in this order: the size of each window in two halves, then windows, queues and version
+abbrev pub offers : SidePlan → List Label
+offers own =
+    flat_map (λ m. Pad (high_pad m) (own.size / word) ∷ Pad (low_pad m) (own.size % word) ∷ []) (count_from 0 own.windows)
+    ++ Pad windows_pad own.windows ∷ Pad queues_pad own.queues ∷ Pad version_pad own.version ∷ []
+
+abbrev pub pad_index : Label → ℕ
+pad_index (Pad i value) = i
+pad_index label = 0
+
+-- the scratchpads of a side that has the peer's whole offer and the word that all its queues are ready
+abbrev pub agreed_pads : SidePlan → List ℕ
+agreed_pads peer =
+    peer.version ∷ all_below peer.queues ∷ peer.queues ∷ peer.windows
+    ∷ (flat_map (λ m. peer.size / word ∷ peer.size % word ∷ []) (count_from 0 peer.windows) ++ replicate (12 - 2 * peer.windows) 0)

@@ -7,7 +7,7 @@ use Rattle.step_kinds.specs.declared.plan.PairPlan.{PairPlan}
 use Rattle.step_kinds.specs.declared.plan.Plan.{Plan}
 use Rattle.step_kinds.specs.declared.plan.Traffic.{Traffic}
 use Rattle.step_kinds.specs.declared.plan.Traffic.TheVariants.{Send, Break}
-use Rattle.plan_model.specs.Declared.{Agree, IsDeclared, IsPairOf, IsPermitted}
+use Rattle.plan_model.specs.DeclaredPlans.{Agree, IsDeclared, IsPairOf, IsPermitted}
 use Rattle.plan_model.specs.Plans.{pair_plan}
 use Rattle.plan_model.specs.Sizes.{sizes_of}
 

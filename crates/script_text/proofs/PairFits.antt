@@ -8,7 +8,7 @@ use Rattle.step_kinds.specs.Limits.{most_queues, most_windows, least_size, most_
 use Rattle.step_kinds.specs.Sides.{other_side}
 use Rattle.step_kinds.specs.declared.names.Side.{Side}
 use Rattle.step_kinds.specs.declared.names.Side.TheVariants.{A, B}
-use Rattle.plan_model.specs.Declared.{IsSide}
+use Rattle.plan_model.specs.DeclaredPlans.{IsSide}
 use Rattle.script_text.specs.Settings.{same_key, same_scope, is_within, is_size, in_range, number_at, side_number, size_of, side_with, mtu_in}
 use Rattle.script_text.specs.declared.settings.SideKey.{SideKey}
 use Rattle.script_text.specs.declared.settings.SideKey.TheVariants.{Size, Cap, Windows, Queues, Version}

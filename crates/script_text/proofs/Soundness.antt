@@ -9,7 +9,7 @@ use Rattle.step_kinds.specs.declared.names.Side.TheVariants.{A, B}
 use Rattle.step_kinds.specs.declared.plan.PairPlan.{PairPlan}
 use Rattle.step_kinds.specs.declared.plan.DevPlan.{DevPlan}
 use Rattle.step_kinds.specs.declared.plan.Plan.{Plan}
-use Rattle.plan_model.specs.Declared.{IsPair, IsDevice, IsQueueOf, AreClasses}
+use Rattle.plan_model.specs.DeclaredPlans.{IsPair, IsDevice, IsQueueOf, AreClasses}
 use Rattle.plan_model.specs.Plans.{side_plan, pair_plan, no_pair}
 use Rattle.script_text.specs.Before.{Before, with_class}
 use Rattle.script_text.specs.Sound.{IsSound}

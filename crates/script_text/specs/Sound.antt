@@ -2,7 +2,7 @@
 use Rattle.std.specs.Prelude.{◌≡◌, ◌+◌, ◌*◌, ◌<◌, ◌≤◌, false, length, map, sum, count_by}
 use Rattle.std.specs.List.{All}
 use Rattle.step_kinds.specs.Limits.{most_hosts, most_pairs, most_devices, most_steps, most_traffic_frames, most_traffic_bytes, most_breaks, IsClass}
-use Rattle.plan_model.specs.Declared.{IsPair, IsDevice, IsQueueOf}
+use Rattle.plan_model.specs.DeclaredPlans.{IsPair, IsDevice, IsQueueOf}
 use Rattle.plan_model.specs.TrafficPlans.{frames_in, bytes_in, is_break_of}
 use Rattle.script_text.specs.Before.{Before, has_name, pair_names, dev_names}
 use Rattle.script_text.specs.Compact.{steps_of}

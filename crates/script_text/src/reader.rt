@@ -41,7 +41,7 @@ impl Model for Reader {
 impl Reader {
     ghost use Rattle.script_text.specs.Before.{Before, Nothing, Host, APair, ADevice, AClass, StepsBegin, TrafficBegins, MoreSteps, MoreTraffic, nothing_before, with_given, has_name};
     ghost use Rattle.step_kinds.specs.Limits.{most_steps};
-    ghost use Rattle.plan_model.specs.Declared.{IsPair, IsDevice};
+    ghost use Rattle.plan_model.specs.DeclaredPlans.{IsPair, IsDevice};
     ghost use Rattle.plan_model.specs.Plans.{pair_plan, dev_plan};
     ghost use Rattle.script_text.specs.Compact.{given_of, steps_of};
     ghost use Rattle.script_text.specs.Sound.{Suits};

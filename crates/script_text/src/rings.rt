@@ -2,7 +2,7 @@
 
 ghost use Rattle.std.specs.Prelude.{◌≡◌, ◌<◌, ◌≤◌, ◌+◌, ◌^◌, if◌then◌else◌};
 ghost use Rattle.lane_model.specs.Lane.{chunks_in};
-ghost use Rattle.plan_model.specs.Declared.{IsPair};
+ghost use Rattle.plan_model.specs.DeclaredPlans.{IsPair};
 ghost use Rattle.plan_model.specs.Plans.{side_plan};
 ghost use Rattle.plan_model.specs.Sizes.{agreed_version, header_bytes, layout_of, pieces_in};
 ghost use Rattle.plan_model.specs.Macros.{posts_in};

@@ -2,7 +2,7 @@
 #![tactic(auto, unfolding(crate::specs::Tests::and_then))]
 
 ghost use Rattle.std.specs.Prelude.{◌≡◌, ◌<◌, ◌≤◌, ◌+◌, ◌∷◌, [], map, length};
-ghost use Rattle.plan_model.specs.Declared.{IsPair};
+ghost use Rattle.plan_model.specs.DeclaredPlans.{IsPair};
 ghost use Rattle.plan_model.specs.Ethernet.{ethernet_header};
 ghost use Rattle.plan_model.specs.Plans.{side_plan, pair_plan};
 ghost use Rattle.script_text.specs.Compact.{given_of, steps_of};

@@ -21,7 +21,7 @@ use Rattle.ledger_model.specs.Reading.{Reading}
 use Rattle.ledger_model.specs.Labels.{label_of, labels_of, write_of, index_of}
 use Rattle.ledger_model.specs.Ledger.{LanePart, PairPart, free_of, lane_of, posts, with_lane, updated}
 use Rattle.ledger_model.specs.Log.{is_on}
-use Rattle.ledger_model.specs.Sending.{begun, begun_lane, posts_through}
+use Rattle.ledger_model.specs.Sending.{begun, begun_lane, frame_begun, posts_through}
 use Rattle.plan_model.specs.Plans.{pair_plan}
 use Rattle.plan_model.specs.Sizes.{Sizes, sizes_of}
 use Rattle.ledger_laws.proofs.walk.Cases.{MaySend, needs, closing, posted_by}
@@ -99,9 +99,9 @@ module _ (plan : Plan) (lane : LaneName) (pair : PairPart) (reading : Reading) (
         own may =
             shown_as plan lane pair (step lane.from lane.queue) (OkNumber Now.lane.told) (after lane.from lane.queue) _
             (looks_so lane.from lane.queue
-            ∙ sight-tally lane.from lane.queue (with_lane pair lane.from lane.queue (begun_lane lane.queue Now.lane (pieces_of (SizesOf plan lane).largest frame))) pair.link.session _
+            ∙ sight-tally lane.from lane.queue (with_lane pair lane.from lane.queue (frame_begun lane.queue Now.lane (pieces_of (SizesOf plan lane).largest frame))) pair.link.session _
             ∙ ap (λ (s : Sight). record s { tally = updated Now.tally Now.session (more_accepted (Now.tally Now.session)) }) (sight-lane lane.from lane.queue pair _)
-            ∙ ap (λ pieces. record Now { lane = begun_lane lane.queue Now.lane pieces; tally = updated Now.tally Now.session (more_accepted (Now.tally Now.session)) }) cut.same)
+            ∙ ap (λ pieces. record Now { lane = frame_begun lane.queue Now.lane pieces; tally = updated Now.tally Now.session (more_accepted (Now.tally Now.session)) }) cut.same)
             (turned (Begins frame cut.first cut.others (record {
               up = may.up;
               joined = may.joined;
@@ -118,7 +118,7 @@ module _ (plan : Plan) (lane : LaneName) (pair : PairPart) (reading : Reading) (
         off s q case is may =
             shown_as plan lane pair (step s q) (OkNumber (lane_of pair s q).told) (after s q) _
             (looks_so s q
-            ∙ sight-tally_off lane.from lane.queue (with_lane pair s q (begun_lane q (lane_of pair s q) (pieces_of (SizesAt s q).largest frame))) s q pair.link.session _ is
+            ∙ sight-tally_off lane.from lane.queue (with_lane pair s q (frame_begun q (lane_of pair s q) (pieces_of (SizesAt s q).largest frame))) s q pair.link.session _ is
             ∙ sight-off lane.from lane.queue pair s q _ is)
             (turned (Rests false) (told s q (lane_of pair s q).told false (on-off lane p s q is)))
 

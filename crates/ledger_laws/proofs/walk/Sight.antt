@@ -7,11 +7,11 @@ use Rattle.step_kinds.specs.Sides.{other_side}
 use Rattle.step_kinds.specs.declared.names.Side.{Side}
 use Rattle.step_kinds.specs.declared.names.Side.TheVariants.{A, B}
 use Rattle.step_kinds.specs.declared.steps.Label.{Label}
-use Rattle.ledger_model.specs.Both.{at_side}
+use Rattle.plan_model.specs.Both.{at_side}
 use Rattle.ledger_model.specs.Ledger.{LanePart, SidePart, PairPart, Tally, side_of, lane_of, tally_of, posts, posts_raw, with_side_part, with_lane, with_tally, updated}
-use Rattle.ledger_model.specs.Link.{is_up}
+use Rattle.plan_model.specs.Link.{is_up}
 use Rattle.ledger_model.specs.Log.{same_side}
-use Rattle.ledger_model.specs.declared.LinkState.{LinkState}
+use Rattle.plan_model.specs.declared.LinkState.{LinkState}
 
 -- An end of the lane: its side, and what the link says of that side.
 pub record End : Type 0 where

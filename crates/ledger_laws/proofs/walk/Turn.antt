@@ -19,15 +19,16 @@ use Rattle.lane_model.specs.declared.Field.{Field}
 use Rattle.lane_model.specs.declared.Phase.TheVariants.{Idle, Copying, Copied, Cleared}
 use Rattle.lane_model.specs.declared.Write.{Write}
 use Rattle.lane_model.specs.declared.Write.TheVariants.{Data, Flag as EntryFlag}
-use Rattle.ledger_model.specs.Handshake.{offers, check_refusal}
+use Rattle.ledger_model.specs.Handshake.{check_refusal}
+use Rattle.plan_model.specs.Pads.{offers}
 use Rattle.ledger_model.specs.Labels.{labels_of, write_of, index_of}
 use Rattle.ledger_model.specs.Ledger.{LanePart, Tally, entry_in, free_of, updated}
-use Rattle.ledger_model.specs.Link.{is_up, is_down, is_closing}
+use Rattle.plan_model.specs.Link.{is_up, is_down, is_closing}
 use Rattle.ledger_model.specs.LinkSteps.{fresh_lane}
 use Rattle.ledger_model.specs.Log.{Answered}
 use Rattle.ledger_model.specs.Receiving.{is_idle, is_copying, is_copied, is_cleared}
-use Rattle.ledger_model.specs.Sending.{begun_lane}
-use Rattle.ledger_model.specs.declared.LinkState.TheVariants.{Down as LinkIsDown, Up as LinkIsUp, Closing}
+use Rattle.ledger_model.specs.Sending.{begun_lane, frame_begun}
+use Rattle.plan_model.specs.declared.LinkState.TheVariants.{Down as LinkIsDown, Up as LinkIsUp, Closing}
 use Rattle.plan_model.specs.Pads.{links_pad}
 use Rattle.plan_model.specs.Plans.{pair_plan, side_plan}
 use Rattle.plan_model.specs.Sizes.{Sizes, sizes_of, pieces_in}
@@ -249,7 +250,7 @@ pub data Turn (plan : Plan) (lane : LaneName) (s : Sight) (made : Answered) : Ne
       → MayBegin (IsRaw plan lane) (SizesOf plan lane) lane.queue s (length bytes) (pieces_in (SizesOf plan lane).largest (length bytes))
       → pieces_of (SizesOf plan lane).largest bytes ≡ first ∷ others
       → Turn plan lane s made (record no_news { takes = pieces_in (SizesOf plan lane).largest (length bytes); accepted = record { number = s.lane.told; bytes = bytes } ∷ [] })
-      (record s { lane = begun_lane lane.queue s.lane (first ∷ others); tally = updated s.tally s.session (more_accepted (s.tally s.session)) })
+      (record s { lane = frame_begun lane.queue s.lane (first ∷ others); tally = updated s.tally s.session (more_accepted (s.tally s.session)) })
   Closes : MayBegin (IsRaw plan lane) (SizesOf plan lane) lane.queue s 0 1 → Turn plan lane s made (record no_news { takes = 1 })
       (record s { sender = record s.sender { closed = with_bit s.sender.closed lane.queue }; lane = begun_lane lane.queue s.lane (GoesDown ∷ []) })
   Posts : (label : Label) (rest : List Label) → MayPost lane.queue s label rest → Turn plan lane s made no_news (posted Sender label (record s { lane = record s.lane { todo = rest } }))

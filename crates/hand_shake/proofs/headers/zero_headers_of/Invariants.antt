@@ -1,6 +1,6 @@
 use Rattle.std.proofs.Common.{◌≡◌, ℕ, ◌-◌, map}
 use Rattle.lane_model.specs.Lane.{count_from}
-use Rattle.memory_model.specs.Targets.{zeroed_header}
+use Rattle.byte_model.specs.FreshRings.{zeroed_header}
 use Rattle.plan_model.specs.Sizes.{layout_to}
 use Rattle.ring_geometry.specs.Geometry.{entries_of}
 use Rattle.bridge_pair.specs.Bridge.{bytes_of, with_bytes}

@@ -4,7 +4,7 @@ use Rattle.byte_model.specs.Headers.{word_bytes}
 use Rattle.byte_model.specs.Stores.{Store}
 use Rattle.host_memory.specs.Memory.{ArePromised, written}
 use Rattle.lane_model.specs.Lane.{count_from}
-use Rattle.memory_model.specs.Targets.{fresh_index_word}
+use Rattle.byte_model.specs.FreshRings.{fresh_index_word}
 use Rattle.plan_model.specs.Sizes.{layout_of}
 use Rattle.ring_geometry.specs.Geometry.{entries_of}
 use Rattle.step_kinds.specs.declared.plan.PairPlan.{PairPlan}

@@ -1,6 +1,6 @@
 use Rattle.std.proofs.Common.{◌≡◌, ℕ, ◌-◌, map}
 use Rattle.lane_model.specs.Lane.{count_from}
-use Rattle.memory_model.specs.Targets.{fresh_index_word}
+use Rattle.byte_model.specs.FreshRings.{fresh_index_word}
 use Rattle.plan_model.specs.Plans.{side_plan}
 use Rattle.bridge_pair.specs.Bridge.{bytes_of, with_bytes}
 use Rattle.bridge_pair.specs.Ends.{bytes_after}

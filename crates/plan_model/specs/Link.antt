@@ -2,11 +2,11 @@
 -- link and the event that tells of its loss; sessions, and the clean bit of a side, are this project's profile.
 use Rattle.std.specs.Prelude.{ℕ, ◌+◌, ◌==◌, Bool, true, false, not, ◌&&◌, Option, Some, None}
 use Rattle.step_kinds.specs.declared.names.Side.{Side}
-use Rattle.ledger_model.specs.Both.{Both, at_side, with_side, both_of}
-use Rattle.ledger_model.specs.declared.LinkState.{LinkState}
-use Rattle.ledger_model.specs.declared.LinkState.TheVariants.{Down, Up, Closing}
-use Rattle.ledger_model.specs.declared.LinkRefusal.{LinkRefusal}
-use Rattle.ledger_model.specs.declared.LinkRefusal.TheVariants.{NotDown, Dirty, NotEnabled, NotUp, NotClosing, SessionsSpent}
+use Rattle.plan_model.specs.Both.{Both, at_side, with_side, both_of}
+use Rattle.plan_model.specs.declared.LinkState.{LinkState}
+use Rattle.plan_model.specs.declared.LinkState.TheVariants.{Down, Up, Closing}
+use Rattle.plan_model.specs.declared.LinkRefusal.{LinkRefusal}
+use Rattle.plan_model.specs.declared.LinkRefusal.TheVariants.{NotDown, Dirty, NotEnabled, NotUp, NotClosing, SessionsSpent}
 
 pub record Link : Type 0 where
   pub state : LinkState
