@@ -6,11 +6,9 @@ use Rattle.std.proofs.lemmas.Nat.{mul-le}
 use Rattle.std.proofs.lemmas.Bool.{cases_eq, cond_both}
 use Rattle.step_kinds.specs.declared.plan.PairPlan.{PairPlan}
 use Rattle.ledger_laws.proofs.Frames.{frames_from, number_after, rest_after}
-use Rattle.ledger_model.specs.Log.{Numbered}
-use Rattle.std.proofs.lemmas.List.{length-map, length-drop, drop-drop, take_all, take-append-drop}
+use Rattle.std.proofs.lemmas.List.{length-drop, drop-drop, take_all, take-append-drop}
 use Rattle.lane_model.specs.Lane.{Entry, Carries, count_from}
-use Rattle.lane_laws.proofs.Facade.{length-count_from}
-use Rattle.ledger_model.specs.Pieces.{piece_of, pieces_of}
+use Rattle.ledger_model.specs.Pieces.{pieces_of}
 use Rattle.plan_model.specs.Sizes.{agreed_version, most_bytes, pieces_in}
 
 -- Joined, the pieces are the frame

@@ -15,12 +15,12 @@ ghost use Rattle.ledger_laws.specs.Laws.{
 ghost use Rattle.ledger_laws.specs.Rings.{RingLawHolds};
 
 /// In every log, what was delivered on a lane in a session is a prefix of what was accepted there, and both are
-/// numbered from 0 on. No premise.
+/// numbered from 0 on. Premise: the pair is ordinary, that is, not declared `raw`.
 pub fn every_log_is_in_order()
     ensures { EveryLogIsInOrder }
 {}
 
-/// In every log no number of a lane and a session is delivered twice. No premise.
+/// In every log no number of a lane and a session is delivered twice. Premise: the pair is ordinary.
 pub fn every_frame_comes_once()
     ensures { EveryFrameComesOnce }
 {}
@@ -58,9 +58,9 @@ pub fn up_means_agreement()
 {}
 
 /// Where nothing is on its way to a receiver and it has seen so, all that was accepted in the session was delivered.
-/// Premises, all of the moment: the link is up, the queue is joined and open at the receiver, nothing is in flight
-/// towards it or left to post on the queue, its doorbell isn't pending, and the last look since it was taken was
-/// `empty`.
+/// Premises: the pair is ordinary; and at that moment the link is up, the queue is joined and open at the receiver,
+/// nothing is in flight towards it, the sender has no write left to post on the queue and no entry waiting, the queue's
+/// doorbell isn't pending, and the last look since it was taken was `empty`.
 pub fn quiet_means_done()
     ensures { QuietMeansDone }
 {}
