@@ -25,9 +25,10 @@ pub fn every_frame_comes_once()
     ensures { EveryFrameComesOnce }
 {}
 
-/// A step that begins an entry is answered `again` exactly where the answer is no refusal that is tested before the room,
-/// and the room is 0: the ring's entries less one, less the entries begun and plus the index writes landed in the
-/// session. No premise.
+/// A step that begins entries is answered `again` exactly where it isn't refused for another reason (the link isn't up,
+/// the queue isn't joined on the side or is closed there, the frame is too long, of the frame before it something is
+/// left to post, the device is stopped) and the room is less than it needs: the ring's entries less one, less the
+/// entries begun and plus the index writes landed in the session. Premise: the pair is ordinary.
 pub fn again_where_no_room()
     ensures { AgainWhereNoRoom }
 {}
