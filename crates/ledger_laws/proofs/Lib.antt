@@ -17,7 +17,7 @@ pub mod OffersInSession
 pub mod Outcomes
 pub mod PairsAreSeparate
 pub mod Pieces
-mod PiecesJoined
+pub mod PiecesJoined
 pub mod QuietMeansDone
 pub mod RingLawHolds
 pub mod RingOfLane

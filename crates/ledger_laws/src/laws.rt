@@ -15,19 +15,20 @@ ghost use Rattle.ledger_laws.specs.Laws.{
 ghost use Rattle.ledger_laws.specs.Rings.{RingLawHolds};
 
 /// In every log, what was delivered on a lane in a session is a prefix of what was accepted there, and both are
-/// numbered from 0 on. No premise.
+/// numbered from 0 on. Premise: the pair is ordinary, that is, not declared `raw`.
 pub fn every_log_is_in_order()
     ensures { EveryLogIsInOrder }
 {}
 
-/// In every log no number of a lane and a session is delivered twice. No premise.
+/// In every log no number of a lane and a session is delivered twice. Premise: the pair is ordinary.
 pub fn every_frame_comes_once()
     ensures { EveryFrameComesOnce }
 {}
 
-/// A step that begins an entry is answered `again` exactly where the answer is no refusal that is tested before the room,
-/// and the room is 0: the ring's entries less one, less the entries begun and plus the index writes landed in the
-/// session. No premise.
+/// A step that begins entries is answered `again` exactly where it isn't refused for another reason (the link isn't up,
+/// the queue isn't joined on the side or is closed there, the frame is too long, of the frame before it something is
+/// left to post, the device is stopped) and the room is less than it needs: the ring's entries less one, less the
+/// entries begun and plus the index writes landed in the session. Premise: the pair is ordinary.
 pub fn again_where_no_room()
     ensures { AgainWhereNoRoom }
 {}
@@ -58,9 +59,9 @@ pub fn up_means_agreement()
 {}
 
 /// Where nothing is on its way to a receiver and it has seen so, all that was accepted in the session was delivered.
-/// Premises, all of the moment: the link is up, the queue is joined and open at the receiver, nothing is in flight
-/// towards it or left to post on the queue, its doorbell isn't pending, and the last look since it was taken was
-/// `empty`.
+/// Premises: the pair is ordinary; and at that moment the link is up, the queue is joined and open at the receiver,
+/// nothing is in flight towards it, the sender has no write left to post on the queue and no entry waiting, the queue's
+/// doorbell isn't pending, and the last look since it was taken was `empty`.
 pub fn quiet_means_done()
     ensures { QuietMeansDone }
 {}
