@@ -3,6 +3,7 @@ pub mod AtStart
 pub mod BitSets
 pub mod CleanSides
 pub mod Facade
+pub mod EntriesFit
 pub mod FlagsAndBells
 pub mod Frames
 pub mod FramesInOrder

@@ -13,6 +13,7 @@ ghost use Rattle.ledger_laws.specs.Laws.{
   UpMeansAgreement,
 };
 ghost use Rattle.ledger_laws.specs.Rings.{RingLawHolds};
+ghost use Rattle.ledger_laws.specs.States.{EntriesFitTheRing};
 
 /// In every log, what was delivered on a lane in a session is a prefix of what was accepted there, and both are
 /// numbered from 0 on. No premise.
@@ -69,4 +70,11 @@ pub fn quiet_means_done()
 /// has a ring, and among the steps on the pair none writes a scratchpad below 12 or bytes past the transport.
 pub fn ring_law_holds()
     ensures { RingLawHolds }
+{}
+
+/// Each entry that was begun, and each piece of a frame that waits, has at most the bytes that a slot takes; and beside
+/// them one slot of the ring stays free. Premises: the pair isn't declared raw; of the free slot, that the ring has
+/// one.
+pub fn entries_fit_the_ring()
+    ensures { EntriesFitTheRing }
 {}
