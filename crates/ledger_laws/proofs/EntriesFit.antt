@@ -245,12 +245,12 @@ leaves_kept plan lane s made news t no_raw turn chain waits takes h = h
 
 -- The law
 
-record EntriesKnown (plan : Plan) (lane : LaneName) (log : List Answered) (s : Sight) : Type 0 where
-  room : RoomKnown plan lane log s
-  fits : FitsOf (SizesOf plan lane).largest lane.queue s
-  leaves : LeavesOf (SizesOf plan lane).entries s
+pub record EntriesKnown (plan : Plan) (lane : LaneName) (log : List Answered) (s : Sight) : Type 0 where
+  pub room : RoomKnown plan lane log s
+  pub fits : FitsOf (SizesOf plan lane).largest lane.queue s
+  pub leaves : LeavesOf (SizesOf plan lane).entries s
 
-entries_run : (plan : Plan) (lane : LaneName) → IsRaw plan lane ≡ false → HoldsAlways plan lane (EntriesKnown plan lane)
+pub entries_run : (plan : Plan) (lane : LaneName) → IsRaw plan lane ≡ false → HoldsAlways plan lane (EntriesKnown plan lane)
 entries_run plan lane no_raw = record {
   fresh = record {
     room = (room_runs plan lane no_raw).fresh;

@@ -7,6 +7,7 @@ pub mod EntriesFit
 pub mod FlagsAndBells
 pub mod Frames
 pub mod FramesInOrder
+pub mod FreshLanes
 pub mod InFlight
 pub mod JoinedSides
 pub mod Labels
