@@ -3,9 +3,11 @@ pub mod AtStart
 pub mod BitSets
 pub mod CleanSides
 pub mod Facade
+pub mod EntriesFit
 pub mod FlagsAndBells
 pub mod Frames
 pub mod FramesInOrder
+pub mod FreshLanes
 pub mod InFlight
 pub mod JoinedSides
 pub mod Labels

@@ -13,6 +13,7 @@ ghost use Rattle.ledger_laws.specs.Laws.{
   UpMeansAgreement,
 };
 ghost use Rattle.ledger_laws.specs.Rings.{RingLawHolds};
+ghost use Rattle.ledger_laws.specs.States.{EntriesFitTheRing, NoEntryBeforeBothUp};
 
 /// In every log, what was delivered on a lane in a session is a prefix of what was accepted there, and both are
 /// numbered from 0 on. Premise: the pair is ordinary, that is, not declared `raw`.
@@ -70,4 +71,18 @@ pub fn quiet_means_done()
 /// has a ring, and among the steps on the pair none writes a scratchpad below 12 or bytes past the transport.
 pub fn ring_law_holds()
     ensures { RingLawHolds }
+{}
+
+/// Each entry that was begun, and each piece of a frame that waits, has at most the bytes that a slot takes; and beside
+/// them one slot of the ring stays free. Premises: the pair isn't declared raw; of the free slot, that the ring has
+/// one.
+pub fn entries_fit_the_ring()
+    ensures { EntriesFitTheRing }
+{}
+
+/// Until both sides of a pair are up in a session, each of its lanes is as it was at the session's start, and nothing of
+/// a lane is in flight. Premises: the pair isn't declared raw, its link isn't down, and among the steps on the pair none
+/// writes a scratchpad below 12 or bytes past the transport.
+pub fn no_entry_before_both_up()
+    ensures { NoEntryBeforeBothUp }
 {}
