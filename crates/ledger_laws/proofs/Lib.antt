@@ -21,6 +21,7 @@ pub mod PairsAreSeparate
 pub mod Pieces
 pub mod PiecesJoined
 pub mod QuietMeansDone
+pub mod RefusalsChangeNothing
 pub mod RingLawHolds
 pub mod RingOfLane
 pub mod RoomInLog

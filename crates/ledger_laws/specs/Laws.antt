@@ -9,13 +9,14 @@ use Rattle.step_kinds.specs.declared.names.Side.{Side}
 use Rattle.step_kinds.specs.declared.plan.SidePlan.{SidePlan}
 use Rattle.step_kinds.specs.declared.plan.Plan.{Plan}
 use Rattle.step_kinds.specs.declared.steps.Answer.{Answer}
-use Rattle.step_kinds.specs.declared.steps.Answer.TheVariants.{LinkDown, Again, Up}
+use Rattle.step_kinds.specs.declared.steps.Answer.TheVariants.{Ok as Done, OkSession, OkNumber, LinkDown, Offered, Up, Joined, Again, Posted, Landed, PeerDown, ReadyFrame, Copied, Delivered, Cleared, Acked, Awake, Irq as IrqBits, Mem, PadValue, QueueShown}
 use Rattle.step_kinds.specs.declared.steps.Step.{Step}
-use Rattle.step_kinds.specs.declared.steps.Step.TheVariants.{Begin, QpDown, Xbegin, Offer, Check, Ready, Join, Spad, Poke}
+use Rattle.step_kinds.specs.declared.steps.Step.TheVariants.{Enable, Train, Break, DropDone, Clean, Offer, Check, Ready, Join, Begin, QpDown, Xbegin, Post, Land, Look, Copy, Clear, Ack, Wake, Irq, Mask, Unmask, Spad, Poke, ShowMem, ShowPad, ShowQueue}
 use Rattle.plan_model.specs.Pads.{word}
-use Rattle.ledger_model.specs.Ledger.{PairPart, side_of, lane_of, dev_of, tally_of, link_up}
+use Rattle.ledger_model.specs.Ledger.{PairPart, side_of, lane_of, dev_of, tally_of, link_up, with_dev}
 use Rattle.ledger_model.specs.Log.{Answered, Memories, Numbered, log_of, ledger_of, accepted, delivered, room_in, up_at, landed_pad, last_look_empty}
 use Rattle.ledger_model.specs.Sending.{is_busy}
+use Rattle.plan_model.specs.Device.{count_refused}
 use Rattle.plan_model.specs.Ethernet.{ethernet_frame}
 use Rattle.plan_model.specs.Pads.{version_pad, queues_pad, windows_pad, high_pad, low_pad}
 use Rattle.plan_model.specs.Plans.{pair_plan, side_plan, dev_plan}
@@ -169,6 +170,55 @@ abbrev pub UpMeansAgreement : Type 0
 UpMeansAgreement = (plan : Plan) (memories : Memories) (steps : List Step) (pair : ℕ) (side : Side) →
     HasSides plan → pair < length plan.pairs → AllByRecursion (IsOrdinaryOn pair) (steps ++ Check pair side ∷ []) → GoesOn plan memories steps (Check pair side) Up →
     Agrees (log_of plan memories steps) pair side (side_plan (pair_plan plan pair) side) (side_plan (pair_plan plan pair) (other_side side))
+
+-- Refusals
+
+-- whether a step was made, by its answer: any other answer to it is a refusal
+abbrev pub is_made : Step → Answer → Bool
+is_made (Enable pair side) Done = true
+is_made (Train pair) (OkSession session) = true
+is_made (Break pair) Done = true
+is_made (DropDone pair) Done = true
+is_made (Clean pair side) Done = true
+is_made (Offer pair side) (Offered index) = true
+is_made (Check pair side) Up = true
+is_made (Ready pair side queue) Done = true
+is_made (Join pair side queue) Joined = true
+is_made (Begin pair side queue frame) (OkNumber number) = true
+is_made (QpDown pair side queue) (OkNumber number) = true
+is_made (Xbegin pair side queue dev dst kind payload) (OkNumber number) = true
+is_made (Post pair side queue) (Posted label) = true
+is_made (Land pair side place) (Landed label) = true
+is_made (Look pair side queue) (ReadyFrame number len) = true
+is_made (Look pair side queue) PeerDown = true
+is_made (Copy pair side queue) (Copied number part) = true
+is_made (Copy pair side queue) (Delivered number frame) = true
+is_made (Clear pair side queue) (Cleared number) = true
+is_made (Ack pair side queue) (Acked number) = true
+is_made (Wake pair side queue dev) Awake = true
+is_made (Irq pair side) (IrqBits bits) = true
+is_made (Mask pair side bits) Done = true
+is_made (Unmask pair side bits) Done = true
+is_made (Spad pair side index value) Done = true
+is_made (Poke pair side window offset bytes) Done = true
+is_made (ShowMem pair side at len) (Mem bytes) = true
+is_made (ShowPad pair side index) (PadValue value) = true
+is_made (ShowQueue pair side place) (QueueShown count label) = true
+is_made step answer = false
+
+-- a pair once a step on it was refused: a device counts the refusal of its frame, and nothing else changes
+abbrev pub after_refusal : PairPart → Step → PairPart
+after_refusal now (Xbegin pair side queue dev dst kind payload) =
+    let own = dev_of now side queue in
+    with_dev now side queue (record own { counters = count_refused own.counters })
+after_refusal now step = now
+
+-- a step that was refused leaves every pair as it was, but for that count
+abbrev pub RefusalsChangeNothing : Type 0
+RefusalsChangeNothing = (plan : Plan) (memories : Memories) (steps : List Step) (step : Step) (answer : Answer) (pair : ℕ) →
+    GoesOn plan memories steps step answer → is_made step answer ≡ false →
+    ledger_of plan memories (steps ++ step ∷ []) pair
+    ≡ (if pair == subject_of step then after_refusal (ledger_of plan memories steps pair) step else ledger_of plan memories steps pair)
 
 -- Quiet
 

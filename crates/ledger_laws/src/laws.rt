@@ -9,6 +9,7 @@ ghost use Rattle.ledger_laws.specs.Laws.{
   LinkDownWhereNotUp,
   PairsAreSeparate,
   QuietMeansDone,
+  RefusalsChangeNothing,
   TalliesAreCounts,
   UpMeansAgreement,
 };
@@ -65,6 +66,14 @@ pub fn up_means_agreement()
 /// doorbell isn't pending, and the last look since it was taken was `empty`.
 pub fn quiet_means_done()
     ensures { QuietMeansDone }
+{}
+
+/// A step that is refused, that is, answered anything but what a step of its kind is answered where it is made, leaves
+/// every pair as it was; of a device's frame that is refused the device's count of refusals alone grows. So `idle`,
+/// `nothing`, `blocked`, `empty`, `verdiffers` and `long` change nothing either; `peerdown` is no refusal, for it closes
+/// the queue. No premise: it holds on raw pairs too.
+pub fn refusals_change_nothing()
+    ensures { RefusalsChangeNothing }
 {}
 
 /// Whenever both sides of a pair are up, the law of the ring holds of each of its lanes. Premises: the lane's window
