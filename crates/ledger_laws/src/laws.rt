@@ -13,7 +13,7 @@ ghost use Rattle.ledger_laws.specs.Laws.{
   UpMeansAgreement,
 };
 ghost use Rattle.ledger_laws.specs.Rings.{IndexWordIsTail, RingLawHolds, RingLawOfReceiver};
-ghost use Rattle.ledger_laws.specs.States.{EntriesFitTheRing, NoEntryBeforeBothUp};
+ghost use Rattle.ledger_laws.specs.States.{EntriesFitTheRing, NoEntryBeforeBothUp, NothingInFlightWhileDown};
 
 /// In every log, what was delivered on a lane in a session is a prefix of what was accepted there, and both are
 /// numbered from 0 on. No premise.
@@ -99,4 +99,10 @@ pub fn entries_fit_the_ring()
 /// writes a scratchpad below 12 or bytes past the transport.
 pub fn no_entry_before_both_up()
     ensures { NoEntryBeforeBothUp }
+{}
+
+/// While the link of a pair is down nothing is in flight from either side, and no bytes of raw writes are kept. No
+/// premise.
+pub fn nothing_in_flight_while_down()
+    ensures { NothingInFlightWhileDown }
 {}
