@@ -108,7 +108,7 @@ module _ (q : ℕ) (s : Sight) where
   pub not_in_phase : (test : Phase → Bool) → test Idle ≡ false → test s.lane.phase ≡ true → is_down s.state ≡ false → FreshOf q s → OneDown s.sender.up s.receiver.up → ⊥
   not_in_phase test elsewhere turn up h one = both_ways (test s.lane.phase) (ap (λ (l : LanePart). test l.phase) (h up one).fresh ∙ elsewhere) turn
 
-own_index : (q n : ℕ) → index_of q (Index q n) ≡ Some n
+pub own_index : (q n : ℕ) → index_of q (Index q n) ≡ Some n
 own_index q n = cond-true (q == q) (Some n) None (eq-eqb q q refl)
 
 pub fresh_kept : (plan : Plan) (lane : LaneName) (s : Sight) (made : Answered) (news : News) (t : Sight) → IsRaw plan lane ≡ false → Turn plan lane s made news t

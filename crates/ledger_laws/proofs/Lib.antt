@@ -14,9 +14,11 @@ pub mod Labels
 pub mod LinkDownWhereNotUp
 pub mod LogGrowth
 pub mod LogReaders
+pub mod NothingWhileDown
 pub mod Offers
 pub mod OffersInSession
 pub mod Outcomes
+pub mod PairStates
 pub mod PairsAreSeparate
 pub mod Pieces
 pub mod PiecesJoined

@@ -1,5 +1,5 @@
 -- Facts of the states that a pair can be in, after every log.
-use Rattle.std.specs.Prelude.{◌≡◌, ℕ, ◌+◌, ◌<◌, ◌≤◌, false, List, [], length, slice_index_or}
+use Rattle.std.specs.Prelude.{◌≡◌, ℕ, ◌+◌, ◌<◌, ◌≤◌, true, false, List, [], length, slice_index_or}
 use Rattle.std.specs.List.{AllByRecursion}
 use Rattle.step_kinds.specs.Sides.{other_side}
 use Rattle.step_kinds.specs.declared.names.LaneName.{LaneName}
@@ -9,7 +9,7 @@ use Rattle.step_kinds.specs.declared.steps.Step.{Step}
 use Rattle.lane_model.specs.Lane.{Entry, GoesDown, bytes_of}
 use Rattle.ring_geometry.specs.Geometry.{HasRing}
 use Rattle.ledger_model.specs.Labels.{writes_among, indexes_among}
-use Rattle.ledger_model.specs.Ledger.{LanePart, PairPart, side_of, lane_of, begun_in}
+use Rattle.ledger_model.specs.Ledger.{LanePart, SidePart, PairPart, side_of, lane_of, begun_in}
 use Rattle.ledger_model.specs.LinkSteps.{fresh_lane}
 use Rattle.ledger_model.specs.Log.{Memories, ledger_of}
 use Rattle.plan_model.specs.Link.{is_down}
@@ -50,3 +50,14 @@ abbrev pub NoEntryBeforeBothUp : Type 0
 NoEntryBeforeBothUp = (plan : Plan) (memories : Memories) (steps : List Step) (pair : ℕ) (side from : Side) (queue : ℕ) →
     IsOrdinaryPair plan pair → AllByRecursion (IsOrdinaryOn pair) steps → HasNotComeUp (ledger_of plan memories steps pair) side →
     HasNoEntry (ledger_of plan memories steps pair) from queue
+
+-- A link that is down
+
+-- nothing that a side posted is in flight, and no bytes of raw writes are kept
+pub record HasNothingInFlight (own : SidePart) : Type 0 where
+  pub none_in_flight : own.flight ≡ []
+  pub none_kept : own.poked ≡ []
+
+abbrev pub NothingInFlightWhileDown : Type 0
+NothingInFlightWhileDown = (plan : Plan) (memories : Memories) (steps : List Step) (pair : ℕ) (side : Side) →
+    is_down (ledger_of plan memories steps pair).link.state ≡ true → HasNothingInFlight (side_of (ledger_of plan memories steps pair) side)
