@@ -171,7 +171,7 @@ pub record SidesKnown (q : ℕ) (s : Sight) : Type 0 where
 abbrev pub started : PairPlan → Bool → PairPart
 started plan up = record (fresh_pair plan) { link = fresh_link up; sides = (if up then record { a = agreed_side plan.a plan.b; b = agreed_side plan.b plan.a } else both_of idle_side) }
 
-joins_at_start : (plan : PairPlan) (from : Side) (q : ℕ) (up : Bool) → JoinsOf (sight from q (started plan up))
+pub joins_at_start : (plan : PairPlan) (from : Side) (q : ℕ) (up : Bool) → JoinsOf (sight from q (started plan up))
 joins_at_start plan A q true = (facts_up _ _ _ _, facts_up _ _ _ _)
 joins_at_start plan B q true = (facts_up _ _ _ _, facts_up _ _ _ _)
 joins_at_start plan A q false = (facts_idle _ _, facts_idle _ _)

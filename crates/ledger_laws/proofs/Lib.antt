@@ -9,6 +9,7 @@ pub mod Frames
 pub mod FramesInOrder
 pub mod FreshLanes
 pub mod InFlight
+pub mod JoinedMeansAgreement
 pub mod JoinedSides
 pub mod Labels
 pub mod LinkDownWhereNotUp

@@ -1,10 +1,12 @@
 -- Facts of the states that a pair can be in, after every log.
 use Rattle.std.specs.Prelude.{◌≡◌, ℕ, ◌+◌, ◌<◌, ◌≤◌, true, false, List, [], length, slice_index_or}
 use Rattle.std.specs.List.{AllByRecursion}
+use Rattle.step_kinds.specs.Bits.{has_bit}
 use Rattle.step_kinds.specs.Sides.{other_side}
 use Rattle.step_kinds.specs.declared.names.LaneName.{LaneName}
 use Rattle.step_kinds.specs.declared.names.Side.{Side}
 use Rattle.step_kinds.specs.declared.plan.Plan.{Plan}
+use Rattle.step_kinds.specs.declared.plan.SidePlan.{SidePlan}
 use Rattle.step_kinds.specs.declared.steps.Step.{Step}
 use Rattle.lane_model.specs.Lane.{Entry, GoesDown, bytes_of}
 use Rattle.ring_geometry.specs.Geometry.{HasRing}
@@ -12,8 +14,9 @@ use Rattle.ledger_model.specs.Labels.{writes_among, indexes_among}
 use Rattle.ledger_model.specs.Ledger.{LanePart, SidePart, PairPart, side_of, lane_of, begun_in}
 use Rattle.ledger_model.specs.LinkSteps.{fresh_lane}
 use Rattle.ledger_model.specs.Log.{Memories, ledger_of}
+use Rattle.plan_model.specs.DeclaredPlans.{IsPair, Agree}
 use Rattle.plan_model.specs.Link.{is_down}
-use Rattle.plan_model.specs.Plans.{pair_plan}
+use Rattle.plan_model.specs.Plans.{pair_plan, side_plan}
 use Rattle.plan_model.specs.Sizes.{Sizes, layout_of, sizes_of}
 use Rattle.ledger_laws.specs.Laws.{IsOrdinaryOn, IsOrdinaryPair}
 
@@ -61,3 +64,24 @@ pub record HasNothingInFlight (own : SidePart) : Type 0 where
 abbrev pub NothingInFlightWhileDown : Type 0
 NothingInFlightWhileDown = (plan : Plan) (memories : Memories) (steps : List Step) (pair : ℕ) (side : Side) →
     is_down (ledger_of plan memories steps pair).link.state ≡ true → HasNothingInFlight (side_of (ledger_of plan memories steps pair) side)
+
+-- Agreement
+
+-- what a side has seen of its peer when its check was answered `up`
+pub record AgreesWith (own peer : SidePlan) : Type 0 where
+  pub versions : (4 ≤ own.version) × (4 ≤ peer.version)
+  pub queues : peer.queues ≡ own.queues
+  pub windows : peer.windows ≡ own.windows
+  pub size_fits : peer.size ≤ own.cap
+
+-- a side is up where its numbers agree with the peer's alone
+abbrev pub UpSideAgrees : Type 0
+UpSideAgrees = (plan : Plan) (memories : Memories) (steps : List Step) (pair : ℕ) (side : Side) →
+    IsPair (pair_plan plan pair) → AllByRecursion (IsOrdinaryOn pair) steps → (side_of (ledger_of plan memories steps pair) side).up ≡ true →
+    AgreesWith (side_plan (pair_plan plan pair) side) (side_plan (pair_plan plan pair) (other_side side))
+
+-- a queue is joined where all numbers of the two sides agree alone, those of both sides' windows among them
+abbrev pub JoinedMeansAgreement : Type 0
+JoinedMeansAgreement = (plan : Plan) (memories : Memories) (steps : List Step) (pair : ℕ) (side : Side) (queue : ℕ) →
+    IsPair (pair_plan plan pair) → AllByRecursion (IsOrdinaryOn pair) steps → has_bit (side_of (ledger_of plan memories steps pair) side).joined queue ≡ true →
+    Agree (pair_plan plan pair)

@@ -13,7 +13,13 @@ ghost use Rattle.ledger_laws.specs.Laws.{
   UpMeansAgreement,
 };
 ghost use Rattle.ledger_laws.specs.Rings.{IndexWordIsTail, RingLawHolds, RingLawOfReceiver};
-ghost use Rattle.ledger_laws.specs.States.{EntriesFitTheRing, NoEntryBeforeBothUp, NothingInFlightWhileDown};
+ghost use Rattle.ledger_laws.specs.States.{
+  EntriesFitTheRing,
+  JoinedMeansAgreement,
+  NoEntryBeforeBothUp,
+  NothingInFlightWhileDown,
+  UpSideAgrees,
+};
 
 /// In every log, what was delivered on a lane in a session is a prefix of what was accepted there, and both are
 /// numbered from 0 on. No premise.
@@ -105,4 +111,18 @@ pub fn no_entry_before_both_up()
 /// premise.
 pub fn nothing_in_flight_while_down()
     ensures { NothingInFlightWhileDown }
+{}
+
+/// While a side is up, from its check in a session until its clean, both sides' versions are 4 at least, they have as
+/// many queues and windows, and each window that the peer sends through fits the side's memory. Premises: the pair is
+/// one that a script can declare, and among the steps on it none writes a scratchpad below 12 or bytes past the
+/// transport.
+pub fn up_side_agrees()
+    ensures { UpSideAgrees }
+{}
+
+/// While a queue is joined on a side, the two sides' numbers agree whole: versions, queues, windows, and the sizes of
+/// both sides' windows with the other's memory. Premises: as of [`up_side_agrees`].
+pub fn joined_means_agreement()
+    ensures { JoinedMeansAgreement }
 {}
