@@ -12,6 +12,7 @@ pub mod InFlight
 pub mod JoinedMeansAgreement
 pub mod JoinedSides
 pub mod Labels
+pub mod LabelsOfEntries
 pub mod LinkDownWhereNotUp
 pub mod LogGrowth
 pub mod LogReaders

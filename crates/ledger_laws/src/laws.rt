@@ -16,6 +16,7 @@ ghost use Rattle.ledger_laws.specs.Rings.{IndexWordIsTail, RingLawHolds, RingLaw
 ghost use Rattle.ledger_laws.specs.States.{
   EntriesFitTheRing,
   JoinedMeansAgreement,
+  LabelsAreOfEntries,
   NoEntryBeforeBothUp,
   NothingInFlightWhileDown,
   UpSideAgrees,
@@ -125,4 +126,11 @@ pub fn up_side_agrees()
 /// both sides' windows with the other's memory. Premises: as of [`up_side_agrees`].
 pub fn joined_means_agreement()
     ensures { JoinedMeansAgreement }
+{}
+
+/// Each label of a lane that is in flight from its sender, or left to post, is of an entry that was begun in the session:
+/// a chunk is one of the entry's, flags are those of a frame's piece or of a link-down entry as the entry is. Each index
+/// write in flight is of an entry that was acknowledged. Premise: the pair isn't declared raw.
+pub fn labels_are_of_entries()
+    ensures { LabelsAreOfEntries }
 {}
