@@ -42,7 +42,7 @@ all_weaker : {P Q : Label → Type 0} → ((label : Label) → P label → Q lab
 all_weaker weaker [] all = tt
 all_weaker weaker (label ∷ labels) all = (weaker label all.0, all_weaker weaker labels all.1)
 
-all_remove : (P : Label → Type 0) (labels : List Label) (place : ℕ) → AllByRecursion P labels → AllByRecursion P (remove labels place)
+pub all_remove : (P : Label → Type 0) (labels : List Label) (place : ℕ) → AllByRecursion P labels → AllByRecursion P (remove labels place)
 all_remove P [] zero all = tt
 all_remove P [] (suc place) all = tt
 all_remove P (label ∷ labels) zero all = all.1

@@ -13,6 +13,7 @@ pub mod JoinedMeansAgreement
 pub mod JoinedSides
 pub mod Labels
 pub mod LabelsOfEntries
+pub mod LabelsPostable
 pub mod LinkDownWhereNotUp
 pub mod LogGrowth
 pub mod LogReaders

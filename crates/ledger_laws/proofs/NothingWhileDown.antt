@@ -186,7 +186,7 @@ fresh-poked plan side = go plan.up side
 none_holds : (plan : Plan) (pair : ℕ) → HoldsOfPair plan pair (λ step. Unit {0}) KeepsNone
 none_holds plan pair = record {
   fresh = λ down side. fresh-poked (pair_plan plan pair) side;
-  steps = λ bytes part step fits on none. none_next plan.devs (pair_plan plan pair) (reading_of (pair_plan plan pair) bytes part) bytes part step none;
+  steps = λ bytes part step fits on todos none. none_next plan.devs (pair_plan plan pair) (reading_of (pair_plan plan pair) bytes part) bytes part step none;
 }
 
 all_fit : (steps : List Step) → AllByRecursion (λ step. Unit {0}) steps

@@ -1,14 +1,15 @@
 -- Facts of the states that a pair can be in, after every log.
-use Rattle.std.specs.Prelude.{◌≡◌, ◌≢◌, ℕ, ◌+◌, ◌<◌, ◌≤◌, true, false, List, [], length, slice_index_or}
+use Rattle.std.specs.Prelude.{◌≡◌, ◌≢◌, ℕ, ◌+◌, ◌<◌, ◌≤◌, true, false, List, [], length, min, slice_index_or}
 use Rattle.std.specs.List.{AllByRecursion}
 use Rattle.step_kinds.specs.Bits.{has_bit}
 use Rattle.step_kinds.specs.Sides.{other_side}
 use Rattle.step_kinds.specs.declared.names.LaneName.{LaneName}
 use Rattle.step_kinds.specs.declared.names.Side.{Side}
+use Rattle.step_kinds.specs.declared.plan.PairPlan.{PairPlan}
 use Rattle.step_kinds.specs.declared.plan.Plan.{Plan}
 use Rattle.step_kinds.specs.declared.plan.SidePlan.{SidePlan}
 use Rattle.step_kinds.specs.declared.steps.Label.{Label}
-use Rattle.step_kinds.specs.declared.steps.Label.TheVariants.{Chunk, Len, Ver, Flag, Down, Bell, Index}
+use Rattle.step_kinds.specs.declared.steps.Label.TheVariants.{Chunk, Len, Ver, Flag, Down, Bell, Index, Pad, Raw}
 use Rattle.step_kinds.specs.declared.steps.Step.{Step}
 use Rattle.lane_model.specs.Lane.{Entry, GoesDown, bytes_of, chunks_in}
 use Rattle.lane_model.specs.Law.{entry_among}
@@ -17,7 +18,7 @@ use Rattle.ledger_model.specs.Labels.{writes_among, indexes_among}
 use Rattle.ledger_model.specs.Ledger.{LanePart, SidePart, PairPart, side_of, lane_of, begun_in}
 use Rattle.ledger_model.specs.LinkSteps.{fresh_lane}
 use Rattle.ledger_model.specs.Log.{Memories, ledger_of}
-use Rattle.plan_model.specs.DeclaredPlans.{IsPair, Agree}
+use Rattle.plan_model.specs.DeclaredPlans.{IsPair, Agree, IsPermitted}
 use Rattle.plan_model.specs.Link.{is_down}
 use Rattle.plan_model.specs.Plans.{pair_plan, side_plan}
 use Rattle.plan_model.specs.Sizes.{Sizes, layout_of, sizes_of}
@@ -129,3 +130,22 @@ pub record HasLabelsOfEntries (now : PairPart) (side : Side) : Type 0 where
 abbrev pub LabelsAreOfEntries : Type 0
 LabelsAreOfEntries = (plan : Plan) (memories : Memories) (steps : List Step) (pair : ℕ) (side : Side) → IsOrdinaryPair plan pair →
     HasLabelsOfEntries (ledger_of plan memories steps pair) side
+
+-- a label that a side of this pair can post by steps that a plan permits: it is on one of the side's queues, or it writes one of the
+-- sixteen scratchpads, or bytes in a window that both sides have and within what the peer's memory gives
+abbrev pub IsPostable : PairPlan → Side → Label → Type 0
+IsPostable plan side (Chunk q n part) = q < (side_plan plan side).queues
+IsPostable plan side (Len q n) = q < (side_plan plan side).queues
+IsPostable plan side (Ver q n) = q < (side_plan plan side).queues
+IsPostable plan side (Flag q n) = q < (side_plan plan side).queues
+IsPostable plan side (Down q n) = q < (side_plan plan side).queues
+IsPostable plan side (Bell q) = q < (side_plan plan side).queues
+IsPostable plan side (Index q n) = q < (side_plan plan side).queues
+IsPostable plan side (Pad i value) = i < 16
+IsPostable plan side (Raw window offset len) =
+    ((window < plan.a.windows) × (window < plan.b.windows)) × (offset + len ≤ min (side_plan plan side).size (side_plan plan (other_side side)).cap)
+
+abbrev pub LabelsArePostable : Type 0
+LabelsArePostable = (plan : Plan) (memories : Memories) (steps : List Step) (pair : ℕ) (side : Side) →
+    IsPair (pair_plan plan pair) → AllByRecursion (IsPermitted plan) steps →
+    AllByRecursion (IsPostable (pair_plan plan pair) side) (side_of (ledger_of plan memories steps pair) side).flight

@@ -17,6 +17,7 @@ ghost use Rattle.ledger_laws.specs.States.{
   EntriesFitTheRing,
   JoinedMeansAgreement,
   LabelsAreOfEntries,
+  LabelsArePostable,
   NoEntryBeforeBothUp,
   NothingInFlightWhileDown,
   UpSideAgrees,
@@ -133,4 +134,11 @@ pub fn joined_means_agreement()
 /// write in flight is of an entry that was acknowledged. Premise: the pair isn't declared raw.
 pub fn labels_are_of_entries()
     ensures { LabelsAreOfEntries }
+{}
+
+/// Each label in flight from a side is on one of the side's queues, or writes one of the sixteen scratchpads, or bytes in
+/// a window that both sides have, within its size and the peer's memory. Premises: the pair is one that a script can
+/// declare, and the steps are such as the plan permits.
+pub fn labels_are_postable()
+    ensures { LabelsArePostable }
 {}

@@ -46,7 +46,7 @@ todo_kept plan lane s made news t (PostsNext entry others label rest may) own =
 todo_kept plan lane s made news t (Strays after may) own = may.own
 todo_kept plan lane s made news t turn own = own
 
-abbrev OwnTodos : PairPart → Type 0
+abbrev pub OwnTodos : PairPart → Type 0
 OwnTodos pair = (side : Side) (queue : ℕ) → list_all (on_queue queue) (lane_of pair side queue).todo ≡ true
 
 -- Each step on a ledger
@@ -80,7 +80,7 @@ module _ (plan : Plan) (memories : Memories) (before : List Answered) (ledger : 
           (sym (ne_eqb lane.pair (subject_of step) ne))
           (turn_elsewhere plan lane (sight lane.from lane.queue (ledger lane.pair)) (Made (subject_of step)) (λ e. ne (sym e)))
 
-  todos_kept : (k : ℕ) → OwnTodos (ledger k) → OwnTodos (ledger_after plan (memories before) ledger step k)
+  pub todos_kept : (k : ℕ) → OwnTodos (ledger k) → OwnTodos (ledger_after plan (memories before) ledger step k)
   todos_kept k todos side queue =
       let lane : LaneName = record { pair = k; from = side; queue = queue } in
       todo_kept plan lane (sight side queue (ledger k)) (answered plan (memories before) ledger step) (turn_in lane todos).news (sight side queue (ledger_after plan (memories before) ledger step k))
