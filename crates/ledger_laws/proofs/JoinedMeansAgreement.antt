@@ -1,5 +1,5 @@
 -- A side is up, and a queue is joined, only where the numbers of both sides agree: the side's own check has found so, or both sides' have.
-use Rattle.std.proofs.Common.{◌≡◌, ℕ, ◌<◌, ◌≤◌, Bool, true, false, List, refl, sym, ap, ◌∙◌, inl, inr, ◌⊎◌, arith}
+use Rattle.std.proofs.Common.{◌≡◌, ℕ, ◌≤◌, Bool, true, false, List, refl, sym, ap, ◌∙◌, inl, inr, ◌⊎◌, arith}
 use Rattle.std.specs.Prelude.{slice_index}
 use Rattle.std.proofs.lemmas.Bool.{false≢true}
 use Rattle.step_kinds.specs.Bits.{has_bit}
@@ -16,13 +16,13 @@ use Rattle.plan_model.specs.DeclaredPlans as plans
 use Rattle.plan_model.specs.DeclaredPlans.{IsPair, Agree}
 use Rattle.plan_model.specs.Link.{is_up}
 use Rattle.plan_model.specs.Plans.{pair_plan, side_plan}
-use Rattle.ledger_laws.specs.Laws.{IsSide, IsOrdinaryOn, VersionsAgree, Agrees}
+use Rattle.ledger_laws.specs.Laws.{IsSide, IsOrdinaryOn, VersionsAgree}
 use Rattle.ledger_laws.specs.States.{AgreesWith, UpSideAgrees, JoinedMeansAgreement}
 use Rattle.ledger_laws.proofs.AtStart.{up-not_down}
 use Rattle.ledger_laws.proofs.BitSets.{no_bit}
 use Rattle.ledger_laws.proofs.FreshLanes.{started, joins_at_start}
 use Rattle.ledger_laws.proofs.JoinedSides.{LiveOf, JoinsOf, live_up, joins_kept}
-use Rattle.ledger_laws.proofs.UpMeansAgreement.{HandshakeKnown, HasFound, handshake_runs, has_found, agrees}
+use Rattle.ledger_laws.proofs.UpMeansAgreement.{HandshakeKnown, handshake_runs, has_found, agrees}
 use Rattle.ledger_laws.proofs.walk.Logs.{HoldsOn, holds_after}
 use Rattle.ledger_laws.proofs.walk.News.{News}
 use Rattle.ledger_laws.proofs.walk.Sight.{Sight, Sender, Receiver, part_of, sight}

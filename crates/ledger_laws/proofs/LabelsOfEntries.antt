@@ -1,11 +1,10 @@
 -- Each label in flight or left to post is of an entry that was begun.
-use Rattle.std.proofs.Common.{◌≡◌, ℕ, zero, suc, ◌+◌, ◌<◌, ◌≤◌, ◌==◌, Bool, true, false, Option, Some, None, List, [], ◌∷◌, ◌++◌, length, map, refl, sym, ap, ◌∙◌, subst, arith}
-use Rattle.std.specs.Prelude.{◌≢◌, if◌then◌else◌, remove, slice_get, slice_index_or}
+use Rattle.std.proofs.Common.{◌≡◌, ℕ, zero, suc, ◌+◌, ◌<◌, ◌≤◌, ◌==◌, Bool, true, false, Some, None, List, [], ◌∷◌, ◌++◌, length, map, refl, sym, ◌∙◌, subst, arith}
+use Rattle.std.specs.Prelude.{◌≢◌, if◌then◌else◌, remove, slice_get}
 use Rattle.std.specs.List.{AllByRecursion}
-use Rattle.std.proofs.lemmas.Bool.{false≢true, both_ways, cases_Bool, eq-eqb, eqb-true, cond-true}
+use Rattle.std.proofs.lemmas.Bool.{false≢true, both_ways, eq-eqb, cond-true}
 use Rattle.std.proofs.lemmas.List.{length-append, get_or_push, get_or_append_left}
 use Rattle.std.proofs.lemmas.Option.{none-some, same_Some}
-use Rattle.step_kinds.specs.Bits.{with_bit}
 use Rattle.step_kinds.specs.Sides.{other_side}
 use Rattle.step_kinds.specs.declared.names.LaneName.{LaneName}
 use Rattle.step_kinds.specs.declared.names.Side.{Side}
@@ -13,17 +12,16 @@ use Rattle.step_kinds.specs.declared.names.Side.TheVariants.{A, B}
 use Rattle.step_kinds.specs.declared.plan.Plan.{Plan}
 use Rattle.step_kinds.specs.declared.steps.Label.{Label}
 use Rattle.step_kinds.specs.declared.steps.Label.TheVariants.{Chunk, Len, Ver, Flag, Down, Bell, Index, Pad}
-use Rattle.lane_model.specs.Lane.{Entry, Carries, GoesDown, bytes_of, chunks_in, count_from, writes_of}
+use Rattle.lane_model.specs.Lane.{Entry, Carries, GoesDown, bytes_of, chunks_in, count_from}
 use Rattle.lane_model.specs.Law.{entry_among}
 use Rattle.lane_model.specs.declared.Field.TheVariants.{Chunk as PayloadChunk, Length, Version}
 use Rattle.lane_model.specs.declared.Write.{Write}
 use Rattle.lane_model.specs.declared.Write.TheVariants.{Data, Flag as EntryFlag, Bell as QueueBell}
 use Rattle.ledger_model.specs.Labels.{label_of, labels_of, write_of, index_of}
 use Rattle.ledger_model.specs.Ledger.{LanePart, PairPart, side_of, lane_of}
-use Rattle.ledger_model.specs.Log.{Answered, Memories, log_of, ledger_of}
+use Rattle.ledger_model.specs.Log.{Answered, ledger_of}
 use Rattle.ledger_model.specs.Next.{fresh_pair}
 use Rattle.plan_model.specs.Link.{is_up}
-use Rattle.plan_model.specs.Pads.{links_pad}
 use Rattle.plan_model.specs.Plans.{pair_plan}
 use Rattle.plan_model.specs.declared.LinkState.{LinkState}
 use Rattle.ledger_laws.specs.States.{IsOfEntry, IsOfLane, IsOnQueue, LabelsAreOfEntries}

@@ -13,7 +13,6 @@ use Rattle.step_kinds.specs.declared.steps.Label.TheVariants.{Chunk, Len, Ver, F
 use Rattle.step_kinds.specs.declared.steps.Step.{Step}
 use Rattle.lane_model.specs.Lane.{Entry, GoesDown, bytes_of, chunks_in}
 use Rattle.lane_model.specs.Law.{entry_among}
-use Rattle.ring_geometry.specs.Geometry.{HasRing}
 use Rattle.ledger_model.specs.Labels.{writes_among, indexes_among}
 use Rattle.ledger_model.specs.Ledger.{LanePart, SidePart, PairPart, side_of, lane_of, begun_in}
 use Rattle.ledger_model.specs.LinkSteps.{fresh_lane}
@@ -21,7 +20,7 @@ use Rattle.ledger_model.specs.Log.{Memories, ledger_of}
 use Rattle.plan_model.specs.DeclaredPlans.{IsPair, Agree, IsPermitted}
 use Rattle.plan_model.specs.Link.{is_down}
 use Rattle.plan_model.specs.Plans.{pair_plan, side_plan}
-use Rattle.plan_model.specs.Sizes.{Sizes, layout_of, sizes_of}
+use Rattle.plan_model.specs.Sizes.{Sizes, sizes_of}
 use Rattle.ledger_laws.specs.Laws.{IsOrdinaryOn, IsOrdinaryPair}
 
 -- The entries of a lane
