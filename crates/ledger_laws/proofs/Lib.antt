@@ -24,8 +24,9 @@ pub mod Outcomes
 pub mod PairStates
 pub mod PairsAreSeparate
 pub mod Pieces
-mod PiecesJoined
+pub mod PiecesJoined
 pub mod QuietMeansDone
+pub mod RefusalsChangeNothing
 pub mod RingLawHolds
 pub mod RingOfLane
 pub mod RoomInLog

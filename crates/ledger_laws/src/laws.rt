@@ -9,6 +9,7 @@ ghost use Rattle.ledger_laws.specs.Laws.{
   LinkDownWhereNotUp,
   PairsAreSeparate,
   QuietMeansDone,
+  RefusalsChangeNothing,
   TalliesAreCounts,
   UpMeansAgreement,
 };
@@ -24,19 +25,20 @@ ghost use Rattle.ledger_laws.specs.States.{
 };
 
 /// In every log, what was delivered on a lane in a session is a prefix of what was accepted there, and both are
-/// numbered from 0 on. No premise.
+/// numbered from 0 on. Premise: the pair is ordinary, that is, not declared `raw`.
 pub fn every_log_is_in_order()
     ensures { EveryLogIsInOrder }
 {}
 
-/// In every log no number of a lane and a session is delivered twice. No premise.
+/// In every log no number of a lane and a session is delivered twice. Premise: the pair is ordinary.
 pub fn every_frame_comes_once()
     ensures { EveryFrameComesOnce }
 {}
 
-/// A step that begins an entry is answered `again` exactly where the answer is no refusal that is tested before the room,
-/// and the room is 0: the ring's entries less one, less the entries begun and plus the index writes landed in the
-/// session. No premise.
+/// A step that begins entries is answered `again` exactly where it isn't refused for another reason (the link isn't up,
+/// the queue isn't joined on the side or is closed there, the frame is too long, of the frame before it something is
+/// left to post, the device is stopped) and the room is less than it needs: the ring's entries less one, less the
+/// entries begun and plus the index writes landed in the session. Premise: the pair is ordinary.
 pub fn again_where_no_room()
     ensures { AgainWhereNoRoom }
 {}
@@ -67,11 +69,19 @@ pub fn up_means_agreement()
 {}
 
 /// Where nothing is on its way to a receiver and it has seen so, all that was accepted in the session was delivered.
-/// Premises, all of the moment: the link is up, the queue is joined and open at the receiver, nothing is in flight
-/// towards it or left to post on the queue, its doorbell isn't pending, and the last look since it was taken was
-/// `empty`.
+/// Premises: the pair is ordinary; and at that moment the link is up, the queue is joined and open at the receiver,
+/// nothing is in flight towards it, the sender has no write left to post on the queue and no entry waiting, the queue's
+/// doorbell isn't pending, and the last look since it was taken was `empty`.
 pub fn quiet_means_done()
     ensures { QuietMeansDone }
+{}
+
+/// A step that is refused, that is, answered anything but what a step of its kind is answered where it is made, leaves
+/// every pair as it was; of a device's frame that is refused the device's count of refusals alone grows. So `idle`,
+/// `nothing`, `blocked`, `empty`, `verdiffers` and `long` change nothing either; `peerdown` is no refusal, for it closes
+/// the queue. No premise: it holds on raw pairs too.
+pub fn refusals_change_nothing()
+    ensures { RefusalsChangeNothing }
 {}
 
 /// Whenever the receiver's side of a lane is up, from its check in a session until its clean, the law of the ring holds of
