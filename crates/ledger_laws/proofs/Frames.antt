@@ -1,7 +1,7 @@
 -- The frames of a lane's entries, with their numbers.
-use Rattle.std.proofs.Common.{◌≡◌, ℕ, suc, ◌+◌, ◌<◌, ◌==◌, false, List, [], ◌∷◌, ◌++◌, length, take, drop, refl, sym, ap, ◌∙◌, subst, arith, add-one, zero, inl, inr}
+use Rattle.std.proofs.Common.{◌≡◌, ℕ, suc, ◌+◌, ◌<◌, ◌==◌, false, List, [], ◌∷◌, ◌++◌, length, take, drop, refl, sym, ap, ◌∙◌, subst, arith, zero, inl, inr}
 use Rattle.std.specs.Prelude.{if◌then◌else◌, slice_index_or}
-use Rattle.std.proofs.lemmas.List.{take-append-drop, append-nil}
+use Rattle.std.proofs.lemmas.List.{take-append-drop}
 use Rattle.std.proofs.lemmas.Bool.{eq-eqb, ne_eqb, cases_eq}
 use Rattle.lane_model.specs.Lane.{Entry, Carries, GoesDown}
 use Rattle.ledger_laws.specs.Laws.{Begins, NumberedFrom, times_of}
@@ -51,10 +51,12 @@ pub frames-begin : (m : ℕ) (xs : List Entry) → Begins (frames_from 0 [] (tak
 frames-begin m xs =
     (frames_from (number_after 0 (take m xs)) (rest_after [] (take m xs)) (drop m xs), ap (frames_from 0 []) (sym (take-append-drop m xs)) ∙ frames-append 0 [] (take m xs) (drop m xs))
 
--- one frame more at the end of numbered frames
-pub numbered-last : (n : ℕ) (xs : List Numbered) (frame : Numbered) → NumberedFrom n xs → frame.number ≡ n + length xs → NumberedFrom n (xs ++ frame ∷ [])
-numbered-last n [] frame numbers e = (e ∙ omega arith, tt)
-numbered-last n (x ∷ xs) frame numbers e = (numbers.0, numbered-last (n + 1) xs frame numbers.1 (e ∙ omega arith))
+-- they are numbered, from the first one's number on
+pub frames-numbered : (n : ℕ) (rest : List ℕ) (xs : List Entry) → NumberedFrom n (frames_from n rest xs)
+frames-numbered n rest [] = tt
+frames-numbered n rest (GoesDown ∷ xs) = frames-numbered n rest xs
+frames-numbered n rest (Carries bytes zero ∷ xs) = (refl, frames-numbered (n + 1) [] xs)
+frames-numbered n rest (Carries bytes (suc left) ∷ xs) = frames-numbered n (rest ++ bytes) xs
 
 numbered-front : (n : ℕ) (xs rest : List Numbered) → NumberedFrom n (xs ++ rest) → NumberedFrom n xs
 numbered-front n [] rest numbers = tt

@@ -1,98 +1,379 @@
--- In every log the frames of a lane and a session are delivered in order and once, and the ledger's tallies count them.
-use Rattle.std.proofs.Common.{◌≡◌, ℕ, ◌+◌, ◌<◌, ◌≤◌, ◌==◌, Bool, true, false, List, [], ◌∷◌, ◌++◌, length, take, refl, sym, ap, ◌∙◌, subst, inl, inr, arith, ◌⊎◌}
-use Rattle.std.specs.Prelude.{if◌then◌else◌}
-use Rattle.std.specs.List.{flat_map}
-use Rattle.std.proofs.lemmas.Bool.{eq-eqb, ne_eqb, cases_eq, cases_order, false≢true, both_ways}
-use Rattle.std.proofs.lemmas.List.{append-nil, take-append-le, length-append}
-use Rattle.step_kinds.specs.Bits.{has_bit, with_bit}
+-- In every log of an ordinary pair the frames of a lane and a session are delivered in order and once.
+use Rattle.std.proofs.Common.{◌≡◌, ℕ, zero, suc, ◌+◌, ◌*◌, ◌<◌, ◌≤◌, ◌==◌, Bool, true, false, List, [], ◌∷◌, ◌++◌, length, take, refl, sym, ap, ◌∙◌, subst, inl, inr, arith, ◌⊎◌, append_assoc}
+use Rattle.std.specs.Prelude.{if◌then◌else◌, nat_lt, slice_index_or}
+use Rattle.std.proofs.lemmas.Bool.{cases_eq, cases_order, cases_Bool, false≢true, both_ways, ltb-false}
+use Rattle.std.proofs.lemmas.List.{append-nil, take-append-le, take_more, length-append, take_all, get_or_append_left}
+use Rattle.std.proofs.Math.Seq.{take-add}
+use Rattle.step_kinds.specs.Bits.{has_bit}
 use Rattle.step_kinds.specs.declared.names.LaneName.{LaneName}
-use Rattle.step_kinds.specs.declared.names.Side.{Side}
-use Rattle.step_kinds.specs.declared.names.Side.TheVariants.{A, B}
 use Rattle.step_kinds.specs.declared.plan.Plan.{Plan}
-use Rattle.step_kinds.specs.declared.plan.PairPlan.{PairPlan}
-use Rattle.lane_model.specs.Lane.{Entry, Carries, GoesDown, bytes_of}
+use Rattle.lane_model.specs.Lane.{Entry, Carries, GoesDown, bytes_of, chunk_of, chunk_size, chunks_in}
 use Rattle.lane_model.specs.declared.Phase.{Phase}
-use Rattle.ledger_model.specs.Ledger.{Tally, LanePart, lane_of, tally_of, entry_in, updated}
+use Rattle.lane_model.specs.declared.Phase.TheVariants.{Idle, Copying, Copied, Cleared}
+use Rattle.ledger_model.specs.Ledger.{LanePart}
 use Rattle.plan_model.specs.Link.{is_up}
-use Rattle.ledger_model.specs.LinkSteps.{fresh_lane}
-use Rattle.ledger_model.specs.Log.{Answered, Numbered, accepts, delivers, accepted, delivered, first_session, trains, made_in, log_of, ledger_of}
-use Rattle.ledger_model.specs.Next.{fresh_pair, no_tally}
-use Rattle.ledger_model.specs.Receiving.{is_copying}
+use Rattle.ledger_model.specs.Log.{Answered, Numbered, accepts, delivers, accepted, delivered, first_session, log_of, ledger_of}
+use Rattle.ledger_model.specs.Next.{fresh_pair}
+use Rattle.ledger_model.specs.Receiving.{is_idle, is_copying, is_copied, is_cleared}
 use Rattle.plan_model.specs.Plans.{pair_plan}
-use Rattle.ledger_laws.specs.Laws.{Begins as BeginsList, NumberedFrom, EveryLogIsInOrder, EveryFrameComesOnce, TalliesAreCounts}
+use Rattle.ledger_laws.specs.Laws.{Begins as BeginsList, NumberedFrom, EveryLogIsInOrder, EveryFrameComesOnce}
 use Rattle.ledger_laws.proofs.AtStart.{fresh-lane, down-not_up}
-use Rattle.ledger_laws.proofs.BitSets.{has-with_same, has-without}
-use Rattle.ledger_laws.proofs.Frames.{CarriesAt, frames_from, frames-frame, frames-down, frames-begin, frames-take, numbered-last, numbered-begin, times-once, carries-within, carries-append}
-use Rattle.ledger_laws.proofs.LogReaders.{session_at, session_at-last, found_in-last}
+use Rattle.ledger_laws.proofs.BitSets.{no_bit}
+use Rattle.ledger_laws.proofs.Frames.{frames_from, number_after, rest_after, frames-append, number-append, rest-append, frames-begin, frames-numbered, numbered-begin, times-once, carries-within}
+use Rattle.ledger_laws.proofs.LogReaders.{session_at}
+use Rattle.ledger_laws.proofs.PiecesJoined.{OneFrame, pieces_one_frame, no_byte_fits}
+use Rattle.ledger_laws.proofs.Tallies.{added, added-none, added-now, added-elsewhere, of_lists, more_found, now_kept, session_kept, fresh_now}
 use Rattle.ledger_laws.proofs.walk.Logs.{HoldsAlways, always_after}
 use Rattle.ledger_laws.proofs.walk.Sight.{Sight, Sender, Receiver, sight}
 use Rattle.ledger_laws.proofs.walk.News.{News, Tells}
-use Rattle.ledger_laws.proofs.walk.Turn.{Turn, Trains, Breaks, Drops, Forgets, Begins, Closes, Shuts, Looks, CopiesLast, Clears, Acks, more_accepted, more_delivered}
+use Rattle.ledger_laws.proofs.walk.Turn.{Turn, IsRaw, SizesOf, Trains, Breaks, Drops, Forgets, Joins, Begins, Closes, PostsNext, Strays, Looks, CopiesPart, CopiesEntry, CopiesLast, Clears, Acks}
 
--- What holds of a lane at each moment
+-- What a turn adds to the frames of the session, or a session begins anew
 
-pub record LaneFacts (up closed : Bool) (sent : List Entry) (got : ℕ) (phase : Phase) : Type 0 where
+pub data Grows (more before : List Numbered) : Bool → List Numbered → Type 0 where
+  GoOn : {after : List Numbered} → after ≡ before ++ more → Grows more before false after
+  Anew : {after : List Numbered} → more ≡ [] → after ≡ [] → Grows more before true after
+
+same_frames : {before after : List Numbered} → after ≡ before → Grows [] before false after
+same_frames {before} e = GoOn (e ∙ sym (append-nil before))
+
+-- What was begun, `coming` being the entries of the last frame that are still to come
+
+pub record Begun (up : Bool) (sent waiting coming : List Entry) (told : ℕ) : Type 0 where
+  -- they are those that wait, until the sender has forgotten the session
+  pub to_come : (coming ≡ waiting) ⊎ ((waiting ≡ []) × (up ≡ false))
+  -- each frame has its number, and nothing rests behind the last
+  pub told_is : number_after 0 (sent ++ coming) ≡ told
+  pub whole : rest_after [] (sent ++ coming) ≡ []
+
+abbrev pub BegunOf : Sight → List Entry → Type 0
+BegunOf s coming = Begun (is_up s.state) s.lane.sent s.lane.waiting coming s.lane.told
+
+-- the frames that were accepted
+abbrev pub taken_of : Sight → List Entry → List Numbered
+taken_of s coming = frames_from 0 [] (s.lane.sent ++ coming)
+
+-- nothing is to come where nothing waits
+pub none_comes : {up : Bool} {sent waiting coming : List Entry} {told : ℕ} → up ≡ true → waiting ≡ [] → Begun up sent waiting coming told → coming ≡ []
+none_comes {up} is none h = elim h.to_come [ inl e ↦ e ∙ none | inr over ↦ absurd (both_ways up over.1 is) ]
+
+-- the link isn't up
+begun_down : {up : Bool} {sent waiting coming : List Entry} {told : ℕ} → Begun up sent waiting coming told → Begun false sent waiting coming told
+begun_down h = record { to_come = elim h.to_come [ inl e ↦ inl e | inr over ↦ inr (over.0, refl) ]; told_is = h.told_is; whole = h.whole }
+
+-- what was begun with these entries more, the first of which is begun now
+module _ (sent : List Entry) (first : Entry) (others : List Entry) where
+  one_begun : (sent ++ first ∷ []) ++ others ≡ sent ++ first ∷ others
+  one_begun = append_assoc sent (first ∷ []) others
+
+  begun_with : (up : Bool) (told : ℕ) → number_after 0 (sent ++ first ∷ others) ≡ told → rest_after [] (sent ++ first ∷ others) ≡ []
+      → Begun up (sent ++ first ∷ []) others others told
+  begun_with up told number rest = record { to_come = inl refl; told_is = ap (number_after 0) one_begun ∙ number; whole = ap (rest_after []) one_begun ∙ rest }
+
+record BegunNext (news : News) (s t : Sight) (coming : List Entry) : Type 0 where
+  after : List Entry
+  begun : BegunOf t after
+  grows : Grows news.accepted (taken_of s coming) news.starts (taken_of t after)
+
+-- a frame of one number more, behind whole frames
+record Behind (sent pieces : List Entry) (told : ℕ) (bytes : List ℕ) : Type 0 where
+  number : number_after 0 (sent ++ pieces) ≡ told + 1
+  rest : rest_after [] (sent ++ pieces) ≡ []
+  frames : frames_from 0 [] (sent ++ pieces) ≡ frames_from 0 [] sent ++ record { number = told; bytes = bytes } ∷ []
+
+frame_behind : (sent pieces : List Entry) (told : ℕ) (bytes : List ℕ) → number_after 0 sent ≡ told → rest_after [] sent ≡ [] → OneFrame told [] pieces bytes → Behind sent pieces told bytes
+frame_behind sent pieces told bytes number rest one = record {
+  number = number-append 0 sent pieces ∙ ap (λ n. number_after n pieces) number ∙ one.number;
+  rest = rest-append [] sent pieces ∙ ap (λ r. rest_after r pieces) rest ∙ one.none_left;
+  frames =
+      frames-append 0 [] sent pieces ∙ ap (λ n. frames_from 0 [] sent ++ frames_from n (rest_after [] sent) pieces) number
+      ∙ ap (λ r. frames_from 0 [] sent ++ frames_from told r pieces) rest ∙ ap (λ frames. frames_from 0 [] sent ++ frames) one.frames;
+}
+
+-- what is so of the entries that were begun and are to come is so of those that were begun, where none is to come
+pub alone : {X : Type 0} (read : List Entry → X) (sent coming : List Entry) → coming ≡ [] → read sent ≡ read (sent ++ coming)
+alone read sent coming none = ap read (sym (append-nil sent) ∙ ap (λ more. sent ++ more) (sym none))
+
+begun_kept : (plan : Plan) (lane : LaneName) (s : Sight) (made : Answered) (news : News) (t : Sight) → IsRaw plan lane ≡ false → Turn plan lane s made news t
+    → (coming : List Entry) → BegunOf s coming → BegunNext news s t coming
+begun_kept plan lane s made news t no_raw (Trains may) coming h = record { after = []; begun = record { to_come = inl refl; told_is = refl; whole = refl }; grows = Anew refl refl }
+begun_kept plan lane s made news t no_raw (Breaks may) coming h = record { after = coming; begun = begun_down h; grows = same_frames refl }
+begun_kept plan lane s made news t no_raw (Drops may) coming h = record { after = coming; begun = begun_down h; grows = same_frames refl }
+begun_kept plan lane s made news t no_raw (Forgets Sender may) coming h = record {
+  after = coming;
+  begun = record { to_come = inr (refl, down-not_up s.state may.down); told_is = h.told_is; whole = h.whole };
+  grows = same_frames refl;
+}
+begun_kept plan lane s made news t no_raw (Begins bytes first others may cut) coming h =
+    let none = none_comes may.up may.none_waiting h in
+    let one : OneFrame s.lane.told [] (first ∷ others) bytes =
+        subst (λ pieces. OneFrame s.lane.told [] pieces bytes) cut
+        (pieces_one_frame (SizesOf plan lane).largest bytes s.lane.told (no_byte_fits (pair_plan plan lane.pair) (SizesOf plan lane).entries (SizesOf plan lane).largest (length bytes) may.fits)) in
+    let behind = frame_behind s.lane.sent (first ∷ others) s.lane.told bytes (alone (number_after 0) s.lane.sent coming none ∙ h.told_is) (alone (rest_after []) s.lane.sent coming none ∙ h.whole) one in
+    record {
+      after = others;
+      begun = begun_with s.lane.sent first others (is_up s.state) (s.lane.told + 1) behind.number behind.rest;
+      grows = GoOn (ap (frames_from 0 []) (one_begun s.lane.sent first others) ∙ behind.frames
+          ∙ ap (λ frames. frames ++ record { number = s.lane.told; bytes = bytes } ∷ []) (alone (frames_from 0 []) s.lane.sent coming none));
+    }
+begun_kept plan lane s made news t no_raw (Closes may) coming h =
+    let none = none_comes may.up may.none_waiting h in
+    record {
+      after = [];
+      begun = begun_with s.lane.sent GoesDown [] (is_up s.state) s.lane.told
+          (number-append 0 s.lane.sent (GoesDown ∷ []) ∙ alone (number_after 0) s.lane.sent coming none ∙ h.told_is)
+          (rest-append [] s.lane.sent (GoesDown ∷ []) ∙ alone (rest_after []) s.lane.sent coming none ∙ h.whole);
+      grows = same_frames (ap (frames_from 0 []) (one_begun s.lane.sent GoesDown []) ∙ frames-append 0 [] s.lane.sent (GoesDown ∷ []) ∙ append-nil (frames_from 0 [] s.lane.sent)
+          ∙ alone (frames_from 0 []) s.lane.sent coming none);
+    }
+begun_kept plan lane s made news t no_raw (PostsNext entry others label rest may) coming h = elim h.to_come [
+  | inl e ↦
+      let same : s.lane.sent ++ entry ∷ others ≡ s.lane.sent ++ coming = ap (λ more. s.lane.sent ++ more) (sym may.waits ∙ sym e) in
+      record {
+        after = others;
+        begun = begun_with s.lane.sent entry others (is_up s.state) s.lane.told (ap (number_after 0) same ∙ h.told_is) (ap (rest_after []) same ∙ h.whole);
+        grows = same_frames (ap (frames_from 0 []) (one_begun s.lane.sent entry others ∙ same));
+      }
+  | inr over ↦ absurd (let w = may.waits in let n = over.0 in cc)
+]
+begun_kept plan lane s made news t no_raw (Strays after may) coming h = absurd (both_ways (IsRaw plan lane) no_raw may.raw_pair)
+begun_kept plan lane s made news t no_raw turn coming h = record { after = coming; begun = h; grows = same_frames refl }
+
+-- What the receiver has of the frame under way
+
+-- while it copies entry `got`, a piece: the bytes of the frame's entries before it, and of its own those of the parts copied
+pub record Piece (sent : List Entry) (got part len left : ℕ) (gathered : List ℕ) : Type 0 where
+  pub bytes : List ℕ
+  pub there : slice_index_or sent got GoesDown ≡ Carries bytes left
+  pub size : length bytes ≡ len
+  pub parts : gathered ≡ rest_after [] (take got sent) ++ take (chunk_size * part) bytes
+
+-- between two entries, the bytes of those of the frame's entries that were taken
+pub record Gathers (sent : List Entry) (got : ℕ) (phase : Phase) (part len left : ℕ) (gathered : List ℕ) : Type 0 where
+  pub between : is_copying phase ≡ false → gathered ≡ rest_after [] (take got sent)
+  pub copying : is_copying phase ≡ true → Piece sent got part len left gathered
+
+-- once it has forgotten the session it can't go on with it
+pub record Forgot (q : ℕ) (up : Bool) (joined : ℕ) (phase : Phase) : Type 0 where
+  pub down : up ≡ false
+  pub not_joined : has_bit joined q ≡ false
+  pub not_copying : is_copying phase ≡ false
+
+pub record Receives (q : ℕ) (up : Bool) (joined : ℕ) (sent : List Entry) (got done : ℕ) (phase : Phase) (part len left : ℕ) (gathered : List ℕ) : Type 0 where
   pub within : got ≤ length sent
-  pub copying : is_copying phase ≡ true → CarriesAt sent got
-  pub numbers : NumberedFrom 0 (frames_from 0 sent)
-  -- no link-down entry was begun, unless the queue is closed
-  pub whole : closed ≡ false → up ≡ true → length (frames_from 0 sent) ≡ length sent
+  pub done_is : number_after 0 (take got sent) ≡ done
+  pub has : Gathers sent got phase part len left gathered ⊎ Forgot q up joined phase
 
-abbrev pub FactsOf : ℕ → Sight → Type 0
-FactsOf q s = LaneFacts (is_up s.state) (has_bit s.sender.closed q) s.lane.sent s.lane.got s.lane.phase
+abbrev pub ReceivesOf : ℕ → Sight → Type 0
+ReceivesOf q s = Receives q (is_up s.state) s.receiver.joined s.lane.sent s.lane.got s.lane.done s.lane.phase s.lane.part s.lane.len s.lane.left s.lane.gathered
 
--- of a fresh lane
-facts_fresh : (up closed : Bool) → LaneFacts up closed [] 0 fresh_lane.phase
-facts_fresh up closed = record { within = omega arith; copying = λ copies. absurd (false≢true copies); numbers = tt; whole = λ _ _. refl }
+-- the frames that were delivered
+abbrev pub given_of : Sight → List Numbered
+given_of s = frames_from 0 [] (take s.lane.got s.lane.sent)
 
--- on a link that isn't up, and with a receiver that is elsewhere
-facts_lost : (up closed up_after closed_after : Bool) (sent : List Entry) (got : ℕ) (phase : Phase) → up_after ≡ false → LaneFacts up closed sent got phase
-    → LaneFacts up_after closed_after sent got phase
-facts_lost up closed up_after closed_after sent got phase down h = record { within = h.within; copying = h.copying; numbers = h.numbers; whole = λ _ up_still. absurd (both_ways up_after down up_still) }
+record ReceivesNext (q : ℕ) (news : News) (s t : Sight) : Type 0 where
+  receives : ReceivesOf q t
+  grows : Grows news.delivered (given_of s) news.starts (given_of t)
 
-facts_at : (up closed : Bool) (sent : List Entry) (got : ℕ) (phase after : Phase) → (is_copying after ≡ true → CarriesAt sent got) → LaneFacts up closed sent got phase
-    → LaneFacts up closed sent got after
-facts_at up closed sent got phase after copying h = record { within = h.within; copying = copying; numbers = h.numbers; whole = h.whole }
+-- The entry at a place stays there where entries are added at the end
+there-append : (xs ys : List Entry) (n : ℕ) (bytes : List ℕ) (left : ℕ) → slice_index_or xs n GoesDown ≡ Carries bytes left → slice_index_or (xs ++ ys) n GoesDown ≡ Carries bytes left
+there-append xs ys n bytes left there =
+    get_or_append_left xs ys GoesDown n (carries-within xs n (record { bytes = bytes; left = left; there = there })) ∙ there
 
-facts_accept : (closed : Bool) (sent : List Entry) (got : ℕ) (phase : Phase) (bytes : List ℕ) → closed ≡ false → (up : Bool) → up ≡ true → LaneFacts up closed sent got phase
-    → LaneFacts up closed (sent ++ Carries bytes ∷ []) got phase
-facts_accept closed sent got phase bytes open_yet up is_up_now h = record {
-  within = let e = length-append sent (Carries bytes ∷ []) in let w = h.within in omega arith;
-  copying = λ copies. carries-append sent (Carries bytes ∷ []) got (h.copying copies);
-  numbers = rw (frames-frame sent bytes) (numbered-last 0 (frames_from 0 sent) _ h.numbers (let e = h.whole open_yet is_up_now in omega arith));
-  whole = λ _ _. rw (frames-frame sent bytes)
-      (let e = h.whole open_yet is_up_now in length-append (frames_from 0 sent) _ ∙ ap (λ n. n + 1) e ∙ sym (length-append sent (Carries bytes ∷ [])));
+-- an entry more is begun
+receives_more : {q : ℕ} {up : Bool} {joined : ℕ} {sent : List Entry} {got done : ℕ} {phase : Phase} {part len left : ℕ} {gathered : List ℕ} (entry : Entry)
+    → Receives q up joined sent got done phase part len left gathered → Receives q up joined (sent ++ entry ∷ []) got done phase part len left gathered
+receives_more {sent = sent} {got = got} {part = part} {left = left} entry h = record {
+  within = let e = length-append sent (entry ∷ []) in let w = h.within in omega arith;
+  done_is = ap (number_after 0) same ∙ h.done_is;
+  has = elim h.has [
+    | inl g ↦ inl (record {
+        between = λ b. g.between b ∙ ap (rest_after []) (sym same);
+        copying = λ c. let piece = g.copying c in record {
+          bytes = piece.bytes;
+          there = there-append sent (entry ∷ []) got piece.bytes left piece.there;
+          size = piece.size;
+          parts = piece.parts ∙ ap (λ xs. rest_after [] xs ++ take (chunk_size * part) piece.bytes) (sym same);
+        };
+      })
+    | inr f ↦ inr f
+  ];
 }
+  where
+    same : take got (sent ++ entry ∷ []) ≡ take got sent
+    same = take-append-le got sent (entry ∷ []) h.within
 
-facts_kept : (plan : Plan) (lane : LaneName) (s : Sight) (made : Answered) (news : News) (t : Sight) → Turn plan lane s made news t → FactsOf lane.queue s → FactsOf lane.queue t
-facts_kept plan lane s made news t (Trains may) h = facts_fresh _ _
-facts_kept plan lane s made news t (Breaks may) h = facts_lost _ _ _ _ _ _ _ refl h
-facts_kept plan lane s made news t (Drops may) h = facts_lost _ _ _ _ _ _ _ refl h
-facts_kept plan lane s made news t (Forgets Sender may) h = facts_lost _ _ _ _ _ _ _ (down-not_up s.state may.down) h
-facts_kept plan lane s made news t (Forgets Receiver may) h = facts_at _ _ _ _ _ _ (λ copies. absurd (false≢true copies)) h
-facts_kept plan lane s made news t (Begins bytes may) h = facts_accept _ _ _ _ bytes may.not_closed _ may.up h
-facts_kept plan lane s made news t (Closes may) h = record {
-  within = let e = length-append s.lane.sent (GoesDown ∷ []) in let w = h.within in omega arith;
-  copying = λ copies. carries-append s.lane.sent (GoesDown ∷ []) s.lane.got (h.copying copies);
-  numbers = rw (frames-down s.lane.sent) h.numbers;
-  whole = λ open_yet. absurd (both_ways (has_bit (with_bit s.sender.closed lane.queue) lane.queue) open_yet (has-with_same s.sender.closed lane.queue));
-}
-facts_kept plan lane s made news t (Shuts Sender queue looked) h = record {
+given_more : (sent : List Entry) (entry : Entry) (got : ℕ) → got ≤ length sent → frames_from 0 [] (take got (sent ++ entry ∷ [])) ≡ frames_from 0 [] (take got sent)
+given_more sent entry got within = ap (frames_from 0 []) (take-append-le got sent (entry ∷ []) within)
+
+-- the link isn't up
+receives_down : {q : ℕ} {up : Bool} {joined : ℕ} {sent : List Entry} {got done : ℕ} {phase : Phase} {part len left : ℕ} {gathered : List ℕ}
+    → Receives q up joined sent got done phase part len left gathered → Receives q false joined sent got done phase part len left gathered
+receives_down h = record {
   within = h.within;
-  copying = h.copying;
-  numbers = h.numbers;
-  whole = λ open_yet. h.whole (has-without s.sender.closed lane.queue queue open_yet);
+  done_is = h.done_is;
+  has = elim h.has [ inl g ↦ inl g | inr f ↦ inr (record { down = refl; not_joined = f.not_joined; not_copying = f.not_copying }) ];
 }
-facts_kept plan lane s made news t (Looks bytes may) h = facts_at _ _ _ _ _ _ (λ _. record { bytes = bytes; there = may.at }) h
-facts_kept plan lane s made news t (CopiesLast may) h = record {
-  within = let w = carries-within s.lane.sent s.lane.got (h.copying may.turn) in omega arith;
-  copying = λ copies. absurd (false≢true copies);
-  numbers = h.numbers;
-  whole = h.whole;
+
+-- the receiver isn't copying, and goes on to another phase in which it doesn't
+receives_at : {q : ℕ} {up : Bool} {joined : ℕ} {sent : List Entry} {got done : ℕ} {phase : Phase} {part len left : ℕ} {gathered : List ℕ} (after : Phase)
+    → is_copying phase ≡ false → is_copying after ≡ false → Receives q up joined sent got done phase part len left gathered → Receives q up joined sent got done after part len left gathered
+receives_at after now later h = record {
+  within = h.within;
+  done_is = h.done_is;
+  has = elim h.has [
+    | inl g ↦ inl (record { between = λ _. g.between now; copying = λ c. absurd (both_ways (is_copying after) later c) })
+    | inr f ↦ inr (record { down = f.down; not_joined = f.not_joined; not_copying = later })
+  ];
 }
-facts_kept plan lane s made news t (Clears may) h = facts_at _ _ _ _ _ _ (λ copies. absurd (false≢true copies)) h
-facts_kept plan lane s made news t (Acks may) h = facts_at _ _ _ _ _ _ (λ copies. absurd (false≢true copies)) h
-facts_kept plan lane s made news t turn h = h
+
+idle-not_copying : (phase : Phase) → is_idle phase ≡ true → is_copying phase ≡ false
+idle-not_copying Idle e = refl
+idle-not_copying Copying e = absurd (false≢true e)
+idle-not_copying Copied e = refl
+idle-not_copying Cleared e = refl
+
+copied-not_copying : (phase : Phase) → is_copied phase ≡ true → is_copying phase ≡ false
+copied-not_copying Idle e = refl
+copied-not_copying Copying e = absurd (false≢true e)
+copied-not_copying Copied e = refl
+copied-not_copying Cleared e = refl
+
+cleared-not_copying : (phase : Phase) → is_cleared phase ≡ true → is_copying phase ≡ false
+cleared-not_copying Idle e = refl
+cleared-not_copying Copying e = absurd (false≢true e)
+cleared-not_copying Copied e = refl
+cleared-not_copying Cleared e = refl
+
+empty_set : (bits q : ℕ) → bits ≡ 0 → has_bit bits q ≡ false
+empty_set bits q none = elim (cases_Bool (has_bit bits q)) [ inl has ↦ absurd (no_bit bits q none has) | inr hasnt ↦ hasnt ]
+
+-- what the receiver holds while it copies
+piece_of_copy : {q : ℕ} {up : Bool} {joined : ℕ} {sent : List Entry} {got done : ℕ} {phase : Phase} {part len left : ℕ} {gathered : List ℕ} → is_copying phase ≡ true
+    → Receives q up joined sent got done phase part len left gathered → Piece sent got part len left gathered
+piece_of_copy {phase = phase} turn h = elim h.has [ inl g ↦ g.copying turn | inr f ↦ absurd (both_ways (is_copying phase) f.not_copying turn) ]
+
+-- with one part more
+part_more : {sent : List Entry} {got part len left : ℕ} {gathered : List ℕ} (copied : List ℕ) → copied ≡ chunk_of (bytes_of (slice_index_or sent got GoesDown)) part
+    → Piece sent got part len left gathered → Piece sent got (part + 1) len left (gathered ++ copied)
+part_more {sent} {got} {part} {len} {left} {gathered} copied is piece = record {
+  bytes = piece.bytes;
+  there = piece.there;
+  size = piece.size;
+  parts =
+      ap (λ xs. xs ++ copied) piece.parts
+      ∙ append_assoc (rest_after [] (take got sent)) (take (chunk_size * part) piece.bytes) copied
+      ∙ ap (λ xs. rest_after [] (take got sent) ++ xs)
+      (ap (λ xs. take (chunk_size * part) piece.bytes ++ xs) (is ∙ ap (λ entry. chunk_of (bytes_of entry) part) piece.there)
+      ∙ sym (take-add (chunk_size * part) chunk_size piece.bytes)
+      ∙ ap (λ n. take n piece.bytes) (omega arith));
+}
+
+-- with all parts the entry is taken
+record Took (sent : List Entry) (got left : ℕ) (gathered : List ℕ) : Type 0 where
+  bytes : List ℕ
+  below : got < length sent
+  next : take (got + 1) sent ≡ take got sent ++ Carries bytes left ∷ []
+  is : gathered ≡ rest_after [] (take got sent) ++ bytes
+
+all_parts : {sent : List Entry} {got part len left : ℕ} {gathered : List ℕ} → nat_lt part (chunks_in len) ≡ false → Piece sent got part len left gathered → Took sent got left gathered
+all_parts {sent} {got} {part} {len} {left} {gathered} last piece =
+    let below : got < length sent = carries-within sent got (record { bytes = piece.bytes; left = left; there = piece.there }) in
+    record {
+      bytes = piece.bytes;
+      below = below;
+      next = take_more sent got GoesDown below ∙ ap (λ entry. take got sent ++ entry ∷ []) piece.there;
+      is = piece.parts ∙ ap (λ xs. rest_after [] (take got sent) ++ xs)
+          (take_all (chunk_size * part) piece.bytes (let few = ltb-false part (chunks_in len) last in let size = piece.size in omega arith));
+    }
+
+-- the entry taken has others of its frame behind it, or not
+module _ (n : ℕ) (rest : List ℕ) (xs : List Entry) (bytes : List ℕ) where
+  some_left : (left : ℕ) → nat_lt 0 left ≡ true
+      → (number_after n (xs ++ Carries bytes left ∷ []) ≡ number_after n xs) × (rest_after rest (xs ++ Carries bytes left ∷ []) ≡ rest_after rest xs ++ bytes)
+      × (frames_from n rest (xs ++ Carries bytes left ∷ []) ≡ frames_from n rest xs)
+  some_left zero more = absurd (false≢true more)
+  some_left (suc left) more = (number-append n xs (Carries bytes (suc left) ∷ []), rest-append rest xs (Carries bytes (suc left) ∷ []),
+      frames-append n rest xs (Carries bytes (suc left) ∷ []) ∙ append-nil (frames_from n rest xs))
+
+  none_left : (left : ℕ) → nat_lt 0 left ≡ false
+      → (number_after n (xs ++ Carries bytes left ∷ []) ≡ number_after n xs + 1) × (rest_after rest (xs ++ Carries bytes left ∷ []) ≡ [])
+      × (frames_from n rest (xs ++ Carries bytes left ∷ []) ≡ frames_from n rest xs ++ record { number = number_after n xs; bytes = rest_after rest xs ++ bytes } ∷ [])
+  none_left zero last = (number-append n xs (Carries bytes zero ∷ []), rest-append rest xs (Carries bytes zero ∷ []), frames-append n rest xs (Carries bytes zero ∷ []))
+  none_left (suc left) last = absurd (let none = ltb-false 0 (suc left) last in omega arith)
+
+receives_kept : (plan : Plan) (lane : LaneName) (s : Sight) (made : Answered) (news : News) (t : Sight) → IsRaw plan lane ≡ false → Turn plan lane s made news t
+    → ReceivesOf lane.queue s → ReceivesNext lane.queue news s t
+receives_kept plan lane s made news t no_raw (Trains may) h = record {
+  receives = record { within = omega arith; done_is = refl; has = inl (record { between = λ _. refl; copying = λ c. absurd (false≢true c) }) };
+  grows = Anew refl refl;
+}
+receives_kept plan lane s made news t no_raw (Breaks may) h = record { receives = receives_down h; grows = same_frames refl }
+receives_kept plan lane s made news t no_raw (Drops may) h = record { receives = receives_down h; grows = same_frames refl }
+receives_kept plan lane s made news t no_raw (Forgets Receiver may) h = record {
+  receives = record { within = h.within; done_is = h.done_is; has = inr (record { down = down-not_up s.state may.down; not_joined = empty_set 0 lane.queue refl; not_copying = refl }) };
+  grows = same_frames refl;
+}
+receives_kept plan lane s made news t no_raw (Joins Receiver queue may) h = record {
+  receives = record { within = h.within; done_is = h.done_is; has = elim h.has [ inl g ↦ inl g | inr f ↦ absurd (both_ways (is_up s.state) f.down may.up) ] };
+  grows = same_frames refl;
+}
+receives_kept plan lane s made news t no_raw (Begins bytes first others may cut) h = record { receives = receives_more first h; grows = same_frames (given_more s.lane.sent first s.lane.got h.within) }
+receives_kept plan lane s made news t no_raw (Closes may) h = record { receives = receives_more GoesDown h; grows = same_frames (given_more s.lane.sent GoesDown s.lane.got h.within) }
+receives_kept plan lane s made news t no_raw (PostsNext entry others label rest may) h = record { receives = receives_more entry h; grows = same_frames (given_more s.lane.sent entry s.lane.got h.within) }
+receives_kept plan lane s made news t no_raw (Strays after may) h = absurd (both_ways (IsRaw plan lane) no_raw may.raw_pair)
+receives_kept plan lane s made news t no_raw (Looks len left may) h = record {
+  receives = record {
+    within = h.within;
+    done_is = h.done_is;
+    has = elim h.has [
+      | inl g ↦ let piece = may.found no_raw in inl (record {
+          between = λ b. absurd (both_ways true b refl);
+          copying = λ _. record { bytes = piece.bytes; there = piece.at; size = piece.size; parts = g.between (idle-not_copying s.lane.phase may.idle) ∙ sym (append-nil (rest_after [] (take s.lane.got s.lane.sent))) };
+        })
+      | inr f ↦ absurd (both_ways (has_bit s.receiver.joined lane.queue) f.not_joined may.joined)
+    ];
+  };
+  grows = same_frames refl;
+}
+receives_kept plan lane s made news t no_raw (CopiesPart bytes may) h = record {
+  receives = record {
+    within = h.within;
+    done_is = h.done_is;
+    has = inl (record {
+      between = λ b. absurd (both_ways (is_copying s.lane.phase) b may.turn);
+      copying = λ _. part_more bytes (may.are no_raw) (piece_of_copy may.turn h);
+    });
+  };
+  grows = same_frames refl;
+}
+receives_kept plan lane s made news t no_raw (CopiesEntry bytes may) h =
+    let took = all_parts may.copy.more (part_more bytes (may.copy.are no_raw) (piece_of_copy may.copy.turn h)) in
+    let more = some_left 0 [] (take s.lane.got s.lane.sent) took.bytes s.lane.left may.left in
+    record {
+      receives = record {
+        within = let below = took.below in omega arith;
+        done_is = ap (number_after 0) took.next ∙ more.0 ∙ h.done_is;
+        has = inl (record { between = λ _. took.is ∙ sym more.1 ∙ ap (rest_after []) (sym took.next); copying = λ c. absurd (false≢true c) });
+      };
+      grows = same_frames (ap (frames_from 0 []) took.next ∙ more.2);
+    }
+receives_kept plan lane s made news t no_raw (CopiesLast bytes may) h =
+    let took = all_parts may.copy.more (part_more bytes (may.copy.are no_raw) (piece_of_copy may.copy.turn h)) in
+    let whole = none_left 0 [] (take s.lane.got s.lane.sent) took.bytes s.lane.left may.left in
+    record {
+      receives = record {
+        within = let below = took.below in omega arith;
+        done_is = ap (number_after 0) took.next ∙ whole.0 ∙ ap (λ n. n + 1) h.done_is;
+        has = inl (record { between = λ _. sym whole.1 ∙ ap (rest_after []) (sym took.next); copying = λ c. absurd (false≢true c) });
+      };
+      grows = GoOn (ap (frames_from 0 []) took.next ∙ whole.2
+          ∙ ap (λ n. given_of s ++ record { number = n; bytes = rest_after [] (take s.lane.got s.lane.sent) ++ took.bytes } ∷ []) h.done_is
+          ∙ ap (λ b. given_of s ++ record { number = s.lane.done; bytes = b } ∷ []) (sym took.is));
+    }
+receives_kept plan lane s made news t no_raw (Clears may) h = record { receives = receives_at Cleared (copied-not_copying s.lane.phase may.turn) refl h; grows = same_frames refl }
+receives_kept plan lane s made news t no_raw (Acks may) h = record { receives = receives_at Idle (cleared-not_copying s.lane.phase may.turn) refl h; grows = same_frames refl }
+receives_kept plan lane s made news t no_raw turn h = record { receives = h; grows = same_frames refl }
 
 -- What the log has of a session of the lane
 
@@ -101,183 +382,107 @@ pub record Ordered (taken given : List Numbered) : Type 0 where
   pub prefix : BeginsList given taken
   pub numbers : NumberedFrom 0 taken
 
-pub record Lists (session now : ℕ) (sent : List Entry) (got : ℕ) (tally : ℕ → Tally) (taken given : List Numbered) : Type 0 where
+-- `begun` and `got` being the frames of the session that goes on
+pub record Lists (session now : ℕ) (begun got taken given : List Numbered) : Type 0 where
   pub past : session < now → Ordered taken given
-  pub current : now ≡ session → (taken ≡ frames_from 0 sent) × (given ≡ frames_from 0 (take got sent))
+  pub current : now ≡ session → (taken ≡ begun) × (given ≡ got)
   pub later : now < session → (taken ≡ []) × (given ≡ [])
-  pub tally_is : tally session ≡ record { accepted = length taken; delivered = length given }
 
-abbrev pub ListsOf : ℕ → Sight → List Numbered → List Numbered → Type 0
-ListsOf session s taken given = Lists session s.session s.lane.sent s.lane.got s.tally taken given
+-- what was delivered begins what was accepted
+in_order : (s : Sight) (coming : List Entry) → s.lane.got ≤ length s.lane.sent → Ordered (taken_of s coming) (given_of s)
+in_order s coming within = record {
+  prefix = subst (λ xs. BeginsList (frames_from 0 [] xs) (taken_of s coming)) (take-append-le s.lane.got s.lane.sent coming within) (frames-begin s.lane.got (s.lane.sent ++ coming));
+  numbers = frames-numbered 0 [] (s.lane.sent ++ coming);
+}
 
-current_ordered : {up closed : Bool} {sent : List Entry} {got : ℕ} {phase : Phase} (taken given : List Numbered) → LaneFacts up closed sent got phase
-    → (taken ≡ frames_from 0 sent) × (given ≡ frames_from 0 (take got sent)) → Ordered taken given
-current_ordered {sent = sent} {got = got} taken given facts now = rw (now.0, now.1) (record { prefix = frames-begin got sent; numbers = facts.numbers })
+current_ordered : {begun got : List Numbered} (taken given : List Numbered) → Ordered begun got → (taken ≡ begun) × (given ≡ got) → Ordered taken given
+current_ordered taken given order now = rw (now.0, now.1) order
 
-lists_ordered : (q session : ℕ) (s : Sight) (taken given : List Numbered) → FactsOf q s → ListsOf session s taken given → Ordered taken given
-lists_ordered q session s taken given facts lists = elim (cases_order session s.session) [
-  | inl e ↦ current_ordered taken given facts (lists.current (sym e))
+lists_ordered : (session now : ℕ) (begun got taken given : List Numbered) → Ordered begun got → Lists session now begun got taken given → Ordered taken given
+lists_ordered session now begun got taken given order lists = elim (cases_order session now) [
+  | inl e ↦ current_ordered taken given order (lists.current (sym e))
   | inr o ↦ elim o [
     | inl past ↦ lists.past past
     | inr later ↦ let none = lists.later later in rw (none.0, none.1) (record { prefix = ([], refl); numbers = tt })
   ]
 ]
 
--- what is added to the lists of a session by what is made now
-abbrev added : ℕ → ℕ → List Numbered → List Numbered
-added session now frames = if now == session then frames else []
-
-added-none : (b : Bool) (xs frames : List Numbered) → frames ≡ [] → xs ++ (if b then frames else []) ≡ xs
-added-none true xs frames e = ap (λ more. xs ++ more) e ∙ append-nil xs
-added-none false xs frames e = append-nil xs
-
-added-now : (session now : ℕ) (xs frames more : List Numbered) → now ≡ session → frames ≡ more → xs ++ added session now frames ≡ xs ++ more
-added-now session now xs frames more e f = ap (λ b. xs ++ (if b then frames else [])) (eq-eqb now session e) ∙ ap (λ ys. xs ++ ys) f
-
-added-elsewhere : (session now : ℕ) (xs frames : List Numbered) → (now ≡ session → ⊥) → xs ++ added session now frames ≡ xs
-added-elsewhere session now xs frames ne = ap (λ b. xs ++ (if b then frames else [])) (ne_eqb now session ne) ∙ append-nil xs
-
--- the tally of the session that is counted, and of another one
-tally-now : (tally : ℕ → Tally) (more : Tally → Tally) (session now : ℕ) → now ≡ session → updated tally now (more (tally now)) session ≡ more (tally session)
-tally-now tally more session now e = ap (λ b. if b then more (tally now) else tally session) (eq-eqb session now (sym e)) ∙ ap (λ n. more (tally n)) e
-
-tally-elsewhere : (tally : ℕ → Tally) (counted : Tally) (session now : ℕ) → (now ≡ session → ⊥) → updated tally now counted session ≡ tally session
-tally-elsewhere tally counted session now ne = ap (λ b. if b then counted else tally session) (ne_eqb session now (λ e. ne (sym e)))
-
-of_lists : (P : List Numbered → List Numbered → Type 0) {a b c d : List Numbered} → a ≡ b → c ≡ d → P b d → P a c
-of_lists P {a} {b} {c} {d} e f lists = subst (λ x. P x c) (sym e) (subst (λ x. P b x) (sym f) lists)
-
-lists_kept : (plan : Plan) (lane : LaneName) (session : ℕ) (s : Sight) (made : Answered) (news : News) (t : Sight) (taken given : List Numbered)
-    → Tells plan lane s.lane made news → Turn plan lane s made news t → FactsOf lane.queue s → (s.session ≡ session) ⊎ (s.session ≡ session → ⊥) → ListsOf session s taken given
-    → ListsOf session t (taken ++ added session s.session (accepts plan lane made)) (given ++ added session s.session (delivers lane made))
-lists_kept plan lane session s made news t taken given tells (Trains may) facts c lists =
-    of_lists (ListsOf session t) (added-none (s.session == session) taken _ tells.accepted) (added-none (s.session == session) given _ tells.delivered) (record {
-      past = λ h. elim (cases_order session s.session) [
-        | inl e ↦ current_ordered taken given facts (lists.current (sym e))
+lists_kept : (session now : ℕ) (starts : Bool) (begun got accepts delivers begun_after got_after taken given : List Numbered)
+    → Grows accepts begun starts begun_after → Grows delivers got starts got_after → Ordered begun got → (now ≡ session) ⊎ (now ≡ session → ⊥) → Lists session now begun got taken given
+    → Lists session (if starts then now + 1 else now) begun_after got_after (taken ++ added session now accepts) (given ++ added session now delivers)
+lists_kept session now starts begun got accepts delivers begun_after got_after taken given (Anew a no_more) (Anew d none_got) order c lists =
+    of_lists (Lists session (now + 1) begun_after got_after) (added-none (now == session) taken _ a) (added-none (now == session) given _ d) (record {
+      past = λ h. elim (cases_order session now) [
+        | inl e ↦ current_ordered taken given order (lists.current (sym e))
         | inr o ↦ elim o [ inl past ↦ lists.past past | inr later ↦ absurd (omega arith) ]
       ];
-      current = λ h. lists.later (omega arith);
+      current = λ h. let none = lists.later (omega arith) in (none.0 ∙ sym no_more, none.1 ∙ sym none_got);
       later = λ h. lists.later (omega arith);
-      tally_is = lists.tally_is;
     })
-lists_kept plan lane session s made news t taken given tells (Begins bytes may) facts (inl now) lists =
-    let frame : Numbered = record { number = length s.lane.sent; bytes = bytes } in
-    of_lists (ListsOf session t) (added-now session s.session taken _ _ now tells.accepted) (added-none (s.session == session) given _ tells.delivered) (record {
+lists_kept session now starts begun got accepts delivers begun_after got_after taken given (GoOn a) (GoOn d) order (inl is) lists =
+    of_lists (Lists session now begun_after got_after) (added-now session now taken _ _ is refl) (added-now session now given _ _ is refl) (record {
       past = λ h. absurd (omega arith);
-      current = λ h. (
-        ap (λ frames. frames ++ frame ∷ []) (lists.current now).0 ∙ sym (frames-frame s.lane.sent bytes),
-        (lists.current now).1 ∙ ap (frames_from 0) (sym (take-append-le s.lane.got s.lane.sent (Carries bytes ∷ []) facts.within)),
-      );
+      current = λ h. (ap (λ xs. xs ++ accepts) (lists.current is).0 ∙ sym a, ap (λ xs. xs ++ delivers) (lists.current is).1 ∙ sym d);
       later = λ h. absurd (omega arith);
-      tally_is =
-          tally-now s.tally more_accepted session s.session now ∙ ap more_accepted lists.tally_is
-          ∙ ap (λ n. record { accepted = n; delivered = length given }) (sym (length-append taken (frame ∷ [])));
     })
-lists_kept plan lane session s made news t taken given tells (Begins bytes may) facts (inr ne) lists =
-    of_lists (ListsOf session t) (added-elsewhere session s.session taken _ ne) (added-elsewhere session s.session given _ ne)
-    (record { past = lists.past; current = λ h. absurd (ne h); later = lists.later; tally_is = tally-elsewhere s.tally _ session s.session ne ∙ lists.tally_is })
-lists_kept plan lane session s made news t taken given tells (Closes may) facts c lists =
-    of_lists (ListsOf session t) (added-none (s.session == session) taken _ tells.accepted) (added-none (s.session == session) given _ tells.delivered) (record {
-      past = lists.past;
-      current = λ h. (
-        (lists.current h).0 ∙ sym (frames-down s.lane.sent),
-        (lists.current h).1 ∙ ap (frames_from 0) (sym (take-append-le s.lane.got s.lane.sent (GoesDown ∷ []) facts.within)),
-      );
-      later = lists.later;
-      tally_is = lists.tally_is;
-    })
-lists_kept plan lane session s made news t taken given tells (CopiesLast may) facts (inl now) lists =
-    let at = facts.copying may.turn in
-    let bytes : List ℕ = bytes_of (entry_in s.lane s.lane.got) in
-    let there : entry_in s.lane s.lane.got ≡ Carries bytes = at.there ∙ ap (λ entry. Carries (bytes_of entry)) (sym at.there) in
-    of_lists (ListsOf session t) (added-none (s.session == session) taken _ tells.accepted) (added-now session s.session given _ _ now tells.delivered) (record {
-      past = λ h. absurd (omega arith);
-      current = λ h. (
-        (lists.current now).0,
-        ap (λ frames. frames ++ record { number = s.lane.got; bytes = bytes } ∷ []) (lists.current now).1
-            ∙ ap (λ k. frames_from 0 (take s.lane.got s.lane.sent) ++ record { number = k; bytes = bytes } ∷ []) (omega arith)
-            ∙ sym (frames-take 0 s.lane.got s.lane.sent bytes there),
-      );
-      later = λ h. absurd (omega arith);
-      tally_is =
-          tally-now s.tally more_delivered session s.session now ∙ ap more_delivered lists.tally_is
-          ∙ ap (λ n. record { accepted = length taken; delivered = n }) (sym (length-append given (record { number = s.lane.got; bytes = bytes } ∷ [])));
-    })
-lists_kept plan lane session s made news t taken given tells (CopiesLast may) facts (inr ne) lists =
-    of_lists (ListsOf session t) (added-elsewhere session s.session taken _ ne) (added-elsewhere session s.session given _ ne)
-    (record { past = lists.past; current = λ h. absurd (ne h); later = lists.later; tally_is = tally-elsewhere s.tally _ session s.session ne ∙ lists.tally_is })
-lists_kept plan lane session s made news t taken given tells turn facts c lists =
-    of_lists (ListsOf session t) (added-none (s.session == session) taken _ tells.accepted) (added-none (s.session == session) given _ tells.delivered) lists
-
--- the session goes on, but where one begins
-session_kept : (plan : Plan) (lane : LaneName) (s : Sight) (made : Answered) (news : News) (t : Sight) → Tells plan lane s.lane made news → Turn plan lane s made news t
-    → (if trains lane.pair made then s.session + 1 else s.session) ≡ t.session
-session_kept plan lane s made news t tells (Trains may) = ap (λ b. if b then s.session + 1 else s.session) tells.starts
-session_kept plan lane s made news t tells turn = ap (λ b. if b then s.session + 1 else s.session) tells.starts
+lists_kept session now starts begun got accepts delivers begun_after got_after taken given (GoOn a) (GoOn d) order (inr isnt) lists =
+    of_lists (Lists session now begun_after got_after) (added-elsewhere session now taken _ isnt) (added-elsewhere session now given _ isnt)
+    (record { past = lists.past; current = λ h. absurd (isnt h); later = lists.later })
 
 -- The laws
 
 -- what holds of a lane and a session after each log
 pub record LaneRun (plan : Plan) (lane : LaneName) (session : ℕ) (log : List Answered) (s : Sight) : Type 0 where
   pub now : session_at lane.pair (first_session plan lane.pair) log ≡ s.session
-  pub facts : FactsOf lane.queue s
-  pub lists : ListsOf session s (accepted plan log lane session) (delivered plan log lane session)
+  pub coming : List Entry
+  pub begun : BegunOf s coming
+  pub receives : ReceivesOf lane.queue s
+  pub lists : Lists session s.session (taken_of s coming) (given_of s) (accepted plan log lane session) (delivered plan log lane session)
 
-run_kept : (plan : Plan) (lane : LaneName) (session : ℕ) (log : List Answered) (s : Sight) (made : Answered) (news : News) (t : Sight) → Tells plan lane s.lane made news
+run_kept : (plan : Plan) (lane : LaneName) (session : ℕ) → IsRaw plan lane ≡ false → (log : List Answered) (s : Sight) (made : Answered) (news : News) (t : Sight) → Tells plan lane s.lane made news
     → Turn plan lane s made news t → LaneRun plan lane session log s → LaneRun plan lane session (log ++ made ∷ []) t
-run_kept plan lane session log s made news t tells turn run = record {
-  now =
-      session_at-last lane.pair first log made ∙ ap (λ n. if trains lane.pair made then n + 1 else n) run.now
-      ∙ session_kept plan lane s made news t tells turn;
-  facts = facts_kept plan lane s made news t turn run.facts;
+run_kept plan lane session no_raw log s made news t tells turn run = record {
+  now = now_kept plan lane log s made news t tells turn run.now;
+  coming = sending.after;
+  begun = sending.begun;
+  receives = receiving.receives;
   lists =
-      of_lists (ListsOf session t) (more (accepts plan lane)) (more (delivers lane))
-      (lists_kept plan lane session s made news t (accepted plan log lane session) (delivered plan log lane session) tells turn run.facts (cases_eq s.session session) run.lists);
+      of_lists Next (more_found plan lane session log made s.session run.now (accepts plan lane) ∙ ap (λ xs. accepted plan log lane session ++ added session s.session xs) tells.accepted)
+      (more_found plan lane session log made s.session run.now (delivers lane) ∙ ap (λ xs. delivered plan log lane session ++ added session s.session xs) tells.delivered)
+      (subst (λ n. Lists session n (taken_of t sending.after) (given_of t) (accepted plan log lane session ++ added session s.session news.accepted) (delivered plan log lane session ++ added session s.session news.delivered))
+      (ap (λ b. if b then s.session + 1 else s.session) (sym tells.starts) ∙ session_kept plan lane s made news t tells turn)
+      (lists_kept session s.session news.starts _ _ _ _ _ _ _ _ sending.grows receiving.grows (in_order s run.coming run.receives.within) (cases_eq s.session session) run.lists));
 }
   where
-    first : ℕ
-    first = first_session plan lane.pair
+    sending : BegunNext news s t run.coming
+    sending = begun_kept plan lane s made news t no_raw turn run.coming run.begun
 
-    more : (read : Answered → List Numbered)
-        → flat_map read (made_in lane.pair session first (log ++ made ∷ [])) ≡ flat_map read (made_in lane.pair session first log) ++ added session s.session (read made)
-    more read =
-        found_in-last read lane.pair session first log made
-        ∙ ap (λ n. flat_map read (made_in lane.pair session first log) ++ (if n == session then read made else [])) run.now
+    receiving : ReceivesNext lane.queue news s t
+    receiving = receives_kept plan lane s made news t no_raw turn run.receives
 
-no_tally_at : (plan : PairPlan) (from : Side) (queue session : ℕ) → tally_of (fresh_pair plan) from queue session ≡ no_tally
-no_tally_at plan A queue session = refl
-no_tally_at plan B queue session = refl
-
-fresh_now : (up : Bool) (plan : PairPlan) → plan.up ≡ up → (if plan.up then 1 else 0) ≡ (fresh_pair plan).link.session
-fresh_now true plan e = rw e refl
-fresh_now false plan e = rw e refl
+    Next : List Numbered → List Numbered → Type 0
+    Next taken given = Lists session t.session (taken_of t sending.after) (given_of t) taken given
 
 run_fresh : (plan : Plan) (lane : LaneName) (session : ℕ) → LaneRun plan lane session [] (sight lane.from lane.queue (fresh_pair (pair_plan plan lane.pair)))
-run_fresh plan lane session = record {
-  now = fresh_now (pair_plan plan lane.pair).up (pair_plan plan lane.pair) refl;
-  facts = subst (λ (l : LanePart). LaneFacts (is_up now.state) (has_bit now.sender.closed lane.queue) l.sent l.got l.phase) (sym is) (facts_fresh _ _);
-  lists = record {
-    past = λ _. record { prefix = ([], refl); numbers = tt };
-    current = λ _. subst (λ l. ([] ≡ frames_from 0 l.sent) × ([] ≡ frames_from 0 (take l.got l.sent))) (sym is) (refl, refl);
-    later = λ _. (refl, refl);
-    tally_is = no_tally_at (pair_plan plan lane.pair) lane.from lane.queue session;
-  };
-}
-  where
-    now : Sight
-    now = sight lane.from lane.queue (fresh_pair (pair_plan plan lane.pair))
+run_fresh plan lane session =
+    subst (λ (l : LanePart). LaneRun plan lane session [] (record (sight lane.from lane.queue (fresh_pair (pair_plan plan lane.pair))) { lane = l })) (sym (fresh-lane (pair_plan plan lane.pair) lane.from lane.queue))
+    (record {
+      now = fresh_now (pair_plan plan lane.pair).up (pair_plan plan lane.pair) refl;
+      coming = [];
+      begun = record { to_come = inl refl; told_is = refl; whole = refl };
+      receives = record { within = omega arith; done_is = refl; has = inl (record { between = λ _. refl; copying = λ c. absurd (false≢true c) }) };
+      lists = record { past = λ _. record { prefix = ([], refl); numbers = tt }; current = λ _. (refl, refl); later = λ _. (refl, refl) };
+    })
 
-    is : lane_of (fresh_pair (pair_plan plan lane.pair)) lane.from lane.queue ≡ fresh_lane
-    is = fresh-lane (pair_plan plan lane.pair) lane.from lane.queue
-
-pub lane_runs : (plan : Plan) (lane : LaneName) (session : ℕ) → HoldsAlways plan lane (LaneRun plan lane session)
-lane_runs plan lane session = record { fresh = run_fresh plan lane session; turns = run_kept plan lane session }
+pub lane_runs : (plan : Plan) (lane : LaneName) (session : ℕ) → IsRaw plan lane ≡ false → HoldsAlways plan lane (LaneRun plan lane session)
+lane_runs plan lane session no_raw = record { fresh = run_fresh plan lane session; turns = run_kept plan lane session no_raw }
 
 pub every_log_is_in_order : EveryLogIsInOrder
-every_log_is_in_order plan memories steps lane session =
-    let run = always_after plan lane (LaneRun plan lane session) (lane_runs plan lane session) memories steps in
+every_log_is_in_order plan memories steps lane session no_raw =
+    let run = always_after plan lane (LaneRun plan lane session) (lane_runs plan lane session no_raw) memories steps in
     let log = log_of plan memories steps in
-    let ordered = lists_ordered lane.queue session (sight lane.from lane.queue (ledger_of plan memories steps lane.pair)) (accepted plan log lane session) (delivered plan log lane session) run.facts run.lists in
+    let s = sight lane.from lane.queue (ledger_of plan memories steps lane.pair) in
+    let ordered = lists_ordered session s.session (taken_of s run.coming) (given_of s) (accepted plan log lane session) (delivered plan log lane session) (in_order s run.coming run.receives.within) run.lists in
     record {
       prefix = ordered.prefix;
       accepted_numbers = ordered.numbers;
@@ -285,8 +490,5 @@ every_log_is_in_order plan memories steps lane session =
     }
 
 pub every_frame_comes_once : EveryFrameComesOnce
-every_frame_comes_once plan memories steps lane session n =
-    times-once n 0 (delivered plan (log_of plan memories steps) lane session) (every_log_is_in_order plan memories steps lane session).delivered_numbers
-
-pub tallies_are_counts : TalliesAreCounts
-tallies_are_counts plan memories steps lane session = (always_after plan lane (LaneRun plan lane session) (lane_runs plan lane session) memories steps).lists.tally_is
+every_frame_comes_once plan memories steps lane session n no_raw =
+    times-once n 0 (delivered plan (log_of plan memories steps) lane session) (every_log_is_in_order plan memories steps lane session no_raw).delivered_numbers

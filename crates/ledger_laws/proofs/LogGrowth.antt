@@ -39,6 +39,22 @@ pub log_of-last : (plan : Plan) (memories : Memories) (steps : List Step) (step 
     ≡ log_of plan memories steps ++ answered plan (memories (log_of plan memories steps)) (ledger_of plan memories steps) step ∷ []
 log_of-last plan memories steps step = log_from-last plan memories [] (λ j. fresh_pair (pair_plan plan j)) steps step
 
+-- the ledger of one step more
+ledger_from-last : (plan : Plan) (memories : Memories) (before : List Answered) (ledger : Ledger) (steps : List Step) (step : Step)
+    → ledger_from plan memories before ledger (steps ++ step ∷ [])
+    ≡ ledger_after plan (memories (before ++ log_from plan memories before ledger steps)) (ledger_from plan memories before ledger steps) step
+ledger_from-last plan memories before ledger [] step = ap (λ log. ledger_after plan (memories log) ledger step) (sym (append-nil before))
+ledger_from-last plan memories before ledger (first ∷ steps) step =
+    let made = answered plan (memories before) ledger first in
+    let after = ledger_after plan (memories before) ledger first in
+    ledger_from-last plan memories (before ++ made ∷ []) after steps step
+    ∙ ap (λ log. ledger_after plan (memories log) (ledger_from plan memories (before ++ made ∷ []) after steps) step)
+    (append_assoc before (made ∷ []) (log_from plan memories (before ++ made ∷ []) after steps))
+
+pub ledger_of-last : (plan : Plan) (memories : Memories) (steps : List Step) (step : Step)
+    → ledger_of plan memories (steps ++ step ∷ []) ≡ ledger_after plan (memories (log_of plan memories steps)) (ledger_of plan memories steps) step
+ledger_of-last plan memories steps step = ledger_from-last plan memories [] (λ j. fresh_pair (pair_plan plan j)) steps step
+
 same_head : {X : Type 0} (x y : X) → x ∷ [] ≡ y ∷ [] → x ≡ y
 same_head x y e = cc
 

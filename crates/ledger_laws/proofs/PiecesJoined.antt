@@ -1,4 +1,4 @@
--- The pieces of a frame, joined, are the frame. Not checked yet, and in no list of modules.
+-- The pieces of a frame, joined, are the frame.
 use Rattle.std.proofs.Common.{◌≡◌, ℕ, zero, suc, ◌+◌, ◌-◌, ◌*◌, ◌/◌, ◌<◌, ◌≤◌, ◌==◌, List, [], ◌∷◌, ◌++◌, length, map, take, drop, refl, sym, ap, ◌∙◌, subst, inl, inr, arith, append_assoc, mod-lt}
 use Rattle.std.specs.Prelude.{max, min}
 use Rattle.std.proofs.Math.Nat.{div-add-mod, mul-suc}
@@ -6,11 +6,9 @@ use Rattle.std.proofs.lemmas.Nat.{mul-le}
 use Rattle.std.proofs.lemmas.Bool.{cases_eq, cond_both}
 use Rattle.step_kinds.specs.declared.plan.PairPlan.{PairPlan}
 use Rattle.ledger_laws.proofs.Frames.{frames_from, number_after, rest_after}
-use Rattle.ledger_model.specs.Log.{Numbered}
-use Rattle.std.proofs.lemmas.List.{length-map, length-drop, take_all, take-append-drop}
+use Rattle.std.proofs.lemmas.List.{length-drop, drop-drop, take_all, take-append-drop}
 use Rattle.lane_model.specs.Lane.{Entry, Carries, count_from}
-use Rattle.lane_laws.proofs.Facade.{length-count_from}
-use Rattle.ledger_model.specs.Pieces.{piece_of, pieces_of}
+use Rattle.ledger_model.specs.Pieces.{pieces_of}
 use Rattle.plan_model.specs.Sizes.{agreed_version, most_bytes, pieces_in}
 
 -- Joined, the pieces are the frame
@@ -35,14 +33,6 @@ next_piece n rest piece later bytes left more entries some same h =
       none_left = h.none_left;
     })
 
-drop-more : {X : Type 0} (n m : ℕ) (xs : List X) → drop m (drop n xs) ≡ drop (n + m) xs
-drop-more zero m xs = ap (λ k. drop k xs) (omega arith)
-drop-more (suc n) zero [] = refl
-drop-more (suc n) (suc m) [] = ap (λ k. drop k []) (omega arith)
-drop-more (suc n) m (x ∷ xs) =
-    let e : suc n + m ≡ suc (n + m) = omega arith in
-    drop-more n m xs ∙ ap (λ k. drop k (x ∷ xs)) (sym e)
-
 one_more : (k : ℕ) → k + suc zero ≡ suc k
 one_more k = omega arith
 
@@ -56,7 +46,7 @@ pieces_from largest bytes all covered zero k n rest count =
 pieces_from largest bytes all covered (suc more) k n rest count =
     let piece = take largest (drop (largest * k) bytes) in
     let later = drop (largest * suc k) bytes in
-    let behind : drop largest (drop (largest * k) bytes) ≡ later = drop-more (largest * k) largest bytes ∙ ap (λ j. drop j bytes) (sym (mul-suc largest k)) in
+    let behind : drop largest (drop (largest * k) bytes) ≡ later = drop-drop largest (largest * k) bytes ∙ ap (λ j. drop j bytes) (sym (mul-suc largest k)) in
     next_piece n rest piece later (drop (largest * k) bytes) (all - 1 - k) more _ (omega arith)
     (ap (λ b. piece ++ b) (sym behind) ∙ take-append-drop largest (drop (largest * k) bytes))
     (pieces_from largest bytes all covered more (suc k) n (rest ++ piece) (omega arith))

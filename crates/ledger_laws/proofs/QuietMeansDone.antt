@@ -17,26 +17,26 @@ use Rattle.ledger_model.specs.Next.{fresh_pair}
 use Rattle.ledger_laws.proofs.AtStart.{fresh-lane, fresh-flight}
 use Rattle.ledger_laws.proofs.FlagsAndBells.{LinedOf, WatchedOf, lined_kept, watched_kept, nothing_left, ticks_of}
 use Rattle.ledger_laws.proofs.Frames.{frames_from}
-use Rattle.ledger_laws.proofs.FramesInOrder.{LaneRun, lane_runs}
+use Rattle.ledger_laws.proofs.FramesInOrder.{LaneRun, lane_runs, none_comes, alone, taken_of, given_of}
 use Rattle.ledger_laws.proofs.InFlight.{EmptyOf, empty_kept}
 use Rattle.ledger_laws.proofs.LogReaders.{last_look-last}
 use Rattle.ledger_laws.proofs.walk.Logs.{HoldsAlways, always_after}
 use Rattle.ledger_laws.proofs.walk.Sight.{Sight, sight, other_other}
 use Rattle.ledger_laws.proofs.walk.News.{News, Tells, saw_next}
-use Rattle.ledger_laws.proofs.walk.Turn.{Turn}
+use Rattle.ledger_laws.proofs.walk.Turn.{Turn, IsRaw}
 
 -- what holds after each log, while the link is up
 record WatchKnown (lane : LaneName) (log : List Answered) (s : Sight) : Type 0 where
   empty : EmptyOf s
   on : is_up s.state ≡ true → LinedOf lane.queue s × (last_look_empty log lane.pair (other_side lane.from) lane.queue ≡ true → WatchedOf lane.queue s)
 
-watch_kept : (plan : Plan) (lane : LaneName) (log : List Answered) (s : Sight) (made : Answered) (news : News) (t : Sight) → Tells plan lane s.lane made news → Turn plan lane s made news t
+watch_kept : (plan : Plan) (lane : LaneName) → IsRaw plan lane ≡ false → (log : List Answered) (s : Sight) (made : Answered) (news : News) (t : Sight) → Tells plan lane s.lane made news → Turn plan lane s made news t
     → WatchKnown lane log s → WatchKnown lane (log ++ made ∷ []) t
-watch_kept plan lane log s made news t tells turn h = record {
+watch_kept plan lane no_raw log s made news t tells turn h = record {
   empty = empty_kept plan lane s made news t turn h.empty;
   on = λ up. (
-    lined_kept plan lane s made news t turn h.empty (λ up. (h.on up).0) up,
-    λ saw. watched_kept plan lane s made news t turn (went_on saw) before h.on (sym (tells.sees before) ∙ sees (went_on saw) saw) up,
+    lined_kept plan lane s made news t no_raw turn h.empty (λ up. (h.on up).0) up,
+    λ saw. watched_kept plan lane s made news t no_raw turn (went_on saw) before h.on (sym (tells.sees before) ∙ sees (went_on saw) saw) up,
   );
 }
   where
@@ -68,17 +68,18 @@ watch_fresh plan lane =
       );
     })
 
-watch_runs : (plan : Plan) (lane : LaneName) → HoldsAlways plan lane (WatchKnown lane)
-watch_runs plan lane = record { fresh = watch_fresh (pair_plan plan lane.pair) lane; turns = watch_kept plan lane }
+watch_runs : (plan : Plan) (lane : LaneName) → IsRaw plan lane ≡ false → HoldsAlways plan lane (WatchKnown lane)
+watch_runs plan lane no_raw = record { fresh = watch_fresh (pair_plan plan lane.pair) lane; turns = watch_kept plan lane no_raw }
 
 pub quiet_means_done : QuietMeansDone
-quiet_means_done plan memories steps pair side queue quiet = record {
+quiet_means_done plan memories steps pair side queue no_raw quiet = record {
   all_taken = done.0;
   all_flagged = done.1;
   all_delivered =
       current.1
-      ∙ ap (λ n. frames_from 0 (take n (lane_of now (other_side side) queue).sent)) (done.0 ∙ done.1)
-      ∙ ap (frames_from 0) (take-length (lane_of now (other_side side) queue).sent)
+      ∙ ap (λ n. frames_from 0 [] (take n (lane_of now (other_side side) queue).sent)) (done.0 ∙ done.1)
+      ∙ ap (frames_from 0 []) (take-length (lane_of now (other_side side) queue).sent)
+      ∙ alone (frames_from 0 []) (lane_of now (other_side side) queue).sent run.coming (none_comes quiet.link quiet.none_waiting run.begun)
       ∙ sym current.0;
 }
   where
@@ -95,7 +96,7 @@ quiet_means_done plan memories steps pair side queue quiet = record {
     view = sight lane.from lane.queue now
 
     on : LinedOf queue view × (last_look_empty log pair (other_side lane.from) queue ≡ true → WatchedOf queue view)
-    on = (always_after plan lane (WatchKnown lane) (watch_runs plan lane) memories steps).on quiet.link
+    on = (always_after plan lane (WatchKnown lane) (watch_runs plan lane no_raw) memories steps).on quiet.link
 
     looked : last_look_empty log pair (other_side (other_side side)) queue ≡ true
     looked = subst (λ s. last_look_empty log pair s queue ≡ true) (sym (other_other side)) quiet.looked
@@ -107,7 +108,7 @@ quiet_means_done plan memories steps pair side queue quiet = record {
     done = nothing_left queue view on.0 (on.1 looked) quiet.nothing_in_flight quiet.nothing_to_post not_pending
 
     run : LaneRun plan lane now.link.session log view
-    run = always_after plan lane (LaneRun plan lane now.link.session) (lane_runs plan lane now.link.session) memories steps
+    run = always_after plan lane (LaneRun plan lane now.link.session) (lane_runs plan lane now.link.session no_raw) memories steps
 
-    current : (accepted plan log lane now.link.session ≡ frames_from 0 view.lane.sent) × (delivered plan log lane now.link.session ≡ frames_from 0 (take view.lane.got view.lane.sent))
+    current : (accepted plan log lane now.link.session ≡ taken_of view run.coming) × (delivered plan log lane now.link.session ≡ given_of view)
     current = run.lists.current refl

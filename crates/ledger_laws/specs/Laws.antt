@@ -1,5 +1,5 @@
 -- The laws of every log.
-use Rattle.std.specs.Prelude.{◌≡◌, ℕ, ◌+◌, ◌<◌, ◌==◌, Bool, true, false, ◌&&◌, ◌⊎◌, Option, Some, None, List, [], ◌∷◌, ◌++◌, length, filter, nat_lt, not, if◌then◌else◌, ◌≤◌, ◌/◌, ◌%◌}
+use Rattle.std.specs.Prelude.{◌≡◌, ℕ, ◌+◌, ◌<◌, ◌==◌, Bool, true, false, ◌&&◌, ◌||◌, ◌⊎◌, Option, Some, None, List, [], ◌∷◌, ◌++◌, length, filter, nat_lt, not, if◌then◌else◌, ◌≤◌, ◌/◌, ◌%◌}
 use Rattle.std.specs.List.{AllByRecursion}
 use Rattle.step_kinds.specs.Bits.{has_bit}
 use Rattle.step_kinds.specs.Sides.{other_side}
@@ -9,16 +9,18 @@ use Rattle.step_kinds.specs.declared.names.Side.{Side}
 use Rattle.step_kinds.specs.declared.plan.SidePlan.{SidePlan}
 use Rattle.step_kinds.specs.declared.plan.Plan.{Plan}
 use Rattle.step_kinds.specs.declared.steps.Answer.{Answer}
-use Rattle.step_kinds.specs.declared.steps.Answer.TheVariants.{LinkDown, NotReady, Closed, TooLong, Busy, Stopped, Again, Up}
+use Rattle.step_kinds.specs.declared.steps.Answer.TheVariants.{Ok as Done, OkSession, OkNumber, LinkDown, Offered, Up, Joined, Again, Posted, Landed, PeerDown, ReadyFrame, Copied, Delivered, Cleared, Acked, Awake, Irq as IrqBits, Mem, PadValue, QueueShown}
 use Rattle.step_kinds.specs.declared.steps.Step.{Step}
-use Rattle.step_kinds.specs.declared.steps.Step.TheVariants.{Begin, QpDown, Xbegin, Offer, Check, Ready, Join, Spad, Poke}
+use Rattle.step_kinds.specs.declared.steps.Step.TheVariants.{Enable, Train, Break, DropDone, Clean, Offer, Check, Ready, Join, Begin, QpDown, Xbegin, Post, Land, Look, Copy, Clear, Ack, Wake, Irq, Mask, Unmask, Spad, Poke, ShowMem, ShowPad, ShowQueue}
 use Rattle.plan_model.specs.Pads.{word}
-use Rattle.ledger_model.specs.Ledger.{PairPart, side_of, lane_of, tally_of, link_up}
+use Rattle.ledger_model.specs.Ledger.{PairPart, side_of, lane_of, dev_of, tally_of, link_up, with_dev}
 use Rattle.ledger_model.specs.Log.{Answered, Memories, Numbered, log_of, ledger_of, accepted, delivered, room_in, up_at, landed_pad, last_look_empty}
+use Rattle.ledger_model.specs.Sending.{is_busy}
+use Rattle.plan_model.specs.Device.{count_refused}
 use Rattle.plan_model.specs.Ethernet.{ethernet_frame}
 use Rattle.plan_model.specs.Pads.{version_pad, queues_pad, windows_pad, high_pad, low_pad}
 use Rattle.plan_model.specs.Plans.{pair_plan, side_plan, dev_plan}
-use Rattle.plan_model.specs.Sizes.{sizes_of, pieces_in}
+use Rattle.plan_model.specs.Sizes.{Sizes, sizes_of, pieces_in}
 
 -- the lane's pair answers by the ledger, and not by what bytes stand in memory
 abbrev pub IsOrdinaryPair : Plan → ℕ → Type 0
@@ -70,15 +72,22 @@ entries_needed plan lane (Xbegin pair side queue dev dst kind payload) =
     pieces_in (sizes_of (pair_plan plan lane.pair) lane.from lane.queue).largest (length (ethernet_frame dst (dev_plan plan.devs dev).address kind payload))
 entries_needed plan lane step = 1
 
--- the refusals that are tested before the ring's room
-abbrev pub refused_before_room : Answer → Bool
-refused_before_room LinkDown = true
-refused_before_room NotReady = true
-refused_before_room Closed = true
-refused_before_room (TooLong len largest) = true
-refused_before_room Busy = true
-refused_before_room Stopped = true
-refused_before_room answer = false
+-- where a side may send nothing on a queue: the link isn't up, or the queue isn't joined there or is closed
+abbrev pub sender_refused : PairPart → Side → ℕ → Bool
+sender_refused now side queue = not (link_up now) || (not (has_bit (side_of now side).joined queue) || has_bit (side_of now side).closed queue)
+
+-- where it may send no frame of so many bytes: it is longer than any may be, or of the frame before it something is left to post
+abbrev pub frame_refused : Sizes → PairPart → Side → ℕ → ℕ → Bool
+frame_refused sizes now side queue len = sender_refused now side queue || (nat_lt sizes.most len || is_busy (lane_of now side queue))
+
+-- where a step that begins entries is refused, whatever room there is, by its pair as it was before the step
+abbrev pub refused_earlier : Plan → PairPart → Step → Bool
+refused_earlier plan now (Begin pair side queue frame) = frame_refused (sizes_of (pair_plan plan pair) side queue) now side queue (length frame)
+refused_earlier plan now (QpDown pair side queue) = sender_refused now side queue || is_busy (lane_of now side queue)
+refused_earlier plan now (Xbegin pair side queue dev dst kind payload) =
+    frame_refused (sizes_of (pair_plan plan pair) side queue) now side queue (length (ethernet_frame dst (dev_plan plan.devs dev).address kind payload))
+    || (dev_of now side queue).stopped
+refused_earlier plan now step = false
 
 abbrev pub is_again : Answer → Bool
 is_again (Again head tail) = true
@@ -88,11 +97,11 @@ is_again answer = false
 abbrev pub GoesOn : Plan → Memories → List Step → Step → Answer → Type 0
 GoesOn plan memories steps step answer = log_of plan memories (steps ++ step ∷ []) ≡ log_of plan memories steps ++ record { step = step; answer = answer } ∷ []
 
--- `again` comes exactly where no refusal before it does and the ring has less room than the step needs
+-- `again` comes exactly where the step isn't refused for another reason, and the ring has less room than the step needs
 abbrev pub AgainWhereNoRoom : Type 0
 AgainWhereNoRoom = (plan : Plan) (memories : Memories) (steps : List Step) (step : Step) (answer : Answer) (lane : LaneName) →
     IsOrdinaryPair plan lane.pair → lane_begun_by step ≡ Some lane → GoesOn plan memories steps step answer →
-    is_again answer ≡ (if refused_before_room answer then false else nat_lt (room_in plan (log_of plan memories steps) lane) (entries_needed plan lane step))
+    is_again answer ≡ (not (refused_earlier plan (ledger_of plan memories steps lane.pair) step) && nat_lt (room_in plan (log_of plan memories steps) lane) (entries_needed plan lane step))
 
 -- the steps that need a link
 abbrev pub needs_link : Step → Bool
@@ -161,6 +170,55 @@ abbrev pub UpMeansAgreement : Type 0
 UpMeansAgreement = (plan : Plan) (memories : Memories) (steps : List Step) (pair : ℕ) (side : Side) →
     HasSides plan → pair < length plan.pairs → AllByRecursion (IsOrdinaryOn pair) (steps ++ Check pair side ∷ []) → GoesOn plan memories steps (Check pair side) Up →
     Agrees (log_of plan memories steps) pair side (side_plan (pair_plan plan pair) side) (side_plan (pair_plan plan pair) (other_side side))
+
+-- Refusals
+
+-- whether a step was made, by its answer: any other answer to it is a refusal
+abbrev pub is_made : Step → Answer → Bool
+is_made (Enable pair side) Done = true
+is_made (Train pair) (OkSession session) = true
+is_made (Break pair) Done = true
+is_made (DropDone pair) Done = true
+is_made (Clean pair side) Done = true
+is_made (Offer pair side) (Offered index) = true
+is_made (Check pair side) Up = true
+is_made (Ready pair side queue) Done = true
+is_made (Join pair side queue) Joined = true
+is_made (Begin pair side queue frame) (OkNumber number) = true
+is_made (QpDown pair side queue) (OkNumber number) = true
+is_made (Xbegin pair side queue dev dst kind payload) (OkNumber number) = true
+is_made (Post pair side queue) (Posted label) = true
+is_made (Land pair side place) (Landed label) = true
+is_made (Look pair side queue) (ReadyFrame number len) = true
+is_made (Look pair side queue) PeerDown = true
+is_made (Copy pair side queue) (Copied number part) = true
+is_made (Copy pair side queue) (Delivered number frame) = true
+is_made (Clear pair side queue) (Cleared number) = true
+is_made (Ack pair side queue) (Acked number) = true
+is_made (Wake pair side queue dev) Awake = true
+is_made (Irq pair side) (IrqBits bits) = true
+is_made (Mask pair side bits) Done = true
+is_made (Unmask pair side bits) Done = true
+is_made (Spad pair side index value) Done = true
+is_made (Poke pair side window offset bytes) Done = true
+is_made (ShowMem pair side at len) (Mem bytes) = true
+is_made (ShowPad pair side index) (PadValue value) = true
+is_made (ShowQueue pair side place) (QueueShown count label) = true
+is_made step answer = false
+
+-- a pair once a step on it was refused: a device counts the refusal of its frame, and nothing else changes
+abbrev pub after_refusal : PairPart → Step → PairPart
+after_refusal now (Xbegin pair side queue dev dst kind payload) =
+    let own = dev_of now side queue in
+    with_dev now side queue (record own { counters = count_refused own.counters })
+after_refusal now step = now
+
+-- a step that was refused leaves every pair as it was, but for that count
+abbrev pub RefusalsChangeNothing : Type 0
+RefusalsChangeNothing = (plan : Plan) (memories : Memories) (steps : List Step) (step : Step) (answer : Answer) (pair : ℕ) →
+    GoesOn plan memories steps step answer → is_made step answer ≡ false →
+    ledger_of plan memories (steps ++ step ∷ []) pair
+    ≡ (if pair == subject_of step then after_refusal (ledger_of plan memories steps pair) step else ledger_of plan memories steps pair)
 
 -- Quiet
 

@@ -9,25 +9,36 @@ ghost use Rattle.ledger_laws.specs.Laws.{
   LinkDownWhereNotUp,
   PairsAreSeparate,
   QuietMeansDone,
+  RefusalsChangeNothing,
   TalliesAreCounts,
   UpMeansAgreement,
 };
-ghost use Rattle.ledger_laws.specs.Rings.{RingLawHolds};
+ghost use Rattle.ledger_laws.specs.Rings.{IndexWordIsTail, RingLawHolds, RingLawOfReceiver};
+ghost use Rattle.ledger_laws.specs.States.{
+  EntriesFitTheRing,
+  JoinedMeansAgreement,
+  LabelsAreOfEntries,
+  LabelsArePostable,
+  NoEntryBeforeBothUp,
+  NothingInFlightWhileDown,
+  UpSideAgrees,
+};
 
 /// In every log, what was delivered on a lane in a session is a prefix of what was accepted there, and both are
-/// numbered from 0 on. No premise.
+/// numbered from 0 on. Premise: the pair is ordinary, that is, not declared `raw`.
 pub fn every_log_is_in_order()
     ensures { EveryLogIsInOrder }
 {}
 
-/// In every log no number of a lane and a session is delivered twice. No premise.
+/// In every log no number of a lane and a session is delivered twice. Premise: the pair is ordinary.
 pub fn every_frame_comes_once()
     ensures { EveryFrameComesOnce }
 {}
 
-/// A step that begins an entry is answered `again` exactly where the answer is no refusal that is tested before the room,
-/// and the room is 0: the ring's entries less one, less the entries begun and plus the index writes landed in the
-/// session. No premise.
+/// A step that begins entries is answered `again` exactly where it isn't refused for another reason (the link isn't up,
+/// the queue isn't joined on the side or is closed there, the frame is too long, of the frame before it something is
+/// left to post, the device is stopped) and the room is less than it needs: the ring's entries less one, less the
+/// entries begun and plus the index writes landed in the session. Premise: the pair is ordinary.
 pub fn again_where_no_room()
     ensures { AgainWhereNoRoom }
 {}
@@ -58,15 +69,86 @@ pub fn up_means_agreement()
 {}
 
 /// Where nothing is on its way to a receiver and it has seen so, all that was accepted in the session was delivered.
-/// Premises, all of the moment: the link is up, the queue is joined and open at the receiver, nothing is in flight
-/// towards it or left to post on the queue, its doorbell isn't pending, and the last look since it was taken was
-/// `empty`.
+/// Premises: the pair is ordinary; and at that moment the link is up, the queue is joined and open at the receiver,
+/// nothing is in flight towards it, the sender has no write left to post on the queue and no entry waiting, the queue's
+/// doorbell isn't pending, and the last look since it was taken was `empty`.
 pub fn quiet_means_done()
     ensures { QuietMeansDone }
 {}
 
-/// Whenever both sides of a pair are up, the law of the ring holds of each of its lanes. Premises: the lane's window
-/// has a ring, and among the steps on the pair none writes a scratchpad below 12 or bytes past the transport.
+/// A step that is refused, that is, answered anything but what a step of its kind is answered where it is made, leaves
+/// every pair as it was; of a device's frame that is refused the device's count of refusals alone grows. So `idle`,
+/// `nothing`, `blocked`, `empty`, `verdiffers` and `long` change nothing either; `peerdown` is no refusal, for it closes
+/// the queue. No premise: it holds on raw pairs too.
+pub fn refusals_change_nothing()
+    ensures { RefusalsChangeNothing }
+{}
+
+/// Whenever the receiver's side of a lane is up, from its check in a session until its clean, the law of the ring holds of
+/// the lane, whatever the sender has forgotten; the index word counts as the tail. Premises: the pair isn't declared
+/// raw, the lane's window has a ring, and among the steps on the pair none writes a scratchpad below 12 or bytes past
+/// the transport.
+pub fn ring_law_of_receiver()
+    ensures { RingLawOfReceiver }
+{}
+
+/// Whenever the sender's side of a lane is up, from its check in a session until its clean, the index word in its memory
+/// is the tail of the entries that were given back, whatever the receiver has forgotten. Premises: as of
+/// [`ring_law_of_receiver`].
+pub fn index_word_is_tail()
+    ensures { IndexWordIsTail }
+{}
+
+/// Whenever both sides of a pair are up, the law of the ring holds of each of its lanes, with the index word as it stands
+/// in memory. Premises: as of [`ring_law_of_receiver`].
 pub fn ring_law_holds()
     ensures { RingLawHolds }
+{}
+
+/// Each entry that was begun, and each piece of a frame that waits, has at most the bytes that a slot takes; and beside
+/// them one slot of the ring stays free. Premises: the pair isn't declared raw; of the free slot, that the ring has
+/// one.
+pub fn entries_fit_the_ring()
+    ensures { EntriesFitTheRing }
+{}
+
+/// Until both sides of a pair are up in a session, each of its lanes is as it was at the session's start, and nothing of
+/// a lane is in flight. Premises: the pair isn't declared raw, its link isn't down, and among the steps on the pair none
+/// writes a scratchpad below 12 or bytes past the transport.
+pub fn no_entry_before_both_up()
+    ensures { NoEntryBeforeBothUp }
+{}
+
+/// While the link of a pair is down nothing is in flight from either side, and no bytes of raw writes are kept. No
+/// premise.
+pub fn nothing_in_flight_while_down()
+    ensures { NothingInFlightWhileDown }
+{}
+
+/// While a side is up, from its check in a session until its clean, both sides' versions are 4 at least, they have as
+/// many queues and windows, and each window that the peer sends through fits the side's memory. Premises: the pair is
+/// one that a script can declare, and among the steps on it none writes a scratchpad below 12 or bytes past the
+/// transport.
+pub fn up_side_agrees()
+    ensures { UpSideAgrees }
+{}
+
+/// While a queue is joined on a side, the two sides' numbers agree whole: versions, queues, windows, and the sizes of
+/// both sides' windows with the other's memory. Premises: as of [`up_side_agrees`].
+pub fn joined_means_agreement()
+    ensures { JoinedMeansAgreement }
+{}
+
+/// Each label of a lane that is in flight from its sender, or left to post, is of an entry that was begun in the session:
+/// a chunk is one of the entry's, flags are those of a frame's piece or of a link-down entry as the entry is. Each index
+/// write in flight is of an entry that was acknowledged. Premise: the pair isn't declared raw.
+pub fn labels_are_of_entries()
+    ensures { LabelsAreOfEntries }
+{}
+
+/// Each label in flight from a side is on one of the side's queues, or writes one of the sixteen scratchpads, or bytes in
+/// a window that both sides have, within its size and the peer's memory. Premises: the pair is one that a script can
+/// declare, and the steps are such as the plan permits.
+pub fn labels_are_postable()
+    ensures { LabelsArePostable }
 {}
