@@ -17,7 +17,7 @@ use Rattle.lane_laws.specs.Laws.{IsOpen}
 use Rattle.lane_laws.proofs.Facade.{contains_cases, contains_none, contains_later, field_of_data}
 use Rattle.lane_core.specs.Calls as calls
 use Rattle.lane_core.specs.Calls.{index_order, label_in, kind_of_mark, order_of_mark}
-use Rattle.ledger_model.specs.Labels.{label_of}
+use Rattle.plan_model.specs.Labels.{label_of}
 use Rattle.ledger_model.specs.Sending as sending
 use Rattle.order_rules.specs.Order.{Order, strict}
 use Rattle.plan_model.specs.Orders.{kind_of, class_of, order_of}

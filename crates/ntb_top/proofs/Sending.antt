@@ -27,10 +27,10 @@ use Rattle.lane_core.specs.Calls as calls
 use Rattle.lane_core.specs.Calls.{LaneValue, begin_answer, after_beginning, first_label, post_answer, after_first_post, after_posting}
 use Rattle.lane_core.specs.declared.answers.Begun.{Begun}
 use Rattle.lane_core.specs.declared.answers.Begun.TheVariants.{Ok as Began, TooLong as FrameTooLong, Busy as LaneBusy, NoRoom}
-use Rattle.ledger_model.specs.Labels.{label_of}
+use Rattle.plan_model.specs.Labels.{label_of}
 use Rattle.ledger_model.specs.Ledger.{LanePart, PairPart, Tally, begun_in, side_of, lane_of, tally_of, with_lane, with_side_part, link_up, posts}
 use Rattle.ledger_model.specs.Outcome.{Outcome, refuse_if, decided}
-use Rattle.ledger_model.specs.Pieces.{piece_of, pieces_of}
+use Rattle.plan_model.specs.Pieces.{piece_of, pieces_of}
 use Rattle.ledger_model.specs.Reading.{by_ledger}
 use Rattle.ledger_model.specs.Sending as sending
 use Rattle.ledger_model.specs.Sending.{is_busy, refuse_sender, refuse_long, refuse_busy, refuse_full, begin_refusal, begin_step, begun, counts_accepted, frame_begun, next_begun, with_next, post_step, post_first}

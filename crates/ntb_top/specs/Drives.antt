@@ -17,7 +17,7 @@ use Rattle.lane_model.specs.declared.Phase.{Phase}
 use Rattle.lane_model.specs.declared.Phase.TheVariants.{Idle, Copying, Copied, Cleared}
 use Rattle.lane_model.specs.declared.Write.{Write}
 use Rattle.lane_core.specs.Calls.{LaneValue}
-use Rattle.ledger_model.specs.Labels.{label_of}
+use Rattle.plan_model.specs.Labels.{label_of}
 use Rattle.byte_model.specs.Headers.{Bytes}
 use Rattle.ledger_model.specs.Ledger.{LanePart, PairPart, side_of, lane_of, tally_of}
 use Rattle.ledger_model.specs.Next.{pair_next}

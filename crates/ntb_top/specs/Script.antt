@@ -11,7 +11,7 @@ use Rattle.step_kinds.specs.declared.plan.Line.{Line}
 use Rattle.step_kinds.specs.declared.plan.Plan.{Plan}
 use Rattle.step_kinds.specs.declared.steps.Step.{Step}
 use Rattle.step_kinds.specs.declared.steps.Step.TheVariants.{Begin, Post, Land, Look, Copy, Clear, Ack}
-use Rattle.lane_model.specs.Lane.{chunks_in}
+use Rattle.plan_model.specs.Macros as macros
 use Rattle.plan_model.specs.Macros.{land_all, receive}
 use Rattle.ntb_top.specs.Spelling.{lines_of, words_of, is_comment, is_text, is_name, side_of, number_of, bytes_of, only_if, number_between, behind}
 
@@ -126,9 +126,10 @@ abbrev pub on_queue : List (List ℕ) → List Step → Option (List Step)
 on_queue (queue ∷ []) steps = only_if (is_zero_word queue) steps
 on_queue words steps = None
 
--- a frame is begun and all its writes are posted: on version 4 it is one entry, with its chunks, length, version, flags and doorbell
+-- A frame is begun and all its writes are posted. How many these are the pair's version alone says, and so far each pair has
+-- version 4.
 abbrev pub send : List ℕ → List Step
-send frame = Begin 0 A 0 frame ∷ replicate (chunks_in (length frame) + 4) (Post 0 A 0)
+send frame = macros.send (pair_with [] no_options) 0 A 0 frame
 
 -- steps of the sending side
 abbrev pub sender_steps : List ℕ → List (List ℕ) → Option (List Step)
