@@ -2,6 +2,8 @@ pub mod AgainWhereNoRoom
 pub mod AtStart
 pub mod BitSets
 pub mod CleanSides
+pub mod CountersAreCounts
+pub mod EachPair
 pub mod Facade
 pub mod FlagsAndBells
 pub mod Frames

@@ -14,7 +14,7 @@ use Rattle.step_kinds.specs.declared.steps.Step.{Step}
 use Rattle.step_kinds.specs.declared.steps.Step.TheVariants.{Enable, Train, Break, DropDone, Clean, Offer, Check, Ready, Join, Begin, QpDown, Xbegin, Post, Land, Look, Copy, Clear, Ack, Wake, Irq, Mask, Unmask, Spad, Poke, ShowMem, ShowPad, ShowQueue}
 use Rattle.plan_model.specs.Pads.{word}
 use Rattle.ledger_model.specs.Ledger.{PairPart, side_of, lane_of, dev_of, tally_of, link_up, with_dev}
-use Rattle.ledger_model.specs.Log.{Answered, Memories, Numbered, log_of, ledger_of, accepted, delivered, room_in, up_at, landed_pad, last_look_empty}
+use Rattle.ledger_model.specs.Log.{Answered, Memories, Numbered, log_of, ledger_of, accepted, delivered, room_in, up_at, landed_pad, last_look_empty, counters_in}
 use Rattle.ledger_model.specs.Sending.{is_busy}
 use Rattle.plan_model.specs.Device.{count_refused}
 use Rattle.plan_model.specs.Ethernet.{ethernet_frame}
@@ -269,3 +269,8 @@ TalliesAreCounts = (plan : Plan) (memories : Memories) (steps : List Step) (lane
     let log = log_of plan memories steps in
     tally_of (ledger_of plan memories steps lane.pair) lane.from lane.queue session
     ≡ record { accepted = length (accepted plan log lane session); delivered = length (delivered plan log lane session) }
+
+-- the counters of each side and queue are what the log counts there, whether a device is declared or not
+abbrev pub CountersAreCounts : Type 0
+CountersAreCounts = (plan : Plan) (memories : Memories) (steps : List Step) (own : LaneName) →
+    (dev_of (ledger_of plan memories steps own.pair) own.from own.queue).counters ≡ counters_in plan (log_of plan memories steps) own

@@ -4,6 +4,7 @@
 
 ghost use Rattle.ledger_laws.specs.Laws.{
   AgainWhereNoRoom,
+  CountersAreCounts,
   EveryFrameComesOnce,
   EveryLogIsInOrder,
   LinkDownWhereNotUp,
@@ -44,6 +45,13 @@ pub fn link_down_where_not_up()
 /// premise.
 pub fn tallies_are_counts()
     ensures { TalliesAreCounts }
+{}
+
+/// The six counters of a device are counts over the log, for each side and queue of each pair: its frames that were
+/// accepted and their bytes, its frames that were refused, and of the frames delivered on its side and queue those of 14
+/// bytes at least, their bytes, and the shorter ones. No premise.
+pub fn counters_are_counts()
+    ensures { CountersAreCounts }
 {}
 
 /// The answers to the steps on one pair don't depend on the steps on other pairs. Premise: what each pair's memories
