@@ -5,6 +5,7 @@ pub use Rattle.ledger_laws.proofs.FramesInOrder.{every_log_is_in_order, every_fr
 pub use Rattle.ledger_laws.proofs.Tallies.{tallies_are_counts}
 pub use Rattle.ledger_laws.proofs.LinkDownWhereNotUp.{link_down_where_not_up}
 pub use Rattle.ledger_laws.proofs.PairsAreSeparate.{pairs_are_separate}
+pub use Rattle.ledger_laws.proofs.PostedAreWrites.{posted_are_writes}
 pub use Rattle.ledger_laws.proofs.QuietMeansDone.{quiet_means_done}
 pub use Rattle.ledger_laws.proofs.RefusalsChangeNothing.{refusals_change_nothing}
 pub use Rattle.ledger_laws.proofs.RingLawHolds.{ring_law_holds}

@@ -20,6 +20,7 @@ pub mod Outcomes
 pub mod PairsAreSeparate
 pub mod Pieces
 pub mod PiecesJoined
+pub mod PostedAreWrites
 pub mod QuietMeansDone
 pub mod RefusalsChangeNothing
 pub mod RingLawHolds

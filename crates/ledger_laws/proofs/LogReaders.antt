@@ -84,3 +84,10 @@ pub landed_pad-last : (k : ℕ) (side : Side) (i : ℕ) (log : List Answered) (m
     → landed_pad (log ++ made ∷ []) k side i ≡ (if trains k made then None else pad_after k side i (landed_pad log k side i) (made ∷ []))
 landed_pad-last k side i log made =
     anew-last (pad_after k side i None) (λ now. pad_after k side i now (made ∷ [])) k log made (λ before. pad_after-last k side i None before made)
+
+-- what each entry since the session began tells, with one entry more
+pub session_found-last : {X : Type 0} (read : Answered → List X) (k : ℕ) (log : List Answered) (made : Answered)
+    → flat_map read (in_this_session k (log ++ made ∷ [])) ≡ (if trains k made then [] else flat_map read (in_this_session k log) ++ read made)
+session_found-last read k log made =
+    anew-last (flat_map read) (λ found. found ++ read made) k log made
+    (λ before. flat_map-append read before (made ∷ []) ∙ ap (λ end. flat_map read before ++ end) (append-nil (read made)))

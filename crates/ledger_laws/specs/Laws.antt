@@ -10,11 +10,16 @@ use Rattle.step_kinds.specs.declared.plan.SidePlan.{SidePlan}
 use Rattle.step_kinds.specs.declared.plan.Plan.{Plan}
 use Rattle.step_kinds.specs.declared.steps.Answer.{Answer}
 use Rattle.step_kinds.specs.declared.steps.Answer.TheVariants.{Ok as Done, OkSession, OkNumber, LinkDown, Offered, Up, Joined, Again, Posted, Landed, PeerDown, ReadyFrame, Copied, Delivered, Cleared, Acked, Awake, Irq as IrqBits, Mem, PadValue, QueueShown}
+use Rattle.step_kinds.specs.declared.steps.Label.{Label}
 use Rattle.step_kinds.specs.declared.steps.Step.{Step}
 use Rattle.step_kinds.specs.declared.steps.Step.TheVariants.{Enable, Train, Break, DropDone, Clean, Offer, Check, Ready, Join, Begin, QpDown, Xbegin, Post, Land, Look, Copy, Clear, Ack, Wake, Irq, Mask, Unmask, Spad, Poke, ShowMem, ShowPad, ShowQueue}
 use Rattle.plan_model.specs.Pads.{word}
+use Rattle.lane_model.specs.Lane.{Entry}
+use Rattle.plan_model.specs.Both.{at_side}
+use Rattle.plan_model.specs.Link.{is_down}
+use Rattle.ledger_model.specs.Labels.{labels_of}
 use Rattle.ledger_model.specs.Ledger.{PairPart, side_of, lane_of, dev_of, tally_of, link_up, with_dev}
-use Rattle.ledger_model.specs.Log.{Answered, Memories, Numbered, log_of, ledger_of, accepted, delivered, room_in, up_at, landed_pad, last_look_empty, counters_in}
+use Rattle.ledger_model.specs.Log.{Answered, Memories, Numbered, log_of, ledger_of, accepted, delivered, room_in, up_at, landed_pad, last_look_empty, counters_in, posted_in}
 use Rattle.ledger_model.specs.Sending.{is_busy}
 use Rattle.plan_model.specs.Device.{count_refused}
 use Rattle.plan_model.specs.Ethernet.{ethernet_frame}
@@ -243,6 +248,25 @@ abbrev pub QuietMeansDone : Type 0
 QuietMeansDone = (plan : Plan) (memories : Memories) (steps : List Step) (pair : ℕ) (side : Side) (queue : ℕ) →
     IsOrdinaryPair plan pair → IsQuiet (log_of plan memories steps) (ledger_of plan memories steps pair) pair side queue →
     IsDone plan (log_of plan memories steps) (ledger_of plan memories steps pair) (record { pair = pair; from = other_side side; queue = queue })
+
+-- Writes
+
+-- the labels of the writes of entries, the first of which has this number, in the order in which they are posted
+abbrev pub labels_from : ℕ → ℕ → List Entry → List Label
+labels_from queue n [] = []
+labels_from queue n (entry ∷ entries) = labels_of queue n entry ++ labels_from queue (n + 1) entries
+
+-- whether a side has forgotten the session that was lost, or never had one
+abbrev pub has_forgotten : PairPart → Side → Bool
+has_forgotten now side = is_down now.link.state && at_side now.link.clean side
+
+-- what was posted on a lane in the session, and then what is left to post, are the writes of the entries begun, until the sender
+-- has forgotten the session
+abbrev pub PostedAreWrites : Type 0
+PostedAreWrites = (plan : Plan) (memories : Memories) (steps : List Step) (lane : LaneName) →
+    let now = ledger_of plan memories steps lane.pair in
+    has_forgotten now lane.from ≡ false →
+    posted_in (log_of plan memories steps) lane ++ (lane_of now lane.from lane.queue).todo ≡ labels_from lane.queue 0 (lane_of now lane.from lane.queue).sent
 
 -- Separate pairs
 

@@ -9,6 +9,7 @@ ghost use Rattle.ledger_laws.specs.Laws.{
   EveryLogIsInOrder,
   LinkDownWhereNotUp,
   PairsAreSeparate,
+  PostedAreWrites,
   QuietMeansDone,
   RefusalsChangeNothing,
   TalliesAreCounts,
@@ -58,6 +59,13 @@ pub fn counters_are_counts()
 /// show depends on the steps on that pair alone.
 pub fn pairs_are_separate()
     ensures { PairsAreSeparate }
+{}
+
+/// What was posted on a lane in the session, and then what is left to post, are the writes of the entries that its sender
+/// began, in order: each once, and none in another's place. Premise: the sender hasn't forgotten the session, that is,
+/// the link isn't down or its side isn't clean. It holds on raw pairs too.
+pub fn posted_are_writes()
+    ensures { PostedAreWrites }
 {}
 
 /// A check that is answered `up` has found the peer's numbers in the scratchpads, all landed in the session, and they

@@ -8,11 +8,12 @@ use Rattle.step_kinds.specs.declared.names.Side.{Side}
 use Rattle.step_kinds.specs.declared.names.Side.TheVariants.{A, B}
 use Rattle.step_kinds.specs.declared.plan.Counters.{Counters}
 use Rattle.step_kinds.specs.declared.plan.Plan.{Plan}
+use Rattle.step_kinds.specs.declared.steps.Label.{Label}
 use Rattle.step_kinds.specs.declared.steps.Label.TheVariants.{Index, Pad}
 use Rattle.step_kinds.specs.declared.steps.Answer.{Answer}
-use Rattle.step_kinds.specs.declared.steps.Answer.TheVariants.{Ok as Done, OkSession, OkNumber, Landed, Empty, Delivered, Irq as IrqBits}
+use Rattle.step_kinds.specs.declared.steps.Answer.TheVariants.{Ok as Done, OkSession, OkNumber, Posted, Landed, Empty, Delivered, Irq as IrqBits}
 use Rattle.step_kinds.specs.declared.steps.Step.{Step}
-use Rattle.step_kinds.specs.declared.steps.Step.TheVariants.{Train, Break, Begin, QpDown, Xbegin, Land, Look, Copy, Irq}
+use Rattle.step_kinds.specs.declared.steps.Step.TheVariants.{Train, Break, Begin, QpDown, Xbegin, Post, Land, Look, Copy, Irq}
 use Rattle.byte_model.specs.Headers.{Bytes}
 use Rattle.ledger_model.specs.Next.{Ledger, start, outcome_in, ledger_after}
 use Rattle.plan_model.specs.Ethernet.{ethernet_frame, ethernet_header}
@@ -175,6 +176,19 @@ counters_in plan log own =
       rx_bytes = sum_by (λ frame. if is_short frame then 0 else length frame) found;
       short = count_by is_short found;
     }
+
+-- Writes
+
+-- the label of a lane's write that this posts
+abbrev pub posts_write : LaneName → Answered → List Label
+posts_write lane made = label_in made.step made.answer where
+  label_in : Step → Answer → List Label
+  label_in (Post pair side queue) (Posted label) = if is_on lane pair side queue then label ∷ [] else []
+  label_in step answer = []
+
+-- the labels of a lane's writes that were posted since the pair's session began, in order
+abbrev pub posted_in : List Answered → LaneName → List Label
+posted_in log lane = flat_map (posts_write lane) (in_this_session lane.pair log)
 
 -- Room
 
