@@ -2,7 +2,7 @@
 use Rattle.std.proofs.Common.{◌≡◌, ℕ, ◌+◌, ◌==◌, ◌&&◌, Bool, true, false, not, List, [], ◌∷◌, ◌++◌, length, refl, sym, ap, ◌∙◌, arith}
 use Rattle.std.specs.Prelude.{if◌then◌else◌, count_by, sum_by}
 use Rattle.std.specs.List.{flat_map}
-use Rattle.std.proofs.lemmas.Bool.{false≢true, eq-eqb, ne_eqb, cond-true, cond-false, cond_both}
+use Rattle.std.proofs.lemmas.Bool.{false≢true, eq-eqb, ne_eqb, cond-true, cond-false}
 use Rattle.std.proofs.lemmas.Grind.{flat_map-append}
 use Rattle.std.proofs.lemmas.List.{append-nil, length-append}
 use Rattle.std.proofs.lemmas.List.Sums.{sum_by-append}
@@ -25,7 +25,7 @@ use Rattle.plan_model.specs.Ethernet.{ethernet_frame}
 use Rattle.plan_model.specs.Plans.{dev_plan, pair_plan}
 use Rattle.plan_model.specs.Sizes.{sizes_of}
 use Rattle.byte_model.specs.Headers.{Bytes}
-use Rattle.ledger_model.specs.Ledger.{DevPart, PairPart, dev_of, lane_of, lane_to, with_lane, link_up, posts, posts_raw, updated}
+use Rattle.ledger_model.specs.Ledger.{DevPart, PairPart, dev_of, lane_of, lane_to, with_lane, posts, posts_raw, updated}
 use Rattle.ledger_model.specs.LinkSteps.{started_dev}
 use Rattle.ledger_model.specs.Log.{Answered, same_side, is_on, device_accepts, device_refuses, device_delivers, is_short, counters_in}
 use Rattle.ledger_model.specs.Next.{fresh_pair, read_next}
@@ -34,7 +34,7 @@ use Rattle.ledger_model.specs.Reading.{Reading, reading_of}
 use Rattle.ledger_model.specs.Receiving.{lands_on}
 use Rattle.ledger_model.specs.Sending.{posts_through, with_next}
 use Rattle.ledger_laws.specs.Laws.{CountersAreCounts}
-use Rattle.ledger_laws.proofs.EachPair.{HoldsOfPair, of_pair_after}
+use Rattle.ledger_laws.proofs.EachPair.{HoldsOfPair, of_pair_after, same-posts, same-posts_raw, same-through}
 use Rattle.ledger_laws.proofs.LogGrowth.{made_by}
 use Rattle.ledger_laws.proofs.walk.Cases.{refuses, enable_cases, train_cases, break_cases, drop_cases, clean_cases, offer_cases, check_cases, ready_cases, join_cases, begin_cases, qpdown_cases, xbegin_cases, post_cases, land_cases, look_cases, copy_cases, clear_cases, ack_cases, acking, wake_cases}
 use Rattle.ledger_laws.proofs.walk.Sight.{IsOff, by_lane}
@@ -148,14 +148,13 @@ counters-kept from q devs side queue =
     (λ s k c off part e. ap counters_of (dev-off from q devs s k part off)) side queue
 
 devs-posts : (pair : PairPart) (side : Side) (label : Label) → (posts pair side label).devs ≡ pair.devs
-devs-posts pair side label = cond_both (link_up pair) _ pair (λ (p : PairPart). p.devs ≡ pair.devs) (λ _. refl) (λ _. refl)
+devs-posts pair side label = same-posts (λ (p : PairPart). p.devs) pair side label (λ _. refl)
 
 devs-posts_raw : (pair : PairPart) (side : Side) (label : Label) (bytes : List ℕ) → (posts_raw pair side label bytes).devs ≡ pair.devs
-devs-posts_raw pair side label bytes = cond_both (link_up pair) _ pair (λ (p : PairPart). p.devs ≡ pair.devs) (λ _. refl) (λ _. refl)
+devs-posts_raw pair side label bytes = same-posts_raw (λ (p : PairPart). p.devs) pair side label bytes (λ _. refl)
 
 devs-through : (reading : Reading) (pair : PairPart) (side : Side) (label : Label) → (posts_through reading pair side label).devs ≡ pair.devs
-devs-through reading pair side label =
-    cond_both (reading.reaches side label) (posts pair side label) pair (λ (p : PairPart). p.devs ≡ pair.devs) (λ _. devs-posts pair side label) (λ _. refl)
+devs-through reading pair side label = same-through (λ (p : PairPart). p.devs) reading pair side label (λ _. refl)
 
 devs-landed : (pair : PairPart) (side : Side) (label : Label) → (lands_on pair side label).devs ≡ pair.devs
 devs-landed pair side (Flag queue n) = refl

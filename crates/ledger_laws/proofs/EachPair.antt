@@ -2,13 +2,18 @@
 -- the walk instead.
 use Rattle.std.proofs.Common.{◌≡◌, ℕ, ◌==◌, List, [], ◌∷◌, ◌++◌, refl, sym, subst, append_assoc, inl, inr}
 use Rattle.std.specs.Prelude.{if◌then◌else◌}
-use Rattle.std.proofs.lemmas.Bool.{cases_eq, eq-eqb, ne_eqb}
+use Rattle.std.proofs.lemmas.Bool.{cases_eq, cond_both, eq-eqb, ne_eqb}
 use Rattle.std.proofs.lemmas.List.{append-nil}
 use Rattle.step_kinds.specs.Subject.{subject_of}
 use Rattle.step_kinds.specs.declared.plan.Plan.{Plan}
 use Rattle.step_kinds.specs.declared.steps.Step.{Step}
 use Rattle.byte_model.specs.Headers.{Bytes}
-use Rattle.ledger_model.specs.Ledger.{PairPart}
+use Rattle.ledger_model.specs.Ledger.{SidePart, PairPart, link_up, posts, posts_raw}
+use Rattle.ledger_model.specs.Reading.{Reading}
+use Rattle.ledger_model.specs.Sending.{posts_through}
+use Rattle.plan_model.specs.Both.{Both}
+use Rattle.step_kinds.specs.declared.names.Side.{Side}
+use Rattle.step_kinds.specs.declared.steps.Label.{Label}
 use Rattle.ledger_model.specs.Log.{Answered, Memories, answered, log_from, ledger_from, log_of, ledger_of}
 use Rattle.ledger_model.specs.Next.{Ledger, fresh_pair, ledger_after, start}
 use Rattle.plan_model.specs.Plans.{pair_plan}
@@ -44,3 +49,17 @@ module _ (plan : Plan) (k : ℕ) (Inv : List Answered → PairPart → Type 0) (
 
   pub of_pair_after : (steps : List Step) → Inv (log_of plan memories steps) (ledger_of plan memories steps k)
   of_pair_after steps = pair_from [] (start plan) steps holds.fresh
+
+-- What is read of a pair beside its sides is the same where a side posts a write
+
+pub same-posts : {X : Type 0} (read : PairPart → X) (pair : PairPart) (side : Side) (label : Label) → ((part : Both SidePart) → read (record pair { sides = part }) ≡ read pair) → read (posts pair side label) ≡ read pair
+same-posts read pair side label kept = cond_both (link_up pair) _ pair (λ (p : PairPart). read p ≡ read pair) (λ _. kept _) (λ _. refl)
+
+pub same-posts_raw : {X : Type 0} (read : PairPart → X) (pair : PairPart) (side : Side) (label : Label) (bytes : List ℕ) → ((part : Both SidePart) → read (record pair { sides = part }) ≡ read pair)
+    → read (posts_raw pair side label bytes) ≡ read pair
+same-posts_raw read pair side label bytes kept = cond_both (link_up pair) _ pair (λ (p : PairPart). read p ≡ read pair) (λ _. kept _) (λ _. refl)
+
+pub same-through : {X : Type 0} (read : PairPart → X) (reading : Reading) (pair : PairPart) (side : Side) (label : Label) → ((part : Both SidePart) → read (record pair { sides = part }) ≡ read pair)
+    → read (posts_through reading pair side label) ≡ read pair
+same-through read reading pair side label kept =
+    cond_both (reading.reaches side label) (posts pair side label) pair (λ (p : PairPart). read p ≡ read pair) (λ _. same-posts read pair side label kept) (λ _. refl)

@@ -107,8 +107,8 @@ begun_kept plan lane s made news t no_raw (Forgets Sender may) coming h = record
 begun_kept plan lane s made news t no_raw (Begins bytes first others may cut) coming h =
     let none = none_comes may.up may.none_waiting h in
     let one : OneFrame s.lane.told [] (first ∷ others) bytes =
-        subst (λ pieces. OneFrame s.lane.told [] pieces bytes) cut
-        (pieces_one_frame (SizesOf plan lane).largest bytes s.lane.told (no_byte_fits (pair_plan plan lane.pair) (SizesOf plan lane).entries (SizesOf plan lane).largest (length bytes) may.fits)) in
+    subst (λ pieces. OneFrame s.lane.told [] pieces bytes) cut
+    (pieces_one_frame (SizesOf plan lane).largest bytes s.lane.told (no_byte_fits (pair_plan plan lane.pair) (SizesOf plan lane).entries (SizesOf plan lane).largest (length bytes) may.fits)) in
     let behind = frame_behind s.lane.sent (first ∷ others) s.lane.told bytes (alone (number_after 0) s.lane.sent coming none ∙ h.told_is) (alone (rest_after []) s.lane.sent coming none ∙ h.whole) one in
     record {
       after = others;
@@ -188,14 +188,14 @@ receives_more {sent = sent} {got = got} {part = part} {left = left} entry h = re
   done_is = ap (number_after 0) same ∙ h.done_is;
   has = elim h.has [
     | inl g ↦ inl (record {
-        between = λ b. g.between b ∙ ap (rest_after []) (sym same);
-        copying = λ c. let piece = g.copying c in record {
-          bytes = piece.bytes;
-          there = there-append sent (entry ∷ []) got piece.bytes left piece.there;
-          size = piece.size;
-          parts = piece.parts ∙ ap (λ xs. rest_after [] xs ++ take (chunk_size * part) piece.bytes) (sym same);
-        };
-      })
+      between = λ b. g.between b ∙ ap (rest_after []) (sym same);
+      copying = λ c. let piece = g.copying c in record {
+        bytes = piece.bytes;
+        there = there-append sent (entry ∷ []) got piece.bytes left piece.there;
+        size = piece.size;
+        parts = piece.parts ∙ ap (λ xs. rest_after [] xs ++ take (chunk_size * part) piece.bytes) (sym same);
+      };
+    })
     | inr f ↦ inr f
   ];
 }
@@ -293,8 +293,11 @@ module _ (n : ℕ) (rest : List ℕ) (xs : List Entry) (bytes : List ℕ) where
       → (number_after n (xs ++ Carries bytes left ∷ []) ≡ number_after n xs) × (rest_after rest (xs ++ Carries bytes left ∷ []) ≡ rest_after rest xs ++ bytes)
       × (frames_from n rest (xs ++ Carries bytes left ∷ []) ≡ frames_from n rest xs)
   some_left zero more = absurd (false≢true more)
-  some_left (suc left) more = (number-append n xs (Carries bytes (suc left) ∷ []), rest-append rest xs (Carries bytes (suc left) ∷ []),
-      frames-append n rest xs (Carries bytes (suc left) ∷ []) ∙ append-nil (frames_from n rest xs))
+  some_left (suc left) more = (
+    number-append n xs (Carries bytes (suc left) ∷ []),
+    rest-append rest xs (Carries bytes (suc left) ∷ []),
+    frames-append n rest xs (Carries bytes (suc left) ∷ []) ∙ append-nil (frames_from n rest xs),
+  )
 
   none_left : (left : ℕ) → nat_lt 0 left ≡ false
       → (number_after n (xs ++ Carries bytes left ∷ []) ≡ number_after n xs + 1) × (rest_after rest (xs ++ Carries bytes left ∷ []) ≡ [])
@@ -328,9 +331,9 @@ receives_kept plan lane s made news t no_raw (Looks len left may) h = record {
     done_is = h.done_is;
     has = elim h.has [
       | inl g ↦ let piece = may.found no_raw in inl (record {
-          between = λ b. absurd (both_ways true b refl);
-          copying = λ _. record { bytes = piece.bytes; there = piece.at; size = piece.size; parts = g.between (idle-not_copying s.lane.phase may.idle) ∙ sym (append-nil (rest_after [] (take s.lane.got s.lane.sent))) };
-        })
+        between = λ b. absurd (both_ways true b refl);
+        copying = λ _. record { bytes = piece.bytes; there = piece.at; size = piece.size; parts = g.between (idle-not_copying s.lane.phase may.idle) ∙ sym (append-nil (rest_after [] (take s.lane.got s.lane.sent))) };
+      })
       | inr f ↦ absurd (both_ways (has_bit s.receiver.joined lane.queue) f.not_joined may.joined)
     ];
   };

@@ -2,6 +2,7 @@ pub mod AgainWhereNoRoom
 pub mod AtStart
 pub mod BitSets
 pub mod CleanSides
+pub mod CopiedInParts
 pub mod CountersAreCounts
 pub mod EachPair
 pub mod Facade

@@ -1,7 +1,7 @@
 -- What was posted on a lane in the session, and then what is left to post, are the writes of the entries begun.
 use Rattle.std.proofs.Common.{◌≡◌, ℕ, ◌+◌, ◌==◌, ◌&&◌, Bool, true, false, List, [], ◌∷◌, ◌++◌, length, refl, sym, ap, ◌∙◌, subst, append_assoc, arith}
 use Rattle.std.specs.Prelude.{if◌then◌else◌}
-use Rattle.std.proofs.lemmas.Bool.{false≢true, both_ways, eq-eqb, ne_eqb, cond-true, cond-false, cond_both, not-false}
+use Rattle.std.proofs.lemmas.Bool.{false≢true, both_ways, eq-eqb, ne_eqb, cond-true, cond-false, not-false}
 use Rattle.std.proofs.lemmas.List.{append-nil}
 use Rattle.step_kinds.specs.Sides.{other_side}
 use Rattle.step_kinds.specs.Subject.{subject_of}
@@ -27,7 +27,7 @@ use Rattle.plan_model.specs.declared.LinkState.{LinkState}
 use Rattle.plan_model.specs.declared.LinkState.TheVariants.{Down as LinkIsDown, Up as LinkIsUp, Closing}
 use Rattle.byte_model.specs.Headers.{Bytes}
 use Rattle.ledger_model.specs.Labels.{labels_of}
-use Rattle.ledger_model.specs.Ledger.{LanePart, SidePart, PairPart, lane_of, lane_to, link_up, posts, posts_raw, with_lane}
+use Rattle.ledger_model.specs.Ledger.{LanePart, PairPart, lane_of, lane_to, with_lane}
 use Rattle.ledger_model.specs.Log.{Answered, same_side, is_on, trains, posts_write, posted_in}
 use Rattle.ledger_model.specs.Next.{read_next}
 use Rattle.ledger_model.specs.Outcome.{Outcome}
@@ -37,7 +37,7 @@ use Rattle.ledger_model.specs.Receiving.{lands_on, taken_out, copy_step}
 use Rattle.ledger_model.specs.Sending.{posts_through, begun_lane, frame_begun, with_next, begin_step, qpdown_step, xbegin_step, post_step}
 use Rattle.ledger_laws.specs.Laws.{labels_from, has_forgotten, PostedAreWrites}
 use Rattle.ledger_laws.proofs.AtStart.{fresh-lane, up-not_down}
-use Rattle.ledger_laws.proofs.EachPair.{HoldsOfPair, of_pair_after}
+use Rattle.ledger_laws.proofs.EachPair.{HoldsOfPair, of_pair_after, same-posts, same-posts_raw, same-through}
 use Rattle.ledger_laws.proofs.LogGrowth.{made_by, left_by}
 use Rattle.ledger_laws.proofs.LogReaders.{session_found-last}
 use Rattle.ledger_laws.proofs.Outcomes.{refused_passed}
@@ -75,21 +75,7 @@ closing-not_down LinkIsDown e = absurd (false≢true e)
 closing-not_down LinkIsUp e = refl
 closing-not_down Closing e = refl
 
--- What a step leaves of links and lanes
-
-same-posts : {X : Type 0} (read : PairPart → X) (pair : PairPart) (side : Side) (label : Label) → ((part : Both SidePart) → read (record pair { sides = part }) ≡ read pair) → read (posts pair side label) ≡ read pair
-same-posts read pair side label kept = cond_both (link_up pair) _ pair (λ (p : PairPart). read p ≡ read pair) (λ _. kept _) (λ _. refl)
-
-same-posts_raw : {X : Type 0} (read : PairPart → X) (pair : PairPart) (side : Side) (label : Label) (bytes : List ℕ) → ((part : Both SidePart) → read (record pair { sides = part }) ≡ read pair)
-    → read (posts_raw pair side label bytes) ≡ read pair
-same-posts_raw read pair side label bytes kept = cond_both (link_up pair) _ pair (λ (p : PairPart). read p ≡ read pair) (λ _. kept _) (λ _. refl)
-
-same-through : {X : Type 0} (read : PairPart → X) (reading : Reading) (pair : PairPart) (side : Side) (label : Label) → ((part : Both SidePart) → read (record pair { sides = part }) ≡ read pair)
-    → read (posts_through reading pair side label) ≡ read pair
-same-through read reading pair side label kept =
-    cond_both (reading.reaches side label) (posts pair side label) pair (λ (p : PairPart). read p ≡ read pair) (λ _. same-posts read pair side label kept) (λ _. refl)
-
--- what the law reads of a pair
+-- What a step leaves of links and lanes: what the law reads of a pair
 record Seen (from : Side) (q : ℕ) (before after : PairPart) : Type 0 where
   link : after.link ≡ before.link
   todo : (lane_of after from q).todo ≡ (lane_of before from q).todo
@@ -214,8 +200,10 @@ module _ (plan : Plan) (lane : LaneName) (reading : Reading) (bytes : Bytes) (pa
   begins_here : {step : Step} {o : Outcome} (entries : List Entry) → IsTold lane step o.answer false [] → o.after.link ≡ pair.link → Now.todo ≡ []
       → (After o.after).todo ≡ (begun_lane lane.queue Now entries).todo → (After o.after).sent ≡ (begun_lane lane.queue Now entries).sent → WritesSo step o
   begins_here {step} {o} entries h link idle todo sent =
-      told h (λ open_yet. (ap (λ (link : Link). is_down link.state && at_side link.clean lane.from) (sym link) ∙ open_yet,
-        λ posted now. (λ i. append-nil posted i ++ todo i) ∙ entries_begun lane.queue posted Now entries idle now ∙ ap (labels_from lane.queue 0) (sym sent)))
+      told h (λ open_yet. (
+        ap (λ (link : Link). is_down link.state && at_side link.clean lane.from) (sym link) ∙ open_yet,
+        λ posted now. (λ i. append-nil posted i ++ todo i) ∙ entries_begun lane.queue posted Now entries idle now ∙ ap (labels_from lane.queue 0) (sym sent),
+      ))
 
   begin_writes : (p : ℕ) (bytes_begun : List ℕ) (side : Side) (queue : ℕ) → WritesSo (Begin p side queue bytes_begun) (begin_step (sizes_of Own side queue) reading pair side queue bytes_begun)
   begin_writes p frame =
@@ -274,8 +262,10 @@ module _ (plan : Plan) (lane : LaneName) (reading : Reading) (bytes : Bytes) (pa
         → WritesSo (Post p lane.from lane.queue) (record { answer = Posted label; after = posts_through reading (with_lane pair lane.from lane.queue (record part { todo = rest })) lane.from label })
     posts_here part label rest next =
         told (record { starts_is = refl; labels_are = cond-true (is_on lane p lane.from lane.queue) (label ∷ []) [] (on-own lane p on) })
-        (λ open_yet. (ap (λ (link : Link). is_down link.state && at_side link.clean lane.from) (sym (same-through (λ (q : PairPart). q.link) reading left lane.from label (λ _. refl))) ∙ open_yet,
-          λ posted now. (λ i. (posted ++ label ∷ []) ++ is_todo i) ∙ next posted now ∙ ap (labels_from lane.queue 0) (sym is_sent)))
+        (λ open_yet. (
+          ap (λ (link : Link). is_down link.state && at_side link.clean lane.from) (sym (same-through (λ (q : PairPart). q.link) reading left lane.from label (λ _. refl))) ∙ open_yet,
+          λ posted now. (λ i. (posted ++ label ∷ []) ++ is_todo i) ∙ next posted now ∙ ap (labels_from lane.queue 0) (sym is_sent),
+        ))
       where
         left : PairPart
         left = with_lane pair lane.from lane.queue (record part { todo = rest })

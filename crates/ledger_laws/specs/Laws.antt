@@ -1,5 +1,5 @@
 -- The laws of every log.
-use Rattle.std.specs.Prelude.{◌≡◌, ℕ, ◌+◌, ◌<◌, ◌==◌, Bool, true, false, ◌&&◌, ◌||◌, ◌⊎◌, Option, Some, None, List, [], ◌∷◌, ◌++◌, length, filter, nat_lt, not, if◌then◌else◌, ◌≤◌, ◌/◌, ◌%◌}
+use Rattle.std.specs.Prelude.{◌≡◌, ℕ, ◌+◌, ◌<◌, ◌==◌, Bool, true, false, ◌&&◌, ◌||◌, ◌⊎◌, Option, Some, None, List, [], ◌∷◌, ◌++◌, length, filter, max, nat_lt, not, if◌then◌else◌, ◌≤◌, ◌/◌, ◌%◌}
 use Rattle.std.specs.List.{AllByRecursion}
 use Rattle.step_kinds.specs.Bits.{has_bit}
 use Rattle.step_kinds.specs.Sides.{other_side}
@@ -14,12 +14,12 @@ use Rattle.step_kinds.specs.declared.steps.Label.{Label}
 use Rattle.step_kinds.specs.declared.steps.Step.{Step}
 use Rattle.step_kinds.specs.declared.steps.Step.TheVariants.{Enable, Train, Break, DropDone, Clean, Offer, Check, Ready, Join, Begin, QpDown, Xbegin, Post, Land, Look, Copy, Clear, Ack, Wake, Irq, Mask, Unmask, Spad, Poke, ShowMem, ShowPad, ShowQueue}
 use Rattle.plan_model.specs.Pads.{word}
-use Rattle.lane_model.specs.Lane.{Entry}
+use Rattle.lane_model.specs.Lane.{Entry, chunks_in}
 use Rattle.plan_model.specs.Both.{at_side}
 use Rattle.plan_model.specs.Link.{is_down}
 use Rattle.ledger_model.specs.Labels.{labels_of}
 use Rattle.ledger_model.specs.Ledger.{PairPart, side_of, lane_of, dev_of, tally_of, link_up, with_dev}
-use Rattle.ledger_model.specs.Log.{Answered, Memories, Numbered, log_of, ledger_of, accepted, delivered, room_in, up_at, landed_pad, last_look_empty, counters_in, posted_in}
+use Rattle.ledger_model.specs.Log.{Answered, Memories, Numbered, log_of, ledger_of, accepted, delivered, room_in, up_at, landed_pad, last_look_empty, counters_in, posted_in, Looked, looked_in}
 use Rattle.ledger_model.specs.Sending.{is_busy}
 use Rattle.plan_model.specs.Device.{count_refused}
 use Rattle.plan_model.specs.Ethernet.{ethernet_frame}
@@ -267,6 +267,23 @@ PostedAreWrites = (plan : Plan) (memories : Memories) (steps : List Step) (lane 
     let now = ledger_of plan memories steps lane.pair in
     has_forgotten now lane.from ≡ false →
     posted_in (log_of plan memories steps) lane ++ (lane_of now lane.from lane.queue).todo ≡ labels_from lane.queue 0 (lane_of now lane.from lane.queue).sent
+
+-- Parts
+
+-- what a copy and a clear are answered, by the entry that was found last and the copies made of it since
+abbrev pub FitsLook : Option Looked → Answer → Type 0
+FitsLook looked (Copied number part) = (len : ℕ) × ((looked ≡ Some (record { number = number; len = len; copies = part })) × (part < max 1 (chunks_in len)))
+FitsLook looked (Delivered number frame) =
+    (found : Looked) × ((looked ≡ Some found) × (found.copies + 1 ≡ max 1 (chunks_in found.len)))
+FitsLook looked (Cleared number) = (found : Looked) × ((looked ≡ Some found) × (found.copies ≡ max 1 (chunks_in found.len)))
+FitsLook looked answer = Unit {0}
+
+-- an entry is copied in as many parts as it has chunks, one at least, which are numbered from 0 on: a frame is delivered with the
+-- last part of an entry, and an entry is cleared after it
+abbrev pub CopiedInParts : Type 0
+CopiedInParts = (plan : Plan) (memories : Memories) (steps : List Step) (pair : ℕ) (side : Side) (queue : ℕ) (step : Step) (answer : Answer) →
+    (step ≡ Copy pair side queue) ⊎ (step ≡ Clear pair side queue) → GoesOn plan memories steps step answer →
+    FitsLook (looked_in (log_of plan memories steps) pair side queue) answer
 
 -- Separate pairs
 

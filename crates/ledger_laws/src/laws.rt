@@ -4,6 +4,7 @@
 
 ghost use Rattle.ledger_laws.specs.Laws.{
   AgainWhereNoRoom,
+  CopiedInParts,
   CountersAreCounts,
   EveryFrameComesOnce,
   EveryLogIsInOrder,
@@ -46,6 +47,14 @@ pub fn link_down_where_not_up()
 /// premise.
 pub fn tallies_are_counts()
     ensures { TalliesAreCounts }
+{}
+
+/// An entry is copied in as many parts as its length, as it was found, has chunks of 128 bytes, one part at least: a copy
+/// that is answered `copied` has the number of copies made since the entry was found, and that is below those parts; a
+/// copy that is answered `frame` is the last of them; and a clear that is answered `cleared` comes after all of them. No
+/// premise: it holds on raw pairs too.
+pub fn copied_in_parts()
+    ensures { CopiedInParts }
 {}
 
 /// The six counters of a device are counts over the log, for each side and queue of each pair: its frames that were

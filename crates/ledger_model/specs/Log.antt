@@ -11,7 +11,7 @@ use Rattle.step_kinds.specs.declared.plan.Plan.{Plan}
 use Rattle.step_kinds.specs.declared.steps.Label.{Label}
 use Rattle.step_kinds.specs.declared.steps.Label.TheVariants.{Index, Pad}
 use Rattle.step_kinds.specs.declared.steps.Answer.{Answer}
-use Rattle.step_kinds.specs.declared.steps.Answer.TheVariants.{Ok as Done, OkSession, OkNumber, Posted, Landed, Empty, Delivered, Irq as IrqBits}
+use Rattle.step_kinds.specs.declared.steps.Answer.TheVariants.{Ok as Done, OkSession, OkNumber, Posted, Landed, Empty, ReadyFrame, Copied as CopiedPart, Delivered, Irq as IrqBits}
 use Rattle.step_kinds.specs.declared.steps.Step.{Step}
 use Rattle.step_kinds.specs.declared.steps.Step.TheVariants.{Train, Break, Begin, QpDown, Xbegin, Post, Land, Look, Copy, Irq}
 use Rattle.byte_model.specs.Headers.{Bytes}
@@ -247,3 +247,29 @@ saw_empty pair side queue now (made ∷ log) = saw_empty pair side queue (seen m
 
 abbrev pub last_look_empty : List Answered → ℕ → Side → ℕ → Bool
 last_look_empty log pair side queue = saw_empty pair side queue false (in_this_session pair log)
+
+-- Copying
+
+-- the entry that a side found last on a queue: its number and length as the side was answered, and how many copies it made since
+pub record Looked : Type 0 where
+  pub number : ℕ
+  pub len : ℕ
+  pub copies : ℕ
+
+abbrev pub one_copied : Option Looked → Option Looked
+one_copied None = None
+one_copied (Some found) = Some (record { number = found.number; len = found.len; copies = found.copies + 1 })
+
+-- the same after a log, where it was `now` before
+abbrev pub looked_after : ℕ → Side → ℕ → Option Looked → List Answered → Option Looked
+looked_after pair side queue now [] = now
+looked_after pair side queue now (made ∷ log) = looked_after pair side queue (seen made.step made.answer) log where
+  seen : Step → Answer → Option Looked
+  seen (Look p s q) (ReadyFrame number len) =
+      if is_on (record { pair = pair; from = side; queue = queue }) p s q then Some (record { number = number; len = len; copies = 0 }) else now
+  seen (Copy p s q) (CopiedPart number part) = if is_on (record { pair = pair; from = side; queue = queue }) p s q then one_copied now else now
+  seen (Copy p s q) (Delivered number frame) = if is_on (record { pair = pair; from = side; queue = queue }) p s q then one_copied now else now
+  seen step answer = now
+
+abbrev pub looked_in : List Answered → ℕ → Side → ℕ → Option Looked
+looked_in log pair side queue = looked_after pair side queue None log
