@@ -1,5 +1,7 @@
 pub mod FreshPairs
 pub mod IndexWords
+pub mod Keeping
+pub mod PlainPairs
 pub mod OfferedPads
 pub mod Places
 pub mod Promises

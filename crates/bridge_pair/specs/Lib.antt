@@ -9,3 +9,4 @@ pub mod Fresh
 pub mod Views
 pub mod Lending
 pub mod Words
+pub mod Laws

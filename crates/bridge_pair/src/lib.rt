@@ -15,8 +15,11 @@ mod book;
 mod endpoint;
 mod flying;
 mod fresh;
+pub mod laws;
 mod pair;
 mod plans;
+#[cfg(test)]
+mod tests;
 mod write;
 
 pub use book::SideBook;

@@ -6,13 +6,13 @@ use Rattle.step_kinds.specs.declared.names.Side.TheVariants.{A, B}
 use Rattle.bridge_pair.specs.Bridge.{Bridge, book_of, bytes_of, pages_of, with_book, with_bytes, with_pages}
 use Rattle.bridge_pair.specs.Ends.{bytes_after}
 use Rattle.bridge_pair.specs.Pages.{PagesGrow}
-use Rattle.bridge_pair.specs.Words.{TouchesIndexWord}
+use Rattle.bridge_pair.specs.Words.{AreIndexWordsPromised, TouchesIndexWord}
 use Rattle.bridge_pair.proofs.Promises.{grows_further, grows_nothing, promised_still}
 use Rattle.byte_model.specs.Addresses.{own_header}
 use Rattle.plan_model.specs.Sizes.{header_bytes}
 use Rattle.step_kinds.specs.declared.plan.PairPlan.{PairPlan}
 use Rattle.hand_shake.specs.Checks.{TouchesAnyRing, TouchesRings, came_up, check_answer}
-use Rattle.hand_shake.specs.Headers.{AreHeadersPromised, TouchesHeader}
+use Rattle.hand_shake.specs.Headers.{AreHeadersPromised, AreRingsPromised, TouchesHeader}
 use Rattle.hand_shake.specs.declared.CheckAnswer.TheVariants.{Up}
 use Rattle.hand_shake.proofs.HeaderPages.{bytes_after-append}
 
@@ -81,6 +81,13 @@ rings_grow plan same side old headers words plans first second =
 -- headers that are promised stay so
 pub headers_still : (plan same : PairPlan) (side : Side) (old new : List ℕ) → PagesGrow (TouchesIndexWord same side) old new → AreHeadersPromised plan side old → AreHeadersPromised plan side new
 headers_still plan same side old new grow promised = λ queue among n within. promised_still (TouchesIndexWord same side) old new (own_header plan side queue n) (header_bytes plan) grow (promised queue among n within)
+
+-- both are promised in the end
+pub rings_promised : (plan same : PairPlan) (side : Side) (headers words new : List ℕ) → same ≡ plan → PagesGrow (TouchesIndexWord same side) headers words → new ≡ words
+    → AreHeadersPromised plan side headers → AreIndexWordsPromised same side words → AreRingsPromised plan side new
+rings_promised plan same side headers words new plans grow pages first second =
+    subst (λ (pages : List ℕ). AreRingsPromised plan side pages) (sym pages)
+    (headers_still plan same side headers words grow first, subst (λ (plan : PairPlan). AreIndexWordsPromised plan side words) plans second)
 
 -- the pages that a check promises are those of a side that comes up
 pub where_up : (bridge : Bridge) (side : Side) (old new : List ℕ) → check_answer bridge side ≡ Up → PagesGrow (TouchesAnyRing bridge.plan side) old new → PagesGrow (TouchesRings bridge side) old new

@@ -10,6 +10,7 @@ use Rattle.plan_model.specs.Sizes.{header_bytes, layout_to}
 use Rattle.ring_geometry.specs.Geometry.{entries_of}
 use Rattle.step_kinds.specs.declared.names.Side.{Side}
 use Rattle.step_kinds.specs.declared.plan.PairPlan.{PairPlan}
+use Rattle.bridge_pair.specs.Words.{AreIndexWordsPromised}
 
 -- the page has a byte of a header of one queue's ring, and of one of all rings
 abbrev pub TouchesHeaderOf : PairPlan → Side → ℕ → ℕ → Type 0
@@ -24,6 +25,10 @@ AreHeadersOfPromised plan side queue pages = (n : ℕ) → n < entries_of (layou
 
 abbrev pub AreHeadersPromised : PairPlan → Side → List ℕ → Type 0
 AreHeadersPromised plan side pages = (queue : ℕ) → queue < (side_plan plan side).queues → AreHeadersOfPromised plan side queue pages
+
+-- and those of the side's index words with them
+abbrev pub AreRingsPromised : PairPlan → Side → List ℕ → Type 0
+AreRingsPromised plan side pages = AreHeadersPromised plan side pages × AreIndexWordsPromised plan side pages
 
 -- zeros for the headers of one queue's ring
 abbrev pub ring_stores : PairPlan → Side → ℕ → List Store

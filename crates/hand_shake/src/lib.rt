@@ -9,6 +9,8 @@ mod checks;
 mod headers;
 mod offers;
 mod queues;
+#[cfg(test)]
+mod tests;
 
 pub use checks::check;
 pub use offers::offer;

@@ -1,6 +1,7 @@
 //! Offering.
 
 ghost use Rattle.std.specs.Prelude.{◌≡◌, ◌≢◌, ◌==◌, length, ◌+◌, ◌*◌, ◌/◌, ◌%◌, if◌then◌else◌, ◌<◌, ◌≤◌, IfOk, OnErr, OnOk};
+ghost use Rattle.hand_shake.specs.declared.OfferAnswer.TheVariants.{Offered};
 ghost use Rattle.hand_shake.specs.Offers.{after_offer, next_offer, offer_answer, pad_value, with_posted};
 ghost use Rattle.bridge_pair.specs.Bridge.{book_of, offer_length};
 ghost use Rattle.bridge_pair.specs.Writes.{pad_write};
@@ -22,11 +23,12 @@ use step_kinds::{Side, SidePlan};
 ///
 /// # Errors
 ///
-/// [`AllocError`] from want of memory alone, and then nothing changes.
+/// [`AllocError`] from want of memory alone, where a scratchpad was to be posted, and then nothing changes.
 pub fn offer(pair: &mut Pair, side: Side) -> Result<OfferAnswer, AllocError>
     ensures answer { IfOk result (λ answer. answer ≡ offer_answer pair.old side) }
     ensures after { OnOk result (pair.new ≡ after_offer pair.old side) }
     ensures err { OnErr result (pair.new ≡ pair.old) }
+    ensures wants { OnErr result (offer_answer pair.old side ≡ Offered (pad_index (next_offer pair.old side))) }
 {
     if !is_up(pair) {
         return Ok(OfferAnswer::LinkDown);

@@ -2,6 +2,7 @@
 
 ghost use Rattle.std.specs.Prelude.{◌≡◌, ◌<◌, IfOk, OnErr, OnOk};
 ghost use Rattle.hand_shake.specs.Queues.{after_join, after_ready, join_answer, ready_answer};
+ghost use Rattle.hand_shake.specs.declared.ReadyAnswer.TheVariants.{Ok as IsReady};
 ghost use Rattle.plan_model.specs.Plans.{side_plan};
 ghost use Rattle.step_kinds.specs.Bits.{has_bit as is_among, with_bit as bits_with};
 
@@ -20,12 +21,13 @@ const LINKS_PAD: u32 = 1;
 ///
 /// # Errors
 ///
-/// [`AllocError`] from want of memory alone, and then nothing changes.
+/// [`AllocError`] from want of memory alone, where the queue was to become ready, and then nothing changes.
 pub fn ready(pair: &mut Pair, side: Side, queue: u32) -> Result<ReadyAnswer, AllocError>
     requires { queue < (side_plan pair.old.plan side).queues }
     ensures answer { IfOk result (λ answer. answer ≡ ready_answer pair.old side queue) }
     ensures after { OnOk result (pair.new ≡ after_ready pair.old side queue) }
     ensures err { OnErr result (pair.new ≡ pair.old) }
+    ensures wants { OnErr result (ready_answer pair.old side queue ≡ IsReady) }
 {
     if pair.link().state() != LinkState::Up {
         return Ok(ReadyAnswer::LinkDown);

@@ -6,7 +6,6 @@ use Rattle.std.proofs.lemmas.Bool.{cases_lt, cond-true, cond-false, eqb-true, or
 use Rattle.std.proofs.lemmas.List.{length-map}
 use Rattle.std.proofs.lemmas.List.Elements.{All-head, All-same, All-tail}
 use Rattle.std.proofs.lemmas.Option.{none-some, same_Some, slice_get-map, slice_get_within, get_or_from_slice_get}
-use Rattle.lane_model.specs.Order.{relaxed, may_land}
 use Rattle.lane_model.specs.Lane.{Lane, Slot, blank_slot, bytes_of, data_of, entry_of, flags_of, with_field, with_flags}
 use Rattle.lane_model.specs.Law.{HoldsRingLaw}
 use Rattle.lane_model.specs.Steps.{after_landing}
@@ -19,16 +18,16 @@ use Rattle.lane_laws.proofs.Facade.{land_data_keeps, land_flag_keeps, land_bell_
 use Rattle.posted_queue.specs.Flight.{Flight}
 use Rattle.posted_queue.specs.Landing.{answer_for, land_answer as queue_answer, after_landing as queue_after}
 use Rattle.posted_queue.specs.declared.LandAnswer.TheVariants.{Landed as QueueLanded, Blocked as QueueBlocked, Nothing as QueueNothing}
-use Rattle.order_rules.specs.Order.{Order, may_land as orders_may_land}
+use Rattle.order_rules.specs.Order.{Order, relaxed, may_land}
 use Rattle.posted_queue.proofs.LandingLemmas.{may_land-past}
 use Rattle.posted_queue.proofs.LawLemmas.{split-at_place}
-use Rattle.lane_core.specs.Calls.{LaneValue, order_of_mark, may_land_in, land_answer, land_found, after_land, after_found, label_in}
+use Rattle.lane_core.specs.Calls.{LaneValue, kind_of_mark, order_of_mark, may_land_in, land_answer, land_found, after_land, after_found, label_in}
 use Rattle.lane_core.specs.Parts.{BeginsWithin, CanStore, IsKnown, flags_landed, ring_after}
 use Rattle.lane_core.specs.Seen.{IsKept, lane_seen, value_seen}
 use Rattle.lane_core.specs.declared.answers.LaneLand.TheVariants.{Landed, Blocked, Nothing}
 use Rattle.lane_core.specs.declared.lane.Lane.TheInside.{Inside}
 use Rattle.lane_core.specs.declared.write.PostedWrite.{PostedWrite}
-use Rattle.lane_core.proofs.OneClass.{may_land-map, may_land-kinds, order_of_kind}
+use Rattle.lane_core.proofs.OneClass.{relaxed_or_first}
 use Rattle.lane_core.proofs.Parts.{All-remove, map-remove}
 
 -- What the queue answers
@@ -48,13 +47,13 @@ was_nothing None lands e = refl
 was_nothing (Some w) true e = absurd (cc e)
 was_nothing (Some w) false e = absurd (cc e)
 
--- the kinds of the writes in flight, as the queue has them and as the model has them
-pub kinds_seen : (is_strict : Bool) (writes : List PostedWrite) → All (λ (w : PostedWrite). w.strict ≡ is_strict) writes
+-- the orders of the writes in flight, as the queue has them and as the model has them
+pub orders_seen : (is_strict : Bool) (writes : List PostedWrite) → All (λ (w : PostedWrite). w.strict ≡ is_strict) writes
     → map (λ (w : PostedWrite). order_of_mark w.strict w.mark) writes ≡ map (order_of_mark is_strict) (map (λ (w : PostedWrite). w.mark) writes)
-kinds_seen is_strict [] each = refl
-kinds_seen is_strict (w ∷ writes) each =
+orders_seen is_strict [] each = refl
+orders_seen is_strict (w ∷ writes) each =
     ap (λ b. order_of_mark b w.mark ∷ map (λ (v : PostedWrite). order_of_mark v.strict v.mark) writes) (All-head (λ (v : PostedWrite). v.strict ≡ is_strict) w writes each)
-    ∙ ap (λ kinds. order_of_mark is_strict w.mark ∷ kinds) (kinds_seen is_strict writes (All-tail (λ (v : PostedWrite). v.strict ≡ is_strict) w writes each))
+    ∙ ap (λ orders. order_of_mark is_strict w.mark ∷ orders) (orders_seen is_strict writes (All-tail (λ (v : PostedWrite). v.strict ≡ is_strict) w writes each))
 
 -- What the model's lane answers
 
@@ -78,17 +77,14 @@ after_blocked value place mark found waits = ap (after_found value place) found 
 
 -- a write may land where it is relaxed, or first
 may_land_here : (is_strict : Bool) (flight : List Write) (place : ℕ) (mark : Write) → slice_get flight place ≡ Some mark → may_land (map (order_of_mark is_strict) flight) place ≡ true
-    → (order_of_mark is_strict mark ≡ relaxed) ⊎ (place ≡ 0)
-may_land_here is_strict flight place mark found lands = elim (or_cases _ _ (sym (may_land-map (order_of_mark is_strict) flight place mark found) ∙ lands)) [
-  | inl e ↦ inl (eqb-true _ _ e)
-  | inr e ↦ inr (eqb-true _ _ e)
-]
+    → (kind_of_mark is_strict mark ≡ relaxed) ⊎ (place ≡ 0)
+may_land_here is_strict flight place mark found lands = relaxed_or_first (order_of_mark is_strict) 0 flight place mark (λ write. refl) found lands
 
-flag_is_strict : (is_strict : Bool) (n : ℕ) → order_of_mark is_strict (Flag n) ≡ relaxed → ⊥
+flag_is_strict : (is_strict : Bool) (n : ℕ) → kind_of_mark is_strict (Flag n) ≡ relaxed → ⊥
 flag_is_strict true n e = omega (arith, e)
 flag_is_strict false n e = omega (arith, e)
 
-bell_is_strict : (is_strict : Bool) → order_of_mark is_strict Bell ≡ relaxed → ⊥
+bell_is_strict : (is_strict : Bool) → kind_of_mark is_strict Bell ≡ relaxed → ⊥
 bell_is_strict true e = omega (arith, e)
 bell_is_strict false e = omega (arith, e)
 
@@ -202,7 +198,7 @@ pub after_nothing : (value : LaneValue) (place : ℕ) → slice_get value.lane.f
 after_nothing value place found = ap (after_found value place) found
 
 -- no write lands from past the end
-pub past_the_end : {W : Type 0} (order : W → Order) (writes : List W) (place : ℕ) → slice_get writes place ≡ None → orders_may_land (map order writes) place ≡ false
+pub past_the_end : {W : Type 0} (order : W → Order) (writes : List W) (place : ℕ) → slice_get writes place ≡ None → may_land (map order writes) place ≡ false
 past_the_end order writes place found =
     elim (cases_lt place (length writes)) [
       | inl within ↦ absurd (within_some writes place within found)
@@ -223,18 +219,15 @@ pub record HasLanded (l : Inside) (place : ℕ) (mark : Write) (flight : Flight 
   pub orders : All (λ (w : PostedWrite). w.strict ≡ l.strict) flight.writes
   pub spare : flight.spare ≡ l.flight.spare
 
-abbrev kind_of_write : PostedWrite → ℕ
-kind_of_write w = order_of_mark w.strict w.mark
-
 abbrev pub order_of_write : PostedWrite → Order
-order_of_write w = order_of_kind (kind_of_write w)
+order_of_write w = order_of_mark w.strict w.mark
 
 pub has_landed : (l : Inside) (place : ℕ) (write : PostedWrite) (flight : Flight PostedWrite) → QueueLanded write ≡ queue_answer order_of_write l.flight place → flight ≡ queue_after order_of_write l.flight place
     → IsKept l → HasLanded l place write.mark flight
 has_landed l place write flight answer after kept =
     let was = was_landed _ _ write answer in
     let found : slice_get (lane_seen l).flight place ≡ Some write.mark = slice_get-map (λ (w : PostedWrite). w.mark) l.flight.writes place ∙ ap (option_map (λ (w : PostedWrite). w.mark)) was.0 in
-    let may : may_land_in (value_seen l) place ≡ true = ap (λ kinds. may_land kinds place) (sym (kinds_seen l.strict l.flight.writes kept.orders)) ∙ sym (may_land-kinds kind_of_write l.flight.writes place) ∙ was.1 in
+    let may : may_land_in (value_seen l) place ≡ true = ap (λ orders. may_land orders place) (sym (orders_seen l.strict l.flight.writes kept.orders)) ∙ was.1 in
     let now = after ∙ cond-true _ _ _ was.1 in
     let writes : flight.writes ≡ remove l.flight.writes place = ap (λ (f : Flight PostedWrite). f.writes) now in
     record {
@@ -252,5 +245,5 @@ pub is_held_back : (l : Inside) (place : ℕ) → QueueBlocked ≡ queue_answer 
 is_held_back l place answer orders =
     let was = was_blocked _ _ answer in
     let found : slice_get (lane_seen l).flight place ≡ Some was.0.mark = slice_get-map (λ (w : PostedWrite). w.mark) l.flight.writes place ∙ ap (option_map (λ (w : PostedWrite). w.mark)) was.1 in
-    let waits : may_land_in (value_seen l) place ≡ false = ap (λ kinds. may_land kinds place) (sym (kinds_seen l.strict l.flight.writes orders)) ∙ sym (may_land-kinds kind_of_write l.flight.writes place) ∙ was.2 in
+    let waits : may_land_in (value_seen l) place ≡ false = ap (λ (found : List Order). may_land found place) (sym (orders_seen l.strict l.flight.writes orders)) ∙ was.2 in
     (answer_blocked (value_seen l) place was.0.mark found waits, after_blocked (value_seen l) place was.0.mark found waits)

@@ -3,43 +3,39 @@ use Rattle.std.proofs.Common.{◌≡◌, ℕ, inl, inr, ◌<◌, ◌==◌, true,
 use Rattle.std.specs.List.{remove}
 use Rattle.std.proofs.lemmas.Bool.{cond-true, cond-false, false≢true, eqb-true, or_cases}
 use Rattle.std.proofs.lemmas.Option.{slice_get-map}
-use Rattle.lane_model.specs.Order.{relaxed, strict, may_land}
 use Rattle.lane_model.specs.Law.{HoldsRingLaw}
 use Rattle.lane_model.specs.Steps.{after_index}
 use Rattle.lane_laws.proofs.Facade.{index_is_next, index_keeps}
 use Rattle.posted_queue.specs.Flight.{Flight}
 use Rattle.posted_queue.specs.Landing.{land_answer as queue_answer, after_landing as queue_after}
 use Rattle.posted_queue.specs.declared.LandAnswer.TheVariants.{Landed as QueueLanded, Blocked as QueueBlocked, Nothing as QueueNothing}
-use Rattle.order_rules.specs.Order.{Order}
+use Rattle.order_rules.specs.Order.{Order, may_land}
 use Rattle.step_kinds.specs.declared.steps.Label.TheVariants.{Index}
-use Rattle.lane_core.specs.Calls.{may_land_index, land_index_answer, index_found, after_land_index, after_index_found}
+use Rattle.lane_core.specs.Calls.{index_order, may_land_index, land_index_answer, index_found, after_land_index, after_index_found}
 use Rattle.lane_core.specs.Seen.{lane_seen, value_seen}
 use Rattle.lane_core.specs.declared.answers.LaneLand.TheVariants.{Landed, Blocked, Nothing}
 use Rattle.lane_core.specs.declared.lane.Lane.TheInside.{Inside}
 use Rattle.lane_core.specs.declared.write.IndexWrite.{IndexWrite}
 use Rattle.lane_core.proofs.Landing.{was_landed, was_blocked, was_nothing, first_apart, past_the_end}
-use Rattle.lane_core.proofs.OneClass.{may_land-map, may_land-kinds, order_of_kind}
+use Rattle.lane_core.proofs.OneClass.{relaxed_or_first}
 use Rattle.lane_core.proofs.Parts.{map-remove}
 
 abbrev pub number_of_write : IndexWrite → ℕ
 number_of_write w = w.number
 
-abbrev pub kind_of_index : IndexWrite → ℕ
-kind_of_index w = 1
-
 abbrev pub order_of_index : IndexWrite → Order
-order_of_index w = order_of_kind (kind_of_index w)
+order_of_index w = index_order
 
--- index writes are strict, as the queue has them and as the model has them
-kinds_seen : (writes : List IndexWrite) → map kind_of_index writes ≡ map (λ n. strict) (map number_of_write writes)
-kinds_seen [] = refl
-kinds_seen (w ∷ writes) = ap (λ kinds. 1 ∷ kinds) (kinds_seen writes)
+-- the orders of index writes, as the queue has them and as the model has them
+orders_seen : (writes : List IndexWrite) → map order_of_index writes ≡ map (λ n. index_order) (map number_of_write writes)
+orders_seen [] = refl
+orders_seen (w ∷ writes) = ap (λ orders. index_order ∷ orders) (orders_seen writes)
 
--- so the first alone may land
-is_first : (numbers : List ℕ) (place n : ℕ) → slice_get numbers place ≡ Some n → may_land (map (λ m. strict) numbers) place ≡ true → place ≡ 0
-is_first numbers place n found may = elim (or_cases (strict == relaxed) (place == 0) (sym (may_land-map (λ m. strict) numbers place n found) ∙ may)) [
-  | inl e ↦ absurd (false≢true e)
-  | inr e ↦ eqb-true place 0 e
+-- index writes are strict, so the first alone may land
+is_first : (numbers : List ℕ) (place n : ℕ) → slice_get numbers place ≡ Some n → may_land (map (λ m. index_order) numbers) place ≡ true → place ≡ 0
+is_first numbers place n found may = elim (relaxed_or_first (λ m. index_order) 0 numbers place n (λ m. refl) found may) [
+  | inl e ↦ omega (arith, e)
+  | inr first ↦ first
 ]
 
 -- what is known of a lane where the queue answers that an index write landed
@@ -57,7 +53,7 @@ has_returned l place write returning answer after law =
     let n = write.number in
     let was = was_landed _ _ write answer in
     let found : slice_get lane.returning place ≡ Some n = slice_get-map number_of_write l.returning.writes place ∙ ap (option_map number_of_write) was.0 in
-    let may : may_land_index lane place ≡ true = ap (λ kinds. may_land kinds place) (sym (kinds_seen l.returning.writes)) ∙ sym (may_land-kinds kind_of_index l.returning.writes place) ∙ was.1 in
+    let may : may_land_index lane place ≡ true = ap (λ orders. may_land orders place) (sym (orders_seen l.returning.writes)) ∙ was.1 in
     let now = after ∙ cond-true _ _ _ was.1 in
     let numbers : map number_of_write returning.writes ≡ remove lane.returning place =
     ap (λ (f : Flight IndexWrite). map number_of_write f.writes) now ∙ map-remove number_of_write l.returning.writes place in
@@ -96,7 +92,7 @@ pub blocked_return : (l : Inside) (place : ℕ) (returning : Flight IndexWrite) 
 blocked_return l place returning answer after =
     let was = was_blocked _ _ answer in
     let found : slice_get (lane_seen l).returning place ≡ Some was.0.number = slice_get-map number_of_write l.returning.writes place ∙ ap (option_map number_of_write) was.1 in
-    let waits : may_land_index (lane_seen l) place ≡ false = ap (λ kinds. may_land kinds place) (sym (kinds_seen l.returning.writes)) ∙ sym (may_land-kinds kind_of_index l.returning.writes place) ∙ was.2 in (
+    let waits : may_land_index (lane_seen l) place ≡ false = ap (λ orders. may_land orders place) (sym (orders_seen l.returning.writes)) ∙ was.2 in (
       record {
         same = after ∙ cond-false _ _ _ was.2;
         after = ap (after_index_found (lane_seen l) place) found ∙ cond-false _ _ _ waits;

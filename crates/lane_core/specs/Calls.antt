@@ -3,7 +3,7 @@ use Rattle.std.specs.Prelude.{ℕ, ◌==◌, Bool, true, false, Option, Some, No
 use Rattle.step_kinds.specs.declared.steps.Label.{Label}
 use Rattle.step_kinds.specs.declared.steps.Label.TheVariants.{Index}
 use Rattle.lane_model.specs.Lane.{Entry, Carries, GoesDown, Lane, bytes_of, entry_of, free_in}
-use Rattle.lane_model.specs.Order.{relaxed, strict, may_land}
+use Rattle.order_rules.specs.Order.{Order, relaxed, strict, may_land}
 use Rattle.lane_model.specs.Ring.{head_of}
 pub use Rattle.lane_model.specs.Tests.{is_idle, is_copying, is_copied, is_cleared, is_empty_list}
 use Rattle.lane_model.specs.Steps.{after_begin, after_post, after_landing, after_look, more_to_copy, after_copy, after_clear, after_ack, after_index}
@@ -78,11 +78,15 @@ after_posting lane = after_first_post lane lane.todo
 
 -- Landing
 
--- the order of a write: on a strict lane all are strict, elsewhere the fields of an entry are relaxed
-abbrev pub order_of_mark : Bool → Write → ℕ
-order_of_mark true mark = strict
-order_of_mark false (Data n field) = relaxed
-order_of_mark false mark = strict
+-- how a write is ordered: on a strict lane all are strict, elsewhere the fields of an entry are relaxed
+abbrev pub kind_of_mark : Bool → Write → ℕ
+kind_of_mark true mark = strict
+kind_of_mark false (Data n field) = relaxed
+kind_of_mark false mark = strict
+
+-- the order of a write: all writes of a lane have traffic class 0
+abbrev pub order_of_mark : Bool → Write → Order
+order_of_mark is_strict mark = record { kind = kind_of_mark is_strict mark; class = 0 }
 
 abbrev pub may_land_in : LaneValue → ℕ → Bool
 may_land_in value place = may_land (map (order_of_mark value.is_strict) value.lane.flight) place
@@ -102,8 +106,11 @@ abbrev pub after_land : LaneValue → ℕ → Lane
 after_land value place = after_found value place (slice_get value.lane.flight place)
 
 -- index writes are strict on every lane
+abbrev pub index_order : Order
+index_order = record { kind = strict; class = 0 }
+
 abbrev pub may_land_index : Lane → ℕ → Bool
-may_land_index lane place = may_land (map (λ n. strict) lane.returning) place
+may_land_index lane place = may_land (map (λ n. index_order) lane.returning) place
 
 abbrev pub index_found : LaneValue → ℕ → Option ℕ → LaneLand
 index_found value place None = Nothing

@@ -21,7 +21,7 @@ pub struct PostedWrite {
 impl Ordered for PostedWrite {
     ghost use Rattle.lane_core.specs.Calls.{order_of_mark};
 
-    ghost order = { λ write. record { kind = order_of_mark write.strict write.mark; class = 0 } };
+    ghost order = { λ write. order_of_mark write.strict write.mark };
 
     fn kind(&self) -> usize {
         match self.mark {
@@ -42,7 +42,9 @@ pub struct IndexWrite {
 }
 
 impl Ordered for IndexWrite {
-    ghost order = { λ _. record { kind = 1; class = 0 } };
+    ghost use Rattle.lane_core.specs.Calls.{index_order};
+
+    ghost order = { λ _. index_order };
 
     fn kind(&self) -> usize {
         STRICT

@@ -3,7 +3,7 @@ use Rattle.std.proofs.Common.{◌≡◌, ℕ, ◌≤◌, [], ◌∷◌, ◌++◌
 use Rattle.std.proofs.lemmas.Bool.{cond-false, cases_lt, cases_Bool}
 use Rattle.lane_model.specs.Lane.{Lane}
 use Rattle.lane_model.specs.Law.{Sender, owner_of, entry_at}
-use Rattle.lane_laws.specs.Laws.{LookSees, CopySees, FreshHolds, BeginKeeps, PostKeeps, LandDataKeeps, LandFlagKeeps, LandBellKeeps, FlagIsNext, DataIsAhead, NothingLeft, LookKeeps, CopyKeeps, ClearKeeps, AckKeeps, IndexKeeps, CutKeeps, DropKeeps, FreeIsRoom, IndexIsNext, EachHasOneOwner}
+use Rattle.lane_laws.specs.Laws.{LookSees, CopySees, FreshHolds, BeginKeeps, PostKeeps, LandDataKeeps, LandFlagKeeps, LandBellKeeps, FlagIsNext, DataIsAhead, NothingLeft, LookKeeps, CopyKeeps, ClearKeeps, AckKeeps, IndexKeeps, CutKeeps, DropKeeps, ForgetKeeps, FreeIsRoom, IndexIsNext, EachHasOneOwner}
 use Rattle.lane_laws.proofs.Numbers as numbers
 use Rattle.lane_laws.proofs.Receiver as receiver
 use Rattle.lane_laws.proofs.Sender as sender
@@ -56,6 +56,9 @@ cut_keeps lane law = (law.0, law.1, receiver.cut_keeps law.0 law.1 lane law.2)
 
 pub drop_keeps : DropKeeps
 drop_keeps lane down law = (lane.flight ++ law.0, lane.returning ++ law.1, receiver.drop_keeps law.0 law.1 lane down law.2)
+
+pub forget_keeps : ForgetKeeps
+forget_keeps lane down law = (law.0 ++ lane.todo, law.1, sender.forget_keeps law.0 law.1 lane down law.2)
 
 pub look_sees : LookSees
 look_sees lane idle law = receiver.look_sees law.0 law.1 lane idle law.2

@@ -7,7 +7,7 @@ use Rattle.lane_model.specs.Ring.{head_of, free_entries, tail_of, room_of}
 use Rattle.lane_model.specs.Lane.{Entry, GoesDown, blank_slot, Lane, bytes_of, data_of, writes_of, count_from, copies_of, entry_of, slot_of, free_in}
 use Rattle.lane_model.specs.declared.Write.{Write}
 use Rattle.lane_model.specs.declared.Write.TheVariants.{Data, Flag, Bell}
-use Rattle.lane_model.specs.Law.{AreLeft, AreLeftToLand, PhaseCounts, Stands, StandsWhole, RingLaw}
+use Rattle.lane_model.specs.Law.{AreLeft, AreLeftToLand, PhaseCounts, Stands, StandsWhole, SlotsStand, RingLaw}
 use Rattle.lane_model.specs.Steps.{after_begin, after_post}
 use Rattle.lane_laws.specs.Laws.{IsFresh, IsOpen}
 use Rattle.lane_model.specs.declared.Phase.TheVariants.{Copying}
@@ -202,3 +202,19 @@ post_keeps_lost lost lost_back lane write rest front down h =
     ∙ append_assoc (lane.flight ++ lost) (write ∷ []) rest
     ∙ ap (λ w. (lane.flight ++ lost) ++ w) (sym front))
     (λ up. absurd (true≢false (sym up ∙ down))) h
+
+-- a sender that forgets a lost session has lost what was left to post, behind the others
+pub forget_keeps : (lost : List Write) (lost_back : List ℕ) (lane : Lane) → lane.up ≡ false → RingLaw lost lost_back lane → RingLaw (lost ++ lane.todo) lost_back (record lane { todo = [] })
+forget_keeps lost lost_back lane down h =
+    let same : (lane.flight ++ lost) ++ lane.todo ≡ (lane.flight ++ (lost ++ lane.todo)) ++ [] =
+    append_assoc lane.flight lost lane.todo ∙ sym (append-nil (lane.flight ++ (lost ++ lane.todo))) in
+    record {
+      room = h.room;
+      frames = h.frames;
+      counts = h.counts;
+      receiver = h.receiver;
+      coming = record { left = subst (AreLeftToLand lane.flagged lane.sent) same h.coming.left; last = inl refl };
+      none_lost = λ up. absurd (true≢false (sym up ∙ down));
+      standing = subst (SlotsStand lane.entries lane.ring lane.sent lane.cleared lane.flagged) same h.standing;
+      back = h.back;
+    }

@@ -75,6 +75,10 @@ CutKeeps = (lane : Lane) → HoldsRingLaw lane → HoldsRingLaw (after_cut lane)
 abbrev pub DropKeeps : Type 0
 DropKeeps = (lane : Lane) → lane.up ≡ false → HoldsRingLaw lane → HoldsRingLaw (after_drop lane)
 
+-- a sender forgets a session that is lost: what it had left to post is lost with the rest
+abbrev pub ForgetKeeps : Type 0
+ForgetKeeps = (lane : Lane) → lane.up ≡ false → HoldsRingLaw lane → HoldsRingLaw (record lane { todo = [] })
+
 -- what the sender reads: head and index word show the entries that are free
 abbrev pub FreeIsRoom : Type 0
 FreeIsRoom = (lane : Lane) → HoldsRingLaw lane → free_in lane ≡ room_of lane.entries (length lane.sent) lane.freed

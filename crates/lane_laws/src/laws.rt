@@ -6,7 +6,7 @@
 //! word in memory shows to sender and receiver follows from the law alone. None has a premise on how the lane came to
 //! be.
 
-ghost use Rattle.lane_laws.specs.Laws.{FreshHolds, BeginKeeps, PostKeeps, LandDataKeeps, LandFlagKeeps, LandBellKeeps, LookKeeps, CopyKeeps, ClearKeeps, AckKeeps, IndexKeeps, CutKeeps, DropKeeps, FreeIsRoom, LookSees, CopySees, FlagIsNext, IndexIsNext, DataIsAhead, NothingLeft, EachHasOneOwner};
+ghost use Rattle.lane_laws.specs.Laws.{FreshHolds, BeginKeeps, PostKeeps, LandDataKeeps, LandFlagKeeps, LandBellKeeps, LookKeeps, CopyKeeps, ClearKeeps, AckKeeps, IndexKeeps, CutKeeps, DropKeeps, ForgetKeeps, FreeIsRoom, LookSees, CopySees, FlagIsNext, IndexIsNext, DataIsAhead, NothingLeft, EachHasOneOwner};
 
 /// A lane at the start of its session has the law: two slots or more, each with room for the largest payload and
 /// without flags, the index word at the last slot, nothing begun, nothing in flight. What payloads stand there is free.
@@ -73,6 +73,11 @@ pub fn cut_keeps()
 /// Dropping what was in flight keeps the law, where the link was lost.
 pub fn drop_keeps()
     ensures { DropKeeps }
+{}
+
+/// Forgetting what is left to post keeps the law, where the link was lost: it counts with what was lost.
+pub fn forget_keeps()
+    ensures { ForgetKeeps }
 {}
 
 /// Head and index word show the sender the entries that are free: the ring's entries less one, less those that were

@@ -1,7 +1,6 @@
 pub mod Examples
 pub mod Lane
 pub mod Law
-pub mod Order
 pub mod Ring
 pub mod Steps
 pub mod Tests

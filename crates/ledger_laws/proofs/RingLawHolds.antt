@@ -1,44 +1,39 @@
--- Whenever both sides of an ordinary pair are up, the law of the ring holds of each of its lanes.
-use Rattle.std.proofs.Common.{◌≡◌, ℕ, ◌*◌, ◌/◌, ◌<◌, ◌≤◌, Bool, true, false, [], length, replicate, refl, sym, ap, ◌∙◌, subst, inl, inr, arith}
-use Rattle.std.specs.Prelude.{if◌then◌else◌, slice_index_or}
+-- Whenever the receiver of a lane is up, the law of the ring holds of the lane; whenever the sender is, the index word is the tail.
+use Rattle.std.proofs.Common.{◌≡◌, ℕ, ◌*◌, ◌/◌, ◌<◌, ◌≤◌, Bool, true, false, List, length, replicate, refl, sym, ap, ◌∙◌, subst, inl, inr, arith}
+use Rattle.std.specs.Prelude.{slice_index_or}
 use Rattle.std.proofs.Math.Nat.{le-div_iff_mul-le, min-le_right, div-mul-le_self}
 use Rattle.std.proofs.Math.ListN.{get_or-eq_default}
-use Rattle.std.proofs.lemmas.Bool.{cases_Bool, cases_lt, false≢true, both_ways}
+use Rattle.std.proofs.lemmas.Bool.{cases_lt, false≢true}
 use Rattle.std.proofs.lemmas.List.{length-replicate, get_or-replicate}
-use Rattle.step_kinds.specs.Sides.{other_side}
 use Rattle.step_kinds.specs.declared.names.LaneName.{LaneName}
 use Rattle.step_kinds.specs.declared.names.Side.{Side}
 use Rattle.step_kinds.specs.declared.names.Side.TheVariants.{A, B}
 use Rattle.step_kinds.specs.declared.plan.PairPlan.{PairPlan}
 use Rattle.step_kinds.specs.declared.plan.Plan.{Plan}
 use Rattle.lane_model.specs.Lane.{blank_slot}
+use Rattle.lane_model.specs.Law.{HoldsRingLaw}
 use Rattle.ring_geometry.specs.Geometry.{Layout, HasRing, ring_bytes, frame_size, entries_of}
-use Rattle.plan_model.specs.Both.{both_of}
-use Rattle.ledger_model.specs.Ledger.{PairPart}
-use Rattle.plan_model.specs.Link.{fresh_link}
 use Rattle.ledger_model.specs.LinkSteps.{fresh_lane}
-use Rattle.ledger_model.specs.Log.{ledger_of}
-use Rattle.ledger_model.specs.Next.{fresh_pair, agreed_side, idle_side}
-use Rattle.ledger_model.specs.Rings.{RingPart, zeroed_slot, fresh_ring}
+use Rattle.ledger_model.specs.Log.{Answered, ledger_of}
+use Rattle.ledger_model.specs.Rings.{RingPart, zeroed_slot, fresh_ring, ring_of, shown_lane}
 use Rattle.plan_model.specs.Plans.{pair_plan}
 use Rattle.plan_model.specs.Sizes.{Sizes, layout_of, sizes_of}
 use Rattle.ledger_laws.specs.Laws.{IsOrdinaryOn}
-use Rattle.ledger_laws.specs.Rings.{RingLawHolds}
-use Rattle.ledger_laws.proofs.AtStart.{fresh-flight}
-use Rattle.ledger_laws.proofs.CleanSides.{SettledOf, settled_up, settled_new, settled_kept}
-use Rattle.ledger_laws.proofs.InFlight.{EmptyOf, empty_kept}
-use Rattle.ledger_laws.proofs.JoinedSides.{LiveOf, JoinsOf, facts_up, facts_idle, joins_kept}
-use Rattle.ledger_laws.proofs.RingOfLane.{IsSized, StageOf, runs_at_start, tail_at_start, not_one_down, stage_kept, sized_kept}
+use Rattle.ledger_laws.specs.Rings.{RingLawOfReceiver, IndexWordIsTail, RingLawHolds}
+use Rattle.ledger_laws.proofs.EntriesFit.{EntriesKnown, entries_run}
+use Rattle.ledger_laws.proofs.FreshLanes.{SidesKnown, started, sides_run}
+use Rattle.ledger_laws.proofs.RingOfLane.{IsSized, LawOf, WordOf, law_at_start, tail_at_start, law_kept, word_kept, sized_kept}
 use Rattle.ledger_laws.proofs.walk.Logs.{HoldsOn, holds_after}
 use Rattle.ledger_laws.proofs.walk.Sight.{Sight, sight}
+use Rattle.ledger_laws.proofs.walk.Turn.{IsRaw, SizesOf}
 
 -- what holds of a lane and of its ring after each log
-record RingKnown (sizes : Sizes) (q : ℕ) (s : Sight) (ring : RingPart) : Type 0 where
-  empty : EmptyOf s
-  settled : SettledOf s
-  sized : IsSized sizes ring.ring
-  joins : LiveOf s → JoinsOf s
-  stage : LiveOf s → StageOf sizes q s ring
+record RingKnown (plan : Plan) (lane : LaneName) (log : List Answered) (s : Sight) (ring : RingPart) : Type 0 where
+  sides : SidesKnown lane.queue s
+  entries : EntriesKnown plan lane log s
+  sized : IsSized (SizesOf plan lane) ring.ring
+  law : LawOf (SizesOf plan lane) lane.queue s ring
+  word : WordOf (SizesOf plan lane) s ring
 
 -- The start
 
@@ -59,39 +54,21 @@ no_flags_yet sizes k = elim (cases_lt k sizes.entries) [
       ap (λ slot. slot.flags) (get_or-eq_default (replicate sizes.entries (zeroed_slot sizes.largest)) blank_slot (omega arith))
 ]
 
--- a pair whose link starts up or not
-abbrev started : PairPlan → Bool → PairPart
-started plan up = record (fresh_pair plan) { link = fresh_link up; sides = (if up then record { a = agreed_side plan.a plan.b; b = agreed_side plan.b plan.a } else both_of idle_side) }
+law_fresh : (sizes : Sizes) (plan : PairPlan) (from : Side) (q : ℕ) (up : Bool) → 2 ≤ sizes.entries → LawOf sizes q (sight from q (started plan up)) (fresh_ring sizes up)
+law_fresh sizes plan A q true two here =
+    law_at_start sizes q true _ _ fresh_lane (fresh_ring sizes true) two (fresh_sized sizes true) (record { fresh = refl; no_writes = refl; no_indexes = refl }) (no_flags_yet sizes)
+law_fresh sizes plan B q true two here =
+    law_at_start sizes q true _ _ fresh_lane (fresh_ring sizes true) two (fresh_sized sizes true) (record { fresh = refl; no_writes = refl; no_indexes = refl }) (no_flags_yet sizes)
+law_fresh sizes plan A q false two here = absurd (false≢true here)
+law_fresh sizes plan B q false two here = absurd (false≢true here)
 
-joins_at_start : (plan : PairPlan) (from : Side) (q : ℕ) (up : Bool) → JoinsOf (sight from q (started plan up))
-joins_at_start plan A q true = (facts_up _ _ _ _, facts_up _ _ _ _)
-joins_at_start plan B q true = (facts_up _ _ _ _, facts_up _ _ _ _)
-joins_at_start plan A q false = (facts_idle _ _, facts_idle _ _)
-joins_at_start plan B q false = (facts_idle _ _, facts_idle _ _)
+word_fresh : (sizes : Sizes) (plan : PairPlan) (from : Side) (q : ℕ) (up : Bool) → 2 ≤ sizes.entries → WordOf sizes (sight from q (started plan up)) (fresh_ring sizes up)
+word_fresh sizes plan A q true two here = tail_at_start sizes.entries two
+word_fresh sizes plan B q true two here = tail_at_start sizes.entries two
+word_fresh sizes plan A q false two here = absurd (false≢true here)
+word_fresh sizes plan B q false two here = absurd (false≢true here)
 
-settled_at_start : (plan : PairPlan) (from : Side) (q : ℕ) (up : Bool) → SettledOf (sight from q (started plan up))
-settled_at_start plan from q true = (settled_up _ refl, settled_up _ refl)
-settled_at_start plan A q false = (settled_new _ _, settled_new _ _)
-settled_at_start plan B q false = (settled_new _ _, settled_new _ _)
-
-stage_at_start : (sizes : Sizes) (plan : PairPlan) (from : Side) (q : ℕ) (up : Bool) → 2 ≤ sizes.entries → LiveOf (sight from q (started plan up))
-    → StageOf sizes q (sight from q (started plan up)) (fresh_ring sizes up)
-stage_at_start sizes plan A q true two live = inl (runs_at_start sizes q true 0 [] [] fresh_lane (fresh_ring sizes true) two (fresh_sized sizes true) refl refl refl (no_flags_yet sizes) (tail_at_start sizes.entries two))
-stage_at_start sizes plan B q true two live = inl (runs_at_start sizes q true 0 [] [] fresh_lane (fresh_ring sizes true) two (fresh_sized sizes true) refl refl refl (no_flags_yet sizes) (tail_at_start sizes.entries two))
-stage_at_start sizes plan A q false two live = absurd (false≢true (sym (live refl).0))
-stage_at_start sizes plan B q false two live = absurd (false≢true (sym (live refl).0))
-
-known_at_start : (sizes : Sizes) (plan : PairPlan) (from : Side) (q : ℕ) → 2 ≤ sizes.entries → (up : Bool) → EmptyOf (sight from q (started plan up))
-    → RingKnown sizes q (sight from q (started plan up)) (fresh_ring sizes up)
-known_at_start sizes plan from q two up empty = record {
-  empty = empty;
-  settled = settled_at_start plan from q up;
-  sized = fresh_sized sizes up;
-  joins = λ live. joins_at_start plan from q up;
-  stage = stage_at_start sizes plan from q up two;
-}
-
--- The law
+-- Each run
 
 two_entries : (l : Layout) → HasRing l → 2 ≤ entries_of l
 two_entries l h =
@@ -100,39 +77,46 @@ two_entries l h =
     let halves : ring_bytes l / 2 * 2 ≤ ring_bytes l = div-mul-le_self (ring_bytes l) 2 in
     (le-div_iff_mul-le {k = frame_size l} {x = 2} {y = ring_bytes l} some).1 (omega arith)
 
-ring_runs : (plan : Plan) (lane : LaneName) → 2 ≤ (sizes_of (pair_plan plan lane.pair) lane.from lane.queue).entries
-    → HoldsOn plan lane (IsOrdinaryOn lane.pair) (λ log s ring. RingKnown (sizes_of (pair_plan plan lane.pair) lane.from lane.queue) lane.queue s ring)
-ring_runs plan lane two = record {
-  fresh = known_at_start sizes (pair_plan plan lane.pair) lane.from lane.queue two (pair_plan plan lane.pair).up
-      (λ down. (fresh-flight (pair_plan plan lane.pair) lane.from, fresh-flight (pair_plan plan lane.pair) (other_side lane.from)));
+ring_runs : (plan : Plan) (lane : LaneName) → 2 ≤ (SizesOf plan lane).entries → IsRaw plan lane ≡ false → HoldsOn plan lane (IsOrdinaryOn lane.pair) (RingKnown plan lane)
+ring_runs plan lane two no_raw = record {
+  fresh = record {
+    sides = (sides_run plan lane no_raw).fresh;
+    entries = (entries_run plan lane no_raw).fresh;
+    sized = fresh_sized (SizesOf plan lane) own.up;
+    law = law_fresh (SizesOf plan lane) own lane.from lane.queue own.up two;
+    word = word_fresh (SizesOf plan lane) own lane.from lane.queue own.up two;
+  };
   turns = λ log s ring made news t ordinary tells turn h.
-      subst (λ after. RingKnown sizes lane.queue t after) (sym (tells.ring sizes ring)) (record {
-        empty = empty_kept plan lane s made news t turn h.empty;
-        settled = settled_kept plan lane s made news t turn h.empty h.settled;
-        sized = sized_kept plan lane s made news t ring two turn h.empty h.stage h.sized;
-        joins = joins_kept plan lane s made news t ordinary turn h.empty h.settled h.joins;
-        stage = stage_kept plan lane s made news t ring two turn h.empty h.settled h.sized h.joins h.stage;
+      let entries = (entries_run plan lane no_raw).turns log s made news t tells turn h.entries in
+      subst (RingKnown plan lane _ t) (sym (tells.ring (SizesOf plan lane) ring)) (record {
+        sides = (sides_run plan lane no_raw).turns log s ring made news t ordinary tells turn h.sides;
+        entries = entries;
+        sized = sized_kept plan lane s made news t ring two turn h.sides h.law h.sized;
+        law = law_kept plan lane s made news t ring two no_raw turn h.sides h.entries.fits entries.leaves h.sized h.law;
+        word = word_kept plan lane s made news t ring two no_raw turn h.sides h.word;
       });
 }
   where
-    sizes : Sizes
-    sizes = sizes_of (pair_plan plan lane.pair) lane.from lane.queue
+    own : PairPlan
+    own = pair_plan plan lane.pair
+
+-- The laws
+
+pub ring_law_of_receiver : RingLawOfReceiver
+ring_law_of_receiver plan memories steps name no_raw ordinary has_ring up =
+    let two = two_entries (layout_of (pair_plan plan name.pair) name.from name.queue) has_ring in
+    (holds_after plan name (IsOrdinaryOn name.pair) _ (ring_runs plan name two no_raw) memories steps ordinary).law up
+
+pub index_word_is_tail : IndexWordIsTail
+index_word_is_tail plan memories steps name no_raw ordinary has_ring up =
+    let two = two_entries (layout_of (pair_plan plan name.pair) name.from name.queue) has_ring in
+    (holds_after plan name (IsOrdinaryOn name.pair) _ (ring_runs plan name two no_raw) memories steps ordinary).word up
 
 pub ring_law_holds : RingLawHolds
-ring_law_holds plan memories steps name ordinary has_ring sender_up receiver_up =
-    let sizes = sizes_of (pair_plan plan name.pair) name.from name.queue in
-    let two : 2 ≤ sizes.entries = two_entries (layout_of (pair_plan plan name.pair) name.from name.queue) has_ring in
-    let known = holds_after plan name (IsOrdinaryOn name.pair) _ (ring_runs plan name two) memories steps ordinary in
-    elim (known.stage (live (sight name.from name.queue (ledger_of plan memories steps name.pair)) known.settled sender_up receiver_up)) [
-      | inl runs ↦ runs.law
-      | inr starts ↦ absurd (not_one_down _ _ sender_up receiver_up starts.one_down)
-    ]
-  where
-    live : (s : Sight) → SettledOf s → s.sender.up ≡ true → s.receiver.up ≡ true → LiveOf s
-    live s settled own peer down = (
-      not_clean (λ clean. (settled.0.new_once_clean down clean).not_up) own,
-      not_clean (λ clean. (settled.1.new_once_clean down clean).not_up) peer,
-    )
-      where
-        not_clean : {clean up : Bool} → (clean ≡ true → up ≡ false) → up ≡ true → clean ≡ false
-        not_clean {clean} {up} new is_up = elim (cases_Bool clean) [ inl is ↦ absurd (both_ways up (new is) is_up) | inr isnt ↦ isnt ]
+ring_law_holds plan memories steps name no_raw ordinary has_ring sender_up receiver_up =
+    let pair = pair_plan plan name.pair in
+    let now = ledger_of plan memories steps name.pair in
+    let ring = ring_of plan memories steps name in
+    subst (λ word. HoldsRingLaw (shown_lane (sizes_of pair name.from name.queue) now (record { ring = ring.ring; index_word = word }) name.from name.queue))
+    (sym (index_word_is_tail plan memories steps name no_raw ordinary has_ring sender_up))
+    (ring_law_of_receiver plan memories steps name no_raw ordinary has_ring receiver_up)

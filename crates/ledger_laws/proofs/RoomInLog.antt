@@ -81,7 +81,7 @@ waits_none : (q : ℕ) (up : Bool) (freed acked : ℕ) (back : List Label) → b
 waits_none q up freed acked back empty within all_up =
     record { waiting = 0; indexes = ap (indexes_among q) empty; within = omega arith; all_up = λ up. let e = all_up up in omega arith }
 
-waits_freed : (q : ℕ) (up : Bool) (freed acked n : ℕ) (back after : List Label) → indexes_among q back ≡ n ∷ indexes_among q after → (h : Waits q up freed acked back) → (waiting : ℕ)
+pub waits_freed : (q : ℕ) (up : Bool) (freed acked n : ℕ) (back after : List Label) → indexes_among q back ≡ n ∷ indexes_among q after → (h : Waits q up freed acked back) → (waiting : ℕ)
     → h.waiting ≡ waiting → (n ≡ freed) × Waits q up (n + 1) acked after
 waits_freed q up freed acked n back after head h zero e = absurd (let p = sym head ∙ h.indexes ∙ ap (count_from freed) e in cc)
 waits_freed q up freed acked n back after head h (suc waiting) e =
@@ -116,7 +116,7 @@ waits_acked q state freed acked back (inr down) h = record {
 }
 
 -- an index write that lands stands first of its lane's
-index_first : (plan : Plan) (lane : LaneName) (s : Sight) (place n : ℕ) → MayLand (pair_plan plan lane.pair) (other_side lane.from) s Receiver place (Index lane.queue n)
+pub index_first : (plan : Plan) (lane : LaneName) (s : Sight) (place n : ℕ) → MayLand (pair_plan plan lane.pair) (other_side lane.from) s Receiver place (Index lane.queue n)
     → indexes_among lane.queue s.receiver.flight ≡ n ∷ indexes_among lane.queue (remove s.receiver.flight place)
 index_first plan lane s place n may =
     let own : index_of lane.queue (Index lane.queue n) ≡ Some n = cond-true (lane.queue == lane.queue) (Some n) None (eq-eqb lane.queue lane.queue refl) in

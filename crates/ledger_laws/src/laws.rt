@@ -16,7 +16,8 @@ ghost use Rattle.ledger_laws.specs.Laws.{
   TalliesAreCounts,
   UpMeansAgreement,
 };
-ghost use Rattle.ledger_laws.specs.Rings.{RingLawHolds};
+ghost use Rattle.ledger_laws.specs.Rings.{IndexWordIsTail, RingLawHolds, RingLawOfReceiver};
+ghost use Rattle.ledger_laws.specs.States.{EntriesFitTheRing, NoEntryBeforeBothUp, NothingInFlightWhileDown};
 
 /// In every log, what was delivered on a lane in a session is a prefix of what was accepted there, and both are
 /// numbered from 0 on. Premise: the pair is ordinary, that is, not declared `raw`.
@@ -100,8 +101,43 @@ pub fn refusals_change_nothing()
     ensures { RefusalsChangeNothing }
 {}
 
-/// Whenever both sides of a pair are up, the law of the ring holds of each of its lanes. Premises: the lane's window
-/// has a ring, and among the steps on the pair none writes a scratchpad below 12 or bytes past the transport.
+/// Whenever the receiver's side of a lane is up, from its check in a session until its clean, the law of the ring holds of
+/// the lane, whatever the sender has forgotten; the index word counts as the tail. Premises: the pair isn't declared
+/// raw, the lane's window has a ring, and among the steps on the pair none writes a scratchpad below 12 or bytes past
+/// the transport.
+pub fn ring_law_of_receiver()
+    ensures { RingLawOfReceiver }
+{}
+
+/// Whenever the sender's side of a lane is up, from its check in a session until its clean, the index word in its memory
+/// is the tail of the entries that were given back, whatever the receiver has forgotten. Premises: as of
+/// [`ring_law_of_receiver`].
+pub fn index_word_is_tail()
+    ensures { IndexWordIsTail }
+{}
+
+/// Whenever both sides of a pair are up, the law of the ring holds of each of its lanes, with the index word as it stands
+/// in memory. Premises: as of [`ring_law_of_receiver`].
 pub fn ring_law_holds()
     ensures { RingLawHolds }
+{}
+
+/// Each entry that was begun, and each piece of a frame that waits, has at most the bytes that a slot takes; and beside
+/// them one slot of the ring stays free. Premises: the pair isn't declared raw; of the free slot, that the ring has
+/// one.
+pub fn entries_fit_the_ring()
+    ensures { EntriesFitTheRing }
+{}
+
+/// Until both sides of a pair are up in a session, each of its lanes is as it was at the session's start, and nothing of
+/// a lane is in flight. Premises: the pair isn't declared raw, its link isn't down, and among the steps on the pair none
+/// writes a scratchpad below 12 or bytes past the transport.
+pub fn no_entry_before_both_up()
+    ensures { NoEntryBeforeBothUp }
+{}
+
+/// While the link of a pair is down nothing is in flight from either side, and no bytes of raw writes are kept. No
+/// premise.
+pub fn nothing_in_flight_while_down()
+    ensures { NothingInFlightWhileDown }
 {}

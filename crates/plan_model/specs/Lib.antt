@@ -3,11 +3,13 @@ pub mod DeclaredPlans
 pub mod Device
 pub mod Ethernet
 pub mod Examples
+pub mod Labels
 pub mod Laws
 pub mod Link
 pub mod Macros
 pub mod Orders
 pub mod Pads
+pub mod Pieces
 pub mod Plans
 pub mod Sizes
 pub mod TrafficPlans

@@ -8,6 +8,7 @@
 mod frame;
 mod frame_list;
 mod items;
+mod lanes;
 pub mod limits;
 mod names;
 mod plan;
@@ -17,6 +18,7 @@ mod steps;
 pub use frame::Frame;
 pub use frame_list::FrameList;
 pub use items::Items;
+pub use lanes::{Begun, LaneCopy};
 pub use names::{LaneName, Name, Side};
 pub use plan::{Counters, DevPlan, Line, LineAnswer, PairPlan, Plan, SidePlan, Traffic};
 pub use runs::{LaneRun, RunRecord, SessionRun};

@@ -5,7 +5,7 @@ use Rattle.std.proofs.lemmas.Bool.{lt-ltb, le-ltb, cases_lt}
 use Rattle.std.proofs.lemmas.List.{length_push, get_or_push, get_or_append_left, length-map, length-drop, get_or-drop, map-set}
 use Rattle.std.proofs.Math.Seq.{map-set_same}
 use mathlib.Core.Option.{some}
-use Rattle.table_rule.specs.LaneNames.{Entry, Carries, GoesDown, Write, Data, Flag, Bell, Slot, blank_slot, Lane, slot_of, ring_with, with_flags, flags_of, done, entry_of, data_of}
+use Rattle.table_rule.specs.LaneNames.{Entry, entry_of_frame, GoesDown, Write, Data, Flag, Bell, Slot, blank_slot, Lane, slot_of, ring_with, with_flags, flags_of, done, entry_of, data_of}
 use Rattle.table_rule.specs.Words.{header_of}
 use Rattle.table_rule.specs.Views.{Bytes}
 use Rattle.table_rule.specs.Borders.{Borders, out, full}
@@ -124,7 +124,7 @@ stores_header N m slots j n is held left h =
     let lane : Lane = m.lane in
     let entry : Entry = entry_of lane n in
     let rest : List Entry = drop m.mover.flagged lane.sent in
-    let count : length lane.sent ≡ length m.send.sent = ap length h.parts.entries ∙ length-map m.send.sent Carries in
+    let count : length lane.sent ≡ length m.send.sent = ap length h.parts.entries ∙ length-map m.send.sent entry_of_frame in
     let behind_flags : length rest ≡ length lane.sent - m.mover.flagged = length-drop m.mover.flagged lane.sent in
     let marks = h.holding.marks in
     let split = in_flight-store m.mover.flagged j n m.mover.stored rest (omega arith) (omega (arith, o.taken)) is left in
@@ -172,12 +172,12 @@ stores_flag N m slots frame held stored has marked h =
     let k = borders_in m in
     let n : ℕ = m.mover.flagged in
     let lane : Lane = m.lane in
-    let count : length lane.sent ≡ length m.send.sent = ap length h.parts.entries ∙ length-map m.send.sent Carries in
+    let count : length lane.sent ≡ length m.send.sent = ap length h.parts.entries ∙ length-map m.send.sent entry_of_frame in
     let long : length m.mover.held ≡ suc (length held) = ap length has in
     let long_marks : length m.mover.stored ≡ suc (length stored) = ap length marked in
     let below : n < length m.send.sent = omega (arith, o.taken) in
     let entry : Entry = entry_of lane n in
-    let is_frame : entry ≡ Carries (get_or m.send.sent n []) = ap (λ es. get_or es n GoesDown) h.parts.entries ∙ entry_is_frame m.send.sent n below in
+    let is_frame : entry ≡ entry_of_frame (get_or m.send.sent n []) = ap (λ es. get_or es n GoesDown) h.parts.entries ∙ entry_is_frame m.send.sent n below in
     let same_frame : frame ≡ get_or m.send.sent n [] =
     ap (λ fs. get_or fs 0 []) (sym has) ∙ h.holding.frames 0 (omega arith) ∙ ap (λ (i : ℕ). get_or m.send.sent i []) (let e : n + 0 ≡ n = omega arith in e) in
     let rest : List Write = in_flight (suc n) stored (drop (suc n) lane.sent) in

@@ -3,7 +3,7 @@ use Rattle.std.proofs.Common.{◌≡◌, ℕ, ◌+◌, ◌<◌, ◌≤◌, Bool,
 use Rattle.std.proofs.lemmas.Bool.{lt-ltb, le-ltb, cases_eq, cases_lt}
 use Rattle.std.proofs.lemmas.List.{length-map}
 use mathlib.Core.Option.{some}
-use Rattle.table_rule.specs.LaneNames.{Carries, Lane, Phase, PhaseCounts, Idle, Copying, Copied, Cleared, Owner, Sender, InFlight, Landed, Receiver, Returning, owner_of}
+use Rattle.table_rule.specs.LaneNames.{entry_of_frame, Lane, Phase, PhaseCounts, Idle, Copying, Copied, Cleared, Owner, Sender, InFlight, Landed, Receiver, Returning, owner_of}
 use Rattle.table_rule.specs.Borders.{empty, out, full}
 use Rattle.table_rule.specs.ShownLane.{hand_in, claimed_by}
 use Rattle.table_rule.specs.Owners.{is_copying, is_copied, place_by, OwnersHaveSlots}
@@ -52,7 +52,7 @@ owners_have_slots N m slots h n from to =
     let freed = h.parts.given_back in
     let got = h.parts.copied in
     let flagged = h.parts.whole in
-    let count : length lane.sent ≡ length m.send.sent = ap length h.parts.entries ∙ length-map m.send.sent Carries in
+    let count : length lane.sent ≡ length m.send.sent = ap length h.parts.entries ∙ length-map m.send.sent entry_of_frame in
     let stands = h.places.at n (omega arith) (omega arith) in
     let counts : PhaseCounts m.recv.phase lane.acked lane.cleared lane.got lane.flagged = subst (λ p. PhaseCounts p lane.acked lane.cleared lane.got lane.flagged) h.parts.stage h.law.2.receiver.phase_counts in
     let f0 : nat_lt n lane.freed ≡ false = le-ltb n lane.freed from in

@@ -4,7 +4,7 @@ use Rattle.std.proofs.lemmas.Bool.{lt-ltb, le-ltb, cases_lt}
 use Rattle.std.proofs.Math.ListN.{get_or-map}
 use Rattle.std.proofs.Math.Seq.{take-suc}
 use mathlib.Core.Option.{some}
-use Rattle.table_rule.specs.LaneNames.{Lane, Slot, blank_slot, slot_of, with_flags, done, PhaseCounts, Idle, Copying, Copied, Cleared, bytes_of, entry_of, flags_of, version_of, Carries, GoesDown, after_look, after_clear, after_ack}
+use Rattle.table_rule.specs.LaneNames.{Lane, Slot, blank_slot, slot_of, with_flags, done, PhaseCounts, Idle, Copying, Copied, Cleared, bytes_of, entry_of, flags_of, version_of, entry_of_frame, GoesDown, after_look, after_clear, after_ack}
 use Rattle.table_rule.specs.Views.{Bytes}
 use Rattle.table_rule.specs.Borders.{Borders, Slots, empty, out, full, slot_at}
 use Rattle.table_rule.specs.ShownLane.{RingStands, hand_in}
@@ -39,7 +39,7 @@ raised N m slots n is idle below h =
     let stands = sees.an_entry (omega arith) in
     let o = in_order N m slots h in
     let within : n < length m.send.sent = omega (arith, o.taken) in
-    let is_frame : entry_of m.lane n ≡ Carries (get_or m.send.sent n []) = ap (λ es. get_or es n GoesDown) h.parts.entries ∙ entry_is_frame m.send.sent n within in
+    let is_frame : entry_of m.lane n ≡ entry_of_frame (get_or m.send.sent n []) = ap (λ es. get_or es n GoesDown) h.parts.entries ∙ entry_is_frame m.send.sent n within in
     flag_is N m slots n h ∙ ap (λ (j : ℕ). (slot_of m.lane j).flags) (sym at) ∙ stands.flags ∙ ap (λ (j : ℕ). flags_of (entry_of m.lane j)) at ∙ ap flags_of is_frame
 
 -- the next frame has landed: its slot goes to the receiver

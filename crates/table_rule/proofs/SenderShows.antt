@@ -3,7 +3,7 @@ use Rattle.std.proofs.Common.{◌≡◌, ◌≢◌, ℕ, zero, suc, ◌+◌, ◌
 use Rattle.std.proofs.lemmas.Bool.{lt-ltb, le-ltb, cases_eq, cases_lt}
 use Rattle.std.proofs.lemmas.List.{map-append, length_push, get_or_push, get_or_append_left, take-append-le, length-map, drop-append-le}
 use mathlib.Core.Option.{some}
-use Rattle.table_rule.specs.LaneNames.{Entry, Carries, GoesDown, Lane, entry_of, free_entries, head_of, free_in, writes_of, tail_of, after_begin}
+use Rattle.table_rule.specs.LaneNames.{Entry, entry_of_frame, GoesDown, Lane, entry_of, free_entries, head_of, free_in, writes_of, tail_of, after_begin}
 use Rattle.table_rule.specs.Words.{header_of}
 use Rattle.table_rule.specs.Views.{Bytes}
 use Rattle.table_rule.specs.Borders.{Borders, Slots, out, full, slot_at}
@@ -21,7 +21,7 @@ abbrev pub borders_in : Moment → Borders
 borders_in m = borders_of m.back.freed m.lane.cleared (length m.recv.got + length m.recv.hand) m.mover.flagged (m.mover.flagged + length m.mover.held) (length m.send.sent) m.send.claims
 
 -- the entries of the lane are frames
-pub entry_is_frame : (frames : List Bytes) (n : ℕ) → n < length frames → get_or (map Carries frames) n GoesDown ≡ Carries (get_or frames n [])
+pub entry_is_frame : (frames : List Bytes) (n : ℕ) → n < length frames → get_or (map entry_of_frame frames) n GoesDown ≡ entry_of_frame (get_or frames n [])
 entry_is_frame [] n below = absurd (omega arith)
 entry_is_frame (f ∷ frames) zero below = refl
 entry_is_frame (f ∷ frames) (suc n) below = entry_is_frame frames n (omega arith)
@@ -30,7 +30,7 @@ entry_is_frame (f ∷ frames) (suc n) below = entry_is_frame frames n (omega ari
 pub room_shown : (N : ℕ) (m : Moment) (slots : Slots) → 0 < free_entries N (head_of N (length m.send.sent)) m.words.index → ShowsLane N m slots → length m.send.sent + 1 < m.back.freed + N
 room_shown N m slots free h =
     let o = in_order N m slots h in
-    let length_sent : length m.lane.sent ≡ length m.send.sent = ap length h.parts.entries ∙ length-map m.send.sent Carries in
+    let length_sent : length m.lane.sent ≡ length m.send.sent = ap length h.parts.entries ∙ length-map m.send.sent entry_of_frame in
     let word : m.lane.index_word ≡ m.words.index = h.law.2.back.index_word_is ∙ (λ i. tail_of (h.of.entries i) (h.parts.given_back i)) ∙ sym h.index.homeward in
     let same : free_in m.lane ≡ free_entries N (head_of N (length m.send.sent)) m.words.index = λ i. free_entries (h.of.entries i) (head_of (h.of.entries i) (length_sent i)) (word i) in
     let shown = free_is_room m.lane h.law in
@@ -95,8 +95,8 @@ sends N m slots frame claimed fits counted sized h =
     let n : ℕ = length m.send.sent in
     let k = borders_in m in
     let lane : Lane = m.lane in
-    let entry : Entry = Carries frame in
-    let count : length lane.sent ≡ n = ap length h.parts.entries ∙ length-map m.send.sent Carries in
+    let entry : Entry = entry_of_frame frame in
+    let count : length lane.sent ≡ n = ap length h.parts.entries ∙ length-map m.send.sent entry_of_frame in
     let more : length (m.send.sent ++ frame ∷ []) ≡ n + 1 = length_push m.send.sent frame in
     let had : claimed_by n m.send.claims ≡ n + 1 = ap (claimed_by n) claimed in
     let one_free : claimed_by n m.send.claims + 1 ≤ m.back.freed + N = h.room.one_free in
@@ -106,7 +106,7 @@ sends N m slots frame claimed fits counted sized h =
     let flagged = h.parts.whole in
     let free : 0 < free_in lane = omega arith in
     let open_yet : (j : ℕ) → j < length lane.sent → entry_of lane j ≢ GoesDown =
-    λ j below down. let below_n : j < n = omega arith in let is : get_or lane.sent j GoesDown ≡ Carries (get_or m.send.sent j []) = ap (λ es. get_or es j GoesDown) h.parts.entries ∙ entry_is_frame m.send.sent j below_n in cc in
+    λ j below down. let below_n : j < n = omega arith in let is : get_or lane.sent j GoesDown ≡ entry_of_frame (get_or m.send.sent j []) = ap (λ es. get_or es j GoesDown) h.parts.entries ∙ entry_is_frame m.send.sent j below_n in cc in
     let next : Lane = record lane { sent = lane.sent ++ entry ∷ []; todo = []; flight = lane.flight ++ writes_of (length lane.sent) entry } in
     let runs : Runs (send_steps (length lane.sent) frame) lane next =
     (after_begin lane entry, (h.of.todo, free, subst (λ (most : ℕ). length frame ≤ most) (sym h.of.largest) fits, open_yet, refl), post_all (writes_of (length lane.sent) entry) (after_begin lane entry) refl h.of.up) in
@@ -140,7 +140,7 @@ sends N m slots frame claimed fits counted sized h =
         law = runs_keep (send_steps (length lane.sent) frame) lane next runs h.law;
         of = record { entries = h.of.entries; largest = h.of.largest; up = h.of.up; todo = refl; small = h.of.small };
         parts = record {
-          entries = ap (λ es. es ++ entry ∷ []) h.parts.entries ∙ sym (map-append Carries m.send.sent (frame ∷ []));
+          entries = ap (λ es. es ++ entry ∷ []) h.parts.entries ∙ sym (map-append entry_of_frame m.send.sent (frame ∷ []));
           whole = h.parts.whole;
           flight = flight;
           copied = h.parts.copied;

@@ -120,7 +120,7 @@ some_payload : (n : ℕ) → (payload : List ℕ) × (length payload ≡ n)
 some_payload n = (replicate n 0, length-replicate n 0)
 
 abbrev new_slot : List ℕ → Slot
-new_slot payload = record { payload = payload; len = 0; ver = 0; flags = 0 }
+new_slot payload = record { payload = payload; left = 0; ver = 0; len = 0; flags = 0 }
 
 abbrev new_lane : ℕ → List ℕ → Lane
 new_lane N payload = record {

@@ -1,6 +1,6 @@
 -- The steps of a lane that a step of its table is.
 use Rattle.std.specs.Prelude.{◌≡◌, ◌≢◌, ℕ, ◌<◌, ◌≤◌, List, [], ◌∷◌, ◌++◌, length, map}
-use Rattle.table_rule.specs.LaneNames.{Entry, Carries, GoesDown, Write, Data, Flag, Bell, Lane, bytes_of, data_of, writes_of, free_in, entry_of, Idle, Copying, Copied, Cleared, count_from, after_begin, after_post, after_landing, after_look, after_copy, after_clear, after_ack, after_index}
+use Rattle.table_rule.specs.LaneNames.{Entry, entry_of_frame, GoesDown, Write, Data, Flag, Bell, Lane, bytes_of, data_of, writes_of, free_in, entry_of, Idle, Copying, Copied, Cleared, count_from, after_begin, after_post, after_landing, after_look, after_copy, after_clear, after_ack, after_index}
 
 pub data LaneStep : Type 0 where
   -- the sender begins an entry, and posts the next write
@@ -39,7 +39,7 @@ Runs (step ∷ steps) before after = (between : Lane) × Leads step before betwe
 
 -- a posted header is stored: the entry is begun, and all its writes are posted
 abbrev pub send_steps : ℕ → List ℕ → List LaneStep
-send_steps n frame = Begin (Carries frame) ∷ map (λ write. Post) (writes_of n (Carries frame))
+send_steps n frame = Begin (entry_of_frame frame) ∷ map (λ write. Post) (writes_of n (entry_of_frame frame))
 
 -- a header is stored: the fields of the entry land
 abbrev pub header_steps : ℕ → Entry → List LaneStep

@@ -1,6 +1,6 @@
 -- The lane that a table shows: words, slots and parts on one side, a lane of the model on the other.
 use Rattle.std.specs.Prelude.{◌≡◌, ℕ, suc, ◌+◌, ◌-◌, ◌%◌, ◌^◌, ◌<◌, ◌≤◌, Bool, true, false, List, [], ◌∷◌, ◌++◌, length, map, take, drop, slice_index, slice_index_or, if◌then◌else◌, ◌⊎◌}
-use Rattle.table_rule.specs.LaneNames.{tail_of, Entry, Carries, Write, Flag, Bell, data_of, Slot, Lane, HoldsRingLaw, Phase, Idle, Copying, Copied, Cleared}
+use Rattle.table_rule.specs.LaneNames.{tail_of, Entry, entry_of_frame, Write, Flag, Bell, data_of, Slot, Lane, HoldsRingLaw, Phase, Idle, Copying, Copied, Cleared}
 use Rattle.table_rule.specs.Words.{Words, header_of, cut_word}
 use Rattle.table_rule.specs.Views.{Bytes}
 use Rattle.table_rule.specs.Borders.{Borders, Slots, SlotsStand}
@@ -21,7 +21,7 @@ pub record IsLaneOf (N : ℕ) (lane : Lane) : Type 0 where
 
 -- the counts, the frames and the list in flight of the lane are those of the parts
 pub record PartsSay (lane : Lane) (sent : List Bytes) (flagged : ℕ) (stored : List Bool) (got : ℕ) (phase : Phase) (freed : ℕ) : Type 0 where
-  pub entries : lane.sent ≡ map Carries sent
+  pub entries : lane.sent ≡ map entry_of_frame sent
   pub whole : lane.flagged ≡ flagged
   pub flight : lane.flight ≡ in_flight flagged stored (drop flagged lane.sent)
   pub copied : lane.got ≡ got

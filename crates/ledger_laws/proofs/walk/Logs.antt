@@ -29,7 +29,6 @@ use Rattle.ledger_laws.proofs.walk.News.{News, Tells}
 use Rattle.ledger_laws.proofs.walk.Turn.{Turn, Turned, Trains, Forgets, Begins, Closes, Posts, PostsNext, Strays, on_queue}
 use Rattle.ledger_laws.proofs.walk.SendingTurns.{on_queue-labels}
 
-
 -- The writes that are left to post are those of their lane
 
 todo_kept : (plan : Plan) (lane : LaneName) (s : Sight) (made : Answered) (news : News) (t : Sight) → Turn plan lane s made news t

@@ -7,7 +7,7 @@ use Rattle.bridge_pair.proofs.Promises.{grows_further, grows_nothing}
 use Rattle.bridge_pair.proofs.Sides.{pages_of-with_bytes}
 use Rattle.hand_shake.specs.Checks.{TouchesAnyRing}
 use Rattle.hand_shake.specs.Headers.{AreHeadersPromised, TouchesHeader}
-use Rattle.hand_shake.proofs.ComingUp.{came_up_is, headers_still, rings_grow}
+use Rattle.hand_shake.proofs.ComingUp.{came_up_is, headers_still, rings_grow, rings_promised}
 use Rattle.hand_shake.proofs.checks.come_up.Goals as goal
 
 pub returns-in_err-promise_headers-clause-pages : goal.returns-in_err-promise_headers-clause-pages
@@ -45,3 +45,11 @@ returns-clause-pages c =
     (record { first = c.promise_headers.ensures.rest; second = c.promise_index_words.ensures.rest; zeroes = c.zero_headers.ensures; sets = c.set_index_words.ensures; keeps = rw c.book-book.ensures.value at c.set_book.ensures })).1 in
     subst (λ (pages : List ℕ). PagesGrow (TouchesAnyRing c.args.pair.now.plan c.args.side) (pages_of c.args.pair.now c.args.side) pages) (sym pages)
     (rings_grow c.args.pair.now.plan c.promise_headers.new.pair.plan c.args.side _ _ _ (ap (λ (bridge : Bridge). bridge.plan) c.promise_headers.ensures.rest) c.promise_headers.ensures.pages c.promise_index_words.ensures.pages)
+
+pub returns-clause-promised : goal.returns-clause-promised
+returns-clause-promised c =
+    let pages =
+    (came_up_is c.args.pair.now c.promise_headers.new.pair c.promise_index_words.new.self c.zero_headers.new.pair c.set_index_words.new.self c.set_book.new.self c.args.side
+    (record { first = c.promise_headers.ensures.rest; second = c.promise_index_words.ensures.rest; zeroes = c.zero_headers.ensures; sets = c.set_index_words.ensures; keeps = rw c.book-book.ensures.value at c.set_book.ensures })).1 in
+    rings_promised c.args.pair.now.plan c.promise_headers.new.pair.plan c.args.side _ _ _ (ap (λ (bridge : Bridge). bridge.plan) c.promise_headers.ensures.rest) c.promise_index_words.ensures.pages pages
+    (rw c.in_ok-promise_headers.was at c.promise_headers.ensures.ok) (rw c.in_ok-promise_index_words.was at c.promise_index_words.ensures.ok)

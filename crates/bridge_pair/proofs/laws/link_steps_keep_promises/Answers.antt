@@ -1,0 +1,5 @@
+use Rattle.bridge_pair.proofs.Keeping.{link_steps_keep_promises}
+use Rattle.bridge_pair.proofs.laws.link_steps_keep_promises.Goals as goal
+
+pub returns : goal.returns
+returns c = link_steps_keep_promises

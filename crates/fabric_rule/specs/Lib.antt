@@ -1,0 +1,6 @@
+pub mod Answers
+pub mod Laws
+pub mod Moves
+pub mod Parts
+pub mod StandsFor
+pub mod Steps

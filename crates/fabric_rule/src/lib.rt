@@ -1,0 +1,2 @@
+//! Probe.
+#![tactic(auto)]

@@ -1,0 +1,42 @@
+//! A ring of frames as bytes in the peer's memory: one queue of one side, with the ring that it sends to and the ring that
+//! it receives in, in the way in which `ntb_transport` works. Each call decides by the bytes that stand in the side's own
+//! memory, whoever wrote them, and by counts of the port's own; so one code serves ordinary and raw pairs, with headers of
+//! 12 bytes and, between sides that both speak version 5, of 16.
+//!
+//! A begin or a look promises all room and all pages that what follows it needs, so that no other call takes memory.
+#![tactic(auto)]
+
+pub use step_kinds::{Begun, LaneCopy};
+
+/// What came of looking for the next entry. `ntb_transport` too decides by the flags of the header: without DONE nothing is
+/// there, and LINK_DOWN beside it says that the peer's end of the queue goes down.
+#[derive(Clone, Copy, Debug, PartialEq, Eq)]
+pub enum RingLook {
+    /// An entry stands in the next slot.
+    Ready {
+        /// The number of the entry, counted from 0 in the session.
+        number: u64,
+        /// Its length, in bytes.
+        len: u32,
+    },
+    /// The flags lack DONE.
+    Empty,
+    /// The flags say LINK_DOWN.
+    PeerDown,
+    /// The version isn't the next entry's.
+    VerDiffers {
+        /// The version that stands there.
+        seen: u32,
+        /// The number of the next entry in 32 bits.
+        own: u32,
+    },
+    /// The entry has more bytes than an entry may have, or makes its frame longer than a frame may be.
+    Long {
+        /// The entry's length, or that of its frame so far with it, in bytes.
+        len: u32,
+        /// The most that it may be.
+        max: u32,
+    },
+    /// The receiver is still at another entry: it has not copied, cleared or given back the one that it found.
+    OutOfTurn,
+}

@@ -1,0 +1,73 @@
+//! A queue pair of one side of a pair (Linux `Documentation/driver-api/ntb.rst`, `ntb_transport`): a port whose calls are
+//! refused where the link is down, the queue isn't joined, or it is closed. A queue is closed on a side that sends a
+//! link-down entry or finds one, until its next clean; posts, copies, clears and acks go on.
+#![tactic(auto)]
+
+
+/// The answer to a begin or to a queue's going down, in the order in which its refusals are tested.
+#[derive(Clone, Copy, Debug, PartialEq, Eq)]
+pub enum BeginAnswer {
+    /// It was begun, and has this number, counted from 0 in the session.
+    Ok {
+        /// The number.
+        number: u64,
+    },
+    /// The link isn't up.
+    LinkDown,
+    /// The queue isn't joined on this side.
+    NotReady,
+    /// The queue is closed on this side.
+    Closed,
+    /// The frame is longer than any may be.
+    TooLong {
+        /// The frame's length, in bytes.
+        len: u32,
+        /// The most bytes that a frame may have.
+        max: u32,
+    },
+    /// The frame before has writes left to post.
+    Busy,
+    /// The ring has fewer entries free than are needed.
+    NoRoom {
+        /// The slot of the next entry.
+        head: u32,
+        /// The index word.
+        tail: u32,
+    },
+}
+
+/// The answer to a look. `NotReady` is tested first, then `Closed`, `OutOfTurn`, `Empty`, `PeerDown`, `VerDiffers`, `Long`.
+#[derive(Clone, Copy, Debug, PartialEq, Eq)]
+pub enum LookAnswer {
+    /// An entry stands in the next slot.
+    Ready {
+        /// The number of the entry, counted from 0 in the session.
+        number: u64,
+        /// Its length, in bytes.
+        len: u32,
+    },
+    /// The flags of the next slot lack DONE.
+    Empty,
+    /// The flags say LINK_DOWN: the queue is closed on this side now.
+    PeerDown,
+    /// The version isn't the next entry's.
+    VerDiffers {
+        /// The version that stands there.
+        seen: u32,
+        /// The number of the next entry in 32 bits.
+        own: u32,
+    },
+    /// The entry has more bytes than an entry may have, or makes its frame longer than a frame may be.
+    Long {
+        /// The length, in bytes.
+        len: u32,
+        /// The most that it may be.
+        max: u32,
+    },
+    /// Another entry is at hand.
+    OutOfTurn,
+    /// The queue isn't joined on this side.
+    NotReady,
+    /// The queue is closed on this side.
+    Closed,
+}
