@@ -1,11 +1,10 @@
 -- Entries fit their ring: each has at most the bytes that a slot takes, and beside those begun or waiting one slot stays free.
-use Rattle.std.proofs.Common.{◌≡◌, ℕ, zero, suc, ◌+◌, ◌<◌, ◌≤◌, ◌==◌, Bool, true, false, List, [], ◌∷◌, ◌++◌, length, map, take, drop, refl, sym, ap, ◌∙◌, subst, inl, inr, ◌⊎◌, arith}
-use Rattle.std.specs.Prelude.{◌≢◌, ◌-◌, ◌*◌, slice_index_or, remove}
+use Rattle.std.proofs.Common.{◌≡◌, ℕ, zero, suc, ◌+◌, ◌<◌, ◌≤◌, true, false, List, [], ◌∷◌, ◌++◌, length, map, drop, refl, sym, ap, ◌∙◌, subst, inl, inr, arith}
+use Rattle.std.specs.Prelude.{◌≢◌, ◌*◌, slice_index_or, remove}
 use Rattle.std.specs.List.{AllByRecursion}
 use Rattle.std.proofs.lemmas.Bool.{both_ways, false≢true, cases_eq}
 use Rattle.std.proofs.lemmas.List.{length-append, length-take, get_or_push, get_or_append_left}
 use Rattle.step_kinds.specs.Bits.{has_bit, with_bit}
-use Rattle.step_kinds.specs.Sides.{other_side}
 use Rattle.step_kinds.specs.declared.names.LaneName.{LaneName}
 use Rattle.step_kinds.specs.declared.plan.Plan.{Plan}
 use Rattle.step_kinds.specs.declared.plan.PairPlan.{PairPlan}
@@ -24,13 +23,12 @@ use Rattle.ledger_laws.specs.States.{AreWithin, EntriesFitTheRing}
 use Rattle.ledger_laws.proofs.AgainWhereNoRoom.{room_runs}
 use Rattle.ledger_laws.proofs.AtStart.{up-not_down, fresh-lane}
 use Rattle.ledger_laws.proofs.BitSets.{has-with_same, has-without}
-use Rattle.ledger_laws.proofs.InFlight.{EmptyOf}
 use Rattle.ledger_laws.proofs.Pieces.{length-pieces}
 use Rattle.ledger_laws.proofs.RoomInLog.{RoomKnown, ChainOf, WaitsOf, TakesOf, waits_freed, index_first, room_kept}
 use Rattle.ledger_laws.proofs.walk.Logs.{HoldsAlways, always_after}
 use Rattle.ledger_laws.proofs.walk.News.{News}
-use Rattle.ledger_laws.proofs.walk.Sight.{Sight, Sender, Receiver, sight}
-use Rattle.ledger_laws.proofs.walk.Turn.{Turn, Trains, Breaks, Drops, Forgets, Begins, Closes, PostsNext, Strays, Shuts, LandsIndex, Looks, CopiesPart, CopiesEntry, CopiesLast, Clears, Acks, IsRaw, SizesOf, MayBegin}
+use Rattle.ledger_laws.proofs.walk.Sight.{Sight, Sender, Receiver}
+use Rattle.ledger_laws.proofs.walk.Turn.{Turn, Trains, Breaks, Drops, Forgets, Begins, Closes, PostsNext, Strays, Shuts, LandsIndex, Looks, CopiesEntry, CopiesLast, Clears, Acks, IsRaw, SizesOf}
 
 -- Lists of entries
 

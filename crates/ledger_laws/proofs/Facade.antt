@@ -9,6 +9,12 @@ pub use Rattle.ledger_laws.proofs.PairsAreSeparate.{pairs_are_separate}
 pub use Rattle.ledger_laws.proofs.PostedAreWrites.{posted_are_writes}
 pub use Rattle.ledger_laws.proofs.QuietMeansDone.{quiet_means_done}
 pub use Rattle.ledger_laws.proofs.RefusalsChangeNothing.{refusals_change_nothing}
-pub use Rattle.ledger_laws.proofs.RingLawHolds.{ring_law_holds}
+pub use Rattle.ledger_laws.proofs.RingLawHolds.{ring_law_of_receiver, index_word_is_tail, ring_law_holds}
 pub use Rattle.ledger_laws.proofs.LogGrowth.{log_of-last, ledger_of-last}
 pub use Rattle.ledger_laws.proofs.UpMeansAgreement.{up_means_agreement}
+pub use Rattle.ledger_laws.proofs.EntriesFit.{entries_fit_the_ring}
+pub use Rattle.ledger_laws.proofs.FreshLanes.{no_entry_before_both_up}
+pub use Rattle.ledger_laws.proofs.JoinedMeansAgreement.{up_side_agrees, joined_means_agreement}
+pub use Rattle.ledger_laws.proofs.LabelsOfEntries.{labels_are_of_entries, all_get}
+pub use Rattle.ledger_laws.proofs.LabelsPostable.{labels_are_postable}
+pub use Rattle.ledger_laws.proofs.NothingWhileDown.{nothing_in_flight_while_down}

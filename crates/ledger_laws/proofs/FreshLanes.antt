@@ -1,7 +1,7 @@
 -- A lane is fresh, with none of its writes in flight, until both sides are up: without that, no queue is joined.
-use Rattle.std.proofs.Common.{◌≡◌, ℕ, ◌==◌, Bool, true, false, Option, Some, None, List, [], ◌∷◌, refl, sym, ap, ◌∙◌, subst, inl, inr, ◌⊎◌}
+use Rattle.std.proofs.Common.{◌≡◌, ℕ, ◌==◌, Bool, true, false, Some, None, List, [], ◌∷◌, refl, sym, ap, ◌∙◌, inl, inr, ◌⊎◌}
 use Rattle.std.specs.Prelude.{if◌then◌else◌, remove}
-use Rattle.std.proofs.lemmas.Bool.{false≢true, both_ways, cases_Bool, eq-eqb, eqb-true, cond-true, cond-false}
+use Rattle.std.proofs.lemmas.Bool.{false≢true, both_ways, cases_Bool, eq-eqb, cond-true, cond-false}
 use Rattle.step_kinds.specs.Bits.{has_bit, with_bit}
 use Rattle.step_kinds.specs.Sides.{other_side}
 use Rattle.step_kinds.specs.declared.names.LaneName.{LaneName}
@@ -16,9 +16,9 @@ use Rattle.lane_model.specs.declared.Phase.TheVariants.{Idle}
 use Rattle.lane_model.specs.declared.Write.{Write}
 use Rattle.lane_model.specs.declared.Write.TheVariants.{Data, Flag as EntryFlag, Bell as QueueBell}
 use Rattle.ledger_model.specs.Labels.{write_of, index_of, writes_among, indexes_among}
-use Rattle.ledger_model.specs.Ledger.{LanePart, PairPart, side_of, lane_of}
+use Rattle.ledger_model.specs.Ledger.{LanePart, PairPart, side_of}
 use Rattle.ledger_model.specs.LinkSteps.{fresh_lane}
-use Rattle.ledger_model.specs.Log.{Answered, Memories, ledger_of}
+use Rattle.ledger_model.specs.Log.{Answered, ledger_of}
 use Rattle.ledger_model.specs.Next.{fresh_pair, agreed_side, idle_side}
 use Rattle.ledger_model.specs.Receiving.{is_copying, is_copied, is_cleared}
 use Rattle.plan_model.specs.Both.{both_of}
@@ -27,7 +27,7 @@ use Rattle.plan_model.specs.Pads.{links_pad}
 use Rattle.plan_model.specs.Plans.{pair_plan}
 use Rattle.plan_model.specs.declared.LinkState.{LinkState}
 use Rattle.ledger_laws.specs.Laws.{IsOrdinaryOn}
-use Rattle.ledger_laws.specs.States.{HasNoEntry, NoEntryBeforeBothUp}
+use Rattle.ledger_laws.specs.States.{NoEntryBeforeBothUp}
 use Rattle.ledger_laws.proofs.AtStart.{up-not_down, fresh-flight}
 use Rattle.ledger_laws.proofs.BitSets.{no_bit}
 use Rattle.ledger_laws.proofs.CleanSides.{SettledOf, settled_up, settled_new, settled_kept}
@@ -171,7 +171,7 @@ pub record SidesKnown (q : ℕ) (s : Sight) : Type 0 where
 abbrev pub started : PairPlan → Bool → PairPart
 started plan up = record (fresh_pair plan) { link = fresh_link up; sides = (if up then record { a = agreed_side plan.a plan.b; b = agreed_side plan.b plan.a } else both_of idle_side) }
 
-joins_at_start : (plan : PairPlan) (from : Side) (q : ℕ) (up : Bool) → JoinsOf (sight from q (started plan up))
+pub joins_at_start : (plan : PairPlan) (from : Side) (q : ℕ) (up : Bool) → JoinsOf (sight from q (started plan up))
 joins_at_start plan A q true = (facts_up _ _ _ _, facts_up _ _ _ _)
 joins_at_start plan B q true = (facts_up _ _ _ _, facts_up _ _ _ _)
 joins_at_start plan A q false = (facts_idle _ _, facts_idle _ _)

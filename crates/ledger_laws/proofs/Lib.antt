@@ -12,8 +12,11 @@ pub mod Frames
 pub mod FramesInOrder
 pub mod FreshLanes
 pub mod InFlight
+pub mod JoinedMeansAgreement
 pub mod JoinedSides
 pub mod Labels
+pub mod LabelsOfEntries
+pub mod LabelsPostable
 pub mod LinkDownWhereNotUp
 pub mod LogGrowth
 pub mod LogReaders

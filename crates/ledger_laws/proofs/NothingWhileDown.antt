@@ -1,5 +1,5 @@
 -- While the link is down nothing is in flight, and no bytes of raw writes are kept.
-use Rattle.std.proofs.Common.{◌≡◌, ℕ, zero, suc, ◌+◌, Bool, true, false, Option, Some, None, List, [], ◌∷◌, ◌++◌, refl, sym, ap, ◌∙◌, subst}
+use Rattle.std.proofs.Common.{◌≡◌, ℕ, zero, suc, Bool, true, false, Option, Some, None, List, [], ◌∷◌, ◌++◌, refl, sym, ap, ◌∙◌}
 use Rattle.std.specs.Prelude.{if◌then◌else◌, remove, slice_get}
 use Rattle.std.specs.List.{AllByRecursion}
 use Rattle.std.proofs.lemmas.Bool.{false≢true, both_ways}
@@ -12,13 +12,12 @@ use Rattle.step_kinds.specs.declared.plan.PairPlan.{PairPlan}
 use Rattle.step_kinds.specs.declared.plan.Plan.{Plan}
 use Rattle.step_kinds.specs.declared.steps.Answer.{Answer}
 use Rattle.step_kinds.specs.declared.steps.Label.{Label}
-use Rattle.step_kinds.specs.declared.steps.Label.TheVariants.{Chunk, Len, Ver, Flag, Down, Bell, Index, Pad, Raw}
+use Rattle.step_kinds.specs.declared.steps.Label.TheVariants.{Flag, Down, Bell, Index, Pad, Raw}
 use Rattle.step_kinds.specs.declared.steps.Step.{Step}
-use Rattle.step_kinds.specs.declared.steps.Step.TheVariants.{Enable, Train, Break, DropDone, Clean, Offer, Check, Ready, Join, Begin, QpDown, Xbegin, Post, Land, Look, Copy, Clear, Ack, Wake, Irq, Mask, Unmask, Spad, Poke, ShowMem, ShowPad, ShowQueue}
-use Rattle.byte_model.specs.Headers.{Bytes, Found, NoEntry, ALinkDownEntry, AnotherVersion, TooManyBytes, AnEntry}
+use Rattle.step_kinds.specs.declared.steps.Step.TheVariants.{Enable, Train, Break, DropDone, Clean, Offer, Check, Ready, Join, Begin, QpDown, Xbegin, Post, Land, Look, Copy, Clear, Ack, Wake, Irq, Mask, Unmask, Spad, Poke}
+use Rattle.byte_model.specs.Headers.{Bytes, Found, ALinkDownEntry, AnEntry}
 use Rattle.ledger_model.specs.Ledger.{LanePart, SidePart, PairPart, side_of, lane_of, link_up, with_side_part, with_lane, posts, posts_raw}
-use Rattle.ledger_model.specs.Log.{Memories, ledger_of}
-use Rattle.ledger_model.specs.Next.{fresh_pair, agreed_side, idle_side, read_next, pair_next}
+use Rattle.ledger_model.specs.Next.{fresh_pair, agreed_side, idle_side, read_next}
 use Rattle.ledger_model.specs.Outcome.{Outcome, decided}
 use Rattle.ledger_model.specs.Reading.{Reading, reading_of}
 use Rattle.ledger_model.specs.Receiving.{lands_on, poked_without, raws_before, taken_out, land_found, look_at}
@@ -27,14 +26,12 @@ use Rattle.ledger_model.specs.LinkSteps.{cleaned_side}
 use Rattle.plan_model.specs.Both.{at_side, with_side, both_of}
 use Rattle.plan_model.specs.Link.{is_down, cleaned_link}
 use Rattle.plan_model.specs.Plans.{pair_plan}
-use Rattle.plan_model.specs.declared.LinkState.{LinkState}
 use Rattle.ledger_laws.specs.States.{NothingInFlightWhileDown}
 use Rattle.ledger_laws.proofs.AtStart.{down-not_up, fresh-flight}
 use Rattle.ledger_laws.proofs.InFlight.{EmptyOf, empty_kept}
 use Rattle.ledger_laws.proofs.PairStates.{HoldsOfPair, pair_after}
 use Rattle.ledger_laws.proofs.walk.Cases.{train_cases, break_cases, copy_cases}
 use Rattle.ledger_laws.proofs.walk.Logs.{HoldsAlways, always_after}
-use Rattle.ledger_laws.proofs.walk.Sight.{sight}
 
 -- no bytes of raw writes are kept on a link that is down
 abbrev KeepsNone : PairPart → Type 0
@@ -186,7 +183,7 @@ fresh-poked plan side = go plan.up side
 none_holds : (plan : Plan) (pair : ℕ) → HoldsOfPair plan pair (λ step. Unit {0}) KeepsNone
 none_holds plan pair = record {
   fresh = λ down side. fresh-poked (pair_plan plan pair) side;
-  steps = λ bytes part step fits on none. none_next plan.devs (pair_plan plan pair) (reading_of (pair_plan plan pair) bytes part) bytes part step none;
+  steps = λ bytes part step fits on todos none. none_next plan.devs (pair_plan plan pair) (reading_of (pair_plan plan pair) bytes part) bytes part step none;
 }
 
 all_fit : (steps : List Step) → AllByRecursion (λ step. Unit {0}) steps

@@ -1,14 +1,13 @@
 -- The ring that the log leaves of a lane: while the receiver is up the law of the ring holds of the lane, with the index word read as the
 -- tail, and while the sender is up the index word is the tail.
-use Rattle.std.proofs.Common.{◌≡◌, ℕ, zero, suc, ◌+◌, ◌-◌, ◌%◌, ◌<◌, ◌≤◌, ◌==◌, Bool, true, false, Option, Some, None, List, [], ◌∷◌, ◌++◌, length, map, take, drop, refl, sym, ap, ◌∙◌, subst, inl, inr, ◌⊎◌, arith, mod-lt, length-set, get_or-set_same, get_or-set_other}
+use Rattle.std.proofs.Common.{◌≡◌, ℕ, zero, suc, ◌+◌, ◌-◌, ◌%◌, ◌<◌, ◌≤◌, ◌==◌, Bool, true, false, Option, Some, None, List, [], ◌∷◌, ◌++◌, length, map, take, drop, refl, sym, ap, ◌∙◌, subst, inl, inr, arith, mod-lt, length-set, get_or-set_same, get_or-set_other}
 use Rattle.std.specs.Prelude.{if◌then◌else◌, slice_index_or, slice_set, remove, nat_lt}
 use Rattle.std.specs.List.{AllByRecursion}
 use Rattle.std.proofs.Math.Nat.{mod-eq_of_lt}
-use Rattle.std.proofs.lemmas.Bool.{false≢true, both_ways, cases_eq, cases_Bool, eq-eqb, eqb-false, cond-true, cond-false}
+use Rattle.std.proofs.lemmas.Bool.{false≢true, both_ways, cases_eq, cases_Bool, eqb-false, cond-true, cond-false}
 use Rattle.std.proofs.lemmas.List.{length-append}
 use Rattle.std.proofs.lemmas.List.Elements.{filter_map-append}
 use Rattle.step_kinds.specs.Bits.{with_bit}
-use Rattle.step_kinds.specs.Sides.{other_side}
 use Rattle.step_kinds.specs.declared.names.LaneName.{LaneName}
 use Rattle.step_kinds.specs.declared.names.Side.{Side}
 use Rattle.step_kinds.specs.declared.plan.PairPlan.{PairPlan}
@@ -26,20 +25,19 @@ use Rattle.lane_model.specs.declared.Write.{Write}
 use Rattle.lane_model.specs.declared.Write.TheVariants.{Data, Flag as EntryFlag, Bell as QueueBell}
 use Rattle.lane_laws.proofs.Facade.{fresh_holds, cut_keeps, drop_keeps, forget_keeps, free_is_room, begin_keeps, post_keeps, land_data_keeps, land_flag_keeps, land_bell_keeps, look_keeps, copy_keeps, clear_keeps, ack_keeps, index_keeps, tail_after}
 use Rattle.ledger_model.specs.Labels.{labels_of, write_of, index_of, writes_among, indexes_among}
-use Rattle.ledger_model.specs.Ledger.{LanePart, begun_in}
+use Rattle.ledger_model.specs.Ledger.{LanePart}
 use Rattle.ledger_model.specs.LinkSteps.{fresh_lane}
 use Rattle.ledger_model.specs.Log.{Answered}
 use Rattle.ledger_model.specs.Receiving.{is_idle, is_copying, is_copied, is_cleared}
 use Rattle.ledger_model.specs.Rings.{RingPart, lane_shown, without_header}
 use Rattle.plan_model.specs.Link.{is_up, is_down}
 use Rattle.plan_model.specs.Pads.{links_pad}
-use Rattle.plan_model.specs.Plans.{pair_plan}
 use Rattle.plan_model.specs.Sizes.{Sizes}
 use Rattle.ledger_laws.specs.Rings.{with_tail}
 use Rattle.ledger_laws.proofs.AtStart.{up-not_down, down-not_up, closing-not_up}
 use Rattle.ledger_laws.proofs.CleanSides.{not_down_with}
 use Rattle.ledger_laws.proofs.EntriesFit.{AreOpen, IsPieceWithin, FitsOf, IsUnderWay, LeavesOf, cut_within}
-use Rattle.ledger_laws.proofs.FreshLanes.{OneDown, IsFreshLane, SidesKnown, both_up, no_write, no_index, own_index}
+use Rattle.ledger_laws.proofs.FreshLanes.{IsFreshLane, SidesKnown, both_up, no_write, own_index}
 use Rattle.ledger_laws.proofs.InFlight.{first_none, first_some, middle_some, filter_map-remove, posted_unread, posted_read, split_whole, lands_first}
 use Rattle.ledger_laws.proofs.Labels.{writes_among-labels, flag_strict, bell_strict, index_strict, writes_one_class, indexes_one_class}
 use Rattle.ledger_laws.proofs.Offers.{pad-write, pad-index}

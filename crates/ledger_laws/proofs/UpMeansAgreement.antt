@@ -37,10 +37,10 @@ use Rattle.ledger_laws.proofs.walk.Sight.{Sight, sight}
 
 -- The handshake in every log
 
-record HandshakeKnown (lane : LaneName) (peer : SidePlan) (log : List Answered) (s : Sight) : Type 0 where
-  empty : EmptyOf s
-  settled : SettledOf s
-  session : is_up s.state ≡ true → s.sender.up ≡ false → SessionOf lane peer log s
+pub record HandshakeKnown (lane : LaneName) (peer : SidePlan) (log : List Answered) (s : Sight) : Type 0 where
+  pub empty : EmptyOf s
+  pub settled : SettledOf s
+  pub session : is_up s.state ≡ true → s.sender.up ≡ false → SessionOf lane peer log s
 
 handshake_fresh : (plan : PairPlan) (lane : LaneName) (peer : SidePlan) → HandshakeKnown lane peer [] (sight lane.from lane.queue (fresh_pair plan))
 handshake_fresh plan lane peer = record {
@@ -61,7 +61,7 @@ handshake_fresh plan lane peer = record {
     go false A = ((settled_new _ _, settled_new _ _), λ up no_check. false≢true up)
     go false B = ((settled_new _ _, settled_new _ _), λ up no_check. false≢true up)
 
-handshake_runs : (plan : Plan) (lane : LaneName) → (side_plan (pair_plan plan lane.pair) (other_side lane.from)).windows ≤ 4
+pub handshake_runs : (plan : Plan) (lane : LaneName) → (side_plan (pair_plan plan lane.pair) (other_side lane.from)).windows ≤ 4
     → HoldsOn plan lane (IsOrdinaryOn lane.pair) (λ log s ring. HandshakeKnown lane (side_plan (pair_plan plan lane.pair) (other_side lane.from)) log s)
 handshake_runs plan lane few = record {
   fresh = handshake_fresh (pair_plan plan lane.pair) lane peer;
@@ -77,8 +77,8 @@ handshake_runs plan lane few = record {
 
 -- What a check that is made has found
 
-record HasFound (own : SidePlan) (part : SidePart) (up : Bool) : Type 0 where
-  link : up ≡ true
+pub record HasFound (own : SidePlan) (part : SidePart) (up : Bool) : Type 0 where
+  pub link : up ≡ true
   not_yet : part.up ≡ false
   some_version : pad_in part version_pad ≡ 0 → ⊥
   version : VersionsAgree (pad_in part version_pad) own.version
@@ -99,7 +99,7 @@ versions_passed seen own e = elim (cases_Bool (seen == own)) [
       inr (ltb-false seen 4 both.0, ltb-false own 4 both.1)
 ]
 
-has_found : (own : SidePlan) (part : SidePart) (up : Bool) → check_refusal own part up ≡ None → HasFound own part up
+pub has_found : (own : SidePlan) (part : SidePart) (up : Bool) → check_refusal own part up ≡ None → HasFound own part up
 has_found own part up none =
     let a = passed (not up) LinkDown _ none in
     let b = passed part.up Already _ a.1 in
@@ -133,7 +133,7 @@ first_fits part cap (suc more) some e = go (nat_lt cap (size_in part 0)) refl e
     go false is e = ltb-false cap (size_in part 0) is
 
 -- a check that has found so in a session agrees
-agrees : (lane : LaneName) (own peer : SidePlan) (log : List Answered) (part : SidePart) (up : Bool) (offered : ℕ) (flight : List Label) → IsSide own → IsSide peer → HasFound own part up
+pub agrees : (lane : LaneName) (own peer : SidePlan) (log : List Answered) (part : SidePart) (up : Bool) (offered : ℕ) (flight : List Label) → IsSide own → IsSide peer → HasFound own part up
     → InSession lane peer log part.pads offered flight → Agrees log lane.pair lane.from own peer
 agrees lane own peer log part up offered flight own_side peer_side found session = record {
   version_landed = version_here;

@@ -17,7 +17,15 @@ ghost use Rattle.ledger_laws.specs.Laws.{
   UpMeansAgreement,
 };
 ghost use Rattle.ledger_laws.specs.Rings.{IndexWordIsTail, RingLawHolds, RingLawOfReceiver};
-ghost use Rattle.ledger_laws.specs.States.{EntriesFitTheRing, NoEntryBeforeBothUp, NothingInFlightWhileDown};
+ghost use Rattle.ledger_laws.specs.States.{
+  EntriesFitTheRing,
+  JoinedMeansAgreement,
+  LabelsAreOfEntries,
+  LabelsArePostable,
+  NoEntryBeforeBothUp,
+  NothingInFlightWhileDown,
+  UpSideAgrees,
+};
 
 /// In every log, what was delivered on a lane in a session is a prefix of what was accepted there, and both are
 /// numbered from 0 on. Premise: the pair is ordinary, that is, not declared `raw`.
@@ -140,4 +148,32 @@ pub fn no_entry_before_both_up()
 /// premise.
 pub fn nothing_in_flight_while_down()
     ensures { NothingInFlightWhileDown }
+{}
+
+/// While a side is up, from its check in a session until its clean, both sides' versions are 4 at least, they have as
+/// many queues and windows, and each window that the peer sends through fits the side's memory. Premises: the pair is
+/// one that a script can declare, and among the steps on it none writes a scratchpad below 12 or bytes past the
+/// transport.
+pub fn up_side_agrees()
+    ensures { UpSideAgrees }
+{}
+
+/// While a queue is joined on a side, the two sides' numbers agree whole: versions, queues, windows, and the sizes of
+/// both sides' windows with the other's memory. Premises: as of [`up_side_agrees`].
+pub fn joined_means_agreement()
+    ensures { JoinedMeansAgreement }
+{}
+
+/// Each label of a lane that is in flight from its sender, or left to post, is of an entry that was begun in the session:
+/// a chunk is one of the entry's, flags are those of a frame's piece or of a link-down entry as the entry is. Each index
+/// write in flight is of an entry that was acknowledged. Premise: the pair isn't declared raw.
+pub fn labels_are_of_entries()
+    ensures { LabelsAreOfEntries }
+{}
+
+/// Each label in flight from a side is on one of the side's queues, or writes one of the sixteen scratchpads, or bytes in
+/// a window that both sides have, within its size and the peer's memory. Premises: the pair is one that a script can
+/// declare, and the steps are such as the plan permits.
+pub fn labels_are_postable()
+    ensures { LabelsArePostable }
 {}

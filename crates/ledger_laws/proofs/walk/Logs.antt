@@ -10,18 +10,13 @@ use Rattle.step_kinds.specs.declared.names.Side.{Side}
 use Rattle.step_kinds.specs.declared.names.Side.TheVariants.{A, B}
 use Rattle.step_kinds.specs.declared.plan.Plan.{Plan}
 use Rattle.step_kinds.specs.declared.steps.Step.{Step}
-use Rattle.lane_model.specs.Lane.{Entry, Carries, GoesDown, writes_of}
-use Rattle.lane_model.specs.declared.Field.TheVariants.{Chunk as PayloadChunk, Length, Version}
-use Rattle.lane_model.specs.declared.Write.{Write}
-use Rattle.lane_model.specs.declared.Write.TheVariants.{Data, Flag as EntryFlag, Bell as QueueBell}
-use Rattle.ledger_model.specs.Labels.{label_of, labels_of}
+use Rattle.lane_model.specs.Lane.{GoesDown}
 use Rattle.ledger_model.specs.Ledger.{PairPart, lane_of}
 use Rattle.ledger_model.specs.Log.{Answered, Memories, answered, log_from, ledger_from, log_of, ledger_of}
 use Rattle.ledger_model.specs.Next.{Ledger, fresh_pair, ledger_after, start}
 use Rattle.ledger_model.specs.Rings.{RingPart, fresh_ring, ring_next, ring_from, ring_of}
 use Rattle.plan_model.specs.Plans.{pair_plan}
 use Rattle.plan_model.specs.Sizes.{sizes_of}
-use Rattle.ledger_laws.proofs.Offers.{list_all-map}
 use Rattle.ledger_laws.proofs.LogGrowth.{made_by, left_by}
 use Rattle.ledger_laws.proofs.walk.Of.{turn_of, turn_elsewhere}
 use Rattle.ledger_laws.proofs.walk.Sight.{Sight, Sender, Receiver, sight}
@@ -46,7 +41,7 @@ todo_kept plan lane s made news t (PostsNext entry others label rest may) own =
 todo_kept plan lane s made news t (Strays after may) own = may.own
 todo_kept plan lane s made news t turn own = own
 
-abbrev OwnTodos : PairPart → Type 0
+abbrev pub OwnTodos : PairPart → Type 0
 OwnTodos pair = (side : Side) (queue : ℕ) → list_all (on_queue queue) (lane_of pair side queue).todo ≡ true
 
 -- Each step on a ledger
@@ -80,7 +75,7 @@ module _ (plan : Plan) (memories : Memories) (before : List Answered) (ledger : 
           (sym (ne_eqb lane.pair (subject_of step) ne))
           (turn_elsewhere plan lane (sight lane.from lane.queue (ledger lane.pair)) (Made (subject_of step)) (λ e. ne (sym e)))
 
-  todos_kept : (k : ℕ) → OwnTodos (ledger k) → OwnTodos (ledger_after plan (memories before) ledger step k)
+  pub todos_kept : (k : ℕ) → OwnTodos (ledger k) → OwnTodos (ledger_after plan (memories before) ledger step k)
   todos_kept k todos side queue =
       let lane : LaneName = record { pair = k; from = side; queue = queue } in
       todo_kept plan lane (sight side queue (ledger k)) (answered plan (memories before) ledger step) (turn_in lane todos).news (sight side queue (ledger_after plan (memories before) ledger step k))
