@@ -33,10 +33,11 @@ use Rattle.ledger_model.specs.Receiving.{lands_on, taken_out, is_copying, is_cop
 use Rattle.ledger_model.specs.Sending.{begun_lane, frame_begun, with_next, posts_through}
 use Rattle.ledger_laws.specs.Laws.{FitsLook, CopiedInParts}
 use Rattle.ledger_laws.proofs.AtStart.{fresh-lane}
-use Rattle.ledger_laws.proofs.EachPair.{HoldsOfPair, of_pair_after, same-posts, same-posts_raw, same-through}
+use Rattle.ledger_laws.proofs.EachPair.{HoldsOfLog, AnyStep, log_after, same-posts, same-posts_raw, same-through}
 use Rattle.ledger_laws.proofs.LogGrowth.{answer_of, made_by, left_by}
 use Rattle.ledger_laws.proofs.LogReaders.{looked_after-last}
 use Rattle.ledger_laws.proofs.walk.Cases.{found_refusals, refuses, Refused, enable_cases, train_cases, break_cases, drop_cases, clean_cases, offer_cases, check_cases, ready_cases, join_cases, begin_cases, qpdown_cases, xbegin_cases, post_cases, land_cases, look_cases, copy_cases, clear_cases, ack_cases, acking, wake_cases, trained, cleaned, offering, readied}
+use Rattle.ledger_laws.proofs.walk.Logs.{all_fit}
 use Rattle.ledger_laws.proofs.walk.Sight.{IsOff, by_lane, lane-own, lane-off}
 use Rattle.ledger_laws.proofs.walk.Tells.{on-own, on-off}
 
@@ -305,10 +306,10 @@ module _ (plan : Plan) (own : LaneName) (reading : Reading) (bytes : Bytes) (pai
 abbrev KnowsParts : LaneName → List Answered → PairPart → Type 0
 KnowsParts own log pair = Knows (looked_in log own.pair own.from own.queue) (stand (lane_to pair own.from own.queue))
 
-parts_run : (plan : Plan) (own : LaneName) → HoldsOfPair plan own.pair (KnowsParts own)
+parts_run : (plan : Plan) (own : LaneName) → HoldsOfLog plan own.pair AnyStep (KnowsParts own)
 parts_run plan own = record {
   fresh = subst (λ (l : LanePart). Knows None (stand l)) (sym (fresh-lane (pair_plan plan own.pair) (other_side own.from) own.queue)) (knows_none None _ refl refl);
-  own = λ log bytes pair step e h.
+  own = λ log bytes pair step any e todos h.
       subst (λ looked. Knows looked (stand (lane_to (left_by plan own.pair bytes pair step) own.from own.queue))) (sym (looked_after-last own.pair own.from own.queue None log (made_by plan own.pair bytes pair step)))
       ((stands_next plan own (reading_of (pair_plan plan own.pair) bytes pair) bytes pair step e).is (looked_in log own.pair own.from own.queue) h);
   other = λ log pair made ne h.
@@ -362,7 +363,7 @@ copied_in_parts plan memories steps pair side queue step answer which goes =
     now = ledger_of plan memories steps pair
 
     knows : Knows looked (stand (lane_to now side queue))
-    knows = of_pair_after plan pair (KnowsParts own) (parts_run plan own) memories steps
+    knows = log_after plan pair AnyStep (KnowsParts own) (parts_run plan own) memories steps (all_fit steps)
 
     fits : (step : Step) → (step ≡ Copy pair side queue) ⊎ (step ≡ Clear pair side queue)
         → FitsLook looked (outcome_in plan (memories (log_of plan memories steps)) (ledger_of plan memories steps) step).answer

@@ -34,9 +34,10 @@ use Rattle.ledger_model.specs.Reading.{Reading, reading_of}
 use Rattle.ledger_model.specs.Receiving.{lands_on}
 use Rattle.ledger_model.specs.Sending.{posts_through, with_next}
 use Rattle.ledger_laws.specs.Laws.{CountersAreCounts}
-use Rattle.ledger_laws.proofs.EachPair.{HoldsOfPair, of_pair_after, same-posts, same-posts_raw, same-through}
+use Rattle.ledger_laws.proofs.EachPair.{HoldsOfLog, AnyStep, log_after, same-posts, same-posts_raw, same-through}
 use Rattle.ledger_laws.proofs.LogGrowth.{made_by}
 use Rattle.ledger_laws.proofs.walk.Cases.{refuses, enable_cases, train_cases, break_cases, drop_cases, clean_cases, offer_cases, check_cases, ready_cases, join_cases, begin_cases, qpdown_cases, xbegin_cases, post_cases, land_cases, look_cases, copy_cases, clear_cases, ack_cases, acking, wake_cases}
+use Rattle.ledger_laws.proofs.walk.Logs.{all_fit}
 use Rattle.ledger_laws.proofs.walk.Sight.{IsOff, by_lane}
 use Rattle.ledger_laws.proofs.walk.Tells.{on-own, on-off}
 
@@ -304,10 +305,10 @@ fresh_counts : (plan : PairPlan) (from : Side) (q : ℕ) → (dev_of (fresh_pair
 fresh_counts plan A q = refl
 fresh_counts plan B q = refl
 
-counted_runs : (plan : Plan) (own : LaneName) → HoldsOfPair plan own.pair (IsCounted plan own)
+counted_runs : (plan : Plan) (own : LaneName) → HoldsOfLog plan own.pair AnyStep (IsCounted plan own)
 counted_runs plan own = record {
   fresh = fresh_counts (pair_plan plan own.pair) own.from own.queue;
-  own = λ log bytes pair step e h.
+  own = λ log bytes pair step any e todos h.
       let made = made_by plan own.pair bytes pair step in
       (counts_next plan own (reading_of (pair_plan plan own.pair) bytes pair) bytes pair step e).is
       ∙ ap (λ (c : Counters). counted c (device_accepts plan own made) (device_refuses own made) (device_delivers own made)) h ∙ sym (counters-last plan own log made);
@@ -319,4 +320,4 @@ counted_runs plan own = record {
 }
 
 pub counters_are_counts : CountersAreCounts
-counters_are_counts plan memories steps own = of_pair_after plan own.pair (IsCounted plan own) (counted_runs plan own) memories steps
+counters_are_counts plan memories steps own = log_after plan own.pair AnyStep (IsCounted plan own) (counted_runs plan own) memories steps (all_fit steps)

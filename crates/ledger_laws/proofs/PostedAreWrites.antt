@@ -37,11 +37,12 @@ use Rattle.ledger_model.specs.Receiving.{lands_on, taken_out, copy_step}
 use Rattle.ledger_model.specs.Sending.{posts_through, begun_lane, frame_begun, with_next, begin_step, qpdown_step, xbegin_step, post_step}
 use Rattle.ledger_laws.specs.Laws.{labels_from, has_forgotten, PostedAreWrites}
 use Rattle.ledger_laws.proofs.AtStart.{fresh-lane, up-not_down}
-use Rattle.ledger_laws.proofs.EachPair.{HoldsOfPair, of_pair_after, same-posts, same-posts_raw, same-through}
+use Rattle.ledger_laws.proofs.EachPair.{HoldsOfLog, AnyStep, log_after, same-posts, same-posts_raw, same-through}
 use Rattle.ledger_laws.proofs.LogGrowth.{made_by, left_by}
 use Rattle.ledger_laws.proofs.LogReaders.{session_found-last}
 use Rattle.ledger_laws.proofs.Outcomes.{refused_passed}
 use Rattle.ledger_laws.proofs.walk.Cases.{refuses, enable_cases, train_cases, break_cases, drop_cases, clean_cases, offer_cases, check_cases, ready_cases, join_cases, begin_cases, qpdown_cases, xbegin_cases, post_cases, land_cases, look_cases, copy_cases, clear_cases, ack_cases, acking, wake_cases, trained, cleaned, offering, readied}
+use Rattle.ledger_laws.proofs.walk.Logs.{all_fit}
 use Rattle.ledger_laws.proofs.walk.Sight.{IsOff, by_lane, lane-own, lane-off}
 use Rattle.ledger_laws.proofs.walk.Tells.{on-own, on-off}
 
@@ -381,10 +382,10 @@ module _ (plan : Plan) (lane : LaneName) (reading : Reading) (bytes : Bytes) (pa
 abbrev HasPosted : LaneName → List Answered → PairPart → Type 0
 HasPosted lane log pair = has_forgotten pair lane.from ≡ false → AreWrites lane.queue (posted_in log lane) (lane_of pair lane.from lane.queue).todo (lane_of pair lane.from lane.queue).sent
 
-posted_runs : (plan : Plan) (lane : LaneName) → HoldsOfPair plan lane.pair (HasPosted lane)
+posted_runs : (plan : Plan) (lane : LaneName) → HoldsOfLog plan lane.pair AnyStep (HasPosted lane)
 posted_runs plan lane = record {
   fresh = λ open_yet. subst (λ (l : LanePart). AreWrites lane.queue [] l.todo l.sent) (sym (fresh-lane (pair_plan plan lane.pair) lane.from lane.queue)) refl;
-  own = λ log bytes pair step e h open_yet.
+  own = λ log bytes pair step any e todos h open_yet.
       let made = made_by plan lane.pair bytes pair step in
       ap (λ labels. labels ++ (lane_of (left_by plan lane.pair bytes pair step) lane.from lane.queue).todo) (session_found-last (posts_write lane) lane.pair log made)
       ∙ (writes_next plan lane (reading_of (pair_plan plan lane.pair) bytes pair) bytes pair step e).is (posted_in log lane) h open_yet;
@@ -397,4 +398,4 @@ posted_runs plan lane = record {
 }
 
 pub posted_are_writes : PostedAreWrites
-posted_are_writes plan memories steps lane = of_pair_after plan lane.pair (HasPosted lane) (posted_runs plan lane) memories steps
+posted_are_writes plan memories steps lane = log_after plan lane.pair AnyStep (HasPosted lane) (posted_runs plan lane) memories steps (all_fit steps)
