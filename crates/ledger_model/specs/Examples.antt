@@ -14,6 +14,8 @@ use Rattle.step_kinds.specs.declared.steps.Step.{Step}
 use Rattle.step_kinds.specs.declared.steps.Step.TheVariants.{Enable, Train, Break, DropDone, Clean, Offer, Check, Ready, Join, Begin, QpDown, Xbegin, Post, Land, Look, Copy, Ack, Wake, Irq, Mask, Unmask, ShowQueue, ShowPad}
 use Rattle.ledger_model.specs.Ledger.{tally_of}
 use Rattle.ledger_model.specs.Log.{Answered, Memories, ledger_of, log_of, counters_in, posted_in, looked_in}
+use Rattle.ledger_model.specs.Next.{fresh_pair}
+use Rattle.ledger_model.specs.Reading.{reading_of}
 use Rattle.plan_model.specs.Macros.{send, xmit, land_all, receive, offer_all}
 
 -- a side of one window and one queue with 4,096 bytes
@@ -244,6 +246,22 @@ abbrev pub SessionsCountUp : Type 0
 SessionsCountUp =
     (ledger_of (plan_of small_pair []) no_memory (Break 0 ∷ DropDone 0 ∷ Clean 0 A ∷ Clean 0 B ∷ Enable 0 A ∷ Enable 0 B ∷ Train 0 ∷ []) 0).link.session ≡ 2
 
+-- what a sender reads of its room: on a raw pair its index word as it stands in memory, and on any other the ledger
+abbrev pub nines : Side → ℕ → ℕ → List ℕ
+nines = λ side at len. replicate len 9
+
+abbrev pub RawPairsReadBytes : Type 0
+RawPairsReadBytes =
+    ((reading_of (record small_pair { raw = true }) nines (fresh_pair small_pair)).index_word A 0 ≡ 151587081)
+    × ((reading_of (record small_pair { raw = true }) nines (fresh_pair small_pair)).free A 0 ≡ 0)
+    × ((reading_of small_pair nines (fresh_pair small_pair)).index_word A 0 ≡ 3) × ((reading_of small_pair nines (fresh_pair small_pair)).free A 0 ≡ 3)
+
+-- what is in flight when a link is dropped is gone, and lands no more
+abbrev pub DropEmptiesTheLists : Type 0
+DropEmptiesTheLists =
+    drop 6 (answers small_pair [] (send small_pair 0 A 0 letter ++ Break 0 ∷ DropDone 0 ∷ ShowQueue 0 A 0 ∷ Land 0 A 0 ∷ []))
+    ≡ Done ∷ Done ∷ QueueShown 0 None ∷ Nothing ∷ []
+
 pub record ExamplesHold : Type 0 where
   pub one_frame : OneFrame
   pub ring_full : RingFull
@@ -271,3 +289,5 @@ pub record ExamplesHold : Type 0 where
   pub counters_count : CountersCount
   pub posts_and_copies : PostsAndCopies
   pub sessions_count_up : SessionsCountUp
+  pub raw_pairs_read_bytes : RawPairsReadBytes
+  pub drop_empties_the_lists : DropEmptiesTheLists
