@@ -15,3 +15,8 @@ pub use Rattle.ledger_laws.proofs.JoinedMeansAgreement.{up_side_agrees, joined_m
 pub use Rattle.ledger_laws.proofs.LabelsOfEntries.{labels_are_of_entries, all_get}
 pub use Rattle.ledger_laws.proofs.LabelsPostable.{labels_are_postable}
 pub use Rattle.ledger_laws.proofs.NothingWhileDown.{nothing_in_flight_while_down}
+pub use Rattle.ledger_laws.proofs.JoinedOnSides.{joined_side_is_up, stopped_device_is_joined, busy_sender_is_joined, busy_receiver_is_joined}
+pub use Rattle.ledger_laws.proofs.FramesWithinMost.{freed_were_begun, receiver_knows_its_frame}
+pub use Rattle.ledger_laws.proofs.NeitherDiffersNorLong.{no_ordinary_ver_differs_or_long}
+pub use Rattle.ledger_laws.proofs.walk.SendingTurns.{on_queue-labels}
+pub use Rattle.ledger_laws.proofs.walk.Turn.{on_queue}

@@ -7,9 +7,11 @@ pub mod EntriesFit
 pub mod FlagsAndBells
 pub mod Frames
 pub mod FramesInOrder
+pub mod FramesWithinMost
 pub mod FreshLanes
 pub mod InFlight
 pub mod JoinedMeansAgreement
+pub mod JoinedOnSides
 pub mod JoinedSides
 pub mod Labels
 pub mod LabelsOfEntries
@@ -17,6 +19,7 @@ pub mod LabelsPostable
 pub mod LinkDownWhereNotUp
 pub mod LogGrowth
 pub mod LogReaders
+pub mod NeitherDiffersNorLong
 pub mod NothingWhileDown
 pub mod Offers
 pub mod OffersInSession
