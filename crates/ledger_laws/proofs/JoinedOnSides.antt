@@ -19,7 +19,7 @@ use Rattle.step_kinds.specs.declared.steps.Step.{Step}
 use Rattle.step_kinds.specs.declared.steps.Step.TheVariants.{Enable, Train, Break, DropDone, Clean, Offer, Check, Ready, Join, Begin, QpDown, Xbegin, Post, Land, Look, Copy, Clear, Ack, Wake, Irq, Mask, Unmask, Spad, Poke}
 use Rattle.lane_model.specs.Lane.{Entry}
 use Rattle.lane_model.specs.declared.Phase.{Phase}
-use Rattle.lane_model.specs.declared.Phase.TheVariants.{Copying, Copied}
+use Rattle.lane_model.specs.declared.Phase.TheVariants.{Copying, Copied, Cleared}
 use Rattle.byte_model.specs.Headers.{Bytes, Found, ALinkDownEntry, AnEntry}
 use Rattle.ledger_model.specs.Ledger.{LanePart, SidePart, DevPart, PairPart, side_of, lane_of, lane_to, dev_of, link_up, with_side_part, with_lane, with_dev, posts, posts_raw, updated}
 use Rattle.ledger_model.specs.LinkSteps.{emptied_side, cleaned_side, started_dev}
@@ -27,7 +27,7 @@ use Rattle.ledger_model.specs.Log.{Answered}
 use Rattle.ledger_model.specs.Next.{fresh_pair, read_next}
 use Rattle.ledger_model.specs.Outcome.{Outcome, decided}
 use Rattle.ledger_model.specs.Reading.{Reading, reading_of}
-use Rattle.ledger_model.specs.Receiving.{is_idle, is_copying, is_copied, lands_on, taken_out, land_found, look_at}
+use Rattle.ledger_model.specs.Receiving.{is_idle, is_copying, is_copied, is_cleared, lands_on, taken_out, land_found, look_at}
 use Rattle.ledger_model.specs.Sending.{is_empty_list, is_busy, next_begun, posts_through, post_first}
 use Rattle.plan_model.specs.Both.{at_side, with_side}
 use Rattle.plan_model.specs.Plans.{dev_plan, pair_plan}
@@ -84,10 +84,10 @@ joined_side_is_up plan memories steps pair side queue joined =
 abbrev BusyOf : ℕ → Sight → Type 0
 BusyOf q s = is_busy s.lane ≡ true → has_bit s.sender.joined q ≡ true
 
-some_todo : (lane : LanePart) (label : Label) (rest : List Label) → lane.todo ≡ label ∷ rest → is_busy lane ≡ true
+pub some_todo : (lane : LanePart) (label : Label) (rest : List Label) → lane.todo ≡ label ∷ rest → is_busy lane ≡ true
 some_todo lane label rest next = ap (λ todo. not (is_empty_list todo) || not (is_empty_list lane.waiting)) next
 
-some_wait : (lane : LanePart) (entry : Entry) (others : List Entry) → lane.todo ≡ [] → lane.waiting ≡ entry ∷ others → is_busy lane ≡ true
+pub some_wait : (lane : LanePart) (entry : Entry) (others : List Entry) → lane.todo ≡ [] → lane.waiting ≡ entry ∷ others → is_busy lane ≡ true
 some_wait lane entry others none waits =
     ap (λ todo. not (is_empty_list todo) || not (is_empty_list lane.waiting)) none ∙ ap (λ waiting. not (is_empty_list waiting)) waits
 
@@ -118,13 +118,17 @@ busy_sender_is_joined plan memories steps pair side queue no_raw =
 abbrev HoldsEntryOf : ℕ → Sight → Type 0
 HoldsEntryOf q s = is_idle s.lane.phase ≡ false → has_bit s.receiver.joined q ≡ true
 
-copying-not_idle : (phase : Phase) → is_copying phase ≡ true → is_idle phase ≡ false
+pub copying-not_idle : (phase : Phase) → is_copying phase ≡ true → is_idle phase ≡ false
 copying-not_idle Copying e = refl
 copying-not_idle phase e = absurd (false≢true e)
 
 copied-not_idle : (phase : Phase) → is_copied phase ≡ true → is_idle phase ≡ false
 copied-not_idle Copied e = refl
 copied-not_idle phase e = absurd (false≢true e)
+
+pub cleared-not_idle : (phase : Phase) → is_cleared phase ≡ true → is_idle phase ≡ false
+cleared-not_idle Cleared e = refl
+cleared-not_idle phase e = absurd (false≢true e)
 
 entry_kept : (plan : Plan) (lane : LaneName) (s : Sight) (made : Answered) (news : News) (t : Sight) → IsRaw plan lane ≡ false → Turn plan lane s made news t
     → HoldsEntryOf lane.queue s → HoldsEntryOf lane.queue t
