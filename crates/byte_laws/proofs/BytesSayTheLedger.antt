@@ -1,5 +1,5 @@
 -- On an ordinary pair the bytes say what the ledger says.
-use Rattle.std.proofs.Common.{◌≡◌, ℕ, ◌+◌, ◌%◌, ◌<◌, ◌≤◌, true, false, List, [], ◌∷◌, length, refl, sym, ap, ◌∙◌, subst, arith, mod-lt}
+use Rattle.std.proofs.Common.{◌≡◌, ℕ, ◌%◌, ◌<◌, ◌≤◌, true, false, List, [], ◌∷◌, length, refl, sym, ap, ◌∙◌, subst, arith, mod-lt}
 use Rattle.std.specs.Prelude.{if◌then◌else◌, slice_index_or}
 use Rattle.std.specs.List.{AllByRecursion, list_all}
 use Rattle.std.proofs.lemmas.Bool.{and_parts, eq-eqb}
@@ -22,12 +22,10 @@ use Rattle.ring_geometry.specs.Geometry.{HasRing, entries_of}
 use Rattle.plan_model.specs.Both.{at_side}
 use Rattle.plan_model.specs.DeclaredPlans.{Agree, IsDeclared, IsPair, IsPairOf, IsPermitted}
 use Rattle.plan_model.specs.Plans.{pair_plan, side_plan}
-use Rattle.plan_model.specs.Sizes.{Sizes, layout_of, layout_to, sizes_in, sizes_of}
+use Rattle.plan_model.specs.Sizes.{layout_of, sizes_in, sizes_of}
 use Rattle.plan_model.proofs.Rings.{each_queue_has_a_ring}
 use Rattle.byte_model.specs.Addresses.{own_slot}
 use Rattle.byte_model.specs.Headers.{Bytes, found_in_memory, found_with, free_in_memory, header_in, index_word_in, part_in_memory}
-use Rattle.byte_model.specs.Stores.{bytes_in}
-use Rattle.ledger_model.specs.Labels.{labels_of}
 use Rattle.ledger_model.specs.Ledger.{LanePart, PairPart, side_of, lane_of, begun_in, entry_in, free_of, head_in}
 use Rattle.ledger_model.specs.Log.{ledger_of}
 use Rattle.ledger_model.specs.Next.{read_next}
@@ -35,7 +33,7 @@ use Rattle.ledger_model.specs.Reading.{by_bytes, by_ledger, found_in_ledger, has
 use Rattle.ledger_model.specs.Receiving.{is_idle, is_copying}
 use Rattle.ledger_model.specs.Rings.{RingPart, ring_of, shown_lane}
 use Rattle.ledger_model.specs.Sending.{is_empty_list, is_busy, next_begun, with_next}
-use Rattle.memory_model.specs.Memory.{Site, bytes_of_site, memory_of, site_of}
+use Rattle.memory_model.specs.Memory.{bytes_of_site, memory_of, site_of}
 use Rattle.ledger_laws.specs.Laws.{IsOrdinaryOn}
 use Rattle.ledger_laws.specs.Rings.{with_tail}
 use Rattle.ledger_laws.specs.States.{IsOfEntry, IsOnQueue}
@@ -69,9 +67,10 @@ next_is_own q lane label rest all = go lane.todo refl
   where
     waits : (waiting : List Entry) → lane.waiting ≡ waiting → lane.todo ≡ [] → (with_next q lane waiting).todo ≡ label ∷ rest → (is_busy lane ≡ true) × (on_queue q label ≡ true)
     waits [] w none is = absurd (cc (none, is))
-    waits (entry ∷ others) w none is =
-        (some_wait lane entry others none w,
-        (and_parts (on_queue q label) (list_all (on_queue q) rest) (ap (list_all (on_queue q)) (sym is) ∙ on_queue-labels q (length lane.sent) entry)).0)
+    waits (entry ∷ others) w none is = (
+      some_wait lane entry others none w,
+      (and_parts (on_queue q label) (list_all (on_queue q) rest) (ap (list_all (on_queue q)) (sym is) ∙ on_queue-labels q (length lane.sent) entry)).0,
+    )
 
     go : (todo : List Label) → lane.todo ≡ todo → (if is_empty_list todo then with_next q lane lane.waiting else lane).todo ≡ label ∷ rest → (is_busy lane ≡ true) × (on_queue q label ≡ true)
     go [] e is = waits lane.waiting refl e is

@@ -1,5 +1,5 @@
 -- The pair of a site is the ledger's.
-use Rattle.std.proofs.Common.{◌≡◌, ℕ, ◌==◌, Bool, true, List, [], ◌∷◌, ◌++◌, map, refl, sym, ap, ◌∙◌, subst, inl, inr}
+use Rattle.std.proofs.Common.{◌≡◌, ℕ, ◌==◌, List, [], ◌∷◌, ◌++◌, map, refl, sym, ap, ◌∙◌, inl, inr}
 use Rattle.std.specs.Prelude.{if◌then◌else◌}
 use Rattle.std.proofs.lemmas.Bool.{cases_eq, eq-eqb, ne_eqb}
 use Rattle.step_kinds.specs.Subject.{subject_of}
@@ -10,7 +10,7 @@ use Rattle.step_kinds.specs.declared.steps.Step.{Step}
 use Rattle.plan_model.specs.Plans.{pair_plan}
 use Rattle.ledger_model.specs.Ledger.{PairPart}
 use Rattle.ledger_model.specs.Log.{Answered, answered, ledger_from}
-use Rattle.ledger_model.specs.Next.{Ledger, ledger_after, outcome_in, pair_next, start}
+use Rattle.ledger_model.specs.Next.{Ledger, ledger_after, pair_next, start}
 use Rattle.memory_model.specs.Memory.{Site, bytes_of_site, memory_of, site_from, site_next, site_of, fresh_site}
 use Rattle.byte_laws.specs.Readings.{SitesAreTheLedger}
 
@@ -22,9 +22,6 @@ site_from-last : (devs : List DevPlan) (plan : PairPlan) (k : ℕ) (site : Site)
     → site_from devs plan k site (steps ++ step ∷ []) ≡ site_with devs plan k (site_from devs plan k site steps) step
 site_from-last devs plan k site [] step = refl
 site_from-last devs plan k site (first ∷ steps) step = site_from-last devs plan k (site_with devs plan k site first) steps step
-
-steps_of : List Answered → List Step
-steps_of log = map (λ made. made.step) log
 
 map-push : (log : List Answered) (made : Answered) → map (λ (m : Answered). m.step) (log ++ made ∷ []) ≡ map (λ (m : Answered). m.step) log ++ made.step ∷ []
 map-push [] made = refl
@@ -42,9 +39,6 @@ module _ (plan : Plan) where
       → Shows (before ++ answered plan (memory_of plan before) ledger step ∷ []) (ledger_after plan (memory_of plan before) ledger step)
   one_more before ledger step shows k = next ∙ sym (ap (λ (site : Site). site.pair) same)
     where
-      own : PairPlan
-      own = pair_plan plan k
-
       same : site_at (before ++ answered plan (memory_of plan before) ledger step ∷ []) k ≡ site_with plan.devs (pair_plan plan k) k (site_at before k) step
       same =
           ap (site_of plan k) (map-push before (answered plan (memory_of plan before) ledger step))

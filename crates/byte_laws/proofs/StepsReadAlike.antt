@@ -1,8 +1,7 @@
 -- Where the bytes and the ledger show a step the same of the rings, it has the same outcome by both.
-use Rattle.std.proofs.Common.{◌≡◌, ℕ, ◌-◌, ◌<◌, ◌&&◌, Bool, true, false, not, Option, Some, None, List, [], ◌∷◌, ◌++◌, length, refl, ap}
+use Rattle.std.proofs.Common.{◌≡◌, ℕ, ◌-◌, ◌<◌, ◌&&◌, Bool, true, false, not, Option, None, List, [], ◌∷◌, ◌++◌, length, refl, ap}
 use Rattle.std.specs.Prelude.{if◌then◌else◌, nat_lt}
 use Rattle.step_kinds.specs.Bits.{has_bit}
-use Rattle.step_kinds.specs.Sides.{other_side}
 use Rattle.step_kinds.specs.Subject.{subject_of}
 use Rattle.step_kinds.specs.declared.names.Side.{Side}
 use Rattle.step_kinds.specs.declared.plan.DevPlan.{DevPlan}
@@ -17,15 +16,15 @@ use Rattle.step_kinds.specs.declared.steps.Step.TheVariants.{Begin, QpDown, Xbeg
 use Rattle.plan_model.specs.DeclaredPlans.{IsPermitted}
 use Rattle.plan_model.specs.Ethernet.{ethernet_frame}
 use Rattle.plan_model.specs.Plans.{dev_plan, pair_plan, side_plan}
-use Rattle.plan_model.specs.Sizes.{Sizes, pieces_in, sizes_of}
+use Rattle.plan_model.specs.Sizes.{pieces_in, sizes_of}
 use Rattle.byte_model.specs.Headers.{Bytes, Found}
 use Rattle.ledger_laws.proofs.Facade.{acking}
 use Rattle.ledger_model.specs.Ledger.{LanePart, PairPart, side_of, lane_of, lane_to, dev_of, head_in, link_up, posts, with_lane, with_dev}
 use Rattle.ledger_model.specs.Next.{read_next}
 use Rattle.ledger_model.specs.Outcome.{Outcome, decided, refuse_if}
 use Rattle.ledger_model.specs.Reading.{Reading, by_bytes, by_ledger, has_window}
-use Rattle.ledger_model.specs.Receiving.{is_idle, is_copying, is_cleared, look_at, look_step, copy_of, copy_step, ack_step}
-use Rattle.ledger_model.specs.Sending.{refuse_busy, refuse_full, refuse_long, begun, begin_step, qpdown_step, xbegin_step, counts_refused, counts_sent, next_begun, post_first, post_step, posts_through, wake_step}
+use Rattle.ledger_model.specs.Receiving.{is_idle, is_copying, is_cleared, look_at, copy_of}
+use Rattle.ledger_model.specs.Sending.{refuse_busy, refuse_full, refuse_long, begun, begin_step, qpdown_step, xbegin_step, counts_refused, counts_sent, next_begun, post_first, posts_through, wake_step}
 
 -- what a step on a queue of a side reads
 pub record ReadAlike (plan : PairPlan) (bytes : Bytes) (now : PairPart) (side : Side) (queue : ℕ) : Type 0 where
@@ -93,7 +92,7 @@ module _ (plan : PairPlan) (bytes : Bytes) (now : PairPart) where
       let lane = lane_of now side queue in
       sender_decides (link_up now) (has_bit (side_of now side).joined queue) now _ _ (OkNumber lane.told) (begun sizes now side queue frame) (begun sizes now side queue frame) (λ joined. (
         ap (λ later. refuse_if (has_bit (side_of now side).closed queue) Closed (refuse_long (length frame) sizes.most (refuse_busy lane later)))
-        (full_alike side queue (pieces_in sizes.largest (length frame)) alike joined),
+            (full_alike side queue (pieces_in sizes.largest (length frame)) alike joined),
         refl,
       ))
 
@@ -118,7 +117,7 @@ module _ (plan : PairPlan) (bytes : Bytes) (now : PairPart) where
       (counts_sent dev (begun sizes now side queue frame) side queue (length frame) (InLedger.free side queue - needed))
       (λ joined. (
         ap (λ later. refuse_if (has_bit (side_of now side).closed queue) Closed (refuse_long (length frame) sizes.most (refuse_busy lane (refuse_if (dev_of now side queue).stopped Stopped later))))
-        (full_alike side queue needed alike joined),
+            (full_alike side queue needed alike joined),
         ap (λ free. counts_sent dev (begun sizes now side queue frame) side queue (length frame) (free - needed)) (alike.free joined),
       ))
 
