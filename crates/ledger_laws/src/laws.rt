@@ -160,13 +160,13 @@ pub fn labels_are_postable()
     ensures { LabelsArePostable }
 {}
 
-/// A queue is joined on a side that is up alone. No premise.
+/// A queue is joined only on a side that is up. No premise.
 pub fn joined_side_is_up()
     ensures { JoinedSideIsUp }
 {}
 
-/// A device is stopped only where its queue is joined on its side: a side that forgets its session starts its devices. No
-/// premise.
+/// A device is stopped only where its queue is joined on its side: a side that forgets its session starts its devices.
+/// No premise.
 pub fn stopped_device_is_joined()
     ensures { StoppedDeviceIsJoined }
 {}
@@ -188,9 +188,9 @@ pub fn freed_were_begun()
     ensures { FreedWereBegun }
 {}
 
-/// A receiver that copies an entry knows its bytes; and where it is idle, its queue is joined and an entry is before it,
-/// the bytes of the frame under way are with the entry's no more than a frame may have. Premise: the pair isn't declared
-/// raw.
+/// A receiver that copies an entry knows how many bytes it has; and where it is idle, its queue is joined and an entry is
+/// before it, the bytes of the frame under way are with the entry's no more than a frame may have. Premise: the pair
+/// isn't declared raw.
 pub fn receiver_knows_its_frame()
     ensures { ReceiverKnowsItsFrame }
 {}
