@@ -103,6 +103,10 @@ nothing_stored at (suc len) = ap (λ bytes. 0 ∷ bytes) (nothing_stored (suc at
 
 -- Words
 
+-- the number that four bytes say
+abbrev pub number_of : List ℕ → ℕ
+number_of bytes = little_number 4 bytes
+
 pub length-word_bytes : (value : ℕ) → length (word_bytes value) ≡ 4
 length-word_bytes value = length-bytes_low_first 0 4 value
 
@@ -111,7 +115,7 @@ word_back value small = ap (λ xs. little_from 0 4 xs) (sym (append-nil (word_by
 
 -- a word that was written, alone or among others
 pub word_stored : (store : Store) (older : List Store) (offset at value : ℕ) → at ≡ store.at + offset → offset + 4 ≤ length store.bytes → take 4 (drop offset store.bytes) ≡ word_bytes value → value < 2 ^ 32
-    → little_number 4 (bytes_in (store ∷ older) at 4) ≡ value
+    → number_of (bytes_in (store ∷ older) at 4) ≡ value
 word_stored store older offset at value there within is small = ap (little_number 4) (bytes_stored store older offset at 4 there within ∙ is) ∙ word_back value small
 
 -- What a list of stores does to what is read of a memory
