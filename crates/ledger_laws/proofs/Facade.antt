@@ -15,3 +15,4 @@ pub use Rattle.ledger_laws.proofs.JoinedMeansAgreement.{up_side_agrees, joined_m
 pub use Rattle.ledger_laws.proofs.LabelsOfEntries.{labels_are_of_entries, all_get}
 pub use Rattle.ledger_laws.proofs.LabelsPostable.{labels_are_postable}
 pub use Rattle.ledger_laws.proofs.NothingWhileDown.{nothing_in_flight_while_down}
+pub use Rattle.ledger_laws.proofs.FollowersFew.{IsOfFrame, entries_are_of_frames}
