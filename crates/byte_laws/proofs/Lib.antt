@@ -1,1 +1,3 @@
+pub mod LabelStores
+pub mod RingStores
 pub mod SlotStores
