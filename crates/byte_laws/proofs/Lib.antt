@@ -1,3 +1,4 @@
 pub mod LabelStores
+pub mod OwnStores
 pub mod RingStores
 pub mod SlotStores

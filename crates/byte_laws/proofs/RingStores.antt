@@ -72,7 +72,7 @@ module _ (plan : PairPlan) (declared : IsPair plan) (agree : Agree plan) (from :
   }
 
   -- one slot is another, and the others are left
-  ring_set : (new older : List Store) (ring : List Slot) (k : ℕ) (slot : Slot) → k < Entries → ((n : ℕ) → n < Entries → n ≢ k → LeavesSlot Memory queue n new)
+  pub ring_set : (new older : List Store) (ring : List Slot) (k : ℕ) (slot : Slot) → k < Entries → ((n : ℕ) → n < Entries → n ≢ k → LeavesSlot Memory queue n new)
       → StandsIn Memory (is_five plan) queue k (new ++ older) slot → Stands older ring → Stands (new ++ older) (slice_set ring k slot)
   ring_set new older ring k slot small others own stands = record {
     slots = length-set ring k slot ∙ stands.slots;
