@@ -1,4 +1,5 @@
 pub mod LabelStores
 pub mod OwnStores
 pub mod RingStores
+pub mod Sites
 pub mod SlotStores
