@@ -42,7 +42,7 @@ use Rattle.byte_laws.specs.Readings.{BytesSayTheLedger}
 use Rattle.byte_laws.specs.Rings.{RingStandsAt, StandsAt}
 use Rattle.byte_laws.proofs.OrdinarySteps.{permitted_are_ordinary}
 use Rattle.byte_laws.proofs.RingsStand.{rings_stand}
-use Rattle.byte_laws.proofs.SitesAreTheLedger.{sites_are_the_ledger}
+use Rattle.byte_laws.proofs.Sites.{sites_are_the_ledger}
 use Rattle.byte_laws.proofs.StepsReadAlike.{ReadAlike, read_alike}
 use Rattle.byte_laws.proofs.WhatIsRead.{layouts_alike, write_has_window, index_has_window, room_is_read, next_read, mod-twice, header_at_slot, address_at_slot, part_is_read}
 

@@ -6,7 +6,7 @@ pub use Rattle.ledger_laws.proofs.LinkDownWhereNotUp.{link_down_where_not_up}
 pub use Rattle.ledger_laws.proofs.PairsAreSeparate.{pairs_are_separate}
 pub use Rattle.ledger_laws.proofs.QuietMeansDone.{quiet_means_done}
 pub use Rattle.ledger_laws.proofs.RefusalsChangeNothing.{refusals_change_nothing}
-pub use Rattle.ledger_laws.proofs.RingLawHolds.{two_entries, ring_law_of_receiver, index_word_is_tail, ring_law_holds}
+pub use Rattle.ledger_laws.proofs.RingLawHolds.{ring_law_of_receiver, index_word_is_tail, ring_law_holds, two_entries}
 pub use Rattle.ledger_laws.proofs.LogGrowth.{log_of-last, ledger_of-last}
 pub use Rattle.ledger_laws.proofs.UpMeansAgreement.{up_means_agreement}
 pub use Rattle.ledger_laws.proofs.EntriesFit.{entries_fit_the_ring}
@@ -22,3 +22,4 @@ pub use Rattle.ledger_laws.proofs.walk.SendingTurns.{on_queue-labels}
 pub use Rattle.ledger_laws.proofs.walk.Turn.{on_queue}
 pub use Rattle.ledger_laws.proofs.walk.Cases.{acking}
 pub use Rattle.ledger_laws.proofs.RingOfLane.{phase_idle, phase_copying}
+pub use Rattle.ledger_laws.proofs.FollowersFew.{IsOfFrame, entries_are_of_frames}

@@ -5,6 +5,7 @@ pub mod CleanSides
 pub mod Facade
 pub mod EntriesFit
 pub mod FlagsAndBells
+pub mod FollowersFew
 pub mod Frames
 pub mod FramesInOrder
 pub mod FramesWithinMost

@@ -133,7 +133,7 @@ LabelsAreOfEntries = (plan : Plan) (memories : Memories) (steps : List Step) (pa
     HasLabelsOfEntries (ledger_of plan memories steps pair) side
 
 -- a label that a side of this pair can post by steps that a plan permits: it is on one of the side's queues, or it writes one of the
--- sixteen scratchpads, or bytes in a window that both sides have and within what the peer's memory gives
+-- sixteen scratchpads, or, on a raw pair, bytes in a window that both sides have and within what the peer's memory gives
 abbrev pub IsPostable : PairPlan → Side → Label → Type 0
 IsPostable plan side (Chunk q n part) = q < (side_plan plan side).queues
 IsPostable plan side (Len q n) = q < (side_plan plan side).queues
@@ -144,7 +144,7 @@ IsPostable plan side (Bell q) = q < (side_plan plan side).queues
 IsPostable plan side (Index q n) = q < (side_plan plan side).queues
 IsPostable plan side (Pad i value) = i < 16
 IsPostable plan side (Raw window offset len) =
-    ((window < plan.a.windows) × (window < plan.b.windows)) × (offset + len ≤ min (side_plan plan side).size (side_plan plan (other_side side)).cap)
+    (plan.raw ≡ true) × ((window < plan.a.windows) × (window < plan.b.windows)) × (offset + len ≤ min (side_plan plan side).size (side_plan plan (other_side side)).cap)
 
 abbrev pub LabelsArePostable : Type 0
 LabelsArePostable = (plan : Plan) (memories : Memories) (steps : List Step) (pair : ℕ) (side : Side) →

@@ -153,9 +153,9 @@ pub fn labels_are_of_entries()
     ensures { LabelsAreOfEntries }
 {}
 
-/// Each label in flight from a side is on one of the side's queues, or writes one of the sixteen scratchpads, or bytes in
-/// a window that both sides have, within its size and the peer's memory. Premises: the pair is one that a script can
-/// declare, and the steps are such as the plan permits.
+/// Each label in flight from a side is on one of the side's queues, or writes one of the sixteen scratchpads, or, on a raw
+/// pair, bytes in a window that both sides have, within its size and the peer's memory. Premises: the pair is one that a
+/// script can declare, and the steps are such as the plan permits.
 pub fn labels_are_postable()
     ensures { LabelsArePostable }
 {}
