@@ -8,11 +8,14 @@ pub mod EachPair
 pub mod Facade
 pub mod EntriesFit
 pub mod FlagsAndBells
+pub mod FollowersFew
 pub mod Frames
 pub mod FramesInOrder
+pub mod FramesWithinMost
 pub mod FreshLanes
 pub mod InFlight
 pub mod JoinedMeansAgreement
+pub mod JoinedOnSides
 pub mod JoinedSides
 pub mod Labels
 pub mod LabelsOfEntries
@@ -20,6 +23,7 @@ pub mod LabelsPostable
 pub mod LinkDownWhereNotUp
 pub mod LogGrowth
 pub mod LogReaders
+pub mod NeitherDiffersNorLong
 pub mod NothingWhileDown
 pub mod Offers
 pub mod OffersInSession

@@ -9,7 +9,7 @@ use Rattle.step_kinds.specs.declared.names.Side.{Side}
 use Rattle.step_kinds.specs.declared.plan.SidePlan.{SidePlan}
 use Rattle.step_kinds.specs.declared.plan.Plan.{Plan}
 use Rattle.step_kinds.specs.declared.steps.Answer.{Answer}
-use Rattle.step_kinds.specs.declared.steps.Answer.TheVariants.{Ok as Done, OkSession, OkNumber, LinkDown, Offered, Up, Joined, Again, Posted, Landed, PeerDown, ReadyFrame, Copied, Delivered, Cleared, Acked, Awake, Irq as IrqBits, Mem, PadValue, QueueShown}
+use Rattle.step_kinds.specs.declared.steps.Answer.TheVariants.{Ok as Done, OkSession, OkNumber, LinkDown, Offered, Up, Joined, Again, Posted, Landed, PeerDown, ReadyFrame, Copied, Delivered, Cleared, Acked, Awake, Irq as IrqBits, Mem, PadValue, QueueShown, VerDiffers, Long}
 use Rattle.step_kinds.specs.declared.steps.Label.{Label}
 use Rattle.step_kinds.specs.declared.steps.Step.{Step}
 use Rattle.step_kinds.specs.declared.steps.Step.TheVariants.{Enable, Train, Break, DropDone, Clean, Offer, Check, Ready, Join, Begin, QpDown, Xbegin, Post, Land, Look, Copy, Clear, Ack, Wake, Irq, Mask, Unmask, Spad, Poke, ShowMem, ShowPad, ShowQueue}
@@ -224,6 +224,19 @@ RefusalsChangeNothing = (plan : Plan) (memories : Memories) (steps : List Step) 
     GoesOn plan memories steps step answer → is_made step answer ≡ false →
     ledger_of plan memories (steps ++ step ∷ []) pair
     ≡ (if pair == subject_of step then after_refusal (ledger_of plan memories steps pair) step else ledger_of plan memories steps pair)
+
+-- Entries of the transport alone
+
+-- the answers to a look that finds what no sender of the transport has written
+abbrev pub is_unlike : Answer → Bool
+is_unlike (VerDiffers seen own) = true
+is_unlike (Long len most) = true
+is_unlike answer = false
+
+-- on an ordinary pair no step is answered `verdiffers` or `long`
+abbrev pub NoOrdinaryVerDiffersOrLong : Type 0
+NoOrdinaryVerDiffersOrLong = (plan : Plan) (memories : Memories) (steps : List Step) (step : Step) (answer : Answer) →
+    IsOrdinaryPair plan (subject_of step) → GoesOn plan memories steps step answer → is_unlike answer ≡ false
 
 -- Quiet
 
