@@ -1,6 +1,7 @@
-ghost use Rattle.std.specs.Prelude.{◌≡◌, ◌+◌, ◌≤◌, IfOk, IfSome, length};
+ghost use Rattle.std.specs.Prelude.{◌≡◌, ◌+◌, ◌<◌, ◌≤◌, IfSome, length};
 ghost use Rattle.bridge_pair.specs.Bridge.{bytes_of};
 ghost use Rattle.plan_model.specs.DeclaredPlans.{IsPair};
+ghost use Rattle.plan_model.specs.Plans.{side_plan as side_plan_of};
 
 use super::*;
 use link_state::{LinkRefusal, LinkState};
@@ -37,7 +38,10 @@ fn plan(up: bool, strict: bool, queues: u32) -> PairPlan
 
 // The address of so many bytes in the first window of a side's memory, where they lie in it.
 fn address(pair: &Pair, side: Side, offset: u64, len: u64) -> Option<u64>
-    ensures { IfSome result (λ at. at + len ≤ length (bytes_of pair.now side)) }
+    ensures within { IfSome result (λ at. at + len ≤ length (bytes_of pair.now side)) }
+    ensures place { IfSome result (λ at. at ≡ offset) }
+    ensures window { IfSome result (λ at. 0 < (side_plan_of pair.now.plan side).windows) }
+    ensures fits { IfSome result (λ at. offset + len ≤ (side_plan_of pair.now.plan side).cap) }
 {
     let own = side_plan(pair.plan(), side);
     if own.windows == 0 || own.cap < len || own.cap - len < offset {
