@@ -1,0 +1,11 @@
+pub mod BytesSayTheLedger
+pub mod Facade
+pub mod LabelStores
+pub mod OrdinarySteps
+pub mod OwnStores
+pub mod RingStores
+pub mod RingsStand
+pub mod Sites
+pub mod SlotStores
+pub mod StepsReadAlike
+pub mod WhatIsRead

@@ -186,7 +186,7 @@ module _ (plan : Plan) (k : ℕ) (is : IsPair (pair_plan plan k)) where
   good_next reading bytes pair (Spad p side i value) may on todos good = good_posts Own pair side (Pad i value) may.1.among good
   good_next reading bytes pair (Poke p side window offset poked) may on todos good =
       let poke = subst (λ j. IsPoke (pair_plan plan j) side window offset poked) on may.1 in
-      good_raw Own pair side (Raw window offset (length poked)) poked (poke.windows, poke.within) good
+      good_raw Own pair side (Raw window offset (length poked)) poked (poke.raw, poke.windows, poke.within) good
   good_next reading bytes pair step may on todos good = good
 
   good_holds : HoldsOfPair plan k (IsPermitted plan) (Good Own)

@@ -70,7 +70,7 @@ word_fresh sizes plan B q false two here = absurd (false≢true here)
 
 -- Each run
 
-two_entries : (l : Layout) → HasRing l → 2 ≤ entries_of l
+pub two_entries : (l : Layout) → HasRing l → 2 ≤ entries_of l
 two_entries l h =
     let some : 0 < frame_size l = omega (arith, h.header_fits) in
     let half : frame_size l ≤ ring_bytes l / 2 = min-le_right l.mtu (ring_bytes l / 2) in
