@@ -3,3 +3,4 @@ pub mod OwnStores
 pub mod RingStores
 pub mod Sites
 pub mod SlotStores
+pub mod StepStores
