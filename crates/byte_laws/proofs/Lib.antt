@@ -1,3 +1,4 @@
+pub mod Facade
 pub mod LabelStores
 pub mod OwnStores
 pub mod RingStores

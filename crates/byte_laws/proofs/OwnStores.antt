@@ -1,10 +1,9 @@
 -- What a side stores in its own memory, and the index writes that land there: index words, zeroed headers and cleared flags.
-use Rattle.std.proofs.Common.{◌≡◌, ℕ, zero, suc, ◌+◌, ◌-◌, ◌*◌, ◌<◌, ◌≤◌, Bool, true, false, Option, Some, None, List, [], ◌∷◌, ◌++◌, length, map, take, drop, replicate, refl, sym, ap, ◌∙◌, subst, inl, inr, arith, append_assoc}
-use Rattle.std.specs.Prelude.{◌≢◌, ◌⊎◌, ◌^◌, ◌%◌, ◌==◌, if◌then◌else◌, slice_index_or, slice_set}
-use Rattle.std.specs.List.{flat_map}
+use Rattle.std.proofs.Common.{◌≡◌, ℕ, zero, suc, ◌+◌, ◌-◌, ◌<◌, ◌≤◌, Option, Some, None, List, [], ◌∷◌, ◌++◌, map, take, replicate, refl, sym, ap, ◌∙◌, subst, inl, inr, arith, append_assoc}
+use Rattle.std.specs.Prelude.{◌≢◌, ◌⊎◌, ◌%◌, ◌==◌, if◌then◌else◌, slice_index_or}
 use Rattle.std.proofs.Math.Nat.{mod-eq_of_lt, div-le_self}
 use Rattle.std.proofs.lemmas.Bool.{cases_eq, cond-true, cond-false, eq-eqb, ne_eqb}
-use Rattle.std.proofs.lemmas.List.{append-nil, length-map, length-replicate, take-replicate, drop-replicate, get_or-map, get_or-replicate}
+use Rattle.std.proofs.lemmas.List.{append-nil, length-map, length-replicate, take-replicate, drop-replicate, get_or-replicate}
 use Rattle.step_kinds.specs.Sides.{other_side}
 use Rattle.step_kinds.specs.declared.names.Side.{Side}
 use Rattle.step_kinds.specs.declared.plan.PairPlan.{PairPlan}
@@ -12,7 +11,7 @@ use Rattle.step_kinds.specs.declared.steps.Label.{Label}
 use Rattle.step_kinds.specs.declared.steps.Label.TheVariants.{Chunk, Len, Ver, Flag, Down, Bell, Index, Pad, Raw}
 use Rattle.lane_model.specs.Lane.{Slot, blank_slot, zeroed_slot, count_from, with_flags}
 use Rattle.ring_geometry.specs.Geometry.{Layout, HasRing, entries_of, max_payload_of, header_of, index_of, queues_in_window, ring_bytes, frame_size}
-use Rattle.ring_geometry.specs.Spots.{Rings, Spot, Payload, Header, Index as IndexSpot, layout_at, address_of, IsSpot, AreOther, spot_at}
+use Rattle.ring_geometry.specs.Spots.{Rings, Spot, Payload, Header, Index as IndexSpot, layout_at, address_of, AreOther, spot_at}
 use Rattle.plan_model.specs.DeclaredPlans.{Agree, IsPair}
 use Rattle.plan_model.specs.Plans.{side_plan}
 use Rattle.plan_model.specs.Sizes.{header_bytes, layout_of, layout_to}
@@ -21,14 +20,14 @@ use Rattle.byte_model.specs.FreshRings.{fresh_index_word, fresh_index_words, zer
 use Rattle.byte_model.specs.Headers.{word_bytes}
 use Rattle.byte_model.specs.RingWrites.{index_write, store_of_write}
 use Rattle.byte_model.specs.Stores.{Store}
-use Rattle.byte_model.proofs.Facade.{bytes_stored, length-word_bytes, word_stored, number_of, Leaves, Gives, leaves_none, leaves_both, gives_first, gives_later, leaves_each, gives_among, leaves_mapped, gives_mapped}
+use Rattle.byte_model.proofs.Facade.{bytes_stored, length-word_bytes, word_stored, number_of, Leaves, Gives, leaves_both, gives_later, leaves_each, gives_among, leaves_mapped, gives_mapped}
 use Rattle.ledger_model.specs.Labels.{index_of as index_in}
 use Rattle.ledger_model.specs.Ledger.{PairPart}
 use Rattle.ledger_model.specs.Rings.{with_index, without_header}
 use Rattle.memory_model.specs.Memory.{stored}
 use Rattle.memory_model.specs.Targets.{store_of}
 use Rattle.byte_laws.proofs.LabelStores.{rings_in, is_five, size_fits, same_queues, has_ring, slot_among_ring, written_at, own_at, IsFitting, spot_of, FillsSpot, field_inside, label_fills}
-use Rattle.byte_laws.proofs.RingStores.{RingIn, LeavesRing, leaves_nothing, ring_left, ring_set}
+use Rattle.byte_laws.proofs.RingStores.{RingIn, LeavesRing}
 use Rattle.byte_laws.proofs.SlotStores.{at_spot, word_at_spot, Fills, StandsIn, LeavesSlot, other_left, outside_left, flags_stand, zeroed_stands, nothing_stands, flags_at}
 
 -- the entries of a ring are small

@@ -1,11 +1,10 @@
 -- The rings that a log leaves stand in the memories of an ordinary pair.
-use Rattle.std.proofs.Common.{◌≡◌, ℕ, ◌+◌, ◌-◌, ◌*◌, ◌/◌, ◌<◌, ◌≤◌, ◌==◌, Bool, true, false, Option, Some, None, List, [], ◌∷◌, ◌++◌, length, replicate, refl, sym, ap, ◌∙◌, subst, inl, inr, arith}
-use Rattle.std.specs.Prelude.{◌≢◌, ◌%◌, ◌^◌, not, min, if◌then◌else◌, slice_get, slice_index_or}
+use Rattle.std.proofs.Common.{◌≡◌, ℕ, ◌+◌, ◌-◌, ◌*◌, ◌/◌, ◌<◌, ◌≤◌, Bool, true, false, Option, Some, None, List, [], ◌∷◌, ◌++◌, length, replicate, refl, sym, ap, ◌∙◌, subst, inl, inr, arith}
+use Rattle.std.specs.Prelude.{◌≢◌, ◌%◌, ◌^◌, min, if◌then◌else◌, slice_get, slice_index_or}
 use Rattle.std.specs.List.{AllByRecursion}
 use Rattle.std.proofs.Math.Nat.{mod-eq_of_lt, div-le_self, le-div_iff_mul-le}
 use Rattle.std.proofs.lemmas.Bool.{cases_eq, cases_lt}
 use Rattle.std.proofs.lemmas.List.{append-nil}
-use Rattle.order_rules.specs.Order.{may_land}
 use Rattle.step_kinds.specs.Sides.{other_side}
 use Rattle.step_kinds.specs.Subject.{subject_of}
 use Rattle.step_kinds.specs.declared.names.LaneName.{LaneName}
@@ -25,16 +24,16 @@ use Rattle.lane_model.specs.Law.{slot_among}
 use Rattle.ring_geometry.specs.Geometry.{Layout, entries_of, max_payload_of, slot_of, header_of, index_of}
 use Rattle.ring_geometry.specs.Spots.{Payload, Header, Index as IndexSpot, layout_at, address_of, spot_at}
 use Rattle.plan_model.specs.Both.{Both, at_side}
-use Rattle.plan_model.specs.DeclaredPlans.{Agree, IsDeclared, IsPair, IsPairOf, IsPermitted}
+use Rattle.plan_model.specs.DeclaredPlans.{Agree, IsDeclared, IsPair, IsPermitted}
 use Rattle.plan_model.specs.Plans.{pair_plan, side_plan}
-use Rattle.plan_model.specs.Sizes.{Sizes, agreed_version, layout_of, layout_to, pieces_in, sizes_of}
-use Rattle.byte_model.specs.Addresses.{own_slot, own_header, own_index_word}
+use Rattle.plan_model.specs.Sizes.{layout_of, layout_to, pieces_in, sizes_of}
+use Rattle.byte_model.specs.Addresses.{own_slot, own_header}
 use Rattle.byte_model.specs.FreshRings.{fresh_index_words}
-use Rattle.byte_model.specs.Headers.{Bytes, header_with}
+use Rattle.byte_model.specs.Headers.{Bytes}
 use Rattle.byte_model.specs.Stores.{Store, bytes_in}
 use Rattle.byte_model.proofs.Facade.{number_of}
 use Rattle.ledger_model.specs.Ledger.{PairPart, side_of, lane_of}
-use Rattle.ledger_model.specs.Log.{answered, log_of, ledger_of}
+use Rattle.ledger_model.specs.Log.{log_of, ledger_of}
 use Rattle.ledger_model.specs.Next.{outcome_in, read_next}
 use Rattle.ledger_model.specs.Outcome.{Outcome, decided, refuse_if}
 use Rattle.ledger_model.specs.Reading.{Reading, reading_of}
@@ -43,7 +42,7 @@ use Rattle.ledger_model.specs.Rings.{RingPart, fresh_ring, ring_next, ring_of}
 use Rattle.ledger_laws.specs.States.{IsOfLane, IsPostable}
 use Rattle.ledger_laws.proofs.Facade.{IsOfFrame, all_get, entries_are_of_frames, entries_fit_the_ring, labels_are_of_entries, labels_are_postable}
 use Rattle.memory_model.specs.Memory.{Site, bytes_of_site, fresh_site, memory_of, site_next, site_of, stores_by}
-use Rattle.byte_laws.specs.Rings.{IsOrdinaryLane, RingStandsAt, RingsStandInMemory, StandsAt, header_of_slot}
+use Rattle.byte_laws.specs.Rings.{IsOrdinaryLane, RingsStandInMemory, StandsAt, header_of_slot}
 use Rattle.byte_laws.proofs.LabelStores.{rings_in, is_five, same_queues, same_layout, own_at, entry_on, IsFitting}
 use Rattle.byte_laws.proofs.OwnStores.{words_leave, fresh_stands, fresh_word}
 use Rattle.byte_laws.proofs.RingStores.{RingIn, ring_left}

@@ -1,5 +1,5 @@
 -- Each step on a pair leaves a lane's ring and index word in the memories as the log has them.
-use Rattle.std.proofs.Common.{◌≡◌, ℕ, ◌+◌, ◌-◌, ◌<◌, ◌==◌, Bool, true, false, ◌&&◌, Option, Some, None, List, [], ◌∷◌, ◌++◌, map, refl, sym, ap, ◌∙◌, subst, inl, inr, arith}
+use Rattle.std.proofs.Common.{◌≡◌, ℕ, ◌-◌, ◌<◌, ◌==◌, Bool, true, false, ◌&&◌, List, [], ◌∷◌, ◌++◌, map, refl, sym, ap, ◌∙◌, subst, inl, inr}
 use Rattle.std.specs.Prelude.{◌≢◌, ◌%◌, if◌then◌else◌, slice_index_or, slice_set}
 use Rattle.std.proofs.lemmas.Bool.{cases_eq, cond-true, cond-false, eq-eqb, ne_eqb}
 use Rattle.step_kinds.specs.Sides.{other_side}
@@ -15,7 +15,7 @@ use Rattle.step_kinds.specs.declared.steps.Step.{Step}
 use Rattle.step_kinds.specs.declared.steps.Step.TheVariants.{Land, Check, Clear}
 use Rattle.lane_model.specs.Lane.{Slot, blank_slot, with_flags}
 use Rattle.ring_geometry.specs.Geometry.{Layout, entries_of}
-use Rattle.ring_geometry.specs.Spots.{Rings, Index as IndexSpot, layout_at}
+use Rattle.ring_geometry.specs.Spots.{Index as IndexSpot, layout_at}
 use Rattle.plan_model.specs.DeclaredPlans.{Agree, IsPair}
 use Rattle.plan_model.specs.Plans.{side_plan}
 use Rattle.plan_model.specs.Sizes.{Sizes, layout_of, sizes_of}
@@ -23,7 +23,7 @@ use Rattle.byte_model.specs.FreshRings.{zeroed_flags}
 use Rattle.byte_model.specs.Stores.{Store}
 use Rattle.ledger_model.specs.Labels.{write_of, index_of}
 use Rattle.ledger_model.specs.Ledger.{LanePart, PairPart, side_of, lane_of}
-use Rattle.ledger_model.specs.Log.{Answered, same_side}
+use Rattle.ledger_model.specs.Log.{same_side}
 use Rattle.ledger_model.specs.Receiving.{raws_before}
 use Rattle.ledger_model.specs.Rings.{RingPart, ring_next, with_write, with_index, without_header}
 use Rattle.memory_model.specs.Memory.{stored, stores_by}

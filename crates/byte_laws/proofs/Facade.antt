@@ -1,0 +1,3 @@
+-- What crates above may cite of the proofs of this crate: the laws, one name for each.
+pub use Rattle.byte_laws.proofs.RingsInMemory.{rings_stand_in_memory}
+pub use Rattle.byte_laws.proofs.Sites.{sites_are_the_ledger}
