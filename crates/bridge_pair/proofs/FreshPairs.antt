@@ -1,18 +1,16 @@
 -- Fresh pairs.
-use Rattle.std.proofs.Common.{◌≡◌, ℕ, ◌<◌, ◌≤◌, ◌^◌, ◌⊎◌, Bool, true, false, List, [], Contains, length, replicate, refl, sym, ap, ◌∙◌, subst, arith, ⊎_elim, if◌then◌else◌}
+use Rattle.std.proofs.Common.{◌≡◌, ℕ, ◌<◌, ◌^◌, Bool, true, false, List, [], Contains, replicate, sym, ap, ◌∙◌, subst, arith, ⊎_elim, if◌then◌else◌}
 use Rattle.std.proofs.lemmas.Nat.{pow_pos}
 use Rattle.byte_model.specs.Stores.{Store}
 use Rattle.host_memory.specs.Memory.{Contents}
-use Rattle.plan_model.specs.Both.{Both}
 use Rattle.byte_model.specs.FreshRings.{fresh_index_words}
-use Rattle.plan_model.specs.DeclaredPlans.{IsPair}
 use Rattle.plan_model.specs.Plans.{side_plan}
 use Rattle.step_kinds.specs.declared.names.Side.{Side}
 use Rattle.step_kinds.specs.declared.names.Side.TheVariants.{A, B}
 use Rattle.step_kinds.specs.declared.plan.PairPlan.{PairPlan}
 use Rattle.bridge_pair.specs.Bridge.{Bridge, IsBook, bytes_of, pages_of, memory_size, with_memory, with_pages, with_bytes}
 use Rattle.bridge_pair.specs.Ends.{bytes_after}
-use Rattle.bridge_pair.specs.Fresh.{fresh_book, fresh_stores, fresh_memory, fresh_bridge, fresh_bridge_with, started_memory, whole_book, zero_memory}
+use Rattle.bridge_pair.specs.Fresh.{fresh_book, fresh_stores, fresh_bridge, fresh_bridge_with, started_memory, whole_book, zero_memory}
 use Rattle.bridge_pair.specs.Links.{no_book}
 use Rattle.bridge_pair.specs.Pages.{PagesGrow}
 use Rattle.bridge_pair.specs.Words.{AreFreshPages, AreIndexWordsPromised, TouchesIndexWord}

@@ -1,5 +1,5 @@
 -- Index words: their pages are promised one after the other, and they are stored from the last one on.
-use Rattle.std.proofs.Common.{◌≡◌, ℕ, ◌+◌, ◌-◌, ◌<◌, suc, List, map, refl, sym, ap, ◌∙◌, subst}
+use Rattle.std.proofs.Common.{◌≡◌, ℕ, ◌+◌, ◌-◌, ◌<◌, suc, List, map, ap, ◌∙◌, subst}
 use Rattle.byte_model.specs.Addresses.{own_index_word}
 use Rattle.byte_model.specs.Headers.{word_bytes}
 use Rattle.host_memory.specs.Memory.{ArePromised, Touches, written}

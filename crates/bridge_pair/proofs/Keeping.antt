@@ -9,15 +9,12 @@ use Rattle.posted_queue.specs.declared.LandAnswer.TheVariants.{Landed, Blocked, 
 use Rattle.step_kinds.specs.Sides.{other_side}
 use Rattle.step_kinds.specs.declared.names.Side.{Side}
 use Rattle.step_kinds.specs.declared.names.Side.TheVariants.{A, B}
-use Rattle.bridge_regs.specs.Doorbell.{Doorbell}
-use Rattle.bridge_pair.specs.Bridge.{Bridge, pages_of, flight_of, with_bells, with_book, with_bytes, with_flight}
-use Rattle.bridge_pair.specs.Calls.{after_land, after_landed, after_post, arrived, landing}
+use Rattle.bridge_pair.specs.Bridge.{Bridge, pages_of, flight_of, with_bytes, with_flight}
+use Rattle.bridge_pair.specs.Calls.{after_land, after_landed, arrived, landing}
 use Rattle.bridge_pair.specs.Ends.{after_posting}
 use Rattle.bridge_pair.specs.Flights.{Flying, flying_order, flying_of}
-use Rattle.bridge_pair.specs.Laws.{KeepsPromises, UsesOnePromise, PostingUsesOnePromise, LandingKeepsPromises, LinkStepsKeepPromises, OwnWritesKeepPromises}
-use Rattle.bridge_pair.specs.Links.{after_clean, after_cut, after_drop, after_enable, after_train, after_step, dropped}
-use Rattle.bridge_pair.specs.Writes.{PostedWrite}
-use Rattle.bridge_pair.specs.declared.book.SideBook.{SideBook}
+use Rattle.bridge_pair.specs.Laws.{KeepsPromises, PostingUsesOnePromise, LandingKeepsPromises, LinkStepsKeepPromises, OwnWritesKeepPromises}
+use Rattle.bridge_pair.specs.Links.{after_step, dropped}
 use Rattle.bridge_pair.specs.declared.flying.Arrival.{Arrival}
 use Rattle.bridge_pair.specs.declared.flying.Arrival.TheVariants.{AtAddress, AtPad, AtBell}
 

@@ -1,5 +1,5 @@
 -- Where writes in flight arrive, and that they still have their place as memories change.
-use Rattle.std.proofs.Common.{◌≡◌, ℕ, ◌+◌, ◌*◌, ◌<◌, ◌≤◌, Bool, true, false, List, Option, Some, None, length, min, take, drop, suc, get_or, slice_get, if◌then◌else◌, refl, sym, ap, subst, All, Contains, arith}
+use Rattle.std.proofs.Common.{◌≡◌, ℕ, ◌+◌, ◌*◌, ◌<◌, ◌≤◌, Bool, true, false, List, Option, Some, None, length, take, drop, suc, if◌then◌else◌, subst, All, Contains, arith}
 use Rattle.std.specs.List.{remove}
 use Rattle.std.proofs.Math.Nat.{mul-le-mul_right, suc-mul}
 use Rattle.std.proofs.lemmas.List.Elements.{All-append, All-drop, All-get_or, All-take, All-weaker}
@@ -8,15 +8,15 @@ use Rattle.host_memory.specs.Memory.{Contents}
 use Rattle.order_rules.specs.Order.{Order}
 use Rattle.plan_model.specs.Plans.{side_plan}
 use Rattle.posted_queue.specs.Flight.{Flight}
-use Rattle.posted_queue.specs.Landing.{answer_for, land_answer, after_landing}
-use Rattle.posted_queue.specs.declared.LandAnswer.TheVariants.{Landed, Blocked, Nothing}
+use Rattle.posted_queue.specs.Landing.{answer_for, land_answer}
+use Rattle.posted_queue.specs.declared.LandAnswer.TheVariants.{Landed}
 use Rattle.step_kinds.specs.Sides.{other_side}
 use Rattle.step_kinds.specs.declared.names.Side.{Side}
 use Rattle.step_kinds.specs.declared.plan.PairPlan.{PairPlan}
 use Rattle.bridge_pair.specs.Bridge.{memory_size}
 use Rattle.bridge_pair.specs.Calls.{HasPages}
 use Rattle.bridge_pair.specs.Ends.{HasPlace}
-use Rattle.bridge_pair.specs.Flights.{Flying, flying_order, Translates, arrival_of}
+use Rattle.bridge_pair.specs.Flights.{Flying, Translates, arrival_of}
 use Rattle.bridge_pair.specs.Writes.{IsTarget}
 use Rattle.bridge_pair.specs.declared.flying.Arrival.{Arrival}
 use Rattle.bridge_pair.specs.declared.flying.Arrival.TheVariants.{AtAddress, AtPad, AtBell}

@@ -1,5 +1,5 @@
 -- Pages that are promised in turn.
-use Rattle.std.proofs.Common.{◌≡◌, ℕ, ◌⊎◌, inl, inr, List, Contains, ⊎_elim}
+use Rattle.std.proofs.Common.{ℕ, inl, inr, List, ⊎_elim}
 use Rattle.host_memory.specs.Memory.{ArePromised}
 use Rattle.bridge_pair.specs.Pages.{PagesGrow}
 

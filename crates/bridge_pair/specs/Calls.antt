@@ -1,5 +1,5 @@
 -- What posting and landing do to a bridge.
-use Rattle.std.specs.Prelude.{ℕ, ◌+◌, ◌≤◌, List, length, slice_set}
+use Rattle.std.specs.Prelude.{ℕ, List, length, slice_set}
 use Rattle.step_kinds.specs.Bits.{with_bit}
 use Rattle.step_kinds.specs.Sides.{other_side}
 use Rattle.step_kinds.specs.declared.names.Side.{Side}
@@ -8,10 +8,10 @@ use Rattle.host_memory.specs.Memory.{ArePromised, written}
 use Rattle.plan_model.specs.Link.{is_up}
 use Rattle.posted_queue.specs.Landing.{land_answer, after_landing}
 use Rattle.posted_queue.specs.declared.LandAnswer.{LandAnswer}
-use Rattle.posted_queue.specs.declared.LandAnswer.TheVariants.{Landed, Blocked, Nothing}
-use Rattle.bridge_pair.specs.Bridge.{Bridge, pads_of, bells_of, bytes_of, pages_of, flight_of, with_pads, with_bells, with_bytes, with_flight}
+use Rattle.posted_queue.specs.declared.LandAnswer.TheVariants.{Landed}
+use Rattle.bridge_pair.specs.Bridge.{Bridge, pads_of, bells_of, bytes_of, flight_of, with_pads, with_bells, with_bytes, with_flight}
 use Rattle.bridge_pair.specs.Ends.{after_posting}
-use Rattle.bridge_pair.specs.Flights.{Flying, flying_order, flying_of, arrival_of}
+use Rattle.bridge_pair.specs.Flights.{Flying, flying_order, flying_of}
 use Rattle.bridge_pair.specs.Writes.{PostedWrite}
 use Rattle.bridge_pair.specs.declared.flying.Arrival.{Arrival}
 use Rattle.bridge_pair.specs.declared.flying.Arrival.TheVariants.{AtAddress, AtPad, AtBell}

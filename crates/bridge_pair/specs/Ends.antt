@@ -7,10 +7,9 @@ use Rattle.bridge_regs.specs.Laws.{FitsRegisters}
 use Rattle.byte_model.specs.Stores.{Store}
 use Rattle.host_memory.specs.Memory.{Contents, ArePromised, written}
 use Rattle.posted_queue.specs.Flight.{Flight, nothing_in_flight, posted, given_back}
-use Rattle.posted_queue.specs.Landing.{land_answer, after_landing}
 use Rattle.posted_queue.specs.declared.LandAnswer.{LandAnswer}
 use Rattle.posted_queue.specs.declared.LandAnswer.TheVariants.{Landed, Blocked, Nothing}
-use Rattle.bridge_pair.specs.Flights.{Flying, flying_order}
+use Rattle.bridge_pair.specs.Flights.{Flying}
 use Rattle.bridge_pair.specs.declared.flying.Arrival.{Arrival}
 use Rattle.bridge_pair.specs.declared.flying.Arrival.TheVariants.{AtAddress, AtPad, AtBell}
 

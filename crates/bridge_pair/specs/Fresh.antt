@@ -1,5 +1,5 @@
 -- A pair before any step: down and forgotten, or, where its plan says so, up as after a whole handshake.
-use Rattle.std.specs.Prelude.{ℕ, true, List, [], length, replicate, Bool, if◌then◌else◌}
+use Rattle.std.specs.Prelude.{ℕ, true, List, [], replicate, if◌then◌else◌}
 use Rattle.step_kinds.specs.Bits.{all_below}
 use Rattle.step_kinds.specs.Sides.{other_side}
 use Rattle.step_kinds.specs.declared.names.Side.{Side}

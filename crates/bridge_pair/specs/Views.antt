@@ -1,6 +1,5 @@
 -- What contracts see of this crate's types.
-use Rattle.std.specs.Prelude.{◌≡◌, ℕ, ◌<◌, ◌≤◌, List, length, take}
-use Rattle.step_kinds.specs.declared.names.Side.{Side}
+use Rattle.std.specs.Prelude.{◌≡◌, length}
 use Rattle.step_kinds.specs.declared.names.Side.TheVariants.{A, B}
 use Rattle.plan_model.specs.DeclaredPlans.{IsPair}
 use Rattle.bridge_pair.specs.Bridge.{Bridge, IsBook, memory_size}

@@ -1,8 +1,12 @@
+pub mod BytesSayTheLedger
 pub mod Facade
 pub mod LabelStores
+pub mod OrdinarySteps
 pub mod OwnStores
 pub mod RingStores
-pub mod RingsInMemory
+pub mod RingsStand
 pub mod Sites
 pub mod SlotStores
 pub mod StepStores
+pub mod StepsReadAlike
+pub mod WhatIsRead

@@ -1,12 +1,10 @@
-//! The laws that tie memories to the ledger, each the clause of a function with an empty body. What memories show is
+//! The laws that tie memories and ledger, each the clause of a function with an empty body. What memories show is
 //! `memory_of` of `memory_model`: each byte is the last one stored there, else 0.
 
-ghost use Rattle.byte_laws.specs.Readings.{SitesAreTheLedger};
+ghost use Rattle.byte_laws.specs.Readings.{BytesSayTheLedger, SitesAreTheLedger};
 ghost use Rattle.byte_laws.specs.Rings.{RingsStandInMemory};
 
-/// The fold that keeps what was stored in the memories of a pair shows the same pair as the ledger does, where memories
-/// show what was stored. No premise: it holds of raw pairs, of pairs that aren't declared, and of steps that a plan
-/// doesn't permit.
+/// The pair of a site, that is, of a pair with its memories, is the ledger's after the same steps. No premise.
 pub fn sites_are_the_ledger()
     ensures { SitesAreTheLedger }
 {}
@@ -17,4 +15,10 @@ pub fn sites_are_the_ledger()
 /// `raw`, the numbers of its two sides agree, and the queue is one of theirs.
 pub fn rings_stand_in_memory()
     ensures { RingsStandInMemory }
+{}
+
+/// On an ordinary pair of a declared plan, after any steps that the plan permits, the next permitted step has the same
+/// outcome where it reads the bytes in memory as where it reads the ledger.
+pub fn bytes_say_the_ledger()
+    ensures { BytesSayTheLedger }
 {}

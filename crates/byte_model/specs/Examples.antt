@@ -1,11 +1,15 @@
 -- Worked examples of addresses, headers, index words and stores.
-use Rattle.std.specs.Prelude.{◌≡◌, ℕ, List, [], ◌∷◌, ◌++◌, true, false}
+use Rattle.std.specs.Prelude.{◌≡◌, ℕ, List, [], ◌∷◌, ◌++◌, true, false, replicate, Some, option_map}
 use Rattle.step_kinds.specs.declared.names.Side.TheVariants.{A, B}
 use Rattle.step_kinds.specs.declared.plan.PairPlan.{PairPlan}
 use Rattle.plan_model.specs.Examples.{small_side, small_pair, pieces_pair, two_queues}
 use Rattle.plan_model.specs.Sizes.{sizes_of}
 use Rattle.byte_model.specs.Addresses.{own_slot, own_header, own_index_word, peer_address, peer_slot, peer_header, peer_index_word}
 use Rattle.byte_model.specs.Headers.{Header, Found, NoEntry, ALinkDownEntry, AnotherVersion, TooManyBytes, AnEntry, found_with, header_with, version_bytes, len_offset, flags_offset, free_in_memory}
+use Rattle.step_kinds.specs.declared.steps.Label.TheVariants.{Chunk, Len, Ver, Flag, Down}
+use Rattle.lane_model.specs.Lane.{Carries, GoesDown}
+use Rattle.byte_model.specs.FreshRings.{fresh_index_word, zeroed_header, zeroed_flags}
+use Rattle.byte_model.specs.RingWrites.{entry_write, index_write, store_of_write}
 use Rattle.byte_model.specs.Stores.{Store, store_at, byte_in, bytes_in}
 
 -- the slots of a ring of four, their headers, and the index word at the end of the other side's area
@@ -63,6 +67,30 @@ LastStored =
     (byte_in (store_at 2 (7 ∷ 8 ∷ []) ∷ store_at 3 (9 ∷ 9 ∷ []) ∷ []) 3 ≡ 8)
     × (bytes_in (store_at 2 (7 ∷ 8 ∷ []) ∷ store_at 3 (9 ∷ 9 ∷ []) ∷ []) 1 5 ≡ 0 ∷ 7 ∷ 8 ∷ 9 ∷ 0 ∷ [])
 
+-- what the writes of an entry store at the peer: the second chunk 128 bytes behind the first, flags of a frame and of a link-down
+-- entry; and an index write, which names the slot of entry 5
+abbrev pub WritesOfAnEntry : Type 0
+WritesOfAnEntry =
+    (option_map (store_of_write small_pair A) (entry_write small_pair A (Carries (replicate 130 7) 0) (Chunk 0 1 1)) ≡ Some (store_at 1151 (7 ∷ 7 ∷ [])))
+    × (option_map (store_of_write small_pair A) (entry_write small_pair A (Carries (replicate 130 7) 0) (Len 0 1)) ≡ Some (store_at 2038 (130 ∷ 0 ∷ 0 ∷ 0 ∷ [])))
+    × (option_map (store_of_write small_pair A) (entry_write small_pair A (Carries (replicate 130 7) 0) (Ver 0 1)) ≡ Some (store_at 2034 (1 ∷ 0 ∷ 0 ∷ 0 ∷ [])))
+    × (option_map (store_of_write small_pair A) (entry_write small_pair A (Carries (replicate 130 7) 0) (Flag 0 1)) ≡ Some (store_at 2042 (1 ∷ 0 ∷ 0 ∷ 0 ∷ [])))
+    × (option_map (store_of_write small_pair A) (entry_write small_pair A GoesDown (Down 0 1)) ≡ Some (store_at 2042 (3 ∷ 0 ∷ 0 ∷ 0 ∷ [])))
+    × (store_of_write small_pair B (index_write small_pair B 0 5) ≡ store_at 4092 (1 ∷ 0 ∷ 0 ∷ 0 ∷ []))
+
+-- of a piece of version 5: left and version together, then the length and the flags
+abbrev pub WritesOfAPiece : Type 0
+WritesOfAPiece =
+    (option_map (store_of_write pieces_pair A) (entry_write pieces_pair A (Carries (7 ∷ []) 2) (Ver 0 1)) ≡ Some (store_at 2030 (2 ∷ 0 ∷ 0 ∷ 0 ∷ 1 ∷ 0 ∷ 0 ∷ 0 ∷ [])))
+    × (option_map (store_of_write pieces_pair A) (entry_write pieces_pair A (Carries (7 ∷ []) 2) (Len 0 1)) ≡ Some (store_at 2038 (1 ∷ 0 ∷ 0 ∷ 0 ∷ [])))
+    × (option_map (store_of_write pieces_pair A) (entry_write pieces_pair A (Carries (7 ∷ []) 2) (Flag 0 1)) ≡ Some (store_at 2042 (1 ∷ 0 ∷ 0 ∷ 0 ∷ [])))
+
+-- a ring in which nothing stands: the index word is the last slot, headers are zero; and a clear zeroes the flags alone
+abbrev pub FreshRing : Type 0
+FreshRing =
+    (fresh_index_word small_pair A 0 ≡ store_at 4092 (3 ∷ 0 ∷ 0 ∷ 0 ∷ [])) × (zeroed_header small_pair B 0 1 ≡ store_at 2034 (replicate 12 0))
+    × (zeroed_flags small_pair B 0 1 ≡ store_at 2042 (0 ∷ 0 ∷ 0 ∷ 0 ∷ [])) × (zeroed_flags pieces_pair B 0 1 ≡ store_at 2042 (0 ∷ 0 ∷ 0 ∷ 0 ∷ []))
+
 pub record ExamplesHold : Type 0 where
   pub one_queue : OneQueue
   pub second_queue : SecondQueue
@@ -72,3 +100,6 @@ pub record ExamplesHold : Type 0 where
   pub what_is_found : WhatIsFound
   pub free_entries : FreeEntries
   pub last_stored : LastStored
+  pub writes_of_an_entry : WritesOfAnEntry
+  pub writes_of_a_piece : WritesOfAPiece
+  pub fresh_ring : FreshRing

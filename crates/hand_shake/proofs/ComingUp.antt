@@ -1,5 +1,5 @@
 -- A side that comes up.
-use Rattle.std.proofs.Common.{◌≡◌, ℕ, ◌⊎◌, inl, inr, true, List, ◌++◌, ap, ◌∙◌, sym, subst}
+use Rattle.std.proofs.Common.{◌≡◌, ℕ, inl, inr, true, List, ap, ◌∙◌, sym, subst}
 use Rattle.byte_model.specs.FreshRings.{fresh_index_words, zeroed_headers}
 use Rattle.step_kinds.specs.declared.names.Side.{Side}
 use Rattle.step_kinds.specs.declared.names.Side.TheVariants.{A, B}

@@ -1,4 +1,4 @@
-ghost use Rattle.std.specs.Prelude.{◌≡◌, ◌+◌, ◌≤◌, IfOk, IfSome, length};
+ghost use Rattle.std.specs.Prelude.{◌≡◌, ◌+◌, ◌≤◌, IfSome, length};
 ghost use Rattle.bridge_pair.specs.Bridge.{bytes_of};
 ghost use Rattle.plan_model.specs.DeclaredPlans.{IsPair, IsSide};
 ghost use Rattle.step_kinds.specs.Limits.{IsQueues, IsWindows};
@@ -6,6 +6,7 @@ ghost use Rattle.step_kinds.specs.Limits.{IsQueues, IsWindows};
 use super::*;
 use bridge_pair::{Pair, Write, own_address, side_plan};
 use std::alloc::{AllocError, Global};
+use std::process::Abort;
 use std::test::Fail;
 use step_kinds::{Name, PairPlan, Side, SidePlan};
 
@@ -48,18 +49,6 @@ fn plan_with(b: SidePlan) -> PairPlan
     }
 }
 
-// Trains the link, and lands all that B offers.
-fn hear(pair: &mut Pair) -> Result<(), Fail> {
-    pair.enable(Side::A)?;
-    pair.enable(Side::B)?;
-    pair.train()?;
-    for _ in 0..11 {
-        offer(pair, Side::B)?;
-        pair.land(Side::B, 0);
-    }
-    Ok(())
-}
-
 // A side's check, where the peer's windows fit.
 fn check_at(pair: &mut Pair, side: Side) -> Result<Option<CheckAnswer>, AllocError> {
     let most = side_plan(pair.plan(), side).cap;
@@ -67,16 +56,6 @@ fn check_at(pair: &mut Pair, side: Side) -> Result<Option<CheckAnswer>, AllocErr
         return Ok(None);
     }
     Ok(Some(check(pair, side)?))
-}
-
-// What A answers to the offer of a side.
-fn heard(alloc: Global, b: SidePlan) -> Result<Option<CheckAnswer>, Fail>
-    requires side { IsSide b }
-    requires size { b.size ≡ 4096 }
-{
-    let mut pair = Pair::new(alloc, &plan_with(b))?;
-    hear(&mut pair)?;
-    Ok(check_at(&mut pair, Side::A)?)
 }
 
 // The address of four bytes in a side's first window.
@@ -120,73 +99,147 @@ fn join_at(pair: &mut Pair, side: Side) -> Option<JoinAnswer> {
     Some(join(pair, side, 0))
 }
 
+// What is done to a pair: offers come from B, and are checked at A.
+#[derive(Drop)]
+enum Call {
+    Train,
+    Offer,
+    Land,
+    Check,
+    Ready,
+    Join,
+    Told(u32, u32),
+    PutWord(u64),
+    Word(u64),
+    PadAt(Side, u32),
+    LandReady,
+}
+
+// B posts a scratchpad by hand, and it lands.
+fn tell(pair: &mut Pair, index: u32, value: u32) -> Result<(), AllocError> {
+    pair.promise(Side::B, 1)?;
+    pair.post(Side::B, Write::pad(index % 16, value));
+    pair.land(Side::B, 0);
+    Ok(())
+}
+
+fn train(pair: &mut Pair) -> bool {
+    pair.enable(Side::A).is_ok() && pair.enable(Side::B).is_ok() && pair.train().is_ok()
+}
+
+fn shake(alloc: Global, pair: &mut Pair, call: &Call) -> Result<String, AllocError> {
+    match call {
+        Call::Offer => format!(in alloc; "{:?}", offer(pair, Side::B)?),
+        Call::Check => format!(in alloc; "{:?}", check_at(pair, Side::A)?),
+        Call::Ready => format!(in alloc; "{:?}", ready_at(pair, Side::A)?),
+        Call::Join => format!(in alloc; "{:?}", join_at(pair, Side::A)),
+        Call::Word(offset) => format!(in alloc; "{}", word(pair, Side::A, *offset)),
+        Call::PadAt(side, index) => format!(in alloc; "{}", pair.pad(*side, *index % 16)),
+        _ => Ok(String::new(alloc)),
+    }
+}
+
+// Makes a call, and answers what it answered, or nothing.
+fn make(alloc: Global, pair: &mut Pair, call: &Call) -> Result<String, AllocError> {
+    match call {
+        Call::Train => {
+            train(pair);
+        }
+        Call::Land => {
+            pair.land(Side::B, 0);
+        }
+        Call::LandReady => {
+            pair.land(Side::A, 0);
+        }
+        Call::Told(index, value) => tell(pair, *index, *value)?,
+        Call::PutWord(offset) => set_word(pair, Side::A, *offset, 1)?,
+        _ => return shake(alloc, pair, call),
+    }
+    Ok(String::new(alloc))
+}
+
+// Makes these calls one after another on a new pair with this side B, each of which is to answer what stands beside it.
+fn follow(rt: &impl Abort, alloc: Global, b: SidePlan, calls: &[(Call, &str)]) -> Result<(), Fail>
+    requires side { IsSide b }
+    requires size { b.size ≡ 4096 }
+{
+    let mut pair = Pair::new(alloc, &plan_with(b))?;
+    for (call, want) in calls {
+        let answer = make(alloc, &mut pair, call)?;
+        assert_eq!(rt; answer.as_str(), *want);
+    }
+    Ok(())
+}
+
 #[test]
 fn an_offer_ends_with_the_version(rt: HostRuntime) -> Result<(), Fail> {
-    let mut pair = Pair::new(rt.alloc(), &plan_with(side_with(4, 1, 1)))?;
-    assert_eq!(rt; offer(&mut pair, Side::B)?, OfferAnswer::LinkDown);
-    pair.enable(Side::A)?;
-    pair.enable(Side::B)?;
-    pair.train()?;
-    for (index, value) in [(4, 0), (5, 4096), (3, 1), (2, 1), (0, 4)] {
-        assert_eq!(rt; check_at(&mut pair, Side::A)?, Some(CheckAnswer::NotYet));
-        assert_eq!(rt; offer(&mut pair, Side::B)?, OfferAnswer::Offered { index });
-        pair.land(Side::B, 0);
-        assert_eq!(rt; pair.pad(Side::A, index), value);
-    }
-    assert_eq!(rt; offer(&mut pair, Side::B)?, OfferAnswer::Already);
-    Ok(())
+    let calls = [
+        (Call::Offer, "LinkDown"),
+        (Call::Train, ""),
+        (Call::Offer, "Offered { index: 4 }"),
+        (Call::Offer, "Offered { index: 5 }"),
+        (Call::Offer, "Offered { index: 3 }"),
+        (Call::Offer, "Offered { index: 2 }"),
+        (Call::Land, ""),
+        (Call::Land, ""),
+        (Call::Land, ""),
+        (Call::Land, ""),
+        (Call::PadAt(Side::A, 5), "4096"),
+        (Call::Check, "Some(NotYet)"),
+        (Call::Offer, "Offered { index: 0 }"),
+        (Call::Check, "Some(NotYet)"),
+        (Call::Land, ""),
+        (Call::PadAt(Side::A, 0), "4"),
+        (Call::Offer, "Already"),
+    ];
+    follow(&rt, rt.alloc(), side_with(4, 1, 1), &calls)
 }
 
+// The scratchpads as the peer might have written them.
 #[test]
 fn what_differs_is_said(rt: HostRuntime) -> Result<(), Fail> {
-    let version = heard(rt.alloc(), side_with(3, 2, 2))?;
-    assert_eq!(rt; version, Some(CheckAnswer::Version { seen: 3, own: 4 }));
-    let queues = heard(rt.alloc(), side_with(4, 2, 2))?;
-    assert_eq!(rt; queues, Some(CheckAnswer::Queues { seen: 2, own: 1 }));
-    let windows = heard(rt.alloc(), side_with(4, 1, 2))?;
-    assert_eq!(rt; windows, Some(CheckAnswer::Windows { seen: 2, own: 1 }));
-    let later = heard(rt.alloc(), side_with(5, 1, 1))?;
-    assert_eq!(rt; later, Some(CheckAnswer::Up));
-    Ok(())
+    let calls = [
+        (Call::Train, ""),
+        (Call::Told(0, 3), ""),
+        (Call::Check, "Some(Version { seen: 3, own: 4 })"),
+        (Call::Told(0, 5), ""),
+        (Call::Check, "Some(Queues { seen: 0, own: 1 })"),
+        (Call::Told(2, 1), ""),
+        (Call::Told(3, 2), ""),
+        (Call::Check, "Some(Windows { seen: 2, own: 1 })"),
+        (Call::Told(3, 1), ""),
+        (Call::Told(5, 8192), ""),
+        (Call::Check, "Some(Size { seen: 8192, cap: 4096 })"),
+        (Call::Told(5, 4096), ""),
+        (Call::Check, "Some(Up)"),
+    ];
+    follow(&rt, rt.alloc(), side_with(5, 1, 1), &calls)
 }
 
-#[test]
-fn a_larger_window_is_said(rt: HostRuntime) -> Result<(), Fail> {
-    let mut pair = Pair::new(rt.alloc(), &plan_with(side_with(4, 1, 1)))?;
-    hear(&mut pair)?;
-    pair.promise(Side::B, 1)?;
-    pair.post(Side::B, Write::pad(5, 8192));
-    pair.land(Side::B, 0);
-    let size = CheckAnswer::Size {
-        seen: 8192,
-        cap: 4096,
-    };
-    assert_eq!(rt; check_at(&mut pair, Side::A)?, Some(size));
-    Ok(())
-}
-
-// Side A comes up, over flags that an entry left.
+// Side A comes up over flags that an entry left.
 #[test]
 fn a_queue_is_joined(rt: HostRuntime) -> Result<(), Fail> {
-    let mut pair = Pair::new(rt.alloc(), &plan_with(side_with(4, 1, 1)))?;
-    hear(&mut pair)?;
-    set_word(&mut pair, Side::A, 1019, 1)?;
-    assert_eq!(rt; ready_at(&mut pair, Side::A)?, Some(ReadyAnswer::NotChecked));
-    assert_eq!(rt; check_at(&mut pair, Side::A)?, Some(CheckAnswer::Up));
-    assert_eq!(rt; check_at(&mut pair, Side::A)?, Some(CheckAnswer::Already));
-    assert_eq!(rt; word(&pair, Side::A, 1019), 0);
-    assert_eq!(rt; word(&pair, Side::A, 4092), 3);
-    assert_eq!(rt; join_at(&mut pair, Side::A), Some(JoinAnswer::NotReady));
-    assert_eq!(rt; ready_at(&mut pair, Side::A)?, Some(ReadyAnswer::Ok));
-    assert_eq!(rt; ready_at(&mut pair, Side::A)?, Some(ReadyAnswer::Already));
-    assert_eq!(rt; join_at(&mut pair, Side::A), Some(JoinAnswer::NotYet));
-    pair.land(Side::A, 0);
-    assert_eq!(rt; pair.pad(Side::B, 1), 1);
-    pair.promise(Side::B, 1)?;
-    pair.post(Side::B, Write::pad(1, 1));
-    pair.land(Side::B, 0);
-    assert_eq!(rt; join_at(&mut pair, Side::A), Some(JoinAnswer::Joined));
-    assert_eq!(rt; join_at(&mut pair, Side::A), Some(JoinAnswer::Already));
-    assert_eq!(rt; pair.book(Side::A).joined, 1);
-    Ok(())
+    let calls = [
+        (Call::Train, ""),
+        (Call::PutWord(1019), ""),
+        (Call::Ready, "Some(NotChecked)"),
+        (Call::Told(2, 1), ""),
+        (Call::Told(3, 1), ""),
+        (Call::Told(0, 4), ""),
+        (Call::Word(1019), "1"),
+        (Call::Check, "Some(Up)"),
+        (Call::Check, "Some(Already)"),
+        (Call::Word(1019), "0"),
+        (Call::Word(4092), "3"),
+        (Call::Join, "Some(NotReady)"),
+        (Call::Ready, "Some(Ok)"),
+        (Call::Ready, "Some(Already)"),
+        (Call::LandReady, ""),
+        (Call::PadAt(Side::B, 1), "1"),
+        (Call::Join, "Some(NotYet)"),
+        (Call::Told(1, 1), ""),
+        (Call::Join, "Some(Joined)"),
+        (Call::Join, "Some(Already)"),
+    ];
+    follow(&rt, rt.alloc(), side_with(4, 1, 1), &calls)
 }

@@ -15,7 +15,7 @@ use Rattle.lane_core.specs.declared.lane.Lane.TheInside.{Inside}
 use Rattle.lane_core.specs.declared.slot.Slot.{Slot}
 
 -- two pieces of a list, one behind the other
-take_both : (n m : ℕ) (xs : List ℕ) → take n xs ++ take m (drop n xs) ≡ take (n + m) xs
+pub take_both : (n m : ℕ) (xs : List ℕ) → take n xs ++ take m (drop n xs) ≡ take (n + m) xs
 take_both n m xs =
     let low : n ≤ n + m = omega arith in
     ap (λ front. front ++ take m (drop n xs)) (sym (take-take n (n + m) xs low))

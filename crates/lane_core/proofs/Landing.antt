@@ -2,8 +2,7 @@
 -- it.
 use Rattle.std.proofs.Common.{◌≡◌, ℕ, zero, suc, ◌+◌, ◌%◌, ◌<◌, ◌≤◌, ◌⊎◌, Bool, true, false, List, [], ◌∷◌, Option, Some, None, length, map, take, drop, get_or, set, slice_get, option_map, refl, sym, ap, ◌∙◌, subst, inl, inr, arith, mod-lt, All, Contains}
 use Rattle.std.specs.List.{remove}
-use Rattle.std.proofs.lemmas.Bool.{cases_lt, cond-true, cond-false, eqb-true, or_cases}
-use Rattle.std.proofs.lemmas.List.{length-map}
+use Rattle.std.proofs.lemmas.Bool.{cases_lt, cond-true, cond-false}
 use Rattle.std.proofs.lemmas.List.Elements.{All-head, All-same, All-tail}
 use Rattle.std.proofs.lemmas.Option.{none-some, same_Some, slice_get-map, slice_get_within, get_or_from_slice_get}
 use Rattle.lane_model.specs.Lane.{Lane, Slot, blank_slot, bytes_of, data_of, entry_of, flags_of, with_field, with_flags}

@@ -1,5 +1,5 @@
 -- Landing by the kinds alone, as the writes of one lane do, which have one traffic class.
-use Rattle.std.proofs.Common.{◌≡◌, ℕ, true, ◌==◌, ◌⊎◌, List, [], ◌∷◌, map, inl, inr, Some, option_map, slice_get, slice_index, refl, sym, ap, ◌∙◌}
+use Rattle.std.proofs.Common.{◌≡◌, ℕ, true, ◌⊎◌, List, [], ◌∷◌, map, inl, inr, Some, option_map, slice_get, slice_index, sym, ap, ◌∙◌}
 use Rattle.std.specs.List.{All}
 use Rattle.std.proofs.lemmas.Bool.{and_parts, eqb-true, or_cases}
 use Rattle.std.proofs.lemmas.List.Elements.{All-nil, All-cons}

@@ -1,9 +1,12 @@
 -- What crates above may cite of the proofs of this crate: the laws of every log, one name for each, and how a log grows by a step.
 pub use Rattle.ledger_laws.proofs.AgainWhereNoRoom.{again_where_no_room}
+pub use Rattle.ledger_laws.proofs.CopiedInParts.{copied_in_parts}
+pub use Rattle.ledger_laws.proofs.CountersAreCounts.{counters_are_counts}
 pub use Rattle.ledger_laws.proofs.FramesInOrder.{every_log_is_in_order, every_frame_comes_once}
 pub use Rattle.ledger_laws.proofs.Tallies.{tallies_are_counts}
 pub use Rattle.ledger_laws.proofs.LinkDownWhereNotUp.{link_down_where_not_up}
 pub use Rattle.ledger_laws.proofs.PairsAreSeparate.{pairs_are_separate}
+pub use Rattle.ledger_laws.proofs.PostedAreWrites.{posted_are_writes}
 pub use Rattle.ledger_laws.proofs.QuietMeansDone.{quiet_means_done}
 pub use Rattle.ledger_laws.proofs.RefusalsChangeNothing.{refusals_change_nothing}
 pub use Rattle.ledger_laws.proofs.RingLawHolds.{ring_law_of_receiver, index_word_is_tail, ring_law_holds, two_entries}
@@ -15,4 +18,11 @@ pub use Rattle.ledger_laws.proofs.JoinedMeansAgreement.{up_side_agrees, joined_m
 pub use Rattle.ledger_laws.proofs.LabelsOfEntries.{labels_are_of_entries, all_get}
 pub use Rattle.ledger_laws.proofs.LabelsPostable.{labels_are_postable}
 pub use Rattle.ledger_laws.proofs.NothingWhileDown.{nothing_in_flight_while_down}
+pub use Rattle.ledger_laws.proofs.JoinedOnSides.{some_todo, some_wait, copying-not_idle, cleared-not_idle, joined_side_is_up, stopped_device_is_joined, busy_sender_is_joined, busy_receiver_is_joined}
+pub use Rattle.ledger_laws.proofs.FramesWithinMost.{freed_were_begun, receiver_knows_its_frame}
+pub use Rattle.ledger_laws.proofs.NeitherDiffersNorLong.{no_ordinary_ver_differs_or_long}
+pub use Rattle.ledger_laws.proofs.walk.SendingTurns.{on_queue-labels}
+pub use Rattle.ledger_laws.proofs.walk.Turn.{on_queue}
+pub use Rattle.ledger_laws.proofs.walk.Cases.{acking}
+pub use Rattle.ledger_laws.proofs.RingOfLane.{phase_idle, phase_copying}
 pub use Rattle.ledger_laws.proofs.FollowersFew.{IsOfFrame, entries_are_of_frames}

@@ -10,7 +10,7 @@ use Rattle.step_kinds.specs.declared.names.LaneName.{LaneName}
 use Rattle.step_kinds.specs.declared.plan.Plan.{Plan}
 use Rattle.step_kinds.specs.declared.steps.Label.{Label}
 use Rattle.step_kinds.specs.declared.steps.Label.TheVariants.{Bell, Pad}
-use Rattle.lane_model.specs.Lane.{Entry, Carries, GoesDown, bytes_of, count_from, chunks_in, writes_of}
+use Rattle.lane_model.specs.Lane.{Entry, GoesDown, bytes_of, count_from, chunks_in, writes_of}
 use Rattle.lane_model.specs.declared.Field.TheVariants.{Chunk as PayloadChunk, Length, Version}
 use Rattle.lane_model.specs.declared.Phase.{Phase}
 use Rattle.lane_model.specs.declared.Phase.TheVariants.{Idle, Copying, Copied, Cleared}

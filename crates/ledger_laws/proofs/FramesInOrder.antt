@@ -70,10 +70,10 @@ module _ (sent : List Entry) (first : Entry) (others : List Entry) where
       → Begun up (sent ++ first ∷ []) others others told
   begun_with up told number rest = record { to_come = inl refl; told_is = ap (number_after 0) one_begun ∙ number; whole = ap (rest_after []) one_begun ∙ rest }
 
-record BegunNext (news : News) (s t : Sight) (coming : List Entry) : Type 0 where
-  after : List Entry
-  begun : BegunOf t after
-  grows : Grows news.accepted (taken_of s coming) news.starts (taken_of t after)
+pub record BegunNext (news : News) (s t : Sight) (coming : List Entry) : Type 0 where
+  pub after : List Entry
+  pub begun : BegunOf t after
+  pub grows : Grows news.accepted (taken_of s coming) news.starts (taken_of t after)
 
 -- a frame of one number more, behind whole frames
 record Behind (sent pieces : List Entry) (told : ℕ) (bytes : List ℕ) : Type 0 where
@@ -94,7 +94,7 @@ frame_behind sent pieces told bytes number rest one = record {
 pub alone : {X : Type 0} (read : List Entry → X) (sent coming : List Entry) → coming ≡ [] → read sent ≡ read (sent ++ coming)
 alone read sent coming none = ap read (sym (append-nil sent) ∙ ap (λ more. sent ++ more) (sym none))
 
-begun_kept : (plan : Plan) (lane : LaneName) (s : Sight) (made : Answered) (news : News) (t : Sight) → IsRaw plan lane ≡ false → Turn plan lane s made news t
+pub begun_kept : (plan : Plan) (lane : LaneName) (s : Sight) (made : Answered) (news : News) (t : Sight) → IsRaw plan lane ≡ false → Turn plan lane s made news t
     → (coming : List Entry) → BegunOf s coming → BegunNext news s t coming
 begun_kept plan lane s made news t no_raw (Trains may) coming h = record { after = []; begun = record { to_come = inl refl; told_is = refl; whole = refl }; grows = Anew refl refl }
 begun_kept plan lane s made news t no_raw (Breaks may) coming h = record { after = coming; begun = begun_down h; grows = same_frames refl }
@@ -107,8 +107,8 @@ begun_kept plan lane s made news t no_raw (Forgets Sender may) coming h = record
 begun_kept plan lane s made news t no_raw (Begins bytes first others may cut) coming h =
     let none = none_comes may.up may.none_waiting h in
     let one : OneFrame s.lane.told [] (first ∷ others) bytes =
-        subst (λ pieces. OneFrame s.lane.told [] pieces bytes) cut
-        (pieces_one_frame (SizesOf plan lane).largest bytes s.lane.told (no_byte_fits (pair_plan plan lane.pair) (SizesOf plan lane).entries (SizesOf plan lane).largest (length bytes) may.fits)) in
+    subst (λ pieces. OneFrame s.lane.told [] pieces bytes) cut
+    (pieces_one_frame (SizesOf plan lane).largest bytes s.lane.told (no_byte_fits (pair_plan plan lane.pair) (SizesOf plan lane).entries (SizesOf plan lane).largest (length bytes) may.fits)) in
     let behind = frame_behind s.lane.sent (first ∷ others) s.lane.told bytes (alone (number_after 0) s.lane.sent coming none ∙ h.told_is) (alone (rest_after []) s.lane.sent coming none ∙ h.whole) one in
     record {
       after = others;
@@ -171,9 +171,9 @@ ReceivesOf q s = Receives q (is_up s.state) s.receiver.joined s.lane.sent s.lane
 abbrev pub given_of : Sight → List Numbered
 given_of s = frames_from 0 [] (take s.lane.got s.lane.sent)
 
-record ReceivesNext (q : ℕ) (news : News) (s t : Sight) : Type 0 where
-  receives : ReceivesOf q t
-  grows : Grows news.delivered (given_of s) news.starts (given_of t)
+pub record ReceivesNext (q : ℕ) (news : News) (s t : Sight) : Type 0 where
+  pub receives : ReceivesOf q t
+  pub grows : Grows news.delivered (given_of s) news.starts (given_of t)
 
 -- The entry at a place stays there where entries are added at the end
 there-append : (xs ys : List Entry) (n : ℕ) (bytes : List ℕ) (left : ℕ) → slice_index_or xs n GoesDown ≡ Carries bytes left → slice_index_or (xs ++ ys) n GoesDown ≡ Carries bytes left
@@ -188,14 +188,14 @@ receives_more {sent = sent} {got = got} {part = part} {left = left} entry h = re
   done_is = ap (number_after 0) same ∙ h.done_is;
   has = elim h.has [
     | inl g ↦ inl (record {
-        between = λ b. g.between b ∙ ap (rest_after []) (sym same);
-        copying = λ c. let piece = g.copying c in record {
-          bytes = piece.bytes;
-          there = there-append sent (entry ∷ []) got piece.bytes left piece.there;
-          size = piece.size;
-          parts = piece.parts ∙ ap (λ xs. rest_after [] xs ++ take (chunk_size * part) piece.bytes) (sym same);
-        };
-      })
+      between = λ b. g.between b ∙ ap (rest_after []) (sym same);
+      copying = λ c. let piece = g.copying c in record {
+        bytes = piece.bytes;
+        there = there-append sent (entry ∷ []) got piece.bytes left piece.there;
+        size = piece.size;
+        parts = piece.parts ∙ ap (λ xs. rest_after [] xs ++ take (chunk_size * part) piece.bytes) (sym same);
+      };
+    })
     | inr f ↦ inr f
   ];
 }
@@ -227,7 +227,7 @@ receives_at after now later h = record {
   ];
 }
 
-idle-not_copying : (phase : Phase) → is_idle phase ≡ true → is_copying phase ≡ false
+pub idle-not_copying : (phase : Phase) → is_idle phase ≡ true → is_copying phase ≡ false
 idle-not_copying Idle e = refl
 idle-not_copying Copying e = absurd (false≢true e)
 idle-not_copying Copied e = refl
@@ -249,7 +249,7 @@ empty_set : (bits q : ℕ) → bits ≡ 0 → has_bit bits q ≡ false
 empty_set bits q none = elim (cases_Bool (has_bit bits q)) [ inl has ↦ absurd (no_bit bits q none has) | inr hasnt ↦ hasnt ]
 
 -- what the receiver holds while it copies
-piece_of_copy : {q : ℕ} {up : Bool} {joined : ℕ} {sent : List Entry} {got done : ℕ} {phase : Phase} {part len left : ℕ} {gathered : List ℕ} → is_copying phase ≡ true
+pub piece_of_copy : {q : ℕ} {up : Bool} {joined : ℕ} {sent : List Entry} {got done : ℕ} {phase : Phase} {part len left : ℕ} {gathered : List ℕ} → is_copying phase ≡ true
     → Receives q up joined sent got done phase part len left gathered → Piece sent got part len left gathered
 piece_of_copy {phase = phase} turn h = elim h.has [ inl g ↦ g.copying turn | inr f ↦ absurd (both_ways (is_copying phase) f.not_copying turn) ]
 
@@ -293,8 +293,11 @@ module _ (n : ℕ) (rest : List ℕ) (xs : List Entry) (bytes : List ℕ) where
       → (number_after n (xs ++ Carries bytes left ∷ []) ≡ number_after n xs) × (rest_after rest (xs ++ Carries bytes left ∷ []) ≡ rest_after rest xs ++ bytes)
       × (frames_from n rest (xs ++ Carries bytes left ∷ []) ≡ frames_from n rest xs)
   some_left zero more = absurd (false≢true more)
-  some_left (suc left) more = (number-append n xs (Carries bytes (suc left) ∷ []), rest-append rest xs (Carries bytes (suc left) ∷ []),
-      frames-append n rest xs (Carries bytes (suc left) ∷ []) ∙ append-nil (frames_from n rest xs))
+  some_left (suc left) more = (
+    number-append n xs (Carries bytes (suc left) ∷ []),
+    rest-append rest xs (Carries bytes (suc left) ∷ []),
+    frames-append n rest xs (Carries bytes (suc left) ∷ []) ∙ append-nil (frames_from n rest xs),
+  )
 
   none_left : (left : ℕ) → nat_lt 0 left ≡ false
       → (number_after n (xs ++ Carries bytes left ∷ []) ≡ number_after n xs + 1) × (rest_after rest (xs ++ Carries bytes left ∷ []) ≡ [])
@@ -302,7 +305,7 @@ module _ (n : ℕ) (rest : List ℕ) (xs : List Entry) (bytes : List ℕ) where
   none_left zero last = (number-append n xs (Carries bytes zero ∷ []), rest-append rest xs (Carries bytes zero ∷ []), frames-append n rest xs (Carries bytes zero ∷ []))
   none_left (suc left) last = absurd (let none = ltb-false 0 (suc left) last in omega arith)
 
-receives_kept : (plan : Plan) (lane : LaneName) (s : Sight) (made : Answered) (news : News) (t : Sight) → IsRaw plan lane ≡ false → Turn plan lane s made news t
+pub receives_kept : (plan : Plan) (lane : LaneName) (s : Sight) (made : Answered) (news : News) (t : Sight) → IsRaw plan lane ≡ false → Turn plan lane s made news t
     → ReceivesOf lane.queue s → ReceivesNext lane.queue news s t
 receives_kept plan lane s made news t no_raw (Trains may) h = record {
   receives = record { within = omega arith; done_is = refl; has = inl (record { between = λ _. refl; copying = λ c. absurd (false≢true c) }) };
@@ -328,9 +331,9 @@ receives_kept plan lane s made news t no_raw (Looks len left may) h = record {
     done_is = h.done_is;
     has = elim h.has [
       | inl g ↦ let piece = may.found no_raw in inl (record {
-          between = λ b. absurd (both_ways true b refl);
-          copying = λ _. record { bytes = piece.bytes; there = piece.at; size = piece.size; parts = g.between (idle-not_copying s.lane.phase may.idle) ∙ sym (append-nil (rest_after [] (take s.lane.got s.lane.sent))) };
-        })
+        between = λ b. absurd (both_ways true b refl);
+        copying = λ _. record { bytes = piece.bytes; there = piece.at; size = piece.size; parts = g.between (idle-not_copying s.lane.phase may.idle) ∙ sym (append-nil (rest_after [] (take s.lane.got s.lane.sent))) };
+      })
       | inr f ↦ absurd (both_ways (has_bit s.receiver.joined lane.queue) f.not_joined may.joined)
     ];
   };

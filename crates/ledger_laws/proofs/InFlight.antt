@@ -1,7 +1,7 @@
 -- Lists of writes in flight: what is posted, what lands, how the writes of one kind stand among all; and that nothing is in flight on
 -- a link that is down.
 use Rattle.std.proofs.Common.{◌≡◌, ℕ, zero, suc, ◌+◌, ◌==◌, ◌||◌, Bool, true, false, not, Option, Some, None, List, [], ◌∷◌, ◌++◌, map, take, drop, refl, sym, ap, ◌∙◌, subst, arith}
-use Rattle.std.specs.Prelude.{if◌then◌else◌, slice_get, slice_index, count_by, remove}
+use Rattle.std.specs.Prelude.{if◌then◌else◌, slice_get, count_by, remove}
 use Rattle.std.specs.List.{filter_map, cons_option, list_all}
 use Rattle.std.proofs.lemmas.Bool.{false≢true, and_parts, eq-eqb, cond-true, cond-false}
 use Rattle.std.proofs.lemmas.List.{append-nil}

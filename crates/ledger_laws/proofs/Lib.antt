@@ -2,15 +2,20 @@ pub mod AgainWhereNoRoom
 pub mod AtStart
 pub mod BitSets
 pub mod CleanSides
+pub mod CopiedInParts
+pub mod CountersAreCounts
+pub mod EachPair
 pub mod Facade
 pub mod EntriesFit
 pub mod FlagsAndBells
 pub mod FollowersFew
 pub mod Frames
 pub mod FramesInOrder
+pub mod FramesWithinMost
 pub mod FreshLanes
 pub mod InFlight
 pub mod JoinedMeansAgreement
+pub mod JoinedOnSides
 pub mod JoinedSides
 pub mod Labels
 pub mod LabelsOfEntries
@@ -18,6 +23,7 @@ pub mod LabelsPostable
 pub mod LinkDownWhereNotUp
 pub mod LogGrowth
 pub mod LogReaders
+pub mod NeitherDiffersNorLong
 pub mod NothingWhileDown
 pub mod Offers
 pub mod OffersInSession
@@ -26,6 +32,7 @@ pub mod PairStates
 pub mod PairsAreSeparate
 pub mod Pieces
 pub mod PiecesJoined
+pub mod PostedAreWrites
 pub mod QuietMeansDone
 pub mod RefusalsChangeNothing
 pub mod RingLawHolds

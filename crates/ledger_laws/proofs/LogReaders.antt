@@ -5,7 +5,7 @@ use Rattle.std.proofs.lemmas.Grind.{flat_map-append}
 use Rattle.std.specs.List.{flat_map}
 use Rattle.std.proofs.Common.{◌≡◌, ℕ, Bool, true, false, List, [], ◌∷◌, ◌++◌, refl, ◌+◌, ◌==◌, ap, ◌∙◌, Option, None}
 use Rattle.std.specs.Prelude.{if◌then◌else◌}
-use Rattle.ledger_model.specs.Log.{Answered, trains, breaks, up_after, made_in, made_since, in_this_session, saw_empty, last_look_empty, pad_after, landed_pad}
+use Rattle.ledger_model.specs.Log.{Answered, trains, breaks, up_after, made_in, made_since, in_this_session, saw_empty, last_look_empty, pad_after, landed_pad, Looked, looked_after}
 
 -- whether the link is up after one entry more
 abbrev pub up_step : ℕ → Answered → Bool → Bool
@@ -84,3 +84,16 @@ pub landed_pad-last : (k : ℕ) (side : Side) (i : ℕ) (log : List Answered) (m
     → landed_pad (log ++ made ∷ []) k side i ≡ (if trains k made then None else pad_after k side i (landed_pad log k side i) (made ∷ []))
 landed_pad-last k side i log made =
     anew-last (pad_after k side i None) (λ now. pad_after k side i now (made ∷ [])) k log made (λ before. pad_after-last k side i None before made)
+
+-- what each entry since the session began tells, with one entry more
+pub session_found-last : {X : Type 0} (read : Answered → List X) (k : ℕ) (log : List Answered) (made : Answered)
+    → flat_map read (in_this_session k (log ++ made ∷ [])) ≡ (if trains k made then [] else flat_map read (in_this_session k log) ++ read made)
+session_found-last read k log made =
+    anew-last (flat_map read) (λ found. found ++ read made) k log made
+    (λ before. flat_map-append read before (made ∷ []) ∙ ap (λ end. flat_map read before ++ end) (append-nil (read made)))
+
+-- the entry that a side found last, with one entry of the log more
+pub looked_after-last : (k : ℕ) (side : Side) (queue : ℕ) (now : Option Looked) (log : List Answered) (made : Answered)
+    → looked_after k side queue now (log ++ made ∷ []) ≡ looked_after k side queue (looked_after k side queue now log) (made ∷ [])
+looked_after-last k side queue now [] made = refl
+looked_after-last k side queue now (first ∷ log) made = looked_after-last k side queue (looked_after k side queue now (first ∷ [])) log made

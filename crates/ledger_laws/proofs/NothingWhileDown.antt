@@ -1,7 +1,6 @@
 -- While the link is down nothing is in flight, and no bytes of raw writes are kept.
 use Rattle.std.proofs.Common.{◌≡◌, ℕ, zero, suc, Bool, true, false, Option, Some, None, List, [], ◌∷◌, ◌++◌, refl, sym, ap, ◌∙◌}
 use Rattle.std.specs.Prelude.{if◌then◌else◌, remove, slice_get}
-use Rattle.std.specs.List.{AllByRecursion}
 use Rattle.std.proofs.lemmas.Bool.{false≢true, both_ways}
 use Rattle.step_kinds.specs.Sides.{other_side}
 use Rattle.step_kinds.specs.declared.names.LaneName.{LaneName}
@@ -29,9 +28,10 @@ use Rattle.plan_model.specs.Plans.{pair_plan}
 use Rattle.ledger_laws.specs.States.{NothingInFlightWhileDown}
 use Rattle.ledger_laws.proofs.AtStart.{down-not_up, fresh-flight}
 use Rattle.ledger_laws.proofs.InFlight.{EmptyOf, empty_kept}
+use Rattle.ledger_laws.proofs.EachPair.{AnyStep}
 use Rattle.ledger_laws.proofs.PairStates.{HoldsOfPair, pair_after}
 use Rattle.ledger_laws.proofs.walk.Cases.{train_cases, break_cases, copy_cases}
-use Rattle.ledger_laws.proofs.walk.Logs.{HoldsAlways, always_after}
+use Rattle.ledger_laws.proofs.walk.Logs.{all_fit, HoldsAlways, always_after}
 
 -- no bytes of raw writes are kept on a link that is down
 abbrev KeepsNone : PairPart → Type 0
@@ -180,15 +180,11 @@ fresh-poked plan side = go plan.up side
     go false A = refl
     go false B = refl
 
-none_holds : (plan : Plan) (pair : ℕ) → HoldsOfPair plan pair (λ step. Unit {0}) KeepsNone
+none_holds : (plan : Plan) (pair : ℕ) → HoldsOfPair plan pair AnyStep KeepsNone
 none_holds plan pair = record {
   fresh = λ down side. fresh-poked (pair_plan plan pair) side;
   steps = λ bytes part step fits on todos none. none_next plan.devs (pair_plan plan pair) (reading_of (pair_plan plan pair) bytes part) bytes part step none;
 }
-
-all_fit : (steps : List Step) → AllByRecursion (λ step. Unit {0}) steps
-all_fit [] = tt
-all_fit (step ∷ steps) = (tt, all_fit steps)
 
 pub empty_runs : (plan : Plan) (lane : LaneName) → HoldsAlways plan lane (λ log s. EmptyOf s)
 empty_runs plan lane = record {

@@ -1,6 +1,5 @@
 -- The pieces of a frame: one at least, of so many bytes each, and joined they are the frame.
-use Rattle.std.proofs.Common.{◌≡◌, ℕ, zero, suc, ◌+◌, ◌<◌, ◌≤◌, List, [], ◌∷◌, length, map, refl, ◌∙◌, arith}
-use Rattle.std.specs.Prelude.{max}
+use Rattle.std.proofs.Common.{◌≡◌, ℕ, zero, suc, ◌<◌, List, ◌∷◌, length, map, refl, ◌∙◌, arith}
 use Rattle.std.proofs.lemmas.List.{length-map}
 use Rattle.lane_model.specs.Lane.{Entry, count_from}
 use Rattle.lane_laws.proofs.Facade.{length-count_from}

@@ -138,11 +138,11 @@ law_at_start sizes q up writes indexes lane ring two sized fresh no_flags =
 
 -- Changes of a lane of which the law speaks
 
-phase_idle : (phase : Phase) → is_idle phase ≡ true → phase ≡ Idle
+pub phase_idle : (phase : Phase) → is_idle phase ≡ true → phase ≡ Idle
 phase_idle Idle e = refl
 phase_idle phase e = absurd (false≢true e)
 
-phase_copying : (phase : Phase) → is_copying phase ≡ true → phase ≡ Copying
+pub phase_copying : (phase : Phase) → is_copying phase ≡ true → phase ≡ Copying
 phase_copying Copying e = refl
 phase_copying phase e = absurd (false≢true e)
 

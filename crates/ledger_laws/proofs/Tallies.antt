@@ -10,13 +10,13 @@ use Rattle.step_kinds.specs.declared.names.Side.TheVariants.{A, B}
 use Rattle.step_kinds.specs.declared.plan.Plan.{Plan}
 use Rattle.step_kinds.specs.declared.plan.PairPlan.{PairPlan}
 use Rattle.ledger_model.specs.Ledger.{Tally, tally_of, updated}
-use Rattle.ledger_model.specs.Log.{Answered, Numbered, accepts, delivers, accepted, delivered, first_session, trains, made_in, log_of, ledger_of}
+use Rattle.ledger_model.specs.Log.{Answered, Numbered, accepts, delivers, accepted, delivered, first_session, trains, made_in}
 use Rattle.ledger_model.specs.Next.{fresh_pair, no_tally}
 use Rattle.plan_model.specs.Plans.{pair_plan}
 use Rattle.ledger_laws.specs.Laws.{TalliesAreCounts}
 use Rattle.ledger_laws.proofs.LogReaders.{session_at, session_at-last, found_in-last}
 use Rattle.ledger_laws.proofs.walk.Logs.{HoldsAlways, always_after}
-use Rattle.ledger_laws.proofs.walk.Sight.{Sight, sight}
+use Rattle.ledger_laws.proofs.walk.Sight.{Sight}
 use Rattle.ledger_laws.proofs.walk.News.{News, Tells}
 use Rattle.ledger_laws.proofs.walk.Turn.{Turn, Trains, Begins, CopiesLast, more_accepted, more_delivered}
 

@@ -1,5 +1,5 @@
 -- The laws of every log.
-use Rattle.std.specs.Prelude.{◌≡◌, ℕ, ◌+◌, ◌<◌, ◌==◌, Bool, true, false, ◌&&◌, ◌||◌, ◌⊎◌, Option, Some, None, List, [], ◌∷◌, ◌++◌, length, filter, nat_lt, not, if◌then◌else◌, ◌≤◌, ◌/◌, ◌%◌}
+use Rattle.std.specs.Prelude.{◌≡◌, ℕ, ◌+◌, ◌<◌, ◌==◌, Bool, true, false, ◌&&◌, ◌||◌, ◌⊎◌, Option, Some, None, List, [], ◌∷◌, ◌++◌, length, filter, max, nat_lt, not, if◌then◌else◌, ◌≤◌, ◌/◌, ◌%◌}
 use Rattle.std.specs.List.{AllByRecursion}
 use Rattle.step_kinds.specs.Bits.{has_bit}
 use Rattle.step_kinds.specs.Sides.{other_side}
@@ -9,12 +9,17 @@ use Rattle.step_kinds.specs.declared.names.Side.{Side}
 use Rattle.step_kinds.specs.declared.plan.SidePlan.{SidePlan}
 use Rattle.step_kinds.specs.declared.plan.Plan.{Plan}
 use Rattle.step_kinds.specs.declared.steps.Answer.{Answer}
-use Rattle.step_kinds.specs.declared.steps.Answer.TheVariants.{Ok as Done, OkSession, OkNumber, LinkDown, Offered, Up, Joined, Again, Posted, Landed, PeerDown, ReadyFrame, Copied, Delivered, Cleared, Acked, Awake, Irq as IrqBits, Mem, PadValue, QueueShown}
+use Rattle.step_kinds.specs.declared.steps.Answer.TheVariants.{Ok as Done, OkSession, OkNumber, LinkDown, Offered, Up, Joined, Again, Posted, Landed, PeerDown, ReadyFrame, Copied, Delivered, Cleared, Acked, Awake, Irq as IrqBits, Mem, PadValue, QueueShown, VerDiffers, Long}
+use Rattle.step_kinds.specs.declared.steps.Label.{Label}
 use Rattle.step_kinds.specs.declared.steps.Step.{Step}
 use Rattle.step_kinds.specs.declared.steps.Step.TheVariants.{Enable, Train, Break, DropDone, Clean, Offer, Check, Ready, Join, Begin, QpDown, Xbegin, Post, Land, Look, Copy, Clear, Ack, Wake, Irq, Mask, Unmask, Spad, Poke, ShowMem, ShowPad, ShowQueue}
 use Rattle.plan_model.specs.Pads.{word}
+use Rattle.lane_model.specs.Lane.{Entry, chunks_in}
+use Rattle.plan_model.specs.Both.{at_side}
+use Rattle.plan_model.specs.Link.{is_down}
+use Rattle.ledger_model.specs.Labels.{labels_of}
 use Rattle.ledger_model.specs.Ledger.{PairPart, side_of, lane_of, dev_of, tally_of, link_up, with_dev}
-use Rattle.ledger_model.specs.Log.{Answered, Memories, Numbered, log_of, ledger_of, accepted, delivered, room_in, up_at, landed_pad, last_look_empty}
+use Rattle.ledger_model.specs.Log.{Answered, Memories, Numbered, log_of, ledger_of, accepted, delivered, room_in, up_at, landed_pad, last_look_empty, counters_in, posted_in, Looked, looked_in}
 use Rattle.ledger_model.specs.Sending.{is_busy}
 use Rattle.plan_model.specs.Device.{count_refused}
 use Rattle.plan_model.specs.Ethernet.{ethernet_frame}
@@ -220,6 +225,19 @@ RefusalsChangeNothing = (plan : Plan) (memories : Memories) (steps : List Step) 
     ledger_of plan memories (steps ++ step ∷ []) pair
     ≡ (if pair == subject_of step then after_refusal (ledger_of plan memories steps pair) step else ledger_of plan memories steps pair)
 
+-- Entries of the transport alone
+
+-- the answers to a look that finds what no sender of the transport has written
+abbrev pub is_unlike : Answer → Bool
+is_unlike (VerDiffers seen own) = true
+is_unlike (Long len most) = true
+is_unlike answer = false
+
+-- on an ordinary pair no step is answered `verdiffers` or `long`
+abbrev pub NoOrdinaryVerDiffersOrLong : Type 0
+NoOrdinaryVerDiffersOrLong = (plan : Plan) (memories : Memories) (steps : List Step) (step : Step) (answer : Answer) →
+    IsOrdinaryPair plan (subject_of step) → GoesOn plan memories steps step answer → is_unlike answer ≡ false
+
 -- Quiet
 
 -- nothing is on its way to a receiver on a queue, and it has seen so since it last took the queue's doorbell
@@ -243,6 +261,42 @@ abbrev pub QuietMeansDone : Type 0
 QuietMeansDone = (plan : Plan) (memories : Memories) (steps : List Step) (pair : ℕ) (side : Side) (queue : ℕ) →
     IsOrdinaryPair plan pair → IsQuiet (log_of plan memories steps) (ledger_of plan memories steps pair) pair side queue →
     IsDone plan (log_of plan memories steps) (ledger_of plan memories steps pair) (record { pair = pair; from = other_side side; queue = queue })
+
+-- Writes
+
+-- the labels of the writes of entries, the first of which has this number, in the order in which they are posted
+abbrev pub labels_from : ℕ → ℕ → List Entry → List Label
+labels_from queue n [] = []
+labels_from queue n (entry ∷ entries) = labels_of queue n entry ++ labels_from queue (n + 1) entries
+
+-- whether a side has forgotten the session that was lost, or never had one
+abbrev pub has_forgotten : PairPart → Side → Bool
+has_forgotten now side = is_down now.link.state && at_side now.link.clean side
+
+-- what was posted on a lane in the session, and then what is left to post, are the writes of the entries begun, until the sender
+-- has forgotten the session
+abbrev pub PostedAreWrites : Type 0
+PostedAreWrites = (plan : Plan) (memories : Memories) (steps : List Step) (lane : LaneName) →
+    let now = ledger_of plan memories steps lane.pair in
+    has_forgotten now lane.from ≡ false →
+    posted_in (log_of plan memories steps) lane ++ (lane_of now lane.from lane.queue).todo ≡ labels_from lane.queue 0 (lane_of now lane.from lane.queue).sent
+
+-- Parts
+
+-- what a copy and a clear are answered, by the entry that was found last and the copies made of it since
+abbrev pub FitsLook : Option Looked → Answer → Type 0
+FitsLook looked (Copied number part) = (len : ℕ) × ((looked ≡ Some (record { number = number; len = len; copies = part })) × (part < max 1 (chunks_in len)))
+FitsLook looked (Delivered number frame) =
+    (found : Looked) × ((looked ≡ Some found) × (found.copies + 1 ≡ max 1 (chunks_in found.len)))
+FitsLook looked (Cleared number) = (found : Looked) × ((looked ≡ Some found) × (found.copies ≡ max 1 (chunks_in found.len)))
+FitsLook looked answer = Unit {0}
+
+-- an entry is copied in as many parts as it has chunks, one at least, which are numbered from 0 on: a frame is delivered with the
+-- last part of an entry, and an entry is cleared after it
+abbrev pub CopiedInParts : Type 0
+CopiedInParts = (plan : Plan) (memories : Memories) (steps : List Step) (pair : ℕ) (side : Side) (queue : ℕ) (step : Step) (answer : Answer) →
+    (step ≡ Copy pair side queue) ⊎ (step ≡ Clear pair side queue) → GoesOn plan memories steps step answer →
+    FitsLook (looked_in (log_of plan memories steps) pair side queue) answer
 
 -- Separate pairs
 
@@ -269,3 +323,8 @@ TalliesAreCounts = (plan : Plan) (memories : Memories) (steps : List Step) (lane
     let log = log_of plan memories steps in
     tally_of (ledger_of plan memories steps lane.pair) lane.from lane.queue session
     ≡ record { accepted = length (accepted plan log lane session); delivered = length (delivered plan log lane session) }
+
+-- the counters of each side and queue are what the log counts there, whether a device is declared or not
+abbrev pub CountersAreCounts : Type 0
+CountersAreCounts = (plan : Plan) (memories : Memories) (steps : List Step) (own : LaneName) →
+    (dev_of (ledger_of plan memories steps own.pair) own.from own.queue).counters ≡ counters_in plan (log_of plan memories steps) own

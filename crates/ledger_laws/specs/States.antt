@@ -14,9 +14,11 @@ use Rattle.step_kinds.specs.declared.steps.Step.{Step}
 use Rattle.lane_model.specs.Lane.{Entry, GoesDown, bytes_of, chunks_in}
 use Rattle.lane_model.specs.Law.{entry_among}
 use Rattle.ledger_model.specs.Labels.{writes_among, indexes_among}
-use Rattle.ledger_model.specs.Ledger.{LanePart, SidePart, PairPart, side_of, lane_of, begun_in}
+use Rattle.ledger_model.specs.Ledger.{LanePart, SidePart, PairPart, side_of, lane_of, lane_to, dev_of, begun_in, entry_in}
 use Rattle.ledger_model.specs.LinkSteps.{fresh_lane}
 use Rattle.ledger_model.specs.Log.{Memories, ledger_of}
+use Rattle.ledger_model.specs.Receiving.{is_idle, is_copying}
+use Rattle.ledger_model.specs.Sending.{is_busy}
 use Rattle.plan_model.specs.DeclaredPlans.{IsPair, Agree, IsPermitted}
 use Rattle.plan_model.specs.Link.{is_down}
 use Rattle.plan_model.specs.Plans.{pair_plan, side_plan}
@@ -148,3 +150,43 @@ abbrev pub LabelsArePostable : Type 0
 LabelsArePostable = (plan : Plan) (memories : Memories) (steps : List Step) (pair : ℕ) (side : Side) →
     IsPair (pair_plan plan pair) → AllByRecursion (IsPermitted plan) steps →
     AllByRecursion (IsPostable (pair_plan plan pair) side) (side_of (ledger_of plan memories steps pair) side).flight
+
+-- Queues that are joined, and what goes on there
+
+-- a queue is joined only on a side that is up
+abbrev pub JoinedSideIsUp : Type 0
+JoinedSideIsUp = (plan : Plan) (memories : Memories) (steps : List Step) (pair : ℕ) (side : Side) (queue : ℕ) →
+    has_bit (side_of (ledger_of plan memories steps pair) side).joined queue ≡ true → (side_of (ledger_of plan memories steps pair) side).up ≡ true
+
+-- a device is stopped only where its queue is joined on its side
+abbrev pub StoppedDeviceIsJoined : Type 0
+StoppedDeviceIsJoined = (plan : Plan) (memories : Memories) (steps : List Step) (pair : ℕ) (side : Side) (queue : ℕ) →
+    (dev_of (ledger_of plan memories steps pair) side queue).stopped ≡ true → has_bit (side_of (ledger_of plan memories steps pair) side).joined queue ≡ true
+
+-- a lane has something left to post only where its queue is joined at its sender
+abbrev pub BusySenderIsJoined : Type 0
+BusySenderIsJoined = (plan : Plan) (memories : Memories) (steps : List Step) (pair : ℕ) (side : Side) (queue : ℕ) → IsOrdinaryPair plan pair →
+    is_busy (lane_of (ledger_of plan memories steps pair) side queue) ≡ true → has_bit (side_of (ledger_of plan memories steps pair) side).joined queue ≡ true
+
+-- a receiver has an entry in hand only where the queue is joined there
+abbrev pub BusyReceiverIsJoined : Type 0
+BusyReceiverIsJoined = (plan : Plan) (memories : Memories) (steps : List Step) (pair : ℕ) (side : Side) (queue : ℕ) → IsOrdinaryPair plan pair →
+    is_idle (lane_to (ledger_of plan memories steps pair) side queue).phase ≡ false → has_bit (side_of (ledger_of plan memories steps pair) side).joined queue ≡ true
+
+-- The receiver's next entry
+
+-- the entries that were given back were begun
+abbrev pub FreedWereBegun : Type 0
+FreedWereBegun = (plan : Plan) (memories : Memories) (steps : List Step) (pair : ℕ) (from : Side) (queue : ℕ) → IsOrdinaryPair plan pair →
+    (lane_of (ledger_of plan memories steps pair) from queue).freed ≤ length (lane_of (ledger_of plan memories steps pair) from queue).sent
+
+-- a receiver that copies an entry knows how many bytes it has; and where an idle one of a joined queue has one before it,
+-- the bytes of its frame so far are with the entry's no more than a frame may have
+pub record KnowsItsFrame (most queue joined : ℕ) (lane : LanePart) : Type 0 where
+  pub len_is : is_copying lane.phase ≡ true → lane.len ≡ length (bytes_of (entry_in lane lane.got))
+  pub fits : has_bit joined queue ≡ true → is_idle lane.phase ≡ true → lane.got < length lane.sent → length lane.gathered + length (bytes_of (entry_in lane lane.got)) ≤ most
+
+abbrev pub ReceiverKnowsItsFrame : Type 0
+ReceiverKnowsItsFrame = (plan : Plan) (memories : Memories) (steps : List Step) (name : LaneName) → IsOrdinaryPair plan name.pair →
+    KnowsItsFrame (sizes_of (pair_plan plan name.pair) name.from name.queue).most name.queue (side_of (ledger_of plan memories steps name.pair) (other_side name.from)).joined
+    (lane_of (ledger_of plan memories steps name.pair) name.from name.queue)

@@ -4,10 +4,14 @@
 
 ghost use Rattle.ledger_laws.specs.Laws.{
   AgainWhereNoRoom,
+  CopiedInParts,
+  CountersAreCounts,
   EveryFrameComesOnce,
   EveryLogIsInOrder,
   LinkDownWhereNotUp,
+  NoOrdinaryVerDiffersOrLong,
   PairsAreSeparate,
+  PostedAreWrites,
   QuietMeansDone,
   RefusalsChangeNothing,
   TalliesAreCounts,
@@ -15,12 +19,18 @@ ghost use Rattle.ledger_laws.specs.Laws.{
 };
 ghost use Rattle.ledger_laws.specs.Rings.{IndexWordIsTail, RingLawHolds, RingLawOfReceiver};
 ghost use Rattle.ledger_laws.specs.States.{
+  BusyReceiverIsJoined,
+  BusySenderIsJoined,
   EntriesFitTheRing,
+  FreedWereBegun,
   JoinedMeansAgreement,
+  JoinedSideIsUp,
   LabelsAreOfEntries,
   LabelsArePostable,
   NoEntryBeforeBothUp,
   NothingInFlightWhileDown,
+  ReceiverKnowsItsFrame,
+  StoppedDeviceIsJoined,
   UpSideAgrees,
 };
 
@@ -55,10 +65,32 @@ pub fn tallies_are_counts()
     ensures { TalliesAreCounts }
 {}
 
+/// An entry is copied in as many parts as its length, as it was found, has chunks of 128 bytes, one part at least: a copy
+/// that is answered `copied` has the number of copies made since the entry was found, and that is below those parts; a
+/// copy that is answered `frame` is the last of them; and a clear that is answered `cleared` comes after all of them. No
+/// premise: it holds on raw pairs too.
+pub fn copied_in_parts()
+    ensures { CopiedInParts }
+{}
+
+/// The six counters of a device are counts over the log, for each side and queue of each pair: its frames that were
+/// accepted and their bytes, its frames that were refused, and of the frames delivered on its side and queue those of 14
+/// bytes at least, their bytes, and the shorter ones. No premise.
+pub fn counters_are_counts()
+    ensures { CountersAreCounts }
+{}
+
 /// The answers to the steps on one pair don't depend on the steps on other pairs. Premise: what each pair's memories
 /// show depends on the steps on that pair alone.
 pub fn pairs_are_separate()
     ensures { PairsAreSeparate }
+{}
+
+/// What was posted on a lane in the session, and then what is left to post, are the writes of the entries that its sender
+/// began, in order: each once, and none in another's place. Premise: the sender hasn't forgotten the session, that is,
+/// the link isn't down or its side isn't clean. It holds on raw pairs too.
+pub fn posted_are_writes()
+    ensures { PostedAreWrites }
 {}
 
 /// A check that is answered `up` has found the peer's numbers in the scratchpads, all landed in the session, and they
@@ -151,4 +183,45 @@ pub fn labels_are_of_entries()
 /// script can declare, and the steps are such as the plan permits.
 pub fn labels_are_postable()
     ensures { LabelsArePostable }
+{}
+
+/// A queue is joined only on a side that is up. No premise.
+pub fn joined_side_is_up()
+    ensures { JoinedSideIsUp }
+{}
+
+/// A device is stopped only where its queue is joined on its side: a side that forgets its session starts its devices.
+/// No premise.
+pub fn stopped_device_is_joined()
+    ensures { StoppedDeviceIsJoined }
+{}
+
+/// Of a lane an entry waits, or a write is left to post, only where the queue is joined at the sender. Premise: the pair
+/// isn't declared raw.
+pub fn busy_sender_is_joined()
+    ensures { BusySenderIsJoined }
+{}
+
+/// A receiver copies an entry, or has one that it hasn't given back yet, only where the queue is joined on its side.
+/// Premise: the pair isn't declared raw.
+pub fn busy_receiver_is_joined()
+    ensures { BusyReceiverIsJoined }
+{}
+
+/// The entries of a lane that were given back were begun. Premise: the pair isn't declared raw.
+pub fn freed_were_begun()
+    ensures { FreedWereBegun }
+{}
+
+/// A receiver that copies an entry knows how many bytes it has; and where it is idle, its queue is joined and an entry is
+/// before it, the bytes of the frame under way are with the entry's no more than a frame may have. Premise: the pair
+/// isn't declared raw.
+pub fn receiver_knows_its_frame()
+    ensures { ReceiverKnowsItsFrame }
+{}
+
+/// No step is answered `verdiffers` or `long`: a look finds the entries of the transport alone. Premise: the pair isn't
+/// declared raw.
+pub fn no_ordinary_ver_differs_or_long()
+    ensures { NoOrdinaryVerDiffersOrLong }
 {}

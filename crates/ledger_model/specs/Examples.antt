@@ -1,5 +1,6 @@
 -- Worked examples, each a list of steps and the answers that the definitions give.
 use Rattle.std.specs.Prelude.{◌≡◌, ℕ, ◌+◌, ◌*◌, List, [], ◌∷◌, ◌++◌, length, map, drop, replicate, true, false, Some, None}
+use Rattle.step_kinds.specs.declared.names.LaneName.{LaneName}
 use Rattle.step_kinds.specs.declared.names.Side.{Side}
 use Rattle.step_kinds.specs.declared.names.Side.TheVariants.{A, B}
 use Rattle.step_kinds.specs.declared.plan.SidePlan.{SidePlan}
@@ -12,7 +13,9 @@ use Rattle.step_kinds.specs.declared.steps.Answer.TheVariants.{Ok as Done, OkSes
 use Rattle.step_kinds.specs.declared.steps.Step.{Step}
 use Rattle.step_kinds.specs.declared.steps.Step.TheVariants.{Enable, Train, Break, DropDone, Clean, Offer, Check, Ready, Join, Begin, QpDown, Xbegin, Post, Land, Look, Copy, Ack, Wake, Irq, Mask, Unmask, ShowQueue, ShowPad}
 use Rattle.ledger_model.specs.Ledger.{tally_of}
-use Rattle.ledger_model.specs.Log.{Memories, ledger_of, log_of}
+use Rattle.ledger_model.specs.Log.{Answered, Memories, ledger_of, log_of, counters_in, posted_in, looked_in}
+use Rattle.ledger_model.specs.Next.{fresh_pair}
+use Rattle.ledger_model.specs.Reading.{reading_of}
 use Rattle.plan_model.specs.Macros.{send, xmit, land_all, receive, offer_all}
 
 -- a side of one window and one queue with 4,096 bytes
@@ -205,10 +208,59 @@ TalliesCount =
     tally_of (ledger_of (plan_of small_pair []) no_memory (send small_pair 0 A 0 letter ++ send small_pair 0 A 0 letter ++ land_all 0 A 5 ++ receive 0 B 0 1) 0) A 0 1
     ≡ record { accepted = 2; delivered = 1 }
 
+-- a device's frames are counted where they are accepted and where they are refused, and the frames that come to the peer's device
+-- by their bytes, a short one apart
+abbrev pub CountersCount : Type 0
+CountersCount =
+    map (counters_in plan log) (end A ∷ end B ∷ [])
+    ≡ record { tx = 1; tx_bytes = 15; refused = 2; rx = 0; rx_bytes = 0; short = 0 } ∷ record { tx = 0; tx_bytes = 0; refused = 0; rx = 1; rx_bytes = 15; short = 1 } ∷ []
+  where
+    plan : Plan
+    plan = plan_of small_pair (device A 1 ∷ device B 2 ∷ [])
+
+    end : Side → LaneName
+    end side = record { pair = 0; from = side; queue = 0 }
+
+    address : List ℕ
+    address = 2 ∷ 0 ∷ 0 ∷ 0 ∷ 0 ∷ 2 ∷ []
+
+    log : List Answered
+    log =
+        log_of plan no_memory
+        (send small_pair 0 A 0 letter ++ xmit small_pair 0 A 0 0 address 2048 letter ++ Xbegin 0 A 0 0 address 2048 letter ∷ Xbegin 0 A 0 0 address 2048 letter
+        ∷ land_all 0 A 10 ++ receive 0 B 0 1 ++ receive 0 B 0 1)
+
+-- what was posted, in its order, and the copies made of the entry that was found last
+abbrev pub PostsAndCopies : Type 0
+PostsAndCopies =
+    (posted_in log (record { pair = 0; from = A; queue = 0 }) ≡ Chunk 0 0 0 ∷ Chunk 0 0 1 ∷ Chunk 0 0 2 ∷ Len 0 0 ∷ Ver 0 0 ∷ Flag 0 0 ∷ Bell 0 ∷ Chunk 0 1 0 ∷ [])
+    × (looked_in log 0 B 0 ≡ Some (record { number = 0; len = 300; copies = 2 }))
+  where
+    log : List Answered
+    log =
+        log_of (plan_of small_pair []) no_memory
+        (send small_pair 0 A 0 (replicate 300 7) ++ land_all 0 A 7 ++ Look 0 B 0 ∷ Copy 0 B 0 ∷ Copy 0 B 0 ∷ Begin 0 A 0 letter ∷ Post 0 A 0 ∷ [])
+
 -- a train begins the next session
 abbrev pub SessionsCountUp : Type 0
 SessionsCountUp =
     (ledger_of (plan_of small_pair []) no_memory (Break 0 ∷ DropDone 0 ∷ Clean 0 A ∷ Clean 0 B ∷ Enable 0 A ∷ Enable 0 B ∷ Train 0 ∷ []) 0).link.session ≡ 2
+
+-- what a sender reads of its room: on a raw pair its index word as it stands in memory, and on any other the ledger
+abbrev pub nines : Side → ℕ → ℕ → List ℕ
+nines = λ side at len. replicate len 9
+
+abbrev pub RawPairsReadBytes : Type 0
+RawPairsReadBytes =
+    ((reading_of (record small_pair { raw = true }) nines (fresh_pair small_pair)).index_word A 0 ≡ 151587081)
+    × ((reading_of (record small_pair { raw = true }) nines (fresh_pair small_pair)).free A 0 ≡ 0)
+    × ((reading_of small_pair nines (fresh_pair small_pair)).index_word A 0 ≡ 3) × ((reading_of small_pair nines (fresh_pair small_pair)).free A 0 ≡ 3)
+
+-- what is in flight when a link is dropped is gone, and lands no more
+abbrev pub DropEmptiesTheLists : Type 0
+DropEmptiesTheLists =
+    drop 6 (answers small_pair [] (send small_pair 0 A 0 letter ++ Break 0 ∷ DropDone 0 ∷ ShowQueue 0 A 0 ∷ Land 0 A 0 ∷ []))
+    ≡ Done ∷ Done ∷ QueueShown 0 None ∷ Nothing ∷ []
 
 pub record ExamplesHold : Type 0 where
   pub one_frame : OneFrame
@@ -234,4 +286,8 @@ pub record ExamplesHold : Type 0 where
   pub step_by_step : StepByStep
   pub link_is_needed : LinkIsNeeded
   pub tallies_count : TalliesCount
+  pub counters_count : CountersCount
+  pub posts_and_copies : PostsAndCopies
   pub sessions_count_up : SessionsCountUp
+  pub raw_pairs_read_bytes : RawPairsReadBytes
+  pub drop_empties_the_lists : DropEmptiesTheLists

@@ -1,20 +1,22 @@
 -- The log of a run: each step with its answer. What follows reads a log alone, and no ledger.
-use Rattle.std.specs.Prelude.{ℕ, ◌+◌, ◌-◌, ◌==◌, Bool, true, false, ◌&&◌, Option, Some, None, List, [], ◌∷◌, ◌++◌, count_by, length, map, sum, if◌then◌else◌}
+use Rattle.std.specs.Prelude.{ℕ, ◌+◌, ◌-◌, ◌==◌, Bool, true, false, ◌&&◌, Option, Some, None, List, [], ◌∷◌, ◌++◌, count_by, length, map, nat_lt, not, sum, sum_by, if◌then◌else◌}
 use Rattle.std.specs.List.{flat_map}
 use Rattle.step_kinds.specs.Bits.{has_bit}
 use Rattle.step_kinds.specs.Sides.{other_side}
 use Rattle.step_kinds.specs.declared.names.LaneName.{LaneName}
 use Rattle.step_kinds.specs.declared.names.Side.{Side}
 use Rattle.step_kinds.specs.declared.names.Side.TheVariants.{A, B}
+use Rattle.step_kinds.specs.declared.plan.Counters.{Counters}
 use Rattle.step_kinds.specs.declared.plan.Plan.{Plan}
+use Rattle.step_kinds.specs.declared.steps.Label.{Label}
 use Rattle.step_kinds.specs.declared.steps.Label.TheVariants.{Index, Pad}
 use Rattle.step_kinds.specs.declared.steps.Answer.{Answer}
-use Rattle.step_kinds.specs.declared.steps.Answer.TheVariants.{Ok as Done, OkSession, OkNumber, Landed, Empty, Delivered, Irq as IrqBits}
+use Rattle.step_kinds.specs.declared.steps.Answer.TheVariants.{Ok as Done, OkSession, OkNumber, Posted, Landed, Empty, ReadyFrame, Copied as CopiedPart, Delivered, Irq as IrqBits}
 use Rattle.step_kinds.specs.declared.steps.Step.{Step}
-use Rattle.step_kinds.specs.declared.steps.Step.TheVariants.{Train, Break, Begin, QpDown, Xbegin, Land, Look, Copy, Irq}
+use Rattle.step_kinds.specs.declared.steps.Step.TheVariants.{Train, Break, Begin, QpDown, Xbegin, Post, Land, Look, Copy, Irq}
 use Rattle.byte_model.specs.Headers.{Bytes}
 use Rattle.ledger_model.specs.Next.{Ledger, start, outcome_in, ledger_after}
-use Rattle.plan_model.specs.Ethernet.{ethernet_frame}
+use Rattle.plan_model.specs.Ethernet.{ethernet_frame, ethernet_header}
 use Rattle.plan_model.specs.Plans.{pair_plan, dev_plan}
 use Rattle.plan_model.specs.Sizes.{sizes_of, pieces_in}
 
@@ -132,6 +134,62 @@ accepted plan log lane session = flat_map (accepts plan lane) (made_in lane.pair
 abbrev pub delivered : Plan → List Answered → LaneName → ℕ → List Numbered
 delivered plan log lane session = flat_map (delivers lane) (made_in lane.pair session (first_session plan lane.pair) log)
 
+-- Devices. A device stands on a side and a queue of a pair, and is named as the lane on which it sends.
+
+-- the frame of a device that this accepts
+abbrev pub device_accepts : Plan → LaneName → Answered → List (List ℕ)
+device_accepts plan own made = frame_of made.step made.answer where
+  frame_of : Step → Answer → List (List ℕ)
+  frame_of (Xbegin pair side queue dev dst kind payload) (OkNumber n) =
+      if is_on own pair side queue then ethernet_frame dst (dev_plan plan.devs dev).address kind payload ∷ [] else []
+  frame_of step answer = []
+
+-- whether this refuses a frame of the device
+abbrev pub device_refuses : LaneName → Answered → Bool
+device_refuses own made = refused made.step made.answer where
+  refused : Step → Answer → Bool
+  refused (Xbegin pair side queue dev dst kind payload) (OkNumber n) = false
+  refused (Xbegin pair side queue dev dst kind payload) answer = is_on own pair side queue
+  refused step answer = false
+
+-- the frame that this delivers on the device's side and queue, whoever sent it
+abbrev pub device_delivers : LaneName → Answered → List (List ℕ)
+device_delivers own made = frame_in made.step made.answer where
+  frame_in : Step → Answer → List (List ℕ)
+  frame_in (Copy pair side queue) (Delivered n frame) = if is_on own pair side queue then frame ∷ [] else []
+  frame_in step answer = []
+
+-- a frame that is shorter than an Ethernet header
+abbrev pub is_short : List ℕ → Bool
+is_short frame = nat_lt (length frame) ethernet_header
+
+-- the counters of a device after a log, over all sessions
+abbrev pub counters_in : Plan → List Answered → LaneName → Counters
+counters_in plan log own =
+    let sent = flat_map (device_accepts plan own) log in
+    let found = flat_map (device_delivers own) log in
+    record {
+      tx = length sent;
+      tx_bytes = sum_by length sent;
+      refused = count_by (device_refuses own) log;
+      rx = count_by (λ frame. not (is_short frame)) found;
+      rx_bytes = sum_by (λ frame. if is_short frame then 0 else length frame) found;
+      short = count_by is_short found;
+    }
+
+-- Writes
+
+-- the label of a lane's write that this posts
+abbrev pub posts_write : LaneName → Answered → List Label
+posts_write lane made = label_in made.step made.answer where
+  label_in : Step → Answer → List Label
+  label_in (Post pair side queue) (Posted label) = if is_on lane pair side queue then label ∷ [] else []
+  label_in step answer = []
+
+-- the labels of a lane's writes that were posted since the pair's session began, in order
+abbrev pub posted_in : List Answered → LaneName → List Label
+posted_in log lane = flat_map (posts_write lane) (in_this_session lane.pair log)
+
 -- Room
 
 -- the entries that this begins or keeps waiting on a lane: one for each piece of a frame, and a link-down entry
@@ -189,3 +247,29 @@ saw_empty pair side queue now (made ∷ log) = saw_empty pair side queue (seen m
 
 abbrev pub last_look_empty : List Answered → ℕ → Side → ℕ → Bool
 last_look_empty log pair side queue = saw_empty pair side queue false (in_this_session pair log)
+
+-- Copying
+
+-- the entry that a side found last on a queue: its number and length as the side was answered, and how many copies it made since
+pub record Looked : Type 0 where
+  pub number : ℕ
+  pub len : ℕ
+  pub copies : ℕ
+
+abbrev pub one_copied : Option Looked → Option Looked
+one_copied None = None
+one_copied (Some found) = Some (record { number = found.number; len = found.len; copies = found.copies + 1 })
+
+-- the same after a log, where it was `now` before
+abbrev pub looked_after : ℕ → Side → ℕ → Option Looked → List Answered → Option Looked
+looked_after pair side queue now [] = now
+looked_after pair side queue now (made ∷ log) = looked_after pair side queue (seen made.step made.answer) log where
+  seen : Step → Answer → Option Looked
+  seen (Look p s q) (ReadyFrame number len) =
+      if is_on (record { pair = pair; from = side; queue = queue }) p s q then Some (record { number = number; len = len; copies = 0 }) else now
+  seen (Copy p s q) (CopiedPart number part) = if is_on (record { pair = pair; from = side; queue = queue }) p s q then one_copied now else now
+  seen (Copy p s q) (Delivered number frame) = if is_on (record { pair = pair; from = side; queue = queue }) p s q then one_copied now else now
+  seen step answer = now
+
+abbrev pub looked_in : List Answered → ℕ → Side → ℕ → Option Looked
+looked_in log pair side queue = looked_after pair side queue None log

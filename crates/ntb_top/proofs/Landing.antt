@@ -10,7 +10,6 @@ use Rattle.step_kinds.specs.declared.steps.Label.TheVariants.{Index}
 use Rattle.step_kinds.specs.declared.steps.Answer.TheVariants.{Landed, Blocked}
 use Rattle.lane_model.specs.Lane.{Lane, Slot}
 use Rattle.lane_model.specs.Law.{HoldsRingLaw}
-use Rattle.lane_model.specs.Order.{may_land}
 use Rattle.lane_model.specs.Steps.{after_landing, after_index}
 use Rattle.lane_model.specs.declared.Field.TheVariants.{Chunk, Length, Version}
 use Rattle.lane_model.specs.declared.Write.{Write}
@@ -19,10 +18,11 @@ use Rattle.lane_core.specs.Calls as calls
 use Rattle.lane_core.specs.Calls.{LaneValue, label_in, order_of_mark, may_land_in, may_land_index, land_answer, after_land, after_found, land_index_answer, after_land_index, index_found, after_index_found}
 use Rattle.lane_core.specs.declared.answers.LaneLand.{LaneLand}
 use Rattle.lane_core.specs.declared.answers.LaneLand.TheVariants.{Landed as WriteLanded, Blocked as WriteBlocked}
-use Rattle.ledger_model.specs.Labels.{order_of}
 use Rattle.ledger_model.specs.Ledger.{PairPart, side_of}
 use Rattle.ledger_model.specs.Outcome.{Outcome, refuse_if, decided}
 use Rattle.ledger_model.specs.Receiving.{land_step, land_found, lands_on, taken_out}
+use Rattle.order_rules.specs.Order.{Order, may_land}
+use Rattle.plan_model.specs.Orders.{order_of}
 use Rattle.ntb_top.specs.Drives.{Shows, frame_label}
 use Rattle.ntb_top.specs.Moves.{landed_answer}
 use Rattle.ntb_top.proofs.Marks.{map-remove, orders_of_labels, orders_of_indexes, label_in_open}
@@ -36,15 +36,20 @@ land_cases P now new lane next label there true p q = p refl
 land_cases P now new lane next label there false p q = q
 
 -- a landing of a field, of flags and of a doorbell: the write is taken out of those in flight, and the ring may be another
-cell_shows : (value : LaneValue) (plan : PairPlan) (now : PairPart) (taken given : ℕ) (place : ℕ) (ring : List Slot) → Shows value plan now taken given
+cell_shows : (value : LaneValue) (plan : PairPlan) (now : PairPart) (taken given : ℕ) (place : ℕ) (ring : List Slot) (label : Label) → Shows value plan now taken given
     → HoldsRingLaw (record value.lane { flight = remove value.lane.flight place; ring = ring })
-    → Shows (calls.with_lane value (record value.lane { flight = remove value.lane.flight place; ring = ring })) plan (taken_out now A place) taken given
-cell_shows value plan now taken given place ring h law =
+    → Shows (calls.with_lane value (record value.lane { flight = remove value.lane.flight place; ring = ring })) plan (taken_out now A place label) taken given
+cell_shows value plan now taken given place ring label h law =
     record {
       queue = h.queue;
       is_strict = h.is_strict;
       entries = h.entries;
       largest = h.largest;
+      a_byte = h.a_byte;
+      ordinary = h.ordinary;
+      fourth = h.fourth;
+      class_a = h.class_a;
+      class_b = h.class_b;
       lane_up = h.lane_up;
       link_up = h.link_up;
       session = h.session;
@@ -54,6 +59,8 @@ cell_shows value plan now taken given place ring h law =
       open_b = h.open_b;
       lane = record {
         sent = h.lane.sent;
+        waiting = h.lane.waiting;
+        told = h.lane.told;
         todo = h.lane.todo;
         flagged = h.lane.flagged;
         got = h.lane.got;
@@ -62,6 +69,8 @@ cell_shows value plan now taken given place ring h law =
         freed = h.lane.freed;
         phase = h.lane.phase;
         parts = h.lane.parts;
+        done = h.lane.done;
+        under_way = h.lane.under_way;
       };
       flight = ap (λ (flight : List Label). remove flight place) h.flight ∙ sym (map-remove frame_label value.lane.flight place);
       returning = h.returning;
@@ -71,17 +80,23 @@ cell_shows value plan now taken given place ring h law =
       given_all = h.given_all;
       law = law;
       only_frames = h.only_frames;
+      whole_frames = h.whole_frames;
     }
 
 flag_shows : (value : LaneValue) (plan : PairPlan) (now : PairPart) (taken given : ℕ) (place n : ℕ) → Shows value plan now taken given
     → HoldsRingLaw (after_landing value.lane (Flag n) (remove value.lane.flight place))
-    → Shows (calls.with_lane value (after_landing value.lane (Flag n) (remove value.lane.flight place))) plan (lands_on (taken_out now A place) A (frame_label (Flag n))) taken given
+    → Shows (calls.with_lane value (after_landing value.lane (Flag n) (remove value.lane.flight place))) plan (lands_on (taken_out now A place (frame_label (Flag n))) A (frame_label (Flag n))) taken given
 flag_shows value plan now taken given place n h law =
     record {
       queue = h.queue;
       is_strict = h.is_strict;
       entries = h.entries;
       largest = h.largest;
+      a_byte = h.a_byte;
+      ordinary = h.ordinary;
+      fourth = h.fourth;
+      class_a = h.class_a;
+      class_b = h.class_b;
       lane_up = h.lane_up;
       link_up = h.link_up;
       session = h.session;
@@ -91,6 +106,8 @@ flag_shows value plan now taken given place n h law =
       open_b = h.open_b;
       lane = record {
         sent = h.lane.sent;
+        waiting = h.lane.waiting;
+        told = h.lane.told;
         todo = h.lane.todo;
         flagged = ap (λ flagged. flagged + 1) h.lane.flagged;
         got = h.lane.got;
@@ -99,6 +116,8 @@ flag_shows value plan now taken given place n h law =
         freed = h.lane.freed;
         phase = h.lane.phase;
         parts = h.lane.parts;
+        done = h.lane.done;
+        under_way = h.lane.under_way;
       };
       flight = ap (λ (flight : List Label). remove flight place) h.flight ∙ sym (map-remove frame_label value.lane.flight place);
       returning = h.returning;
@@ -108,17 +127,23 @@ flag_shows value plan now taken given place n h law =
       given_all = h.given_all;
       law = law;
       only_frames = h.only_frames;
+      whole_frames = h.whole_frames;
     }
 
 bell_shows : (value : LaneValue) (plan : PairPlan) (now : PairPart) (taken given : ℕ) (place : ℕ) → Shows value plan now taken given
     → HoldsRingLaw (after_landing value.lane Bell (remove value.lane.flight place))
-    → Shows (calls.with_lane value (after_landing value.lane Bell (remove value.lane.flight place))) plan (lands_on (taken_out now A place) A (frame_label Bell)) taken given
+    → Shows (calls.with_lane value (after_landing value.lane Bell (remove value.lane.flight place))) plan (lands_on (taken_out now A place (frame_label Bell)) A (frame_label Bell)) taken given
 bell_shows value plan now taken given place h law =
     record {
       queue = h.queue;
       is_strict = h.is_strict;
       entries = h.entries;
       largest = h.largest;
+      a_byte = h.a_byte;
+      ordinary = h.ordinary;
+      fourth = h.fourth;
+      class_a = h.class_a;
+      class_b = h.class_b;
       lane_up = h.lane_up;
       link_up = h.link_up;
       session = h.session;
@@ -128,6 +153,8 @@ bell_shows value plan now taken given place h law =
       open_b = h.open_b;
       lane = record {
         sent = h.lane.sent;
+        waiting = h.lane.waiting;
+        told = h.lane.told;
         todo = h.lane.todo;
         flagged = h.lane.flagged;
         got = h.lane.got;
@@ -136,6 +163,8 @@ bell_shows value plan now taken given place h law =
         freed = h.lane.freed;
         phase = h.lane.phase;
         parts = h.lane.parts;
+        done = h.lane.done;
+        under_way = h.lane.under_way;
       };
       flight = ap (λ (flight : List Label). remove flight place) h.flight ∙ sym (map-remove frame_label value.lane.flight place);
       returning = h.returning;
@@ -145,14 +174,15 @@ bell_shows value plan now taken given place h law =
       given_all = h.given_all;
       law = law;
       only_frames = h.only_frames;
+      whole_frames = h.whole_frames;
     }
 
 landed_shows : (value : LaneValue) (plan : PairPlan) (now : PairPart) (taken given : ℕ) (mark : Write) (place : ℕ) → Shows value plan now taken given
     → HoldsRingLaw (after_landing value.lane mark (remove value.lane.flight place))
-    → Shows (calls.with_lane value (after_landing value.lane mark (remove value.lane.flight place))) plan (lands_on (taken_out now A place) A (frame_label mark)) taken given
-landed_shows value plan now taken given (Data n (Chunk part)) place h law = cell_shows value plan now taken given place _ h law
-landed_shows value plan now taken given (Data n Length) place h law = cell_shows value plan now taken given place _ h law
-landed_shows value plan now taken given (Data n Version) place h law = cell_shows value plan now taken given place _ h law
+    → Shows (calls.with_lane value (after_landing value.lane mark (remove value.lane.flight place))) plan (lands_on (taken_out now A place (frame_label mark)) A (frame_label mark)) taken given
+landed_shows value plan now taken given (Data n (Chunk part)) place h law = cell_shows value plan now taken given place _ (frame_label (Data n (Chunk part))) h law
+landed_shows value plan now taken given (Data n Length) place h law = cell_shows value plan now taken given place _ (frame_label (Data n Length)) h law
+landed_shows value plan now taken given (Data n Version) place h law = cell_shows value plan now taken given place _ (frame_label (Data n Version)) h law
 landed_shows value plan now taken given (Flag n) place h law = flag_shows value plan now taken given place n h law
 landed_shows value plan now taken given Bell place h law = bell_shows value plan now taken given place h law
 
@@ -172,12 +202,12 @@ land_at value plan now taken given place None there h law = (refl, h)
 land_at value plan now taken given place (Some mark) there h law =
     let lane = value.lane in
     let labelled = ap (λ queue. label_in queue lane mark) h.queue ∙ label_in_open lane mark h.only_frames h.law (found_among lane place mark there) in
-    let same : may_land_in value place ≡ may_land (map (order_of plan.strict) (side_of now A).flight) place =
+    let same : may_land_in value place ≡ may_land (map (order_of plan A) (side_of now A).flight) place =
     ap (λ (is_strict : Bool). may_land (map (order_of_mark is_strict) lane.flight) place) h.is_strict
-    ∙ ap (λ (kinds : List ℕ). may_land kinds place) (sym (orders_of_labels plan.strict lane.flight))
-    ∙ ap (λ (labels : List Label). may_land (map (order_of plan.strict) labels) place) (sym h.flight) in
+    ∙ ap (λ (orders : List Order). may_land orders place) (sym (orders_of_labels plan h.class_a lane.flight))
+    ∙ ap (λ (labels : List Label). may_land (map (order_of plan A) labels) place) (sym h.flight) in
     let next : Lane = after_landing lane mark (remove lane.flight place) in
-    let new : PairPart = lands_on (taken_out now A place) A (frame_label mark) in
+    let new : PairPart = lands_on (taken_out now A place (frame_label mark)) A (frame_label mark) in
     let P : LaneLand → Lane → Outcome → Type 0 = λ land after made.
     HoldsRingLaw after → (landed_answer land ≡ made.answer) × Shows (calls.with_lane value after) plan made.after taken given in
     subst (λ (may : Bool). P (if may_land_in value place then WriteLanded (label_in value.queue lane mark) else WriteBlocked)
@@ -199,13 +229,18 @@ land_shows value plan now taken given place h law =
 
 index_shows : (value : LaneValue) (plan : PairPlan) (now : PairPart) (taken given : ℕ) (place n : ℕ) → Shows value plan now taken given
     → HoldsRingLaw (after_index value.lane n (remove value.lane.returning place))
-    → Shows (calls.with_lane value (after_index value.lane n (remove value.lane.returning place))) plan (lands_on (taken_out now B place) B (Index 0 n)) taken given
+    → Shows (calls.with_lane value (after_index value.lane n (remove value.lane.returning place))) plan (lands_on (taken_out now B place (Index 0 n)) B (Index 0 n)) taken given
 index_shows value plan now taken given place n h law =
     record {
       queue = h.queue;
       is_strict = h.is_strict;
       entries = h.entries;
       largest = h.largest;
+      a_byte = h.a_byte;
+      ordinary = h.ordinary;
+      fourth = h.fourth;
+      class_a = h.class_a;
+      class_b = h.class_b;
       lane_up = h.lane_up;
       link_up = h.link_up;
       session = h.session;
@@ -215,6 +250,8 @@ index_shows value plan now taken given place n h law =
       open_b = h.open_b;
       lane = record {
         sent = h.lane.sent;
+        waiting = h.lane.waiting;
+        told = h.lane.told;
         todo = h.lane.todo;
         flagged = h.lane.flagged;
         got = h.lane.got;
@@ -223,6 +260,8 @@ index_shows value plan now taken given place n h law =
         freed = refl;
         phase = h.lane.phase;
         parts = h.lane.parts;
+        done = h.lane.done;
+        under_way = h.lane.under_way;
       };
       flight = h.flight;
       returning = ap (λ (flight : List Label). remove flight place) h.returning ∙ sym (map-remove (Index 0) value.lane.returning place);
@@ -232,6 +271,7 @@ index_shows value plan now taken given place n h law =
       given_all = h.given_all;
       law = law;
       only_frames = h.only_frames;
+      whole_frames = h.whole_frames;
     }
 
 land_index_at : (value : LaneValue) (plan : PairPlan) (now : PairPart) (taken given : ℕ) (place : ℕ) (found : Option ℕ)
@@ -241,11 +281,11 @@ land_index_at : (value : LaneValue) (plan : PairPlan) (now : PairPart) (taken gi
 land_index_at value plan now taken given place None h law = (refl, h)
 land_index_at value plan now taken given place (Some n) h law =
     let lane = value.lane in
-    let same : may_land_index lane place ≡ may_land (map (order_of plan.strict) (side_of now B).flight) place =
-    ap (λ (kinds : List ℕ). may_land kinds place) (sym (orders_of_indexes plan.strict lane.returning))
-    ∙ ap (λ (labels : List Label). may_land (map (order_of plan.strict) labels) place) (sym h.returning) in
+    let same : may_land_index lane place ≡ may_land (map (order_of plan B) (side_of now B).flight) place =
+    ap (λ (orders : List Order). may_land orders place) (sym (orders_of_indexes plan h.class_b lane.returning))
+    ∙ ap (λ (labels : List Label). may_land (map (order_of plan B) labels) place) (sym h.returning) in
     let next : Lane = after_index lane n (remove lane.returning place) in
-    let new : PairPart = lands_on (taken_out now B place) B (Index 0 n) in
+    let new : PairPart = lands_on (taken_out now B place (Index 0 n)) B (Index 0 n) in
     let P : LaneLand → Lane → Outcome → Type 0 = λ land after made.
     HoldsRingLaw after → (landed_answer land ≡ made.answer) × Shows (calls.with_lane value after) plan made.after taken given in
     subst (λ (may : Bool). P (if may_land_index lane place then WriteLanded (Index value.queue n) else WriteBlocked)

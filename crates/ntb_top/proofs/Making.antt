@@ -1,5 +1,5 @@
 -- A step that the engine's lane has made is made as the ledger makes it.
-use Rattle.std.proofs.Common.{◌≡◌, ℕ, ◌+◌, ◌^◌, ◌<◌, ◌≤◌, List, [], ◌∷◌, Option, Some, None, length, slice_get, sym, ap, ◌∙◌, subst, arith}
+use Rattle.std.proofs.Common.{◌≡◌, ℕ, ◌+◌, ◌^◌, ◌<◌, ◌≤◌, if◌then◌else◌, Bool, false, List, [], ◌∷◌, Option, Some, None, length, slice_get, sym, ap, ◌∙◌, subst, arith}
 use Rattle.std.proofs.lemmas.Bool.{cond_both}
 use Rattle.std.proofs.lemmas.List.{length_push}
 use Rattle.step_kinds.specs.declared.names.Side.TheVariants.{A, B}
@@ -22,7 +22,10 @@ use Rattle.lane_core.specs.declared.answers.LaneLook.TheVariants.{Ready, Empty, 
 use Rattle.lane_core.specs.declared.answers.LaneCopy.{LaneCopy}
 use Rattle.lane_model.specs.Steps.{more_to_copy}
 use Rattle.ledger_model.specs.Ledger.{PairPart}
-use Rattle.ledger_model.specs.Next.{Bytes, pair_next}
+use Rattle.byte_model.specs.Headers.{Bytes}
+use Rattle.ledger_model.specs.Next.{pair_next, read_next}
+use Rattle.ledger_model.specs.Outcome.{Outcome}
+use Rattle.ledger_model.specs.Reading.{by_bytes, by_ledger}
 use Rattle.ntb_top.specs.Drives.{Shows, EngineShows, IsMade}
 use Rattle.ntb_top.specs.Moves.{begun_answer, posted_answer, landed_answer, looked_answer, copied_answer, cleared_answer, acked_answer, taken_after, given_after}
 use Rattle.ntb_top.specs.declared.engine.Engine.{Engine}
@@ -30,18 +33,29 @@ use Rattle.ntb_top.proofs.Sending.{begin_shows, post_shows}
 use Rattle.ntb_top.proofs.Landing.{land_shows, land_index_shows}
 use Rattle.ntb_top.proofs.Receiving.{look_shows, copy_shows, clear_shows, ack_shows}
 
+-- an ordinary pair reads its ledger
+reads_ledger : (plan : PairPlan) (bytes : Bytes) (now : PairPart) (step : Step) → plan.raw ≡ false
+    → pair_next [] plan bytes now step ≡ read_next [] plan (by_ledger plan now) bytes now step
+reads_ledger plan bytes now step ordinary =
+    ap (λ (raw : Bool). read_next [] plan (if raw then by_bytes plan bytes now else by_ledger plan now) bytes now step) ordinary
+
 -- a step is made as the ledger makes it where its lane's answer and the lane after it are so
 made_so : (step : Step) (answer made : Answer) (old : Engine) (lane : LaneValue) (next : Lane) (accepted delivered : ℕ)
     → answer ≡ made → lane ≡ with_lane old.lane next → HoldsRingLaw lane.lane → length next.sent ≤ length old.lane.lane.sent + 1
     → (HoldsRingLaw next → (plan : PairPlan) (bytes : Bytes) (now : PairPart) → EngineShows old plan now
-    → (made ≡ (pair_next [] plan bytes now step).answer) × Shows (with_lane old.lane next) plan (pair_next [] plan bytes now step).after accepted delivered)
+    → let outcome = read_next [] plan (by_ledger plan now) bytes now step in
+    (made ≡ outcome.answer) × Shows (with_lane old.lane next) plan outcome.after accepted delivered)
     → IsMade step answer old (record { lane = lane; accepted = accepted; delivered = delivered })
 made_so step answer made old lane next accepted delivered answered after law more shows =
     let known : HoldsRingLaw next = subst (λ (value : LaneValue). HoldsRingLaw value.lane) after law in
     record {
       as_the_ledger = λ plan bytes now h.
           let both = shows known plan bytes now h in
-          (answered ∙ both.0, subst (λ (value : LaneValue). Shows value plan (pair_next [] plan bytes now step).after accepted delivered) (sym after) both.1);
+          let read = sym (reads_ledger plan bytes now step h.ordinary) in (
+            answered ∙ both.0 ∙ ap (λ (outcome : Outcome). outcome.answer) read,
+            subst (λ (outcome : Outcome). Shows lane plan outcome.after accepted delivered) read
+                (subst (λ (value : LaneValue). Shows value plan (read_next [] plan (by_ledger plan now) bytes now step).after accepted delivered) (sym after) both.1),
+          );
       one_more = subst (λ (value : LaneValue). length value.lane.sent ≤ length old.lane.lane.sent + 1) (sym after) more;
     }
 
@@ -54,24 +68,24 @@ begun_one lane entry Busy = omega arith
 begun_one lane entry (NoRoom head tail) = omega arith
 
 pub begin_made : (old : Engine) (frame : List ℕ) (begun found : Begun) (lane : LaneValue) (accepted : ℕ) → length old.lane.lane.sent < 2 ^ 46
-    → found ≡ begun → found ≡ begin_answer old.lane.lane (length frame) → lane ≡ with_lane old.lane (after_beginning old.lane.lane (Carries frame) found)
+    → found ≡ begun → found ≡ begin_answer old.lane.lane (length frame) → lane ≡ with_lane old.lane (after_beginning old.lane.lane (Carries frame 0) found)
     → HoldsRingLaw lane.lane
     → (old.accepted < 2 ^ 46 → accepted ≡ taken_after begun old.accepted)
     → IsMade (Begin 0 A 0 frame) (begun_answer begun) old (record { lane = lane; accepted = accepted; delivered = old.delivered })
 begin_made old frame begun found lane accepted few same_begun answered_found after law counted =
     let answer = begin_answer old.lane.lane (length frame) in
     let answered : begun ≡ answer = sym same_begun ∙ answered_found in
-    made_so (Begin 0 A 0 frame) (begun_answer begun) (begun_answer answer) old lane (after_beginning old.lane.lane (Carries frame) answer) accepted old.delivered
+    made_so (Begin 0 A 0 frame) (begun_answer begun) (begun_answer answer) old lane (after_beginning old.lane.lane (Carries frame 0) answer) accepted old.delivered
     (ap begun_answer answered)
-    (after ∙ ap (λ (b : Begun). with_lane old.lane (after_beginning old.lane.lane (Carries frame) b)) answered_found)
-    law (begun_one old.lane.lane (Carries frame) answer)
+    (after ∙ ap (λ (b : Begun). with_lane old.lane (after_beginning old.lane.lane (Carries frame 0) b)) answered_found)
+    law (begun_one old.lane.lane (Carries frame 0) answer)
     (λ known plan bytes now h.
     let both = begin_shows old.lane plan now old.accepted old.delivered frame h known in
     let all = h.taken_all in
     let same : taken_after answer old.accepted ≡ accepted = sym (counted (omega arith) ∙ ap (λ (b : Begun). taken_after b old.accepted) answered) in (
       both.0,
-      subst (λ (taken : ℕ). Shows (with_lane old.lane (after_beginning old.lane.lane (Carries frame) answer)) plan
-          (pair_next [] plan bytes now (Begin 0 A 0 frame)).after taken old.delivered) same both.1,
+      subst (λ (taken : ℕ). Shows (with_lane old.lane (after_beginning old.lane.lane (Carries frame 0) answer)) plan
+          (read_next [] plan (by_ledger plan now) bytes now (Begin 0 A 0 frame)).after taken old.delivered) same both.1,
     ))
 
 posted_same : (lane : Lane) (marks : List Write) → length (after_first_post lane marks).sent ≤ length lane.sent + 1
@@ -154,7 +168,7 @@ copy_made old copy lane delivered few answered after law counted =
     let same : given_after answer old.delivered ≡ delivered = sym (counted (omega arith) ∙ ap (λ (c : LaneCopy). given_after c old.delivered) answered) in (
       both.0,
       subst (λ (given : ℕ). Shows (with_lane old.lane (after_copying old.lane.lane)) plan
-          (pair_next [] plan bytes now (Copy 0 B 0)).after old.accepted given) same both.1,
+          (read_next [] plan (by_ledger plan now) bytes now (Copy 0 B 0)).after old.accepted given) same both.1,
     ))
 
 cleared_same : (lane : Lane) → length (after_clearing lane).sent ≤ length lane.sent + 1

@@ -1,8 +1,11 @@
 -- The labels of a lane that carries frames alone, and lists of them.
 use Rattle.std.proofs.Common.{◌≡◌, ◌≢◌, ℕ, suc, ◌+◌, ◌<◌, Bool, true, false, List, [], ◌∷◌, ◌++◌, length, map, take, drop, refl, sym, ap, ◌∙◌, subst, inl, inr, arith, Contains, length-drop}
+use Rattle.std.specs.Prelude.{slice_index}
 use Rattle.std.specs.List.{remove, take-map, drop-map}
 use Rattle.std.proofs.lemmas.List.{map-append}
 use Rattle.std.proofs.lemmas.List.Elements.{Contains-append_cases, Contains-append_left, Contains-append_right}
+use Rattle.step_kinds.specs.declared.names.Side.TheVariants.{A, B}
+use Rattle.step_kinds.specs.declared.plan.PairPlan.{PairPlan}
 use Rattle.step_kinds.specs.declared.steps.Label.TheVariants.{Index}
 use Rattle.lane_model.specs.Lane.{Entry, Carries, GoesDown, Lane, entry_of}
 use Rattle.lane_model.specs.declared.Field.{Field}
@@ -10,13 +13,14 @@ use Rattle.lane_model.specs.declared.Field.TheVariants.{Chunk, Length, Version}
 use Rattle.lane_model.specs.declared.Write.{Write}
 use Rattle.lane_model.specs.declared.Write.TheVariants.{Data, Flag, Bell}
 use Rattle.lane_model.specs.Law.{HoldsRingLaw, AreLeft, IsPickedFrom, Nothing, Taken, Left}
-use Rattle.lane_model.specs.Order.{strict}
 use Rattle.lane_laws.specs.Laws.{IsOpen}
 use Rattle.lane_laws.proofs.Facade.{contains_cases, contains_none, contains_later, field_of_data}
 use Rattle.lane_core.specs.Calls as calls
-use Rattle.lane_core.specs.Calls.{label_in, order_of_mark}
-use Rattle.ledger_model.specs.Labels.{label_of, order_of}
+use Rattle.lane_core.specs.Calls.{index_order, label_in, kind_of_mark, order_of_mark}
+use Rattle.plan_model.specs.Labels.{label_of}
 use Rattle.ledger_model.specs.Sending as sending
+use Rattle.order_rules.specs.Order.{Order, strict}
+use Rattle.plan_model.specs.Orders.{kind_of, class_of, order_of}
 use Rattle.ntb_top.specs.Drives.{frame_label}
 
 pub map-remove : {X Y : Type 0} (f : X → Y) (xs : List X) (k : ℕ) → map f (remove xs k) ≡ remove (map f xs) k
@@ -32,58 +36,79 @@ is_empty-map f (x ∷ xs) = refl
 
 -- Orders
 
-pub order_of_label : (is_strict : Bool) (mark : Write) → order_of is_strict (frame_label mark) ≡ order_of_mark is_strict mark
-order_of_label true mark = refl
-order_of_label false (Data n (Chunk part)) = refl
-order_of_label false (Data n Length) = refl
-order_of_label false (Data n Version) = refl
-order_of_label false (Flag n) = refl
-order_of_label false Bell = refl
+abbrev order_with : ℕ → ℕ → Order
+order_with kind class = record { kind = kind; class = class }
 
-pub orders_of_labels : (is_strict : Bool) (marks : List Write) → map (order_of is_strict) (map frame_label marks) ≡ map (order_of_mark is_strict) marks
-orders_of_labels is_strict [] = refl
-orders_of_labels is_strict (mark ∷ marks) =
-    ap (λ k. k ∷ map (order_of is_strict) (map frame_label marks)) (order_of_label is_strict mark)
-    ∙ ap (λ ks. order_of_mark is_strict mark ∷ ks) (orders_of_labels is_strict marks)
+kind_of_label : (is_strict : Bool) (mark : Write) → kind_of is_strict (frame_label mark) ≡ kind_of_mark is_strict mark
+kind_of_label true mark = refl
+kind_of_label false (Data n (Chunk part)) = refl
+kind_of_label false (Data n Length) = refl
+kind_of_label false (Data n Version) = refl
+kind_of_label false (Flag n) = refl
+kind_of_label false Bell = refl
 
-order_of_index : (is_strict : Bool) (n : ℕ) → order_of is_strict (Index 0 n) ≡ strict
-order_of_index true n = refl
-order_of_index false n = refl
+class_of_label : (classes : List ℕ) (mark : Write) → class_of classes (frame_label mark) ≡ slice_index classes 0
+class_of_label classes (Data n (Chunk part)) = refl
+class_of_label classes (Data n Length) = refl
+class_of_label classes (Data n Version) = refl
+class_of_label classes (Flag n) = refl
+class_of_label classes Bell = refl
 
-pub orders_of_indexes : (is_strict : Bool) (ns : List ℕ) → map (order_of is_strict) (map (Index 0) ns) ≡ map (λ n. strict) ns
-orders_of_indexes is_strict [] = refl
-orders_of_indexes is_strict (n ∷ ns) =
-    ap (λ k. k ∷ map (order_of is_strict) (map (Index 0) ns)) (order_of_index is_strict n)
-    ∙ ap (λ ks. strict ∷ ks) (orders_of_indexes is_strict ns)
+-- the order of a write, where the queue has class 0
+order_of_label : (plan : PairPlan) → slice_index plan.class_a 0 ≡ 0 → (mark : Write) → order_of plan A (frame_label mark) ≡ order_of_mark plan.strict mark
+order_of_label plan zero_class mark =
+    ap (λ (kind : ℕ). order_with kind (class_of plan.class_a (frame_label mark))) (kind_of_label plan.strict mark)
+    ∙ ap (order_with (kind_of_mark plan.strict mark)) (class_of_label plan.class_a mark ∙ zero_class)
+
+pub orders_of_labels : (plan : PairPlan) → slice_index plan.class_a 0 ≡ 0 → (marks : List Write)
+    → map (order_of plan A) (map frame_label marks) ≡ map (order_of_mark plan.strict) marks
+orders_of_labels plan zero_class [] = refl
+orders_of_labels plan zero_class (mark ∷ marks) =
+    ap (λ k. k ∷ map (order_of plan A) (map frame_label marks)) (order_of_label plan zero_class mark)
+    ∙ ap (λ ks. order_of_mark plan.strict mark ∷ ks) (orders_of_labels plan zero_class marks)
+
+kind_of_index : (is_strict : Bool) (n : ℕ) → kind_of is_strict (Index 0 n) ≡ strict
+kind_of_index true n = refl
+kind_of_index false n = refl
+
+order_of_index : (plan : PairPlan) → slice_index plan.class_b 0 ≡ 0 → (n : ℕ) → order_of plan B (Index 0 n) ≡ index_order
+order_of_index plan zero_class n =
+    ap (λ (kind : ℕ). order_with kind (slice_index plan.class_b 0)) (kind_of_index plan.strict n) ∙ ap (order_with strict) zero_class
+
+pub orders_of_indexes : (plan : PairPlan) → slice_index plan.class_b 0 ≡ 0 → (ns : List ℕ) → map (order_of plan B) (map (Index 0) ns) ≡ map (λ n. index_order) ns
+orders_of_indexes plan zero_class [] = refl
+orders_of_indexes plan zero_class (n ∷ ns) =
+    ap (λ k. k ∷ map (order_of plan B) (map (Index 0) ns)) (order_of_index plan zero_class n)
+    ∙ ap (λ ks. index_order ∷ ks) (orders_of_indexes plan zero_class ns)
 
 -- Labels
 
 label_of_cell : (entry : Entry) (n : ℕ) (field : Field) → label_of 0 entry (Data n field) ≡ frame_label (Data n field)
-label_of_cell (Carries bytes) n (Chunk part) = refl
-label_of_cell (Carries bytes) n Length = refl
-label_of_cell (Carries bytes) n Version = refl
+label_of_cell (Carries bytes left) n (Chunk part) = refl
+label_of_cell (Carries bytes left) n Length = refl
+label_of_cell (Carries bytes left) n Version = refl
 label_of_cell GoesDown n (Chunk part) = refl
 label_of_cell GoesDown n Length = refl
 label_of_cell GoesDown n Version = refl
 
 label_of_flag : (entry : Entry) (n : ℕ) → entry ≢ GoesDown → label_of 0 entry (Flag n) ≡ frame_label (Flag n)
-label_of_flag (Carries bytes) n carries = refl
+label_of_flag (Carries bytes left) n carries = refl
 label_of_flag GoesDown n carries = absurd (carries refl)
 
 label_of_bell : (entry : Entry) → label_of 0 entry Bell ≡ frame_label Bell
-label_of_bell (Carries bytes) = refl
+label_of_bell (Carries bytes left) = refl
 label_of_bell GoesDown = refl
 
-label_of_frame : (bytes : List ℕ) (mark : Write) → label_of 0 (Carries bytes) mark ≡ frame_label mark
-label_of_frame bytes (Data n field) = label_of_cell (Carries bytes) n field
-label_of_frame bytes (Flag n) = refl
-label_of_frame bytes Bell = label_of_bell (Carries bytes)
+label_of_frame : (bytes : List ℕ) (left : ℕ) (mark : Write) → label_of 0 (Carries bytes left) mark ≡ frame_label mark
+label_of_frame bytes left (Data n field) = label_of_cell (Carries bytes left) n field
+label_of_frame bytes left (Flag n) = refl
+label_of_frame bytes left Bell = label_of_bell (Carries bytes left)
 
-pub labels_of_frame : (bytes : List ℕ) (marks : List Write) → map (label_of 0 (Carries bytes)) marks ≡ map frame_label marks
-labels_of_frame bytes [] = refl
-labels_of_frame bytes (mark ∷ marks) =
-    ap (λ l. l ∷ map (label_of 0 (Carries bytes)) marks) (label_of_frame bytes mark)
-    ∙ ap (λ ls. frame_label mark ∷ ls) (labels_of_frame bytes marks)
+pub labels_of_frame : (bytes : List ℕ) (left : ℕ) (marks : List Write) → map (label_of 0 (Carries bytes left)) marks ≡ map frame_label marks
+labels_of_frame bytes left [] = refl
+labels_of_frame bytes left (mark ∷ marks) =
+    ap (λ l. l ∷ map (label_of 0 (Carries bytes left)) marks) (label_of_frame bytes left mark)
+    ∙ ap (λ ls. frame_label mark ∷ ls) (labels_of_frame bytes left marks)
 
 picked_among : {zs ys : List Write} → IsPickedFrom zs ys → (x : Write) → Contains zs x → Contains ys x
 picked_among Nothing x h = absurd (contains_none x h)

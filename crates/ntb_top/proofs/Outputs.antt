@@ -1,5 +1,5 @@
 -- The outputs that don't depend on a script, and the laws of every replayed log.
-use Rattle.std.proofs.Common.{◌≡◌, ℕ, ◌+◌, ◌<◌, true, false, Option, Some, None, Result, Ok, Err, List, [], length, replicate, IfOk, IfSome, refl, ap, sym, ◌∙◌, inl, inr, arith, cond}
+use Rattle.std.proofs.Common.{◌≡◌, ℕ, zero, suc, ◌+◌, ◌<◌, true, false, Option, Some, None, Result, Ok, Err, List, [], length, replicate, IfOk, IfSome, refl, ap, sym, ◌∙◌, inl, inr, arith, cond}
 use Rattle.std.proofs.Common.{Global, Vec}
 use Rattle.std.specs.Prelude.{IsErrOf}
 use Rattle.std.specs.String.{string_bytes}
@@ -8,7 +8,7 @@ use Rattle.io_edges.specs.declared.whole.ReadError.TheVariants.{TooLong}
 use Rattle.ntb_top.specs.declared.program.Reply.{Reply}
 use Rattle.ntb_top.specs.declared.program.Stop.{Stop}
 use Rattle.std.proofs.lemmas.List.{length-replicate}
-use Rattle.std.specs.Prelude.{nat_lt}
+use Rattle.std.specs.Prelude.{nat_lt, option_to_list, slice_index_or}
 use Rattle.std.proofs.lemmas.Bool.{lt-ltb}
 use Rattle.ledger_laws.proofs.Facade.{link_down_where_not_up}
 use Rattle.ledger_laws.proofs.Facade.{again_where_no_room}
@@ -16,7 +16,12 @@ use Rattle.ledger_laws.proofs.Facade.{every_frame_comes_once, every_log_is_in_or
 use Rattle.ntb_top.specs.Headline.{IsTrueReplay}
 use Rattle.ntb_top.specs.Output.{AreBytesOf, IsOutput, IsOutputStatus, is_command, most_bytes, output_of, replayed, too_long, usage}
 use Rattle.ntb_top.specs.Report.{no_memories}
-use Rattle.ntb_top.specs.Script.{script_of, plan_of}
+use Rattle.ntb_top.specs.Script.{Script, script_of, plan_of}
+use Rattle.step_kinds.specs.declared.plan.PairPlan.{PairPlan}
+use Rattle.plan_model.specs.Plans.{no_pair}
+use Rattle.ledger_laws.specs.Laws.{IsOrdinaryPair}
+use Rattle.ntb_top.specs.Drives.{IsBuiltPair, IsBuiltScript}
+use Rattle.ntb_top.proofs.Built.{script_built}
 
 -- an input has bytes, told or not
 pub bytes_in : (input : Option (List ℕ)) → (bytes : List ℕ) × AreBytesOf input bytes
@@ -70,12 +75,21 @@ pub long_reply : (words : List (List ℕ)) (input : Option (List ℕ)) (reply : 
 long_reply words input (Ok r) command long h = long_output words input r.status (string_bytes r.text) command long h
 long_reply words input (Err e) command long h = tt
 
+-- no pair of a script is raw
+ordinary_pairs : (script : Script) → IsBuiltScript script → (pair : ℕ) → IsOrdinaryPair (plan_of script) pair
+ordinary_pairs script built pair = among script.pair pair built.pair where
+  among : (declared : Option PairPlan) (pair : ℕ) → IfSome declared IsBuiltPair → (slice_index_or (option_to_list declared) pair no_pair).raw ≡ false
+  among None pair h = refl
+  among (Some plan) zero h = h.ordinary
+  among (Some plan) (suc pair) h = refl
+
 -- every replay is true
 pub true_replay : (bytes : List ℕ) → IsTrueReplay bytes
-true_replay bytes script built =
+true_replay bytes script read =
+    let ordinary = ordinary_pairs script (script_built bytes script read) in
     record {
-      in_order = every_log_is_in_order (plan_of script) no_memories _;
-      once = every_frame_comes_once (plan_of script) no_memories _;
-      again = λ before behind step answer lane split. again_where_no_room (plan_of script) no_memories before step answer lane;
+      in_order = λ lane session. every_log_is_in_order (plan_of script) no_memories _ lane session (ordinary lane.pair);
+      once = λ lane session n. every_frame_comes_once (plan_of script) no_memories _ lane session n (ordinary lane.pair);
+      again = λ before behind step answer lane split. again_where_no_room (plan_of script) no_memories before step answer lane (ordinary lane.pair);
       link_down = λ before behind step answer split. link_down_where_not_up (plan_of script) no_memories before step answer;
     }

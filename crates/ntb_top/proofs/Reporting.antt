@@ -16,7 +16,9 @@ use Rattle.step_kinds.specs.declared.steps.Step.{Step}
 use Rattle.lane_model.specs.Lane.{count_from}
 use Rattle.ledger_model.specs.Ledger.{PairPart, Tally}
 use Rattle.ledger_model.specs.Log.{Answered, Memories, answered, log_from, ledger_from, log_of, ledger_of, trains, accepted, delivered}
-use Rattle.ledger_model.specs.Next.{Bytes, Ledger, pair_next, pair_plan, outcome_in, ledger_after, start as begin_of}
+use Rattle.byte_model.specs.Headers.{Bytes}
+use Rattle.ledger_model.specs.Next.{Ledger, pair_next, outcome_in, ledger_after, start as begin_of}
+use Rattle.plan_model.specs.Plans.{pair_plan}
 use Rattle.ledger_laws.proofs.Facade.{log_of-last}
 use Rattle.ledger_laws.proofs.Facade.{tallies_are_counts}
 use Rattle.ntb_top.specs.Drives.{EngineShows, IsMade, IsBuiltPair, plan_of_pair}

@@ -1,6 +1,6 @@
 -- The ledger of a script's one pair, as the lane of the engine shows it: the lane goes from side A to side B on queue 0, in session 1 of a
 -- pair that was declared up.
-use Rattle.std.specs.Prelude.{◌≡◌, ℕ, ◌+◌, ◌<◌, ◌≤◌, true, false, None, List, [], ◌∷◌, length, map, All, IfSome}
+use Rattle.std.specs.Prelude.{◌≡◌, ℕ, ◌+◌, ◌*◌, ◌<◌, ◌≤◌, true, false, None, List, [], ◌∷◌, length, map, take, replicate, slice_index, All, IfSome}
 use Rattle.step_kinds.specs.Bits.{has_bit}
 use Rattle.step_kinds.specs.declared.names.Side.TheVariants.{A, B}
 use Rattle.step_kinds.specs.declared.plan.Line.{Line}
@@ -11,24 +11,39 @@ use Rattle.step_kinds.specs.declared.steps.Label.{Label}
 use Rattle.step_kinds.specs.declared.steps.Label.TheVariants.{Index}
 use Rattle.step_kinds.specs.declared.steps.Step.{Step}
 use Rattle.lane_laws.specs.Laws.{IsOpen}
-use Rattle.lane_model.specs.Lane.{Carries, Lane}
+use Rattle.lane_model.specs.Lane.{Entry, Carries, Lane, bytes_of, left_of, chunk_size, entry_of}
 use Rattle.lane_model.specs.Law.{HoldsRingLaw}
+use Rattle.lane_model.specs.declared.Phase.{Phase}
+use Rattle.lane_model.specs.declared.Phase.TheVariants.{Idle, Copying, Copied, Cleared}
 use Rattle.lane_model.specs.declared.Write.{Write}
 use Rattle.lane_core.specs.Calls.{LaneValue}
-use Rattle.ledger_model.specs.Labels.{label_of}
-use Rattle.ledger_model.specs.Ledger.{LanePart, PairPart, side_of, lane_of, tally_of, sizes_of}
+use Rattle.plan_model.specs.Labels.{label_of}
+use Rattle.byte_model.specs.Headers.{Bytes}
+use Rattle.ledger_model.specs.Ledger.{LanePart, PairPart, side_of, lane_of, tally_of}
+use Rattle.ledger_model.specs.Next.{pair_next}
 use Rattle.plan_model.specs.Link.{is_up}
-use Rattle.ledger_model.specs.Next.{Bytes, pair_next}
+use Rattle.plan_model.specs.Sizes.{agreed_version, sizes_of}
 use Rattle.ntb_top.specs.Script.{Script, side_with, most_steps}
 use Rattle.ntb_top.specs.declared.engine.Engine.{Engine}
 
 -- the label of a write of a lane that carries frames alone
 abbrev pub frame_label : Write → Label
-frame_label mark = label_of 0 (Carries []) mark
+frame_label mark = label_of 0 (Carries [] 0) mark
 
--- a lane's part in the ledger is that of the model's lane
+-- While a receiver copies an entry, the ledger has its length, that no other entry of its frame follows, and the bytes copied so
+-- far; else it has no bytes.
+abbrev pub IsUnderWay : Phase → (part len left : ℕ) → List ℕ → Entry → Type 0
+IsUnderWay Copying part len left gathered entry =
+    (len ≡ length (bytes_of entry)) × (left ≡ 0) × (gathered ≡ take (chunk_size * part) (bytes_of entry))
+IsUnderWay Idle part len left gathered entry = gathered ≡ []
+IsUnderWay Copied part len left gathered entry = gathered ≡ []
+IsUnderWay Cleared part len left gathered entry = gathered ≡ []
+
+-- a lane's part in the ledger is that of the model's lane, of which each frame is one entry
 pub record IsPartOf (part : LanePart) (lane : Lane) : Type 0 where
   pub sent : part.sent ≡ lane.sent
+  pub waiting : part.waiting ≡ []
+  pub told : part.told ≡ length lane.sent
   pub todo : part.todo ≡ map frame_label lane.todo
   pub flagged : part.flagged ≡ lane.flagged
   pub got : part.got ≡ lane.got
@@ -37,6 +52,8 @@ pub record IsPartOf (part : LanePart) (lane : Lane) : Type 0 where
   pub freed : part.freed ≡ lane.freed
   pub phase : part.phase ≡ lane.phase
   pub parts : part.part ≡ lane.part
+  pub done : part.done ≡ lane.got
+  pub under_way : IsUnderWay lane.phase lane.part part.len part.left part.gathered (entry_of lane lane.got)
 
 -- the lane shows the pair, of which so many frames were accepted and delivered: all that were begun, and all that were taken whole
 pub record Shows (value : LaneValue) (plan : PairPlan) (now : PairPart) (taken given : ℕ) : Type 0 where
@@ -44,6 +61,11 @@ pub record Shows (value : LaneValue) (plan : PairPlan) (now : PairPart) (taken g
   pub is_strict : value.is_strict ≡ plan.strict
   pub entries : value.lane.entries ≡ (sizes_of plan A 0).entries
   pub largest : value.lane.largest ≡ (sizes_of plan A 0).largest
+  pub a_byte : 1 ≤ value.lane.largest
+  pub ordinary : plan.raw ≡ false
+  pub fourth : agreed_version plan ≡ 4
+  pub class_a : slice_index plan.class_a 0 ≡ 0
+  pub class_b : slice_index plan.class_b 0 ≡ 0
   pub lane_up : value.lane.up ≡ true
   pub link_up : is_up now.link.state ≡ true
   pub session : now.link.session ≡ 1
@@ -60,6 +82,7 @@ pub record Shows (value : LaneValue) (plan : PairPlan) (now : PairPart) (taken g
   pub given_all : given ≡ value.lane.got
   pub law : HoldsRingLaw value.lane
   pub only_frames : IsOpen value.lane
+  pub whole_frames : (n : ℕ) → left_of (entry_of value.lane n) ≡ 0
 
 -- the engine's lane shows the pair, and the engine counts its frames
 abbrev pub EngineShows : Engine → PairPlan → PairPart → Type 0
@@ -72,11 +95,14 @@ pub record IsMade (step : Step) (answer : Answer) (old new : Engine) : Type 0 wh
       (answer ≡ (pair_next [] plan bytes now step).answer) × EngineShows new plan (pair_next [] plan bytes now step).after
   pub one_more : length new.lane.lane.sent ≤ length old.lane.lane.sent + 1
 
--- a pair that a script can declare: sides of one window and one queue, and a link that is up
+-- a pair that a script can declare: ordinary, with sides of one window and one queue, all writes of class 0, and a link that is up
 pub record IsBuiltPair (plan : PairPlan) : Type 0 where
   pub side_a : plan.a ≡ side_with plan.a.size
   pub side_b : plan.b ≡ plan.a
   pub up : plan.up ≡ true
+  pub ordinary : plan.raw ≡ false
+  pub class_a : plan.class_a ≡ replicate 16 0
+  pub class_b : plan.class_b ≡ replicate 16 0
   pub least_size : 4096 ≤ plan.a.size
   pub most_size : plan.a.size ≤ 1048576
   pub least_mtu : 16 ≤ plan.mtu

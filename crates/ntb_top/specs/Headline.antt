@@ -1,12 +1,12 @@
 -- What every replayed script keeps: its log is in order and once, and refuses exactly where it should.
-use Rattle.std.specs.Prelude.{◌≡◌, ℕ, ◌<◌, ◌==◌, ◌&&◌, false, not, Ok, Some, List, ◌∷◌, ◌++◌, map, if◌then◌else◌}
+use Rattle.std.specs.Prelude.{◌≡◌, ℕ, ◌<◌, ◌&&◌, not, Ok, Some, List, ◌∷◌, ◌++◌, map, nat_lt}
 use Rattle.step_kinds.specs.Subject.{subject_of}
 use Rattle.step_kinds.specs.declared.names.LaneName.{LaneName}
 use Rattle.step_kinds.specs.declared.plan.Plan.{Plan}
 use Rattle.step_kinds.specs.declared.steps.Answer.{Answer}
 use Rattle.step_kinds.specs.declared.steps.Step.{Step}
-use Rattle.ledger_laws.specs.Laws.{IsInOrder, times_of, lane_begun_by, GoesOn, is_again, refused_before_room, entries_in, is_link_down, needs_link}
-use Rattle.ledger_model.specs.Log.{log_of, delivered, room_in, up_at}
+use Rattle.ledger_laws.specs.Laws.{IsInOrder, times_of, lane_begun_by, GoesOn, is_again, refused_earlier, entries_needed, is_link_down, needs_link}
+use Rattle.ledger_model.specs.Log.{log_of, ledger_of, delivered, room_in, up_at}
 use Rattle.ntb_top.specs.Report.{no_memories, log_of_plan}
 use Rattle.ntb_top.specs.Script.{Script, script_of, plan_of}
 
@@ -20,10 +20,10 @@ pub record IsTrueLog (plan : Plan) : Type 0 where
   pub in_order : (lane : LaneName) (session : ℕ) → IsInOrder plan (log_of_plan plan) lane session
   -- no frame is delivered twice
   pub once : (lane : LaneName) (session n : ℕ) → times_of n (delivered plan (log_of_plan plan) lane session) < 2
-  -- `again` comes exactly where no refusal before it does and the ring has no room
+  -- `again` comes exactly where the step isn't refused for another reason, and the ring has less room than the step needs
   pub again : (before behind : List Step) (step : Step) (answer : Answer) (lane : LaneName) → steps_of_plan plan ≡ before ++ step ∷ behind →
       lane_begun_by step ≡ Some lane → GoesOn plan no_memories before step answer →
-      is_again answer ≡ (if refused_before_room answer then false else room_in (entries_in plan lane) (log_of plan no_memories before) lane == 0)
+      is_again answer ≡ (not (refused_earlier plan (ledger_of plan no_memories before lane.pair) step) && nat_lt (room_in plan (log_of plan no_memories before) lane) (entries_needed plan lane step))
   -- `linkdown` comes exactly on the steps that need a link, exactly where the last link step of the pair left it not up
   pub link_down : (before behind : List Step) (step : Step) (answer : Answer) → steps_of_plan plan ≡ before ++ step ∷ behind →
       GoesOn plan no_memories before step answer →

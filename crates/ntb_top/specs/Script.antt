@@ -11,7 +11,8 @@ use Rattle.step_kinds.specs.declared.plan.Line.{Line}
 use Rattle.step_kinds.specs.declared.plan.Plan.{Plan}
 use Rattle.step_kinds.specs.declared.steps.Step.{Step}
 use Rattle.step_kinds.specs.declared.steps.Step.TheVariants.{Begin, Post, Land, Look, Copy, Clear, Ack}
-use Rattle.ledger_model.specs.Macros.{send, land_all, receive}
+use Rattle.plan_model.specs.Macros as macros
+use Rattle.plan_model.specs.Macros.{land_all, receive}
 use Rattle.ntb_top.specs.Spelling.{lines_of, words_of, is_comment, is_text, is_name, side_of, number_of, bytes_of, only_if, number_between, behind}
 
 -- the part of a script that a line stands in
@@ -125,10 +126,15 @@ abbrev pub on_queue : List (List ℕ) → List Step → Option (List Step)
 on_queue (queue ∷ []) steps = only_if (is_zero_word queue) steps
 on_queue words steps = None
 
+-- A frame is begun and all its writes are posted. How many these are the pair's version alone says, and so far each pair has
+-- version 4.
+abbrev pub send : List ℕ → List Step
+send frame = macros.send (pair_with [] no_options) 0 A 0 frame
+
 -- steps of the sending side
 abbrev pub sender_steps : List ℕ → List (List ℕ) → Option (List Step)
 sender_steps word words =
-    if bytes_eq word (codes "send") then option_and_then (λ frame. Some (send 0 A 0 frame)) (frame_of words)
+    if bytes_eq word (codes "send") then option_and_then (λ frame. Some (send frame)) (frame_of words)
     else if bytes_eq word (codes "begin") then option_and_then (λ frame. Some (Begin 0 A 0 frame ∷ [])) (frame_of words)
     else if bytes_eq word (codes "post") then on_queue words (Post 0 A 0 ∷ [])
     else None

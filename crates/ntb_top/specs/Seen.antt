@@ -4,7 +4,7 @@ use Rattle.step_kinds.specs.declared.names.Side.TheVariants.{A, B}
 use Rattle.step_kinds.specs.declared.plan.Line.{Line}
 use Rattle.step_kinds.specs.declared.steps.Step.{Step}
 use Rattle.step_kinds.specs.declared.steps.Step.TheVariants as step
-use Rattle.ledger_model.specs.Macros.{send, land_all, receive}
+use Rattle.plan_model.specs.Macros.{land_all, receive}
 use Rattle.ntb_top.specs.declared.script.Part as code_part
 use Rattle.ntb_top.specs.declared.script.Part.TheVariants as part
 use Rattle.ntb_top.specs.declared.script.LaneStep.{LaneStep}
@@ -18,7 +18,7 @@ use Rattle.ntb_top.specs.declared.macros.Repeated.TheVariants as repeated
 use Rattle.ntb_top.specs.declared.given.Given.{Given}
 use Rattle.ntb_top.specs.declared.given.Given.TheVariants as given
 use Rattle.ntb_top.specs.declared.options.Options as code_options
-use Rattle.ntb_top.specs.Script.{Part, Header, Declarations, Steps, Script, Options, at_line, most_steps}
+use Rattle.ntb_top.specs.Script.{Part, Header, Declarations, Steps, Script, Options, at_line, most_steps, send}
 use Rattle.ntb_top.specs.declared.reader.ScriptFault.{ScriptFault}
 use Rattle.ntb_top.specs.declared.reader.ScriptFault.TheVariants.{NotBuilt, OutOfMemory}
 use denote.Ref.{Bor}
@@ -66,7 +66,7 @@ repeated_seen repeated.Copy = step.Copy 0 B 0
 -- the steps of one line of steps
 abbrev pub macro_steps : Macro → List Step
 macro_steps (macros.Step one) = step_seen one ∷ []
-macro_steps (macros.Send sent) = send 0 A 0 sent.frame
+macro_steps (macros.Send sent) = send sent.frame
 macro_steps (macros.LandAll side count) = land_all 0 side count
 macro_steps (macros.Receive copies) = receive 0 B 0 copies
 

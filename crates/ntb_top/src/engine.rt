@@ -3,7 +3,7 @@
 ghost use Rattle.std.specs.Prelude.{◌≡◌, ◌+◌, ◌<◌, ◌≤◌, ◌^◌, length, IfOk, OnErr};
 ghost use Rattle.step_kinds.specs.declared.steps.Step.TheVariants as step;
 ghost use Rattle.lane_laws.specs.Laws.{IsOpen};
-ghost use Rattle.ledger_model.specs.Ledger.{layout_of};
+ghost use Rattle.plan_model.specs.Sizes.{layout_of};
 ghost use Rattle.ledger_model.specs.Next.{fresh_pair};
 ghost use Rattle.step_kinds.specs.declared.names.Side.TheVariants.{A, B};
 ghost use Rattle.ntb_top.specs.Drives.{IsBuiltPair};

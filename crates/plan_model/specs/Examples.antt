@@ -5,10 +5,12 @@ use Rattle.step_kinds.specs.declared.plan.SidePlan.{SidePlan}
 use Rattle.step_kinds.specs.declared.plan.PairPlan.{PairPlan}
 use Rattle.step_kinds.specs.declared.steps.Label.TheVariants.{Chunk, Len, Ver, Flag, Down, Bell, Index, Pad, Raw}
 use Rattle.step_kinds.specs.declared.steps.Step.TheVariants.{Begin, Post, Look, Copy, Clear, Ack}
+use Rattle.lane_model.specs.Lane.{Carries}
 use Rattle.order_rules.specs.Order.{Order}
 use Rattle.plan_model.specs.Ethernet.{ethernet_frame}
 use Rattle.plan_model.specs.Macros.{send, receive, posts_in, xmit}
 use Rattle.plan_model.specs.Orders.{order_of}
+use Rattle.plan_model.specs.Pieces.{pieces_of}
 use Rattle.plan_model.specs.Sizes.{sizes_of, pieces_in}
 
 -- a side of one window and one queue with 4,096 bytes
@@ -55,6 +57,10 @@ MixedSides =
 abbrev pub Pieces : Type 0
 Pieces = (pieces_in 1007 1 ≡ 1) × (pieces_in 1007 1007 ≡ 1) × (pieces_in 1007 1008 ≡ 2) × (pieces_in 1007 3021 ≡ 3)
 
+-- each piece says how many follow it, and the last one may be shorter
+abbrev pub CutInPieces : Type 0
+CutInPieces = (pieces_of 2 (1 ∷ 2 ∷ 3 ∷ []) ≡ Carries (1 ∷ 2 ∷ []) 1 ∷ Carries (3 ∷ []) 0 ∷ []) × (pieces_of 2 (1 ∷ 2 ∷ []) ≡ Carries (1 ∷ 2 ∷ []) 0 ∷ [])
+
 -- as many posts as writes: chunks and four more, for each piece; a frame that is too long for version 4 counts as one entry
 abbrev pub Posts : Type 0
 Posts =
@@ -88,6 +94,7 @@ pub record ExamplesHold : Type 0 where
   pub ring_sizes : RingSizes
   pub mixed_sides : MixedSides
   pub pieces : Pieces
+  pub cut_in_pieces : CutInPieces
   pub posts : Posts
   pub frame_of_a_device : EthernetFrame
   pub orders_of_writes : OrdersOfWrites

@@ -15,7 +15,7 @@ use Rattle.step_kinds.specs.declared.steps.Answer.TheVariants.{Ok as Done, OkSes
 use Rattle.lane_model.specs.Lane.{Entry, GoesDown, chunks_in, count_from}
 use Rattle.lane_model.specs.declared.Phase.TheVariants.{Copying, Copied, Cleared, Idle as IsIdle}
 use Rattle.plan_model.specs.Both.{both_of, with_side, at_side}
-use Rattle.ledger_model.specs.Handshake.{pad_in, size_in, refuse_larger, refuse_differing, refuse_version, check_refusal, offer_step, check_step, ready_step, join_step}
+use Rattle.ledger_model.specs.Handshake.{pad_in, size_in, refuse_larger, refuse_differing, check_refusal, offer_step, check_step, ready_step, join_step}
 use Rattle.plan_model.specs.Pads.{offers, pad_index}
 use Rattle.plan_model.specs.Pads.{links_pad, queues_pad, version_pad, windows_pad}
 use Rattle.plan_model.specs.Plans.{side_plan}

@@ -123,7 +123,7 @@ pub record HoldsAlways (plan : Plan) (lane : LaneName) (Inv : List Answered → 
   pub turns : (log : List Answered) (s : Sight) (made : Answered) (news : News) (t : Sight) → Tells plan lane s.lane made news → Turn plan lane s made news t → Inv log s
       → Inv (log ++ made ∷ []) t
 
-all_fit : (steps : List Step) → AllByRecursion (λ step. Unit {0}) steps
+pub all_fit : (steps : List Step) → AllByRecursion (λ step. Unit {0}) steps
 all_fit [] = tt
 all_fit (step ∷ steps) = (tt, all_fit steps)
 

@@ -1,5 +1,5 @@
 -- The steps of a receiver: a look, a copy, a clear and an ack, as a turn of its lane and of every other lane.
-use Rattle.std.proofs.Common.{◌≡◌, ℕ, ◌+◌, ◌==◌, Bool, true, false, List, length, refl, sym, ap, ◌∙◌, subst}
+use Rattle.std.proofs.Common.{◌≡◌, ℕ, ◌+◌, ◌==◌, Bool, true, false, List, length, refl, sym, ap, ◌∙◌}
 use Rattle.std.specs.Prelude.{nat_lt}
 use Rattle.std.proofs.lemmas.Bool.{false≢true, ne_eqb, cond-false, cond_both}
 use Rattle.step_kinds.specs.Bits.{has_bit}
@@ -13,7 +13,7 @@ use Rattle.step_kinds.specs.declared.steps.Label.{Label}
 use Rattle.step_kinds.specs.declared.steps.Label.TheVariants.{Index}
 use Rattle.step_kinds.specs.declared.steps.Step.TheVariants.{Look, Copy, Clear, Ack}
 use Rattle.lane_model.specs.Lane.{Entry, Carries, GoesDown, chunks_in}
-use Rattle.byte_model.specs.Headers.{Found, NoEntry, ALinkDownEntry, AnEntry}
+use Rattle.byte_model.specs.Headers.{Found, NoEntry, AnEntry}
 use Rattle.ledger_model.specs.Reading.{Reading, found_entry, found_in_ledger, part_in_ledger}
 use Rattle.ledger_model.specs.Sending.{posts_through}
 use Rattle.ledger_laws.proofs.walk.Turn.{IsRaw, IsPiece, Strays, CopiesEntry, on_queue}

@@ -21,7 +21,7 @@ use Rattle.ledger_model.specs.Reading.{Reading}
 use Rattle.ledger_model.specs.Labels.{label_of, labels_of, write_of, index_of}
 use Rattle.ledger_model.specs.Ledger.{LanePart, PairPart, free_of, lane_of, posts, with_lane, updated}
 use Rattle.ledger_model.specs.Log.{is_on}
-use Rattle.ledger_model.specs.Sending.{begun, begun_lane, frame_begun, posts_through}
+use Rattle.ledger_model.specs.Sending.{begun, begun_lane, frame_begun}
 use Rattle.plan_model.specs.Plans.{pair_plan}
 use Rattle.plan_model.specs.Sizes.{Sizes, sizes_of}
 use Rattle.ledger_laws.proofs.walk.Cases.{MaySend, needs, closing, posted_by}

@@ -1,8 +1,8 @@
-use Rattle.std.proofs.Common.{◌≡◌, ◌∙◌, List, ℕ, inl, inr, ap, sym, subst}
+use Rattle.std.proofs.Common.{◌≡◌, ◌∙◌, List, ℕ, inl, ap, sym, subst}
 use Rattle.step_kinds.specs.declared.plan.PairPlan.{PairPlan}
 use Rattle.bridge_pair.specs.Bridge.{Bridge, pages_of}
 use Rattle.bridge_pair.specs.Pages.{PagesGrow}
-use Rattle.bridge_pair.specs.Words.{AreIndexWordsPromised, TouchesIndexWord}
+use Rattle.bridge_pair.specs.Words.{AreIndexWordsPromised}
 use Rattle.bridge_pair.proofs.Promises.{grows_further, grows_nothing}
 use Rattle.bridge_pair.proofs.Sides.{pages_of-with_bytes}
 use Rattle.hand_shake.specs.Checks.{TouchesAnyRing}

@@ -1,4 +1,4 @@
-use Rattle.std.proofs.Common.{◌≡◌, ℕ, suc, ◌-◌, false, nat_lt, find, ◌≤◌, ap, ◌∙◌, arith}
+use Rattle.std.proofs.Common.{nat_lt, ◌≤◌, ◌∙◌, arith}
 use Rattle.std.proofs.lemmas.Bool.Decides.{nat_tests}
 use Rattle.hand_shake.specs.Checks.{size_at}
 use Rattle.hand_shake.proofs.SizeSearch.{next_size}

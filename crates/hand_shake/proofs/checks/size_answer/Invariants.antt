@@ -1,4 +1,4 @@
-use Rattle.std.proofs.Common.{◌≡◌, ℕ, ◌-◌, find, nat_lt}
+use Rattle.std.proofs.Common.{◌≡◌, ◌-◌, find, nat_lt}
 use Rattle.lane_model.specs.Lane.{count_from}
 use Rattle.hand_shake.specs.Checks.{first_larger, size_at}
 use Rattle.hand_shake.proofs.checks.size_answer.Given as goal

@@ -1,4 +1,4 @@
-use Rattle.std.proofs.Common.{◌≡◌, ap, ◌∙◌, arith}
+use Rattle.std.proofs.Common.{ap, arith}
 use Rattle.bridge_pair.specs.Bridge.{Bridge}
 use Rattle.bridge_pair.proofs.Sides.{pages_again}
 use Rattle.hand_shake.proofs.HeaderPages.{ring_grows, ring_promised}

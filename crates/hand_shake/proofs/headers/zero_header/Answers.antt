@@ -1,9 +1,8 @@
-use Rattle.std.proofs.Common.{◌≡◌, ℕ, List, length, take, replicate, ap, ◌∙◌, sym, subst}
+use Rattle.std.proofs.Common.{◌≡◌, ℕ, length, take, replicate, ap, ◌∙◌, sym, subst}
 use Rattle.std.proofs.lemmas.List.{length-replicate}
 use Rattle.byte_model.specs.Addresses.{own_header}
 use Rattle.host_memory.specs.Memory.{ArePromised, written}
 use Rattle.plan_model.specs.Sizes.{header_bytes}
-use Rattle.step_kinds.specs.declared.plan.PairPlan.{PairPlan}
 use Rattle.bridge_pair.specs.Bridge.{bytes_of, pages_of, with_bytes}
 use Rattle.hand_shake.proofs.HeaderPages.{at_same, zeros_of}
 use Rattle.hand_shake.proofs.headers.zero_header.Goals as goal

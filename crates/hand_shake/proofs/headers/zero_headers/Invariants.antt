@@ -1,4 +1,4 @@
-use Rattle.std.proofs.Common.{◌≡◌, ℕ, ◌-◌}
+use Rattle.std.proofs.Common.{◌≡◌, ◌-◌}
 use Rattle.std.specs.List.{flat_map}
 use Rattle.lane_model.specs.Lane.{count_from}
 use Rattle.plan_model.specs.Plans.{side_plan}

@@ -1,4 +1,4 @@
-use Rattle.std.proofs.Common.{◌≡◌, ℕ, ◌-◌, map}
+use Rattle.std.proofs.Common.{◌≡◌, ◌-◌, map}
 use Rattle.lane_model.specs.Lane.{count_from}
 use Rattle.byte_model.specs.FreshRings.{zeroed_header}
 use Rattle.plan_model.specs.Sizes.{layout_to}

@@ -1,10 +1,9 @@
-use Rattle.std.proofs.Common.{◌≡◌, ◌≢◌, ◌+◌, ◌*◌, ◌<◌, length, ap, ◌∙◌, sym, subst, arith}
+use Rattle.std.proofs.Common.{◌≡◌, ap, ◌∙◌, arith}
 use Rattle.plan_model.specs.Plans.{side_plan}
 use Rattle.step_kinds.specs.declared.plan.PairPlan.{PairPlan}
 use Rattle.step_kinds.specs.declared.plan.SidePlan.{SidePlan}
-use Rattle.bridge_pair.specs.Bridge.{book_of, offer_length}
 use Rattle.bridge_pair.specs.declared.book.SideBook.{SideBook}
-use Rattle.hand_shake.proofs.OwnOffers.{own_length, own_side, some_left}
+use Rattle.hand_shake.proofs.OwnOffers.{some_left}
 use Rattle.hand_shake.proofs.offers.next_pad.Goals as goal
 
 pub offered_pad-requires-clause-within : goal.offered_pad-requires-clause-within

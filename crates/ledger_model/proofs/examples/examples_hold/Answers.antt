@@ -27,5 +27,9 @@ returns c =
       step_by_step = refl;
       link_is_needed = refl;
       tallies_count = refl;
+      counters_count = refl;
+      posts_and_copies = (refl, refl);
       sessions_count_up = refl;
-    }
+  raw_pairs_read_bytes = (refl, refl, refl, refl);
+  drop_empties_the_lists = refl;
+}

@@ -1,4 +1,4 @@
-use Rattle.std.proofs.Common.{◌≡◌, length, ap}
+use Rattle.std.proofs.Common.{length, ap}
 use Rattle.host_memory.specs.Memory.{Contents}
 use Rattle.bridge_pair.proofs.Places.{still_have_places}
 use Rattle.bridge_pair.proofs.endpoint.Endpoint.promise_range.Goals as goal

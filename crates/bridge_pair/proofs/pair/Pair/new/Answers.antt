@@ -1,7 +1,7 @@
-use Rattle.std.proofs.Common.{◌≡◌, true, false, ap, ◌∙◌}
+use Rattle.std.proofs.Common.{◌≡◌, ap, ◌∙◌}
 use Rattle.step_kinds.specs.declared.names.Side.TheVariants.{A, B}
 use Rattle.bridge_pair.specs.Bridge.{Bridge, pages_of}
-use Rattle.bridge_pair.proofs.FreshPairs.{fresh_down, fresh_up, no_pages, word_pages}
+use Rattle.bridge_pair.proofs.FreshPairs.{fresh_up, word_pages}
 use Rattle.bridge_pair.proofs.pair.Pair.new.Goals as goal
 
 pub returns-clause-fresh : goal.returns-clause-fresh

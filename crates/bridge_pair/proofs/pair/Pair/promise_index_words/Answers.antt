@@ -1,4 +1,4 @@
-use Rattle.std.proofs.Common.{◌≡◌, ap, ◌∙◌, arith}
+use Rattle.std.proofs.Common.{ap, ◌∙◌, arith}
 use Rattle.bridge_pair.specs.Bridge.{Bridge}
 use Rattle.bridge_pair.proofs.IndexWords.{at_word, word_grows, word_promised}
 use Rattle.bridge_pair.proofs.Sides.{pages_again}

@@ -1,15 +1,10 @@
-use Rattle.std.proofs.Common.{◌≡◌, ℕ, ◌-◌, List, map, ap, ◌∙◌, sym, subst, arith}
-use Rattle.byte_model.specs.Addresses.{own_index_word}
+use Rattle.std.proofs.Common.{◌≡◌, ℕ, ◌-◌, List, ap, ◌∙◌, sym, subst, arith}
 use Rattle.byte_model.specs.Headers.{word_bytes}
-use Rattle.byte_model.specs.Stores.{Store}
 use Rattle.host_memory.specs.Memory.{ArePromised, written}
-use Rattle.lane_model.specs.Lane.{count_from}
-use Rattle.byte_model.specs.FreshRings.{fresh_index_word}
 use Rattle.plan_model.specs.Sizes.{layout_of}
 use Rattle.ring_geometry.specs.Geometry.{entries_of}
 use Rattle.step_kinds.specs.declared.plan.PairPlan.{PairPlan}
 use Rattle.bridge_pair.specs.Bridge.{Bridge, bytes_of, pages_of, with_bytes}
-use Rattle.bridge_pair.specs.Ends.{bytes_after}
 use Rattle.bridge_pair.proofs.IndexWords.{at_word, one_before}
 use Rattle.bridge_pair.proofs.Sides.{bytes_again, pages_of-with_bytes}
 use Rattle.bridge_pair.proofs.pair.Pair.set_index_words.Goals as goal

@@ -1,4 +1,4 @@
-use Rattle.std.proofs.Common.{length, replicate, ap, ◌∙◌}
+use Rattle.std.proofs.Common.{length, ap, ◌∙◌}
 use Rattle.std.proofs.lemmas.List.{length-replicate}
 use Rattle.step_kinds.specs.declared.names.Side.TheVariants.{A, B}
 use Rattle.bridge_pair.specs.Bridge.{memory_size}
