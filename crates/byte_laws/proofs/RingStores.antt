@@ -1,5 +1,5 @@
 -- A ring and an index word as they stand in a memory, and what each kind of store of a step makes of them.
-use Rattle.std.proofs.Common.{◌≡◌, ℕ, ◌+◌, ◌*◌, ◌<◌, ◌≤◌, Bool, Option, Some, None, List, [], ◌++◌, length, refl, sym, ap, ◌∙◌, subst, inl, inr, arith, mod-lt, length-set, get_or-set_same, get_or-set_other}
+use Rattle.std.proofs.Common.{◌≡◌, ℕ, ◌+◌, ◌*◌, ◌<◌, ◌≤◌, Bool, Option, Some, None, List, ◌++◌, length, refl, sym, ap, ◌∙◌, subst, inl, inr, arith, mod-lt, length-set, get_or-set_same, get_or-set_other}
 use Rattle.std.specs.Prelude.{◌≢◌, ◌%◌, ◌==◌, if◌then◌else◌, slice_index_or, slice_set}
 use Rattle.std.proofs.lemmas.Bool.{cases_eq, cond-true, cond-false, eq-eqb, ne_eqb}
 use Rattle.step_kinds.specs.Sides.{other_side}
@@ -32,10 +32,6 @@ pub record RingIn (rings : Rings) (five : Bool) (queue : ℕ) (stores : List Sto
 -- each of its slots is left
 abbrev pub LeavesRing : Rings → ℕ → List Store → Type 0
 LeavesRing rings queue new = (n : ℕ) → n < entries_of (layout_at rings queue) → LeavesSlot rings queue n new
-
--- what isn't stored
-pub leaves_nothing : (rings : Rings) (queue n : ℕ) → LeavesSlot rings queue n []
-leaves_nothing rings queue n = record { payload = λ older. refl; header = λ offset inside older. refl }
 
 module _ (plan : PairPlan) (declared : IsPair plan) (agree : Agree plan) (from : Side) (queue : ℕ) (among : queue < (side_plan plan from).queues) where
   -- the memory of the lane's receiver

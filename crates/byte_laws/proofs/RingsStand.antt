@@ -113,10 +113,12 @@ landed_there plan pair side place label (Some other) is = go _ _ is
 step_known : (plan : Plan) (k : ℕ) → IsPair (pair_plan plan k) → (pair_plan plan k).raw ≡ false → (reading : Reading) (bytes : Bytes) (pair : PairPart) → LabelsKnown (pair_plan plan k) pair
     → (step : Step) (answer : Answer) → answer ≡ (read_next plan.devs (pair_plan plan k) reading bytes pair step).answer → subject_of step ≡ k → IsPermitted plan step → IsKnown (pair_plan plan k) k pair step answer
 step_known plan k declared ordinary reading bytes pair known (Land p side place) (Landed label) is on may =
-    let there = landed_there (pair_plan plan k) pair side place label (slice_get (side_of pair side).flight place) is in
-    (on, fitting (pair_plan plan k) declared ordinary pair side known label
-    (all_get (IsPostable (pair_plan plan k) side) (side_of pair side).flight place label (known.postable side) there)
-    (all_get (IsOfLane pair side) (side_of pair side).flight place label (known.of_lane side) there))
+    let there = landed_there (pair_plan plan k) pair side place label (slice_get (side_of pair side).flight place) is in (
+      on,
+      fitting (pair_plan plan k) declared ordinary pair side known label
+          (all_get (IsPostable (pair_plan plan k) side) (side_of pair side).flight place label (known.postable side) there)
+          (all_get (IsOfLane pair side) (side_of pair side).flight place label (known.of_lane side) there),
+    )
 step_known plan k declared ordinary reading bytes pair known (Check p side) Up is on may = on
 step_known plan k declared ordinary reading bytes pair known (Clear p side q) (Cleared n) is on may = (on, subst (λ j. q < (side_plan (pair_plan plan j) side).queues) on may.among)
 step_known plan k declared ordinary reading bytes pair known step answer is on may = tt
@@ -205,9 +207,9 @@ module _ (plan : Plan) (declared : IsDeclared plan) (lane : LaneName) (is : IsOr
       let same : site.pair ≡ ledger_of plan (memory_of plan) before lane.pair = sites_are_the_ledger plan before lane.pair in
       let labels : LabelsKnown Own site.pair = subst (LabelsKnown (pair_plan plan lane.pair)) (sym same) (labels_known plan lane.pair own_pair is.ordinary before done) in
       let known : IsKnown Own lane.pair site.pair step answer =
-          step_known plan lane.pair own_pair is.ordinary (reading_of Own (bytes_of_site site) site.pair) (bytes_of_site site) site.pair labels step answer refl here may in
+      step_known plan lane.pair own_pair is.ordinary (reading_of Own (bytes_of_site site) site.pair) (bytes_of_site site) site.pair labels step answer refl here may in
       let said : answer ≡ Said before step =
-          subst (λ j. (site_outcome plan j before step).answer ≡ Said before step) here (ap (λ (o : Outcome). o.answer) (same_outcome plan before step (sites_are_the_ledger plan before (subject_of step)))) in
+      subst (λ j. (site_outcome plan j before step).answer ≡ Said before step) here (ap (λ (o : Outcome). o.answer) (same_outcome plan before step (sites_are_the_ledger plan before (subject_of step)))) in
       let slots = slots_next Own own_pair is.agree lane.pair lane.queue site.pair (at_side site.stores (other_side lane.from)) (ring_of plan (memory_of plan) before lane) lane.from step answer is.among known now.slots in
       let word = word_next Own own_pair is.agree lane.pair lane.queue site.pair (at_side site.stores lane.from) (ring_of plan (memory_of plan) before lane) lane.from step answer is.among known now.word in
       let next : Stands Own lane.from lane.queue (site_next plan.devs Own site step).stores (Next before step site.pair answer) = record {
@@ -215,15 +217,15 @@ module _ (plan : Plan) (declared : IsDeclared plan) (lane : LaneName) (is : IsOr
         word = ap (word_at_spot (rings_in Own lane.from) (IndexSpot lane.queue)) (sym (stores_at plan.devs Own site step lane.from)) ∙ word;
       } in
       let ring : Next before step site.pair answer ≡ ring_of plan (memory_of plan) (before ++ step ∷ []) lane =
-          ap (λ (p : PairPart). Next before step p answer) same ∙ ap (λ (a : Answer). Next before step (ledger_of plan (memory_of plan) before lane.pair) a) said ∙ sym (ring_of-last plan (memory_of plan) lane before step) in
+      ap (λ (p : PairPart). Next before step p answer) same ∙ ap (λ (a : Answer). Next before step (ledger_of plan (memory_of plan) before lane.pair) a) said ∙ sym (ring_of-last plan (memory_of plan) lane before step) in
       subst (λ (s : Site). Stands Own lane.from lane.queue s.stores (ring_of plan (memory_of plan) (before ++ step ∷ []) lane)) (sym (site_of-here plan lane.pair before step here))
       (subst (λ (r : RingPart). Stands Own lane.from lane.queue (site_next plan.devs Own site step).stores r) ring next)
 
   elsewhere : (before : List Step) (step : Step) → subject_of step ≢ lane.pair → StandsAfter before → StandsAfter (before ++ step ∷ [])
   elsewhere before step apart now =
       let ring : ring_of plan (memory_of plan) before lane ≡ ring_of plan (memory_of plan) (before ++ step ∷ []) lane =
-          sym (ring_of-last plan (memory_of plan) lane before step
-          ∙ ring_elsewhere (sizes_of Own lane.from lane.queue) lane (lane_of (ledger_of plan (memory_of plan) before lane.pair) lane.from lane.queue) (ring_of plan (memory_of plan) before lane) step (Said before step) apart) in
+      sym (ring_of-last plan (memory_of plan) lane before step
+      ∙ ring_elsewhere (sizes_of Own lane.from lane.queue) lane (lane_of (ledger_of plan (memory_of plan) before lane.pair) lane.from lane.queue) (ring_of plan (memory_of plan) before lane) step (Said before step) apart) in
       subst (λ (s : Site). Stands Own lane.from lane.queue s.stores (ring_of plan (memory_of plan) (before ++ step ∷ []) lane)) (sym (site_of-elsewhere plan lane.pair before step apart))
       (subst (λ (r : RingPart). Stands Own lane.from lane.queue (site_of plan lane.pair before).stores r) ring now)
 
