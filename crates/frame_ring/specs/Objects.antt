@@ -1,0 +1,37 @@
+-- What contracts see of the crate's own objects.
+use Rattle.std.specs.Prelude.{◌≡◌, ℕ, ◌+◌, ◌-◌, ◌*◌, ◌^◌, ◌<◌, ◌≤◌, ◌||◌, Bool, true, false, Option, Some, None, List, [], ◌∷◌, length, take, drop, slice_index_or}
+use Rattle.step_kinds.specs.Limits.{most_frame_bytes}
+use Rattle.step_kinds.specs.declared.names.Side.{Side}
+use Rattle.step_kinds.specs.declared.plan.PairPlan.{PairPlan}
+use Rattle.lane_model.specs.Lane.{Entry, GoesDown, bytes_of, chunks_in, chunk_size}
+use Rattle.lane_model.specs.Tests.{is_idle, is_copying}
+use Rattle.lane_model.specs.declared.Phase.TheVariants.{Copying}
+use Rattle.plan_model.specs.DeclaredPlans.{IsPair, SizesFit}
+use Rattle.plan_model.specs.Labels.{labels_of}
+use Rattle.plan_model.specs.Pieces.{pieces_of}
+use Rattle.plan_model.specs.Plans.{side_plan}
+use Rattle.plan_model.specs.Sizes.{layout_of, layout_to}
+use Rattle.ring_geometry.specs.Geometry.{max_payload_of}
+use Rattle.frame_ring.specs.Port.{PortState, Sending, Receiving, is_busy}
+use Rattle.frame_ring.specs.declared.rings.QueueRings.TheInside.{Inside as RingsInside}
+
+-- The rings of one queue of one side
+
+pub record QueueOf : Type 0 where
+  pub plan : PairPlan
+  pub side : Side
+  pub queue : ℕ
+
+abbrev pub rings_seen : RingsInside → QueueOf
+rings_seen rings = record { plan = rings.plan; side = rings.side; queue = rings.queue }
+
+pub record ArePlaced (rings : RingsInside) : Type 0 where
+  pub declared : IsPair rings.plan
+  pub among : rings.queue < (side_plan rings.plan rings.side).queues
+  pub out : rings.out ≡ layout_of rings.plan rings.side rings.queue
+  pub into : rings.into ≡ layout_to rings.plan rings.side rings.queue
+
+-- what is so of the rings of every port
+pub record IsQueueOf (rings : QueueOf) : Type 0 where
+  pub declared : IsPair rings.plan
+  pub among : rings.queue < (side_plan rings.plan rings.side).queues
