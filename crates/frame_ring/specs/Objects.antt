@@ -12,7 +12,9 @@ use Rattle.plan_model.specs.Pieces.{pieces_of}
 use Rattle.plan_model.specs.Plans.{side_plan}
 use Rattle.plan_model.specs.Sizes.{layout_of, layout_to}
 use Rattle.ring_geometry.specs.Geometry.{max_payload_of}
+use Rattle.byte_model.specs.Headers.{Header}
 use Rattle.frame_ring.specs.Port.{PortState, Sending, Receiving, is_busy}
+use Rattle.frame_ring.specs.declared.reading.HeaderWords.{HeaderWords}
 use Rattle.frame_ring.specs.declared.rings.QueueRings.TheInside.{Inside as RingsInside}
 
 -- The rings of one queue of one side
@@ -35,3 +37,7 @@ pub record ArePlaced (rings : RingsInside) : Type 0 where
 pub record IsQueueOf (rings : QueueOf) : Type 0 where
   pub declared : IsPair rings.plan
   pub among : rings.queue < (side_plan rings.plan rings.side).queues
+
+-- The words of a header as they were read.
+abbrev pub header_of : HeaderWords → Header
+header_of words = record { left = words.left; ver = words.ver; len = words.len; flags = words.flags }

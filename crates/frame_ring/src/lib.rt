@@ -6,6 +6,7 @@
 //! A begin or a look promises all room and all pages that what follows it needs, so that no other call takes memory.
 #![tactic(auto)]
 
+mod reading;
 mod rings;
 
 pub use step_kinds::{Begun, LaneCopy};
