@@ -1,0 +1,3 @@
+pub mod Entries
+pub mod NextLabel
+pub mod Progress

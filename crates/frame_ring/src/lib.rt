@@ -8,6 +8,7 @@
 
 mod reading;
 mod rings;
+mod sending;
 
 pub use step_kinds::{Begun, LaneCopy};
 
