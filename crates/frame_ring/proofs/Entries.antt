@@ -10,7 +10,7 @@ use Rattle.plan_model.specs.Labels.{label_of, labels_of}
 use Rattle.plan_model.specs.Pieces.{piece_of, pieces_of}
 use Rattle.plan_model.specs.Sizes.{pieces_in}
 use Rattle.step_kinds.specs.declared.steps.Label.{Label}
-use Rattle.frame_ring.specs.Objects.{all_writes_in, carries_bytes, entries_under, entry_at, writes_in}
+use Rattle.frame_ring.specs.Outgoing.{all_writes_in, carries_bytes, entries_under, entry_at, writes_in}
 use Rattle.frame_ring.specs.Port.{left_of_entry, writes_from}
 
 -- Counting on

@@ -11,7 +11,7 @@ use Rattle.plan_model.specs.Labels.{label_of, labels_of}
 use Rattle.step_kinds.specs.declared.steps.Label.{Label}
 use Rattle.step_kinds.specs.declared.steps.Label.TheVariants.{Chunk, Len, Ver, Flag, Down, Bell}
 use Rattle.frame_ring.specs.Calls.{first_label}
-use Rattle.frame_ring.specs.Objects.{carries_bytes, label_by}
+use Rattle.frame_ring.specs.Outgoing.{carries_bytes, label_by}
 use Rattle.frame_ring.proofs.Entries.{get_or-count_from, length-count_from}
 
 chunk_labels : ℕ → ℕ → ℕ → List Label

@@ -11,7 +11,7 @@ use Rattle.plan_model.specs.Sizes.{pieces_in}
 use Rattle.step_kinds.specs.declared.steps.Label.{Label}
 use Rattle.step_kinds.specs.declared.steps.Label.TheVariants.{Chunk, Len, Ver, Flag, Down, Bell}
 use Rattle.frame_ring.specs.Calls.{entries_begun, first_label, let_go, next_begun, rest_of}
-use Rattle.frame_ring.specs.Objects.{all_writes_in, entry_at, label_by, progress_at, writes_in}
+use Rattle.frame_ring.specs.Outgoing.{all_writes_in, entry_at, label_by, progress_at, writes_in}
 use Rattle.frame_ring.specs.Port.{Sending, is_busy}
 use Rattle.frame_ring.proofs.Entries.{busy_is, get_or-count_from, left_is, length-count_from, length-labels_of, length-pieces_of, length-todo}
 

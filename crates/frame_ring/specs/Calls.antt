@@ -147,12 +147,14 @@ more_parts receiving = nat_lt (receiving.part + 1) (chunks_in receiving.len)
 abbrev pub more_entries : Receiving → Bool
 more_entries receiving = nat_lt 0 receiving.left
 
+abbrev pub part_answer : Receiving → List ℕ → LaneCopy
+part_answer receiving gathered =
+    if more_parts receiving then Part receiving.got receiving.part
+    else if more_entries receiving then Part receiving.got receiving.part
+    else Whole receiving.done gathered
+
 abbrev pub copy_answer : PortState → Bridge → LaneCopy
-copy_answer port bridge =
-    if not (is_copying port.receiving.phase) then NotCopying
-    else if more_parts port.receiving then Part port.receiving.got port.receiving.part
-    else if more_entries port.receiving then Part port.receiving.got port.receiving.part
-    else Whole port.receiving.done (gathered_next port bridge)
+copy_answer port bridge = if is_copying port.receiving.phase then part_answer port.receiving (gathered_next port bridge) else NotCopying
 
 abbrev pub part_copied : Receiving → List ℕ → Receiving
 part_copied receiving gathered =

@@ -1,4 +1,7 @@
 pub mod Calls
-pub mod Objects
+pub mod Gathering
+pub mod Incoming
+pub mod Outgoing
 pub mod Port
+pub mod Rings
 pub mod Seen

@@ -5,7 +5,7 @@ ghost use Rattle.bridge_pair.specs.Bridge.{memory_size};
 ghost use Rattle.byte_model.specs.Addresses.{own_address as own_address_of, own_header, own_index_word, own_slot};
 ghost use Rattle.byte_model.specs.Headers.{flags_offset as offset_of_flags};
 ghost use Rattle.byte_model.specs.RingWrites.{header_offset, slot_offset};
-ghost use Rattle.frame_ring.specs.Objects.{IsQueueOf};
+ghost use Rattle.frame_ring.specs.Rings.{IsQueueOf};
 ghost use Rattle.lane_model.specs.Ring.{free_entries};
 ghost use Rattle.plan_model.specs.DeclaredPlans.{IsPair, SizesFit};
 ghost use Rattle.plan_model.specs.Plans.{side_plan as side_plan_of};
@@ -30,7 +30,7 @@ pub struct QueueRings {
 }
 
 impl Model for QueueRings {
-    ghost use Rattle.frame_ring.specs.Objects.{ArePlaced, QueueOf, rings_seen};
+    ghost use Rattle.frame_ring.specs.Rings.{ArePlaced, QueueOf, rings_seen};
 
     ghost Value = { QueueOf };
 
@@ -40,7 +40,7 @@ impl Model for QueueRings {
 }
 
 impl QueueRings {
-    ghost use Rattle.frame_ring.specs.Objects.{QueueOf};
+    ghost use Rattle.frame_ring.specs.Rings.{QueueOf};
 
     /// The rings of one of a side's queues.
     pub fn new(plan: &PairPlan, side: Side, queue: u32) -> QueueRings

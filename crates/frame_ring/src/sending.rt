@@ -2,7 +2,7 @@
 
 ghost use Rattle.std.specs.Prelude.{◌≡◌, ◌+◌, ◌-◌, ◌*◌, ◌<◌, ◌≤◌, ◌∷◌, [], MatchOption, drop, length, not, take, true};
 ghost use Rattle.frame_ring.specs.Calls.{entries_begun, first_label, let_go, next_begun, rest_of};
-ghost use Rattle.frame_ring.specs.Objects.{IsLabelOf, all_writes_in, count_left, entries_under, entry_at, label_by, most_numbers, with_progress, writes_in};
+ghost use Rattle.frame_ring.specs.Outgoing.{IsLabelOf, all_writes_in, count_left, entries_under, entry_at, label_by, most_numbers, with_progress, writes_in};
 ghost use Rattle.frame_ring.specs.Port.{is_busy as is_busy_by, nothing_sent};
 ghost use Rattle.lane_model.specs.Lane.{GoesDown, bytes_of, chunk_of, chunks_in, left_of};
 ghost use Rattle.lane_model.specs.Tests.{is_empty_list};
@@ -27,7 +27,7 @@ pub struct Sender {
 }
 
 impl Model for Sender {
-    ghost use Rattle.frame_ring.specs.Objects.{IsSender, Outgoing, sender_seen};
+    ghost use Rattle.frame_ring.specs.Outgoing.{IsSender, Outgoing, sender_seen};
 
     ghost Value = { Outgoing };
 

@@ -1,6 +1,6 @@
 use Rattle.std.proofs.Common.{◌≡◌, ◌∙◌, ◌+◌, ◌<◌, ◌≤◌, ap, sym, arith, length}
 use Rattle.frame_ring.specs.Calls.{next_begun}
-use Rattle.frame_ring.specs.Objects.{Outgoing, entries_under, entry_at, sender_seen, with_progress, writes_in}
+use Rattle.frame_ring.specs.Outgoing.{Outgoing, entries_under, entry_at, sender_seen, with_progress, writes_in}
 use Rattle.frame_ring.proofs.Progress.{next_moves, next_stays}
 use Rattle.frame_ring.proofs.sending.Sender.advance.Goals as goal
 use Rattle.frame_ring.proofs.sending.Sender.advance.Goals.{else-self-all-via-then-self-all+else-self, else-self-all-via-else-self-all}

@@ -2,7 +2,7 @@ use Rattle.std.proofs.Common.{◌≡◌, ◌∙◌, ◌+◌, ◌<◌, ◌≤◌,
 use Rattle.plan_model.specs.Pieces.{pieces_of}
 use Rattle.plan_model.specs.Sizes.{pieces_in}
 use Rattle.frame_ring.specs.Calls.{entries_begun}
-use Rattle.frame_ring.specs.Objects.{Outgoing, all_writes_in, most_numbers, sender_seen, with_progress}
+use Rattle.frame_ring.specs.Outgoing.{Outgoing, all_writes_in, most_numbers, sender_seen, with_progress}
 use Rattle.frame_ring.proofs.Entries.{length-pieces_of}
 use Rattle.frame_ring.proofs.Progress.{begun_is, some_pieces, some_writes}
 use Rattle.frame_ring.proofs.sending.Sender.begin.Goals as goal

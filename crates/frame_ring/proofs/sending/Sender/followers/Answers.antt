@@ -1,6 +1,6 @@
 use Rattle.std.proofs.Common.{ap, ◌∙◌}
 use Rattle.lane_model.specs.Lane.{left_of}
-use Rattle.frame_ring.specs.Objects.{Outgoing}
+use Rattle.frame_ring.specs.Outgoing.{Outgoing}
 use Rattle.frame_ring.proofs.Entries.{followers_are}
 use Rattle.frame_ring.proofs.sending.Sender.followers.Goals as goal
 

@@ -1,5 +1,5 @@
 use Rattle.std.proofs.Common.{◌<◌, ap, ◌∙◌, length, arith}
-use Rattle.frame_ring.specs.Objects.{Outgoing, entries_under}
+use Rattle.frame_ring.specs.Outgoing.{Outgoing, entries_under}
 use Rattle.frame_ring.specs.Port.{is_busy}
 use Rattle.frame_ring.proofs.Entries.{busy_is}
 use Rattle.frame_ring.proofs.sending.Sender.is_busy.Goals as goal

@@ -1,5 +1,5 @@
 use Rattle.std.proofs.Common.{◌<◌, ap, ◌∙◌, length, arith}
-use Rattle.frame_ring.specs.Objects.{count_left, entries_under}
+use Rattle.frame_ring.specs.Outgoing.{count_left, entries_under}
 use Rattle.frame_ring.proofs.Entries.{count_is}
 use Rattle.frame_ring.proofs.sending.Sender.left.Goals as goal
 

@@ -1,51 +1,12 @@
--- What contracts see of the crate's own objects.
-use Rattle.std.specs.Prelude.{◌≡◌, ℕ, ◌+◌, ◌-◌, ◌*◌, ◌^◌, ◌<◌, ◌≤◌, ◌==◌, ◌||◌, Bool, true, false, Option, Some, None, List, [], ◌∷◌, ◌++◌, length, nat_lt, take, drop, slice_index_or, if◌then◌else◌}
-use Rattle.step_kinds.specs.Limits.{most_frame_bytes}
-use Rattle.step_kinds.specs.declared.names.Side.{Side}
-use Rattle.step_kinds.specs.declared.plan.PairPlan.{PairPlan}
+-- The sender's end, as the crate keeps it.
+use Rattle.std.specs.Prelude.{◌≡◌, ℕ, ◌+◌, ◌-◌, ◌^◌, ◌<◌, ◌≤◌, ◌==◌, Bool, true, false, Option, Some, None, List, [], ◌∷◌, ◌++◌, length, nat_lt, drop, slice_index_or, if◌then◌else◌}
 use Rattle.step_kinds.specs.declared.steps.Label.{Label}
 use Rattle.step_kinds.specs.declared.steps.Label.TheVariants.{Chunk, Len, Ver, Flag, Down, Bell}
-use Rattle.lane_model.specs.Lane.{Entry, Carries, GoesDown, bytes_of, chunks_in, chunk_size}
-use Rattle.lane_model.specs.Tests.{is_idle, is_copying}
-use Rattle.lane_model.specs.declared.Phase.TheVariants.{Copying}
-use Rattle.plan_model.specs.DeclaredPlans.{IsPair, SizesFit}
+use Rattle.lane_model.specs.Lane.{Entry, Carries, GoesDown, bytes_of, chunks_in}
 use Rattle.plan_model.specs.Labels.{labels_of}
 use Rattle.plan_model.specs.Pieces.{pieces_of}
-use Rattle.plan_model.specs.Plans.{side_plan}
-use Rattle.plan_model.specs.Sizes.{layout_of, layout_to}
-use Rattle.ring_geometry.specs.Geometry.{max_payload_of}
-use Rattle.byte_model.specs.Headers.{Header}
-use Rattle.frame_ring.specs.Port.{PortState, Sending, Receiving, is_busy, left_of_entry, writes_from}
-use Rattle.frame_ring.specs.declared.reading.HeaderWords.{HeaderWords}
-use Rattle.frame_ring.specs.declared.rings.QueueRings.TheInside.{Inside as RingsInside}
+use Rattle.frame_ring.specs.Port.{Sending, left_of_entry, writes_from}
 use Rattle.frame_ring.specs.declared.sending.Sender.TheInside.{Inside as SenderInside}
-
--- The rings of one queue of one side
-
-pub record QueueOf : Type 0 where
-  pub plan : PairPlan
-  pub side : Side
-  pub queue : ℕ
-
-abbrev pub rings_seen : RingsInside → QueueOf
-rings_seen rings = record { plan = rings.plan; side = rings.side; queue = rings.queue }
-
-pub record ArePlaced (rings : RingsInside) : Type 0 where
-  pub declared : IsPair rings.plan
-  pub among : rings.queue < (side_plan rings.plan rings.side).queues
-  pub out : rings.out ≡ layout_of rings.plan rings.side rings.queue
-  pub into : rings.into ≡ layout_to rings.plan rings.side rings.queue
-
--- what is so of the rings of every port
-pub record IsQueueOf (rings : QueueOf) : Type 0 where
-  pub declared : IsPair rings.plan
-  pub among : rings.queue < (side_plan rings.plan rings.side).queues
-
--- The words of a header as they were read.
-abbrev pub header_of : HeaderWords → Header
-header_of words = record { left = words.left; ver = words.ver; len = words.len; flags = words.flags }
-
--- The sender's end
 
 -- the entries of the frame under way; where none is, that of a queue that goes down
 abbrev pub entries_under : ℕ → Option (List ℕ) → List Entry
