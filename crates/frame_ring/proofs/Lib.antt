@@ -1,3 +1,4 @@
 pub mod Entries
 pub mod NextLabel
+pub mod PostedBytes
 pub mod Progress

@@ -7,6 +7,7 @@
 #![tactic(auto)]
 
 mod gathered;
+mod posting;
 mod reading;
 mod receiving;
 mod rings;
