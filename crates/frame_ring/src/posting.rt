@@ -22,6 +22,11 @@ use bridge_pair::{Pair, Write, side_plan};
 use ring_geometry::ver_of;
 use step_kinds::Label;
 
+// The flags of a header: DONE, and LINK_DOWN beside it.
+const DONE: u32 = 1;
+
+const LINK_DOWN: u32 = 2;
+
 /// Whether the peer has the window that the side sends through on the queue.
 pub fn reaches(rings: &QueueRings) -> bool
     ensures { result ≡ reaches_by rings.now.plan rings.now.side (window_of (layout_of rings.now.plan rings.now.side rings.now.queue)) }
@@ -147,4 +152,42 @@ pub fn post_index(rings: &QueueRings, pair: &mut Pair, n: u64)
         number: n,
     };
     post_word(rings, pair, label, rings.out().index_at(), slot);
+}
+
+/// Posts the write of the entry at hand that has this label.
+pub fn post_write(rings: &QueueRings, sender: &Sender, pair: &mut Pair, label: Label)
+    requires plan { pair.old.plan ≡ rings.now.plan }
+    requires fit { SizesFit rings.now.plan }
+    requires queue { sender.now.queue ≡ rings.now.queue }
+    requires largest { sender.now.largest ≡ (sizes_of rings.now.plan rings.now.side rings.now.queue).largest }
+    requires of_entry { IsLabelOf sender.now.queue sender.now.sending.entry label }
+    requires room { 0 < (flight_of pair.old rings.now.side).spare }
+    requires pages { IsLeftReady rings.now.plan rings.now.side (pages_of pair.old (other_side rings.now.side)) (record { entry = sender.now.sending.entry; label = label }) }
+    ensures { pair.new ≡ ring_posted pair.old rings.now.side sender.now.sending.entry label }
+{
+    match label {
+        Label::Chunk { number, part, .. } => {
+            let bytes = chunk_at(sender.payload(), part);
+            let offset = slot_offset_of(rings, number) + 128 * u64::from(part);
+            post_bytes(rings, pair, label, offset, bytes);
+        }
+        Label::Len { number, .. } => {
+            let len = sender.payload().len() as u32;
+            let offset = header_offset_of(rings, number) + len_offset(rings);
+            post_word(rings, pair, label, offset, len);
+        }
+        Label::Ver { number, .. } => {
+            post_version(rings, pair, label, number, sender.followers());
+        }
+        Label::Flag { number, .. } => {
+            let offset = header_offset_of(rings, number) + flags_offset(rings);
+            post_word(rings, pair, label, offset, DONE);
+        }
+        Label::Down { number, .. } => {
+            let offset = header_offset_of(rings, number) + flags_offset(rings);
+            post_word(rings, pair, label, offset, DONE + LINK_DOWN);
+        }
+        Label::Bell { .. } => pair.post(rings.side(), Write::bell(rings.queue())),
+        Label::Index { .. } | Label::Pad { .. } | Label::Raw { .. } => {}
+    }
 }
