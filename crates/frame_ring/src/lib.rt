@@ -7,12 +7,14 @@
 #![tactic(auto)]
 
 mod gathered;
+mod port;
 mod posting;
 mod reading;
 mod receiving;
 mod rings;
 mod sending;
 
+pub use port::Port;
 pub use step_kinds::{Begun, LaneCopy};
 
 /// What came of looking for the next entry. `ntb_transport` too decides by the flags of the header: without DONE nothing is

@@ -3,10 +3,12 @@
 ghost use Rattle.std.specs.Prelude.{◌≡◌, ◌+◌, ◌*◌, ◌%◌, ◌<◌, ◌≤◌, ◌++◌, length};
 ghost use Rattle.bridge_pair.specs.Bridge.{flight_of, pages_of};
 ghost use Rattle.bridge_pair.specs.Writes.{most_write_bytes};
-ghost use Rattle.byte_model.specs.Headers.{len_offset as offset_of_len, version_bytes, word_bytes};
+ghost use Rattle.byte_model.specs.Addresses.{own_header};
+ghost use Rattle.byte_model.specs.Headers.{flags_offset as offset_of_flags, len_offset as offset_of_len, version_bytes, word_bytes};
 ghost use Rattle.byte_model.specs.RingWrites.{header_offset, index_write, queue_write, slot_offset};
 ghost use Rattle.frame_ring.specs.Outgoing.{IsLabelOf};
-ghost use Rattle.frame_ring.specs.Seen.{IsLeftReady, IsReadyToLand, index_posted, reaches as reaches_by, ring_posted, window_posted};
+ghost use Rattle.frame_ring.specs.Seen.{IsLeftReady, flags_cleared, IsReadyToLand, index_posted, reaches as reaches_by, ring_posted, window_posted};
+ghost use Rattle.host_memory.specs.Memory.{ArePromised};
 ghost use Rattle.lane_model.specs.Lane.{bytes_of, chunk_of, chunks_in};
 ghost use Rattle.plan_model.specs.DeclaredPlans.{SizesFit};
 ghost use Rattle.plan_model.specs.Plans.{side_plan as side_plan_of};
@@ -15,7 +17,7 @@ ghost use Rattle.ring_geometry.specs.Geometry.{entries_of, window_of};
 ghost use Rattle.step_kinds.specs.Sides.{other_side};
 ghost use Rattle.step_kinds.specs.declared.steps.Label.TheVariants.{Index};
 
-use crate::reading::flags_offset;
+use crate::reading::{flags_offset, header_at};
 use crate::rings::{QueueRings, slot_in};
 use crate::sending::Sender;
 use bridge_pair::{Pair, Write, side_plan};
@@ -190,4 +192,16 @@ pub fn post_write(rings: &QueueRings, sender: &Sender, pair: &mut Pair, label: L
         Label::Bell { .. } => pair.post(rings.side(), Write::bell(rings.queue())),
         Label::Index { .. } | Label::Pad { .. } | Label::Raw { .. } => {}
     }
+}
+
+/// Zeroes the flags of the slot in which the side received entry `n`.
+pub fn clear_flags(rings: &QueueRings, pair: &mut Pair, n: u64)
+    requires plan { pair.old.plan ≡ rings.now.plan }
+    requires fit { SizesFit rings.now.plan }
+    requires promised { ArePromised (own_header rings.now.plan rings.now.side rings.now.queue n + offset_of_flags rings.now.plan) 4 (pages_of pair.old rings.now.side) }
+    ensures { pair.new ≡ flags_cleared pair.old rings.now.side rings.now.queue n }
+{
+    let _plan = pair.plan();
+    let at = header_at(rings, n) + flags_offset(rings);
+    pair.local_write(rings.side(), at, &[0u8; 4]);
 }

@@ -1,0 +1,191 @@
+//! One queue of one side.
+
+ghost use Rattle.std.specs.Prelude.{◌≡◌, ◌+◌, ◌-◌, ◌<◌, ◌≤◌, IfOk, OnErr, OnOk, length};
+ghost use Rattle.bridge_pair.specs.Bridge.{Bridge, pages_of, with_pages};
+ghost use Rattle.bridge_pair.specs.Pages.{PagesGrow};
+ghost use Rattle.plan_model.specs.DeclaredPlans.{IsPair};
+ghost use Rattle.plan_model.specs.Plans.{side_plan as side_plan_of};
+ghost use Rattle.step_kinds.specs.Limits.{most_frame_bytes};
+ghost use Rattle.step_kinds.specs.Sides.{other_side};
+
+use crate::posting::{clear_flags, post_index, post_write};
+use crate::reading::{free_by, has_index_word, index_word, slot_at};
+use crate::receiving::Receiver;
+use crate::rings::{QueueRings, slot_in};
+use crate::sending::Sender;
+use bridge_pair::Pair;
+use lane_model::Phase;
+use std::alloc::Global;
+use std::marker::Model;
+use step_kinds::{Begun, Frame, Label, LaneCopy, PairPlan, Side};
+
+/// One queue of one side of a pair: the ring that it sends to in the peer's memory, the ring that it receives in in its own,
+/// and how far it is with both. Contracts see that as a record.
+///
+/// Every call that takes a pair has to be given one of the port's plan. What a begin, a going down or a look promised, and
+/// the port hasn't used yet, has to be there when it is used: room for its writes among those that the side has promised, and
+/// the pages that they write to. Other calls on the pair leave both as they are.
+#[derive(Drop)]
+pub struct Port {
+    rings: QueueRings,
+    sender: Sender,
+    receiver: Receiver,
+}
+
+impl Model for Port {
+    ghost use Rattle.frame_ring.specs.Port.{PortState};
+    ghost use Rattle.frame_ring.specs.Ports.{IsPort, port_seen};
+
+    ghost Value = { PortState };
+
+    ghost view = { port_seen };
+
+    ghost invariant = { IsPort };
+}
+
+impl Port {
+    ghost use Rattle.frame_ring.specs.Calls.{TouchedByBegin, TouchedByDown, TouchedByFlags, TouchedByLook, ack_answer, acked_by, after_ack, after_begin, after_clear, after_copy, after_down, after_look, after_post, begin_answer, clear_answer, cleared_by, copy_answer, down_answer, free_answer, look_answer, post_answer, posted_by, refuses_answer, reset_by};
+    ghost use Rattle.frame_ring.specs.Port.{fresh_port, unused_of};
+    ghost use Rattle.frame_ring.specs.Seen.{FitsRings, HasPagesIn, HasRoomIn, with_room};
+
+    /// The port of one of a side's queues, with nothing sent and nothing received. It takes no memory yet; the
+    /// allocator is kept for [`Port::look`].
+    pub fn new(alloc: Global, plan: &PairPlan, side: Side, queue: u32) -> Port
+        requires declared { IsPair plan.now }
+        requires among { queue < (side_plan_of plan.now side).queues }
+        ensures { result ≡ fresh_port plan.now side queue }
+    {
+        let rings = QueueRings::new(plan, side, queue);
+        let largest = rings.out().max_payload();
+        Port {
+            rings,
+            sender: Sender::new(queue, largest),
+            receiver: Receiver::new(alloc),
+        }
+    }
+
+    /// Posts the next write that is left, and answers its label; `None` exactly where none is left. Where the link isn't up the
+    /// write is lost, and so is one through a window that the peer lacks, which only a raw pair can have. It takes no memory.
+    pub fn post(&mut self, pair: &mut Pair) -> Option<Label>
+        requires plan { pair.old.plan ≡ self.old.plan }
+        requires room { HasRoomIn self.old pair.old }
+        requires pages { HasPagesIn self.old pair.old }
+        ensures answer { result ≡ post_answer self.old }
+        ensures after { self.new ≡ after_post self.old }
+        ensures pair { pair.new ≡ posted_by self.old pair.old }
+        ensures ready { HasPagesIn self.new pair.new }
+    {
+        self.sender.advance();
+        let label = self.sender.label();
+        if let Some(label) = label {
+            post_write(&self.rings, &self.sender, pair, label);
+        }
+        self.sender.posted();
+        label
+    }
+
+    /// Copies the next part of the entry at hand, as it stands in the side's memory: 128 bytes, or the rest. With the last part
+    /// of a frame's last entry the whole frame is delivered; an entry without bytes takes one copy. It takes no memory.
+    pub fn copy(&mut self, pair: &Pair) -> LaneCopy
+        requires { pair.now.plan ≡ self.old.plan }
+        ensures answer { result ≡ copy_answer self.old pair.now }
+        ensures after { self.new ≡ after_copy self.old pair.now }
+        ensures ready { HasPagesIn self.old pair.now → HasPagesIn self.new pair.now }
+    {
+        let Phase::Copying = self.receiver.phase() else {
+            return LaneCopy::OutOfTurn;
+        };
+        let _plan = pair.plan();
+        let side = self.rings.side();
+        let at = slot_at(&self.rings, self.receiver.got()) + self.receiver.part_offset();
+        self.receiver.copy(pair, side, at)
+    }
+
+    /// Zeroes the flags of the entry that was copied, in the side's own memory, and answers its number; `None` exactly where
+    /// none was. It takes no memory.
+    pub fn clear(&mut self, pair: &mut Pair) -> Option<u64>
+        requires plan { pair.old.plan ≡ self.old.plan }
+        requires pages { HasPagesIn self.old pair.old }
+        ensures answer { result ≡ clear_answer self.old }
+        ensures after { self.new ≡ after_clear self.old }
+        ensures pair { pair.new ≡ cleared_by self.old pair.old }
+        ensures ready { HasPagesIn self.new pair.new }
+    {
+        let Phase::Copied = self.receiver.phase() else {
+            return None;
+        };
+        let number = self.receiver.last_got();
+        clear_flags(&self.rings, pair, number);
+        self.receiver.cleared();
+        Some(number)
+    }
+
+    /// Gives the entry that was cleared back: posts the index write that names its slot, and answers its number; `None` exactly
+    /// where none was cleared. It takes no memory.
+    pub fn ack(&mut self, pair: &mut Pair) -> Option<u64>
+        requires plan { pair.old.plan ≡ self.old.plan }
+        requires room { HasRoomIn self.old pair.old }
+        requires pages { HasPagesIn self.old pair.old }
+        ensures answer { result ≡ ack_answer self.old }
+        ensures after { self.new ≡ after_ack self.old }
+        ensures pair { pair.new ≡ acked_by self.old pair.old }
+        ensures ready { HasPagesIn self.new pair.new }
+    {
+        let Phase::Cleared = self.receiver.phase() else {
+            return None;
+        };
+        let number = self.receiver.last_got();
+        post_index(&self.rings, pair, number);
+        self.receiver.given_back();
+        Some(number)
+    }
+
+    /// Whether [`Port::begin`] would answer [`Begun::TooLong`] or [`Begun::Busy`] for a frame of `len` bytes, 1 to 65,536,
+    /// whatever room there is. It takes no memory.
+    pub fn refuses(&self, len: u32) -> bool
+        requires some { 0 < len }
+        requires most { len ≤ most_frame_bytes }
+        ensures { result ≡ refuses_answer self.now len }
+    {
+        self.rings.most_sent() < len || self.sender.is_busy()
+    }
+
+    /// The free entries of the ring that the port sends to, by the index word in the side's memory: 0 where that word names no
+    /// slot of the ring, and where it doesn't lie wholly in the memory. It takes no memory.
+    pub fn free(&self, pair: &Pair) -> u32
+        requires { pair.now.plan ≡ self.now.plan }
+        ensures { result ≡ free_answer self.now pair.now }
+    {
+        if !has_index_word(&self.rings) {
+            return 0;
+        }
+        let head = slot_in(self.rings.out(), self.sender.begun());
+        free_by(&self.rings, head, index_word(&self.rings, pair))
+    }
+
+    /// Forgets all that was sent and received, as a side does between two sessions, and gives back the promises of room that
+    /// weren't used. It takes no memory.
+    pub fn reset(&mut self, pair: &mut Pair)
+        requires plan { pair.old.plan ≡ self.old.plan }
+        requires room { HasRoomIn self.old pair.old }
+        ensures after { self.new ≡ fresh_port self.old.plan self.old.side self.old.queue }
+        ensures pair { pair.new ≡ reset_by self.old pair.old }
+    {
+        let unused = self.unused();
+        pair.give_back(self.rings.side(), unused);
+        let largest = self.rings.out().max_payload();
+        self.sender = Sender::new(self.rings.queue(), largest);
+        self.receiver.reset();
+    }
+
+    // How many promises of room are unused.
+    fn unused(&self) -> usize
+        ensures { result ≡ unused_of self.now }
+    {
+        let found = match self.receiver.phase() {
+            Phase::Idle => 0,
+            _ => 1,
+        };
+        self.sender.left() + found
+    }
+}
