@@ -4,5 +4,6 @@ pub mod Incoming
 pub mod Outgoing
 pub mod Port
 pub mod Ports
+pub mod Promises
 pub mod Rings
 pub mod Seen

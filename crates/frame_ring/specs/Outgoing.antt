@@ -69,6 +69,7 @@ pub record IsSender (sender : SenderInside) : Type 0 where
   pub left : sender.left + sender.next ≡ all_writes_in (drop sender.piece (entries_under sender.largest sender.frame))
   pub begun : sender.begun + sender.pieces ≤ most_numbers + sender.piece + 1
   pub told : sender.told ≤ most_numbers
+  pub few_left : sender.left ≤ 2 ^ 30
   -- what is posted whole is let go
   pub gone : sender.left ≡ 0 → sender.frame ≡ None
 

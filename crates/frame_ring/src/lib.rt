@@ -9,6 +9,7 @@
 mod gathered;
 mod port;
 mod posting;
+mod promises;
 mod reading;
 mod receiving;
 mod rings;

@@ -77,8 +77,9 @@ impl Port {
     {
         self.sender.advance();
         let label = self.sender.label();
-        if let Some(label) = label {
-            post_write(&self.rings, &self.sender, pair, label);
+        match label {
+            Some(label) => post_write(&self.rings, &self.sender, pair, label),
+            None => {}
         }
         self.sender.posted();
         label

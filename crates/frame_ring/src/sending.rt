@@ -1,6 +1,6 @@
 //! The sender's end: the frame under way, and which of its writes is next.
 
-ghost use Rattle.std.specs.Prelude.{◌≡◌, ◌+◌, ◌-◌, ◌*◌, ◌<◌, ◌≤◌, ◌∷◌, [], MatchOption, drop, length, not, take, true};
+ghost use Rattle.std.specs.Prelude.{◌≡◌, ◌+◌, ◌-◌, ◌*◌, ◌^◌, ◌<◌, ◌≤◌, ◌∷◌, [], MatchOption, drop, length, not, take, true};
 ghost use Rattle.frame_ring.specs.Calls.{entries_begun, first_label, let_go, next_begun, rest_of};
 ghost use Rattle.frame_ring.specs.Outgoing.{IsLabelOf, all_writes_in, count_left, entries_under, entry_at, label_by, most_numbers, with_progress, writes_in};
 ghost use Rattle.frame_ring.specs.Port.{is_busy as is_busy_by, nothing_sent};
@@ -81,7 +81,8 @@ impl Sender {
 
     /// How many.
     pub fn left(&self) -> usize
-        ensures { result ≡ count_left self.now }
+        ensures value { result ≡ count_left self.now }
+        ensures few { result ≤ 2 ^ 30 }
     {
         self.left
     }
@@ -152,6 +153,7 @@ impl Sender {
     pub fn begin(&mut self, frame: Frame, left: usize)
         requires free { not (is_busy_by self.old.sending) ≡ true }
         requires writes { left ≡ all_writes_in (pieces_of self.old.largest frame) }
+        requires few { left ≤ 2 ^ 30 }
         requires numbers { self.old.sending.begun + pieces_by self.old.largest (length frame) ≤ most_numbers }
         requires frames { self.old.sending.told < most_numbers }
         ensures { self.new ≡ with_progress self.old (record (entries_begun self.old.queue self.old.sending (pieces_of self.old.largest frame)) { told = self.old.sending.told + 1 }) }
@@ -200,13 +202,14 @@ pub fn pieces_in(largest: u32, len: u32) -> u32
     ((len + largest - 1) / largest).max(1)
 }
 
-// The payload of a piece.
-fn piece_bytes(bytes: &[u8], largest: u32, piece: u32) -> &[u8]
+/// The payload of a piece of a frame.
+pub fn piece_bytes(bytes: &[u8], largest: u32, piece: u32) -> &[u8]
     requires among { piece < pieces_by largest (length bytes.now) }
     requires some { 4 ≤ largest }
     requires most { largest ≤ 65536 }
     requires fits { length bytes.now ≤ 65536 }
-    ensures { result.now ≡ take largest (drop (largest * piece) bytes.now) }
+    ensures value { result.now ≡ take largest (drop (largest * piece) bytes.now) }
+    ensures short { length result.now ≤ largest }
 {
     let start = largest as usize * piece as usize;
     let rest = &bytes[start..];

@@ -13,5 +13,5 @@ piece_bytes-requires-clause-among c =
 pub returns-in-Some-clause-value : goal.returns-in-Some-clause-value
 returns-in-Some-clause-value c =
     let count = ap (λ frame. length (entries_under c.args.largest frame)) c.in-Some.is ∙ length-pieces_of c.args.largest c.in-Some.frame in
-    c.piece_bytes.ensures ∙ ap (λ bytes. take c.args.largest (drop (c.args.largest * c.args.piece) bytes)) c.bytes.ensures.value
+    c.piece_bytes.ensures.value ∙ ap (λ bytes. take c.args.largest (drop (c.args.largest * c.args.piece) bytes)) c.bytes.ensures.value
     ∙ sym (ap (λ frame. bytes_of (entry_at (entries_under c.args.largest frame) c.args.piece)) c.in-Some.is ∙ ap bytes_of (piece_at c.args.largest c.in-Some.frame c.args.piece (omega (arith, count, c.requires.among))))

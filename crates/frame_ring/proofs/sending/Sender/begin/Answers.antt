@@ -31,6 +31,7 @@ invariant_of-self c =
       left = omega (arith, left);
       begun = omega (arith, numbers, pieces);
       told = omega (arith, told, c.requires.frames);
+      few_left = c.requires.few;
       gone = λ none. absurd (omega (arith, none, left, writes));
     }
 

@@ -41,6 +41,7 @@ invariant_of-self-else-self-eq0-2 c =
       left = omega (arith, law.left, c.if-self-eq0.false);
       begun = law.begun;
       told = law.told;
+      few_left = omega (arith, law.few_left);
       gone = λ none. absurd (c.if-self-eq0-2.false none);
     }
 
