@@ -1,4 +1,5 @@
 pub mod Entries
+pub mod EntryPages
 pub mod NextLabel
 pub mod PostedBytes
 pub mod Progress
