@@ -4,3 +4,4 @@ pub mod NextLabel
 pub mod PostedBytes
 pub mod Progress
 pub mod Ready
+pub mod WritePages

@@ -14,10 +14,10 @@ use Rattle.frame_ring.specs.Calls.{first_label}
 use Rattle.frame_ring.specs.Outgoing.{carries_bytes, label_by}
 use Rattle.frame_ring.proofs.Entries.{get_or-count_from, length-count_from}
 
-chunk_labels : ℕ → ℕ → ℕ → List Label
+abbrev pub chunk_labels : ℕ → ℕ → ℕ → List Label
 chunk_labels queue n chunks = map (λ part. Chunk queue n part) (count_from 0 chunks)
 
-last_labels : ℕ → ℕ → Bool → List Label
+abbrev pub last_labels : ℕ → ℕ → Bool → List Label
 last_labels queue n carries = Len queue n ∷ Ver queue n ∷ (if carries then Flag queue n else Down queue n) ∷ Bell queue ∷ []
 
 each_chunk : (queue n : ℕ) (entry : Entry) (from more : ℕ) → map (label_of queue entry) (map (λ part. Data n (PayloadChunk part)) (count_from from more)) ≡ map (λ part. Chunk queue n part) (count_from from more)
@@ -25,12 +25,10 @@ each_chunk queue n entry from zero = refl
 each_chunk queue n entry from (suc more) = ap (λ labels. Chunk queue n from ∷ labels) (each_chunk queue n entry (suc from) more)
 
 each_last : (queue n : ℕ) (entry : Entry) → map (label_of queue entry) (Data n Length ∷ Data n Version ∷ []) ++ map (label_of queue entry) (EntryFlag n ∷ QueueBell ∷ []) ≡ last_labels queue n (carries_bytes entry)
-unfolding last_labels
 each_last queue n (Carries bytes left) = refl
 each_last queue n GoesDown = refl
 
-labels_are : (queue n : ℕ) (entry : Entry) → labels_of queue n entry ≡ chunk_labels queue n (chunks_in (length (bytes_of entry))) ++ last_labels queue n (carries_bytes entry)
-unfolding chunk_labels
+pub labels_are : (queue n : ℕ) (entry : Entry) → labels_of queue n entry ≡ chunk_labels queue n (chunks_in (length (bytes_of entry))) ++ last_labels queue n (carries_bytes entry)
 labels_are queue n entry =
     let chunks = map (λ part. Data n (PayloadChunk part)) (count_from 0 (chunks_in (length (bytes_of entry)))) in
     let fields = Data n Length ∷ Data n Version ∷ [] in
@@ -47,7 +45,6 @@ drop_past (x ∷ xs) ys k zero e = absurd (omega arith)
 drop_past (x ∷ xs) ys k (suc m) e = drop_past xs ys k m (omega arith)
 
 at_chunk : (queue n chunks next : ℕ) (ys : List Label) → next < chunks → first_label (drop next (chunk_labels queue n chunks ++ ys)) ≡ Some (Chunk queue n next)
-unfolding chunk_labels
 at_chunk queue n chunks next ys less =
     let numbers = count_from 0 chunks in
     let xs = map (λ part. Chunk queue n part) numbers in
@@ -57,7 +54,6 @@ at_chunk queue n chunks next ys less =
     ∙ ap Some (get_or-map (λ part. Chunk queue n part) numbers next 0 (Bell 0) (omega arith) ∙ ap (λ part. Chunk queue n part) (get_or-count_from 0 chunks next 0 less ∙ omega arith))
 
 at_last : (queue n chunks k next : ℕ) (ys : List Label) → next ≡ chunks + k → first_label (drop next (chunk_labels queue n chunks ++ ys)) ≡ first_label (drop k ys)
-unfolding chunk_labels
 at_last queue n chunks k next ys e =
     let xs = map (λ part. Chunk queue n part) (count_from 0 chunks) in
     let size : length xs ≡ chunks = length-map (count_from 0 chunks) (λ part. Chunk queue n part) ∙ length-count_from 0 chunks in
@@ -67,7 +63,6 @@ by_chunk : (queue n chunks : ℕ) (carries : Bool) (next : ℕ) → next < chunk
 by_chunk queue n chunks carries next less = grind (arith, nat_tests)
 
 by_last : (queue n chunks : ℕ) (carries : Bool) (k next : ℕ) → next ≡ chunks + k → label_by queue n chunks carries next ≡ first_label (drop k (last_labels queue n carries))
-unfolding last_labels
 by_last queue n chunks carries zero next e = grind (arith, nat_tests)
 by_last queue n chunks carries (suc zero) next e = grind (arith, nat_tests)
 by_last queue n chunks carries (suc (suc zero)) next e = grind (arith, nat_tests)
