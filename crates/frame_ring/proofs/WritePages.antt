@@ -19,7 +19,7 @@ use Rattle.frame_ring.specs.Outgoing.{carries_bytes, entry_at}
 use Rattle.frame_ring.specs.Port.{Left, left_of_entry, writes_from}
 use Rattle.frame_ring.specs.Promises.{AreEntriesPromised, IsEntryPromised, IsRangePromised, ReachesPeer, TouchesEntries, TouchesEntry, TouchesRange}
 use Rattle.frame_ring.specs.Rings.{QueueOf}
-use Rattle.frame_ring.specs.Seen.{IsLeftReady, IsReadyToLand, TouchesLeft, TouchesWrite}
+use Rattle.frame_ring.specs.Seen.{IsLeftReady, IsReadyToLand, TouchesLeft, TouchesOf, TouchesWrite}
 use Rattle.frame_ring.proofs.Entries.{get_or-count_from, length-count_from}
 use Rattle.frame_ring.proofs.NextLabel.{chunk_labels, labels_are, last_labels}
 
@@ -142,8 +142,8 @@ writes_ready rings from (entry ∷ entries) pages promised =
 
 -- What is touched
 
-abbrev Touched : QueueOf → ℕ → Entry → Label → Type 0
-Touched rings page entry label = TouchesLeft rings.plan rings.side (record { entry = entry; label = label } ∷ []) page
+abbrev LabelTouches : QueueOf → ℕ → Entry → Label → Type 0
+LabelTouches rings page entry label = TouchesOf rings.plan rings.side page (entry_write rings.plan rings.side entry label)
 
 abbrev WriteTouches : QueueOf → ℕ → ℕ → List ℕ → Type 0
 WriteTouches rings page offset bytes = TouchesWrite rings.plan rings.side (queue_write rings.plan rings.side rings.queue offset bytes) page
@@ -176,3 +176,49 @@ header_touched rings n page left words flags touch =
       | inr last ↦ inr (inr (range_from rings (header_offset rings.plan rings.side rings.queue n) (header_bytes rings.plan) (flags_offset rings.plan) 4 page touch (omega (arith, last)) (omega (arith, touch.1.2, f.flags))))
       ]
     ]
+
+payload_label : (rings : QueueOf) (n page : ℕ) (entry : Entry) → TouchesRange rings (slot_offset rings.plan rings.side rings.queue n) (length (bytes_of entry)) page
+    → Any (LabelTouches rings page entry) (chunk_labels rings.queue n (chunks_in (length (bytes_of entry))))
+payload_label rings n page entry touch =
+    let chunks = chunks_in (length (bytes_of entry)) in
+    let found = payload_touched rings n page entry touch in
+    any_map (LabelTouches rings page entry) (λ part. Chunk rings.queue n part) (count_from 0 chunks)
+    (found.0, found.0, omega (arith, found.1, length-count_from 0 chunks), get_or-count_from 0 chunks found.0 found.0 found.1 ∙ omega arith, found.2)
+
+header_label : (rings : QueueOf) (n page : ℕ) (entry : Entry) (carries : Bool) → TouchesRange rings (header_offset rings.plan rings.side rings.queue n) (header_bytes rings.plan) page
+    → Any (LabelTouches rings page entry) (last_labels rings.queue n carries)
+header_label rings n page entry true touch = elim (header_touched rings n page (left_of entry) (length (bytes_of entry)) done touch) [
+    inl len ↦ (0, Len rings.queue n, omega arith, refl, len)
+  | inr more ↦ elim more [ inl version ↦ (1, Ver rings.queue n, omega arith, refl, version) | inr flags ↦ (2, Flag rings.queue n, omega arith, refl, flags) ]
+  ]
+header_label rings n page entry false touch = elim (header_touched rings n page (left_of entry) (length (bytes_of entry)) (done + 2) touch) [
+    inl len ↦ (0, Len rings.queue n, omega arith, refl, len)
+  | inr more ↦ elim more [ inl version ↦ (1, Ver rings.queue n, omega arith, refl, version) | inr flags ↦ (2, Down rings.queue n, omega arith, refl, flags) ]
+  ]
+
+entry_touched : (rings : QueueOf) (n page : ℕ) (entry : Entry) → TouchesEntry rings n (length (bytes_of entry)) page → TouchesLeft rings.plan rings.side (left_of_entry entry (labels_of rings.queue n entry)) page
+entry_touched rings n page entry touch =
+    let chunks = chunk_labels rings.queue n (chunks_in (length (bytes_of entry))) in
+    let last = last_labels rings.queue n (carries_bytes entry) in
+    let here : Any (LabelTouches rings page entry) (chunks ++ last) = elim touch [
+        inl payload ↦ any_left (LabelTouches rings page entry) chunks last (payload_label rings n page entry payload)
+      | inr header ↦ any_right (LabelTouches rings page entry) chunks last (header_label rings n page entry (carries_bytes entry) header)
+      ] in
+    any_map (λ (left : Left). TouchesOf rings.plan rings.side page (entry_write rings.plan rings.side left.entry left.label)) (λ label. record { entry = entry; label = label }) (labels_of rings.queue n entry)
+    (subst (Any (LabelTouches rings page entry)) (sym (labels_are rings.queue n entry)) here)
+
+touched_at : (rings : QueueOf) (from page : ℕ) (entries : List Entry) (k : ℕ) → k < length entries → TouchesEntry rings (from + k) (length (bytes_of (entry_at entries k))) page
+    → TouchesLeft rings.plan rings.side (writes_from rings.queue from entries) page
+touched_at rings from page [] k among touch = absurd (omega (arith, among))
+touched_at rings from page (entry ∷ entries) zero among touch =
+    let n : from + 0 ≡ from = omega arith in
+    any_left (λ (left : Left). TouchesOf rings.plan rings.side page (entry_write rings.plan rings.side left.entry left.label)) (left_of_entry entry (labels_of rings.queue from entry)) (writes_from rings.queue (suc from) entries)
+    (entry_touched rings from page entry (subst (λ n. TouchesEntry rings n (length (bytes_of entry)) page) n touch))
+touched_at rings from page (entry ∷ entries) (suc k) among touch =
+    let n : from + suc k ≡ suc from + k = omega arith in
+    any_right (λ (left : Left). TouchesOf rings.plan rings.side page (entry_write rings.plan rings.side left.entry left.label)) (left_of_entry entry (labels_of rings.queue from entry)) (writes_from rings.queue (suc from) entries)
+    (touched_at rings (suc from) page entries k (omega (arith, among)) (subst (λ n. TouchesEntry rings n (length (bytes_of (entry_at entries k))) page) n touch))
+
+-- what the entries of a frame touch one of their writes touches
+pub writes_touched : (rings : QueueOf) (from page : ℕ) (entries : List Entry) → TouchesEntries rings from entries page → TouchesLeft rings.plan rings.side (writes_from rings.queue from entries) page
+writes_touched rings from page entries touch = touched_at rings from page entries touch.0 touch.1 touch.2

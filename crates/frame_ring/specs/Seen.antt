@@ -94,12 +94,14 @@ HasPagesIn port bridge = HasPages port (pages_of bridge port.side) (pages_of bri
 abbrev pub TouchesWrite : PairPlan → Side → WindowWrite → ℕ → Type 0
 TouchesWrite plan side write page = (reaches plan side write.window ≡ true) × Touches (store_of_write plan side write).at (length write.bytes) page
 
+-- a write that goes through no window stores nothing
+abbrev pub TouchesOf : PairPlan → Side → ℕ → Option WindowWrite → Type 0
+TouchesOf plan side page None = ⊥
+TouchesOf plan side page (Some write) = TouchesWrite plan side write page
+
 -- the page has a byte of what one of these writes stores at the peer, through a window that the peer has
 abbrev pub TouchesLeft : PairPlan → Side → List Left → ℕ → Type 0
-TouchesLeft plan side lefts page = Any (λ (left : Left). touches (entry_write plan side left.entry left.label)) lefts where
-  touches : Option WindowWrite → Type 0
-  touches None = ⊥
-  touches (Some write) = TouchesWrite plan side write page
+TouchesLeft plan side lefts page = Any (λ (left : Left). TouchesOf plan side page (entry_write plan side left.entry left.label)) lefts
 
 -- Room
 

@@ -1,21 +1,22 @@
 //! One queue of one side.
 
-ghost use Rattle.std.specs.Prelude.{◌≡◌, ◌+◌, ◌-◌, ◌<◌, ◌≤◌, IfOk, OnErr, OnOk, length};
+ghost use Rattle.std.specs.Prelude.{◌≡◌, ◌-◌, ◌<◌, ◌≤◌, IfOk, OnErr, OnOk, false, length};
 ghost use Rattle.bridge_pair.specs.Bridge.{Bridge, pages_of, with_pages};
 ghost use Rattle.bridge_pair.specs.Pages.{PagesGrow};
-ghost use Rattle.plan_model.specs.DeclaredPlans.{IsPair};
+ghost use Rattle.plan_model.specs.DeclaredPlans.{IsPair, SizesFit};
 ghost use Rattle.plan_model.specs.Plans.{side_plan as side_plan_of};
 ghost use Rattle.step_kinds.specs.Limits.{most_frame_bytes};
 ghost use Rattle.step_kinds.specs.Sides.{other_side};
 
 use crate::posting::{clear_flags, post_index, post_write};
-use crate::reading::{free_by, has_index_word, index_word, slot_at};
+use crate::promises::{count_writes, promise_entry, promise_frame};
+use crate::reading::{free_by, has_index_word, index_word, slot_at, tail};
 use crate::receiving::Receiver;
 use crate::rings::{QueueRings, slot_in};
-use crate::sending::Sender;
+use crate::sending::{Sender, has_numbers, pieces_in};
 use bridge_pair::Pair;
 use lane_model::Phase;
-use std::alloc::Global;
+use std::alloc::{AllocError, Global};
 use std::marker::Model;
 use step_kinds::{Begun, Frame, Label, LaneCopy, PairPlan, Side};
 
@@ -44,9 +45,9 @@ impl Model for Port {
 }
 
 impl Port {
-    ghost use Rattle.frame_ring.specs.Calls.{TouchedByBegin, TouchedByDown, TouchedByFlags, TouchedByLook, ack_answer, acked_by, after_ack, after_begin, after_clear, after_copy, after_down, after_look, after_post, begin_answer, clear_answer, cleared_by, copy_answer, down_answer, free_answer, look_answer, post_answer, posted_by, refuses_answer, reset_by};
-    ghost use Rattle.frame_ring.specs.Port.{fresh_port, unused_of};
-    ghost use Rattle.frame_ring.specs.Seen.{FitsRings, HasPagesIn, HasRoomIn, with_room};
+    ghost use Rattle.frame_ring.specs.Calls.{down_begun, frame_begun, room_answer, TouchedByBegin, TouchedByDown, TouchedByFlags, TouchedByLook, ack_answer, acked_by, after_ack, after_begin, after_clear, after_copy, after_down, after_look, after_post, begin_answer, clear_answer, cleared_by, copy_answer, down_answer, free_answer, look_answer, post_answer, posted_by, refuses_answer, reset_by};
+    ghost use Rattle.frame_ring.specs.Port.{fresh_port, is_busy, unused_of, writes_left};
+    ghost use Rattle.frame_ring.specs.Seen.{FitsRings, HasPagesIn, HasRoomIn, TouchesLeft, with_room};
 
     /// The port of one of a side's queues, with nothing sent and nothing received. It takes no memory yet; the
     /// allocator is kept for [`Port::look`].
@@ -62,6 +63,60 @@ impl Port {
             sender: Sender::new(queue, largest),
             receiver: Receiver::new(alloc),
         }
+    }
+
+    /// Begins a frame, of one byte at least: as one entry, or on version 5 as so many as its bytes fill. Room for all its
+    /// writes is promised, and the pages that they write to.
+    ///
+    /// [`Begun::TooLong`] comes where the frame is longer than any may be, then [`Begun::Busy`] where writes of the frame
+    /// before are left to post, then [`Begun::NoRoom`] where the ring has fewer entries free than the frame takes, by the
+    /// index word in the side's memory; one that names no slot of the ring counts as no room. A refusal changes nothing and
+    /// drops the frame.
+    ///
+    /// # Errors
+    ///
+    /// [`AllocError`] from want of memory alone. The port is as it was, and of the pair nothing but pages that this frame
+    /// needs may have become promised.
+    pub fn begin(&mut self, pair: &mut Pair, frame: Frame) -> Result<Begun, AllocError>
+        requires some { 0 < length frame }
+        requires plan { pair.old.plan ≡ self.old.plan }
+        requires fits { FitsRings self.old.plan }
+        ensures answer { IfOk result (λ answer. answer ≡ begin_answer self.old pair.old (length frame)) }
+        ensures after { OnOk result (self.new ≡ after_begin self.old pair.old frame) }
+        ensures err { OnErr result (self.new ≡ self.old) }
+        ensures rest { pair.new ≡ with_room (with_pages pair.old (other_side self.old.side) (pages_of pair.new (other_side self.old.side))) self.old.side (unused_of self.new - unused_of self.old) }
+        ensures pages { PagesGrow (TouchedByBegin self.old pair.old frame) (pages_of pair.old (other_side self.old.side)) (pages_of pair.new (other_side self.old.side)) }
+        ensures ready { OnOk result (HasPagesIn self.old pair.old → HasPagesIn self.new pair.new) }
+    {
+        let answer = self.begin_answer(pair, frame.len());
+        if let Begun::Ok { .. } = &answer {
+            self.begin_frame(pair, frame)?;
+        }
+        Ok(answer)
+    }
+
+    /// Begins a link-down entry, which tells the peer that this end of the queue goes down. [`Begun::Busy`] and
+    /// [`Begun::NoRoom`] come as from [`Port::begin`], and change nothing.
+    ///
+    /// # Errors
+    ///
+    /// [`AllocError`] from want of memory alone. The port is as it was, and of the pair nothing but pages that this entry
+    /// needs may have become promised.
+    pub fn down(&mut self, pair: &mut Pair) -> Result<Begun, AllocError>
+        requires plan { pair.old.plan ≡ self.old.plan }
+        requires fits { FitsRings self.old.plan }
+        ensures answer { IfOk result (λ answer. answer ≡ down_answer self.old pair.old) }
+        ensures after { OnOk result (self.new ≡ after_down self.old pair.old) }
+        ensures err { OnErr result (self.new ≡ self.old) }
+        ensures rest { pair.new ≡ with_room (with_pages pair.old (other_side self.old.side) (pages_of pair.new (other_side self.old.side))) self.old.side (unused_of self.new - unused_of self.old) }
+        ensures pages { PagesGrow (TouchedByDown self.old pair.old) (pages_of pair.old (other_side self.old.side)) (pages_of pair.new (other_side self.old.side)) }
+        ensures ready { OnOk result (HasPagesIn self.old pair.old → HasPagesIn self.new pair.new) }
+    {
+        let answer = self.down_answer(pair);
+        if let Begun::Ok { .. } = &answer {
+            self.begin_down(pair)?;
+        }
+        Ok(answer)
     }
 
     /// Posts the next write that is left, and answers its label; `None` exactly where none is left. Where the link isn't up the
@@ -188,5 +243,97 @@ impl Port {
             _ => 1,
         };
         self.sender.left() + found
+    }
+
+    // What a begin of a frame of `len` bytes answers, but for want of memory.
+    fn begin_answer(&self, pair: &Pair, len: u32) -> Begun
+        requires plan { pair.now.plan ≡ self.now.plan }
+        requires fit { SizesFit self.now.plan }
+        requires few { len ≤ most_frame_bytes }
+        ensures { result ≡ begin_answer self.now pair.now len }
+    {
+        let max = self.rings.most_sent();
+        if max < len {
+            return Begun::TooLong { len, max };
+        }
+        if self.sender.is_busy() {
+            return Begun::Busy;
+        }
+        let largest = self.rings.out().max_payload();
+        self.room_answer(pair, pieces_in(largest, len))
+    }
+
+    // What a going down answers, but for want of memory.
+    fn down_answer(&self, pair: &Pair) -> Begun
+        requires plan { pair.now.plan ≡ self.now.plan }
+        requires fit { SizesFit self.now.plan }
+        ensures { result ≡ down_answer self.now pair.now }
+    {
+        if self.sender.is_busy() {
+            return Begun::Busy;
+        }
+        self.room_answer(pair, 1)
+    }
+
+    // What is answered where so many entries are wanted.
+    fn room_answer(&self, pair: &Pair, needed: u32) -> Begun
+        requires plan { pair.now.plan ≡ self.now.plan }
+        requires fit { SizesFit self.now.plan }
+        ensures { result ≡ room_answer self.now pair.now needed }
+    {
+        let head = slot_in(self.rings.out(), self.sender.begun());
+        let tail = tail(&self.rings, pair);
+        if free_by(&self.rings, head, tail) < needed {
+            Begun::NoRoom { head, tail }
+        } else {
+            Begun::Ok {
+                number: self.sender.told(),
+            }
+        }
+    }
+
+    // Promises what a frame needs, and begins it.
+    fn begin_frame(&mut self, pair: &mut Pair, frame: Frame) -> Result<(), AllocError>
+        requires plan { pair.old.plan ≡ self.old.plan }
+        requires fit { SizesFit self.old.plan }
+        requires idle { is_busy self.old.sending ≡ false }
+        ensures after { OnOk result (self.new ≡ frame_begun self.old frame) }
+        ensures err { OnErr result (self.new ≡ self.old) }
+        ensures rest { pair.new ≡ with_room (with_pages pair.old (other_side self.old.side) (pages_of pair.new (other_side self.old.side))) self.old.side (unused_of self.new - unused_of self.old) }
+        ensures pages { PagesGrow (TouchesLeft self.old.plan self.old.side (writes_left (frame_begun self.old frame))) (pages_of pair.old (other_side self.old.side)) (pages_of pair.new (other_side self.old.side)) }
+        ensures ready { OnOk result (HasPagesIn self.old pair.old → HasPagesIn self.new pair.new) }
+    {
+        let largest = self.rings.out().max_payload();
+        let from = self.sender.begun();
+        let pieces = pieces_in(largest, frame.len());
+        if !has_numbers(from, pieces, self.sender.told()) {
+            return Err(AllocError);
+        }
+        let count = count_writes(&frame, largest);
+        promise_frame(&self.rings, pair, from, &frame)?;
+        pair.promise(self.rings.side(), count)?;
+        self.sender.begin(frame, count);
+        Ok(())
+    }
+
+    // Promises what a link-down entry needs, and begins it.
+    fn begin_down(&mut self, pair: &mut Pair) -> Result<(), AllocError>
+        requires plan { pair.old.plan ≡ self.old.plan }
+        requires fit { SizesFit self.old.plan }
+        requires idle { is_busy self.old.sending ≡ false }
+        ensures after { OnOk result (self.new ≡ down_begun self.old) }
+        ensures err { OnErr result (self.new ≡ self.old) }
+        ensures rest { pair.new ≡ with_room (with_pages pair.old (other_side self.old.side) (pages_of pair.new (other_side self.old.side))) self.old.side (unused_of self.new - unused_of self.old) }
+        ensures pages { PagesGrow (TouchesLeft self.old.plan self.old.side (writes_left (down_begun self.old))) (pages_of pair.old (other_side self.old.side)) (pages_of pair.new (other_side self.old.side)) }
+        ensures ready { OnOk result (HasPagesIn self.old pair.old → HasPagesIn self.new pair.new) }
+    {
+        let from = self.sender.begun();
+        if !has_numbers(from, 1, 0) {
+            return Err(AllocError);
+        }
+        promise_entry(&self.rings, pair, from, 0)?;
+        pair.promise(self.rings.side(), 4)?;
+        self.sender.down();
+        Ok(())
     }
 }

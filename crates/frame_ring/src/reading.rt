@@ -115,6 +115,16 @@ pub fn index_word(rings: &QueueRings, pair: &Pair) -> u32
     word(rings, pair, index_word_at(rings))
 }
 
+/// The same where the peer's windows fit the side's memory, and so it lies there.
+pub fn tail(rings: &QueueRings, pair: &Pair) -> u32
+    requires plan { pair.now.plan ≡ rings.now.plan }
+    requires fit { SizesFit rings.now.plan }
+    ensures { result ≡ index_word_in rings.now.plan (bytes_seen pair.now) rings.now.side rings.now.queue }
+{
+    let at = bridge_pair::index_word_at(rings.plan(), rings.side(), rings.queue());
+    word(rings, pair, at)
+}
+
 /// The free entries of the ring that the side sends to, by the slot of its next entry and an index word.
 pub fn free_by(rings: &QueueRings, head: u32, index_word: u32) -> u32
     requires { head < (sizes_of rings.now.plan rings.now.side rings.now.queue).entries }

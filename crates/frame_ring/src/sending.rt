@@ -1,6 +1,6 @@
 //! The sender's end: the frame under way, and which of its writes is next.
 
-ghost use Rattle.std.specs.Prelude.{◌≡◌, ◌+◌, ◌-◌, ◌*◌, ◌^◌, ◌<◌, ◌≤◌, ◌∷◌, [], MatchOption, drop, length, not, take, true};
+ghost use Rattle.std.specs.Prelude.{◌≡◌, ◌↔◌, IsTrue, ◌+◌, ◌-◌, ◌*◌, ◌^◌, ◌<◌, ◌≤◌, ◌∷◌, [], MatchOption, drop, length, not, take, true};
 ghost use Rattle.frame_ring.specs.Calls.{entries_begun, first_label, let_go, next_begun, rest_of};
 ghost use Rattle.frame_ring.specs.Outgoing.{IsLabelOf, all_writes_in, count_left, entries_under, entry_at, label_by, most_numbers, with_progress, writes_in};
 ghost use Rattle.frame_ring.specs.Port.{is_busy as is_busy_by, nothing_sent};
@@ -11,6 +11,9 @@ ghost use Rattle.plan_model.specs.Sizes.{pieces_in as pieces_by};
 
 use std::marker::Model;
 use step_kinds::{Frame, Label};
+
+// The most entries and frames of a session.
+const MOST_NUMBERS: u64 = 1 << 62;
 
 /// How far a side is with what it sends on a queue.
 #[derive(Drop)]
@@ -180,6 +183,15 @@ impl Sender {
         self.left = 4;
         self.begun += 1;
     }
+}
+
+/// Whether numbers are left for so many more entries, and for a frame.
+pub fn has_numbers(begun: u64, more: u32, told: u64) -> bool
+    requires entries { begun ≤ most_numbers }
+    requires frames { told ≤ most_numbers }
+    ensures { IsTrue result ↔ (begun + more ≤ most_numbers) × (told < most_numbers) }
+{
+    begun + u64::from(more) <= MOST_NUMBERS && told < MOST_NUMBERS
 }
 
 /// How many chunks so many bytes are, at most 65,536.
