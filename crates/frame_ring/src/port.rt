@@ -88,11 +88,13 @@ impl Port {
         ensures pages { PagesGrow (TouchedByBegin self.old pair.old frame) (pages_of pair.old (other_side self.old.side)) (pages_of pair.new (other_side self.old.side)) }
         ensures ready { OnOk result (HasPagesIn self.old pair.old → HasPagesIn self.new pair.new) }
     {
-        let answer = self.begin_answer(pair, frame.len());
-        if let Begun::Ok { .. } = &answer {
-            self.begin_frame(pair, frame)?;
+        match self.begin_answer(pair, frame.len()) {
+            Begun::Ok { number } => {
+                self.begin_frame(pair, frame)?;
+                Ok(Begun::Ok { number })
+            }
+            refusal => Ok(refusal),
         }
-        Ok(answer)
     }
 
     /// Begins a link-down entry, which tells the peer that this end of the queue goes down. [`Begun::Busy`] and
@@ -112,11 +114,13 @@ impl Port {
         ensures pages { PagesGrow (TouchedByDown self.old pair.old) (pages_of pair.old (other_side self.old.side)) (pages_of pair.new (other_side self.old.side)) }
         ensures ready { OnOk result (HasPagesIn self.old pair.old → HasPagesIn self.new pair.new) }
     {
-        let answer = self.down_answer(pair);
-        if let Begun::Ok { .. } = &answer {
-            self.begin_down(pair)?;
+        match self.down_answer(pair) {
+            Begun::Ok { number } => {
+                self.begin_down(pair)?;
+                Ok(Begun::Ok { number })
+            }
+            refusal => Ok(refusal),
         }
-        Ok(answer)
     }
 
     /// Posts the next write that is left, and answers its label; `None` exactly where none is left. Where the link isn't up the

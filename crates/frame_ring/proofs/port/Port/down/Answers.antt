@@ -1,0 +1,1 @@
+use Rattle.frame_ring.proofs.port.Port.down.Goals as goal
