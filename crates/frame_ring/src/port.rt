@@ -1,16 +1,25 @@
 //! One queue of one side.
 
-ghost use Rattle.std.specs.Prelude.{◌≡◌, ◌-◌, ◌<◌, ◌≤◌, IfOk, OnErr, OnOk, false, length};
+ghost use Rattle.std.specs.Prelude.{◌≡◌, ◌+◌, ◌-◌, ◌<◌, ◌≤◌, IfOk, OnErr, OnOk, false, length, true};
 ghost use Rattle.bridge_pair.specs.Bridge.{Bridge, pages_of, with_pages};
 ghost use Rattle.bridge_pair.specs.Pages.{PagesGrow};
+ghost use Rattle.byte_model.specs.Addresses.{own_header};
+ghost use Rattle.byte_model.specs.Headers.{flags_offset};
+ghost use Rattle.byte_model.specs.RingWrites.{index_write};
+ghost use Rattle.host_memory.specs.Memory.{Touches};
+ghost use Rattle.lane_model.specs.Tests.{is_idle};
+ghost use Rattle.lane_model.specs.declared.Phase.TheVariants.{Copying};
 ghost use Rattle.plan_model.specs.DeclaredPlans.{IsPair, SizesFit};
 ghost use Rattle.plan_model.specs.Plans.{side_plan as side_plan_of};
+ghost use Rattle.plan_model.specs.Sizes.{layout_to};
+ghost use Rattle.ring_geometry.specs.Geometry.{max_payload_of};
 ghost use Rattle.step_kinds.specs.Limits.{most_frame_bytes};
 ghost use Rattle.step_kinds.specs.Sides.{other_side};
 
 use crate::posting::{clear_flags, post_index, post_write};
-use crate::promises::{count_writes, promise_entry, promise_frame};
-use crate::reading::{free_by, has_index_word, index_word, slot_at, tail};
+use crate::RingLook;
+use crate::promises::{count_writes, promise_entry, promise_flags, promise_frame, promise_index_word};
+use crate::reading::{free_by, has_index_word, header, index_word, slot_at, tail};
 use crate::receiving::Receiver;
 use crate::rings::{QueueRings, slot_in};
 use crate::sending::{Sender, has_numbers, pieces_in};
@@ -46,8 +55,8 @@ impl Model for Port {
 
 impl Port {
     ghost use Rattle.frame_ring.specs.Calls.{down_begun, frame_begun, room_answer, TouchedByBegin, TouchedByDown, TouchedByFlags, TouchedByLook, ack_answer, acked_by, after_ack, after_begin, after_clear, after_copy, after_down, after_look, after_post, begin_answer, clear_answer, cleared_by, copy_answer, down_answer, free_answer, look_answer, post_answer, posted_by, refuses_answer, reset_by};
-    ghost use Rattle.frame_ring.specs.Port.{fresh_port, is_busy, unused_of, writes_left};
-    ghost use Rattle.frame_ring.specs.Seen.{FitsRings, HasPagesIn, HasRoomIn, TouchesLeft, with_room};
+    ghost use Rattle.frame_ring.specs.Port.{fresh_port, is_busy, unused_of, with_receiving, writes_left};
+    ghost use Rattle.frame_ring.specs.Seen.{FitsRings, HasPagesIn, HasRoomIn, TouchesLeft, TouchesWrite, with_room};
 
     /// The port of one of a side's queues, with nothing sent and nothing received. It takes no memory yet; the
     /// allocator is kept for [`Port::look`].
@@ -142,6 +151,40 @@ impl Port {
         }
         self.sender.posted();
         label
+    }
+
+    /// Looks for the next entry, by the header of its slot in the side's memory. Where it is [`RingLook::Ready`], room for its
+    /// bytes and for the index write that gives it back is promised, and the pages of both and of its flags.
+    ///
+    /// [`RingLook::OutOfTurn`] comes where another entry is at hand, then [`RingLook::Empty`], [`RingLook::PeerDown`],
+    /// [`RingLook::VerDiffers`] and [`RingLook::Long`] by the header, in this order. All these change nothing.
+    ///
+    /// # Errors
+    ///
+    /// [`AllocError`] from want of memory alone. The port is as it was, and of the pair nothing but pages that this entry
+    /// needs may have become promised.
+    pub fn look(&mut self, pair: &mut Pair) -> Result<RingLook, AllocError>
+        requires plan { pair.old.plan ≡ self.old.plan }
+        requires fits { FitsRings self.old.plan }
+        ensures answer { IfOk result (λ answer. answer ≡ look_answer self.old pair.old) }
+        ensures after { OnOk result (self.new ≡ after_look self.old pair.old) }
+        ensures err { OnErr result (self.new ≡ self.old) }
+        ensures rest { pair.new ≡ with_room (with_pages (with_pages pair.old (other_side self.old.side) (pages_of pair.new (other_side self.old.side))) self.old.side (pages_of pair.new self.old.side)) self.old.side (unused_of self.new - unused_of self.old) }
+        ensures pages { PagesGrow (TouchedByLook self.old pair.old) (pages_of pair.old (other_side self.old.side)) (pages_of pair.new (other_side self.old.side)) }
+        ensures flags { PagesGrow (TouchedByFlags self.old pair.old) (pages_of pair.old self.old.side) (pages_of pair.new self.old.side) }
+        ensures ready { OnOk result (HasPagesIn self.old pair.old → HasPagesIn self.new pair.new) }
+    {
+        let Phase::Idle = self.receiver.phase() else {
+            return Ok(RingLook::OutOfTurn);
+        };
+        let header = header(&self.rings, pair, self.receiver.got());
+        match self.receiver.sight(&self.rings, &header) {
+            RingLook::Ready { number, len } => {
+                self.find(pair, len, header.left)?;
+                Ok(RingLook::Ready { number, len })
+            }
+            other => Ok(other),
+        }
     }
 
     /// Copies the next part of the entry at hand, as it stands in the side's memory: 128 bytes, or the rest. With the last part
@@ -339,5 +382,28 @@ impl Port {
         pair.promise(self.rings.side(), 4)?;
         self.sender.down();
         Ok(())
+    }
+
+    // Promises what an entry of `len` bytes needs to be taken and given back, and stands at it.
+    fn find(&mut self, pair: &mut Pair, len: u32, left: u32) -> Result<(), AllocError>
+        requires plan { pair.old.plan ≡ self.old.plan }
+        requires fit { SizesFit self.old.plan }
+        requires idle { is_idle self.old.receiving.phase ≡ true }
+        requires short { len ≤ max_payload_of (layout_to self.old.plan self.old.side self.old.queue) }
+        requires fits { length self.old.receiving.gathered + len ≤ most_frame_bytes }
+        ensures after { OnOk result (self.new ≡ with_receiving self.old (record self.old.receiving { phase = Copying; part = 0; len = len; left = left })) }
+        ensures err { OnErr result (self.new ≡ self.old) }
+        ensures rest { pair.new ≡ with_room (with_pages (with_pages pair.old (other_side self.old.side) (pages_of pair.new (other_side self.old.side))) self.old.side (pages_of pair.new self.old.side)) self.old.side (unused_of self.new - unused_of self.old) }
+        ensures pages { PagesGrow (TouchesWrite self.old.plan self.old.side (index_write self.old.plan self.old.side self.old.queue self.old.receiving.got)) (pages_of pair.old (other_side self.old.side)) (pages_of pair.new (other_side self.old.side)) }
+        ensures flags { PagesGrow (Touches (own_header self.old.plan self.old.side self.old.queue self.old.receiving.got + flags_offset self.old.plan) 4) (pages_of pair.old self.old.side) (pages_of pair.new self.old.side) }
+        ensures ready { OnOk result (HasPagesIn self.old pair.old → HasPagesIn self.new pair.new) }
+    {
+        let got = self.receiver.got();
+        if !has_numbers(got, 1, 0) {
+            return Err(AllocError);
+        }
+        promise_index_word(&self.rings, pair)?;
+        promise_flags(&self.rings, pair, got)?;
+        self.receiver.find(pair, self.rings.side(), len, left)
     }
 }

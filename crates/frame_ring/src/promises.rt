@@ -1,18 +1,22 @@
 //! The promises that a begin needs.
 
-ghost use Rattle.std.specs.Prelude.{◌≡◌, ◌+◌, ◌^◌, ◌<◌, ◌≤◌, ◌∷◌, [], OnOk, length};
+ghost use Rattle.std.specs.Prelude.{◌≡◌, ◌+◌, ◌^◌, ◌<◌, ◌≤◌, OnOk, length};
 ghost use Rattle.bridge_pair.specs.Bridge.{pages_of, with_pages};
 ghost use Rattle.bridge_pair.specs.Pages.{PagesGrow};
+ghost use Rattle.byte_model.specs.Addresses.{own_header};
+ghost use Rattle.byte_model.specs.Headers.{flags_offset as offset_of_flags};
 ghost use Rattle.frame_ring.specs.Outgoing.{all_writes_in, most_numbers};
 ghost use Rattle.frame_ring.specs.Promises.{AreEntriesPromised, IsEntryPromised, IsRangePromised, TouchesEntries, TouchesEntry, TouchesRange};
-ghost use Rattle.lane_model.specs.Lane.{GoesDown};
+ghost use Rattle.host_memory.specs.Memory.{ArePromised, Touches};
 ghost use Rattle.plan_model.specs.DeclaredPlans.{SizesFit};
 ghost use Rattle.plan_model.specs.Pieces.{pieces_of};
 ghost use Rattle.plan_model.specs.Plans.{side_plan as side_plan_of};
-ghost use Rattle.plan_model.specs.Sizes.{sizes_of};
+ghost use Rattle.plan_model.specs.Sizes.{layout_of, sizes_of};
+ghost use Rattle.ring_geometry.specs.Geometry.{index_of};
 ghost use Rattle.step_kinds.specs.Sides.{other_side};
 
 use crate::posting::{header_offset_of, reaches, slot_offset_of};
+use crate::reading::{flags_offset, header_at};
 use crate::rings::QueueRings;
 use crate::sending::{chunks_of, piece_bytes, pieces_in};
 use bridge_pair::{Pair, header_bytes, own_address};
@@ -81,4 +85,29 @@ pub fn count_writes(frame: &Frame, largest: u32) -> usize
         count += chunks_of(len) as usize + 4;
     }
     count
+}
+
+/// Promises the pages of the index words that the side posts.
+pub fn promise_index_word(rings: &QueueRings, pair: &mut Pair) -> Result<(), AllocError>
+    requires plan { pair.old.plan ≡ rings.now.plan }
+    requires fit { SizesFit rings.now.plan }
+    ensures rest { pair.new ≡ with_pages pair.old (other_side rings.now.side) (pages_of pair.new (other_side rings.now.side)) }
+    ensures pages { PagesGrow (TouchesRange rings.now (index_of (layout_of rings.now.plan rings.now.side rings.now.queue)) 4) (pages_of pair.old (other_side rings.now.side)) (pages_of pair.new (other_side rings.now.side)) }
+    ensures ok { OnOk result (IsRangePromised rings.now (index_of (layout_of rings.now.plan rings.now.side rings.now.queue)) 4 (pages_of pair.new (other_side rings.now.side))) }
+{
+    let offset = rings.out().index_at();
+    promise_bytes(rings, pair, offset, 4)
+}
+
+/// Promises the pages of the flags of the slot in which the side receives entry `n`.
+pub fn promise_flags(rings: &QueueRings, pair: &mut Pair, n: u64) -> Result<(), AllocError>
+    requires plan { pair.old.plan ≡ rings.now.plan }
+    requires fit { SizesFit rings.now.plan }
+    ensures rest { pair.new ≡ with_pages pair.old rings.now.side (pages_of pair.new rings.now.side) }
+    ensures pages { PagesGrow (Touches (own_header rings.now.plan rings.now.side rings.now.queue n + offset_of_flags rings.now.plan) 4) (pages_of pair.old rings.now.side) (pages_of pair.new rings.now.side) }
+    ensures ok { OnOk result (ArePromised (own_header rings.now.plan rings.now.side rings.now.queue n + offset_of_flags rings.now.plan) 4 (pages_of pair.new rings.now.side)) }
+{
+    let _plan = pair.plan();
+    let at = header_at(rings, n) + flags_offset(rings);
+    pair.promise_range(rings.side(), at, 4)
 }
