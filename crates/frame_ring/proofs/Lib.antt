@@ -2,6 +2,7 @@ pub mod Answered
 pub mod Beginning
 pub mod Entries
 pub mod EntryPages
+pub mod Finding
 pub mod NextLabel
 pub mod PostedBytes
 pub mod Progress

@@ -70,11 +70,13 @@ flags_cleared bridge side queue n =
 abbrev pub IsReadyToLand : PairPlan → Side → List ℕ → WindowWrite → Type 0
 IsReadyToLand plan side pages write = reaches plan side write.window ≡ true → ArePromised (store_of_write plan side write).at (length write.bytes) pages
 
+-- a write that goes through no window needs no page
+abbrev pub IsReady : PairPlan → Side → List ℕ → Option WindowWrite → Type 0
+IsReady plan side pages None = Unit {0}
+IsReady plan side pages (Some write) = IsReadyToLand plan side pages write
+
 abbrev pub IsLeftReady : PairPlan → Side → List ℕ → Left → Type 0
-IsLeftReady plan side pages left = ready (entry_write plan side left.entry left.label) where
-  ready : Option WindowWrite → Type 0
-  ready None = Unit {0}
-  ready (Some write) = IsReadyToLand plan side pages write
+IsLeftReady plan side pages left = IsReady plan side pages (entry_write plan side left.entry left.label)
 
 -- the entry at hand: the one to be taken next, or the one that was taken last
 abbrev pub entry_at_hand : PortState → ℕ

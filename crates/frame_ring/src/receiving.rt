@@ -1,6 +1,6 @@
 //! The receiver's end: where it stands with the entry at hand.
 
-ghost use Rattle.std.specs.Prelude.{◌≡◌, ◌+◌, ◌-◌, ◌*◌, ◌^◌, ◌<◌, ◌≤◌, ◌++◌, OnErr, OnOk, length, min, true};
+ghost use Rattle.std.specs.Prelude.{◌≡◌, ℕ, ◌+◌, ◌-◌, ◌*◌, ◌^◌, ◌<◌, ◌≤◌, ◌++◌, OnErr, OnOk, length, min, true};
 ghost use Rattle.bridge_pair.specs.Bridge.{bytes_of};
 ghost use Rattle.byte_model.specs.Headers.{found_with};
 ghost use Rattle.frame_ring.specs.Calls.{last_got, look_found, part_answer, part_copied};
@@ -9,6 +9,7 @@ ghost use Rattle.frame_ring.specs.Outgoing.{most_numbers};
 ghost use Rattle.frame_ring.specs.Rings.{header_of};
 ghost use Rattle.frame_ring.specs.Port.{nothing_received};
 ghost use Rattle.frame_ring.specs.Seen.{with_room};
+ghost use Rattle.frame_ring.specs.declared.RingLook.TheVariants.{Ready};
 ghost use Rattle.host_memory.specs.Memory.{bytes_at};
 ghost use Rattle.lane_model.specs.Tests.{is_cleared, is_copied, is_copying, is_idle};
 ghost use Rattle.lane_model.specs.declared.Phase.TheVariants.{Cleared, Copying, Idle};
@@ -99,7 +100,8 @@ impl Receiver {
 
     /// What a header says to the receiver.
     pub fn sight(&self, rings: &QueueRings, header: &HeaderWords) -> RingLook
-        ensures { result ≡ look_found self.now (found_with (sizes_in rings.now.plan (layout_to rings.now.plan rings.now.side rings.now.queue)) self.now.got (length self.now.gathered) (header_of header.now)) }
+        ensures value { result ≡ look_found self.now (found_with (sizes_in rings.now.plan (layout_to rings.now.plan rings.now.side rings.now.queue)) self.now.got (length self.now.gathered) (header_of header.now)) }
+        ensures few { (number len : ℕ) → result ≡ Ready number len → length self.now.gathered + len ≤ most_frame_bytes }
     {
         let own = ver_of(self.got);
         let largest = rings.into().max_payload();
