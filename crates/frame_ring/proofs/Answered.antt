@@ -29,7 +29,7 @@ pub begin_touches : (port : PortState) (bridge : Bridge) (frame : List ℕ) (len
     → PagesGrow (TouchesLeft port.plan port.side (writes_left (frame_begun port frame))) old new → PagesGrow (TouchedByBegin port bridge frame) old new
 begin_touches port bridge frame len number old new is_len ok grow =
     let told = told_by_begin (length frame) (sizes_seen port).most (head_seen port) (index_word_seen port bridge) port.sending.told number
-      (nat_lt (sizes_seen port).most (length frame)) (is_busy port.sending) (nat_lt (free_seen port bridge) (pieces_in (sizes_seen port).largest (length frame))) (ok ∙ ap (begin_answer port bridge) is_len) in
+    (nat_lt (sizes_seen port).most (length frame)) (is_busy port.sending) (nat_lt (free_seen port bridge) (pieces_in (sizes_seen port).largest (length frame))) (ok ∙ ap (begin_answer port bridge) is_len) in
     grows_further (TouchedByBegin port bridge frame) (TouchesLeft port.plan port.side (writes_left (frame_begun port frame))) old old new (grows_nothing (TouchedByBegin port bridge frame) old) grow
     (λ page touch. (told, touch))
 

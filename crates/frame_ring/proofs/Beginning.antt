@@ -33,7 +33,7 @@ nothing_left queue sending idle = at_lists sending.todo sending.waiting idle whe
 -- what is left of entries that were begun are their writes
 pub begun_writes : (queue told : ℕ) (sending : Sending) (entries : List Entry) → 0 < length entries
     → (let after = record (entries_begun queue sending entries) { told = told } in
-       left_of_entry after.entry after.todo ++ writes_from queue after.begun after.waiting) ≡ writes_from queue sending.begun entries
+    left_of_entry after.entry after.todo ++ writes_from queue after.begun after.waiting) ≡ writes_from queue sending.begun entries
 begun_writes queue told sending [] some = absurd (omega (arith, some))
 begun_writes queue told sending (entry ∷ entries) some =
     let n : sending.begun + 1 ≡ suc sending.begun = omega arith in
@@ -135,11 +135,11 @@ begins_ready port after entries pair mid new count h ready =
     let rings : QueueOf = record { plan = port.plan; side = port.side; queue = port.queue } in
     let peer : pages_of mid (other_side port.side) ≡ pages_of new (other_side port.side) = sym (ap (λ (bridge : Bridge). pages_of bridge (other_side port.side)) h.room) in
     let own : pages_of pair port.side ≡ pages_of new port.side =
-      sym (ap (λ (bridge : Bridge). pages_of bridge port.side) (rest_is pair mid new port.side count count h.pages h.room refl) ∙ own_pages pair port.side (pages_of new (other_side port.side)) count) in
+    sym (ap (λ (bridge : Bridge). pages_of bridge port.side) (rest_is pair mid new port.side count count h.pages h.room refl) ∙ own_pages pair port.side (pages_of new (other_side port.side)) count) in
     subst (λ own. HasPages (with_sending port after) own (pages_of new (other_side port.side))) own
     (subst (λ peer. HasPages (with_sending port after) (pages_of pair port.side) peer) peer
-     (begun_ready port rings after entries (pages_of pair port.side) (pages_of pair (other_side port.side)) (pages_of mid (other_side port.side)) (TouchesEntries rings port.sending.begun entries)
-      refl refl refl (lefts_are port after entries h.some h.after_is) h.grow h.promised ready))
+    (begun_ready port rings after entries (pages_of pair port.side) (pages_of pair (other_side port.side)) (pages_of mid (other_side port.side)) (TouchesEntries rings port.sending.begun entries)
+    refl refl refl (lefts_are port after entries h.some h.after_is) h.grow h.promised ready))
 
 abbrev pub rings_of : PortState → QueueOf
 rings_of port = record { plan = port.plan; side = port.side; queue = port.queue }

@@ -105,5 +105,5 @@ count_is entries queue n m piece next left among some all =
     let waiting = drop (piece + 1) entries in
     left_is entries queue n piece next left among some all
     ∙ sym (length-append (left_of_entry (entry_at entries piece) todo) (writes_from queue m waiting)
-           ∙ ap (λ first. first + length (writes_from queue m waiting)) (length-map todo _)
-           ∙ ap (λ others. length todo + others) (length-writes_from queue m waiting))
+    ∙ ap (λ first. first + length (writes_from queue m waiting)) (length-map todo _)
+    ∙ ap (λ others. length todo + others) (length-writes_from queue m waiting))

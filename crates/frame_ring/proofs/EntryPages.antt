@@ -108,7 +108,8 @@ entries_promised rings from n k len entries now new is_n is_len so_far grow prom
 pub piece_length : (largest seen k count : ℕ) (frame bytes payload : List ℕ) → seen ≡ largest → bytes ≡ frame → payload ≡ take seen (drop (seen * k) bytes) → count ≡ pieces_in seen (length frame) → k < count
     → (length payload ≡ length (bytes_of (entry_at (pieces_of largest frame) k))) × (k < length (pieces_of largest frame))
 piece_length largest seen k count frame bytes payload is_seen is_bytes is_payload is_count less =
-    let among : k < pieces_in largest (length frame) = subst (λ largest. k < pieces_in largest (length frame)) is_seen (omega (arith, less, is_count)) in
-    (ap length (is_payload ∙ ap (λ seen. take seen (drop (seen * k) bytes)) is_seen ∙ ap (λ bytes. take largest (drop (largest * k) bytes)) is_bytes)
-     ∙ sym (ap (λ (entry : Entry). length (bytes_of entry)) (piece_at largest frame k among)),
-     omega (arith, among, length-pieces_of largest frame))
+    let among : k < pieces_in largest (length frame) = subst (λ largest. k < pieces_in largest (length frame)) is_seen (omega (arith, less, is_count)) in (
+      ap length (is_payload ∙ ap (λ seen. take seen (drop (seen * k) bytes)) is_seen ∙ ap (λ bytes. take largest (drop (largest * k) bytes)) is_bytes)
+          ∙ sym (ap (λ (entry : Entry). length (bytes_of entry)) (piece_at largest frame k among)),
+      omega (arith, among, length-pieces_of largest frame),
+    )

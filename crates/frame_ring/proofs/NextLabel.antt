@@ -79,7 +79,7 @@ next_label queue n next entry =
     let chunks = chunks_in (length (bytes_of entry)) in
     let carries = carries_bytes entry in
     elim (below_or_from next chunks) [
-      inl less ↦ by_chunk queue n chunks carries next less ∙ sym (ap (λ labels. first_label (drop next labels)) (labels_are queue n entry) ∙ at_chunk queue n chunks next (last_labels queue n carries) less)
-    | inr from ↦ by_last queue n chunks carries (next - chunks) next from
-        ∙ sym (ap (λ labels. first_label (drop next labels)) (labels_are queue n entry) ∙ at_last queue n chunks (next - chunks) next (last_labels queue n carries) from)
+      | inl less ↦ by_chunk queue n chunks carries next less ∙ sym (ap (λ labels. first_label (drop next labels)) (labels_are queue n entry) ∙ at_chunk queue n chunks next (last_labels queue n carries) less)
+      | inr from ↦ by_last queue n chunks carries (next - chunks) next from
+          ∙ sym (ap (λ labels. first_label (drop next labels)) (labels_are queue n entry) ∙ at_last queue n chunks (next - chunks) next (last_labels queue n carries) from)
     ]

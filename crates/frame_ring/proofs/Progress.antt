@@ -41,8 +41,7 @@ pub next_stays : (entries : List Entry) (queue piece next begun told : ℕ) → 
 next_stays entries queue piece next begun told last =
     let labels = labels_of queue (begun - 1) (entry_at entries piece) in
     sym (stays_by queue begun told (entry_at entries piece) (drop next labels) (drop (piece + 1) entries)
-         (λ none. drop_all (piece + 1) entries (last (omega (arith, ap length none, length-todo queue (begun - 1) next (entry_at entries piece))))))
-
+    (λ none. drop_all (piece + 1) entries (last (omega (arith, ap length none, length-todo queue (begun - 1) next (entry_at entries piece))))))
 
 -- The next write
 

@@ -69,8 +69,8 @@ copied_ready port gathered own peer is ready = at_tests (more_parts port.receivi
   at_tests : (parts entries : Bool) →
       HasPages (with_receiving port
       (if parts then record port.receiving { part = port.receiving.part + 1; gathered = gathered }
-       else if entries then record port.receiving { got = port.receiving.got + 1; phase = Copied; gathered = gathered }
-       else record port.receiving { got = port.receiving.got + 1; phase = Copied; gathered = []; done = port.receiving.done + 1 })) own peer
+      else if entries then record port.receiving { got = port.receiving.got + 1; phase = Copied; gathered = gathered }
+      else record port.receiving { got = port.receiving.got + 1; phase = Copied; gathered = []; done = port.receiving.done + 1 })) own peer
   at_tests true entries = again port (record port.receiving { part = port.receiving.part + 1; gathered = gathered }) own peer ready (to_part port.receiving.phase port.receiving.got is)
   at_tests false true = again port (record port.receiving { got = port.receiving.got + 1; phase = Copied; gathered = gathered }) own peer ready (to_copied port.receiving.phase port.receiving.got is)
   at_tests false false =
@@ -171,8 +171,8 @@ let_go_by P queue sending false is all = none sending.todo sending.waiting is wh
 pub posted_ready : (P : Left → Type 0) (queue : ℕ) (sending : Sending)
     → All P (left_of_entry sending.entry sending.todo ++ writes_from queue sending.begun sending.waiting)
     → (let next = next_begun queue sending in
-       let after = let_go (record next { todo = rest_of next.todo }) in
-       All P (left_of_entry after.entry after.todo ++ writes_from queue after.begun after.waiting))
+    let after = let_go (record next { todo = rest_of next.todo }) in
+    All P (left_of_entry after.entry after.todo ++ writes_from queue after.begun after.waiting))
 unfolding lefts
 posted_ready P queue sending all =
     let next = next_begun queue sending in

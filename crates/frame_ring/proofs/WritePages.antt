@@ -33,7 +33,7 @@ all_map P f (x ∷ xs) all (suc k) d within = all_map P f xs (λ j e less. all (
 all_count : (P : ℕ → Type 0) (from more : ℕ) → ((k : ℕ) → k < more → P (from + k)) → All P (count_from from more)
 all_count P from more each = λ k d within.
     (let less : k < more = omega (arith, within, length-count_from from more) in
-     subst P (sym (get_or-count_from from more k d less)) (each k less))
+    subst P (sym (get_or-count_from from more k d less)) (each k less))
 
 any_map : {X Y : Type 0} (P : Y → Type 0) (f : X → Y) (xs : List X) → Any (λ x. P (f x)) xs → Any P (map f xs)
 any_map P f xs any = (any.0, f any.1, omega (arith, any.2, length-map xs f), get_or-map f xs any.0 any.1 (f any.1) any.2 ∙ ap f any.3, any.4)
@@ -116,11 +116,11 @@ entry_ready rings n entry pages promised =
     let chunks = chunks_in (length (bytes_of entry)) in
     all_map (IsLeftReady rings.plan rings.side pages) (λ label. record { entry = entry; label = label }) (labels_of rings.queue n entry)
     (subst (All (Ready rings pages entry)) (sym (labels_are rings.queue n entry))
-     (All-append (Ready rings pages entry) (chunk_labels rings.queue n chunks) (last_labels rings.queue n (carries_bytes entry))
-      (all_map (Ready rings pages entry) (λ part. Chunk rings.queue n part) (count_from 0 chunks)
-       (all_count (λ part. Ready rings pages entry (Chunk rings.queue n part)) 0 chunks
-        (λ part less. subst (λ part. Ready rings pages entry (Chunk rings.queue n part)) (from_zero part) (chunk_ready rings n part entry pages less promised))))
-      (last_ready rings n entry (carries_bytes entry) pages promised)))
+    (All-append (Ready rings pages entry) (chunk_labels rings.queue n chunks) (last_labels rings.queue n (carries_bytes entry))
+    (all_map (Ready rings pages entry) (λ part. Chunk rings.queue n part) (count_from 0 chunks)
+    (all_count (λ part. Ready rings pages entry (Chunk rings.queue n part)) 0 chunks
+    (λ part less. subst (λ part. Ready rings pages entry (Chunk rings.queue n part)) (from_zero part) (chunk_ready rings n part entry pages less promised))))
+    (last_ready rings n entry (carries_bytes entry) pages promised)))
   where
     from_zero : (part : ℕ) → part ≡ 0 + part
     from_zero part = omega arith
@@ -132,7 +132,7 @@ writes_ready rings from (entry ∷ entries) pages promised =
     All-append (IsLeftReady rings.plan rings.side pages) (left_of_entry entry (labels_of rings.queue from entry)) (writes_from rings.queue (suc from) entries)
     (entry_ready rings from entry pages (subst (λ n. IsEntryPromised rings n (length (bytes_of entry)) pages) (at_first from) (promised 0 (omega arith))))
     (writes_ready rings (suc from) entries pages
-     (λ k among. subst (λ n. IsEntryPromised rings n (length (bytes_of (entry_at entries k))) pages) (at_next from k) (promised (suc k) (omega (arith, among)))))
+    (λ k among. subst (λ n. IsEntryPromised rings n (length (bytes_of (entry_at entries k))) pages) (at_next from k) (promised (suc k) (omega (arith, among)))))
   where
     at_first : (from : ℕ) → from + 0 ≡ from
     at_first from = omega arith
@@ -158,9 +158,11 @@ payload_touched rings n page entry touch =
     let low : 128 * part ≤ offset = omega arith in
     let high : offset < 128 * part + 128 = omega arith in
     let inside : offset < len = omega (arith, touch.1.1, touch.1.2) in
-    let size = length (chunk_of (bytes_of entry) part) in
-    (part, omega (arith, inside, low),
-     range_from rings (slot_offset rings.plan rings.side rings.queue n) len (chunk_size * part) size page touch (omega (arith, low, touch.1.1)) (omega (arith, high, inside, length-chunk (bytes_of entry) part, touch.1.1)))
+    let size = length (chunk_of (bytes_of entry) part) in (
+      part,
+      omega (arith, inside, low),
+      range_from rings (slot_offset rings.plan rings.side rings.queue n) len (chunk_size * part) size page touch (omega (arith, low, touch.1.1)) (omega (arith, high, inside, length-chunk (bytes_of entry) part, touch.1.1)),
+    )
 
 header_touched : (rings : QueueOf) (n page left : ℕ) (words flags : ℕ) → TouchesRange rings (header_offset rings.plan rings.side rings.queue n) (header_bytes rings.plan) page
     → WriteTouches rings page (header_offset rings.plan rings.side rings.queue n + len_offset rings.plan) (word_bytes words)
@@ -170,10 +172,10 @@ header_touched rings n page left words flags touch =
     let start = queue_address rings.plan rings.side rings.queue (header_offset rings.plan rings.side rings.queue n) in
     let f = fields rings.plan n left in
     elim (cases_lt touch.1.0 (start + len_offset rings.plan)) [
-      inl early ↦ inr (inl (touch.0, (touch.1.0, touch.1.1, omega (arith, early, f.version), touch.1.3)))
-    | inr late ↦ elim (cases_lt touch.1.0 (start + flags_offset rings.plan)) [
-        inl early ↦ inl (range_from rings (header_offset rings.plan rings.side rings.queue n) (header_bytes rings.plan) (len_offset rings.plan) 4 page touch (omega (arith, late)) (omega (arith, early, f.len)))
-      | inr last ↦ inr (inr (range_from rings (header_offset rings.plan rings.side rings.queue n) (header_bytes rings.plan) (flags_offset rings.plan) 4 page touch (omega (arith, last)) (omega (arith, touch.1.2, f.flags))))
+      | inl early ↦ inr (inl (touch.0, (touch.1.0, touch.1.1, omega (arith, early, f.version), touch.1.3)))
+      | inr late ↦ elim (cases_lt touch.1.0 (start + flags_offset rings.plan)) [
+        | inl early ↦ inl (range_from rings (header_offset rings.plan rings.side rings.queue n) (header_bytes rings.plan) (len_offset rings.plan) 4 page touch (omega (arith, late)) (omega (arith, early, f.len)))
+        | inr last ↦ inr (inr (range_from rings (header_offset rings.plan rings.side rings.queue n) (header_bytes rings.plan) (flags_offset rings.plan) 4 page touch (omega (arith, last)) (omega (arith, touch.1.2, f.flags))))
       ]
     ]
 
@@ -188,22 +190,22 @@ payload_label rings n page entry touch =
 header_label : (rings : QueueOf) (n page : ℕ) (entry : Entry) (carries : Bool) → TouchesRange rings (header_offset rings.plan rings.side rings.queue n) (header_bytes rings.plan) page
     → Any (LabelTouches rings page entry) (last_labels rings.queue n carries)
 header_label rings n page entry true touch = elim (header_touched rings n page (left_of entry) (length (bytes_of entry)) done touch) [
-    inl len ↦ (0, Len rings.queue n, omega arith, refl, len)
+  | inl len ↦ (0, Len rings.queue n, omega arith, refl, len)
   | inr more ↦ elim more [ inl version ↦ (1, Ver rings.queue n, omega arith, refl, version) | inr flags ↦ (2, Flag rings.queue n, omega arith, refl, flags) ]
-  ]
+]
 header_label rings n page entry false touch = elim (header_touched rings n page (left_of entry) (length (bytes_of entry)) (done + 2) touch) [
-    inl len ↦ (0, Len rings.queue n, omega arith, refl, len)
+  | inl len ↦ (0, Len rings.queue n, omega arith, refl, len)
   | inr more ↦ elim more [ inl version ↦ (1, Ver rings.queue n, omega arith, refl, version) | inr flags ↦ (2, Down rings.queue n, omega arith, refl, flags) ]
-  ]
+]
 
 entry_touched : (rings : QueueOf) (n page : ℕ) (entry : Entry) → TouchesEntry rings n (length (bytes_of entry)) page → TouchesLeft rings.plan rings.side (left_of_entry entry (labels_of rings.queue n entry)) page
 entry_touched rings n page entry touch =
     let chunks = chunk_labels rings.queue n (chunks_in (length (bytes_of entry))) in
     let last = last_labels rings.queue n (carries_bytes entry) in
     let here : Any (LabelTouches rings page entry) (chunks ++ last) = elim touch [
-        inl payload ↦ any_left (LabelTouches rings page entry) chunks last (payload_label rings n page entry payload)
+      | inl payload ↦ any_left (LabelTouches rings page entry) chunks last (payload_label rings n page entry payload)
       | inr header ↦ any_right (LabelTouches rings page entry) chunks last (header_label rings n page entry (carries_bytes entry) header)
-      ] in
+    ] in
     any_map (λ (left : Left). TouchesOf rings.plan rings.side page (entry_write rings.plan rings.side left.entry left.label)) (λ label. record { entry = entry; label = label }) (labels_of rings.queue n entry)
     (subst (Any (LabelTouches rings page entry)) (sym (labels_are rings.queue n entry)) here)
 

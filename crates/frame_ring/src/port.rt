@@ -16,9 +16,11 @@ ghost use Rattle.ring_geometry.specs.Geometry.{max_payload_of};
 ghost use Rattle.step_kinds.specs.Limits.{most_frame_bytes};
 ghost use Rattle.step_kinds.specs.Sides.{other_side};
 
-use crate::posting::{clear_flags, post_index, post_write};
 use crate::RingLook;
-use crate::promises::{count_writes, promise_entry, promise_flags, promise_frame, promise_index_word};
+use crate::posting::{clear_flags, post_index, post_write};
+use crate::promises::{
+    count_writes, promise_entry, promise_flags, promise_frame, promise_index_word,
+};
 use crate::reading::{free_by, has_index_word, header, index_word, slot_at, tail};
 use crate::receiving::Receiver;
 use crate::rings::{QueueRings, slot_in};

@@ -24,7 +24,12 @@ use std::alloc::AllocError;
 use step_kinds::Frame;
 
 /// Promises the pages of so many bytes at the peer, from an offset of the queue's window on, where the peer has the window.
-pub fn promise_bytes(rings: &QueueRings, pair: &mut Pair, offset: u64, len: u64) -> Result<(), AllocError>
+pub fn promise_bytes(
+    rings: &QueueRings,
+    pair: &mut Pair,
+    offset: u64,
+    len: u64,
+) -> Result<(), AllocError>
     requires plan { pair.old.plan ≡ rings.now.plan }
     requires fit { SizesFit rings.now.plan }
     requires within { offset + len ≤ (side_plan_of rings.now.plan rings.now.side).size }
@@ -42,7 +47,12 @@ pub fn promise_bytes(rings: &QueueRings, pair: &mut Pair, offset: u64, len: u64)
 }
 
 /// Promises the pages of entry `n`, which has so many bytes.
-pub fn promise_entry(rings: &QueueRings, pair: &mut Pair, n: u64, len: u64) -> Result<(), AllocError>
+pub fn promise_entry(
+    rings: &QueueRings,
+    pair: &mut Pair,
+    n: u64,
+    len: u64,
+) -> Result<(), AllocError>
     requires plan { pair.old.plan ≡ rings.now.plan }
     requires fit { SizesFit rings.now.plan }
     requires fits { len ≤ (sizes_of rings.now.plan rings.now.side rings.now.queue).largest }
@@ -56,7 +66,12 @@ pub fn promise_entry(rings: &QueueRings, pair: &mut Pair, n: u64, len: u64) -> R
 }
 
 /// Promises the pages of all entries of a frame, the first of which has the number `from`.
-pub fn promise_frame(rings: &QueueRings, pair: &mut Pair, from: u64, frame: &Frame) -> Result<(), AllocError>
+pub fn promise_frame(
+    rings: &QueueRings,
+    pair: &mut Pair,
+    from: u64,
+    frame: &Frame,
+) -> Result<(), AllocError>
     requires plan { pair.old.plan ≡ rings.now.plan }
     requires fit { SizesFit rings.now.plan }
     requires few { from ≤ most_numbers }

@@ -31,7 +31,12 @@ pub fn header_at(rings: &QueueRings, n: u64) -> u64
 {
     let into = rings.into();
     let slot = slot_in(into, n);
-    own_address(rings.plan(), rings.side(), into.window_of(), into.header_at(slot))
+    own_address(
+        rings.plan(),
+        rings.side(),
+        into.window_of(),
+        into.header_at(slot),
+    )
 }
 
 /// The address of the slot in which the side receives entry `n`.
@@ -43,7 +48,12 @@ pub fn slot_at(rings: &QueueRings, n: u64) -> u64
 {
     let into = rings.into();
     let slot = slot_in(into, n);
-    own_address(rings.plan(), rings.side(), into.window_of(), into.slot_at(slot))
+    own_address(
+        rings.plan(),
+        rings.side(),
+        into.window_of(),
+        into.slot_at(slot),
+    )
 }
 
 /// Where the flags stand in a header.

@@ -135,7 +135,13 @@ impl Receiver {
 
     /// An entry was found, which has `len` bytes and is followed by `left` entries of its frame: room is taken for its bytes
     /// and promised for its index write. Want of memory leaves receiver and pair as they were.
-    pub fn find(&mut self, pair: &mut Pair, side: Side, len: u32, left: u32) -> Result<(), AllocError>
+    pub fn find(
+        &mut self,
+        pair: &mut Pair,
+        side: Side,
+        len: u32,
+        left: u32,
+    ) -> Result<(), AllocError>
         requires fits { length self.old.gathered + len ≤ most_frame_bytes }
         requires idle { is_idle self.old.phase ≡ true }
         requires number { self.old.got < most_numbers }

@@ -109,13 +109,7 @@ impl Sender {
     {
         let chunks = writes_of(&self.frame, self.largest, self.piece) - 4;
         let number = self.begun.saturating_sub(1);
-        label_at(
-            self.queue,
-            number,
-            chunks,
-            self.frame.is_some(),
-            self.next,
-        )
+        label_at(self.queue, number, chunks, self.frame.is_some(), self.next)
     }
 
     /// The payload of the entry at hand.

@@ -14,7 +14,7 @@ loop-k-preserved c =
     let largest = c.args.largest in
     let pieces = pieces_of largest frame in
     let piece = piece_length largest largest c.loop-k.k c.pieces_in-k-end.result frame c.bytes.result.now c.piece_bytes.result.now refl c.bytes.ensures.value c.piece_bytes.ensures.value
-      (c.pieces_in-k-end.ensures.value ∙ ap (pieces_in largest) c.len.ensures.value) c.loop-k-test.true in
+    (c.pieces_in-k-end.ensures.value ∙ ap (pieces_in largest) c.len.ensures.value) c.loop-k-test.true in
     let writes : c.chunks_of.result + 4 ≡ writes_in (entry_at pieces c.loop-k.k) = ap (λ chunks. chunks + 4) (c.chunks_of.ensures.value ∙ ap chunks_in piece.0) in
     let others = entry_and_others pieces c.loop-k.k piece.1 in
     record {

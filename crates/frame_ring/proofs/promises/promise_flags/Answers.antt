@@ -11,7 +11,7 @@ pub returns-clause-ok : goal.returns-clause-ok
 returns-clause-ok c =
     let rings = c.args.rings.now in
     let at : c.header_at.result + c.flags_offset.result ≡ own_header rings.plan rings.side rings.queue c.args.n + flags_offset rings.plan =
-      ap (λ at. at + c.flags_offset.result) c.header_at.ensures.value ∙ ap (λ offset. own_header rings.plan rings.side rings.queue c.args.n + offset) c.flags_offset.ensures.value in
+    ap (λ at. at + c.flags_offset.result) c.header_at.ensures.value ∙ ap (λ offset. own_header rings.plan rings.side rings.queue c.args.n + offset) c.flags_offset.ensures.value in
     ok_map (ArePromised (c.header_at.result + c.flags_offset.result) 4 (pages_of c.promise_range.new.self c.side.result)) (ArePromised (own_header rings.plan rings.side rings.queue c.args.n + flags_offset rings.plan) 4 (pages_of c.promise_range.new.self rings.side))
     c.promise_range.result
     (λ promised. subst (λ at. ArePromised at 4 (pages_of c.promise_range.new.self rings.side)) at (subst (λ (side : Side). ArePromised (c.header_at.result + c.flags_offset.result) 4 (pages_of c.promise_range.new.self side)) c.side.ensures.value promised))

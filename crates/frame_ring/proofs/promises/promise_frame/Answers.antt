@@ -17,7 +17,7 @@ returns-in_err-promise_entry-clause-pages c =
     let largest = (sizes_of rings.plan rings.side rings.queue).largest in
     let seen : c.max_payload-largest.result ≡ largest = c.max_payload-largest.ensures ∙ ap max_payload_of c.out.ensures.value in
     let piece = piece_length largest c.max_payload-largest.result c.loop-k.k c.pieces_in-k-end.result frame c.bytes.result.now c.piece_bytes.result.now seen c.bytes.ensures.value c.piece_bytes.ensures.value
-      (c.pieces_in-k-end.ensures.value ∙ ap (pieces_in c.max_payload-largest.result) c.len.ensures.value) c.loop-k-test.true in
+    (c.pieces_in-k-end.ensures.value ∙ ap (pieces_in c.max_payload-largest.result) c.len.ensures.value) c.loop-k-test.true in
     let number : c.args.from + c.from.result ≡ c.args.from + c.loop-k.k = ap (λ k. c.args.from + k) c.from.ensures in
     entries_grow rings c.args.from (c.args.from + c.from.result) c.loop-k.k (length c.piece_bytes.result.now) (pieces_of largest frame) _ _ _ number piece.1 piece.0 c.loop-k.invariant.pages c.promise_entry.ensures.pages
 
@@ -28,7 +28,7 @@ loop-k-preserved c =
     let largest = (sizes_of rings.plan rings.side rings.queue).largest in
     let seen : c.max_payload-largest.result ≡ largest = c.max_payload-largest.ensures ∙ ap max_payload_of c.out.ensures.value in
     let piece = piece_length largest c.max_payload-largest.result c.loop-k.k c.pieces_in-k-end.result frame c.bytes.result.now c.piece_bytes.result.now seen c.bytes.ensures.value c.piece_bytes.ensures.value
-      (c.pieces_in-k-end.ensures.value ∙ ap (pieces_in c.max_payload-largest.result) c.len.ensures.value) c.loop-k-test.true in
+    (c.pieces_in-k-end.ensures.value ∙ ap (pieces_in c.max_payload-largest.result) c.len.ensures.value) c.loop-k-test.true in
     let number : c.args.from + c.from.result ≡ c.args.from + c.loop-k.k = ap (λ k. c.args.from + k) c.from.ensures in
     record {
       rest = pages_again c.args.pair.now c.loop-k.pair c.promise_entry.new.pair (other_side rings.side) c.loop-k.invariant.rest c.promise_entry.ensures.rest;

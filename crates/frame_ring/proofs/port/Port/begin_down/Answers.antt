@@ -27,7 +27,7 @@ returns-in_err-promise-clause-pages c =
     let same : pages_of c.promise_entry.new.pair (other_side port.side) ≡ pages_of c.promise.new.self (other_side port.side) = sym (ap (λ (bridge : Bridge). pages_of bridge (other_side port.side)) c.in_err-promise.ensures.err) in
     subst (λ (port : PortState). PagesGrow (TouchesLeft port.plan port.side (writes_left (down_begun port))) (pages_of c.args.pair.now (other_side port.side)) (pages_of c.promise.new.self (other_side port.side))) c.self.view_is
     (subst (λ pages. PagesGrow (TouchesLeft port.plan port.side (writes_left (down_begun port))) (pages_of c.args.pair.now (other_side port.side)) pages) same
-     (down_grows port _ _ c.begun-from.result idle c.begun-from.ensures.value c.promise_entry.ensures.pages))
+    (down_grows port _ _ c.begun-from.result idle c.begun-from.ensures.value c.promise_entry.ensures.pages))
 
 pub returns-clause-pages : goal.returns-clause-pages
 returns-clause-pages c =

@@ -22,7 +22,7 @@ returns-in_err-find-in-Ready-clause-pages c =
     let bridge = c.args.pair.now in
     let idle : is_idle port.receiving.phase ≡ true = ap is_idle (sym c.phase.ensures ∙ c.in-Idle.is) in
     let header : header_of c.header-header.result ≡ header_in port.plan (bytes_seen bridge) port.side port.queue port.receiving.got =
-      c.header-header.ensures ∙ ap (header_in port.plan (bytes_seen bridge) port.side port.queue) c.got.ensures.value in
+    c.header-header.ensures ∙ ap (header_in port.plan (bytes_seen bridge) port.side port.queue) c.got.ensures.value in
     let found = ap (found_with (sizes_in port.plan (layout_to port.plan port.side port.queue)) port.receiving.got (length port.receiving.gathered)) header in
     let at : FindsEntry port bridge = finds port bridge _ c.in-Ready.number c.in-Ready.len idle found c.in-Ready.ensures.value in
     let finds_now : FindsEntry c.args.self.now bridge = subst (λ (port : PortState). FindsEntry port bridge) c.self.view_is at in
@@ -34,7 +34,7 @@ returns-in_err-find-in-Ready-clause-flags c =
     let bridge = c.args.pair.now in
     let idle : is_idle port.receiving.phase ≡ true = ap is_idle (sym c.phase.ensures ∙ c.in-Idle.is) in
     let header : header_of c.header-header.result ≡ header_in port.plan (bytes_seen bridge) port.side port.queue port.receiving.got =
-      c.header-header.ensures ∙ ap (header_in port.plan (bytes_seen bridge) port.side port.queue) c.got.ensures.value in
+    c.header-header.ensures ∙ ap (header_in port.plan (bytes_seen bridge) port.side port.queue) c.got.ensures.value in
     let found = ap (found_with (sizes_in port.plan (layout_to port.plan port.side port.queue)) port.receiving.got (length port.receiving.gathered)) header in
     let at : FindsEntry port bridge = finds port bridge _ c.in-Ready.number c.in-Ready.len idle found c.in-Ready.ensures.value in
     let finds_now : FindsEntry c.args.self.now bridge = subst (λ (port : PortState). FindsEntry port bridge) c.self.view_is at in
@@ -46,7 +46,7 @@ returns-in_ok-find-in-Ready-clause-pages c =
     let bridge = c.args.pair.now in
     let idle : is_idle port.receiving.phase ≡ true = ap is_idle (sym c.phase.ensures ∙ c.in-Idle.is) in
     let header : header_of c.header-header.result ≡ header_in port.plan (bytes_seen bridge) port.side port.queue port.receiving.got =
-      c.header-header.ensures ∙ ap (header_in port.plan (bytes_seen bridge) port.side port.queue) c.got.ensures.value in
+    c.header-header.ensures ∙ ap (header_in port.plan (bytes_seen bridge) port.side port.queue) c.got.ensures.value in
     let found = ap (found_with (sizes_in port.plan (layout_to port.plan port.side port.queue)) port.receiving.got (length port.receiving.gathered)) header in
     let at : FindsEntry port bridge = finds port bridge _ c.in-Ready.number c.in-Ready.len idle found c.in-Ready.ensures.value in
     let finds_now : FindsEntry c.args.self.now bridge = subst (λ (port : PortState). FindsEntry port bridge) c.self.view_is at in
@@ -58,7 +58,7 @@ returns-in_ok-find-in-Ready-clause-flags c =
     let bridge = c.args.pair.now in
     let idle : is_idle port.receiving.phase ≡ true = ap is_idle (sym c.phase.ensures ∙ c.in-Idle.is) in
     let header : header_of c.header-header.result ≡ header_in port.plan (bytes_seen bridge) port.side port.queue port.receiving.got =
-      c.header-header.ensures ∙ ap (header_in port.plan (bytes_seen bridge) port.side port.queue) c.got.ensures.value in
+    c.header-header.ensures ∙ ap (header_in port.plan (bytes_seen bridge) port.side port.queue) c.got.ensures.value in
     let found = ap (found_with (sizes_in port.plan (layout_to port.plan port.side port.queue)) port.receiving.got (length port.receiving.gathered)) header in
     let at : FindsEntry port bridge = finds port bridge _ c.in-Ready.number c.in-Ready.len idle found c.in-Ready.ensures.value in
     let finds_now : FindsEntry c.args.self.now bridge = subst (λ (port : PortState). FindsEntry port bridge) c.self.view_is at in

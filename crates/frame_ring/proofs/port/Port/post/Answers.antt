@@ -32,15 +32,15 @@ returns-clause-pair c =
     let next : c.advance.new.self.sending ≡ next_begun port.queue port.sending = moved c.self.inside.sender c.advance.new.self port.queue c.advance.ensures c.self.invariant.queue in
     let label = c.label-label.ensures.value ∙ ap (λ (sending : Sending). first_label sending.todo) next in
     elim c.match-label.branch [
-      in-Some w ↦
-        w.pair-is ∙ w.post_write.ensures
-        ∙ ap (λ (sending : Sending). ring_posted pair port.side sending.entry w.in-Some.label) next
-        ∙ sym (first_posted_is pair port.side (next_begun port.queue port.sending).entry (next_begun port.queue port.sending).todo w.in-Some.label (sym w.in-Some.is ∙ label))
-        ∙ ap (λ (port : PortState). posted_by port pair) c.self.view_is
-    | in-None w ↦
-        w.pair-is
-        ∙ sym (none_posted_is pair port.side (next_begun port.queue port.sending).entry (next_begun port.queue port.sending).todo (sym w.in-None.is ∙ label))
-        ∙ ap (λ (port : PortState). posted_by port pair) c.self.view_is
+      | in-Some w ↦
+          w.pair-is ∙ w.post_write.ensures
+          ∙ ap (λ (sending : Sending). ring_posted pair port.side sending.entry w.in-Some.label) next
+          ∙ sym (first_posted_is pair port.side (next_begun port.queue port.sending).entry (next_begun port.queue port.sending).todo w.in-Some.label (sym w.in-Some.is ∙ label))
+          ∙ ap (λ (port : PortState). posted_by port pair) c.self.view_is
+      | in-None w ↦
+          w.pair-is
+          ∙ sym (none_posted_is pair port.side (next_begun port.queue port.sending).entry (next_begun port.queue port.sending).todo (sym w.in-None.is ∙ label))
+          ∙ ap (λ (port : PortState). posted_by port pair) c.self.view_is
     ]
 
 pub returns-clause-ready : goal.returns-clause-ready

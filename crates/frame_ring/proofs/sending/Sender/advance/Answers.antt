@@ -19,10 +19,10 @@ returns-else-self-all c =
     let kept = c.self.inside in
     let entries = entries_under kept.largest kept.frame in
     let last : writes_in (entry_at entries kept.piece) ≤ kept.next → length entries ≤ kept.piece + 1 =
-      λ all. elim c.else-self-all.branch [
-        else-self-all-via-then-self-all+else-self w ↦ omega (arith, c.self.invariant.pieces, w.if-self.false)
+    λ all. elim c.else-self-all.branch [
+      | else-self-all-via-then-self-all+else-self w ↦ omega (arith, c.self.invariant.pieces, w.if-self.false)
       | else-self-all-via-else-self-all w ↦ absurd (w.if-self-all.false (omega (arith, c.self.invariant.next, c.writes_of-all.ensures.value, all)))
-      ] in
+    ] in
     sym c.self.view_is
     ∙ ap (with_progress (sender_seen kept)) (next_stays entries kept.queue kept.piece kept.next kept.begun kept.told last)
     ∙ ap (λ (outgoing : Outgoing). with_progress outgoing (next_begun outgoing.queue outgoing.sending)) c.self.view_is

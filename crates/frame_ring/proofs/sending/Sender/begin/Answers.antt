@@ -18,7 +18,7 @@ invariant_of-self c =
     let some = some_pieces kept.largest c.args.frame in
     let count : length (pieces_of kept.largest c.args.frame) ≡ pieces_in kept.largest (length c.args.frame) = length-pieces_of kept.largest c.args.frame in
     let numbers : kept.begun + pieces_in kept.largest (length c.args.frame) ≤ most_numbers =
-      subst (λ largest. kept.begun + pieces_in largest (length c.args.frame) ≤ most_numbers) (sym largest) (omega (arith, begun, c.requires.numbers)) in
+    subst (λ largest. kept.begun + pieces_in largest (length c.args.frame) ≤ most_numbers) (sym largest) (omega (arith, begun, c.requires.numbers)) in
     let left : c.args.left ≡ all_writes_in (pieces_of kept.largest c.args.frame) = c.requires.writes ∙ ap (λ largest. all_writes_in (pieces_of largest c.args.frame)) (sym largest) in
     let writes : 4 ≤ all_writes_in (pieces_of kept.largest c.args.frame) = some_writes (pieces_of kept.largest c.args.frame) some in
     record {

@@ -63,5 +63,5 @@ returns-else-self-eq0-2 c =
     let more = more_is kept c.args.self.now law c.self.view_is c.requires (omega (arith, c.if-self-eq0.false)) in
     ap (with_progress (sender_seen kept))
     (posted_more (entries_under kept.largest kept.frame) kept.queue kept.piece kept.next kept.begun kept.told (kept.left - 1) (among_is kept law) more
-     (omega (arith, law.left, c.if-self-eq0.false)) (omega (arith, c.if-self-eq0-2.false)))
+    (omega (arith, law.left, c.if-self-eq0.false)) (omega (arith, c.if-self-eq0-2.false)))
     ∙ ap (λ (outgoing : Outgoing). with_progress outgoing (step outgoing)) c.self.view_is
