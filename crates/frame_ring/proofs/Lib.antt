@@ -7,4 +7,5 @@ pub mod NextLabel
 pub mod PostedBytes
 pub mod Progress
 pub mod Ready
+pub mod Spare
 pub mod WritePages

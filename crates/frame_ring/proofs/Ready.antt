@@ -133,12 +133,11 @@ pages_posted port bridge any = pages_of_first bridge port.side any (next_begun p
 
 -- Sending
 
-lefts : ℕ → Sending → List Left
+abbrev pub lefts : ℕ → Sending → List Left
 lefts queue sending = left_of_entry sending.entry sending.todo ++ writes_from queue sending.begun sending.waiting
 
 next_by : (queue begun told : ℕ) (entry : Entry) (todo : List Label) (waiting : List Entry)
     → lefts queue (next_begun queue (record { begun = begun; told = told; entry = entry; todo = todo; waiting = waiting })) ≡ lefts queue (record { begun = begun; told = told; entry = entry; todo = todo; waiting = waiting })
-unfolding lefts
 next_by queue begun told entry [] [] = refl
 next_by queue begun told entry [] (first ∷ others) =
     let e : begun + 1 ≡ suc begun = omega arith in
@@ -146,20 +145,18 @@ next_by queue begun told entry [] (first ∷ others) =
 next_by queue begun told entry (label ∷ todo) waiting = refl
 
 -- what is left stays as the next entry is begun
-next_keeps : (queue : ℕ) (sending : Sending) → lefts queue (next_begun queue sending) ≡ lefts queue sending
+pub next_keeps : (queue : ℕ) (sending : Sending) → lefts queue (next_begun queue sending) ≡ lefts queue sending
 next_keeps queue sending = next_by queue sending.begun sending.told sending.entry sending.todo sending.waiting
 
 -- the rest of it stays ready as the first of it is posted
 rest_by : (P : Left → Type 0) (queue begun told : ℕ) (entry : Entry) (todo : List Label) (waiting : List Entry)
     → All P (lefts queue (record { begun = begun; told = told; entry = entry; todo = todo; waiting = waiting }))
     → All P (lefts queue (record { begun = begun; told = told; entry = entry; todo = rest_of todo; waiting = waiting }))
-unfolding lefts
 rest_by P queue begun told entry [] waiting all = all
 rest_by P queue begun told entry (label ∷ todo) waiting all = λ k d within. all (suc k) d (omega (arith, within))
 
 let_go_by : (P : Left → Type 0) (queue : ℕ) (sending : Sending) (busy : Bool) → is_busy sending ≡ busy → All P (lefts queue sending)
     → All P (lefts queue (if busy then sending else record sending { entry = GoesDown }))
-unfolding lefts
 let_go_by P queue sending true is all = all
 let_go_by P queue sending false is all = none sending.todo sending.waiting is where
   none : (todo : List Label) (waiting : List Entry) → (not (is_empty_list todo) || not (is_empty_list waiting)) ≡ false → All P (left_of_entry GoesDown todo ++ writes_from queue sending.begun waiting)
@@ -173,7 +170,6 @@ pub posted_ready : (P : Left → Type 0) (queue : ℕ) (sending : Sending)
     → (let next = next_begun queue sending in
     let after = let_go (record next { todo = rest_of next.todo }) in
     All P (left_of_entry after.entry after.todo ++ writes_from queue after.begun after.waiting))
-unfolding lefts
 posted_ready P queue sending all =
     let next = next_begun queue sending in
     let still = subst (All P) (sym (next_keeps queue sending)) all in
@@ -182,7 +178,6 @@ posted_ready P queue sending all =
 
 pub first_ready : (P : Left → Type 0) (queue : ℕ) (sending : Sending) (label : Label) → Some label ≡ first_label (next_begun queue sending).todo
     → All P (left_of_entry sending.entry sending.todo ++ writes_from queue sending.begun sending.waiting) → P (record { entry = (next_begun queue sending).entry; label = label })
-unfolding lefts
 first_ready P queue sending label is all = at_todo (next_begun queue sending).begun (next_begun queue sending).entry (next_begun queue sending).todo (next_begun queue sending).waiting is (subst (All P) (sym (next_keeps queue sending)) all) where
   at_todo : (begun : ℕ) (entry : Entry) (todo : List Label) (waiting : List Entry) → Some label ≡ first_label todo → All P (left_of_entry entry todo ++ writes_from queue begun waiting) → P (record { entry = entry; label = label })
   at_todo begun entry [] waiting e all = absurd (cc e)

@@ -1,7 +1,7 @@
 //! One queue of one side.
 
 ghost use Rattle.std.specs.Prelude.{◌≡◌, ◌+◌, ◌-◌, ◌<◌, ◌≤◌, IfOk, OnErr, OnOk, false, length, true};
-ghost use Rattle.bridge_pair.specs.Bridge.{Bridge, pages_of, with_pages};
+ghost use Rattle.bridge_pair.specs.Bridge.{flight_of, pages_of, with_pages};
 ghost use Rattle.bridge_pair.specs.Pages.{PagesGrow};
 ghost use Rattle.byte_model.specs.Addresses.{own_header};
 ghost use Rattle.byte_model.specs.Headers.{flags_offset};
@@ -143,6 +143,7 @@ impl Port {
         ensures answer { result ≡ post_answer self.old }
         ensures after { self.new ≡ after_post self.old }
         ensures pair { pair.new ≡ posted_by self.old pair.old }
+        ensures spare { (flight_of pair.new self.old.side).spare + unused_of self.old ≡ (flight_of pair.old self.old.side).spare + unused_of self.new }
         ensures ready { HasPagesIn self.new pair.new }
     {
         self.sender.advance();
@@ -234,6 +235,7 @@ impl Port {
         ensures answer { result ≡ ack_answer self.old }
         ensures after { self.new ≡ after_ack self.old }
         ensures pair { pair.new ≡ acked_by self.old pair.old }
+        ensures spare { (flight_of pair.new self.old.side).spare + unused_of self.old ≡ (flight_of pair.old self.old.side).spare + unused_of self.new }
         ensures ready { HasPagesIn self.new pair.new }
     {
         let Phase::Cleared = self.receiver.phase() else {
