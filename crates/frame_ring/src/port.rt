@@ -247,6 +247,20 @@ impl Port {
         Some(number)
     }
 
+    /// The side whose queue this is.
+    pub fn side(&self) -> Side
+        ensures { result ≡ self.now.side }
+    {
+        self.rings.side()
+    }
+
+    /// The queue's number, from 0, which is one of the side's.
+    pub fn queue(&self) -> u32
+        ensures { result ≡ self.now.queue }
+    {
+        self.rings.queue()
+    }
+
     /// Whether [`Port::begin`] would answer [`Begun::TooLong`] or [`Begun::Busy`] for a frame of `len` bytes, 1 to 65,536,
     /// whatever room there is. It takes no memory.
     pub fn refuses(&self, len: u32) -> bool
