@@ -34,7 +34,9 @@ fn push_on(
 ) -> Result<(), AllocError>
     ensures { OnOk result (list.new ≡ with_frames list.old (frames_on lane (item.now ∷ []))) }
 {
-    if let Traffic::Send { lane: other, frame } = item && is_same_lane(*other, lane) {
+    if let Traffic::Send { lane: other, frame } = item
+        && is_same_lane(*other, lane)
+    {
         let copy = frame.copy_of(alloc)?;
         list.promise(1)?;
         list.push(copy);

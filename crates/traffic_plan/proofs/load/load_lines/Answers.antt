@@ -9,7 +9,7 @@ loop-frame-preserved c =
     let past = c.next_word-word.ensures.state in
     record {
       lines =
-        frame_more c.args.seed c.loop-frame.frame c.next_word-word.result c.next_word-landings.result c.loop-frame.lines.items c.push_frame.new.lines.items
-        (c.next_word-word.ensures.word ∙ words.0) (c.next_word-landings.ensures.word ∙ (ap word_at past ∙ words.1)) c.loop-frame.invariant.lines c.in_ok-push_frame.ensures;
+          frame_more c.args.seed c.loop-frame.frame c.next_word-word.result c.next_word-landings.result c.loop-frame.lines.items c.push_frame.new.lines.items
+          (c.next_word-word.ensures.word ∙ words.0) (c.next_word-landings.ensures.word ∙ (ap word_at past ∙ words.1)) c.loop-frame.invariant.lines c.in_ok-push_frame.ensures;
       words = c.next_word-landings.ensures.state ∙ (ap state_past past ∙ words.2);
     }
