@@ -1,5 +1,5 @@
 -- A script can declare the plan of a load, and may make its steps.
-use Rattle.std.proofs.Common.{◌≡◌, ℕ, zero, suc, ◌+◌, ◌*◌, ◌/◌, ◌%◌, ◌^◌, ◌<◌, ◌≤◌, inl, List, [], ◌∷◌, ◌++◌, length, map, replicate, slice_index, slice_index_or, refl, sym, ◌∙◌, ap, arith, lit<, lit≤}
+use Rattle.std.proofs.Common.{ℕ, zero, suc, ◌+◌, ◌*◌, ◌/◌, ◌%◌, ◌^◌, ◌<◌, ◌≤◌, inl, List, [], ◌∷◌, ◌++◌, length, replicate, slice_index, slice_index_or, refl, arith, lit<, lit≤}
 use Rattle.std.proofs.lemmas.List.{length-map}
 use Rattle.std.proofs.lemmas.List.Elements.{All-nil, All-cons, All-append, All-map, All-replicate}
 use Rattle.std.specs.List.{All, flat_map, range_with_len}
@@ -12,9 +12,8 @@ use Rattle.lane_model.specs.Lane.{chunks_in}
 use Rattle.plan_model.specs.DeclaredPlans.{IsSide, IsPair, IsDeclared, IsQueueOf, IsFrame, IsPermitted}
 use Rattle.plan_model.specs.Macros.{send, land_all, receive, posts_in}
 use Rattle.plan_model.specs.Plans.{no_pair}
-use Rattle.plan_model.specs.TrafficPlans.{IsWhole}
 use Rattle.traffic_plan.specs.Laws.{LoadIsWhole}
-use Rattle.traffic_plan.specs.Load.{load_side, load_pair, length_of, payload_of, landings_of, frame_steps, lines_of, lines_of_frame, word_of, plan_of, load_of}
+use Rattle.traffic_plan.specs.Load.{load_side, load_pair, length_of, payload_of, landings_of, frame_steps, lines_of_frame, word_of, plan_of}
 use Rattle.traffic_plan.proofs.Frames.{length_payload, few_bytes, few_steps, few_lines}
 
 -- the pair

@@ -5,9 +5,9 @@ ghost use Rattle.lane_model.specs.Lane.{chunks_in};
 ghost use Rattle.traffic_plan.specs.Load.{word_at, state_past, load_side, load_pair, most_load_frames, length_of, payload_of, frame_lines, load_of};
 
 use crate::steps::{Repeated, push_again, push_landings, push_received, push_step};
-use rand_core::SeedableRng;
-use rand_core::utils::NextWord;
 use rand_xoshiro::SplitMix64;
+use rand_xoshiro::rand_core::SeedableRng;
+use rand_xoshiro::rand_core::utils::NextWord;
 use std::alloc::{AllocError, Global};
 use step_kinds::{Frame, Items, Line, Name, PairPlan, Plan, Side, SidePlan, Step};
 
