@@ -70,11 +70,13 @@ flags_cleared bridge side queue n =
 abbrev pub IsReadyToLand : PairPlan → Side → List ℕ → WindowWrite → Type 0
 IsReadyToLand plan side pages write = reaches plan side write.window ≡ true → ArePromised (store_of_write plan side write).at (length write.bytes) pages
 
+-- a write that goes through no window needs no page
+abbrev pub IsReady : PairPlan → Side → List ℕ → Option WindowWrite → Type 0
+IsReady plan side pages None = Unit {0}
+IsReady plan side pages (Some write) = IsReadyToLand plan side pages write
+
 abbrev pub IsLeftReady : PairPlan → Side → List ℕ → Left → Type 0
-IsLeftReady plan side pages left = ready (entry_write plan side left.entry left.label) where
-  ready : Option WindowWrite → Type 0
-  ready None = Unit {0}
-  ready (Some write) = IsReadyToLand plan side pages write
+IsLeftReady plan side pages left = IsReady plan side pages (entry_write plan side left.entry left.label)
 
 -- the entry at hand: the one to be taken next, or the one that was taken last
 abbrev pub entry_at_hand : PortState → ℕ
@@ -94,12 +96,14 @@ HasPagesIn port bridge = HasPages port (pages_of bridge port.side) (pages_of bri
 abbrev pub TouchesWrite : PairPlan → Side → WindowWrite → ℕ → Type 0
 TouchesWrite plan side write page = (reaches plan side write.window ≡ true) × Touches (store_of_write plan side write).at (length write.bytes) page
 
+-- a write that goes through no window stores nothing
+abbrev pub TouchesOf : PairPlan → Side → ℕ → Option WindowWrite → Type 0
+TouchesOf plan side page None = ⊥
+TouchesOf plan side page (Some write) = TouchesWrite plan side write page
+
 -- the page has a byte of what one of these writes stores at the peer, through a window that the peer has
 abbrev pub TouchesLeft : PairPlan → Side → List Left → ℕ → Type 0
-TouchesLeft plan side lefts page = Any (λ (left : Left). touches (entry_write plan side left.entry left.label)) lefts where
-  touches : Option WindowWrite → Type 0
-  touches None = ⊥
-  touches (Some write) = TouchesWrite plan side write page
+TouchesLeft plan side lefts page = Any (λ (left : Left). TouchesOf plan side page (entry_write plan side left.entry left.label)) lefts
 
 -- Room
 
