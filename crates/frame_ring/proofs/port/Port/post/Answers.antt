@@ -1,7 +1,7 @@
-use Rattle.std.proofs.Common.{◌≡◌, ◌∙◌, ◌+◌, ◌≤◌, ℕ, List, Option, Some, None, ap, sym, subst, arith}
+use Rattle.std.proofs.Common.{◌≡◌, ◌∙◌, ◌+◌, ◌≤◌, ℕ, Some, ap, sym, subst, arith}
 use Rattle.step_kinds.specs.Sides.{other_side}
 use Rattle.bridge_pair.specs.Bridge.{Bridge, flight_of, pages_of}
-use Rattle.frame_ring.specs.Calls.{after_post, first_label, first_posted, let_go, next_begun, posted_by, rest_of}
+use Rattle.frame_ring.specs.Calls.{after_post, first_label, let_go, next_begun, posted_by, rest_of}
 use Rattle.frame_ring.specs.Outgoing.{Outgoing, with_progress}
 use Rattle.frame_ring.specs.Port.{PortState, Sending, unused_of, with_sending}
 use Rattle.frame_ring.specs.Ports.{port_seen}
@@ -64,13 +64,18 @@ returns-clause-spare c =
     let next : c.advance.new.self.sending ≡ next_begun port.queue port.sending = moved c.self.inside.sender c.advance.new.self port.queue c.advance.ensures c.self.invariant.queue in
     let label = c.label-label.ensures.value ∙ ap (λ (sending : Sending). first_label sending.todo) next in
     let posted : c.posted.new.self.sending ≡ (after_post port).sending =
-      ap (λ (outgoing : Outgoing). outgoing.sending) c.posted.ensures ∙ ap (λ (sending : Sending). let_go (record sending { todo = rest_of sending.todo })) next in
+    ap (λ (outgoing : Outgoing). outgoing.sending) c.posted.ensures ∙ ap (λ (sending : Sending). let_go (record sending { todo = rest_of sending.todo })) next in
     let after : unused_of (with_sending port c.posted.new.self.sending) ≡ unused_of (after_post port) = ap (λ (sending : Sending). unused_of (with_sending port sending)) posted in
     let room : unused_of port ≤ (flight_of pair port.side).spare = subst (λ (port : PortState). unused_of port ≤ (flight_of pair port.side).spare) (sym c.self.view_is) c.requires.room in
     subst (λ (seen : PortState). (flight_of c.match-label.pair seen.side).spare + unused_of seen ≡ (flight_of pair seen.side).spare + unused_of (with_sending port c.posted.new.self.sending)) c.self.view_is
     (elim c.match-label.branch [
-       in-Some w ↦ omega (arith, after, room, unused_posted port w.in-Some.label (sym w.in-Some.is ∙ label),
-         ap (λ (bridge : Bridge). (flight_of bridge port.side).spare) (w.pair-is ∙ w.post_write.ensures),
-         spare_of_write pair port.side c.advance.new.self.queue c.advance.new.self.sending.entry w.in-Some.label w.in-Some.ensures.of_entry)
-     | in-None w ↦ omega (arith, after, unused_same port (sym w.in-None.is ∙ label), ap (λ (bridge : Bridge). (flight_of bridge port.side).spare) w.pair-is)
-     ])
+      | in-Some w ↦ omega (
+        arith,
+        after,
+        room,
+        unused_posted port w.in-Some.label (sym w.in-Some.is ∙ label),
+        ap (λ (bridge : Bridge). (flight_of bridge port.side).spare) (w.pair-is ∙ w.post_write.ensures),
+        spare_of_write pair port.side c.advance.new.self.queue c.advance.new.self.sending.entry w.in-Some.label w.in-Some.ensures.of_entry,
+      )
+      | in-None w ↦ omega (arith, after, unused_same port (sym w.in-None.is ∙ label), ap (λ (bridge : Bridge). (flight_of bridge port.side).spare) w.pair-is)
+    ])
