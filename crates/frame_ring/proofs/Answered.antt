@@ -1,10 +1,8 @@
 -- A frame and an entry are begun under the number that is told next.
-use Rattle.std.proofs.Common.{◌≡◌, ◌∙◌, ℕ, ◌||◌, Bool, true, false, List, length, nat_lt, refl, sym, ap, if◌then◌else◌}
-use Rattle.step_kinds.specs.declared.lanes.Begun.{Begun}
+use Rattle.std.proofs.Common.{◌≡◌, ◌∙◌, ℕ, Bool, true, false, List, length, nat_lt, refl, ap, if◌then◌else◌}
 use Rattle.step_kinds.specs.declared.lanes.Begun.TheVariants.{Ok as BegunOk, TooLong, Busy, NoRoom}
-use Rattle.step_kinds.specs.Sides.{other_side}
 use Rattle.plan_model.specs.Sizes.{pieces_in}
-use Rattle.bridge_pair.specs.Bridge.{Bridge, pages_of}
+use Rattle.bridge_pair.specs.Bridge.{Bridge}
 use Rattle.bridge_pair.specs.Pages.{PagesGrow}
 use Rattle.bridge_pair.proofs.Promises.{grows_further, grows_nothing}
 use Rattle.frame_ring.specs.Calls.{TouchedByBegin, TouchedByDown, begin_answer, down_answer, down_begun, frame_begun, free_seen, head_seen, index_word_seen, sizes_seen}

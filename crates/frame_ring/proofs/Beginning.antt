@@ -1,11 +1,11 @@
 -- What a begin leaves of promises: room for each write of the entries, and their pages.
-use Rattle.std.proofs.Common.{◌≡◌, ◌∙◌, ℕ, zero, suc, ◌+◌, ◌-◌, ◌<◌, ◌≤◌, ◌||◌, All, Bool, true, false, not, List, [], ◌∷◌, ◌++◌, length, refl, sym, ap, subst, arith, if◌then◌else◌}
+use Rattle.std.proofs.Common.{◌≡◌, ◌∙◌, ℕ, zero, suc, ◌+◌, ◌-◌, ◌<◌, ◌||◌, All, false, not, List, [], ◌∷◌, ◌++◌, length, refl, sym, ap, subst, arith}
 use Rattle.step_kinds.specs.Sides.{other_side}
 use Rattle.step_kinds.specs.declared.names.Side.{Side}
 use Rattle.step_kinds.specs.declared.names.Side.TheVariants.{A, B}
 use Rattle.step_kinds.specs.declared.steps.Label.{Label}
 use Rattle.lane_model.specs.Lane.{Entry, GoesDown, bytes_of}
-use Rattle.lane_model.specs.Tests.{is_empty_list, is_idle}
+use Rattle.lane_model.specs.Tests.{is_empty_list}
 use Rattle.plan_model.specs.Labels.{labels_of}
 use Rattle.plan_model.specs.Pieces.{pieces_of}
 use Rattle.bridge_pair.specs.Bridge.{Bridge, flight_of, pages_of, with_pages}

@@ -1,5 +1,5 @@
 -- The pages that entries need in the peer's memory.
-use Rattle.std.proofs.Common.{◌≡◌, ◌∙◌, ℕ, zero, suc, ◌+◌, ◌*◌, ◌<◌, ◌≤◌, ◌⊎◌, inl, inr, true, List, Result, Ok, Err, OnOk, length, take, drop, below_more, refl, sym, ap, subst, arith}
+use Rattle.std.proofs.Common.{◌≡◌, ◌∙◌, ℕ, ◌+◌, ◌*◌, ◌<◌, ◌≤◌, inl, inr, List, Result, Ok, Err, OnOk, length, take, drop, below_more, sym, ap, subst, arith}
 use Rattle.step_kinds.specs.Sides.{other_side}
 use Rattle.step_kinds.specs.declared.names.Side.{Side}
 use Rattle.step_kinds.specs.declared.names.Side.TheVariants.{A, B}
@@ -17,7 +17,7 @@ use Rattle.bridge_pair.specs.Bridge.{Bridge, IsBridge, bytes_of as memory_of, me
 use Rattle.bridge_pair.specs.Pages.{PagesGrow}
 use Rattle.bridge_pair.proofs.Promises.{grows_further, grows_nothing, promised_still}
 use Rattle.frame_ring.specs.Outgoing.{entry_at}
-use Rattle.frame_ring.specs.Promises.{AreEntriesPromised, IsEntryPromised, IsRangePromised, ReachesPeer, TouchesEntries, TouchesEntry, TouchesRange}
+use Rattle.frame_ring.specs.Promises.{IsEntryPromised, IsRangePromised, ReachesPeer, TouchesEntries, TouchesEntry, TouchesRange}
 use Rattle.frame_ring.specs.Rings.{QueueOf}
 use Rattle.frame_ring.proofs.Entries.{length-pieces_of, piece_at}
 

@@ -1,5 +1,5 @@
 -- What a look promises: the pages of the flags and of the index word of the entry that it found.
-use Rattle.std.proofs.Common.{◌≡◌, ◌∙◌, ℕ, zero, suc, ◌+◌, ◌-◌, ◌<◌, ◌≤◌, All, Bool, true, false, List, Option, Some, None, Result, Ok, Err, OnErr, OnOk, length, refl, sym, ap, subst, arith, if◌then◌else◌}
+use Rattle.std.proofs.Common.{◌≡◌, ◌∙◌, ℕ, ◌+◌, All, true, List, Option, Some, None, Result, Ok, Err, OnErr, OnOk, length, refl, ap}
 use Rattle.std.proofs.lemmas.List.Elements.{All-weaker}
 use Rattle.step_kinds.specs.Sides.{other_side}
 use Rattle.step_kinds.specs.declared.names.Side.{Side}
@@ -14,11 +14,10 @@ use Rattle.lane_model.specs.declared.Phase.TheVariants.{Copying}
 use Rattle.bridge_pair.specs.Bridge.{Bridge, pages_of, with_pages}
 use Rattle.bridge_pair.specs.Pages.{PagesGrow}
 use Rattle.bridge_pair.proofs.Promises.{grows_further, grows_nothing, promised_still}
-use Rattle.frame_ring.specs.Calls.{FindsEntry, TouchedByFlags, TouchedByLook, found_seen, look_answer, look_found}
+use Rattle.frame_ring.specs.Calls.{FindsEntry, TouchedByFlags, TouchedByLook, found_seen, look_found}
 use Rattle.frame_ring.specs.Port.{Left, PortState, Receiving, with_receiving, writes_left}
-use Rattle.frame_ring.specs.Seen.{HasPages, HasPagesIn, IsLeftReady, IsReady, IsReadyToLand, TouchesWrite, with_room}
-use Rattle.frame_ring.specs.declared.RingLook.{RingLook}
-use Rattle.frame_ring.specs.declared.RingLook.TheVariants.{Ready, Empty, PeerDown, VerDiffers, Long, OutOfTurn}
+use Rattle.frame_ring.specs.Seen.{HasPages, IsLeftReady, IsReady, IsReadyToLand, TouchesWrite, with_room}
+use Rattle.frame_ring.specs.declared.RingLook.TheVariants.{Ready}
 
 -- Pages of the two sides
 

@@ -1,5 +1,5 @@
 -- What a ring posts finds its pages promised.
-use Rattle.std.proofs.Common.{◌≡◌, ◌∙◌, ℕ, List, true, ap, sym, subst}
+use Rattle.std.proofs.Common.{◌≡◌, ℕ, List, true, sym}
 use Rattle.step_kinds.specs.Sides.{other_side}
 use Rattle.step_kinds.specs.declared.names.Side.{Side}
 use Rattle.step_kinds.specs.declared.plan.PairPlan.{PairPlan}

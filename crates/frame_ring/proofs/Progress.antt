@@ -1,19 +1,16 @@
 -- A sender moves on: to its next write, to the next entry of its frame, to another frame.
-use Rattle.std.proofs.Common.{◌≡◌, ◌∙◌, ℕ, zero, suc, ◌+◌, ◌-◌, ◌<◌, ◌≤◌, ◌==◌, ◌||◌, Bool, true, false, not, Option, Some, None, List, [], ◌∷◌, ◌++◌, length, map, take, drop, get_or, nat_lt, refl, sym, ap, arith, add-one}
-use Rattle.std.proofs.lemmas.Bool.{cases_lt}
+use Rattle.std.proofs.Common.{◌≡◌, ◌∙◌, ℕ, zero, suc, ◌+◌, ◌-◌, ◌<◌, ◌≤◌, ◌||◌, true, false, not, List, [], ◌∷◌, length, drop, refl, sym, ap, arith}
 use Rattle.std.proofs.lemmas.Bool.Decides.{nat_tests}
-use Rattle.std.proofs.lemmas.List.{drop_all, drop_more, get_or-append_right, get_or-map, get_or_append_left, length-append, length-map, map-append}
-use Rattle.lane_model.specs.Lane.{Entry, Carries, GoesDown, bytes_of, chunks_in, count_from}
+use Rattle.std.proofs.lemmas.List.{drop_all, drop_more}
+use Rattle.lane_model.specs.Lane.{Entry, GoesDown}
 use Rattle.lane_model.specs.Tests.{is_empty_list}
-use Rattle.plan_model.specs.Labels.{label_of, labels_of}
+use Rattle.plan_model.specs.Labels.{labels_of}
 use Rattle.plan_model.specs.Pieces.{pieces_of}
-use Rattle.plan_model.specs.Sizes.{pieces_in}
 use Rattle.step_kinds.specs.declared.steps.Label.{Label}
-use Rattle.step_kinds.specs.declared.steps.Label.TheVariants.{Chunk, Len, Ver, Flag, Down, Bell}
-use Rattle.frame_ring.specs.Calls.{entries_begun, first_label, let_go, next_begun, rest_of}
-use Rattle.frame_ring.specs.Outgoing.{all_writes_in, entry_at, label_by, progress_at, writes_in}
+use Rattle.frame_ring.specs.Calls.{entries_begun, let_go, next_begun, rest_of}
+use Rattle.frame_ring.specs.Outgoing.{all_writes_in, entry_at, progress_at, writes_in}
 use Rattle.frame_ring.specs.Port.{Sending, is_busy}
-use Rattle.frame_ring.proofs.Entries.{busy_is, get_or-count_from, left_is, length-count_from, length-labels_of, length-pieces_of, length-todo}
+use Rattle.frame_ring.proofs.Entries.{busy_is, left_is, length-labels_of, length-pieces_of, length-todo}
 
 -- The next entry
 

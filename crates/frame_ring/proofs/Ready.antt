@@ -1,26 +1,22 @@
 -- The pages that a port was promised stay promised through its calls.
-use Rattle.std.proofs.Common.{◌≡◌, ◌∙◌, ℕ, zero, suc, ◌+◌, ◌-◌, ◌<◌, ◌≤◌, ◌||◌, Bool, true, false, not, All, Option, Some, None, List, [], ◌∷◌, ◌++◌, length, map, refl, sym, ap, subst, arith, if◌then◌else◌}
-use Rattle.std.proofs.lemmas.List.{append-nil, length-append, length-map}
-use Rattle.std.proofs.lemmas.List.Elements.{All-append}
-use Rattle.step_kinds.specs.Sides.{other_side}
+use Rattle.std.proofs.Common.{◌≡◌, ℕ, suc, ◌+◌, ◌-◌, ◌||◌, Bool, true, false, not, All, Some, None, List, [], ◌∷◌, ◌++◌, refl, sym, ap, subst, arith, if◌then◌else◌}
 use Rattle.step_kinds.specs.declared.names.Side.{Side}
 use Rattle.step_kinds.specs.declared.names.Side.TheVariants.{A, B}
-use Rattle.step_kinds.specs.declared.plan.PairPlan.{PairPlan}
 use Rattle.step_kinds.specs.declared.steps.Label.{Label}
 use Rattle.step_kinds.specs.declared.steps.Label.TheVariants.{Chunk, Len, Ver, Flag, Down, Bell, Index, Pad, Raw}
 use Rattle.byte_model.specs.Addresses.{own_header}
 use Rattle.byte_model.specs.Headers.{flags_offset}
-use Rattle.byte_model.specs.RingWrites.{WindowWrite, entry_write, index_write}
+use Rattle.byte_model.specs.RingWrites.{WindowWrite, index_write}
 use Rattle.host_memory.specs.Memory.{ArePromised}
 use Rattle.lane_model.specs.Lane.{Entry, GoesDown}
 use Rattle.lane_model.specs.Tests.{is_cleared, is_copied, is_copying, is_empty_list, is_idle}
 use Rattle.lane_model.specs.declared.Phase.{Phase}
 use Rattle.lane_model.specs.declared.Phase.TheVariants.{Idle, Copying, Copied, Cleared}
 use Rattle.plan_model.specs.Labels.{labels_of}
-use Rattle.bridge_pair.specs.Bridge.{Bridge, pages_of, with_bytes, with_flight}
-use Rattle.frame_ring.specs.Calls.{after_post, entries_begun, first_label, first_posted, let_go, more_entries, more_parts, next_begun, part_copied, posted_by, rest_of}
-use Rattle.frame_ring.specs.Port.{Left, PortState, Receiving, Sending, is_busy, left_of_entry, unused_of, with_receiving, with_sending, writes_from, writes_left}
-use Rattle.frame_ring.specs.Seen.{HasPages, HasPagesIn, IsLeftReady, IsReadyToLand, entry_at_hand, flags_cleared, reaches, ring_posted, window_posted}
+use Rattle.bridge_pair.specs.Bridge.{Bridge, pages_of, with_bytes}
+use Rattle.frame_ring.specs.Calls.{after_post, first_label, first_posted, let_go, more_entries, more_parts, next_begun, part_copied, posted_by, rest_of}
+use Rattle.frame_ring.specs.Port.{Left, PortState, Receiving, Sending, is_busy, left_of_entry, with_receiving, writes_from}
+use Rattle.frame_ring.specs.Seen.{HasPages, IsLeftReady, IsReadyToLand, entry_at_hand, reaches, ring_posted, window_posted}
 
 -- Receiving
 

@@ -1,5 +1,5 @@
 -- Room that is promised and promises that aren't used go down together.
-use Rattle.std.proofs.Common.{◌≡◌, ◌∙◌, ℕ, suc, ◌+◌, ◌-◌, ◌<◌, ◌≤◌, Bool, true, false, Option, Some, None, List, [], ◌∷◌, ◌++◌, length, refl, sym, ap, subst, arith, if◌then◌else◌}
+use Rattle.std.proofs.Common.{◌≡◌, ◌∙◌, ℕ, ◌+◌, ◌-◌, Bool, true, false, Some, None, List, [], ◌∷◌, length, refl, ap, arith, if◌then◌else◌}
 use Rattle.step_kinds.specs.declared.names.Side.{Side}
 use Rattle.step_kinds.specs.declared.names.Side.TheVariants.{A, B}
 use Rattle.step_kinds.specs.declared.steps.Label.{Label}
@@ -12,9 +12,9 @@ use Rattle.bridge_pair.specs.Bridge.{Bridge, flight_of, with_flight}
 use Rattle.bridge_pair.specs.Calls.{after_post as after_posting}
 use Rattle.bridge_pair.specs.Flights.{Flying, flying_of}
 use Rattle.bridge_pair.specs.Writes.{PostedWrite, bell_write, memory_write}
-use Rattle.frame_ring.specs.Calls.{after_post, first_label, first_posted, let_go, next_begun, posted_by, rest_of}
+use Rattle.frame_ring.specs.Calls.{after_post, first_label, let_go, next_begun, rest_of}
 use Rattle.frame_ring.specs.Outgoing.{IsLabelOf}
-use Rattle.frame_ring.specs.Port.{Left, PortState, Sending, left_of_entry, unused_of, writes_from, writes_left}
+use Rattle.frame_ring.specs.Port.{PortState, Sending, unused_of}
 use Rattle.frame_ring.specs.Seen.{reaches, ring_posted, window_posted}
 use Rattle.frame_ring.proofs.Ready.{lefts, next_keeps}
 

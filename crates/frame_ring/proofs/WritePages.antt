@@ -1,23 +1,21 @@
 -- The pages that writes need, by those of the entries that they are of.
-use Rattle.std.proofs.Common.{◌≡◌, ◌∙◌, ℕ, zero, suc, ◌+◌, ◌-◌, ◌*◌, ◌/◌, ◌<◌, ◌≤◌, ◌==◌, ◌⊎◌, inl, inr, All, Any, Bool, true, false, min, List, [], ◌∷◌, ◌++◌, length, map, take, drop, get_or, refl, sym, ap, subst, arith, if◌then◌else◌}
+use Rattle.std.proofs.Common.{◌≡◌, ◌∙◌, ℕ, zero, suc, ◌+◌, ◌-◌, ◌*◌, ◌/◌, ◌<◌, ◌≤◌, ◌==◌, ◌⊎◌, inl, inr, All, Any, Bool, true, false, min, List, [], ◌∷◌, ◌++◌, length, map, drop, get_or, refl, sym, ap, subst, arith, if◌then◌else◌}
 use Rattle.std.proofs.lemmas.Bool.{cases_lt}
 use Rattle.std.proofs.lemmas.List.{get_or-append-add, get_or-map, get_or_append_left, length-append, length-drop, length-map, length-take}
 use Rattle.std.proofs.lemmas.List.Elements.{All-append}
-use Rattle.step_kinds.specs.declared.names.Side.{Side}
 use Rattle.step_kinds.specs.declared.plan.PairPlan.{PairPlan}
 use Rattle.step_kinds.specs.declared.steps.Label.{Label}
-use Rattle.step_kinds.specs.declared.steps.Label.TheVariants.{Chunk, Len, Ver, Flag, Down, Bell}
-use Rattle.byte_model.specs.Addresses.{peer_address, queue_address}
+use Rattle.step_kinds.specs.declared.steps.Label.TheVariants.{Chunk, Len, Ver, Flag, Down}
+use Rattle.byte_model.specs.Addresses.{queue_address}
 use Rattle.byte_model.specs.Headers.{flags_offset, len_offset, version_bytes, word_bytes}
-use Rattle.byte_model.specs.RingWrites.{WindowWrite, entry_write, header_offset, queue_write, slot_offset}
-use Rattle.host_memory.specs.Memory.{ArePromised, Touches}
-use Rattle.lane_model.specs.Lane.{Entry, Carries, GoesDown, bytes_of, chunk_of, chunk_size, chunks_in, count_from, done, left_of}
+use Rattle.byte_model.specs.RingWrites.{entry_write, header_offset, queue_write, slot_offset}
+use Rattle.host_memory.specs.Memory.{ArePromised}
+use Rattle.lane_model.specs.Lane.{Entry, bytes_of, chunk_of, chunk_size, chunks_in, count_from, done, left_of}
 use Rattle.plan_model.specs.Labels.{labels_of}
-use Rattle.plan_model.specs.Sizes.{agreed_version, header_bytes, layout_of}
-use Rattle.ring_geometry.specs.Geometry.{window_of}
+use Rattle.plan_model.specs.Sizes.{agreed_version, header_bytes}
 use Rattle.frame_ring.specs.Outgoing.{carries_bytes, entry_at}
 use Rattle.frame_ring.specs.Port.{Left, left_of_entry, writes_from}
-use Rattle.frame_ring.specs.Promises.{AreEntriesPromised, IsEntryPromised, IsRangePromised, ReachesPeer, TouchesEntries, TouchesEntry, TouchesRange}
+use Rattle.frame_ring.specs.Promises.{AreEntriesPromised, IsEntryPromised, IsRangePromised, TouchesEntries, TouchesEntry, TouchesRange}
 use Rattle.frame_ring.specs.Rings.{QueueOf}
 use Rattle.frame_ring.specs.Seen.{IsLeftReady, IsReadyToLand, TouchesLeft, TouchesOf, TouchesWrite}
 use Rattle.frame_ring.proofs.Entries.{get_or-count_from, length-count_from}

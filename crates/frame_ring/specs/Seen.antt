@@ -1,5 +1,5 @@
 -- What a call of a port sees of a pair and does to it.
-use Rattle.std.specs.Prelude.{◌≡◌, ℕ, ◌+◌, ◌-◌, ◌<◌, ◌≤◌, true, false, Option, Some, None, List, [], ◌∷◌, length, nat_lt, All, Any, Bool, if◌then◌else◌}
+use Rattle.std.specs.Prelude.{◌≡◌, ℕ, ◌+◌, ◌-◌, ◌≤◌, true, false, Option, Some, None, List, length, nat_lt, All, Any, Bool, if◌then◌else◌}
 use Rattle.step_kinds.specs.Sides.{other_side}
 use Rattle.step_kinds.specs.declared.names.Side.{Side}
 use Rattle.step_kinds.specs.declared.plan.PairPlan.{PairPlan}
@@ -13,12 +13,11 @@ use Rattle.byte_model.specs.Addresses.{own_header}
 use Rattle.byte_model.specs.Headers.{Bytes, flags_offset}
 use Rattle.byte_model.specs.FreshRings.{zeroed_flags}
 use Rattle.byte_model.specs.RingWrites.{WindowWrite, entry_write, index_write, store_of_write}
-use Rattle.byte_model.specs.Stores.{Store, store_at}
 use Rattle.host_memory.specs.Memory.{ArePromised, Touches, bytes_at, written}
 use Rattle.posted_queue.specs.Flight.{given_back, promised}
-use Rattle.bridge_pair.specs.Bridge.{Bridge, bytes_of, pages_of, flight_of, with_bytes, with_flight, with_pages}
+use Rattle.bridge_pair.specs.Bridge.{Bridge, bytes_of, pages_of, flight_of, with_bytes, with_flight}
 use Rattle.bridge_pair.specs.Calls.{after_post as after_posting}
-use Rattle.bridge_pair.specs.Writes.{PostedWrite, memory_write, bell_write}
+use Rattle.bridge_pair.specs.Writes.{memory_write, bell_write}
 use Rattle.frame_ring.specs.Port.{PortState, Left, writes_left, unused_of}
 
 -- the bytes of the two memories

@@ -1,4 +1,4 @@
-use Rattle.std.proofs.Common.{◌≡◌, ◌∙◌, ap, true}
+use Rattle.std.proofs.Common.{◌∙◌, ap}
 use Rattle.ring_geometry.specs.Geometry.{window_of}
 use Rattle.frame_ring.proofs.PostedBytes.{ready_to_post}
 use Rattle.frame_ring.proofs.posting.post_bytes.Goals as goal

@@ -1,9 +1,7 @@
-use Rattle.std.proofs.Common.{◌≡◌, ◌∙◌, true, ap, sym, OnOk}
+use Rattle.std.proofs.Common.{◌∙◌, ap}
 use Rattle.bridge_pair.specs.Bridge.{pages_of}
 use Rattle.host_memory.specs.Memory.{ArePromised}
 use Rattle.step_kinds.specs.Sides.{other_side}
-use Rattle.step_kinds.specs.declared.names.Side.{Side}
-use Rattle.std.proofs.lemmas.Result.{on_ok_weaker}
 use Rattle.frame_ring.specs.Promises.{IsRangePromised, ReachesPeer}
 use Rattle.frame_ring.proofs.EntryPages.{at_offset, lies_inside, ok_map, range_grows, range_promised}
 use Rattle.frame_ring.proofs.promises.promise_bytes.Goals as goal

@@ -1,4 +1,4 @@
-use Rattle.std.proofs.Common.{◌≡◌, ◌∙◌, ap}
+use Rattle.std.proofs.Common.{◌∙◌, ap}
 use Rattle.bridge_pair.specs.Bridge.{pages_of}
 use Rattle.plan_model.specs.Sizes.{header_bytes}
 use Rattle.step_kinds.specs.Sides.{other_side}

@@ -1,10 +1,8 @@
-use Rattle.std.proofs.Common.{◌≡◌, ◌∙◌, ◌+◌, ◌<◌, ℕ, ap, sym, length, arith}
-use Rattle.lane_model.specs.Lane.{bytes_of}
+use Rattle.std.proofs.Common.{◌≡◌, ◌∙◌, ◌+◌, ap, length, arith}
 use Rattle.plan_model.specs.Pieces.{pieces_of}
 use Rattle.plan_model.specs.Sizes.{pieces_in, sizes_of}
 use Rattle.ring_geometry.specs.Geometry.{max_payload_of}
 use Rattle.step_kinds.specs.Sides.{other_side}
-use Rattle.bridge_pair.specs.Bridge.{pages_of}
 use Rattle.bridge_pair.proofs.Sides.{pages_again}
 use Rattle.frame_ring.proofs.Entries.{length-pieces_of}
 use Rattle.frame_ring.proofs.EntryPages.{entries_grow, entries_promised, piece_length}

@@ -1,4 +1,4 @@
-use Rattle.std.proofs.Common.{◌≡◌, ◌∙◌, ◌*◌, ◌<◌, ap, sym, length, take, drop, arith}
+use Rattle.std.proofs.Common.{◌∙◌, ◌*◌, ap, sym, length, take, drop, arith}
 use Rattle.lane_model.specs.Lane.{bytes_of}
 use Rattle.plan_model.specs.Sizes.{pieces_in}
 use Rattle.frame_ring.specs.Outgoing.{entries_under, entry_at}

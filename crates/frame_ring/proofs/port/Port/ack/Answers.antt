@@ -1,4 +1,4 @@
-use Rattle.std.proofs.Common.{◌≡◌, ◌∙◌, ap, sym, subst}
+use Rattle.std.proofs.Common.{◌∙◌, ap, sym, subst}
 use Rattle.byte_model.specs.RingWrites.{index_write}
 use Rattle.lane_model.specs.Tests.{is_cleared}
 use Rattle.step_kinds.specs.Sides.{other_side}

@@ -1,16 +1,15 @@
-use Rattle.std.proofs.Common.{◌≡◌, ◌∙◌, ◌+◌, ◌-◌, ℕ, [], ◌∷◌, false, length, refl, ap, sym, subst}
-use Rattle.ring_geometry.specs.Geometry.{max_payload_of}
+use Rattle.std.proofs.Common.{◌≡◌, ◌∙◌, [], ◌∷◌, false, refl, ap, sym, subst}
 use Rattle.step_kinds.specs.Sides.{other_side}
 use Rattle.step_kinds.specs.declared.names.Side.{Side}
-use Rattle.bridge_pair.specs.Bridge.{Bridge, flight_of, pages_of, with_flight, with_pages}
+use Rattle.bridge_pair.specs.Bridge.{Bridge, flight_of, pages_of, with_flight}
 use Rattle.bridge_pair.specs.Pages.{PagesGrow}
 use Rattle.posted_queue.specs.Flight.{promised}
-use Rattle.frame_ring.specs.Calls.{down_begun, frame_begun, sizes_seen}
-use Rattle.frame_ring.specs.Port.{PortState, Sending, is_busy, unused_of, with_sending, writes_left}
+use Rattle.frame_ring.specs.Calls.{down_begun}
+use Rattle.frame_ring.specs.Port.{PortState, Sending, is_busy, with_sending, writes_left}
 use Rattle.frame_ring.specs.Ports.{port_seen}
 use Rattle.frame_ring.specs.Seen.{HasPagesIn, TouchesLeft, with_room}
 use Rattle.lane_model.specs.Lane.{GoesDown}
-use Rattle.frame_ring.proofs.Beginning.{begins_pages, begins_ready, begins_rest, down_begins, down_grows, down_sent}
+use Rattle.frame_ring.proofs.Beginning.{begins_pages, begins_ready, down_begins, down_grows, down_sent}
 use Rattle.frame_ring.proofs.port.Port.begin_down.Goals as goal
 
 pub returns-in_err-promise_entry-clause-pages : goal.returns-in_err-promise_entry-clause-pages

@@ -1,4 +1,4 @@
-use Rattle.std.proofs.Common.{◌≡◌, ◌∙◌, ◌+◌, ℕ, List, ap, sym, subst}
+use Rattle.std.proofs.Common.{◌∙◌, ◌+◌, ap, sym, subst}
 use Rattle.byte_model.specs.Addresses.{own_header}
 use Rattle.byte_model.specs.Headers.{flags_offset}
 use Rattle.host_memory.specs.Memory.{ArePromised}

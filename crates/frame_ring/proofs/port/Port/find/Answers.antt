@@ -1,22 +1,21 @@
-use Rattle.std.proofs.Common.{◌≡◌, ◌∙◌, ◌+◌, ℕ, List, OnErr, OnOk, ap, sym, subst}
+use Rattle.std.proofs.Common.{◌≡◌, ◌∙◌, ◌+◌, OnOk, ap, sym, subst}
 use Rattle.byte_model.specs.Addresses.{own_header}
 use Rattle.byte_model.specs.Headers.{flags_offset}
 use Rattle.byte_model.specs.RingWrites.{index_write}
 use Rattle.host_memory.specs.Memory.{ArePromised}
 use Rattle.lane_model.specs.declared.Phase.TheVariants.{Copying}
-use Rattle.posted_queue.specs.Flight.{promised}
 use Rattle.step_kinds.specs.Sides.{other_side}
 use Rattle.step_kinds.specs.declared.names.Side.{Side}
-use Rattle.bridge_pair.specs.Bridge.{Bridge, flight_of, pages_of, with_flight}
+use Rattle.bridge_pair.specs.Bridge.{Bridge, pages_of}
 use Rattle.bridge_pair.specs.Pages.{PagesGrow}
 use Rattle.plan_model.specs.Sizes.{layout_of}
 use Rattle.ring_geometry.specs.Geometry.{index_of}
 use Rattle.frame_ring.specs.Port.{PortState, Receiving, with_receiving}
 use Rattle.frame_ring.specs.Ports.{port_seen}
 use Rattle.frame_ring.specs.Promises.{TouchesRange}
-use Rattle.frame_ring.specs.Seen.{HasPages, HasPagesIn, TouchesWrite, with_room}
+use Rattle.frame_ring.specs.Seen.{HasPagesIn, TouchesWrite, with_room}
 use Rattle.frame_ring.proofs.EntryPages.{ok_map}
-use Rattle.frame_ring.proofs.Finding.{either_pages, found_ready, peer_pages, side_pages}
+use Rattle.frame_ring.proofs.Finding.{either_pages, found_ready, peer_pages}
 use Rattle.frame_ring.proofs.port.Port.find.Goals as goal
 
 pub returns-in_err-promise_index_word-clause-pages : goal.returns-in_err-promise_index_word-clause-pages

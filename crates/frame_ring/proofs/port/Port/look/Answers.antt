@@ -1,4 +1,4 @@
-use Rattle.std.proofs.Common.{◌≡◌, ◌∙◌, ◌+◌, ◌≤◌, true, length, ap, sym, subst, arith}
+use Rattle.std.proofs.Common.{◌≡◌, ◌∙◌, ◌+◌, ◌≤◌, true, length, ap, sym, subst}
 use Rattle.byte_model.specs.Headers.{found_with, header_in}
 use Rattle.lane_model.specs.Tests.{is_idle}
 use Rattle.plan_model.specs.Sizes.{layout_to, sizes_in}

@@ -1,7 +1,7 @@
-use Rattle.std.proofs.Common.{◌≡◌, ◌∙◌, ◌+◌, ◌≤◌, ℕ, List, Option, Some, None, ap, sym, subst, arith}
+use Rattle.std.proofs.Common.{◌≡◌, ◌∙◌, ◌+◌, ◌≤◌, ℕ, Some, ap, sym, subst, arith}
 use Rattle.step_kinds.specs.Sides.{other_side}
 use Rattle.bridge_pair.specs.Bridge.{Bridge, flight_of, pages_of}
-use Rattle.frame_ring.specs.Calls.{after_post, first_label, first_posted, let_go, next_begun, posted_by, rest_of}
+use Rattle.frame_ring.specs.Calls.{after_post, first_label, let_go, next_begun, posted_by, rest_of}
 use Rattle.frame_ring.specs.Outgoing.{Outgoing, with_progress}
 use Rattle.frame_ring.specs.Port.{PortState, Sending, unused_of, with_sending}
 use Rattle.frame_ring.specs.Ports.{port_seen}

@@ -1,4 +1,4 @@
-use Rattle.std.proofs.Common.{◌≡◌, ◌∙◌, ◌+◌, ◌<◌, ◌≤◌, ap, sym, arith, length}
+use Rattle.std.proofs.Common.{◌∙◌, ◌+◌, ◌<◌, ◌≤◌, ap, sym, arith, length}
 use Rattle.frame_ring.specs.Calls.{next_begun}
 use Rattle.frame_ring.specs.Outgoing.{Outgoing, entries_under, entry_at, sender_seen, with_progress, writes_in}
 use Rattle.frame_ring.proofs.Progress.{next_moves, next_stays}

@@ -1,4 +1,4 @@
-use Rattle.std.proofs.Common.{◌≡◌, ◌∙◌, ◌+◌, ◌<◌, ◌≤◌, ap, sym, subst, arith, length}
+use Rattle.std.proofs.Common.{◌≡◌, ◌∙◌, ◌+◌, ◌≤◌, ap, sym, subst, arith, length}
 use Rattle.plan_model.specs.Pieces.{pieces_of}
 use Rattle.plan_model.specs.Sizes.{pieces_in}
 use Rattle.frame_ring.specs.Calls.{entries_begun}

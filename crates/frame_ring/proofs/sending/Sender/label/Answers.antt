@@ -1,7 +1,7 @@
 use Rattle.std.proofs.Common.{◌≡◌, ◌∙◌, ◌-◌, ◌<◌, ap, arith, length}
 use Rattle.lane_model.specs.Lane.{bytes_of, chunks_in}
 use Rattle.frame_ring.specs.Calls.{first_label}
-use Rattle.frame_ring.specs.Outgoing.{Outgoing, carries_bytes, entries_under, entry_at, label_by}
+use Rattle.frame_ring.specs.Outgoing.{Outgoing, entries_under, entry_at, label_by}
 use Rattle.frame_ring.proofs.Entries.{carries_is}
 use Rattle.frame_ring.proofs.NextLabel.{next_label}
 use Rattle.frame_ring.proofs.sending.Sender.label.Goals as goal

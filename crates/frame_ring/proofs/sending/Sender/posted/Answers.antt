@@ -1,7 +1,7 @@
-use Rattle.std.proofs.Common.{◌≡◌, ◌∙◌, ◌+◌, ◌-◌, ◌<◌, ◌≤◌, true, ap, subst, sym, arith, length, drop}
+use Rattle.std.proofs.Common.{◌≡◌, ◌∙◌, ◌-◌, ◌<◌, ◌≤◌, true, ap, subst, sym, arith, length}
 use Rattle.lane_model.specs.Tests.{is_empty_list}
 use Rattle.frame_ring.specs.Calls.{let_go, rest_of}
-use Rattle.frame_ring.specs.Outgoing.{IsSender, Outgoing, all_writes_in, entries_under, entry_at, sender_seen, with_progress, writes_in}
+use Rattle.frame_ring.specs.Outgoing.{IsSender, Outgoing, entries_under, entry_at, sender_seen, with_progress, writes_in}
 use Rattle.frame_ring.specs.Port.{Sending}
 use Rattle.frame_ring.specs.declared.sending.Sender.TheInside.{Inside}
 use Rattle.frame_ring.proofs.Entries.{few_writes}
