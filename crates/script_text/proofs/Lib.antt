@@ -1,9 +1,2 @@
-pub mod Classes
-pub mod Floods
-pub mod HexWords
-pub mod Keys
 pub mod LongLines
-pub mod NameNumbers
-pub mod Numbers
-pub mod Posts
-pub mod Repeats
+pub mod Splits

@@ -1,8 +1,8 @@
 -- A line with more words than any step takes.
 use Rattle.std.proofs.Common.{◌≡◌, ℕ, ◌≤◌, List, [], ◌∷◌, length, Err, refl, arith}
-use Rattle.script_text.specs.Before.{Before}
-use Rattle.script_text.specs.StepLines.{step_line}
-use Rattle.script_text.specs.declared.fault.Cause.TheVariants.{UnknownWord}
+use Rattle.script_words.specs.Before.{Before}
+use Rattle.script_words.specs.StepLines.{step_line}
+use Rattle.script_words.specs.declared.fault.Cause.TheVariants.{UnknownWord}
 
 pub step_line_long : (before : Before) (word : List ℕ) (words : List (List ℕ)) → 6 ≤ length words → step_line before word words ≡ Err UnknownWord
 step_line_long before word [] h = absurd (omega arith)

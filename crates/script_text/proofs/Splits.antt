@@ -2,7 +2,7 @@
 use Rattle.std.proofs.Common.{◌≡◌, ℕ, zero, suc, ◌+◌, ◌<◌, ◌≤◌, ◌==◌, Bool, true, false, cond, List, [], ◌∷◌, ◌++◌, length, map, filter, get_or, take, drop, refl, sym, ◌∙◌, ap, add-one, drop-cons, append_assoc, arith}
 use Rattle.std.proofs.Math.Seq.{take-suc}
 use Rattle.std.specs.List.{slice_split, onto_first}
-use Rattle.script_text.specs.Words.{is_filled}
+use Rattle.script_words.specs.Words.{is_filled}
 
 -- the parts of a list whose front has no element that passes
 abbrev pub with_front : List ℕ → List (List ℕ) → List (List ℕ)

@@ -1,15 +1,1 @@
-pub mod Before
-pub mod Compact
-pub mod Counts
-pub mod Declarations
-pub mod NamesMatch
-pub mod Reads
 pub mod Script
-pub mod Seen
-pub mod Settings
-pub mod Sound
-pub mod StepLines
-pub mod StepWords
-pub mod Tests
-pub mod TrafficLines
-pub mod Words

@@ -3,7 +3,7 @@
 ghost use Rattle.std.specs.Prelude.{◌≡◌, ◌∷◌, ◌==◌, ◌<◌, [], length, map, IfOk, IfSome};
 ghost use Rattle.std.specs.List.{slice_split};
 ghost use Rattle.std.specs.Option.{option_map_or};
-ghost use Rattle.script_text.specs.Words as spelled;
+ghost use Rattle.script_words.specs.Words as spelled;
 
 use std::alloc::{AllocError, Global};
 

@@ -1,17 +1,18 @@
 //! A script, line by line.
-#![tactic(auto, unfolding(crate::specs::Tests::and_then))]
+#![tactic(auto, unfolding(script_words::specs::Tests::and_then))]
 
 ghost use Rattle.std.specs.Prelude.{◌≡◌, ◌≤◌, ◌+◌, length, map};
-ghost use Rattle.script_text.specs.Compact.{given_of};
-ghost use Rattle.script_text.specs.Reads.{Reads, ReadsScript, result_map};
+ghost use Rattle.script_words.specs.Compact.{given_of};
+ghost use Rattle.script_words.specs.Reads.{Reads, ReadsScript, result_map};
 ghost use Rattle.script_text.specs.Script as rules;
 
 use crate::declarations::declaration_line;
-use crate::fault::{Cause, LineError, ParseError, ScriptFault};
-use crate::given::Given;
+use crate::error::ParseError;
+use script_words::{Cause, LineError, ScriptFault};
+use script_words::Given;
 use crate::lines::{cut, is_skipped, is_text, without_return, words_of};
-use crate::parts::Part;
-use crate::reader::Reader;
+use script_words::Part;
+use script_plan::Reader;
 use crate::step_lines::step_line;
 use crate::traffic_lines::traffic_line;
 use std::alloc::Global;

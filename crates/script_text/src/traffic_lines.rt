@@ -1,22 +1,22 @@
 //! Lines of traffic: frames that a threaded run sends, and losses of a link beside them.
-#![tactic(auto, unfolding(crate::specs::Tests::and_then))]
+#![tactic(auto, unfolding(script_words::specs::Tests::and_then))]
 
 ghost use Rattle.std.specs.Prelude.{◌≡◌, ◌<◌, ◌≤◌, ◌*◌, length, map, sum, List, Ok, OnOk};
 ghost use Rattle.step_kinds.specs.declared.plan.Traffic.{Traffic};
 ghost use Rattle.plan_model.specs.Plans.{side_plan, pair_plan};
 ghost use Rattle.plan_model.specs.TrafficPlans.{frames_in, bytes_in};
-ghost use Rattle.script_text.specs.Before.{MoreTraffic};
-ghost use Rattle.script_text.specs.Compact.{given_of};
-ghost use Rattle.script_text.specs.Reads.{Reads, result_map};
-ghost use Rattle.script_text.specs.TrafficLines as rules;
+ghost use Rattle.script_words.specs.Before.{MoreTraffic};
+ghost use Rattle.script_words.specs.Compact.{given_of};
+ghost use Rattle.script_words.specs.Reads.{Reads, result_map};
+ghost use Rattle.script_words.specs.TrafficLines as rules;
 
-use crate::fault::{Cause, LineError};
-use crate::given::Given;
+use script_words::{Cause, LineError};
+use script_words::Given;
 use crate::lookups::{read_pair, read_queue};
-use crate::options::agrees;
-use crate::reader::Reader;
-use crate::rings::ring_of;
-use crate::words::{read_bytes, read_number_between, read_side};
+use script_words::options::agrees;
+use script_plan::Reader;
+use script_plan::rings::ring_of;
+use script_words::words::{read_bytes, read_number_between, read_side};
 use std::alloc::Global;
 use step_kinds::limits::{MOST_BREAKS, MOST_TRAFFIC_ENTRIES};
 use step_kinds::{Frame, LaneName, PairPlan};

@@ -1,7 +1,7 @@
 use Rattle.std.proofs.Common.{◌≡◌, ◌++◌, ◌+◌, ◌==◌, [], map, filter, length}
 use Rattle.std.specs.List.{slice_split}
 use Rattle.std.specs.Option.{option_map_or}
-use Rattle.script_text.specs.Words as spelled
+use Rattle.script_words.specs.Words as spelled
 use Rattle.script_text.proofs.lines.words_of.Given as goal
 
 abbrev pub invariant-loop-text : goal.invariant-loop-text

@@ -1,0 +1,4 @@
+pub mod HexWords
+pub mod Keys
+pub mod Numbers
+pub mod PairFits

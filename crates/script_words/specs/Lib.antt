@@ -1,0 +1,10 @@
+pub mod Before
+pub mod Compact
+pub mod Declarations
+pub mod Reads
+pub mod Settings
+pub mod StepLines
+pub mod StepWords
+pub mod Tests
+pub mod TrafficLines
+pub mod Words
