@@ -9,9 +9,10 @@ use Rattle.script_words.specs.Compact.{steps_of}
 use Rattle.script_words.specs.declared.given.Given.{Given}
 use Rattle.script_words.specs.declared.given.Given.TheVariants.{Nothing, Host, Pair, Device, Class, StepsBegin, TrafficBegins, Steps, Frame, Flood, Break}
 
--- the pairs and devices are as a script can declare them, and the steps are few
+-- the pairs and devices are as a script can declare them, and pairs and steps are few
 pub record IsSound (before : Before) : Type 0 where
   pub pairs : All IsPair before.plan.pairs
+  pub few_pairs : length before.plan.pairs ≤ most_pairs
   pub devices : All (IsDevice before.plan) before.plan.devs
   pub few_steps : length before.plan.steps ≤ most_steps
 
@@ -28,7 +29,7 @@ Suits before (Steps steps) = length before.plan.steps + length (steps_of steps) 
 Suits before (Frame lane frame) =
     (sum (map frames_in before.plan.traffic) + 1 ≤ most_traffic_frames) × (sum (map bytes_in before.plan.traffic) + length frame ≤ most_traffic_bytes)
 Suits before (Flood lane count len) =
-    (len ≤ 65536)
+    (0 < count → len ≤ 65536)
     × (sum (map frames_in before.plan.traffic) + count ≤ most_traffic_frames)
     × (sum (map bytes_in before.plan.traffic) + count * len ≤ most_traffic_bytes)
 Suits before (Break pair) = (pair < 16) × (count_by (is_break_of pair) before.plan.traffic < most_breaks)

@@ -65,7 +65,7 @@ fn writes_in(len: u32) -> u32
     len.div_ceil(128) + 4
 }
 
-/// How many entries of so many bytes a frame takes.
+/// How many entries of so many bytes a frame takes: one at least.
 fn pieces_in(largest: u32, len: u32) -> u32
     requires some { 0 < largest }
     requires small { largest ≤ 65536 }
@@ -73,7 +73,7 @@ fn pieces_in(largest: u32, len: u32) -> u32
     ensures value { result ≡ pieces_in largest len }
     ensures few { result ≤ 2 ^ 17 }
 {
-    (len + largest - 1) / largest
+    ((len + largest - 1) / largest).max(1)
 }
 
 /// How many writes a frame of so many bytes has.
@@ -90,7 +90,7 @@ pub fn posts_in(pair: &PairPlan, side: Side, queue: u32, len: u32) -> u32
     let largest = ring_of(pair, side, queue).max_payload();
     let mut posts = 0;
     for piece in 0..pieces_in(largest, len) {
-        posts += writes_in(largest.min(len - largest * piece));
+        posts += writes_in(largest.min(len.saturating_sub(largest * piece)));
     }
     posts
 }

@@ -117,7 +117,7 @@ impl TrafficList {
         count: u32,
         len: u32,
     ) -> Result<TrafficList, AllocError>
-        requires len { len ≤ 65536 }
+        requires len { 0 < count → len ≤ 65536 }
         requires frames { sum (map frames_in self) + count ≤ most_traffic_frames }
         requires bytes { sum (map bytes_in self) + count * len ≤ most_traffic_bytes }
         ensures { IfOk result (λ more. more ≡ self ++ flood_of lane count len) }

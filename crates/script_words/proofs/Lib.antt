@@ -1,4 +1,3 @@
 pub mod HexWords
 pub mod Keys
 pub mod Numbers
-pub mod PairFits

@@ -9,7 +9,7 @@ pub loop-piece-preserved : goal.loop-piece-preserved
 loop-piece-preserved c =
     let f : ℕ → ℕ = λ k. chunks_in (min c.max_payload-largest.result (c.args.len - c.max_payload-largest.result * k)) + 4 in
     let more = sum_counted_more f c.loop-piece.piece in
-    let w : c.writes_in-posts.result ≡ f c.loop-piece.piece = c.writes_in-posts.ensures.value ∙ ap (λ n. chunks_in n + 4) c.min.ensures in
+    let w : c.writes_in-posts.result ≡ f c.loop-piece.piece = c.writes_in-posts.ensures.value ∙ ap (λ n. chunks_in n + 4) (c.min.ensures ∙ ap (min c.max_payload-largest.result) c.saturating_sub.ensures) in
     record { counted = ap (λ n. n + c.writes_in-posts.result) c.loop-piece.invariant.counted ∙ (ap (λ n. sum (map f (count_from 0 c.loop-piece.piece)) + n) w ∙ sym more); few = omega arith }
 
 pub returns-clause-value : goal.returns-clause-value
