@@ -1,2 +1,3 @@
 pub mod LongLines
+pub mod Returns
 pub mod Splits

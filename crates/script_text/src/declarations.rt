@@ -7,14 +7,12 @@ ghost use Rattle.script_words.specs.Declarations as rules;
 ghost use Rattle.script_words.specs.Reads.{Reads, result_map};
 ghost use Rattle.script_words.specs.Words.{hex_of};
 
-use script_words::{Cause, LineError};
-use script_words::Given;
 use crate::lookups::{new_device, new_host, new_pair, read_host, read_pair, read_queue};
-use script_words::options::{goes_together, pair_with, read_settings};
-use script_words::QueueName;
 use script_plan::Reader;
+use script_words::options::{goes_together, pair_with, read_settings};
 use script_words::settings::behind_key;
 use script_words::words::{read_array, read_number, read_number_between, read_side};
+use script_words::{Cause, Given, LineError, QueueName};
 use std::alloc::Global;
 use step_kinds::DevPlan;
 use step_kinds::limits::{MOST_DEVICES, MOST_HOSTS, MOST_PAIRS};

@@ -10,4 +10,5 @@ mod step_lines;
 mod traffic_lines;
 
 pub use error::ParseError;
+pub use script::parse;
 pub use script_words::{Cause, ScriptFault};

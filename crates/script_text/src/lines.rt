@@ -24,9 +24,14 @@ pub fn cut(text: &[u8], at: u8) -> (&[u8], Option<&[u8]>)
 pub fn without_return(line: &[u8]) -> &[u8]
     ensures { result.now ≡ spelled.without_return line.now }
 {
-    match line {
-        [front @ .., b'\r'] => front,
-        _ => line,
+    if line.is_empty() {
+        return line;
+    }
+    let last = line.len() - 1;
+    if line[last] == b'\r' {
+        &line[..last]
+    } else {
+        line
     }
 }
 

@@ -6,9 +6,9 @@ ghost use Rattle.plan_model.specs.Plans.{side_plan, pair_plan, dev_plan};
 ghost use Rattle.script_words.specs.Before.{pair_word, dev_word, queue_word, has_name, pair_names, dev_names};
 ghost use Rattle.script_words.specs.Declarations.{host_word, new_name};
 
-use script_words::Cause;
 use script_plan::Reader;
 use script_plan::rings::side_of;
+use script_words::Cause;
 use script_words::words::{read_name, read_number};
 use step_kinds::{Name, Side};
 

@@ -10,10 +10,7 @@ ghost use Rattle.script_words.specs.Reads.{Reads, result_map};
 ghost use Rattle.script_words.specs.StepLines as rules;
 ghost use Rattle.script_words.specs.StepWords.{pair_step_of, side_steps_of, queue_steps_of, numbered_of, frame_steps_of};
 
-use script_words::{Cause, LineError};
-use script_words::Given;
 use crate::lookups::{read_device, read_pair, read_queue};
-use script_words::{Macro, Repeated};
 use script_plan::Reader;
 use script_plan::rings::{posts_in, side_of};
 use script_words::step_words::{
@@ -23,6 +20,7 @@ use script_words::step_words::{
 use script_words::words::{
     read_array, read_bytes, read_kind, read_number, read_number_between, read_side,
 };
+use script_words::{Cause, Given, LineError, Macro, Repeated};
 use std::alloc::Global;
 use step_kinds::limits::{MOST_FRAME_BYTES, MOST_STEPS};
 use step_kinds::{Frame, PairPlan, Side, Step};

@@ -1,0 +1,15 @@
+use Rattle.std.proofs.Common.{◌≡◌, ◌+◌, ◌≤◌, [], length}
+use Rattle.std.specs.Option.{option_map_or}
+use Rattle.script_words.specs.Before.{nothing_before}
+use Rattle.script_words.specs.Words.{lines_of}
+use Rattle.script_text.specs.Script.{read_lines}
+use Rattle.script_text.proofs.script.parse.Given as goal
+
+abbrev pub invariant-loop-text : goal.invariant-loop-text
+invariant-loop-text l = record {
+  read : read_lines 1 nothing_before (lines_of l.bytes) ≡ read_lines l.number l.before (option_map_or (λ text. lines_of text.now) l.rest []);
+  counted : l.number + option_map_or (λ text. length text.now + 1) l.rest 0 ≤ length l.bytes + 2;
+}
+
+abbrev pub decreases-loop-text : goal.decreases-loop-text
+decreases-loop-text l = option_map_or (λ text. length text.now + 1) l.rest 0
