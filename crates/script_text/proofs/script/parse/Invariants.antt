@@ -5,11 +5,11 @@ use Rattle.script_words.specs.Words.{lines_of}
 use Rattle.script_text.specs.Script.{read_lines}
 use Rattle.script_text.proofs.script.parse.Given as goal
 
-abbrev pub invariant-loop-text : goal.invariant-loop-text
-invariant-loop-text l = record {
+abbrev pub invariant-loop-rest : goal.invariant-loop-text
+invariant-loop-rest l = record {
   read : read_lines 1 nothing_before (lines_of l.bytes) ≡ read_lines l.number l.before (option_map_or (λ text. lines_of text.now) l.rest []);
   counted : l.number + option_map_or (λ text. length text.now + 1) l.rest 0 ≤ length l.bytes + 2;
 }
 
-abbrev pub decreases-loop-text : goal.decreases-loop-text
-decreases-loop-text l = option_map_or (λ text. length text.now + 1) l.rest 0
+abbrev pub decreases-loop-rest : goal.decreases-loop-text
+decreases-loop-rest l = option_map_or (λ text. length text.now + 1) l.rest 0

@@ -1,0 +1,5 @@
+use Rattle.script_text.proofs.DeclarationFits.{declaration_fits}
+use Rattle.script_text.proofs.script.with_line.Goals as goal
+
+pub with-requires : goal.with-requires
+with-requires c = ?
