@@ -5,4 +5,6 @@ pub mod LongLines
 pub mod PairFits
 pub mod Returns
 pub mod Splits
+pub mod StepFits
+pub mod TrafficFits
 pub mod WordFacts
