@@ -45,7 +45,7 @@ sum-same f made v same from (suc n) =
     let whole = suc-mul n v in
     omega arith
 
-sum-map-append : (f : Traffic → ℕ) (xs ys : List Traffic) → sum (map f (xs ++ ys)) ≡ sum (map f xs) + sum (map f ys)
+pub sum-map-append : (f : Traffic → ℕ) (xs ys : List Traffic) → sum (map f (xs ++ ys)) ≡ sum (map f xs) + sum (map f ys)
 sum-map-append f xs ys = ap sum (map-append f xs ys) ∙ sum_by-append (λ y. y) (map f xs) (map f ys)
 
 pub flood_frames : (lane : LaneName) (count len : ℕ) → sum (map frames_in (flood_of lane count len)) ≡ count

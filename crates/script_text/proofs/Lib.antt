@@ -1,10 +1,12 @@
 pub mod DeclarationFits
 pub mod Fits
 pub mod Gives
+pub mod LinesRead
 pub mod LongLines
 pub mod PairFits
 pub mod Returns
 pub mod Splits
 pub mod StepFits
 pub mod TrafficFits
+pub mod Whole
 pub mod WordFacts

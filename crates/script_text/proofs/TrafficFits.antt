@@ -43,7 +43,7 @@ no_breaks pair made none from zero = refl
 no_breaks pair made none from (suc n) =
     let first = sum_by-cons (λ x. cond (is_break_of pair x) 1 0) (made from) (map made (count_from (suc from) n)) in
     let rest : count_by (is_break_of pair) (map made (count_from (suc from) n)) ≡ 0 = no_breaks pair made none (suc from) n in
-    let here : cond (is_break_of pair (made from)) 1 0 ≡ 0 = rw (none from) refl in
+    let here : cond {A = ℕ} (is_break_of pair (made from)) 1 0 ≡ 0 = rw (none from) refl in
     omega arith
 
 one_break : (pair other : ℕ) → count_by (is_break_of other) (Break pair ∷ []) ≡ cond (pair == other) 1 0

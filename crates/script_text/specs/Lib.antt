@@ -1,2 +1,4 @@
+pub mod Held
+pub mod Laws
 pub mod Parsed
 pub mod Script

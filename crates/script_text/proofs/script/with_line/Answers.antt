@@ -1,5 +1,4 @@
-use Rattle.script_text.proofs.StepFits.{step_fits}
-use Rattle.script_text.proofs.TrafficFits.{traffic_fits}
+use Rattle.script_text.proofs.Whole.{plan_is_whole}
 use Rattle.script_text.proofs.script.with_line.Goals as goal
 
 pub with-requires : goal.with-requires
