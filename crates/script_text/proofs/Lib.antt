@@ -7,6 +7,7 @@ pub mod PairFits
 pub mod Returns
 pub mod Splits
 pub mod StepFits
+pub mod Suiting
 pub mod TrafficFits
 pub mod Whole
 pub mod WordFacts

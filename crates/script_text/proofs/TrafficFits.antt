@@ -46,7 +46,7 @@ no_breaks pair made none from (suc n) =
     let here : cond {A = ℕ} (is_break_of pair (made from)) 1 0 ≡ 0 = rw (none from) refl in
     omega arith
 
-one_break : (pair other : ℕ) → count_by (is_break_of other) (Break pair ∷ []) ≡ cond (pair == other) 1 0
+pub one_break : (pair other : ℕ) → count_by (is_break_of other) (Break pair ∷ []) ≡ cond (pair == other) 1 0
 one_break pair other = omega arith
 
 break_within : (items : List Traffic) (pair other : ℕ) → count_by (is_break_of pair) items < most_breaks → count_by (is_break_of other) items ≤ most_breaks

@@ -3,6 +3,7 @@
 
 mod declarations;
 mod error;
+pub mod laws;
 mod lines;
 mod lookups;
 mod script;

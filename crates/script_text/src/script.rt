@@ -5,6 +5,7 @@ ghost use Rattle.std.specs.Prelude.{◌≡◌, ◌≤◌, ◌+◌, ◌^◌, ◌<
 ghost use Rattle.step_kinds.specs.Limits.{most_script_bytes};
 ghost use Rattle.script_words.specs.Compact.{given_of};
 ghost use Rattle.script_words.specs.Reads.{Reads, result_map};
+ghost use Rattle.script_text.specs.Held.{Held};
 ghost use Rattle.script_text.specs.Parsed.{Parses, after_line};
 ghost use Rattle.script_text.specs.Script as rules;
 
@@ -75,6 +76,7 @@ fn line_gives(alloc: Global, number: u32, before: &Reader, line: &[u8]) -> Resul
 
 /// The lines so far with line `number`.
 fn with_line(alloc: Global, number: u32, before: Reader, line: &[u8]) -> Result<Reader, ParseError>
+    requires { Held before }
     ensures { Parses result (after_line number before (rules.line_gives number before line.now)) }
 {
     match line_gives(alloc, number, &before, line) {
