@@ -33,9 +33,9 @@ all_and_one test (first ∷ settings) setting all h = by (test first) all (all_a
 setting_in_range : (settings : List Setting) (word : List ℕ) → list_all in_range settings ≡ true → Gives (λ more. list_all in_range more ≡ true) (with_setting settings word)
 setting_in_range settings word all =
     gives_then _ _ _ (gives_any (setting_word word)) (λ setting _.
-      gives_then _ _ _ (gives_passed (list_any (same_setting setting) settings) Repeated) (λ _ _.
-        gives_then _ _ _ (gives_passed (not (in_range setting)) BadGeometry) (λ _ e.
-          gives_ok _ (settings ++ setting ∷ []) (all_and_one in_range settings setting all (not-false (in_range setting) e)))))
+    gives_then _ _ _ (gives_passed (list_any (same_setting setting) settings) Repeated) (λ _ _.
+    gives_then _ _ _ (gives_passed (not (in_range setting)) BadGeometry) (λ _ e.
+    gives_ok _ (settings ++ setting ∷ []) (all_and_one in_range settings setting all (not-false (in_range setting) e)))))
 
 settings_in_range : (settings : List Setting) (words : List (List ℕ)) → list_all in_range settings ≡ true → Gives (λ more. list_all in_range more ≡ true) (settings_from settings words)
 settings_in_range settings [] all = gives_ok _ settings all
@@ -44,65 +44,65 @@ settings_in_range settings (word ∷ words) all = gives_then _ _ _ (setting_in_r
 threshold_within : (key word : List ℕ) → Gives (λ k. k ≤ 65535) (threshold_word key word)
 threshold_within key word =
     gives_then _ _ _ (gives_any (found_or (behind key word) UnknownWord)) (λ digits _.
-      gives_then _ _ _ (gives_any (number_word digits)) (λ number _.
-        gives_then _ _ _ (gives_passed (nat_lt 65535 number) BadGeometry) (λ _ e. gives_ok _ number (ltb-false 65535 number e))))
+    gives_then _ _ _ (gives_any (number_word digits)) (λ number _.
+    gives_then _ _ _ (gives_passed (nat_lt 65535 number) BadGeometry) (λ _ e. gives_ok _ number (ltb-false 65535 number e))))
 
 module _ (before : Before) (part : before.part ≡ Declarations) where
   host_fits : (word : List ℕ) → Gives (Fits before) (host_line before word)
   host_fits word =
       gives_then _ _ _ (name_is_new before.hosts word) (λ name is_new.
-        gives_then _ _ _ (gives_passed (not (nat_lt (length before.hosts) most_hosts)) TooMany) (λ _ e.
-          gives_ok (Fits before) (Host name) (record { is_new = is_new; few = below (length before.hosts) most_hosts e })))
+      gives_then _ _ _ (gives_passed (not (nat_lt (length before.hosts) most_hosts)) TooMany) (λ _ e.
+      gives_ok (Fits before) (Host name) (record { is_new = is_new; few = below (length before.hosts) most_hosts e })))
 
   pair_line_fits : (word host_a host_b : List ℕ) (options : List (List ℕ)) → Gives (Fits before) (pair_line before word host_a host_b options)
   pair_line_fits word host_a host_b options =
       gives_then _ _ _ (name_is_new (pair_names before) word) (λ name is_new.
-        gives_then _ _ _ (gives_any (host_word before host_a)) (λ a _.
-          gives_then _ _ _ (gives_any (host_word before host_b)) (λ b _.
-            gives_then _ _ _ (settings_in_range [] options refl) (λ settings all.
-              gives_then _ _ _ (gives_passed (bytes_eq a b) Repeated) (λ _ _.
-                gives_then _ _ _ (gives_passed (not (goes_together (pair_with name settings))) BadGeometry) (λ _ together.
-                  gives_then _ _ _ (gives_passed (not (nat_lt (length before.plan.pairs) most_pairs)) TooMany) (λ _ e.
-                    gives_ok (Fits before) (APair (pair_with name settings)) (record {
-                      part = part;
-                      is_new = is_new;
-                      few = below (length before.plan.pairs) most_pairs e;
-                      fits = pair_fits name settings all (not-false (goes_together (pair_with name settings)) together);
-                    }))))))))
+      gives_then _ _ _ (gives_any (host_word before host_a)) (λ a _.
+      gives_then _ _ _ (gives_any (host_word before host_b)) (λ b _.
+      gives_then _ _ _ (settings_in_range [] options refl) (λ settings all.
+      gives_then _ _ _ (gives_passed (bytes_eq a b) Repeated) (λ _ _.
+      gives_then _ _ _ (gives_passed (not (goes_together (pair_with name settings))) BadGeometry) (λ _ together.
+      gives_then _ _ _ (gives_passed (not (nat_lt (length before.plan.pairs) most_pairs)) TooMany) (λ _ e.
+      gives_ok (Fits before) (APair (pair_with name settings)) (record {
+        part = part;
+        is_new = is_new;
+        few = below (length before.plan.pairs) most_pairs e;
+        fits = pair_fits name settings all (not-false (goes_together (pair_with name settings)) together);
+      }))))))))
 
   dev_line_fits : (name_text pair_text side_text queue_text address_text stop_text start_text : List ℕ)
       → Gives (Fits before) (dev_line before name_text pair_text side_text queue_text address_text stop_text start_text)
   dev_line_fits name_text pair_text side_text queue_text address_text stop_text start_text =
       gives_then _ _ _ (name_is_new (dev_names before) name_text) (λ name is_new.
-        gives_then _ _ _ (pair_declared before pair_text) (λ pair declared.
-          gives_then _ _ _ (gives_any (side_word side_text)) (λ side _.
-            gives_then _ _ _ (queue_among before pair side queue_text) (λ queue among.
-              gives_then _ _ _ (bytes_counted 6 address_text) (λ address six.
-                gives_then _ _ _ (threshold_within (codes "stop=") stop_text) (λ stop _.
-                  gives_then _ _ _ (threshold_within (codes "start=") start_text) (λ start small.
-                    gives_then _ _ _ (gives_passed (list_any (sits_on pair side queue) before.plan.devs) Repeated) (λ _ free.
-                      gives_then _ _ _ (gives_passed (nat_lt start stop) BadGeometry) (λ _ order.
-                        gives_then _ _ _ (gives_passed (not (nat_lt (length before.plan.devs) most_devices)) TooMany) (λ _ e.
-                          gives_ok (Fits before) (ADevice (record { name = name; pair = pair; side = side; queue = queue; address = address; stop = stop; start = start })) (record {
-                            is_new = is_new;
-                            few = below (length before.plan.devs) most_devices e;
-                            fits = record { queue = record { declared = declared; among = among }; address = six; thresholds = (ltb-false start stop order, small) };
-                            free = free;
-                            part = part;
-                          })))))))))))
+      gives_then _ _ _ (pair_declared before pair_text) (λ pair declared.
+      gives_then _ _ _ (gives_any (side_word side_text)) (λ side _.
+      gives_then _ _ _ (queue_among before pair side queue_text) (λ queue among.
+      gives_then _ _ _ (bytes_counted 6 address_text) (λ address six.
+      gives_then _ _ _ (threshold_within (codes "stop=") stop_text) (λ stop _.
+      gives_then _ _ _ (threshold_within (codes "start=") start_text) (λ start small.
+      gives_then _ _ _ (gives_passed (list_any (sits_on pair side queue) before.plan.devs) Repeated) (λ _ free.
+      gives_then _ _ _ (gives_passed (nat_lt start stop) BadGeometry) (λ _ order.
+      gives_then _ _ _ (gives_passed (not (nat_lt (length before.plan.devs) most_devices)) TooMany) (λ _ e.
+      gives_ok (Fits before) (ADevice (record { name = name; pair = pair; side = side; queue = queue; address = address; stop = stop; start = start })) (record {
+        is_new = is_new;
+        few = below (length before.plan.devs) most_devices e;
+        fits = record { queue = record { declared = declared; among = among }; address = six; thresholds = (ltb-false start stop order, small) };
+        free = free;
+        part = part;
+      })))))))))))
 
   class_line_fits : (pair_text side_text queue_text class_text : List ℕ) → Gives (Fits before) (class_line before pair_text side_text queue_text class_text)
   class_line_fits pair_text side_text queue_text class_text =
       gives_then _ _ _ (pair_declared before pair_text) (λ pair declared.
-        gives_then _ _ _ (gives_any (side_word side_text)) (λ side _.
-          gives_then _ _ _ (queue_among before pair side queue_text) (λ queue among.
-            gives_then _ _ _ (number_within 0 7 class_text) (λ class range.
-              gives_then _ _ _ (gives_passed (list_any (is_queue pair side queue) before.classed) Repeated) (λ _ _.
-                gives_ok (Fits before) (AClass (record { pair = pair; side = side; queue = queue }) class) (record {
-                  part = part;
-                  queue = record { declared = declared; among = among };
-                  small = let most = range.1 in omega arith;
-                }))))))
+      gives_then _ _ _ (gives_any (side_word side_text)) (λ side _.
+      gives_then _ _ _ (queue_among before pair side queue_text) (λ queue among.
+      gives_then _ _ _ (number_within 0 7 class_text) (λ class range.
+      gives_then _ _ _ (gives_passed (list_any (is_queue pair side queue) before.classed) Repeated) (λ _ _.
+      gives_ok (Fits before) (AClass (record { pair = pair; side = side; queue = queue }) class) (record {
+        part = part;
+        queue = record { declared = declared; among = among };
+        small = let most = range.1 in omega arith;
+      }))))))
 
   lone_word_fits : (words : List (List ℕ)) (given : Given) → Fits before given → Gives (Fits before) (lone_word words given)
   lone_word_fits [] given h = gives_ok (Fits before) given h

@@ -1,3 +1,4 @@
+pub mod CutInput
 pub mod DeclarationFits
 pub mod Fits
 pub mod Gives

@@ -33,7 +33,7 @@ pub line_turn : (n : ℕ) (before : Before) (text first line : List ℕ) (rest :
 line_turn n before text first line rest parts same =
     let behind : List (List ℕ) = option_map_or (λ text. slice_split (λ b. b == 10) text.now) rest [] in
     let split : lines_of text ≡ line ∷ option_map_or (λ text. lines_of text.now) rest [] =
-        ap (map without_return) parts ∙ (ap (λ l. l ∷ map without_return behind) (sym same) ∙ ap (λ lines. line ∷ lines) (rest_lines rest)) in
+    ap (map without_return) parts ∙ (ap (λ l. l ∷ map without_return behind) (sym same) ∙ ap (λ lines. line ∷ lines) (rest_lines rest)) in
     ap (read_lines n before) split ∙ next_line n before line (option_map_or (λ text. lines_of text.now) rest [])
 
 pub count_turn : (rest : Option (Bor (List ℕ))) (text : List ℕ) (n total : ℕ) → IfSome rest (λ more. length more.now < length text) → n + (length text + 1) ≤ total

@@ -160,7 +160,7 @@ pub pair_fits : (name : List ℕ) (settings : List Setting) → list_all in_rang
 pair_fits name settings all together =
     let pair : PairPlan = pair_with name settings in
     let version_rest = and_parts (nat_le 4 pair.a.version || nat_le 4 pair.b.version)
-        (has_room_for_header pair && ((not pair.up || agrees pair) && (not pair.raw || sizes_fit pair))) together in
+    (has_room_for_header pair && ((not pair.up || agrees pair) && (not pair.raw || sizes_fit pair))) together in
     let header_rest = and_parts (has_room_for_header pair) ((not pair.up || agrees pair) && (not pair.raw || sizes_fit pair)) version_rest.1 in
     let up_raw = and_parts (not pair.up || agrees pair) (not pair.raw || sizes_fit pair) header_rest.1 in
     record {

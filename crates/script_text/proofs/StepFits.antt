@@ -89,8 +89,8 @@ module _ (plan : Plan) where
       if_some FrameSteps (bytes_eq word (codes "begin")) _ _ (λ pair side queue frame h f. one plan (Begin pair side queue frame) (h, f))
       (if_some FrameSteps (bytes_eq word (codes "send")) _ _
       (λ pair side queue frame h f.
-        All-cons (IsPermitted plan) (Begin pair side queue frame) (replicate (posts_in (pair_plan plan pair) side queue (length frame)) (Post pair side queue)) (h, f)
-        (All-replicate (IsPermitted plan) (posts_in (pair_plan plan pair) side queue (length frame)) (Post pair side queue) h)) (none_some FrameSteps))
+      All-cons (IsPermitted plan) (Begin pair side queue frame) (replicate (posts_in (pair_plan plan pair) side queue (length frame)) (Post pair side queue)) (h, f)
+      (All-replicate (IsPermitted plan) (posts_in (pair_plan plan pair) side queue (length frame)) (Post pair side queue) h)) (none_some FrameSteps))
 
   PlacedSteps : NumberedSteps → Type 0
   PlacedSteps numbered = (pair : ℕ) (side : Side) (n : ℕ) → pair < length plan.pairs → (numbered.least ≤ n) × (n ≤ numbered.most) → All (IsPermitted plan) (numbered.steps pair side n)
@@ -114,7 +114,7 @@ module _ (before : Before) (part : before.part ≡ Declarations → ⊥) (device
   steps_fit : (steps : List Step) → All (IsPermitted before.plan) steps → Gives (Fits before) (rules.steps_within before steps)
   steps_fit steps all =
       gives_then _ _ _ (gives_passed (nat_lt most_steps (length before.plan.steps + length steps)) TooMany) (λ _ e.
-        gives_ok (Fits before) (MoreSteps steps) (record { part = part; few = ltb-false most_steps (length before.plan.steps + length steps) e; permitted = all }))
+      gives_ok (Fits before) (MoreSteps steps) (record { part = part; few = ltb-false most_steps (length before.plan.steps + length steps) e; permitted = all }))
 
   pair_step_fits : (step : ℕ → Step) → ((pair : ℕ) → pair < length before.plan.pairs → IsPermitted before.plan (step pair)) → (pair_text : List ℕ) → Gives (Fits before) (rules.pair_step_line before step pair_text)
   pair_step_fits step ok pair_text = gives_then _ _ _ (pair_declared before pair_text) (λ pair lt. steps_fit (step pair ∷ []) (one before.plan (step pair) (ok pair lt)))
@@ -123,89 +123,95 @@ module _ (before : Before) (part : before.part ≡ Declarations → ⊥) (device
       → (pair_text side_text : List ℕ) → Gives (Fits before) (rules.side_line before steps pair_text side_text)
   side_line_fits steps ok pair_text side_text =
       gives_then _ _ _ (pair_declared before pair_text) (λ pair lt.
-        gives_then _ _ _ (gives_any (side_word side_text)) (λ side _. steps_fit (steps (pair_plan before.plan pair) pair side) (ok pair side lt)))
+      gives_then _ _ _ (gives_any (side_word side_text)) (λ side _. steps_fit (steps (pair_plan before.plan pair) pair side) (ok pair side lt)))
 
   queue_line_fits : (steps : ℕ → Side → ℕ → List Step) → ((pair : ℕ) (side : Side) (queue : ℕ) → IsQueueOf before.plan pair side queue → All (IsPermitted before.plan) (steps pair side queue))
       → (pair_text side_text queue_text : List ℕ) → Gives (Fits before) (rules.queue_line before steps pair_text side_text queue_text)
   queue_line_fits steps ok pair_text side_text queue_text =
       gives_then _ _ _ (pair_declared before pair_text) (λ pair lt.
-        gives_then _ _ _ (gives_any (side_word side_text)) (λ side _.
-          gives_then _ _ _ (queue_among before pair side queue_text) (λ queue among.
-            steps_fit (steps pair side queue) (ok pair side queue (record { declared = lt; among = among })))))
+      gives_then _ _ _ (gives_any (side_word side_text)) (λ side _.
+      gives_then _ _ _ (queue_among before pair side queue_text) (λ queue among.
+      steps_fit (steps pair side queue) (ok pair side queue (record { declared = lt; among = among })))))
 
   receive_line_fits : (pair_text side_text queue_text copies_text : List ℕ) → Gives (Fits before) (rules.receive_line before pair_text side_text queue_text copies_text)
   receive_line_fits pair_text side_text queue_text copies_text =
       gives_then _ _ _ (pair_declared before pair_text) (λ pair lt.
-        gives_then _ _ _ (gives_any (side_word side_text)) (λ side _.
-          gives_then _ _ _ (queue_among before pair side queue_text) (λ queue among.
-            gives_then _ _ _ (number_within 1 512 copies_text) (λ copies _.
-              steps_fit (receive pair side queue copies) (received before.plan pair side queue copies (record { declared = lt; among = among }))))))
+      gives_then _ _ _ (gives_any (side_word side_text)) (λ side _.
+      gives_then _ _ _ (queue_among before pair side queue_text) (λ queue among.
+      gives_then _ _ _ (number_within 1 512 copies_text) (λ copies _.
+      steps_fit (receive pair side queue copies) (received before.plan pair side queue copies (record { declared = lt; among = among }))))))
 
   frame_line_fits : (steps : PairPlan → ℕ → Side → ℕ → List ℕ → List Step)
       → ((pair : ℕ) (side : Side) (queue : ℕ) (frame : List ℕ) → IsQueueOf before.plan pair side queue → IsFrame frame → All (IsPermitted before.plan) (steps (pair_plan before.plan pair) pair side queue frame))
       → (pair_text side_text queue_text frame_text : List ℕ) → 0 < length frame_text → Gives (Fits before) (rules.frame_line before steps pair_text side_text queue_text frame_text)
   frame_line_fits steps ok pair_text side_text queue_text frame_text some =
       gives_then _ _ _ (pair_declared before pair_text) (λ pair lt.
-        gives_then _ _ _ (gives_any (side_word side_text)) (λ side _.
-          gives_then _ _ _ (queue_among before pair side queue_text) (λ queue among.
-            gives_then _ _ _ (bytes_spelled frame_text some) (λ frame filled.
-              gives_then _ _ _ (gives_passed (nat_lt most_frame_bytes (length frame)) TooMany) (λ _ e.
-                steps_fit (steps (pair_plan before.plan pair) pair side queue frame)
-                (ok pair side queue frame (record { declared = lt; among = among }) (filled, ltb-false most_frame_bytes (length frame) e)))))))
+      gives_then _ _ _ (gives_any (side_word side_text)) (λ side _.
+      gives_then _ _ _ (queue_among before pair side queue_text) (λ queue among.
+      gives_then _ _ _ (bytes_spelled frame_text some) (λ frame filled.
+      gives_then _ _ _ (gives_passed (nat_lt most_frame_bytes (length frame)) TooMany) (λ _ e.
+      steps_fit (steps (pair_plan before.plan pair) pair side queue frame)
+      (ok pair side queue frame (record { declared = lt; among = among }) (filled, ltb-false most_frame_bytes (length frame) e)))))))
 
   numbered_line_fits : (numbered : NumberedSteps)
       → ((pair : ℕ) (side : Side) (n : ℕ) → pair < length before.plan.pairs → (numbered.least ≤ n) × (n ≤ numbered.most) → All (IsPermitted before.plan) (numbered.steps pair side n))
       → (pair_text side_text number_text : List ℕ) → Gives (Fits before) (rules.numbered_line before numbered pair_text side_text number_text)
   numbered_line_fits numbered ok pair_text side_text number_text =
       gives_then _ _ _ (pair_declared before pair_text) (λ pair lt.
-        gives_then _ _ _ (gives_any (side_word side_text)) (λ side _.
-          gives_then _ _ _ (number_within numbered.least numbered.most number_text) (λ n range. steps_fit (numbered.steps pair side n) (ok pair side n lt range))))
+      gives_then _ _ _ (gives_any (side_word side_text)) (λ side _.
+      gives_then _ _ _ (number_within numbered.least numbered.most number_text) (λ n range. steps_fit (numbered.steps pair side n) (ok pair side n lt range))))
 
   spad_line_fits : (pair_text side_text index_text value_text : List ℕ) → Gives (Fits before) (rules.spad_line before pair_text side_text index_text value_text)
   spad_line_fits pair_text side_text index_text value_text =
       gives_then _ _ _ (pair_declared before pair_text) (λ pair lt.
-        gives_then _ _ _ (gives_any (side_word side_text)) (λ side _.
-          gives_then _ _ _ (number_within 0 15 index_text) (λ i range.
-            gives_then _ _ _ (gives_any (number_word value_text)) (λ value _.
-              gives_then _ _ _ (gives_passed (nat_lt i 12 && not (pair_plan before.plan pair).raw) BadPair) (λ _ e.
-                steps_fit (Spad pair side i value ∷ [])
-                (one before.plan (Spad pair side i value) (lt, record { among = let most = range.1 in omega arith; free = pad_is_free i (pair_plan before.plan pair).raw e })))))))
+      gives_then _ _ _ (gives_any (side_word side_text)) (λ side _.
+      gives_then _ _ _ (number_within 0 15 index_text) (λ i range.
+      gives_then _ _ _ (gives_any (number_word value_text)) (λ value _.
+      gives_then _ _ _ (gives_passed (nat_lt i 12 && not (pair_plan before.plan pair).raw) BadPair) (λ _ e.
+      steps_fit (Spad pair side i value ∷ [])
+      (one before.plan (Spad pair side i value) (lt, record { among = let most = range.1 in omega arith; free = pad_is_free i (pair_plan before.plan pair).raw e })))))))
 
   show_memory_fits : (pair_text side_text at_text len_text : List ℕ) → Gives (Fits before) (rules.show_memory_line before pair_text side_text at_text len_text)
   show_memory_fits pair_text side_text at_text len_text =
       gives_then _ _ _ (pair_declared before pair_text) (λ pair lt.
-        gives_then _ _ _ (gives_any (side_word side_text)) (λ side _.
-          gives_then _ _ _ (gives_any (number_word at_text)) (λ at _.
-            gives_then _ _ _ (number_within 1 64 len_text) (λ len range.
-              gives_then _ _ _
-                (gives_passed (nat_lt ((side_plan (pair_plan before.plan pair) side).windows * (side_plan (pair_plan before.plan pair) side).cap) (at + len)) BadNumber) (λ _ e.
-                steps_fit (ShowMem pair side at len ∷ []) (one before.plan (ShowMem pair side at len) (lt, record {
-                  some = range.0;
-                  few = range.1;
-                  within = ltb-false ((side_plan (pair_plan before.plan pair) side).windows * (side_plan (pair_plan before.plan pair) side).cap) (at + len) e;
-                })))))))
+      gives_then _ _ _ (gives_any (side_word side_text)) (λ side _.
+      gives_then _ _ _ (gives_any (number_word at_text)) (λ at _.
+      gives_then _ _ _ (number_within 1 64 len_text) (λ len range.
+      gives_then _ _ _
+      (gives_passed (nat_lt ((side_plan (pair_plan before.plan pair) side).windows * (side_plan (pair_plan before.plan pair) side).cap) (at + len)) BadNumber) (λ _ e.
+      steps_fit (ShowMem pair side at len ∷ []) (one before.plan (ShowMem pair side at len) (
+        lt,
+        record {
+          some = range.0;
+          few = range.1;
+          within = ltb-false ((side_plan (pair_plan before.plan pair) side).windows * (side_plan (pair_plan before.plan pair) side).cap) (at + len) e;
+        },
+      )))))))
 
   poke_line_fits : (pair_text side_text window_text offset_text bytes_text : List ℕ) → 0 < length bytes_text
       → Gives (Fits before) (rules.poke_line before pair_text side_text window_text offset_text bytes_text)
   poke_line_fits pair_text side_text window_text offset_text bytes_text some =
       gives_then _ _ _ (pair_declared before pair_text) (λ pair lt.
-        gives_then _ _ _ (gives_any (side_word side_text)) (λ side _.
-          gives_then _ _ _ (gives_any (number_word window_text)) (λ window _.
-            gives_then _ _ _ (gives_passed (not (nat_lt window (pair_plan before.plan pair).a.windows && nat_lt window (pair_plan before.plan pair).b.windows)) UnknownName) (λ _ known.
-              gives_then _ _ _ (gives_any (number_word offset_text)) (λ offset _.
-                gives_then _ _ _ (bytes_spelled bytes_text some) (λ bytes filled.
-                  gives_then _ _ _ (gives_passed (nat_lt (reach (pair_plan before.plan pair) side) (offset + length bytes)) BadNumber) (λ _ within.
-                    gives_then _ _ _ (gives_passed (not (pair_plan before.plan pair).raw) BadPair) (λ _ raw.
-                      gives_then _ _ _ (gives_passed (nat_lt 128 (length bytes)) TooMany) (λ _ few.
-                        let both = and_parts (nat_lt window (pair_plan before.plan pair).a.windows) (nat_lt window (pair_plan before.plan pair).b.windows)
-                            (not-false (nat_lt window (pair_plan before.plan pair).a.windows && nat_lt window (pair_plan before.plan pair).b.windows) known) in
-                        steps_fit (Poke pair side window offset bytes ∷ []) (one before.plan (Poke pair side window offset bytes) (lt, record {
-                          raw = not-false (pair_plan before.plan pair).raw raw;
-                          windows = (ltb-true window (pair_plan before.plan pair).a.windows both.0, ltb-true window (pair_plan before.plan pair).b.windows both.1);
-                          some = filled;
-                          few = ltb-false 128 (length bytes) few;
-                          within = ltb-false (reach (pair_plan before.plan pair) side) (offset + length bytes) within;
-                        })))))))))))
+      gives_then _ _ _ (gives_any (side_word side_text)) (λ side _.
+      gives_then _ _ _ (gives_any (number_word window_text)) (λ window _.
+      gives_then _ _ _ (gives_passed (not (nat_lt window (pair_plan before.plan pair).a.windows && nat_lt window (pair_plan before.plan pair).b.windows)) UnknownName) (λ _ known.
+      gives_then _ _ _ (gives_any (number_word offset_text)) (λ offset _.
+      gives_then _ _ _ (bytes_spelled bytes_text some) (λ bytes filled.
+      gives_then _ _ _ (gives_passed (nat_lt (reach (pair_plan before.plan pair) side) (offset + length bytes)) BadNumber) (λ _ within.
+      gives_then _ _ _ (gives_passed (not (pair_plan before.plan pair).raw) BadPair) (λ _ raw.
+      gives_then _ _ _ (gives_passed (nat_lt 128 (length bytes)) TooMany) (λ _ few.
+      let both = and_parts (nat_lt window (pair_plan before.plan pair).a.windows) (nat_lt window (pair_plan before.plan pair).b.windows)
+      (not-false (nat_lt window (pair_plan before.plan pair).a.windows && nat_lt window (pair_plan before.plan pair).b.windows) known) in
+      steps_fit (Poke pair side window offset bytes ∷ []) (one before.plan (Poke pair side window offset bytes) (
+        lt,
+        record {
+          raw = not-false (pair_plan before.plan pair).raw raw;
+          windows = (ltb-true window (pair_plan before.plan pair).a.windows both.0, ltb-true window (pair_plan before.plan pair).b.windows both.1);
+          some = filled;
+          few = ltb-false 128 (length bytes) few;
+          within = ltb-false (reach (pair_plan before.plan pair) side) (offset + length bytes) within;
+        },
+      )))))))))))
 
   its_queue : (dev : ℕ) → dev < length before.plan.devs → IsQueueOf before.plan (dev_plan before.plan.devs dev).pair (dev_plan before.plan.devs dev).side (dev_plan before.plan.devs dev).queue
   its_queue dev lt = (devices dev no_dev lt).queue
@@ -213,9 +219,9 @@ module _ (before : Before) (part : before.part ≡ Declarations → ⊥) (device
   wake_line_fits : (dev_text : List ℕ) → Gives (Fits before) (rules.wake_line before dev_text)
   wake_line_fits dev_text =
       gives_then _ _ _ (dev_declared before dev_text) (λ dev lt.
-        steps_fit (Wake (dev_plan before.plan.devs dev).pair (dev_plan before.plan.devs dev).side (dev_plan before.plan.devs dev).queue dev ∷ [])
-        (one before.plan (Wake (dev_plan before.plan.devs dev).pair (dev_plan before.plan.devs dev).side (dev_plan before.plan.devs dev).queue dev)
-        (its_queue dev lt, record { declared = lt; its_pair = refl; its_side = refl; its_queue = refl })))
+      steps_fit (Wake (dev_plan before.plan.devs dev).pair (dev_plan before.plan.devs dev).side (dev_plan before.plan.devs dev).queue dev ∷ [])
+      (one before.plan (Wake (dev_plan before.plan.devs dev).pair (dev_plan before.plan.devs dev).side (dev_plan before.plan.devs dev).queue dev)
+      (its_queue dev lt, record { declared = lt; its_pair = refl; its_side = refl; its_queue = refl })))
 
   ethernet_permitted : (is_macro : Bool) (dev : ℕ) (dst : List ℕ) (kind : ℕ) (payload : List ℕ) → dev < length before.plan.devs → IsPayload dst kind payload
       → All (IsPermitted before.plan) (ethernet_steps before.plan is_macro dev dst kind payload)
@@ -233,12 +239,12 @@ module _ (before : Before) (part : before.part ≡ Declarations → ⊥) (device
       → Gives (Fits before) (rules.ethernet_line before is_macro dev_text address_text kind_text payload_text)
   ethernet_line_fits is_macro dev_text address_text kind_text payload_text some =
       gives_then _ _ _ (dev_declared before dev_text) (λ dev lt.
-        gives_then _ _ _ (bytes_counted 6 address_text) (λ dst six.
-          gives_then _ _ _ (kind_is_small kind_text) (λ kind small.
-            gives_then _ _ _ (bytes_spelled payload_text some) (λ payload filled.
-              gives_then _ _ _ (gives_passed (nat_lt most_frame_bytes (length payload + ethernet_header)) TooMany) (λ _ e.
-                steps_fit (ethernet_steps before.plan is_macro dev dst kind payload)
-                (ethernet_permitted is_macro dev dst kind payload lt (record { address = six; small_kind = small; some = filled; fits = ltb-false most_frame_bytes (length payload + ethernet_header) e })))))))
+      gives_then _ _ _ (bytes_counted 6 address_text) (λ dst six.
+      gives_then _ _ _ (kind_is_small kind_text) (λ kind small.
+      gives_then _ _ _ (bytes_spelled payload_text some) (λ payload filled.
+      gives_then _ _ _ (gives_passed (nat_lt most_frame_bytes (length payload + ethernet_header)) TooMany) (λ _ e.
+      steps_fit (ethernet_steps before.plan is_macro dev dst kind payload)
+      (ethernet_permitted is_macro dev dst kind payload lt (record { address = six; small_kind = small; some = filled; fits = ltb-false most_frame_bytes (length payload + ethernet_header) e })))))))
 
   -- By the number of words
 

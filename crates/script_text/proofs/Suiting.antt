@@ -27,7 +27,7 @@ short_flood : (before : Before) (lane : LaneName) (count len : ℕ) → Held bef
 short_flood before lane zero len held all some = absurd (omega arith)
 short_flood before lane (suc n) len held all some =
     let first : IsTraffic before.plan (Send lane (flood_frame len 0)) =
-        All-head (IsTraffic before.plan) (Send lane (flood_frame len 0)) (map (λ i. Send lane (flood_frame len i)) (count_from 1 n)) all in
+    All-head (IsTraffic before.plan) (Send lane (flood_frame len 0)) (map (λ i. Send lane (flood_frame len i)) (count_from 1 n)) all in
     let long = length_flood_frame len 0 in
     let short : length (flood_frame len 0) ≤ (sizes_of (pair_plan before.plan lane.pair) lane.from lane.queue).largest = first.2 in
     let unit : (pair_plan before.plan lane.pair).mtu ≤ 65536 = (held.whole.declared.pairs lane.pair first.0.declared).mtu.1 in

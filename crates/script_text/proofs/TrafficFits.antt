@@ -70,37 +70,37 @@ module _ (before : Before) (part : before.part ≡ Declarations → ⊥) (few : 
       → ((pair : ℕ) → count_by (is_break_of pair) more ≡ 0) → Gives (Fits before) (traffic_within before lane len more)
   within_fits lane len more declared among items unbroken =
       gives_then _ _ _
-        (gives_passed (nat_lt (sizes_of (pair_plan before.plan lane.pair) lane.from lane.queue).largest len
-        || nat_lt most_traffic_entries (sizes_of (pair_plan before.plan lane.pair) lane.from lane.queue).entries) BadGeometry) (λ _ sizes.
-        gives_then _ _ _ (gives_passed (not (may_have_traffic (pair_plan before.plan lane.pair))) BadPair) (λ _ may.
-          gives_then _ _ _ (gives_passed (not (is_little before.plan.traffic more)) TooMany) (λ _ little.
-            let fit = or_parts (nat_lt (sizes_of (pair_plan before.plan lane.pair) lane.from lane.queue).largest len)
-                (nat_lt most_traffic_entries (sizes_of (pair_plan before.plan lane.pair) lane.from lane.queue).entries) sizes in
-            let has : MayHaveTraffic (pair_plan before.plan lane.pair) = may_have (pair_plan before.plan lane.pair) (not-false (may_have_traffic (pair_plan before.plan lane.pair)) may) in
-            let room = and_parts (nat_le (sum (map frames_in before.plan.traffic) + sum (map frames_in more)) most_traffic_frames)
-                (nat_le (sum (map bytes_in before.plan.traffic) + sum (map bytes_in more)) most_traffic_bytes) (not-false (is_little before.plan.traffic more) little) in
-            gives_ok (Fits before) (MoreTraffic more) (record {
-              part = part;
-              items = items (record {
-                declared = declared;
-                may = has;
-                among = among_both (pair_plan before.plan lane.pair) lane.from lane.queue has.agree among;
-                short = ltb-false most_traffic_entries (sizes_of (pair_plan before.plan lane.pair) lane.from lane.queue).entries fit.1;
-              }) (ltb-false (sizes_of (pair_plan before.plan lane.pair) lane.from lane.queue).largest len fit.0);
-              few_frames = leb-true (sum (map frames_in before.plan.traffic) + sum (map frames_in more)) most_traffic_frames room.0;
-              few_bytes = leb-true (sum (map bytes_in before.plan.traffic) + sum (map bytes_in more)) most_traffic_bytes room.1;
-              few_breaks = λ pair. let none = unbroken pair in let old = few pair in omega arith;
-            }))))
+      (gives_passed (nat_lt (sizes_of (pair_plan before.plan lane.pair) lane.from lane.queue).largest len
+      || nat_lt most_traffic_entries (sizes_of (pair_plan before.plan lane.pair) lane.from lane.queue).entries) BadGeometry) (λ _ sizes.
+      gives_then _ _ _ (gives_passed (not (may_have_traffic (pair_plan before.plan lane.pair))) BadPair) (λ _ may.
+      gives_then _ _ _ (gives_passed (not (is_little before.plan.traffic more)) TooMany) (λ _ little.
+      let fit = or_parts (nat_lt (sizes_of (pair_plan before.plan lane.pair) lane.from lane.queue).largest len)
+      (nat_lt most_traffic_entries (sizes_of (pair_plan before.plan lane.pair) lane.from lane.queue).entries) sizes in
+      let has : MayHaveTraffic (pair_plan before.plan lane.pair) = may_have (pair_plan before.plan lane.pair) (not-false (may_have_traffic (pair_plan before.plan lane.pair)) may) in
+      let room = and_parts (nat_le (sum (map frames_in before.plan.traffic) + sum (map frames_in more)) most_traffic_frames)
+      (nat_le (sum (map bytes_in before.plan.traffic) + sum (map bytes_in more)) most_traffic_bytes) (not-false (is_little before.plan.traffic more) little) in
+      gives_ok (Fits before) (MoreTraffic more) (record {
+        part = part;
+        items = items (record {
+          declared = declared;
+          may = has;
+          among = among_both (pair_plan before.plan lane.pair) lane.from lane.queue has.agree among;
+          short = ltb-false most_traffic_entries (sizes_of (pair_plan before.plan lane.pair) lane.from lane.queue).entries fit.1;
+        }) (ltb-false (sizes_of (pair_plan before.plan lane.pair) lane.from lane.queue).largest len fit.0);
+        few_frames = leb-true (sum (map frames_in before.plan.traffic) + sum (map frames_in more)) most_traffic_frames room.0;
+        few_bytes = leb-true (sum (map bytes_in before.plan.traffic) + sum (map bytes_in more)) most_traffic_bytes room.1;
+        few_breaks = λ pair. let none = unbroken pair in let old = few pair in omega arith;
+      }))))
 
   frame_fits : (pair_text side_text queue_text frame_text : List ℕ) → 0 < length frame_text → Gives (Fits before) (traffic_frame_line before pair_text side_text queue_text frame_text)
   frame_fits pair_text side_text queue_text frame_text some =
       gives_then _ _ _ (pair_declared before pair_text) (λ pair lt.
-        gives_then _ _ _ (gives_any (side_word side_text)) (λ side _.
-          gives_then _ _ _ (queue_among before pair side queue_text) (λ queue among.
-            gives_then _ _ _ (bytes_spelled frame_text some) (λ frame filled.
-              within_fits (record { pair = pair; from = side; queue = queue }) (length frame) (Send (record { pair = pair; from = side; queue = queue }) frame ∷ []) lt among
-              (λ lane short. All-cons (IsTraffic before.plan) (Send (record { pair = pair; from = side; queue = queue }) frame) [] (lane, filled, short) (All-nil (IsTraffic before.plan)))
-              (λ other. refl)))))
+      gives_then _ _ _ (gives_any (side_word side_text)) (λ side _.
+      gives_then _ _ _ (queue_among before pair side queue_text) (λ queue among.
+      gives_then _ _ _ (bytes_spelled frame_text some) (λ frame filled.
+      within_fits (record { pair = pair; from = side; queue = queue }) (length frame) (Send (record { pair = pair; from = side; queue = queue }) frame ∷ []) lt among
+      (λ lane short. All-cons (IsTraffic before.plan) (Send (record { pair = pair; from = side; queue = queue }) frame) [] (lane, filled, short) (All-nil (IsTraffic before.plan)))
+      (λ other. refl)))))
 
   flooded : (lane : LaneName) (len : ℕ) → IsTrafficLane before.plan lane → len ≤ (sizes_of (pair_plan before.plan lane.pair) lane.from lane.queue).largest → 1 ≤ len → (i : ℕ)
       → IsTraffic before.plan (Send lane (flood_frame len i))
@@ -109,28 +109,29 @@ module _ (before : Before) (part : before.part ≡ Declarations → ⊥) (few : 
   flood_fits : (pair_text side_text queue_text count_text len_text : List ℕ) → Gives (Fits before) (flood_line before pair_text side_text queue_text count_text len_text)
   flood_fits pair_text side_text queue_text count_text len_text =
       gives_then _ _ _ (pair_declared before pair_text) (λ pair lt.
-        gives_then _ _ _ (gives_any (side_word side_text)) (λ side _.
-          gives_then _ _ _ (queue_among before pair side queue_text) (λ queue among.
-            gives_then _ _ _ (number_within 1 100000 count_text) (λ count _.
-              gives_then _ _ _ (number_within 1 65536 len_text) (λ len range.
-                within_fits (record { pair = pair; from = side; queue = queue }) len
-                (map (λ i. Send (record { pair = pair; from = side; queue = queue }) (flood_frame len i)) (count_from 0 count)) lt among
-                (λ lane short. All-map (IsTraffic before.plan) (λ i. Send (record { pair = pair; from = side; queue = queue }) (flood_frame len i)) (count_from 0 count)
-                  (λ k d _. flooded (record { pair = pair; from = side; queue = queue }) len lane short range.0 (get_or (count_from 0 count) k d)))
-                (λ other. no_breaks other (λ i. Send (record { pair = pair; from = side; queue = queue }) (flood_frame len i)) (λ i. refl) 0 count))))))
+      gives_then _ _ _ (gives_any (side_word side_text)) (λ side _.
+      gives_then _ _ _ (queue_among before pair side queue_text) (λ queue among.
+      gives_then _ _ _ (number_within 1 100000 count_text) (λ count _.
+      gives_then _ _ _ (number_within 1 65536 len_text) (λ len range.
+      within_fits (record { pair = pair; from = side; queue = queue }) len
+      (map (λ i. Send (record { pair = pair; from = side; queue = queue }) (flood_frame len i)) (count_from 0 count)) lt among
+      (λ lane short. All-map (IsTraffic before.plan) (λ i. Send (record { pair = pair; from = side; queue = queue }) (flood_frame len i)) (count_from 0 count)
+      (λ k d _. flooded (record { pair = pair; from = side; queue = queue }) len lane short range.0 (get_or (count_from 0 count) k d)))
+      (λ other. no_breaks other (λ i. Send (record { pair = pair; from = side; queue = queue }) (flood_frame len i)) (λ i. refl) 0 count))))))
+
   break_fits : (pair_text : List ℕ) → Gives (Fits before) (break_line before pair_text)
   break_fits pair_text =
       gives_then _ _ _ (pair_declared before pair_text) (λ pair lt.
-        gives_then _ _ _ (gives_passed (not (may_have_traffic (pair_plan before.plan pair))) BadPair) (λ _ may.
-          gives_then _ _ _ (gives_passed (not (nat_lt (count_by (is_break_of pair) before.plan.traffic) most_breaks)) TooMany) (λ _ room.
-            let has : MayHaveTraffic (pair_plan before.plan pair) = may_have (pair_plan before.plan pair) (not-false (may_have_traffic (pair_plan before.plan pair)) may) in
-            gives_ok (Fits before) (MoreTraffic (Break pair ∷ [])) (record {
-              part = part;
-              items = All-cons (IsTraffic before.plan) (Break pair) [] (lt, has) (All-nil (IsTraffic before.plan));
-              few_frames = omega arith;
-              few_bytes = omega arith;
-              few_breaks = λ other. break_within before.plan.traffic pair other (below (count_by (is_break_of pair) before.plan.traffic) most_breaks room) (few other);
-            }))))
+      gives_then _ _ _ (gives_passed (not (may_have_traffic (pair_plan before.plan pair))) BadPair) (λ _ may.
+      gives_then _ _ _ (gives_passed (not (nat_lt (count_by (is_break_of pair) before.plan.traffic) most_breaks)) TooMany) (λ _ room.
+      let has : MayHaveTraffic (pair_plan before.plan pair) = may_have (pair_plan before.plan pair) (not-false (may_have_traffic (pair_plan before.plan pair)) may) in
+      gives_ok (Fits before) (MoreTraffic (Break pair ∷ [])) (record {
+        part = part;
+        items = All-cons (IsTraffic before.plan) (Break pair) [] (lt, has) (All-nil (IsTraffic before.plan));
+        few_frames = omega arith;
+        few_bytes = omega arith;
+        few_breaks = λ other. break_within before.plan.traffic pair other (below (count_by (is_break_of pair) before.plan.traffic) most_breaks room) (few other);
+      }))))
 
   pub traffic_fits : (word : List ℕ) (words : List (List ℕ)) → Filled words → Gives (Fits before) (traffic_line before word words)
   traffic_fits word [] h = gives_fault (Fits before) UnknownWord

@@ -113,7 +113,7 @@ pair_kept n before pair held fits =
     let whole : IsWhole before.plan = held.whole in
     let none = held.declarations_first fits.part in
     let all : All IsPair (before.plan.pairs ++ pair ∷ []) =
-        All-push IsPair before.plan.pairs pair (All-from_get_or IsPair before.plan.pairs no_pair whole.declared.pairs) fits.fits in
+    All-push IsPair before.plan.pairs pair (All-from_get_or IsPair before.plan.pairs no_pair whole.declared.pairs) fits.fits in
     record {
       whole = record {
         declared = record {
@@ -164,7 +164,7 @@ one_each devs dev alone free j k j_in k_in same =
       ]
       | inr j_new ↦ elim (cases_lt k (length devs)) [
         | inl k_old ↦ absurd (nobody_sits devs dev k free k_old
-          (flipped dev (dev_plan devs k) (subst (λ d. SameQueue dev d) (old k k_old) (subst (λ d. SameQueue d (dev_plan all k)) (last j j_new j_in) same))))
+            (flipped dev (dev_plan devs k) (subst (λ d. SameQueue dev d) (old k k_old) (subst (λ d. SameQueue d (dev_plan all k)) (last j j_new j_in) same))))
         | inr k_new ↦ let long = length-append devs (dev ∷ []) in omega arith
       ]
     ]
@@ -189,7 +189,7 @@ device_kept n before dev held fits =
     let none = held.declarations_first fits.part in
     let stays : (d : DevPlan) → IsDevice plan d → IsDevice next d = device_stays plan next (λ k side queue h. record { declared = h.declared; among = h.among }) in
     let all : All (IsDevice next) (before.plan.devs ++ dev ∷ []) =
-        All-push (IsDevice next) before.plan.devs dev (All-weaker (IsDevice plan) (IsDevice next) stays before.plan.devs (All-from_get_or (IsDevice plan) before.plan.devs no_dev whole.declared.devices)) (stays dev fits.fits) in
+    All-push (IsDevice next) before.plan.devs dev (All-weaker (IsDevice plan) (IsDevice next) stays before.plan.devs (All-from_get_or (IsDevice plan) before.plan.devs no_dev whole.declared.devices)) (stays dev fits.fits) in
     record {
       whole = record {
         declared = record {
@@ -218,8 +218,8 @@ class_kept n before name class held fits =
     let none = held.declarations_first fits.part in
     let same = length-set_pairs before.plan.pairs name.pair now in
     let all : All IsPair (slice_set before.plan.pairs name.pair now) =
-        All-set IsPair before.plan.pairs name.pair now (class_fits (pair_plan before.plan name.pair) name.side name.queue class (whole.declared.pairs name.pair fits.queue.declared) fits.small)
-        (All-from_get_or IsPair before.plan.pairs no_pair whole.declared.pairs) in
+    All-set IsPair before.plan.pairs name.pair now (class_fits (pair_plan before.plan name.pair) name.side name.queue class (whole.declared.pairs name.pair fits.queue.declared) fits.small)
+    (All-from_get_or IsPair before.plan.pairs no_pair whole.declared.pairs) in
     record {
       whole = record {
         declared = record {
@@ -327,14 +327,14 @@ words_fit before held TrafficPart is (word ∷ words) h =
 header_fits : (before : Before) (line : List ℕ) → Gives (Fits before) (header_line line)
 header_fits before line =
     gives_then _ _ _ (gives_passed (not (is_text line)) NotText) (λ _ _.
-      gives_then _ _ _ (gives_passed (not (is_header (words_of line))) BadHeader) (λ _ _. gives_ok (Fits before) Nothing tt))
+    gives_then _ _ _ (gives_passed (not (is_header (words_of line))) BadHeader) (λ _ _. gives_ok (Fits before) Nothing tt))
 
 pub line_fits : (n : ℕ) (before : Before) (line : List ℕ) → Held before → Gives (Fits before) (line_gives n before line)
 line_fits n before line held =
     gives_if _ (n == 1) _ _ (header_fits before line)
     (gives_if _ (is_skipped line) _ _ (gives_ok (Fits before) Nothing tt)
     (gives_then _ _ _ (gives_passed (not (is_text line)) NotText) (λ _ _.
-      words_fit before held before.part refl (words_of line) (filter_filled (slice_split (λ b. b == 32) line)))))
+    words_fit before held before.part refl (words_of line) (filter_filled (slice_split (λ b. b == 32) line)))))
 
 pub after_held : (n : ℕ) (before : Before) (line : List ℕ) → Held before → Gives Held (after_line n before (line_gives n before line))
 after_held n before line held = by (line_gives n before line) (line_fits n before line held)

@@ -52,34 +52,34 @@ found_below names name n e = number_named_below names name n ((gives_found (numb
 pub pair_declared : (before : Before) (word : List ℕ) → Gives (λ pair. pair < length before.plan.pairs) (pair_word before word)
 pair_declared before word =
     gives_then _ _ _ (gives_any (name_word word)) (λ name _. record {
-      holds = λ n e. let lt : n < length (pair_names before) = found_below (pair_names before) name n e in let same = length-map before.plan.pairs (λ pair. pair.name) in omega arith
+      holds = λ n e. let lt : n < length (pair_names before) = found_below (pair_names before) name n e in let same = length-map before.plan.pairs (λ pair. pair.name) in omega arith;
     })
 
 pub dev_declared : (before : Before) (word : List ℕ) → Gives (λ dev. dev < length before.plan.devs) (dev_word before word)
 dev_declared before word =
     gives_then _ _ _ (gives_any (name_word word)) (λ name _. record {
-      holds = λ n e. let lt : n < length (dev_names before) = found_below (dev_names before) name n e in let same = length-map before.plan.devs (λ dev. dev.name) in omega arith
+      holds = λ n e. let lt : n < length (dev_names before) = found_below (dev_names before) name n e in let same = length-map before.plan.devs (λ dev. dev.name) in omega arith;
     })
 
 pub queue_among : (before : Before) (pair : ℕ) (side : Side) (word : List ℕ) → Gives (λ queue. queue < (side_plan (pair_plan before.plan pair) side).queues) (queue_word before pair side word)
 queue_among before pair side word =
     gives_then _ _ _ (gives_any (number_word word)) (λ queue _.
-      gives_then _ _ _ (gives_passed (not (nat_lt queue (side_plan (pair_plan before.plan pair) side).queues)) UnknownName) (λ _ e.
-        gives_ok _ queue (below queue (side_plan (pair_plan before.plan pair) side).queues e)))
+    gives_then _ _ _ (gives_passed (not (nat_lt queue (side_plan (pair_plan before.plan pair) side).queues)) UnknownName) (λ _ e.
+    gives_ok _ queue (below queue (side_plan (pair_plan before.plan pair) side).queues e)))
 
 pub name_is_new : (names : List (List ℕ)) (word : List ℕ) → Gives (λ name. has_name names name ≡ false) (new_name names word)
 name_is_new names word =
     gives_then _ _ _ (gives_any (name_word word)) (λ name _.
-      gives_then _ _ _ (gives_passed (has_name names name) Repeated) (λ _ e. gives_ok _ name e))
+    gives_then _ _ _ (gives_passed (has_name names name) Repeated) (λ _ e. gives_ok _ name e))
 
 -- Numbers
 
 pub number_within : (least most : ℕ) (word : List ℕ) → Gives (λ n. (least ≤ n) × (n ≤ most)) (number_between least most word)
 number_within least most word =
     gives_then _ _ _ (gives_any (number_word word)) (λ n _.
-      gives_then _ _ _ (gives_passed (nat_lt n least || nat_lt most n) BadNumber) (λ _ e.
-        let parts = or_parts (nat_lt n least) (nat_lt most n) e in
-        gives_ok (λ k. (least ≤ k) × (k ≤ most)) n (ltb-false n least parts.0, ltb-false most n parts.1)))
+    gives_then _ _ _ (gives_passed (nat_lt n least || nat_lt most n) BadNumber) (λ _ e.
+    let parts = or_parts (nat_lt n least) (nat_lt most n) e in
+    gives_ok (λ k. (least ≤ k) × (k ≤ most)) n (ltb-false n least parts.0, ltb-false most n parts.1)))
 
 -- Bytes
 
@@ -89,13 +89,13 @@ spelled (Err error) bytes e = cc e
 
 pub bytes_spelled : (word : List ℕ) → 0 < length word → Gives (λ bytes. 0 < length bytes) (hex_word word)
 bytes_spelled word some = record {
-  holds = λ bytes e. let ok = decode_of-ok word bytes (spelled (decode_of word) bytes e) in let twice : length word ≡ 2 * length bytes = ok.2 in omega arith
+  holds = λ bytes e. let ok = decode_of-ok word bytes (spelled (decode_of word) bytes e) in let twice : length word ≡ 2 * length bytes = ok.2 in omega arith;
 }
 
 pub bytes_counted : (count : ℕ) (word : List ℕ) → Gives (λ bytes. length bytes ≡ count) (hex_of count word)
 bytes_counted count word =
     gives_then _ _ _ (gives_any (hex_word word)) (λ bytes _.
-      gives_then _ _ _ (gives_passed (not (length bytes == count)) BadHex) (λ _ e. gives_ok _ bytes (eqb-true (length bytes) count (not-false (length bytes == count) e))))
+    gives_then _ _ _ (gives_passed (not (length bytes == count)) BadHex) (λ _ e. gives_ok _ bytes (eqb-true (length bytes) count (not-false (length bytes == count) e))))
 
 small_kind : (bytes : List ℕ) → IsBytes bytes → high_low bytes < 2 ^ 16
 small_kind [] h = lit< tt
@@ -105,7 +105,7 @@ small_kind (a ∷ b ∷ bytes) h = let high : a < 256 = h 0 in let low : b < 256
 bytes_are : (count : ℕ) (word : List ℕ) → Gives IsBytes (hex_of count word)
 bytes_are count word =
     gives_then {P = IsBytes} _ _ _ (record { holds = λ bytes e. (decode_of-ok word bytes (spelled (decode_of word) bytes e)).3 }) (λ bytes are.
-      gives_then _ _ _ (gives_passed (not (length bytes == count)) BadHex) (λ _ e. gives_ok _ bytes are))
+    gives_then _ _ _ (gives_passed (not (length bytes == count)) BadHex) (λ _ e. gives_ok _ bytes are))
 
 pub kind_is_small : (word : List ℕ) → Gives (λ kind. kind < 2 ^ 16) (kind_word word)
 kind_is_small word = gives_then _ _ _ (bytes_are 2 word) (λ bytes are. gives_ok _ (high_low bytes) (small_kind bytes are))

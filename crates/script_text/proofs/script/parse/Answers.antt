@@ -14,7 +14,7 @@ loop-rest-preserved c =
     let rest = c.cut.result.1 in
     let turn = line_turn n before text c.cut.result.0.now c.without_return.result.now rest c.cut.ensures.parts c.without_return.ensures in
     let few : n + (length text + 1) ≤ length c.args.bytes.now + 2 =
-        rw c.in-Some.is at c.loop-rest.invariant.counted in
+    rw c.in-Some.is at c.loop-rest.invariant.counted in
     record {
       read = c.loop-rest.invariant.read ∙ (ap (λ o. read_lines n before (option_map_or (λ text. lines_of text.now) o [])) c.in-Some.is
           ∙ (turn ∙ ap (then_lines n (option_map_or (λ text. lines_of text.now) rest [])) c.in_ok-before.ensures));
