@@ -1,6 +1,7 @@
 pub mod Before
 pub mod Compact
 pub mod Declarations
+pub mod Laws
 pub mod Reads
 pub mod Settings
 pub mod StepLines

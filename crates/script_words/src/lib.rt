@@ -4,6 +4,7 @@
 
 mod fault;
 mod given;
+pub mod laws;
 mod macros;
 pub mod options;
 mod parts;
