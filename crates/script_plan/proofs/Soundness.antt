@@ -1,5 +1,5 @@
 -- What a line gives keeps what holds of the lines so far.
-use Rattle.std.proofs.Common.{◌≡◌, ℕ, zero, suc, ◌+◌, ◌<◌, ◌≤◌, List, [], ◌∷◌, ◌++◌, length, map, slice_index, slice_index_or, slice_set, refl, sym, ◌∙◌, ap, subst, arith}
+use Rattle.std.proofs.Common.{◌≡◌, ℕ, zero, suc, ◌+◌, ◌<◌, ◌≤◌, List, [], ◌∷◌, ◌++◌, length, slice_index, slice_index_or, slice_set, refl, sym, ◌∙◌, ap, subst, arith}
 use Rattle.std.specs.List.{All}
 use Rattle.std.proofs.lemmas.List.{get_or_append_left, length-append, length-map}
 use Rattle.std.proofs.lemmas.List.Elements.{All-push, All-set, All-weaker}
@@ -74,14 +74,26 @@ agree_classed pair B queue class h = record { versions = h.versions; queues = h.
 
 pub class_fits : (pair : PairPlan) (side : Side) (queue class : ℕ) → IsPair pair → IsClass class → IsPair (with_class pair side queue class)
 class_fits pair A queue class h small = record {
-  side_a = h.side_a; side_b = h.side_b; known_transport = h.known_transport; mtu = h.mtu; long_header = h.long_header;
-  classes_a = λ k. classes_set pair.class_a queue class k h.classes_a small; classes_b = h.classes_b;
-  up = λ t. agree_classed pair A queue class (h.up t); raw = h.raw;
+  side_a = h.side_a;
+  side_b = h.side_b;
+  known_transport = h.known_transport;
+  mtu = h.mtu;
+  long_header = h.long_header;
+  classes_a = λ k. classes_set pair.class_a queue class k h.classes_a small;
+  classes_b = h.classes_b;
+  up = λ t. agree_classed pair A queue class (h.up t);
+  raw = h.raw;
 }
 class_fits pair B queue class h small = record {
-  side_a = h.side_a; side_b = h.side_b; known_transport = h.known_transport; mtu = h.mtu; long_header = h.long_header;
-  classes_a = h.classes_a; classes_b = λ k. classes_set pair.class_b queue class k h.classes_b small;
-  up = λ t. agree_classed pair B queue class (h.up t); raw = h.raw;
+  side_a = h.side_a;
+  side_b = h.side_b;
+  known_transport = h.known_transport;
+  mtu = h.mtu;
+  long_header = h.long_header;
+  classes_a = h.classes_a;
+  classes_b = λ k. classes_set pair.class_b queue class k h.classes_b small;
+  up = λ t. agree_classed pair B queue class (h.up t);
+  raw = h.raw;
 }
 
 -- a class leaves the sides of a pair
@@ -99,7 +111,6 @@ among_set (p ∷ pairs) zero zero now own e = e
 among_set (p ∷ pairs) zero (suc j) now own e = refl
 among_set (p ∷ pairs) (suc k) zero now own e = refl
 among_set (p ∷ pairs) (suc k) (suc j) now own e = among_set pairs k j now own e
-
 
 pub queue_classed : (plan : Plan) (pair : ℕ) (whose : Side) (among class : ℕ) (k : ℕ) (side : Side) (queue : ℕ) → IsQueueOf plan k side queue
     → IsQueueOf (record plan { pairs = slice_set plan.pairs pair (with_class (pair_plan plan pair) whose among class) }) k side queue

@@ -15,3 +15,6 @@ pub use names::Names;
 pub use pairs::Pairs;
 pub use reader::Reader;
 pub use traffic::TrafficList;
+
+#[cfg(test)]
+mod tests;

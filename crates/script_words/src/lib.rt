@@ -16,3 +16,6 @@ pub use fault::{Cause, LineError, ScriptFault};
 pub use given::Given;
 pub use macros::{Macro, Repeated};
 pub use parts::{Part, QueueName};
+
+#[cfg(test)]
+mod tests;
