@@ -27,7 +27,8 @@ pub fn read_rows<R: Input + AllocGlobal>(rt: &R) -> io::Result<Vec<Row>> {
 // Begins a row, or adds a line to the script of the last one.
 fn take_line(alloc: Global, rows: &mut Vec<Row>, line: &str) -> Result<(), AllocError> {
     if let Some(head) = line.strip_prefix("@ ") {
-        return rows.push(row_of(alloc, head)?);
+        rows.push(row_of(alloc, head)?)?;
+        return Ok(());
     }
     if let Some(row) = rows.last_mut() {
         row.script.extend_from_slice(line.as_bytes())?;

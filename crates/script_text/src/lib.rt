@@ -13,3 +13,6 @@ mod traffic_lines;
 pub use error::ParseError;
 pub use script::parse;
 pub use script_words::{Cause, ScriptFault};
+
+#[cfg(test)]
+mod tests;
