@@ -1,9 +1,9 @@
 -- Scripts that are cut behind a line feed, or go on otherwise there.
-use Rattle.std.proofs.Common.{◌≡◌, ℕ, zero, suc, ◌+◌, ◌-◌, ◌<◌, ◌≤◌, ◌==◌, Bool, true, false, cond, Result, Ok, Err, List, [], ◌∷◌, ◌++◌, length, get_or, take, drop, map, count_by, refl, sym, ◌∙◌, ap, subst, append_assoc, add-one, arith}
+use Rattle.std.proofs.Common.{◌≡◌, ℕ, suc, ◌+◌, ◌-◌, ◌<◌, ◌≤◌, ◌==◌, Bool, true, false, cond, Result, Ok, Err, List, [], ◌∷◌, ◌++◌, length, get_or, take, drop, map, count_by, refl, sym, ◌∙◌, ap, subst, append_assoc, arith}
 use Rattle.std.proofs.Math.ListN.{take-append-drop}
 use Rattle.std.proofs.Math.Seq.{take-suc}
 use Rattle.std.proofs.lemmas.Bool.{ne_eqb}
-use Rattle.std.proofs.lemmas.List.{map-append, length-append, length-map}
+use Rattle.std.proofs.lemmas.List.{map-append, length-map}
 use Rattle.std.proofs.lemmas.List.Splits.{length-slice_split}
 use Rattle.std.proofs.lemmas.List.Sums.{sum_by-append}
 use Rattle.std.specs.List.{slice_split, onto_first}
@@ -12,7 +12,7 @@ use Rattle.script_words.specs.Before.{Before, Given, nothing_before}
 use Rattle.script_words.specs.Words.{lines_of, without_return}
 use Rattle.script_words.specs.declared.fault.Cause.{Cause}
 use Rattle.script_words.specs.declared.fault.ScriptFault.{ScriptFault}
-use Rattle.script_text.specs.Laws.{LineEndsAt, FaultEndsAt}
+use Rattle.script_text.specs.Laws.{FaultEndsAt}
 use Rattle.script_text.specs.Parsed.{after_line}
 use Rattle.script_text.specs.Script.{line_gives, read_lines, plan_of, script_of}
 use Rattle.script_text.proofs.LinesRead.{then_lines, next_line}

@@ -1,11 +1,9 @@
 -- What a line among the declarations gives fits.
-use Rattle.std.proofs.Common.{◌≡◌, ℕ, ◌<◌, ◌≤◌, ◌==◌, Bool, true, false, not, ◌&&◌, Ok, Err, List, [], ◌∷◌, ◌++◌, length, codes, nat_lt, refl, arith}
+use Rattle.std.proofs.Common.{◌≡◌, ℕ, ◌≤◌, Bool, true, false, not, ◌&&◌, List, [], ◌∷◌, ◌++◌, length, codes, nat_lt, refl, arith}
 use Rattle.std.proofs.lemmas.Bool.{ltb-false, not-false}
 use Rattle.std.specs.List.{list_any, list_all}
 use Rattle.std.specs.Str.{bytes_eq}
 use Rattle.step_kinds.specs.Limits.{most_hosts, most_pairs, most_devices}
-use Rattle.step_kinds.specs.declared.names.Side.{Side}
-use Rattle.plan_model.specs.Plans.{side_plan, pair_plan}
 use Rattle.script_words.specs.Before.{Before, Given, Host, APair, ADevice, AClass, StepsBegin, TrafficBegins, pair_names, dev_names}
 use Rattle.script_words.specs.Declarations.{host_line, pair_line, dev_line, class_line, host_words, pair_words, dev_words, class_words, lone_word, declaration_line, host_word, threshold_word, sits_on, is_queue}
 use Rattle.script_words.specs.Settings.{settings_from, with_setting, setting_word, same_setting, in_range, goes_together, pair_with}
@@ -14,7 +12,7 @@ use Rattle.script_words.specs.Words.{side_word, number_word, behind}
 use Rattle.script_words.specs.declared.fault.Cause.TheVariants.{UnknownWord, Repeated, BadGeometry, TooMany}
 use Rattle.script_words.specs.declared.parts.Part.TheVariants.{Declarations}
 use Rattle.script_words.specs.declared.settings.Setting.{Setting}
-use Rattle.script_text.proofs.Fits.{Fits, AddsHost, AddsPair, AddsDevice, AddsClass}
+use Rattle.script_text.proofs.Fits.{Fits}
 use Rattle.script_text.proofs.Gives.{Gives, gives_ok, gives_fault, gives_then, gives_passed, gives_any, gives_if}
 use Rattle.script_text.proofs.PairFits.{pair_fits}
 use Rattle.script_text.proofs.WordFacts.{below, pair_declared, queue_among, name_is_new, number_within, bytes_counted}

@@ -1,30 +1,29 @@
 -- The steps of a line are ones that a script of its plan may make.
-use Rattle.std.proofs.Common.{◌≡◌, ℕ, ◌+◌, ◌*◌, ◌^◌, ◌<◌, ◌≤◌, Bool, true, false, not, ◌&&◌, cond, ◌⊎◌, inl, inr, Option, Some, None, Ok, Err, List, [], ◌∷◌, ◌++◌, length, codes, nat_lt, min, replicate, refl, sym, ap, arith}
+use Rattle.std.proofs.Common.{◌≡◌, ℕ, ◌+◌, ◌*◌, ◌<◌, ◌≤◌, Bool, true, false, not, ◌&&◌, ◌⊎◌, inl, inr, Option, Some, None, List, [], ◌∷◌, ◌++◌, length, codes, nat_lt, replicate, refl, arith}
 use Rattle.std.proofs.lemmas.Bool.{ltb-false, ltb-true, not-false, and_parts, and_cases}
 use Rattle.std.proofs.lemmas.List.Elements.{All-cons, All-nil, All-append, All-replicate}
 use Rattle.std.specs.List.{All}
 use Rattle.std.specs.Str.{bytes_eq}
 use Rattle.step_kinds.specs.Limits.{most_frame_bytes, most_steps}
-use Rattle.step_kinds.specs.Sides.{other_side}
 use Rattle.step_kinds.specs.declared.names.Side.{Side}
 use Rattle.step_kinds.specs.declared.plan.PairPlan.{PairPlan}
 use Rattle.step_kinds.specs.declared.plan.DevPlan.{DevPlan}
 use Rattle.step_kinds.specs.declared.plan.Plan.{Plan}
 use Rattle.step_kinds.specs.declared.steps.Step.{Step}
-use Rattle.step_kinds.specs.declared.steps.Step.TheVariants.{Enable, Train, Break, DropDone, Clean, Offer, Check, Ready, Join, Begin, QpDown, Xbegin, Post, Land, Look, Copy, Clear, Ack, Wake, Irq, Mask, Unmask, Spad, Poke, ShowMem, ShowPad, ShowQueue}
-use Rattle.plan_model.specs.DeclaredPlans.{IsQueueOf, IsDevice, IsDeviceOn, IsPermitted, IsFrame, IsPayload}
+use Rattle.step_kinds.specs.declared.steps.Step.TheVariants.{Enable, Clean, Offer, Check, Ready, Join, Begin, QpDown, Xbegin, Post, Land, Look, Copy, Clear, Ack, Wake, Irq, Mask, Unmask, Spad, Poke, ShowMem, ShowPad, ShowQueue}
+use Rattle.plan_model.specs.DeclaredPlans.{IsQueueOf, IsDevice, IsPermitted, IsFrame, IsPayload}
 use Rattle.plan_model.specs.Ethernet.{ethernet_header}
-use Rattle.plan_model.specs.Macros.{send, xmit, land_all, receive, offer_all, posts_in}
+use Rattle.plan_model.specs.Macros.{receive, posts_in}
 use Rattle.plan_model.specs.Plans.{side_plan, pair_plan, dev_plan, no_dev}
-use Rattle.script_words.specs.Before.{Before, Given, MoreSteps, TrafficBegins}
+use Rattle.script_words.specs.Before.{Before, MoreSteps, TrafficBegins}
 use Rattle.script_words.specs.StepLines as rules
 use Rattle.script_words.specs.StepLines.{NumberedSteps, largest_number, reach, ethernet_steps}
 use Rattle.script_words.specs.Words.{side_word, number_word}
 use Rattle.script_words.specs.declared.fault.Cause.TheVariants.{UnknownWord, BadNumber, UnknownName, BadPair, TooMany}
 use Rattle.script_words.specs.declared.parts.Part.TheVariants.{Declarations}
-use Rattle.script_text.proofs.Fits.{Fits, AddsSteps}
+use Rattle.script_text.proofs.Fits.{Fits}
 use Rattle.script_text.proofs.Gives.{Gives, gives_ok, gives_fault, gives_then, gives_passed, gives_any, gives_if, gives_known, if_some, none_some}
-use Rattle.script_text.proofs.WordFacts.{below, Filled, pair_declared, dev_declared, queue_among, number_within, bytes_spelled, bytes_counted, kind_is_small}
+use Rattle.script_text.proofs.WordFacts.{Filled, pair_declared, dev_declared, queue_among, number_within, bytes_spelled, bytes_counted, kind_is_small}
 
 -- Lists of steps
 

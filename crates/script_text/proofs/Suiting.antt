@@ -1,16 +1,15 @@
 -- What a line gives suits the lines so far.
-use Rattle.std.proofs.Common.{◌≡◌, ℕ, zero, suc, ◌+◌, ◌*◌, ◌-◌, ◌<◌, ◌≤◌, ◌==◌, cond, min, Bool, true, [], ◌∷◌, length, map, sum, count_by, refl, ◌∙◌, arith}
+use Rattle.std.proofs.Common.{◌≡◌, ℕ, zero, suc, ◌<◌, ◌≤◌, ◌==◌, true, [], ◌∷◌, length, map, count_by, refl, ◌∙◌, arith}
 use Rattle.std.proofs.lemmas.Bool.{eq-eqb}
 use Rattle.std.proofs.lemmas.List.Elements.{All-head}
 use Rattle.std.specs.List.{All}
 use Rattle.step_kinds.specs.Limits.{most_breaks}
 use Rattle.step_kinds.specs.declared.names.LaneName.{LaneName}
-use Rattle.step_kinds.specs.declared.plan.Traffic.{Traffic}
 use Rattle.step_kinds.specs.declared.plan.Traffic.TheVariants.{Send, Break as LinkLoss}
 use Rattle.lane_model.specs.Lane.{count_from}
 use Rattle.plan_model.specs.Plans.{pair_plan}
 use Rattle.plan_model.specs.Sizes.{sizes_of}
-use Rattle.plan_model.specs.TrafficPlans.{is_break_of, IsTraffic, frames_in, bytes_in}
+use Rattle.plan_model.specs.TrafficPlans.{is_break_of, IsTraffic}
 use Rattle.script_words.specs.Before.{Before}
 use Rattle.script_words.specs.Compact.{given_of, flood_of}
 use Rattle.script_words.specs.TrafficLines.{flood_frame}

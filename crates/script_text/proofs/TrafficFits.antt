@@ -1,5 +1,5 @@
 -- What a line of traffic gives fits: frames of lanes that may have traffic, within the limits.
-use Rattle.std.proofs.Common.{◌≡◌, ℕ, zero, suc, ◌+◌, ◌<◌, ◌≤◌, ◌==◌, Bool, true, false, not, ◌&&◌, ◌||◌, cond, Ok, Err, List, [], ◌∷◌, length, get_or, map, sum, count_by, codes, nat_lt, nat_le, refl, sym, ◌∙◌, subst, arith}
+use Rattle.std.proofs.Common.{◌≡◌, ℕ, zero, suc, ◌+◌, ◌<◌, ◌≤◌, ◌==◌, Bool, true, false, not, ◌||◌, cond, List, [], ◌∷◌, length, get_or, map, sum, count_by, codes, nat_lt, nat_le, refl, ◌∙◌, subst, arith}
 use Rattle.std.proofs.lemmas.Bool.{ltb-false, leb-true, not-false, not-true, and_parts, or_parts, eqb-true}
 use Rattle.std.proofs.lemmas.List.Elements.{All-cons, All-nil, All-map}
 use Rattle.std.proofs.lemmas.List.Sums.{sum_by-cons}
@@ -17,14 +17,14 @@ use Rattle.plan_model.specs.DeclaredPlans.{Agree}
 use Rattle.plan_model.specs.Plans.{side_plan, pair_plan}
 use Rattle.plan_model.specs.Sizes.{sizes_of}
 use Rattle.plan_model.specs.TrafficPlans.{frames_in, bytes_in, is_break_of, MayHaveTraffic, IsTrafficLane, IsTraffic}
-use Rattle.script_words.specs.Before.{Before, Given, MoreTraffic}
+use Rattle.script_words.specs.Before.{Before, MoreTraffic}
 use Rattle.script_words.specs.Settings.{agrees}
 use Rattle.script_words.specs.TrafficLines.{may_have_traffic, is_little, traffic_within, traffic_frame_line, flood_frame, flood_line, break_line, traffic_line}
 use Rattle.script_words.specs.Words.{side_word}
 use Rattle.script_words.specs.declared.fault.Cause.TheVariants.{UnknownWord, BadGeometry, BadPair, TooMany}
 use Rattle.script_words.specs.declared.parts.Part.TheVariants.{Declarations}
 use Rattle.script_plan.proofs.Floods.{length_flood_frame}
-use Rattle.script_text.proofs.Fits.{Fits, AddsTraffic}
+use Rattle.script_text.proofs.Fits.{Fits}
 use Rattle.script_text.proofs.Gives.{Gives, gives_ok, gives_fault, gives_then, gives_passed, gives_any, gives_if}
 use Rattle.script_text.proofs.PairFits.{sides_agree}
 use Rattle.script_text.proofs.WordFacts.{below, Filled, pair_declared, queue_among, number_within, bytes_spelled}

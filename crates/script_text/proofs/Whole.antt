@@ -1,12 +1,11 @@
 -- The lines so far declare a whole plan, and so does a script.
-use Rattle.std.proofs.Common.{◌≡◌, ℕ, zero, suc, ◌+◌, ◌<◌, ◌≤◌, ◌==◌, Bool, true, false, not, ◌&&◌, cond, inl, inr, Result, Ok, Err, List, [], ◌∷◌, ◌++◌, length, get_or, map, filter, sum, count_by, slice_set, slice_index_or, refl, sym, ◌∙◌, ap, subst, arith}
+use Rattle.std.proofs.Common.{◌≡◌, ℕ, zero, suc, ◌+◌, ◌<◌, ◌≤◌, ◌==◌, true, false, not, ◌&&◌, cond, inl, inr, Result, Ok, Err, List, [], ◌∷◌, ◌++◌, length, get_or, map, slice_set, refl, sym, ◌∙◌, ap, subst, arith}
 use Rattle.std.proofs.Math.Seq.{get_or-append_seam}
 use Rattle.std.proofs.lemmas.Bool.{eq-eqb, and_from, or_parts, both_ways, cases_lt}
 use Rattle.std.proofs.lemmas.List.{get_or_append_left, length-append, length-map}
 use Rattle.std.proofs.lemmas.List.Elements.{All-push, All-set, All-weaker, All-nil, All-map, All-append, All-from_get_or}
 use Rattle.std.proofs.lemmas.List.Sums.{sum_by-append}
 use Rattle.std.specs.List.{All, list_any, slice_split}
-use Rattle.step_kinds.specs.Limits.{most_pairs, most_steps, most_traffic_frames, most_traffic_bytes, most_breaks}
 use Rattle.step_kinds.specs.declared.names.Side.{Side}
 use Rattle.step_kinds.specs.declared.names.Side.TheVariants.{A, B}
 use Rattle.step_kinds.specs.declared.plan.PairPlan.{PairPlan}
@@ -19,11 +18,10 @@ use Rattle.step_kinds.specs.declared.steps.Step.{Step}
 use Rattle.step_kinds.specs.declared.steps.Step.TheVariants.{Enable, Train, Break, DropDone, Clean, Offer, Check, Ready, Join, Begin, QpDown, Xbegin, Post, Land, Look, Copy, Clear, Ack, Wake, Irq, Mask, Unmask, Spad, Poke, ShowMem, ShowPad, ShowQueue}
 use Rattle.plan_model.specs.DeclaredPlans.{IsPair, IsDevice, IsDeclared, IsQueueOf, IsDeviceOn, IsPermitted, SameQueue}
 use Rattle.plan_model.specs.Plans.{pair_plan, dev_plan, no_pair, no_dev}
-use Rattle.plan_model.specs.TrafficPlans.{frames_in, bytes_in, is_break_of, IsTraffic, IsTrafficLane, IsWhole}
+use Rattle.plan_model.specs.TrafficPlans.{frames_in, bytes_in, is_break_of, IsTraffic, IsWhole}
 use Rattle.script_words.specs.Before.{Before, nothing_before, with_given, with_class, Given, Nothing, Host, APair, ADevice, AClass, StepsBegin, TrafficBegins, MoreSteps, MoreTraffic}
 use Rattle.script_words.specs.Declarations.{sits_on, same_side}
-use Rattle.script_words.specs.Tests.{fault_if}
-use Rattle.script_words.specs.Words.{lines_of, words_of, is_skipped, is_text, is_filled}
+use Rattle.script_words.specs.Words.{lines_of, words_of, is_skipped, is_text}
 use Rattle.script_words.specs.declared.fault.Cause.{Cause}
 use Rattle.script_words.specs.declared.fault.Cause.TheVariants.{NotText, BadHeader}
 use Rattle.script_words.specs.declared.fault.ScriptFault.{ScriptFault}

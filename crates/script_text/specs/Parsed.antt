@@ -1,9 +1,8 @@
 -- What the code owes of a script's value, and a line's value as the lines after it take it.
-use Rattle.std.specs.Prelude.{◌≡◌, ℕ, Result, Ok, Err, List}
+use Rattle.std.specs.Prelude.{◌≡◌, ℕ, Result, Ok, Err}
 use Rattle.script_words.specs.Before.{Before, Given, with_given}
 use Rattle.script_words.specs.declared.fault.Cause.{Cause}
 use Rattle.script_words.specs.declared.fault.ScriptFault.{ScriptFault}
-use Rattle.script_text.specs.Script.{line_gives}
 use Rattle.script_text.specs.declared.error.ParseError.{ParseError}
 use Rattle.script_text.specs.declared.error.ParseError.TheVariants.{Fault, OutOfMemory}
 

@@ -1,4 +1,4 @@
-use Rattle.std.proofs.Common.{◌≡◌, ◌+◌, ◌≤◌, [], length, ◌∙◌, ap, arith}
+use Rattle.std.proofs.Common.{◌+◌, ◌≤◌, [], length, ◌∙◌, ap}
 use Rattle.std.specs.Option.{option_map_or}
 use Rattle.script_words.specs.Words.{lines_of}
 use Rattle.script_text.specs.Script.{read_lines}

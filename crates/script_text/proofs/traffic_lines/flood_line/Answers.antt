@@ -1,5 +1,4 @@
-use Rattle.std.proofs.Common.{rules, arith}
-use Rattle.std.proofs.lemmas.Grind.{common_steps}
+use Rattle.std.proofs.Common.{rules}
 use Rattle.step_kinds.specs.declared.names.LaneName.{LaneName}
 use Rattle.script_words.specs.Compact.{flood_of}
 use Rattle.script_words.specs.Tests.{and_then}
