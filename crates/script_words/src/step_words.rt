@@ -17,7 +17,7 @@ pub enum PairWord {
     Drop,
 }
 
-/// The first word of a line that has a pair and a side.
+/// The first word of a line that has a pair and a side: `enable`, `clean`, `offer`, `check`, `irq`, `offerall`.
 #[derive(Clone, Copy, Debug, PartialEq, Eq)]
 pub enum SideWord {
     Enable,
@@ -28,7 +28,8 @@ pub enum SideWord {
     OfferAll,
 }
 
-/// The first word of a line that has a pair, a side and a queue.
+/// The first word of a line that has a pair, a side and a queue: `ready`, `join`, `qpdown`, `post`, `look`, `copy`,
+/// `clear`, `ack`, `recv`.
 #[derive(Clone, Copy, Debug, PartialEq, Eq)]
 pub enum QueueWord {
     Ready,
@@ -42,7 +43,8 @@ pub enum QueueWord {
     Recv,
 }
 
-/// The first word of a line that has a pair, a side and a number.
+/// The first word of a line that has a pair, a side and a number: `land`, `landall`, `mask`, `unmask`, `showq`,
+/// `showspad`.
 #[derive(Clone, Copy, Debug, PartialEq, Eq)]
 pub enum NumberWord {
     Land,
@@ -53,7 +55,7 @@ pub enum NumberWord {
     ShowPad,
 }
 
-/// The first word of a line that has a pair, a side, a queue and bytes.
+/// The first word of a line that has a pair, a side, a queue and bytes: `begin`, `send`.
 #[derive(Clone, Copy, Debug, PartialEq, Eq)]
 pub enum FrameWord {
     Begin,
