@@ -1,3 +1,5 @@
+ghost use Rattle.std.specs.Prelude.{◌<◌, ◌↔◌, All, IsTrue, length};
+
 use super::*;
 use std::alloc::{AllocError, Global};
 use std::process::Abort;
@@ -194,6 +196,22 @@ const LANE: LaneName = LaneName {
     queue: 0,
 };
 
+/// Whether each count names a pair of the plan.
+fn all_counts_known(plan: &Plan, lanes: &[LaneCount]) -> bool
+    ensures { IsTrue result ↔ All (λ lane. lane.name.pair < length plan.now.pairs) lanes.now }
+{
+    let pairs = plan.pairs.len();
+    lanes.iter().all(|lane| (lane.name.pair as usize) < pairs)
+}
+
+/// Whether each lane of a run does.
+fn all_lanes_known(plan: &Plan, lanes: &[LaneRun]) -> bool
+    ensures { IsTrue result ↔ All (λ lane. lane.name.pair < length plan.now.pairs) lanes.now }
+{
+    let pairs = plan.pairs.len();
+    lanes.iter().all(|lane| (lane.name.pair as usize) < pairs)
+}
+
 #[test]
 fn a_report_of_answers_lanes_and_devices(rt: HostRuntime) -> Result<(), Fail> {
     let lines = [
@@ -228,7 +246,10 @@ fn a_report_of_answers_lanes_and_devices(rt: HostRuntime) -> Result<(), Fail> {
         rx_bytes: 0,
         short: 0,
     }];
-    let text = report(rt.alloc(), &plan(rt.alloc())?, &lines, &lanes, &devs)?;
+    let plan = plan(rt.alloc())?;
+    assert!(rt; all_counts_known(&plan, &lanes));
+    assert_eq!(rt; devs.len(), plan.devs.len());
+    let text = report(rt.alloc(), &plan, &lines, &lanes, &devs)?;
     let expected =
         "6 ok 0\n10 stopped\nlane p A 0 1 accepted 2 delivered 0\ndev d0 tx 2 30 1 rx 0 0 0\nend\n";
     assert_eq!(rt; text.as_slice(), expected.as_bytes());
@@ -260,7 +281,9 @@ fn a_run_of_two_sessions(rt: HostRuntime) -> Result<(), Fail> {
         name: LANE,
         sessions,
     })?;
-    let text = record_text(rt.alloc(), &plan(rt.alloc())?, &RunRecord { lanes })?;
+    let plan = plan(rt.alloc())?;
+    assert!(rt; all_lanes_known(&plan, lanes.as_slice()));
+    let text = record_text(rt.alloc(), &plan, &RunRecord { lanes })?;
     let expected =
         "lane p A 0 1 accepted 3 delivered 1 left 2\nframe 0 61\nleft 1 62\nleft 2 63\nlane p A 0 2 accepted 1 delivered 1 left 0\nframe 0 64\nend\n";
     assert_eq!(rt; text.as_slice(), expected.as_bytes());
