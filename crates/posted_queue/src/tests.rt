@@ -1,7 +1,7 @@
 ghost use Rattle.std.specs.Prelude.{◌<◌};
 
 use super::*;
-use order_rules::RELAXED;
+use order_rules::{RELAXED, STRICT};
 use plain::PlainQueue;
 use std::test::Fail;
 
