@@ -14,7 +14,7 @@ use order_rules::{STRICT, posted_table};
 use std::alloc::{AllocError, Global};
 use std::marker::Model;
 
-// Three levels of up to 64 parts over blocks of up to 64 writes: some 16 million writes.
+// Three levels of up to 64 parts over blocks of up to 256 writes: some 67 million writes.
 type Blocks<W> = Level<W, Level<W, Level<W, Block<W>>>>;
 
 /// Writes in the order in which they were posted, and the room that is promised for more.
@@ -74,7 +74,7 @@ impl<W: Ordered> BlockQueue<W> {
 
     /// Promises room for `more` writes, on top of those that are promised already.
     ///
-    /// An `Err` comes only from want of memory, and leaves the queue as it was. A queue has memory for 16,777,216 writes
+    /// An `Err` comes only from want of memory, and leaves the queue as it was. A queue has memory for 67,108,864 writes
     /// at most, and for fewer where landings out of order left most of each block empty.
     pub fn promise(&mut self, more: usize) -> Result<(), AllocError>
         ensures ok { OnOk result (self.new ≡ promised self.old more) }

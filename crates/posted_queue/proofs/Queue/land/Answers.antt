@@ -1,6 +1,5 @@
 use Rattle.std.proofs.Common.{◌≡◌, IsSome, arith, refl, ap, sym, subst, ◌∙◌}
 use Rattle.posted_queue.specs.Landing.{land_answer, after_landing}
-use Rattle.posted_queue.specs.declared.LandAnswer.TheVariants.{Landed, Blocked, Nothing}
 use Rattle.posted_queue.specs.Tickets.{AreKept, IsKept}
 use Rattle.posted_queue.proofs.TicketLanding.{LandsKept, lands_kept, landed-kept, blocks_kept, nothing_kept}
 use Rattle.posted_queue.proofs.Queue.land.Goals as goal

@@ -1,4 +1,4 @@
-use Rattle.std.proofs.Common.{◌≡◌, ◌<◌, ℕ, arith, ap, ◌∙◌}
+use Rattle.std.proofs.Common.{◌≡◌, arith, ap, ◌∙◌}
 use Rattle.posted_queue.specs.Flight.{posted}
 use Rattle.posted_queue.proofs.TicketLemmas.{PostsKept, posts_kept}
 use Rattle.posted_queue.proofs.Queue.push.Goals as goal
