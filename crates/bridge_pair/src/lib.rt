@@ -25,7 +25,7 @@ mod write;
 pub use book::SideBook;
 pub use pair::Pair;
 pub use plans::{
-    header_bytes, high_half, index_word_at, low_half, own_address, receiving_ring, sending_ring,
-    side_plan,
+    copy_of, header_bytes, high_half, index_word_at, low_half, memory_bytes, own_address,
+    receiving_ring, sending_ring, side_plan,
 };
 pub use write::{Target, Write, WriteBytes};

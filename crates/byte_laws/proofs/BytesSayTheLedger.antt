@@ -41,7 +41,7 @@ use Rattle.ledger_laws.proofs.Facade.{ring_law_of_receiver, index_word_is_tail, 
 use Rattle.byte_laws.specs.Readings.{BytesSayTheLedger}
 use Rattle.byte_laws.specs.Rings.{RingStandsAt, StandsAt}
 use Rattle.byte_laws.proofs.OrdinarySteps.{permitted_are_ordinary}
-use Rattle.byte_laws.proofs.RingsStand.{rings_stand}
+use Rattle.byte_laws.proofs.RingsStand.{rings_stand_in_memory}
 use Rattle.byte_laws.proofs.Sites.{sites_are_the_ledger}
 use Rattle.byte_laws.proofs.StepsReadAlike.{ReadAlike, read_alike}
 use Rattle.byte_laws.proofs.WhatIsRead.{layouts_alike, write_has_window, index_has_window, room_is_read, next_read, mod-twice, header_at_slot, address_at_slot, part_is_read}
@@ -111,7 +111,7 @@ module _ (plan : Plan) (steps : List Step) (k : ℕ) (declared : IsDeclared plan
   agreed side queue joined = joined_means_agreement plan (memory_of plan) steps k side queue is_pair ordinary joined
 
   stands : (from : Side) (queue : ℕ) → Has from queue → Agree Own → RingStandsAt Own Shown from queue (ring from queue)
-  stands from queue has agree = rings_stand plan steps (name from queue) declared permitted (record { declared = paired; ordinary = no_raw; agree = agree; among = has })
+  stands from queue has agree = rings_stand_in_memory plan steps (name from queue) declared permitted (record { declared = paired; ordinary = no_raw; agree = agree; among = has })
 
   has_ring : (from : Side) (queue : ℕ) → Has from queue → HasRing (layout_of Own from queue)
   has_ring from queue has = (each_queue_has_a_ring Own from queue is_pair has).0.ring

@@ -1,8 +1,8 @@
 -- Which spot of the receiver's memory each write of a pair fills as it lands.
-use Rattle.std.proofs.Common.{◌≡◌, ℕ, ◌+◌, ◌*◌, ◌<◌, ◌≤◌, Bool, true, false, Option, Some, None, List, [], ◌∷◌, ◌++◌, length, drop, refl, sym, ap, ◌∙◌, subst, inl, inr, arith, mod-lt}
+use Rattle.std.proofs.Common.{◌≡◌, ℕ, ◌+◌, ◌*◌, ◌<◌, ◌≤◌, Bool, true, false, Option, Some, None, List, length, drop, refl, sym, ap, ◌∙◌, subst, arith, mod-lt}
 use Rattle.std.specs.Prelude.{◌≢◌, ◌^◌, ◌%◌, ◌==◌}
 use Rattle.std.proofs.Math.Nat.{mul_comm}
-use Rattle.std.proofs.lemmas.List.{length-take, length-drop, length-append}
+use Rattle.std.proofs.lemmas.List.{length-take, length-drop}
 use Rattle.step_kinds.specs.Sides.{other_side}
 use Rattle.step_kinds.specs.declared.names.Side.{Side}
 use Rattle.step_kinds.specs.declared.names.Side.TheVariants.{A, B}
@@ -11,13 +11,12 @@ use Rattle.step_kinds.specs.declared.steps.Label.{Label}
 use Rattle.step_kinds.specs.declared.steps.Label.TheVariants.{Chunk, Len, Ver, Flag, Down, Bell, Index, Pad, Raw}
 use Rattle.lane_model.specs.Lane.{Entry, GoesDown, bytes_of, left_of, chunk_of, chunk_size, chunks_in, version_of}
 use Rattle.ring_geometry.specs.Geometry.{Layout, layout_with, HasRing, entries_of, window_of, max_payload_of, slot_of, header_of, index_of}
-use Rattle.ring_geometry.specs.Spots.{Rings, Spot, Payload, Header, Index as IndexSpot, layout_at, address_of, spot_at, spot_bytes}
+use Rattle.ring_geometry.specs.Spots.{Rings, Spot, Payload, Header, Index as IndexSpot, layout_at, address_of}
 use Rattle.plan_model.specs.DeclaredPlans.{Agree, IsPair}
 use Rattle.plan_model.specs.Plans.{side_plan}
 use Rattle.plan_model.specs.Sizes.{agreed_version, header_bytes, layout_of, layout_to}
 use Rattle.plan_model.proofs.Rings.{each_queue_has_a_ring}
 use Rattle.byte_model.specs.Addresses.{own_address, peer_address}
-use Rattle.byte_model.specs.Headers.{word_bytes}
 use Rattle.byte_model.specs.Stores.{Store}
 use Rattle.byte_model.proofs.Facade.{length-word_bytes}
 use Rattle.ledger_model.specs.Ledger.{PairPart, lane_of, entry_in}

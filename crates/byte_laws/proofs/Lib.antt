@@ -7,5 +7,6 @@ pub mod RingStores
 pub mod RingsStand
 pub mod Sites
 pub mod SlotStores
+pub mod StepStores
 pub mod StepsReadAlike
 pub mod WhatIsRead

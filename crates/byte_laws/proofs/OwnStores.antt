@@ -1,10 +1,10 @@
--- What a side stores in its own memory, and the index writes that land there: index words, zeroed headers and cleared flags.
-use Rattle.std.proofs.Common.{◌≡◌, ℕ, zero, suc, ◌+◌, ◌-◌, ◌*◌, ◌<◌, ◌≤◌, Bool, true, false, Option, Some, None, List, [], ◌∷◌, ◌++◌, length, map, take, drop, replicate, refl, sym, ap, ◌∙◌, subst, inl, inr, arith, append_assoc}
-use Rattle.std.specs.Prelude.{◌≢◌, ◌⊎◌, ◌^◌, ◌%◌, ◌==◌, if◌then◌else◌, slice_index_or, slice_set}
-use Rattle.std.specs.List.{flat_map}
+-- What a side stores in its own memory, and the index writes that land there: index words, zeroed headers and cleared
+-- flags.
+use Rattle.std.proofs.Common.{◌≡◌, ℕ, zero, suc, ◌+◌, ◌-◌, ◌<◌, ◌≤◌, Option, Some, None, List, [], ◌∷◌, ◌++◌, map, take, replicate, refl, sym, ap, ◌∙◌, subst, inl, inr, arith, append_assoc}
+use Rattle.std.specs.Prelude.{◌≢◌, ◌⊎◌, ◌%◌, ◌==◌, if◌then◌else◌, slice_index_or}
 use Rattle.std.proofs.Math.Nat.{mod-eq_of_lt, div-le_self}
 use Rattle.std.proofs.lemmas.Bool.{cases_eq, cond-true, cond-false, eq-eqb, ne_eqb}
-use Rattle.std.proofs.lemmas.List.{append-nil, length-map, length-replicate, take-replicate, drop-replicate, get_or-map, get_or-replicate}
+use Rattle.std.proofs.lemmas.List.{append-nil, length-map, length-replicate, take-replicate, drop-replicate, get_or-replicate}
 use Rattle.step_kinds.specs.Sides.{other_side}
 use Rattle.step_kinds.specs.declared.names.Side.{Side}
 use Rattle.step_kinds.specs.declared.plan.PairPlan.{PairPlan}
@@ -12,7 +12,7 @@ use Rattle.step_kinds.specs.declared.steps.Label.{Label}
 use Rattle.step_kinds.specs.declared.steps.Label.TheVariants.{Chunk, Len, Ver, Flag, Down, Bell, Index, Pad, Raw}
 use Rattle.lane_model.specs.Lane.{Slot, blank_slot, zeroed_slot, count_from, with_flags}
 use Rattle.ring_geometry.specs.Geometry.{Layout, HasRing, entries_of, max_payload_of, header_of, index_of, queues_in_window, ring_bytes, frame_size}
-use Rattle.ring_geometry.specs.Spots.{Rings, Spot, Payload, Header, Index as IndexSpot, layout_at, address_of, IsSpot, AreOther, spot_at}
+use Rattle.ring_geometry.specs.Spots.{Rings, Spot, Payload, Header, Index as IndexSpot, layout_at, address_of, AreOther, spot_at}
 use Rattle.plan_model.specs.DeclaredPlans.{Agree, IsPair}
 use Rattle.plan_model.specs.Plans.{side_plan}
 use Rattle.plan_model.specs.Sizes.{header_bytes, layout_of, layout_to}
@@ -21,24 +21,22 @@ use Rattle.byte_model.specs.FreshRings.{fresh_index_word, fresh_index_words, zer
 use Rattle.byte_model.specs.Headers.{word_bytes}
 use Rattle.byte_model.specs.RingWrites.{index_write, store_of_write}
 use Rattle.byte_model.specs.Stores.{Store}
-use Rattle.byte_model.proofs.Facade.{bytes_stored, length-word_bytes, word_stored, number_of, Leaves, Gives, leaves_none, leaves_both, gives_first, gives_later, leaves_each, gives_among, leaves_mapped, gives_mapped}
+use Rattle.byte_model.proofs.Facade.{bytes_stored, length-word_bytes, word_stored, number_of, Leaves, Gives, leaves_both, gives_later, leaves_each, gives_among, leaves_mapped, gives_mapped}
 use Rattle.ledger_model.specs.Labels.{index_of as index_in}
 use Rattle.ledger_model.specs.Ledger.{PairPart}
 use Rattle.ledger_model.specs.Rings.{with_index, without_header}
 use Rattle.memory_model.specs.Memory.{stored}
 use Rattle.memory_model.specs.Targets.{store_of}
 use Rattle.byte_laws.proofs.LabelStores.{rings_in, is_five, size_fits, same_queues, has_ring, slot_among_ring, written_at, own_at, IsFitting, spot_of, FillsSpot, field_inside, label_fills}
-use Rattle.byte_laws.proofs.RingStores.{RingIn, LeavesRing, leaves_nothing, ring_left, ring_set}
+use Rattle.byte_laws.proofs.RingStores.{RingIn, LeavesRing}
 use Rattle.byte_laws.proofs.SlotStores.{at_spot, word_at_spot, Fills, StandsIn, LeavesSlot, other_left, outside_left, flags_stand, zeroed_stands, nothing_stands, flags_at}
 
--- the entries of a ring are small
-pub entries_small : (plan : PairPlan) → IsPair plan → (side : Side) (queue : ℕ) → queue < (side_plan plan side).queues → entries_of (layout_of plan side queue) ≤ 268435456
-entries_small plan declared side queue among =
-    let l : Layout = layout_of plan side queue in
-    let window = (each_queue_has_a_ring plan side queue declared among).0.limits.window_fits in
+-- the entries of a ring are few
+entries_few : (l : Layout) → l.window ≤ 268435456 → entries_of l ≤ 268435456
+entries_few l small =
     let a = div-le_self l.window (queues_in_window l) in
     let b = div-le_self (ring_bytes l) (frame_size l) in
-    omega (arith, window, a, b)
+    omega (arith, a, b)
 
 -- Index writes
 
@@ -85,17 +83,9 @@ module _ (plan : PairPlan) (declared : IsPair plan) (agree : Agree plan) (from :
         given : Word (After (Index queue n)) ≡ n % entries_of (layout_to plan from queue)
         given =
             let below = slot_among_ring plan declared from queue n among in
-            let small : entries_of (layout_to plan from queue) ≤ 268435456 = entries_small_to in
+            let few = entries_few (layout_to plan from queue) (each_queue_has_a_ring plan from queue declared among).1.limits.window_fits in
             let there = written_at plan agree from queue (λ l. index_of l) in
-            word_stored (store_of_write plan from (index_write plan from queue n)) older 0 (spot_at Peer (IndexSpot queue)) (n % entries_of (layout_to plan from queue)) (omega (arith, there)) (omega (arith, length-word_bytes (n % entries_of (layout_to plan from queue)))) refl (omega (arith, below, small))
-          where
-            entries_small_to : entries_of (layout_to plan from queue) ≤ 268435456
-            entries_small_to =
-                let l : Layout = layout_to plan from queue in
-                let window = (each_queue_has_a_ring plan from queue declared among).1.limits.window_fits in
-                let a = div-le_self l.window (queues_in_window l) in
-                let b = div-le_self (ring_bytes l) (frame_size l) in
-                omega (arith, window, a, b)
+            word_stored (store_of_write plan from (index_write plan from queue n)) older 0 (spot_at Peer (IndexSpot queue)) (n % entries_of (layout_to plan from queue)) (omega (arith, there)) (omega (arith, length-word_bytes (n % entries_of (layout_to plan from queue)))) refl (omega (arith, below, few))
     index_lands (Chunk q n part) fits = left_by_label (Chunk q n part) fits tt
     index_lands (Len q n) fits = left_by_label (Len q n) fits tt
     index_lands (Ver q n) fits = left_by_label (Ver q n) fits tt
@@ -179,7 +169,7 @@ module _ (plan : PairPlan) (declared : IsPair plan) (agree : Agree plan) (side :
     headers_give n offset below inside =
         let read = at_spot Memory (Header queue n offset 4) in
         let apart = λ (q k : ℕ) (few : q < (side_plan plan side).queues) (less : k < entries_of (layout_at Memory q)) (differ : AreOther (Header q k 0 Memory.header) (Header queue n offset 4)).
-            other_left Memory small (Header q k 0 Memory.header) (Header queue n offset 4) (zeroed_header plan side q k) (header_fills q k few less) (ring_there, (below, inside)) differ in
+        other_left Memory small (Header q k 0 Memory.header) (Header queue n offset 4) (zeroed_header plan side q k) (header_fills q k few less) (ring_there, (below, inside)) differ in
         gives_among read (λ q. map (zeroed_header plan side q) (count_from 0 (EntriesOn q))) 0 Queues queue (replicate 4 0) (omega arith) (omega arith)
         (gives_mapped read (zeroed_header plan side queue) 0 (EntriesOn queue) n (replicate 4 0) (omega arith) (omega arith) (zeros_read n offset below inside)
         (λ k less differ. apart queue k among (omega arith) (inr (inl differ))))
@@ -212,7 +202,7 @@ module _ (plan : PairPlan) (declared : IsPair plan) (agree : Agree plan) (side :
         older)
         ∙ ap number_of (sym (bytes_stored (fresh_index_word plan side queue) [] 0 (fresh_index_word plan side queue).at 4 (omega arith) (omega (arith, length-word_bytes (entries_of (layout_of plan side queue) - 1)))))
         ∙ word_stored (fresh_index_word plan side queue) [] 0 (fresh_index_word plan side queue).at (entries_of (layout_of plan side queue) - 1) (omega arith) (omega (arith, length-word_bytes (entries_of (layout_of plan side queue) - 1))) refl
-        (omega (arith, entries_small plan declared side queue among))
+        (omega (arith, entries_few (layout_of plan side queue) (each_queue_has_a_ring plan side queue declared among).0.limits.window_fits))
 
     pub check_word : (older : List Store) → word_at_spot Memory (IndexSpot queue) ((fresh_index_words plan side ++ zeroed_headers plan side) ++ older) ≡ entries_of (layout_of plan side queue) - 1
     check_word older = ap (word_at_spot Memory (IndexSpot queue)) (append_assoc (fresh_index_words plan side) (zeroed_headers plan side) older) ∙ word_given (zeroed_headers plan side ++ older)

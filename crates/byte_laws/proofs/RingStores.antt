@@ -1,36 +1,28 @@
 -- A ring and an index word as they stand in a memory, and what each kind of store of a step makes of them.
-use Rattle.std.proofs.Common.{◌≡◌, ℕ, zero, suc, ◌+◌, ◌-◌, ◌*◌, ◌<◌, ◌≤◌, Bool, true, false, Option, Some, None, List, [], ◌∷◌, ◌++◌, length, map, take, drop, replicate, refl, sym, ap, ◌∙◌, subst, inl, inr, arith, mod-lt, length-set, get_or-set_same, get_or-set_other}
-use Rattle.std.specs.Prelude.{◌≢◌, ◌^◌, ◌%◌, ◌==◌, if◌then◌else◌, slice_index_or, slice_set}
-use Rattle.std.specs.List.{flat_map}
-use Rattle.std.proofs.Math.Nat.{mod-eq_of_lt, div-le_self}
+use Rattle.std.proofs.Common.{◌≡◌, ℕ, ◌+◌, ◌*◌, ◌<◌, ◌≤◌, Bool, Option, Some, None, List, ◌++◌, length, refl, sym, ap, ◌∙◌, subst, inl, inr, arith, mod-lt, length-set, get_or-set_same, get_or-set_other}
+use Rattle.std.specs.Prelude.{◌≢◌, ◌%◌, ◌==◌, if◌then◌else◌, slice_index_or, slice_set}
 use Rattle.std.proofs.lemmas.Bool.{cases_eq, cond-true, cond-false, eq-eqb, ne_eqb}
-use Rattle.std.proofs.lemmas.List.{length-map, length-replicate, take-replicate, drop-replicate}
 use Rattle.step_kinds.specs.Sides.{other_side}
 use Rattle.step_kinds.specs.declared.names.Side.{Side}
 use Rattle.step_kinds.specs.declared.plan.PairPlan.{PairPlan}
 use Rattle.step_kinds.specs.declared.steps.Label.{Label}
 use Rattle.step_kinds.specs.declared.steps.Label.TheVariants.{Chunk, Len, Ver, Flag, Down, Bell, Index, Pad, Raw}
-use Rattle.lane_model.specs.Lane.{Entry, Carries, GoesDown, Slot, blank_slot, zeroed_slot, bytes_of, left_of, chunk_of, chunk_size, count_from, done, flags_of, version_of, with_field, with_flags}
+use Rattle.lane_model.specs.Lane.{Entry, Carries, GoesDown, Slot, blank_slot, bytes_of, left_of, chunk_size, done, flags_of, version_of, with_flags}
 use Rattle.lane_model.specs.declared.Field.TheVariants.{Chunk as PayloadChunk, Length, Version}
 use Rattle.lane_model.specs.declared.Write.{Write}
 use Rattle.lane_model.specs.declared.Write.TheVariants.{Data, Flag as EntryFlag, Bell as QueueBell}
-use Rattle.ring_geometry.specs.Geometry.{Layout, HasRing, entries_of, max_payload_of, slot_of, header_of, index_of}
-use Rattle.ring_geometry.specs.Spots.{Rings, Spot, Payload, Header, Index as IndexSpot, layout_at, address_of, AreOther, spot_at}
+use Rattle.ring_geometry.specs.Geometry.{Layout, HasRing, entries_of, max_payload_of, slot_of, header_of}
+use Rattle.ring_geometry.specs.Spots.{Rings, layout_at, address_of}
 use Rattle.plan_model.specs.DeclaredPlans.{Agree, IsPair}
 use Rattle.plan_model.specs.Plans.{side_plan}
-use Rattle.plan_model.specs.Sizes.{header_bytes, layout_of, layout_to}
-use Rattle.plan_model.proofs.Rings.{each_queue_has_a_ring}
-use Rattle.byte_model.specs.FreshRings.{fresh_index_word, fresh_index_words, zeroed_header, zeroed_headers, zeroed_flags}
-use Rattle.byte_model.specs.Headers.{word_bytes}
-use Rattle.byte_model.specs.Stores.{Store, bytes_in}
-use Rattle.byte_model.proofs.Facade.{bytes_stored, length-word_bytes, word_stored, number_of, Leaves, Gives, leaves_none, leaves_both, gives_first, gives_later, leaves_each, gives_among, leaves_mapped, gives_mapped}
-use Rattle.ledger_model.specs.Labels.{write_of, index_of as index_in}
+use Rattle.byte_model.specs.Stores.{Store}
+use Rattle.ledger_model.specs.Labels.{write_of}
 use Rattle.ledger_model.specs.Ledger.{PairPart, LanePart, lane_of, entry_in}
-use Rattle.ledger_model.specs.Rings.{with_write, with_index, without_header}
+use Rattle.ledger_model.specs.Rings.{with_write}
 use Rattle.memory_model.specs.Memory.{stored}
 use Rattle.memory_model.specs.Targets.{store_of}
-use Rattle.byte_laws.proofs.LabelStores.{rings_in, is_five, size_fits, same_queues, same_layout, has_ring, payload_small, slot_among_ring, written_at, own_at, entry_on, IsFitting, spot_of, FillsSpot, IsOutsideOf, chunk_fits, label_fills, spot_leaves}
-use Rattle.byte_laws.proofs.SlotStores.{at_spot, word_at_spot, Fills, StandsIn, LeavesSlot, IsOutside, other_left, outside_left, slot_left, chunk_stands, length_stands, flags_stand, version_stands, zeroed_stands, nothing_stands, flags_at, length_at}
+use Rattle.byte_laws.proofs.LabelStores.{rings_in, is_five, size_fits, same_queues, same_layout, has_ring, payload_small, slot_among_ring, written_at, IsFitting, spot_of, IsOutsideOf, chunk_fits, label_fills, spot_leaves}
+use Rattle.byte_laws.proofs.SlotStores.{StandsIn, LeavesSlot, slot_left, chunk_stands, length_stands, flags_stand, version_stands, flags_at, length_at}
 
 -- a ring's slots in a memory
 pub record RingIn (rings : Rings) (five : Bool) (queue : ℕ) (stores : List Store) (ring : List Slot) : Type 0 where
@@ -40,10 +32,6 @@ pub record RingIn (rings : Rings) (five : Bool) (queue : ℕ) (stores : List Sto
 -- each of its slots is left
 abbrev pub LeavesRing : Rings → ℕ → List Store → Type 0
 LeavesRing rings queue new = (n : ℕ) → n < entries_of (layout_at rings queue) → LeavesSlot rings queue n new
-
--- what isn't stored
-pub leaves_nothing : (rings : Rings) (queue n : ℕ) → LeavesSlot rings queue n []
-leaves_nothing rings queue n = record { payload = λ older. refl; header = λ offset inside older. refl }
 
 module _ (plan : PairPlan) (declared : IsPair plan) (agree : Agree plan) (from : Side) (queue : ℕ) (among : queue < (side_plan plan from).queues) where
   -- the memory of the lane's receiver

@@ -6,7 +6,7 @@ use Rattle.step_kinds.specs.declared.plan.Plan.{Plan}
 use Rattle.step_kinds.specs.declared.steps.Step.{Step}
 use Rattle.plan_model.specs.DeclaredPlans.{IsDeclared, IsPairOf, IsPermitted}
 use Rattle.plan_model.specs.Plans.{pair_plan}
-use Rattle.ledger_model.specs.Next.{read_next, ledger_after}
+use Rattle.ledger_model.specs.Next.{read_next}
 use Rattle.ledger_model.specs.Log.{ledger_of}
 use Rattle.ledger_model.specs.Reading.{by_ledger, by_bytes}
 use Rattle.memory_model.specs.Memory.{bytes_of_site, memory_of, site_of}

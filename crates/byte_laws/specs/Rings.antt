@@ -7,7 +7,7 @@ use Rattle.step_kinds.specs.declared.names.Side.{Side}
 use Rattle.step_kinds.specs.declared.plan.PairPlan.{PairPlan}
 use Rattle.step_kinds.specs.declared.plan.Plan.{Plan}
 use Rattle.step_kinds.specs.declared.steps.Step.{Step}
-use Rattle.lane_model.specs.Lane.{Slot, blank_slot}
+use Rattle.lane_model.specs.Lane.{Slot}
 use Rattle.lane_model.specs.Law.{slot_among}
 use Rattle.plan_model.specs.DeclaredPlans.{Agree, IsDeclared, IsPairOf, IsPermitted}
 use Rattle.plan_model.specs.Plans.{pair_plan, side_plan}

@@ -1,22 +1,22 @@
--- What is read of a memory after a store: a store elsewhere leaves it, a store there is read back, and words are read back as they
--- were written. A list of stores leaves, or gives, what is read where its stores do.
-use Rattle.std.proofs.Common.{◌≡◌, ℕ, zero, suc, ◌+◌, ◌-◌, ◌<◌, ◌≤◌, ◌⊎◌, inl, inr, ⊎_elim, Bool, true, false, List, [], ◌∷◌, ◌++◌, length, map, take, drop, get_or, replicate, refl, sym, ap, ◌∙◌, subst, arith, append_assoc}
-use Rattle.std.specs.Prelude.{◌≢◌, ◌^◌, ◌&&◌, slice_index, nat_le, nat_lt, if◌then◌else◌}
+-- What is read of a memory after a store: a store elsewhere leaves it, a store there is read back, and words are read
+-- back as they were written. A list of stores leaves, or gives, what is read where its stores do.
+use Rattle.std.proofs.Common.{◌≡◌, ℕ, zero, suc, ◌+◌, ◌-◌, ◌<◌, ◌≤◌, ◌⊎◌, inl, inr, ⊎_elim, List, [], ◌∷◌, ◌++◌, length, map, take, drop, get_or, replicate, refl, sym, ap, ◌∙◌, subst, arith, append_assoc}
+use Rattle.std.specs.Prelude.{◌≢◌, ◌^◌, slice_index}
 use Rattle.std.specs.List.{flat_map}
 use Rattle.std.proofs.lemmas.Bool.{cases_eq, cases_lt, cond-true, cond-false}
 use Rattle.std.proofs.lemmas.Bool.Decides.{nat_tests}
 use Rattle.std.proofs.lemmas.Grind.{common_steps}
 use Rattle.std.proofs.lemmas.List.{append-nil, get_or_default, places, same_lists}
 use Rattle.byteorder.specs.Endian.{little_from, little_number}
-use Rattle.byteorder.specs.Numbers.{little_number-reads_back, little_from-take, length-bytes_low_first}
+use Rattle.byteorder.specs.Numbers.{little_number-reads_back, length-bytes_low_first}
 use Rattle.lane_model.specs.Lane.{count_from, overwritten}
 use Rattle.ring_geometry.specs.Laws.{StandApart}
 use Rattle.byte_model.specs.Headers.{word_bytes}
-use Rattle.byte_model.specs.Stores.{Store, store_at, covers, byte_in, bytes_in}
+use Rattle.byte_model.specs.Stores.{Store, covers, byte_in, bytes_in}
 
 -- One byte
 
-pub byte_elsewhere : (store : Store) (older : List Store) (address : ℕ) → (address < store.at) ⊎ (store.at + length store.bytes ≤ address) → byte_in (store ∷ older) address ≡ byte_in older address
+byte_elsewhere : (store : Store) (older : List Store) (address : ℕ) → (address < store.at) ⊎ (store.at + length store.bytes ≤ address) → byte_in (store ∷ older) address ≡ byte_in older address
 byte_elsewhere store older address apart = cond-false (covers store address) _ _ (⊎_elim (λ before. grind (arith, nat_tests, before)) (λ behind. grind (arith, nat_tests, behind)) apart)
 
 byte_stored : (store : Store) (older : List Store) (address : ℕ) → store.at ≤ address → address < store.at + length store.bytes
@@ -25,7 +25,7 @@ byte_stored store older address from to = cond-true (covers store address) _ _ (
 
 -- Bytes one after the other
 
-pub length-bytes_in : (stores : List Store) (at len : ℕ) → length (bytes_in stores at len) ≡ len
+length-bytes_in : (stores : List Store) (at len : ℕ) → length (bytes_in stores at len) ≡ len
 length-bytes_in stores at zero = refl
 length-bytes_in stores at (suc len) = ap suc (length-bytes_in stores (suc at) len)
 
@@ -129,7 +129,7 @@ abbrev pub Gives : {X : Type 0} → (List Store → X) → List Store → X → 
 Gives read new value = (older : List Store) → read (new ++ older) ≡ value
 
 module _ {X : Type 0} (read : List Store → X) where
-  pub leaves_none : Leaves read []
+  leaves_none : Leaves read []
   leaves_none older = refl
 
   pub leaves_both : (first second : List Store) → Leaves read first → Leaves read second → Leaves read (first ++ second)

@@ -1,16 +1,16 @@
 -- Worked examples of addresses, headers, index words and stores.
-use Rattle.std.specs.Prelude.{◌≡◌, ℕ, List, [], ◌∷◌, ◌++◌, true, false, replicate, Some, option_map}
+use Rattle.std.specs.Prelude.{◌≡◌, ℕ, [], ◌∷◌, replicate, Some, option_map}
 use Rattle.step_kinds.specs.declared.names.Side.TheVariants.{A, B}
 use Rattle.step_kinds.specs.declared.plan.PairPlan.{PairPlan}
 use Rattle.plan_model.specs.Examples.{small_side, small_pair, pieces_pair, two_queues}
 use Rattle.plan_model.specs.Sizes.{sizes_of}
 use Rattle.byte_model.specs.Addresses.{own_slot, own_header, own_index_word, peer_address, peer_slot, peer_header, peer_index_word}
-use Rattle.byte_model.specs.Headers.{Header, Found, NoEntry, ALinkDownEntry, AnotherVersion, TooManyBytes, AnEntry, found_with, header_with, version_bytes, len_offset, flags_offset, free_in_memory}
+use Rattle.byte_model.specs.Headers.{Header, NoEntry, ALinkDownEntry, AnotherVersion, TooManyBytes, AnEntry, found_with, header_with, version_bytes, len_offset, flags_offset, free_in_memory}
 use Rattle.step_kinds.specs.declared.steps.Label.TheVariants.{Chunk, Len, Ver, Flag, Down}
 use Rattle.lane_model.specs.Lane.{Carries, GoesDown}
 use Rattle.byte_model.specs.FreshRings.{fresh_index_word, zeroed_header, zeroed_flags}
 use Rattle.byte_model.specs.RingWrites.{entry_write, index_write, store_of_write}
-use Rattle.byte_model.specs.Stores.{Store, store_at, byte_in, bytes_in}
+use Rattle.byte_model.specs.Stores.{store_at, byte_in, bytes_in}
 
 -- the slots of a ring of four, their headers, and the index word at the end of the other side's area
 abbrev pub OneQueue : Type 0

@@ -5,7 +5,7 @@ use Rattle.step_kinds.specs.declared.plan.PairPlan.{PairPlan}
 use Rattle.step_kinds.specs.declared.steps.Label.{Label}
 use Rattle.step_kinds.specs.declared.steps.Label.TheVariants.{Chunk, Len, Ver, Flag, Down}
 use Rattle.lane_model.specs.Lane.{Entry, bytes_of, left_of, chunk_of, chunk_size, done}
-use Rattle.ring_geometry.specs.Geometry.{Layout, entries_of, window_of, slot_of, header_of, index_of}
+use Rattle.ring_geometry.specs.Geometry.{entries_of, window_of, slot_of, header_of, index_of}
 use Rattle.plan_model.specs.Sizes.{layout_of, layout_to}
 use Rattle.byte_model.specs.Addresses.{peer_address}
 use Rattle.byte_model.specs.Headers.{word_bytes, len_offset, flags_offset, version_bytes}

@@ -1,0 +1,11 @@
+pub mod Answered
+pub mod Beginning
+pub mod Entries
+pub mod EntryPages
+pub mod Finding
+pub mod NextLabel
+pub mod PostedBytes
+pub mod Progress
+pub mod Ready
+pub mod Spare
+pub mod WritePages

@@ -1,10 +1,11 @@
 -- What each call of a port answers, and what it leaves of the port, by the bytes that stand in the side's memory and the port's
 -- own counts, whoever wrote those bytes.
-use Rattle.std.specs.Prelude.{◌≡◌, ℕ, ◌+◌, ◌-◌, ◌||◌, Bool, true, false, not, Option, Some, None, List, [], ◌∷◌, ◌++◌, length, nat_le, nat_lt, if◌then◌else◌}
+use Rattle.std.specs.Prelude.{◌≡◌, ℕ, ◌+◌, ◌-◌, ◌||◌, Bool, Option, Some, None, List, [], ◌∷◌, ◌++◌, length, nat_le, nat_lt, if◌then◌else◌}
 use Rattle.step_kinds.specs.declared.lanes.Begun.{Begun}
 use Rattle.step_kinds.specs.declared.lanes.Begun.TheVariants.{Ok as BegunOk, TooLong, Busy, NoRoom}
 use Rattle.step_kinds.specs.declared.lanes.LaneCopy.{LaneCopy}
 use Rattle.step_kinds.specs.declared.lanes.LaneCopy.TheVariants.{Part, Whole, OutOfTurn as NotCopying}
+use Rattle.step_kinds.specs.declared.names.Side.{Side}
 use Rattle.step_kinds.specs.declared.steps.Label.{Label}
 use Rattle.lane_model.specs.Lane.{Entry, GoesDown, chunks_in}
 use Rattle.lane_model.specs.Ring.{head_of}
@@ -147,12 +148,14 @@ more_parts receiving = nat_lt (receiving.part + 1) (chunks_in receiving.len)
 abbrev pub more_entries : Receiving → Bool
 more_entries receiving = nat_lt 0 receiving.left
 
+abbrev pub part_answer : Receiving → List ℕ → LaneCopy
+part_answer receiving gathered =
+    if more_parts receiving then Part receiving.got receiving.part
+    else if more_entries receiving then Part receiving.got receiving.part
+    else Whole receiving.done gathered
+
 abbrev pub copy_answer : PortState → Bridge → LaneCopy
-copy_answer port bridge =
-    if not (is_copying port.receiving.phase) then NotCopying
-    else if more_parts port.receiving then Part port.receiving.got port.receiving.part
-    else if more_entries port.receiving then Part port.receiving.got port.receiving.part
-    else Whole port.receiving.done (gathered_next port bridge)
+copy_answer port bridge = if is_copying port.receiving.phase then part_answer port.receiving (gathered_next port bridge) else NotCopying
 
 abbrev pub part_copied : Receiving → List ℕ → Receiving
 part_copied receiving gathered =
@@ -182,15 +185,15 @@ after_ack port = if is_cleared port.receiving.phase then with_receiving port (re
 
 -- What the calls do to the pair
 
--- the first write left to post goes out
-abbrev pub posted_by : PortState → Bridge → Bridge
-posted_by port bridge = first next.todo where
-  next : Sending
-  next = next_begun port.queue port.sending
+-- the first of an entry's writes left to post goes out
+abbrev pub first_posted : Bridge → Side → Entry → List Label → Bridge
+first_posted bridge side entry [] = bridge
+first_posted bridge side entry (label ∷ labels) = ring_posted bridge side entry label
 
-  first : List Label → Bridge
-  first [] = bridge
-  first (label ∷ rest) = ring_posted bridge port.side next.entry label
+abbrev pub posted_by : PortState → Bridge → Bridge
+posted_by port bridge =
+    let next = next_begun port.queue port.sending in
+    first_posted bridge port.side next.entry next.todo
 
 abbrev pub cleared_by : PortState → Bridge → Bridge
 cleared_by port bridge = if is_copied port.receiving.phase then flags_cleared bridge port.side port.queue (last_got port.receiving) else bridge

@@ -1,6 +1,6 @@
 -- One queue of one side: how far it is with what it sends and with what it receives. It knows counts of its own and the entry
 -- under way, and no entry that is gone.
-use Rattle.std.specs.Prelude.{◌≡◌, ℕ, suc, ◌+◌, ◌-◌, ◌<◌, ◌≤◌, ◌||◌, Bool, not, Option, Some, None, List, [], ◌∷◌, ◌++◌, length, map, if◌then◌else◌}
+use Rattle.std.specs.Prelude.{ℕ, suc, ◌+◌, ◌||◌, Bool, not, List, [], ◌∷◌, ◌++◌, length, map, if◌then◌else◌}
 use Rattle.step_kinds.specs.declared.names.Side.{Side}
 use Rattle.step_kinds.specs.declared.plan.PairPlan.{PairPlan}
 use Rattle.step_kinds.specs.declared.steps.Label.{Label}

@@ -1,5 +1,5 @@
 -- What a call of a port sees of a pair and does to it.
-use Rattle.std.specs.Prelude.{◌≡◌, ℕ, ◌+◌, ◌-◌, ◌<◌, ◌≤◌, true, false, Option, Some, None, List, [], ◌∷◌, length, nat_lt, All, Any, Bool, if◌then◌else◌}
+use Rattle.std.specs.Prelude.{◌≡◌, ℕ, ◌+◌, ◌-◌, ◌≤◌, true, false, Option, Some, None, List, length, nat_lt, All, Any, Bool, if◌then◌else◌}
 use Rattle.step_kinds.specs.Sides.{other_side}
 use Rattle.step_kinds.specs.declared.names.Side.{Side}
 use Rattle.step_kinds.specs.declared.plan.PairPlan.{PairPlan}
@@ -13,12 +13,11 @@ use Rattle.byte_model.specs.Addresses.{own_header}
 use Rattle.byte_model.specs.Headers.{Bytes, flags_offset}
 use Rattle.byte_model.specs.FreshRings.{zeroed_flags}
 use Rattle.byte_model.specs.RingWrites.{WindowWrite, entry_write, index_write, store_of_write}
-use Rattle.byte_model.specs.Stores.{Store, store_at}
 use Rattle.host_memory.specs.Memory.{ArePromised, Touches, bytes_at, written}
 use Rattle.posted_queue.specs.Flight.{given_back, promised}
-use Rattle.bridge_pair.specs.Bridge.{Bridge, bytes_of, pages_of, flight_of, with_bytes, with_flight, with_pages}
+use Rattle.bridge_pair.specs.Bridge.{Bridge, bytes_of, pages_of, flight_of, with_bytes, with_flight}
 use Rattle.bridge_pair.specs.Calls.{after_post as after_posting}
-use Rattle.bridge_pair.specs.Writes.{PostedWrite, memory_write, bell_write}
+use Rattle.bridge_pair.specs.Writes.{memory_write, bell_write}
 use Rattle.frame_ring.specs.Port.{PortState, Left, writes_left, unused_of}
 
 -- the bytes of the two memories
@@ -70,11 +69,13 @@ flags_cleared bridge side queue n =
 abbrev pub IsReadyToLand : PairPlan → Side → List ℕ → WindowWrite → Type 0
 IsReadyToLand plan side pages write = reaches plan side write.window ≡ true → ArePromised (store_of_write plan side write).at (length write.bytes) pages
 
+-- a write that goes through no window needs no page
+abbrev pub IsReady : PairPlan → Side → List ℕ → Option WindowWrite → Type 0
+IsReady plan side pages None = Unit {0}
+IsReady plan side pages (Some write) = IsReadyToLand plan side pages write
+
 abbrev pub IsLeftReady : PairPlan → Side → List ℕ → Left → Type 0
-IsLeftReady plan side pages left = ready (entry_write plan side left.entry left.label) where
-  ready : Option WindowWrite → Type 0
-  ready None = Unit {0}
-  ready (Some write) = IsReadyToLand plan side pages write
+IsLeftReady plan side pages left = IsReady plan side pages (entry_write plan side left.entry left.label)
 
 -- the entry at hand: the one to be taken next, or the one that was taken last
 abbrev pub entry_at_hand : PortState → ℕ
@@ -94,12 +95,14 @@ HasPagesIn port bridge = HasPages port (pages_of bridge port.side) (pages_of bri
 abbrev pub TouchesWrite : PairPlan → Side → WindowWrite → ℕ → Type 0
 TouchesWrite plan side write page = (reaches plan side write.window ≡ true) × Touches (store_of_write plan side write).at (length write.bytes) page
 
+-- a write that goes through no window stores nothing
+abbrev pub TouchesOf : PairPlan → Side → ℕ → Option WindowWrite → Type 0
+TouchesOf plan side page None = ⊥
+TouchesOf plan side page (Some write) = TouchesWrite plan side write page
+
 -- the page has a byte of what one of these writes stores at the peer, through a window that the peer has
 abbrev pub TouchesLeft : PairPlan → Side → List Left → ℕ → Type 0
-TouchesLeft plan side lefts page = Any (λ (left : Left). touches (entry_write plan side left.entry left.label)) lefts where
-  touches : Option WindowWrite → Type 0
-  touches None = ⊥
-  touches (Some write) = TouchesWrite plan side write page
+TouchesLeft plan side lefts page = Any (λ (left : Left). TouchesOf plan side page (entry_write plan side left.entry left.label)) lefts
 
 -- Room
 

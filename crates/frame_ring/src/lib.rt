@@ -6,6 +6,16 @@
 //! A begin or a look promises all room and all pages that what follows it needs, so that no other call takes memory.
 #![tactic(auto)]
 
+mod gathered;
+mod port;
+mod posting;
+mod promises;
+mod reading;
+mod receiving;
+mod rings;
+mod sending;
+
+pub use port::Port;
 pub use step_kinds::{Begun, LaneCopy};
 
 /// What came of looking for the next entry. `ntb_transport` too decides by the flags of the header: without DONE nothing is

@@ -10,14 +10,14 @@ use Rattle.lane_model.specs.Steps.{after_begin, after_post, after_landing, after
 use Rattle.lane_model.specs.declared.Write.{Write}
 use Rattle.lane_model.specs.declared.Write.TheVariants.{Data, Flag, Bell}
 use Rattle.plan_model.specs.Labels.{label_of}
-use Rattle.lane_core.specs.declared.answers.Begun.{Begun}
-use Rattle.lane_core.specs.declared.answers.Begun.TheVariants.{Ok as Began, TooLong, Busy, NoRoom}
+use Rattle.step_kinds.specs.declared.lanes.Begun.{Begun}
+use Rattle.step_kinds.specs.declared.lanes.Begun.TheVariants.{Ok as Began, TooLong, Busy, NoRoom}
 use Rattle.lane_core.specs.declared.answers.LaneLand.{LaneLand}
 use Rattle.lane_core.specs.declared.answers.LaneLand.TheVariants.{Landed, Blocked, Nothing}
 use Rattle.lane_core.specs.declared.answers.LaneLook.{LaneLook}
 use Rattle.lane_core.specs.declared.answers.LaneLook.TheVariants.{Ready, Empty, PeerDown, OutOfTurn as LookOutOfTurn}
-use Rattle.lane_core.specs.declared.answers.LaneCopy.{LaneCopy}
-use Rattle.lane_core.specs.declared.answers.LaneCopy.TheVariants.{Part, Whole, OutOfTurn as CopyOutOfTurn}
+use Rattle.step_kinds.specs.declared.lanes.LaneCopy.{LaneCopy}
+use Rattle.step_kinds.specs.declared.lanes.LaneCopy.TheVariants.{Part, Whole, OutOfTurn as CopyOutOfTurn}
 
 -- the model's lane, with its queue and whether its writes are strict
 pub record LaneValue : Type 0 where

@@ -4,7 +4,7 @@
 -- and of strict lanes at once: only which landings may happen tells them apart.
 use Rattle.std.specs.Prelude.{◌≡◌, ℕ, suc, ◌+◌, ◌-◌, ◌*◌, ◌%◌, ◌<◌, ◌≤◌, true, List, [], ◌∷◌, ◌++◌, length, drop, take, slice_index_or, if◌then◌else◌, nat_lt, ◌⊎◌, Contains}
 use Rattle.lane_model.specs.Ring.{tail_of}
-use Rattle.lane_model.specs.Lane.{Entry, GoesDown, Field, Chunk, Length, Version, Write, Data, Flag, Bell, Slot, blank_slot, Lane, bytes_of, left_of, chunk_of, chunk_size, count_from, copies_of, data_of, writes_of, flags_of, version_of, entry_of, slot_of}
+use Rattle.lane_model.specs.Lane.{Entry, GoesDown, Field, Chunk, Length, Version, Write, Data, Flag, Bell, Slot, blank_slot, Lane, bytes_of, left_of, chunk_of, chunk_size, count_from, copies_of, data_of, writes_of, flags_of, version_of}
 use Rattle.lane_model.specs.declared.Phase.{Phase}
 use Rattle.lane_model.specs.declared.Phase.TheVariants.{Idle, Copying, Copied, Cleared}
 

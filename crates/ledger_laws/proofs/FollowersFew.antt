@@ -1,6 +1,6 @@
--- An entry is followed by no more entries of its frame than a frame of the length that a lane takes has pieces beside it.
-use Rattle.std.proofs.Common.{◌≡◌, ℕ, zero, suc, ◌+◌, ◌<◌, ◌≤◌, false, List, [], ◌∷◌, ◌++◌, length, map, sym, subst, arith}
-use Rattle.std.specs.Prelude.{◌-◌, ◌⊎◌, slice_index_or, max}
+-- An entry is followed by no more entries of its frame than a frame of a length that the lane takes has pieces beside
+-- it.
+use Rattle.std.proofs.Common.{◌≡◌, ℕ, zero, suc, ◌<◌, ◌≤◌, false, List, [], ◌∷◌, length, map, sym, subst, arith}
 use Rattle.std.specs.List.{AllByRecursion}
 use Rattle.std.proofs.lemmas.Bool.{both_ways}
 use Rattle.step_kinds.specs.declared.names.LaneName.{LaneName}
@@ -10,7 +10,7 @@ use Rattle.lane_model.specs.Lane.{Entry, GoesDown, left_of, count_from}
 use Rattle.lane_model.specs.Law.{entry_among}
 use Rattle.ledger_model.specs.Ledger.{LanePart, lane_of}
 use Rattle.ledger_model.specs.Log.{Answered, Memories, ledger_of}
-use Rattle.ledger_model.specs.Pieces.{piece_of, pieces_of}
+use Rattle.ledger_model.specs.Pieces.{piece_of}
 use Rattle.plan_model.specs.Plans.{pair_plan}
 use Rattle.plan_model.specs.Sizes.{Sizes, pieces_in}
 use Rattle.ledger_laws.specs.Laws.{IsOrdinaryPair}

@@ -1,12 +1,10 @@
 -- The handshake: each side offers its numbers in the peer's scratchpads, checks the peer's, and says which queues are
 -- ready and joined. `ntb_transport` agrees on versions, queues, windows and link bits in the same way.
-use Rattle.std.specs.Prelude.{ℕ, ◌+◌, ◌*◌, ◌/◌, ◌%◌, ◌^◌, ◌==◌, ◌&&◌, ◌||◌, Bool, true, not, Option, Some, None, List, [], ◌∷◌, ◌++◌, length, slice_index, slice_index_or, find, nat_lt}
-use Rattle.std.specs.List.{flat_map}
+use Rattle.std.specs.Prelude.{ℕ, ◌+◌, ◌*◌, ◌==◌, ◌&&◌, ◌||◌, Bool, true, not, Option, Some, None, length, slice_index, slice_index_or, find, nat_lt}
 use Rattle.step_kinds.specs.Bits.{with_bit, has_bit}
 use Rattle.step_kinds.specs.declared.names.Side.{Side}
 use Rattle.step_kinds.specs.declared.plan.SidePlan.{SidePlan}
 use Rattle.step_kinds.specs.declared.plan.PairPlan.{PairPlan}
-use Rattle.step_kinds.specs.declared.steps.Label.{Label}
 use Rattle.step_kinds.specs.declared.steps.Label.TheVariants.{Pad}
 use Rattle.step_kinds.specs.declared.steps.Answer.{Answer}
 use Rattle.step_kinds.specs.declared.steps.Answer.TheVariants.{Ok as Done, LinkDown, Already, Offered, NotYet, Version, Queues, Windows, Size, Up, NotChecked, NotReady, Joined}

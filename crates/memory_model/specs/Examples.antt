@@ -1,14 +1,13 @@
 -- Worked examples of what memories show, and of the steps that read bytes or write more than one version of a header.
-use Rattle.std.specs.Prelude.{◌≡◌, ℕ, ◌+◌, List, [], ◌∷◌, ◌++◌, map, drop, take, replicate, true, false, Some, None}
-use Rattle.step_kinds.specs.declared.names.Side.{Side}
+use Rattle.std.specs.Prelude.{◌≡◌, ℕ, List, [], ◌∷◌, ◌++◌, map, drop, take, replicate, true, false, Some}
 use Rattle.step_kinds.specs.declared.names.Side.TheVariants.{A, B}
 use Rattle.step_kinds.specs.declared.plan.PairPlan.{PairPlan}
 use Rattle.step_kinds.specs.declared.steps.Label.TheVariants.{Chunk, Len, Ver, Flag, Bell, Index, Pad, Raw}
 use Rattle.step_kinds.specs.declared.steps.Answer.{Answer}
-use Rattle.step_kinds.specs.declared.steps.Answer.TheVariants.{Ok as Done, OkSession, OkNumber, Up, Joined, Closed, TooLong, Busy, Again, Idle, Posted, Blocked, Landed, Empty, PeerDown, VerDiffers, Long, ReadyFrame, Copied, Delivered, Cleared, Acked, Mem, QueueShown}
+use Rattle.step_kinds.specs.declared.steps.Answer.TheVariants.{Ok as Done, OkSession, OkNumber, Up, Joined, Closed, TooLong, Busy, Again, Idle, Posted, Blocked, Landed, PeerDown, VerDiffers, Long, ReadyFrame, Copied, Delivered, Cleared, Acked, Mem, QueueShown}
 use Rattle.step_kinds.specs.declared.steps.Step.{Step}
-use Rattle.step_kinds.specs.declared.steps.Step.TheVariants.{Enable, Train, Break, DropDone, Clean, Check, Ready, Join, Begin, Post, Land, Look, Copy, Clear, Ack, Spad, Poke, ShowMem, ShowQueue}
-use Rattle.ledger_model.specs.Examples.{small_side, small_pair, relaxed_pair, plan_of, letter, sent_answers, landed_answers, received_answers}
+use Rattle.step_kinds.specs.declared.steps.Step.TheVariants.{Enable, Train, Break, DropDone, Clean, Check, Ready, Join, Begin, Land, Look, Copy, Spad, Poke, ShowMem, ShowQueue}
+use Rattle.ledger_model.specs.Examples.{small_side, small_pair, relaxed_pair, plan_of, letter, landed_answers, received_answers}
 use Rattle.ledger_model.specs.Log.{log_of}
 use Rattle.memory_model.specs.Memory.{memory_of}
 use Rattle.plan_model.specs.Macros.{send, land_all, receive, offer_all}

@@ -1,5 +1,5 @@
 -- What the memories of a pair show after a list of steps: each byte is the last one stored there, else 0.
-use Rattle.std.specs.Prelude.{ℕ, ◌==◌, ◌&&◌, Option, Some, None, List, [], ◌∷◌, ◌++◌, map, slice_index_or, if◌then◌else◌}
+use Rattle.std.specs.Prelude.{ℕ, ◌==◌, Option, Some, None, List, [], ◌∷◌, ◌++◌, map, slice_index_or, if◌then◌else◌}
 use Rattle.step_kinds.specs.Sides.{other_side}
 use Rattle.step_kinds.specs.Subject.{subject_of}
 use Rattle.step_kinds.specs.declared.names.Side.{Side}
@@ -13,9 +13,8 @@ use Rattle.step_kinds.specs.declared.steps.Step.{Step}
 use Rattle.step_kinds.specs.declared.steps.Step.TheVariants.{Land, Check, Clear}
 use Rattle.plan_model.specs.Both.{Both, at_side}
 use Rattle.ledger_model.specs.Ledger.{PairPart, side_of}
-use Rattle.ledger_model.specs.Log.{Answered, Memories, same_side}
+use Rattle.ledger_model.specs.Log.{Memories, same_side}
 use Rattle.ledger_model.specs.Next.{fresh_pair, pair_next}
-use Rattle.ledger_model.specs.Outcome.{Outcome}
 use Rattle.byte_model.specs.Headers.{Bytes}
 use Rattle.ledger_model.specs.Receiving.{raws_before}
 use Rattle.byte_model.specs.Stores.{Store, bytes_in}

@@ -14,12 +14,12 @@ use Rattle.lane_model.specs.Steps.{after_landing}
 use Rattle.lane_model.specs.declared.Write.{Write}
 use Rattle.lane_model.specs.declared.Write.TheVariants.{Data, Flag, Bell}
 use Rattle.lane_core.specs.Calls.{LaneValue, with_lane, begin_answer, after_beginning, post_answer, after_posting, after_first_post, land_answer, after_land, after_found, may_land_in, land_index_answer, after_land_index, after_index_found, may_land_index, look_answer, after_looking, copy_answer, after_copying, is_copying, clear_answer, after_clearing, is_copied, ack_answer, after_acking, is_cleared}
-use Rattle.lane_core.specs.declared.answers.Begun.{Begun}
-use Rattle.lane_core.specs.declared.answers.Begun.TheVariants.{Ok as Began, TooLong, Busy, NoRoom}
+use Rattle.step_kinds.specs.declared.lanes.Begun.{Begun}
+use Rattle.step_kinds.specs.declared.lanes.Begun.TheVariants.{Ok as Began, TooLong, Busy, NoRoom}
 use Rattle.lane_core.specs.declared.answers.LaneLand.{LaneLand}
 use Rattle.lane_core.specs.declared.answers.LaneLook.{LaneLook}
 use Rattle.lane_core.specs.declared.answers.LaneLook.TheVariants.{Ready, Empty, PeerDown, OutOfTurn}
-use Rattle.lane_core.specs.declared.answers.LaneCopy.{LaneCopy}
+use Rattle.step_kinds.specs.declared.lanes.LaneCopy.{LaneCopy}
 use Rattle.lane_model.specs.Steps.{more_to_copy}
 use Rattle.ledger_model.specs.Ledger.{PairPart}
 use Rattle.byte_model.specs.Headers.{Bytes}

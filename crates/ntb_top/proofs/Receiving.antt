@@ -19,8 +19,8 @@ use Rattle.lane_core.specs.Calls as calls
 use Rattle.lane_core.specs.Calls.{LaneValue, look_answer, after_looking, copy_answer, after_copying, clear_answer, after_clearing, ack_answer, after_acking}
 use Rattle.lane_core.specs.declared.answers.LaneLook.{LaneLook}
 use Rattle.lane_core.specs.declared.answers.LaneLook.TheVariants.{Empty as NothingStands, OutOfTurn as LookOutOfTurn}
-use Rattle.lane_core.specs.declared.answers.LaneCopy.{LaneCopy}
-use Rattle.lane_core.specs.declared.answers.LaneCopy.TheVariants.{Part, Whole, OutOfTurn as CopyOutOfTurn}
+use Rattle.step_kinds.specs.declared.lanes.LaneCopy.{LaneCopy}
+use Rattle.step_kinds.specs.declared.lanes.LaneCopy.TheVariants.{Part, Whole, OutOfTurn as CopyOutOfTurn}
 use Rattle.ledger_model.specs.Ledger.{LanePart, PairPart, Tally, side_of, lane_of, tally_of, with_lane, with_side_part, posts, entry_in}
 use Rattle.ledger_model.specs.Outcome.{Outcome, refuse_if, decided}
 use Rattle.ledger_model.specs.Reading.{by_ledger, found_entry, found_in_ledger, part_in_ledger}

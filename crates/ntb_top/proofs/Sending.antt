@@ -25,8 +25,8 @@ use Rattle.lane_laws.proofs.Facade.{contains_first}
 use Rattle.lane_laws.proofs.Facade.{free_is_room}
 use Rattle.lane_core.specs.Calls as calls
 use Rattle.lane_core.specs.Calls.{LaneValue, begin_answer, after_beginning, first_label, post_answer, after_first_post, after_posting}
-use Rattle.lane_core.specs.declared.answers.Begun.{Begun}
-use Rattle.lane_core.specs.declared.answers.Begun.TheVariants.{Ok as Began, TooLong as FrameTooLong, Busy as LaneBusy, NoRoom}
+use Rattle.step_kinds.specs.declared.lanes.Begun.{Begun}
+use Rattle.step_kinds.specs.declared.lanes.Begun.TheVariants.{Ok as Began, TooLong as FrameTooLong, Busy as LaneBusy, NoRoom}
 use Rattle.plan_model.specs.Labels.{label_of}
 use Rattle.ledger_model.specs.Ledger.{LanePart, PairPart, Tally, begun_in, side_of, lane_of, tally_of, with_lane, with_side_part, link_up, posts}
 use Rattle.ledger_model.specs.Outcome.{Outcome, refuse_if, decided}

@@ -30,8 +30,8 @@ use Rattle.ntb_top.specs.declared.engine.Engine.{Engine}
 abbrev pub frame_label : Write → Label
 frame_label mark = label_of 0 (Carries [] 0) mark
 
--- While a receiver copies an entry, the ledger has its length, that no other entry of its frame follows, and the bytes copied so
--- far; else it has no bytes.
+-- While a receiver copies an entry, the ledger has its length, that no other entry of its frame follows, and the bytes
+-- copied so far; else it has no bytes.
 abbrev pub IsUnderWay : Phase → (part len left : ℕ) → List ℕ → Entry → Type 0
 IsUnderWay Copying part len left gathered entry =
     (len ≡ length (bytes_of entry)) × (left ≡ 0) × (gathered ≡ take (chunk_size * part) (bytes_of entry))
@@ -95,7 +95,8 @@ pub record IsMade (step : Step) (answer : Answer) (old new : Engine) : Type 0 wh
       (answer ≡ (pair_next [] plan bytes now step).answer) × EngineShows new plan (pair_next [] plan bytes now step).after
   pub one_more : length new.lane.lane.sent ≤ length old.lane.lane.sent + 1
 
--- a pair that a script can declare: ordinary, with sides of one window and one queue, all writes of class 0, and a link that is up
+-- a pair that a script can declare: ordinary, with sides of one window and one queue, all writes of class 0, and a link
+-- that is up
 pub record IsBuiltPair (plan : PairPlan) : Type 0 where
   pub side_a : plan.a ≡ side_with plan.a.size
   pub side_b : plan.b ≡ plan.a

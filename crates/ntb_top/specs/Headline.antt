@@ -20,7 +20,7 @@ pub record IsTrueLog (plan : Plan) : Type 0 where
   pub in_order : (lane : LaneName) (session : ℕ) → IsInOrder plan (log_of_plan plan) lane session
   -- no frame is delivered twice
   pub once : (lane : LaneName) (session n : ℕ) → times_of n (delivered plan (log_of_plan plan) lane session) < 2
-  -- `again` comes exactly where the step isn't refused for another reason, and the ring has less room than the step needs
+  -- `again` comes exactly where the step isn't refused for another reason, and the ring has less room than it needs
   pub again : (before behind : List Step) (step : Step) (answer : Answer) (lane : LaneName) → steps_of_plan plan ≡ before ++ step ∷ behind →
       lane_begun_by step ≡ Some lane → GoesOn plan no_memories before step answer →
       is_again answer ≡ (not (refused_earlier plan (ledger_of plan no_memories before lane.pair) step) && nat_lt (room_in plan (log_of plan no_memories before) lane) (entries_needed plan lane step))

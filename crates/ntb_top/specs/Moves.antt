@@ -3,14 +3,14 @@ use Rattle.std.specs.Prelude.{ℕ, ◌+◌, Option, Some, None}
 use Rattle.step_kinds.specs.declared.steps.Answer.{Answer}
 use Rattle.step_kinds.specs.declared.steps.Answer.TheVariants.{OkNumber, TooLong, Busy, Again, Idle, Posted, Nothing, Blocked, Landed, OutOfTurn, Empty, PeerDown, ReadyFrame, Copied, Delivered, Cleared, Acked}
 use Rattle.step_kinds.specs.declared.steps.Label.{Label}
-use Rattle.lane_core.specs.declared.answers.Begun.{Begun}
-use Rattle.lane_core.specs.declared.answers.Begun.TheVariants.{Ok as Began, TooLong as FrameTooLong, Busy as LaneBusy, NoRoom}
+use Rattle.step_kinds.specs.declared.lanes.Begun.{Begun}
+use Rattle.step_kinds.specs.declared.lanes.Begun.TheVariants.{Ok as Began, TooLong as FrameTooLong, Busy as LaneBusy, NoRoom}
 use Rattle.lane_core.specs.declared.answers.LaneLand.{LaneLand}
 use Rattle.lane_core.specs.declared.answers.LaneLand.TheVariants.{Landed as WriteLanded, Blocked as WriteBlocked, Nothing as NothingThere}
 use Rattle.lane_core.specs.declared.answers.LaneLook.{LaneLook}
 use Rattle.lane_core.specs.declared.answers.LaneLook.TheVariants.{Ready, Empty as NothingStands, PeerDown as DownStands, OutOfTurn as LookOutOfTurn}
-use Rattle.lane_core.specs.declared.answers.LaneCopy.{LaneCopy}
-use Rattle.lane_core.specs.declared.answers.LaneCopy.TheVariants.{Part, Whole, OutOfTurn as CopyOutOfTurn}
+use Rattle.step_kinds.specs.declared.lanes.LaneCopy.{LaneCopy}
+use Rattle.step_kinds.specs.declared.lanes.LaneCopy.TheVariants.{Part, Whole, OutOfTurn as CopyOutOfTurn}
 
 abbrev pub begun_answer : Begun → Answer
 begun_answer (Began n) = OkNumber n

@@ -126,8 +126,8 @@ abbrev pub on_queue : List (List ℕ) → List Step → Option (List Step)
 on_queue (queue ∷ []) steps = only_if (is_zero_word queue) steps
 on_queue words steps = None
 
--- A frame is begun and all its writes are posted. How many these are the pair's version alone says, and so far each pair has
--- version 4.
+-- A frame is begun and all its writes are posted. On version 4 the frame alone says how many these are, and so far each
+-- pair has version 4.
 abbrev pub send : List ℕ → List Step
 send frame = macros.send (pair_with [] no_options) 0 A 0 frame
 

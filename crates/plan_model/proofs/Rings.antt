@@ -1,18 +1,17 @@
 -- Each queue of a declared pair has a ring: an area has 256 bytes at least.
-use Rattle.std.proofs.Common.{◌≡◌, ℕ, zero, suc, ◌+◌, ◌-◌, ◌*◌, ◌/◌, ◌%◌, ◌<◌, ◌≤◌, ◌⊎◌, inl, inr, true, false, Bool, min, nat_lt, if◌then◌else◌, refl, sym, ap, arith, ◌==◌, ◌&&◌}
+use Rattle.std.proofs.Common.{◌≡◌, ℕ, zero, suc, ◌+◌, ◌-◌, ◌*◌, ◌/◌, ◌%◌, ◌<◌, ◌≤◌, ◌⊎◌, inl, inr, true, false, Bool, min, nat_lt, if◌then◌else◌, refl, arith, ◌==◌, ◌&&◌}
 use Rattle.std.proofs.Math.Nat.{le-mul_of_pos_right, mod-eq_of_lt, mod-eq-sub-mul-div, mod-lt}
 use Rattle.std.proofs.lemmas.Nat.{le-div}
 use Rattle.std.proofs.lemmas.Bool.Decides.{nat_tests}
 use Rattle.step_kinds.specs.Sides.{other_side}
 use Rattle.step_kinds.specs.declared.names.Side.{Side}
 use Rattle.step_kinds.specs.declared.names.Side.TheVariants.{A, B}
-use Rattle.step_kinds.specs.declared.plan.SidePlan.{SidePlan}
 use Rattle.step_kinds.specs.declared.plan.PairPlan.{PairPlan}
-use Rattle.ring_geometry.specs.Geometry.{Layout, IsPlaced, HasRing, FitsLimits, area, window_of, queues_in_window, frame_size, ring_bytes}
+use Rattle.ring_geometry.specs.Geometry.{Layout, IsPlaced, area, window_of, queues_in_window}
 use Rattle.plan_model.specs.DeclaredPlans.{IsPair, IsSide}
 use Rattle.plan_model.specs.Laws.{EachQueueHasARing}
 use Rattle.plan_model.specs.Plans.{side_plan}
-use Rattle.plan_model.specs.Sizes.{agreed_version, header_bytes, layout_in, layout_of, layout_to}
+use Rattle.plan_model.specs.Sizes.{header_bytes, layout_of, layout_to}
 
 abbrev extra : Bool → ℕ
 extra t = if t then 1 else 0

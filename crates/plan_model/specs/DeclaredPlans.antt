@@ -1,5 +1,5 @@
 -- What a script can declare, and the steps that such a plan permits.
-use Rattle.std.specs.Prelude.{◌≡◌, ◌≢◌, ℕ, ◌+◌, ◌*◌, ◌^◌, ◌<◌, ◌≤◌, ◌⊎◌, true, List, length, min, slice_index}
+use Rattle.std.specs.Prelude.{◌≡◌, ℕ, ◌+◌, ◌*◌, ◌^◌, ◌<◌, ◌≤◌, ◌⊎◌, true, List, length, min, slice_index}
 use Rattle.step_kinds.specs.Limits.{most_pairs, most_devices, most_frame_bytes, IsQueues, IsWindows, IsSize, IsMtu, IsClass}
 use Rattle.step_kinds.specs.Sides.{other_side}
 use Rattle.step_kinds.specs.declared.names.Side.{Side}

@@ -1,12 +1,8 @@
 -- The posted writes of a lane by their labels: those of an entry, and which labels are of a lane.
-use Rattle.std.specs.Prelude.{ℕ, Bool, true, false, ◌==◌, Option, Some, None, List, map, slice_index, if◌then◌else◌}
+use Rattle.std.specs.Prelude.{ℕ, ◌==◌, Option, Some, None, List, map, if◌then◌else◌}
 use Rattle.std.specs.List.{filter_map}
-use Rattle.step_kinds.specs.declared.names.Side.{Side}
-use Rattle.step_kinds.specs.declared.names.Side.TheVariants.{A, B}
-use Rattle.step_kinds.specs.declared.plan.PairPlan.{PairPlan}
 use Rattle.step_kinds.specs.declared.steps.Label.{Label}
-use Rattle.step_kinds.specs.declared.steps.Label.TheVariants.{Chunk, Len, Ver, Flag, Down, Bell, Index, Pad, Raw}
-use Rattle.order_rules.specs.Order.{Order, relaxed, strict}
+use Rattle.step_kinds.specs.declared.steps.Label.TheVariants.{Chunk, Len, Ver, Flag, Down, Bell, Index}
 use Rattle.lane_model.specs.Lane.{Entry, Carries, GoesDown, writes_of}
 use Rattle.lane_model.specs.declared.Field.TheVariants.{Chunk as PayloadChunk, Length, Version}
 use Rattle.lane_model.specs.declared.Write.{Write}

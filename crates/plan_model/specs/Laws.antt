@@ -1,8 +1,8 @@
 -- Laws of plans.
-use Rattle.std.specs.Prelude.{◌≡◌, ℕ, ◌<◌, ◌≤◌, true, List, []}
+use Rattle.std.specs.Prelude.{ℕ, ◌<◌}
 use Rattle.step_kinds.specs.declared.names.Side.{Side}
 use Rattle.step_kinds.specs.declared.plan.PairPlan.{PairPlan}
-use Rattle.ring_geometry.specs.Geometry.{Layout, IsPlaced, area}
+use Rattle.ring_geometry.specs.Geometry.{IsPlaced}
 use Rattle.plan_model.specs.DeclaredPlans.{IsPair}
 use Rattle.plan_model.specs.Plans.{side_plan}
 use Rattle.plan_model.specs.Sizes.{layout_of, layout_to}

@@ -1,5 +1,5 @@
 -- The traffic that a script can declare.
-use Rattle.std.specs.Prelude.{◌≡◌, ℕ, ◌<◌, ◌≤◌, ◌==◌, Bool, true, false, List, length, map, sum, count_by}
+use Rattle.std.specs.Prelude.{◌≡◌, ℕ, ◌<◌, ◌≤◌, ◌==◌, Bool, false, length, map, sum, count_by}
 use Rattle.std.specs.List.{All}
 use Rattle.step_kinds.specs.Limits.{most_steps, most_traffic_frames, most_traffic_bytes, most_breaks, most_traffic_entries}
 use Rattle.step_kinds.specs.declared.names.LaneName.{LaneName}

@@ -3,6 +3,9 @@
 //! link-down entry or finds one, until its next clean; posts, copies, clears and acks go on.
 #![tactic(auto)]
 
+mod queue;
+
+pub use queue::{QueuePair, irq};
 
 /// The answer to a begin or to a queue's going down, in the order in which its refusals are tested.
 #[derive(Clone, Copy, Debug, PartialEq, Eq)]

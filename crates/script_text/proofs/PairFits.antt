@@ -1,19 +1,19 @@
 -- A pair whose options are in their ranges and go together is as a script can declare it.
-use Rattle.std.proofs.Common.{◌≡◌, ℕ, ◌+◌, ◌≤◌, ◌%◌, ◌==◌, Bool, true, false, not, ◌&&◌, ◌||◌, cond, ◌⊎◌, inl, inr, Option, Some, None, Result, Ok, Err, List, [], ◌∷◌, ◌++◌, nat_le, unwrap_or, refl, sym, ◌∙◌, ap, lit≤, arith}
-use Rattle.std.proofs.lemmas.Bool.{eqb-true}
-use Rattle.std.proofs.lemmas.Bool.Decides.{nat_tests}
+use Rattle.std.proofs.Common.{◌≡◌, ℕ, zero, suc, ◌≤◌, ◌%◌, ◌==◌, Bool, true, false, not, ◌&&◌, ◌||◌, cond, ◌⊎◌, inl, inr, Option, Some, None, List, [], ◌∷◌, nat_le, unwrap_or, replicate, slice_index, refl, sym, ◌∙◌, ap, lit≤, lit<}
+use Rattle.std.proofs.lemmas.Bool.{eqb-true, eq-eqb, leb-true, and_parts, or_cases, or_left, or_right, not-true, both_ways}
 use Rattle.std.specs.List.{list_all}
 use Rattle.std.specs.Option.{option_or}
-use Rattle.step_kinds.specs.Limits.{most_queues, most_windows, least_size, most_size, size_step, least_mtu, most_mtu, IsSize, IsMtu}
+use Rattle.step_kinds.specs.Limits.{most_queues, most_windows, least_size, most_size, size_step, least_mtu, most_mtu, IsSize, IsMtu, IsClass}
 use Rattle.step_kinds.specs.Sides.{other_side}
 use Rattle.step_kinds.specs.declared.names.Side.{Side}
 use Rattle.step_kinds.specs.declared.names.Side.TheVariants.{A, B}
-use Rattle.plan_model.specs.DeclaredPlans.{IsSide}
-use Rattle.script_text.specs.Settings.{same_key, same_scope, is_within, is_size, in_range, number_at, side_number, size_of, side_with, mtu_in}
-use Rattle.script_text.specs.declared.settings.SideKey.{SideKey}
-use Rattle.script_text.specs.declared.settings.SideKey.TheVariants.{Size, Cap, Windows, Queues, Version}
-use Rattle.script_text.specs.declared.settings.Setting.{Setting}
-use Rattle.script_text.specs.declared.settings.Setting.TheVariants.{Up, Strict, Raw, Mtu, OfSide}
+use Rattle.step_kinds.specs.declared.plan.PairPlan.{PairPlan}
+use Rattle.plan_model.specs.DeclaredPlans.{IsSide, IsPair, Agree, SizesFit}
+use Rattle.script_words.specs.Settings.{same_key, same_scope, is_within, is_size, in_range, number_at, side_number, size_of, side_with, mtu_in, sizes_fit, agrees, has_room_for_header, goes_together, pair_with}
+use Rattle.script_words.specs.declared.settings.SideKey.{SideKey}
+use Rattle.script_words.specs.declared.settings.SideKey.TheVariants.{Size, Cap, Windows, Queues, Version}
+use Rattle.script_words.specs.declared.settings.Setting.{Setting}
+use Rattle.script_words.specs.declared.settings.Setting.TheVariants.{Up, Strict, Raw, Mtu, OfSide}
 
 -- keys with one text are one key
 same_key_is : (one other : SideKey) → same_key one other ≡ true → one ≡ other
@@ -51,10 +51,13 @@ in_range_scope Windows one other n = refl
 in_range_scope Queues one other n = refl
 in_range_scope Version one other n = refl
 
-both_true : (a b : Bool) → (a && b) ≡ true → (a ≡ true) × (b ≡ true)
-both_true true true h = (refl, refl)
-both_true true false h = cc
-both_true false b h = cc
+here_or_later : (key other : SideKey) (side scope : Option Side) (m : ℕ) (settings : List Setting) (n : ℕ) (t : Bool) → (same_key key other && same_scope side scope) ≡ t → in_range (OfSide other scope m) ≡ true
+    → (number_at key side settings ≡ Some n → in_range (OfSide key None n) ≡ true) → cond t (Some m) (number_at key side settings) ≡ Some n → in_range (OfSide key None n) ≡ true
+here_or_later key other side scope m settings n true is here later e =
+    let same : key ≡ other = same_key_is key other (and_parts (same_key key other) (same_scope side scope) is).0 in
+    let number : m ≡ n = cc in
+    ap (λ k. in_range (OfSide k None n)) same ∙ (ap (λ j. in_range (OfSide other None j)) (sym number) ∙ (in_range_scope other None scope m ∙ here))
+here_or_later key other side scope m settings n false is here later e = later e
 
 -- the number of an option in its range
 number_in_range : (key : SideKey) (side : Option Side) (settings : List Setting) (n : ℕ) → list_all in_range settings ≡ true → number_at key side settings ≡ Some n
@@ -63,16 +66,10 @@ number_in_range key side [] n all h = cc
 number_in_range key side (Up ∷ settings) n all h = number_in_range key side settings n all h
 number_in_range key side (Strict ∷ settings) n all h = number_in_range key side settings n all h
 number_in_range key side (Raw ∷ settings) n all h = number_in_range key side settings n all h
-number_in_range key side (Mtu m ∷ settings) n all h = number_in_range key side settings n (both_true _ _ all).1 h
-number_in_range key side (OfSide other scope m ∷ settings) n all h = by (same_key key other && same_scope side scope) refl h
-  where
-    by : (t : Bool) → (same_key key other && same_scope side scope) ≡ t → cond t (Some m) (number_at key side settings) ≡ Some n → in_range (OfSide key None n) ≡ true
-    by true is e =
-        let same : key ≡ other = same_key_is key other (both_true _ _ is).0 in
-        let here : in_range (OfSide other scope m) ≡ true = (both_true _ _ all).0 in
-        let number : m ≡ n = cc in
-        rw (same, ← number, in_range_scope other None scope m) here
-    by false is e = number_in_range key side settings n (both_true _ _ all).1 e
+number_in_range key side (Mtu m ∷ settings) n all h = number_in_range key side settings n (and_parts (in_range (Mtu m)) (list_all in_range settings) all).1 h
+number_in_range key side (OfSide other scope m ∷ settings) n all h =
+    let parts = and_parts (in_range (OfSide other scope m)) (list_all in_range settings) all in
+    here_or_later key other side scope m settings n (same_key key other && same_scope side scope) refl parts.0 (number_in_range key side settings n parts.1) h
 
 -- a side's number is in its range where the default is
 side_in_range : (settings : List Setting) (key : SideKey) (side : Side) (default : ℕ) → list_all in_range settings ≡ true → in_range (OfSide key None default) ≡ true
@@ -86,35 +83,94 @@ side_in_range settings key side default all h = by (number_at key (Some side) se
     by None is None e = h
 
 within : (least most n : ℕ) → is_within least most n ≡ true → (least ≤ n) × (n ≤ most)
-within least most n h = let parts = both_true _ _ h in let low = parts.0 in let high = parts.1 in (grind (arith, nat_tests), grind (arith, nat_tests))
+within least most n h = let parts = and_parts (nat_le least n) (nat_le n most) h in (leb-true least n parts.0, leb-true n most parts.1)
 
 sized : (n : ℕ) → is_size n ≡ true → IsSize n
 sized n h =
-    let parts = both_true _ _ h in
+    let parts = and_parts (is_within least_size most_size n) (n % size_step == 0) h in
     let range = within least_size most_size n parts.0 in
     (range.0, range.1, eqb-true (n % size_step) 0 parts.1)
 
 -- each side
+size_in_range : (settings : List Setting) (side : Side) → list_all in_range settings ≡ true → is_size (size_of settings side) ≡ true
+size_in_range settings side all = side_in_range settings Size side 65536 all refl
+
 side_fits : (settings : List Setting) (side : Side) → list_all in_range settings ≡ true → IsSide (side_with settings side)
-side_fits settings side all =
-    let size = λ whose. side_in_range settings Size whose 65536 all refl in
-    record {
-      known_version = within 3 5 _ (side_in_range settings Version side 4 all refl);
-      queues = within 1 most_queues _ (side_in_range settings Queues side 1 all refl);
-      windows = within 1 most_windows _ (side_in_range settings Windows side 1 all refl);
-      size = sized _ (size side);
-      cap = sized _ (side_in_range settings Cap side (size_of settings (other_side side)) all (size (other_side side)));
-    }
+side_fits settings side all = record {
+  known_version = within 3 5 (side_number settings Version side 4) (side_in_range settings Version side 4 all refl);
+  queues = within 1 most_queues (side_number settings Queues side 1) (side_in_range settings Queues side 1 all refl);
+  windows = within 1 most_windows (side_number settings Windows side 1) (side_in_range settings Windows side 1 all refl);
+  size = sized (size_of settings side) (size_in_range settings side all);
+  cap = sized (side_number settings Cap side (size_of settings (other_side side)))
+      (side_in_range settings Cap side (size_of settings (other_side side)) all (size_in_range settings (other_side side) all));
+}
 
 mtu_fits : (settings : List Setting) → list_all in_range settings ≡ true → IsMtu (mtu_in settings)
 mtu_fits [] all = (lit≤ tt, lit≤ tt)
 mtu_fits (Up ∷ settings) all = mtu_fits settings all
 mtu_fits (Strict ∷ settings) all = mtu_fits settings all
 mtu_fits (Raw ∷ settings) all = mtu_fits settings all
-mtu_fits (Mtu n ∷ settings) all = within least_mtu most_mtu n (both_true _ _ all).0
-mtu_fits (OfSide key side n ∷ settings) all = mtu_fits settings (both_true _ _ all).1
+mtu_fits (Mtu n ∷ settings) all = within least_mtu most_mtu n (and_parts (in_range (Mtu n)) (list_all in_range settings) all).0
+mtu_fits (OfSide key side n ∷ settings) all = mtu_fits settings (and_parts (in_range (OfSide key side n)) (list_all in_range settings) all).1
 
-either : (a b : Bool) → (a || b) ≡ true → (a ≡ true) ⊎ (b ≡ true)
-either true b h = inl refl
-either false true h = inr refl
-either false false h = cc
+-- The tests of the pair as a whole
+
+sizes_agree : (pair : PairPlan) → sizes_fit pair ≡ true → SizesFit pair
+sizes_agree pair h =
+    let parts = and_parts (nat_le pair.a.size pair.b.cap) (nat_le pair.b.size pair.a.cap) h in
+    (leb-true pair.a.size pair.b.cap parts.0, leb-true pair.b.size pair.a.cap parts.1)
+
+pub sides_agree : (pair : PairPlan) → agrees pair ≡ true → Agree pair
+sides_agree pair h =
+    let versions_rest = and_parts (nat_le 4 pair.a.version && nat_le 4 pair.b.version) ((pair.a.queues == pair.b.queues) && ((pair.a.windows == pair.b.windows) && sizes_fit pair)) h in
+    let versions = and_parts (nat_le 4 pair.a.version) (nat_le 4 pair.b.version) versions_rest.0 in
+    let queues_rest = and_parts (pair.a.queues == pair.b.queues) ((pair.a.windows == pair.b.windows) && sizes_fit pair) versions_rest.1 in
+    let windows_rest = and_parts (pair.a.windows == pair.b.windows) (sizes_fit pair) queues_rest.1 in
+    record {
+      versions = (leb-true 4 pair.a.version versions.0, leb-true 4 pair.b.version versions.1);
+      queues = eqb-true pair.a.queues pair.b.queues queues_rest.0;
+      windows = eqb-true pair.a.windows pair.b.windows windows_rest.0;
+      sizes = sizes_agree pair windows_rest.1;
+    }
+
+known : (a b : ℕ) → (nat_le 4 a || nat_le 4 b) ≡ true → (4 ≤ a) ⊎ (4 ≤ b)
+known a b h = elim (or_cases (nat_le 4 a) (nat_le 4 b) h) [ inl x ↦ inl (leb-true 4 a x) | inr y ↦ inr (leb-true 4 b y) ]
+
+long_header : (a b mtu : ℕ) → (not ((a == 5) || (b == 5)) || nat_le 20 mtu) ≡ true → (a ≡ 5) ⊎ (b ≡ 5) → 20 ≤ mtu
+long_header a b mtu h (inl x) = by (or_cases (not ((a == 5) || (b == 5))) (nat_le 20 mtu) h) where
+  by : (not ((a == 5) || (b == 5)) ≡ true) ⊎ (nat_le 20 mtu ≡ true) → 20 ≤ mtu
+  by (inl no_five) = absurd (both_ways ((a == 5) || (b == 5)) (not-true ((a == 5) || (b == 5)) no_five) (or_left (a == 5) (b == 5) (eq-eqb a 5 x)))
+  by (inr room) = leb-true 20 mtu room
+long_header a b mtu h (inr y) = by (or_cases (not ((a == 5) || (b == 5))) (nat_le 20 mtu) h) where
+  by : (not ((a == 5) || (b == 5)) ≡ true) ⊎ (nat_le 20 mtu ≡ true) → 20 ≤ mtu
+  by (inl no_five) = absurd (both_ways ((a == 5) || (b == 5)) (not-true ((a == 5) || (b == 5)) no_five) (or_right (a == 5) (b == 5) (eq-eqb b 5 y)))
+  by (inr room) = leb-true 20 mtu room
+
+-- an option that asks for a test
+asked : (option test : Bool) → (not option || test) ≡ true → option ≡ true → test ≡ true
+asked true test h e = h
+asked false test h e = cc e
+
+no_classes : (n k : ℕ) → IsClass (slice_index (replicate n 0) k)
+no_classes zero k = lit< tt
+no_classes (suc n) zero = lit< tt
+no_classes (suc n) (suc k) = no_classes n k
+
+pub pair_fits : (name : List ℕ) (settings : List Setting) → list_all in_range settings ≡ true → goes_together (pair_with name settings) ≡ true → IsPair (pair_with name settings)
+pair_fits name settings all together =
+    let pair : PairPlan = pair_with name settings in
+    let version_rest = and_parts (nat_le 4 pair.a.version || nat_le 4 pair.b.version)
+    (has_room_for_header pair && ((not pair.up || agrees pair) && (not pair.raw || sizes_fit pair))) together in
+    let header_rest = and_parts (has_room_for_header pair) ((not pair.up || agrees pair) && (not pair.raw || sizes_fit pair)) version_rest.1 in
+    let up_raw = and_parts (not pair.up || agrees pair) (not pair.raw || sizes_fit pair) header_rest.1 in
+    record {
+      side_a = side_fits settings A all;
+      side_b = side_fits settings B all;
+      known_transport = known pair.a.version pair.b.version version_rest.0;
+      mtu = mtu_fits settings all;
+      long_header = long_header pair.a.version pair.b.version pair.mtu header_rest.0;
+      classes_a = no_classes most_queues;
+      classes_b = no_classes most_queues;
+      up = λ e. sides_agree pair (asked pair.up (agrees pair) up_raw.0 e);
+      raw = λ e. sizes_agree pair (asked pair.raw (sizes_fit pair) up_raw.1 e);
+    }

@@ -1,8 +1,9 @@
 -- A list cut at the first element that passes a test, and the words of a line.
-use Rattle.std.proofs.Common.{◌≡◌, ℕ, zero, suc, ◌+◌, ◌<◌, ◌≤◌, ◌==◌, Bool, true, false, cond, List, [], ◌∷◌, ◌++◌, length, map, filter, get_or, take, drop, refl, sym, ◌∙◌, ap, add-one, drop-cons, append_assoc, arith}
+use Rattle.std.proofs.Common.{◌≡◌, ℕ, suc, ◌+◌, ◌<◌, ◌==◌, Bool, true, false, cond, List, [], ◌∷◌, ◌++◌, length, filter, get_or, take, drop, refl, sym, ◌∙◌, ap, add-one, drop-cons, append_assoc, arith}
 use Rattle.std.proofs.Math.Seq.{take-suc}
+use Rattle.std.proofs.lemmas.Bool.{eqb-true}
 use Rattle.std.specs.List.{slice_split, onto_first}
-use Rattle.script_text.specs.Words.{is_filled}
+use Rattle.script_words.specs.Words.{is_filled}
 
 -- the parts of a list whose front has no element that passes
 abbrev pub with_front : List ℕ → List (List ℕ) → List (List ℕ)
@@ -32,20 +33,20 @@ onto-front front x (part ∷ parts) = ap (λ first. first ∷ parts) (sym (appen
 -- an element that doesn't pass
 pub split_more : (p : ℕ → Bool) (i : ℕ) (xs : List ℕ) → i < length xs → p (get_or xs i 0) ≡ false
     → with_front (take i xs) (slice_split p (drop i xs)) ≡ with_front (take (i + 1) xs) (slice_split p (drop (i + 1) xs))
-split_more p i xs lt no =
+split_more p i xs lt fails =
     let here : slice_split p (get_or xs i 0 ∷ drop (suc i) xs) ≡ onto_first (get_or xs i 0) (slice_split p (drop (suc i) xs)) =
-        ap (λ b. cond b ([] ∷ slice_split p (drop (suc i) xs)) (onto_first (get_or xs i 0) (slice_split p (drop (suc i) xs)))) no in
-    ap (λ ys. with_front (take i xs) (slice_split p ys)) (drop-cons xs i 0) ∙ (ap (with_front (take i xs)) here
+    ap (λ b. cond b ([] ∷ slice_split p (drop (suc i) xs)) (onto_first (get_or xs i 0) (slice_split p (drop (suc i) xs)))) fails in
+    ap (λ ys. with_front (take i xs) (slice_split p ys)) (drop-cons xs i 0 lt) ∙ (ap (with_front (take i xs)) here
     ∙ (onto-front (take i xs) (get_or xs i 0) (slice_split p (drop (suc i) xs)) ∙ (ap (λ front. with_front front (slice_split p (drop (suc i) xs))) (sym (take-suc xs i 0 lt))
     ∙ ap (λ n. with_front (take n xs) (slice_split p (drop n xs))) (sym (add-one i)))))
 
 -- the first element that passes
 pub split_here : (p : ℕ → Bool) (i : ℕ) (xs : List ℕ) → i < length xs → p (get_or xs i 0) ≡ true
     → with_front (take i xs) (slice_split p (drop i xs)) ≡ take i xs ∷ slice_split p (drop (i + 1) xs)
-split_here p i xs lt yes =
+split_here p i xs lt passes =
     let here : slice_split p (get_or xs i 0 ∷ drop (suc i) xs) ≡ [] ∷ slice_split p (drop (suc i) xs) =
-        ap (λ b. cond b ([] ∷ slice_split p (drop (suc i) xs)) (onto_first (get_or xs i 0) (slice_split p (drop (suc i) xs)))) yes in
-    ap (λ ys. with_front (take i xs) (slice_split p ys)) (drop-cons xs i 0) ∙ (ap (with_front (take i xs)) here
+    ap (λ b. cond b ([] ∷ slice_split p (drop (suc i) xs)) (onto_first (get_or xs i 0) (slice_split p (drop (suc i) xs)))) passes in
+    ap (λ ys. with_front (take i xs) (slice_split p ys)) (drop-cons xs i 0 lt) ∙ (ap (with_front (take i xs)) here
     ∙ (ap (λ front. front ∷ slice_split p (drop (suc i) xs)) (append-none (take i xs)) ∙ ap (λ n. take i xs ∷ slice_split p (drop n xs)) (sym (add-one i))))
 
 -- a word without bytes is no word of the line
@@ -55,4 +56,4 @@ filled_word (b ∷ word) parts h = refl
 
 pub empty_word : (word : List ℕ) (parts : List (List ℕ)) → (length word == 0) ≡ true → filter is_filled (word ∷ parts) ≡ filter is_filled parts
 empty_word [] parts h = refl
-empty_word (b ∷ word) parts h = cc
+empty_word (b ∷ word) parts h = absurd (let e = eqb-true (length (b ∷ word)) 0 h in omega arith)

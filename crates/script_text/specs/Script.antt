@@ -2,17 +2,17 @@
 use Rattle.std.specs.Prelude.{ℕ, ◌+◌, ◌==◌, Bool, false, not, ◌&&◌, Result, Ok, Err, List, [], ◌∷◌, codes, if◌then◌else◌}
 use Rattle.std.specs.Str.{bytes_eq}
 use Rattle.step_kinds.specs.declared.plan.Plan.{Plan}
-use Rattle.script_text.specs.declared.parts.Part.{Part}
-use Rattle.script_text.specs.declared.parts.Part.TheVariants.{Declarations, Steps, Traffic}
-use Rattle.script_text.specs.Before.{Before, nothing_before, Given, Nothing, with_given}
-use Rattle.script_text.specs.Declarations.{declaration_line}
-use Rattle.script_text.specs.StepLines.{step_line}
-use Rattle.script_text.specs.TrafficLines.{traffic_line}
-use Rattle.script_text.specs.Tests.{◌>>=◌, fault_if}
-use Rattle.script_text.specs.Words.{lines_of, words_of, is_skipped, is_text}
-use Rattle.script_text.specs.declared.fault.Cause.{Cause}
-use Rattle.script_text.specs.declared.fault.Cause.TheVariants.{NotText, BadHeader}
-use Rattle.script_text.specs.declared.fault.ScriptFault.{ScriptFault}
+use Rattle.script_words.specs.declared.parts.Part.{Part}
+use Rattle.script_words.specs.declared.parts.Part.TheVariants.{Declarations, Steps, Traffic}
+use Rattle.script_words.specs.Before.{Before, nothing_before, Given, Nothing, with_given}
+use Rattle.script_words.specs.Declarations.{declaration_line}
+use Rattle.script_words.specs.StepLines.{step_line}
+use Rattle.script_words.specs.TrafficLines.{traffic_line}
+use Rattle.script_words.specs.Tests.{◌>>=◌, fault_if}
+use Rattle.script_words.specs.Words.{lines_of, words_of, is_skipped, is_text}
+use Rattle.script_words.specs.declared.fault.Cause.{Cause}
+use Rattle.script_words.specs.declared.fault.Cause.TheVariants.{NotText, BadHeader}
+use Rattle.script_words.specs.declared.fault.ScriptFault.{ScriptFault}
 
 abbrev pub is_header : List (List ℕ) → Bool
 is_header (word ∷ version ∷ []) = bytes_eq word (codes "ntb") && bytes_eq version (codes "1")

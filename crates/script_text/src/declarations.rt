@@ -1,20 +1,18 @@
 //! Declarations: hosts, pairs, devices and classes.
-#![tactic(auto, unfolding(crate::specs::Tests::and_then))]
+#![tactic(auto, unfolding(script_words::specs::Tests::and_then))]
 
 ghost use Rattle.std.specs.Prelude.{◌≡◌, ◌∷◌, map, codes};
-ghost use Rattle.script_text.specs.Compact.{given_of};
-ghost use Rattle.script_text.specs.Declarations as rules;
-ghost use Rattle.script_text.specs.Reads.{Reads, result_map};
-ghost use Rattle.script_text.specs.Words.{hex_of};
+ghost use Rattle.script_words.specs.Compact.{given_of};
+ghost use Rattle.script_words.specs.Declarations as rules;
+ghost use Rattle.script_words.specs.Reads.{Reads, result_map};
+ghost use Rattle.script_words.specs.Words.{hex_of};
 
-use crate::fault::{Cause, LineError};
-use crate::given::Given;
 use crate::lookups::{new_device, new_host, new_pair, read_host, read_pair, read_queue};
-use crate::options::{goes_together, pair_with, read_settings};
-use crate::parts::QueueName;
-use crate::reader::Reader;
-use crate::settings::behind_key;
-use crate::words::{read_array, read_number, read_number_between, read_side};
+use script_plan::Reader;
+use script_words::options::{goes_together, pair_with, read_settings};
+use script_words::settings::behind_key;
+use script_words::words::{read_array, read_number, read_number_between, read_side};
+use script_words::{Cause, Given, LineError, QueueName};
 use std::alloc::Global;
 use step_kinds::DevPlan;
 use step_kinds::limits::{MOST_DEVICES, MOST_HOSTS, MOST_PAIRS};

@@ -2,23 +2,17 @@
 #![tactic(auto)]
 
 mod declarations;
-mod devices;
-mod fault;
-mod given;
+mod error;
+pub mod laws;
+mod lines;
 mod lookups;
-mod macros;
-mod names;
-mod options;
-mod pairs;
-mod parts;
-mod reader;
-mod rings;
-mod settings;
+mod script;
 mod step_lines;
-mod step_words;
-mod steps;
-mod traffic;
-mod words;
+mod traffic_lines;
 
-pub use fault::{Cause, ParseError, ScriptFault};
-pub use settings::{Setting, SideKey};
+pub use error::ParseError;
+pub use script::parse;
+pub use script_words::{Cause, ScriptFault};
+
+#[cfg(test)]
+mod tests;

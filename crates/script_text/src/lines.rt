@@ -3,7 +3,7 @@
 ghost use Rattle.std.specs.Prelude.{◌≡◌, ◌∷◌, ◌==◌, ◌<◌, [], length, map, IfOk, IfSome};
 ghost use Rattle.std.specs.List.{slice_split};
 ghost use Rattle.std.specs.Option.{option_map_or};
-ghost use Rattle.script_text.specs.Words as spelled;
+ghost use Rattle.script_words.specs.Words as spelled;
 
 use std::alloc::{AllocError, Global};
 
@@ -24,9 +24,14 @@ pub fn cut(text: &[u8], at: u8) -> (&[u8], Option<&[u8]>)
 pub fn without_return(line: &[u8]) -> &[u8]
     ensures { result.now ≡ spelled.without_return line.now }
 {
-    match line {
-        [front @ .., b'\r'] => front,
-        _ => line,
+    if line.is_empty() {
+        return line;
+    }
+    let last = line.len() - 1;
+    if line[last] == b'\r' {
+        &line[..last]
+    } else {
+        line
     }
 }
 

@@ -1,26 +1,16 @@
 //! Words that name what is declared.
-#![tactic(auto, unfolding(crate::specs::Tests::and_then))]
+#![tactic(auto, unfolding(script_words::specs::Tests::and_then))]
 
 ghost use Rattle.std.specs.Prelude.{◌≡◌, ◌<◌, length, false, IfOk};
 ghost use Rattle.plan_model.specs.Plans.{side_plan, pair_plan, dev_plan};
-ghost use Rattle.script_text.specs.Before.{pair_word, dev_word, queue_word, has_name, pair_names, dev_names};
-ghost use Rattle.script_text.specs.Declarations.{host_word, new_name};
+ghost use Rattle.script_words.specs.Before.{pair_word, dev_word, queue_word, has_name, pair_names, dev_names};
+ghost use Rattle.script_words.specs.Declarations.{host_word, new_name};
 
-use crate::fault::Cause;
-use crate::names::Names;
-use crate::reader::Reader;
-use crate::words::{read_name, read_number};
-use step_kinds::{Name, PairPlan, Side, SidePlan};
-
-/// One side of a pair.
-pub fn side_of(pair: &PairPlan, side: Side) -> SidePlan
-    ensures { result ≡ side_plan pair.now side }
-{
-    match side {
-        Side::A => pair.a,
-        Side::B => pair.b,
-    }
-}
+use script_plan::Reader;
+use script_plan::rings::side_of;
+use script_words::Cause;
+use script_words::words::{read_name, read_number};
+use step_kinds::{Name, Side};
 
 /// A host that isn't declared yet.
 pub fn new_host(before: &Reader, word: &[u8]) -> Result<Name, Cause>

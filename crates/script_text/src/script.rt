@@ -1,19 +1,21 @@
 //! A script, line by line.
-#![tactic(auto, unfolding(crate::specs::Tests::and_then))]
+#![tactic(auto, unfolding(script_words::specs::Tests::and_then))]
 
-ghost use Rattle.std.specs.Prelude.{◌≡◌, ◌≤◌, ◌+◌, length, map};
-ghost use Rattle.script_text.specs.Compact.{given_of};
-ghost use Rattle.script_text.specs.Reads.{Reads, ReadsScript, result_map};
+ghost use Rattle.std.specs.Prelude.{◌≡◌, ◌≤◌, ◌+◌, ◌^◌, ◌<◌, length, map};
+ghost use Rattle.step_kinds.specs.Limits.{most_script_bytes};
+ghost use Rattle.script_words.specs.Compact.{given_of};
+ghost use Rattle.script_words.specs.Reads.{Reads, result_map};
+ghost use Rattle.script_text.specs.Held.{Held};
+ghost use Rattle.script_text.specs.Parsed.{Parses, after_line};
 ghost use Rattle.script_text.specs.Script as rules;
 
 use crate::declarations::declaration_line;
-use crate::fault::{Cause, LineError, ParseError, ScriptFault};
-use crate::given::Given;
+use crate::error::ParseError;
 use crate::lines::{cut, is_skipped, is_text, without_return, words_of};
-use crate::parts::Part;
-use crate::reader::Reader;
 use crate::step_lines::step_line;
 use crate::traffic_lines::traffic_line;
+use script_plan::Reader;
+use script_words::{Cause, Given, LineError, Part, ScriptFault};
 use std::alloc::Global;
 use step_kinds::Plan;
 
@@ -70,4 +72,40 @@ fn line_gives(alloc: Global, number: u32, before: &Reader, line: &[u8]) -> Resul
     }
     let words = words_of(alloc, line)?;
     words_line(alloc, before, words.as_slice())
+}
+
+/// The lines so far with line `number`.
+fn with_line(alloc: Global, number: u32, before: Reader, line: &[u8]) -> Result<Reader, ParseError>
+    requires { Held before }
+    ensures { Parses result (after_line number before (rules.line_gives number before line.now)) }
+{
+    match line_gives(alloc, number, &before, line) {
+        Ok(given) => match before.with(alloc, number, given) {
+            Ok(more) => Ok(more),
+            Err(_) => Err(ParseError::OutOfMemory),
+        },
+        Err(LineError::Fault(cause)) => Err(ParseError::Fault(ScriptFault {
+            line: number,
+            cause,
+        })),
+        Err(LineError::OutOfMemory) => Err(ParseError::OutOfMemory),
+    }
+}
+
+/// The plan that a script of at most 16,777,216 bytes declares, or its fault: the first line that has one, and that
+/// line's first fault. `OutOfMemory` says that there is no memory for the plan, and nothing of the script.
+pub fn parse(alloc: Global, bytes: &[u8]) -> Result<Plan, ParseError>
+    requires { length bytes.now ≤ most_script_bytes }
+    ensures { Parses result (rules.script_of bytes.now) }
+{
+    let mut before = Reader::new(alloc);
+    let mut number = 1;
+    let mut rest = Some(bytes);
+    while let Some(text) = rest {
+        let (line, more) = cut(text, b'\n');
+        before = with_line(alloc, number, before, without_return(line))?;
+        number += 1;
+        rest = more;
+    }
+    Ok(before.into_plan())
 }

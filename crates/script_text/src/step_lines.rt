@@ -1,28 +1,26 @@
 //! Lines of steps and macros, grouped by their arguments.
-#![tactic(auto, unfolding(crate::specs::Tests::and_then))]
+#![tactic(auto, unfolding(script_words::specs::Tests::and_then))]
 
 ghost use Rattle.std.specs.Prelude.{◌≡◌, ◌<◌, ◌≤◌, ◌+◌, ◌∷◌, [], map, length};
 ghost use Rattle.plan_model.specs.DeclaredPlans.{IsPair};
 ghost use Rattle.plan_model.specs.Ethernet.{ethernet_header};
 ghost use Rattle.plan_model.specs.Plans.{side_plan, pair_plan};
-ghost use Rattle.script_text.specs.Compact.{given_of, steps_of};
-ghost use Rattle.script_text.specs.Reads.{Reads, result_map};
-ghost use Rattle.script_text.specs.StepLines as rules;
-ghost use Rattle.script_text.specs.StepWords.{pair_step_of, side_steps_of, queue_steps_of, numbered_of, frame_steps_of};
+ghost use Rattle.script_words.specs.Compact.{given_of, steps_of};
+ghost use Rattle.script_words.specs.Reads.{Reads, result_map};
+ghost use Rattle.script_words.specs.StepLines as rules;
+ghost use Rattle.script_words.specs.StepWords.{pair_step_of, side_steps_of, queue_steps_of, numbered_of, frame_steps_of};
 
-use crate::fault::{Cause, LineError};
-use crate::given::Given;
-use crate::lookups::{read_device, read_pair, read_queue, side_of};
-use crate::macros::{Macro, Repeated};
-use crate::reader::Reader;
-use crate::rings::posts_in;
-use crate::step_words::{
+use crate::lookups::{read_device, read_pair, read_queue};
+use script_plan::Reader;
+use script_plan::rings::{posts_in, side_of};
+use script_words::step_words::{
     FrameWord, NumberWord, PairWord, QueueWord, SideWord, frame_word_of, number_word_of,
     pair_word_of, queue_word_of, side_word_of,
 };
-use crate::words::{
+use script_words::words::{
     read_array, read_bytes, read_kind, read_number, read_number_between, read_side,
 };
+use script_words::{Cause, Given, LineError, Macro, Repeated};
 use std::alloc::Global;
 use step_kinds::limits::{MOST_FRAME_BYTES, MOST_STEPS};
 use step_kinds::{Frame, PairPlan, Side, Step};

@@ -1,22 +1,21 @@
 //! Lines of traffic: frames that a threaded run sends, and losses of a link beside them.
-#![tactic(auto, unfolding(crate::specs::Tests::and_then))]
+#![tactic(auto, unfolding(script_words::specs::Tests::and_then))]
 
 ghost use Rattle.std.specs.Prelude.{◌≡◌, ◌<◌, ◌≤◌, ◌*◌, length, map, sum, List, Ok, OnOk};
 ghost use Rattle.step_kinds.specs.declared.plan.Traffic.{Traffic};
 ghost use Rattle.plan_model.specs.Plans.{side_plan, pair_plan};
 ghost use Rattle.plan_model.specs.TrafficPlans.{frames_in, bytes_in};
-ghost use Rattle.script_text.specs.Before.{MoreTraffic};
-ghost use Rattle.script_text.specs.Compact.{given_of};
-ghost use Rattle.script_text.specs.Reads.{Reads, result_map};
-ghost use Rattle.script_text.specs.TrafficLines as rules;
+ghost use Rattle.script_words.specs.Before.{MoreTraffic};
+ghost use Rattle.script_words.specs.Compact.{given_of};
+ghost use Rattle.script_words.specs.Reads.{Reads, result_map};
+ghost use Rattle.script_words.specs.TrafficLines as rules;
 
-use crate::fault::{Cause, LineError};
-use crate::given::Given;
 use crate::lookups::{read_pair, read_queue};
-use crate::options::agrees;
-use crate::reader::Reader;
-use crate::rings::ring_of;
-use crate::words::{read_bytes, read_number_between, read_side};
+use script_plan::Reader;
+use script_plan::rings::ring_of;
+use script_words::options::agrees;
+use script_words::words::{read_bytes, read_number_between, read_side};
+use script_words::{Cause, Given, LineError};
 use std::alloc::Global;
 use step_kinds::limits::{MOST_BREAKS, MOST_TRAFFIC_ENTRIES};
 use step_kinds::{Frame, LaneName, PairPlan};
@@ -32,7 +31,6 @@ fn may_have_traffic(pair: &PairPlan) -> bool
 fn test_lane(before: &Reader, lane: LaneName, len: u64, count: u64) -> Result<(), Cause>
     requires declared { lane.pair < length before.now.plan.pairs }
     requires among { lane.queue < (side_plan (pair_plan before.now.plan lane.pair) lane.from).queues }
-    requires len { len ≤ 16777216 }
     requires count { count ≤ 100000 }
     ensures value { (more : List Traffic) → sum (map frames_in more) ≡ count → sum (map bytes_in more) ≡ count * len → result_map (λ _. MoreTraffic more) result ≡ rules.traffic_within before.now lane len more }
     ensures short { OnOk result (len ≤ 65536) }
@@ -74,7 +72,6 @@ fn frame_line(
     queue: &[u8],
     frame: &[u8],
 ) -> Result<Given, LineError>
-    requires { length frame.now ≤ 16777216 }
     ensures { Reads (result_map given_of result) (rules.traffic_frame_line before.now pair.now side.now queue.now frame.now) }
 {
     let pair = read_pair(before, pair)?;
@@ -118,12 +115,29 @@ pub fn traffic_line(
     ensures { Reads (result_map given_of result) (rules.traffic_line before.now word.now (map (λ word. word.now) words.now)) }
 {
     match words {
-        [pair] if word == b"break".as_slice() => Ok(break_line(before, pair)?),
-        [pair, side, queue, frame] if word == b"frame".as_slice() => {
-            frame_line(alloc, before, pair, side, queue, frame)
+        [] => Err(LineError::Fault(Cause::UnknownWord)),
+        [pair] => {
+            if word == b"break".as_slice() {
+                Ok(break_line(before, pair)?)
+            } else {
+                Err(LineError::Fault(Cause::UnknownWord))
+            }
         }
-        [pair, side, queue, count, len] if word == b"flood".as_slice() => {
-            Ok(flood_line(before, pair, side, queue, count, len)?)
+        [_, _] => Err(LineError::Fault(Cause::UnknownWord)),
+        [_, _, _] => Err(LineError::Fault(Cause::UnknownWord)),
+        [pair, side, queue, frame] => {
+            if word == b"frame".as_slice() {
+                frame_line(alloc, before, pair, side, queue, frame)
+            } else {
+                Err(LineError::Fault(Cause::UnknownWord))
+            }
+        }
+        [pair, side, queue, count, len] => {
+            if word == b"flood".as_slice() {
+                Ok(flood_line(before, pair, side, queue, count, len)?)
+            } else {
+                Err(LineError::Fault(Cause::UnknownWord))
+            }
         }
         _ => Err(LineError::Fault(Cause::UnknownWord)),
     }

@@ -30,6 +30,6 @@ returns c =
       counters_count = refl;
       posts_and_copies = (refl, refl);
       sessions_count_up = refl;
-  raw_pairs_read_bytes = (refl, refl, refl, refl);
-  drop_empties_the_lists = refl;
-}
+      raw_pairs_read_bytes = (refl, refl, refl, refl);
+      drop_empties_the_lists = refl;
+    }

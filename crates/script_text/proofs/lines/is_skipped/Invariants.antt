@@ -1,5 +1,5 @@
 use Rattle.std.proofs.Common.{◌≡◌, drop}
-use Rattle.script_text.specs.Words as spelled
+use Rattle.script_words.specs.Words as spelled
 use Rattle.script_text.proofs.lines.is_skipped.Given as goal
 
 abbrev pub invariant-loop-byte : goal.invariant-loop-byte

@@ -1,5 +1,5 @@
 use Rattle.std.proofs.Common.{refl, arith}
-use Rattle.lane_core.specs.declared.answers.Begun.TheVariants.{Ok as Began, TooLong, Busy, NoRoom}
+use Rattle.step_kinds.specs.declared.lanes.Begun.TheVariants.{Ok as Began, TooLong, Busy, NoRoom}
 use Rattle.ntb_top.proofs.Making.{begin_made}
 use Rattle.ntb_top.proofs.engine.Engine.begin.Goals as goal
 

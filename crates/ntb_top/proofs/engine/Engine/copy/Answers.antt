@@ -1,5 +1,5 @@
 use Rattle.std.proofs.Common.{refl, arith}
-use Rattle.lane_core.specs.declared.answers.LaneCopy.TheVariants.{Part, Whole, OutOfTurn}
+use Rattle.step_kinds.specs.declared.lanes.LaneCopy.TheVariants.{Part, Whole, OutOfTurn}
 use Rattle.ntb_top.proofs.Making.{copy_made}
 use Rattle.ntb_top.proofs.engine.Engine.copy.Goals as goal
 

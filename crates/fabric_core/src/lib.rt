@@ -1,0 +1,2 @@
+//! A fabric of pairs.
+#![tactic(auto)]

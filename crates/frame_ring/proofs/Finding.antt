@@ -1,0 +1,79 @@
+-- What a look promises: the pages of the flags and of the index word of the entry that it found.
+use Rattle.std.proofs.Common.{◌≡◌, ◌∙◌, ℕ, ◌+◌, All, true, List, Option, Some, None, Result, Ok, Err, OnErr, OnOk, length, refl, ap}
+use Rattle.std.proofs.lemmas.List.Elements.{All-weaker}
+use Rattle.step_kinds.specs.Sides.{other_side}
+use Rattle.step_kinds.specs.declared.names.Side.{Side}
+use Rattle.step_kinds.specs.declared.names.Side.TheVariants.{A, B}
+use Rattle.step_kinds.specs.declared.plan.PairPlan.{PairPlan}
+use Rattle.byte_model.specs.Addresses.{own_header}
+use Rattle.byte_model.specs.Headers.{Found, NoEntry, ALinkDownEntry, AnotherVersion, TooManyBytes, AnEntry, flags_offset}
+use Rattle.byte_model.specs.RingWrites.{WindowWrite, entry_write, index_write}
+use Rattle.host_memory.specs.Memory.{ArePromised, Touches}
+use Rattle.lane_model.specs.Tests.{is_idle}
+use Rattle.lane_model.specs.declared.Phase.TheVariants.{Copying}
+use Rattle.bridge_pair.specs.Bridge.{Bridge, pages_of, with_pages}
+use Rattle.bridge_pair.specs.Pages.{PagesGrow}
+use Rattle.bridge_pair.proofs.Promises.{grows_further, grows_nothing, promised_still}
+use Rattle.frame_ring.specs.Calls.{FindsEntry, TouchedByFlags, TouchedByLook, found_seen, look_found}
+use Rattle.frame_ring.specs.Port.{Left, PortState, Receiving, with_receiving, writes_left}
+use Rattle.frame_ring.specs.Seen.{HasPages, IsLeftReady, IsReady, IsReadyToLand, TouchesWrite, with_room}
+use Rattle.frame_ring.specs.declared.RingLook.TheVariants.{Ready}
+
+-- Pages of the two sides
+
+pub peer_pages : (bridge : Bridge) (side : Side) (pages : List ℕ) → pages_of (with_pages bridge side pages) (other_side side) ≡ pages_of bridge (other_side side)
+peer_pages bridge A pages = refl
+peer_pages bridge B pages = refl
+
+pub side_pages : (bridge : Bridge) (side : Side) (pages : List ℕ) → pages_of (with_pages bridge (other_side side) pages) side ≡ pages_of bridge side
+side_pages bridge A pages = refl
+side_pages bridge B pages = refl
+
+pub either_pages : {X E : Type 0} (result : Result X E) (mid new : Bridge) (side any : Side) → OnOk result (new ≡ with_room mid side 1) → OnErr result (new ≡ mid) → pages_of new any ≡ pages_of mid any
+either_pages (Ok x) mid new side any ok err = ap (λ (bridge : Bridge). pages_of bridge any) ok
+either_pages (Err e) mid new side any ok err = ap (λ (bridge : Bridge). pages_of bridge any) err
+
+-- Writes that were ready stay so
+
+write_still : (plan : PairPlan) (side : Side) (touched : ℕ → Type 0) (old new : List ℕ) (write : Option WindowWrite) → PagesGrow touched old new → IsReady plan side old write → IsReady plan side new write
+write_still plan side touched old new None grow ready = tt
+write_still plan side touched old new (Some write) grow ready = λ reach. promised_still touched old new _ (length write.bytes) grow (ready reach)
+
+pub writes_still : (plan : PairPlan) (side : Side) (touched : ℕ → Type 0) (old new : List ℕ) (lefts : List Left) → PagesGrow touched old new → All (IsLeftReady plan side old) lefts → All (IsLeftReady plan side new) lefts
+writes_still plan side touched old new lefts grow all =
+    All-weaker (IsLeftReady plan side old) (IsLeftReady plan side new) (λ (left : Left) (h : IsLeftReady plan side old left). write_still plan side touched old new (entry_write plan side left.entry left.label) grow h) lefts all
+
+pub found_ready : (port : PortState) (len left : ℕ) (own peer own_new peer_new : List ℕ) (touched : ℕ → Type 0)
+    → PagesGrow touched peer peer_new → ArePromised (own_header port.plan port.side port.queue port.receiving.got + flags_offset port.plan) 4 own_new
+    → IsReadyToLand port.plan port.side peer_new (index_write port.plan port.side port.queue port.receiving.got)
+    → HasPages port own peer → HasPages (with_receiving port (record port.receiving { phase = Copying; part = 0; len = len; left = left })) own_new peer_new
+found_ready port len left own peer own_new peer_new touched grow flags index_word ready =
+    record {
+      writes = writes_still port.plan port.side touched peer peer_new (writes_left port) grow ready.writes;
+      flags = λ busy. flags;
+      index_word = λ busy. index_word;
+    }
+
+-- What was found
+
+answer_of : (receiving : Receiving) (found : Found) (number len : ℕ) → Ready number len ≡ look_found receiving found → look_found receiving found ≡ Ready receiving.got len
+answer_of receiving NoEntry number len e = absurd (cc e)
+answer_of receiving ALinkDownEntry number len e = absurd (cc e)
+answer_of receiving (AnotherVersion seen own) number len e = absurd (cc e)
+answer_of receiving (TooManyBytes many most) number len e = absurd (cc e)
+answer_of receiving (AnEntry size left) number len e = let same : size ≡ len = cc in ap (Ready receiving.got) same
+
+pub finds : (port : PortState) (bridge : Bridge) (found : Found) (number len : ℕ) → is_idle port.receiving.phase ≡ true → found ≡ found_seen port bridge → Ready number len ≡ look_found port.receiving found → FindsEntry port bridge
+finds port bridge found number len idle is ready = (len, rw idle (answer_of port.receiving (found_seen port bridge) number len (ready ∙ ap (look_found port.receiving) is)))
+
+pub look_touches : (port : PortState) (bridge : Bridge) (old new : List ℕ) → FindsEntry port bridge
+    → PagesGrow (TouchesWrite port.plan port.side (index_write port.plan port.side port.queue port.receiving.got)) old new → PagesGrow (TouchedByLook port bridge) old new
+look_touches port bridge old new finds grow =
+    grows_further (TouchedByLook port bridge) (TouchesWrite port.plan port.side (index_write port.plan port.side port.queue port.receiving.got)) old old new (grows_nothing (TouchedByLook port bridge) old) grow
+    (λ page touch. (finds, touch))
+
+pub flags_touch : (port : PortState) (bridge : Bridge) (old new : List ℕ) → FindsEntry port bridge
+    → PagesGrow (Touches (own_header port.plan port.side port.queue port.receiving.got + flags_offset port.plan) 4) old new → PagesGrow (TouchedByFlags port bridge) old new
+flags_touch port bridge old new finds grow =
+    grows_further (TouchedByFlags port bridge) (Touches (own_header port.plan port.side port.queue port.receiving.got + flags_offset port.plan) 4) old old new (grows_nothing (TouchedByFlags port bridge) old) grow
+    (λ page touch. (finds, touch))

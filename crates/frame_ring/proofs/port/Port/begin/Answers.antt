@@ -1,0 +1,8 @@
+use Rattle.frame_ring.proofs.Answered.{begin_touches}
+use Rattle.frame_ring.proofs.port.Port.begin.Goals as goal
+
+pub returns-in_err-begin_frame-in-Ok-clause-pages : goal.returns-in_err-begin_frame-in-Ok-clause-pages
+returns-in_err-begin_frame-in-Ok-clause-pages c = begin_touches c.args.self.now c.args.pair.now c.args.frame c.len.result c.in-Ok.number _ _ c.len.ensures.value c.in-Ok.ensures c.begin_frame.ensures.pages
+
+pub returns-in_ok-begin_frame-in-Ok-clause-pages : goal.returns-in_ok-begin_frame-in-Ok-clause-pages
+returns-in_ok-begin_frame-in-Ok-clause-pages c = begin_touches c.args.self.now c.args.pair.now c.args.frame c.len.result c.in-Ok.number _ _ c.len.ensures.value c.in-Ok.ensures c.begin_frame.ensures.pages

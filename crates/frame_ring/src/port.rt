@@ -1,0 +1,427 @@
+//! One queue of one side.
+
+ghost use Rattle.std.specs.Prelude.{◌≡◌, ◌+◌, ◌-◌, ◌<◌, ◌≤◌, IfOk, OnErr, OnOk, false, length, true};
+ghost use Rattle.bridge_pair.specs.Bridge.{flight_of, pages_of, with_pages};
+ghost use Rattle.bridge_pair.specs.Pages.{PagesGrow};
+ghost use Rattle.byte_model.specs.Addresses.{own_header};
+ghost use Rattle.byte_model.specs.Headers.{flags_offset};
+ghost use Rattle.byte_model.specs.RingWrites.{index_write};
+ghost use Rattle.host_memory.specs.Memory.{Touches};
+ghost use Rattle.lane_model.specs.Tests.{is_idle};
+ghost use Rattle.lane_model.specs.declared.Phase.TheVariants.{Copying};
+ghost use Rattle.plan_model.specs.DeclaredPlans.{IsPair, SizesFit};
+ghost use Rattle.plan_model.specs.Plans.{side_plan as side_plan_of};
+ghost use Rattle.plan_model.specs.Sizes.{layout_to};
+ghost use Rattle.ring_geometry.specs.Geometry.{max_payload_of};
+ghost use Rattle.step_kinds.specs.Limits.{most_frame_bytes};
+ghost use Rattle.step_kinds.specs.Sides.{other_side};
+
+use crate::RingLook;
+use crate::posting::{clear_flags, post_index, post_write};
+use crate::promises::{
+    count_writes, promise_entry, promise_flags, promise_frame, promise_index_word,
+};
+use crate::reading::{free_by, has_index_word, header, index_word, slot_at, tail};
+use crate::receiving::Receiver;
+use crate::rings::{QueueRings, slot_in};
+use crate::sending::{Sender, has_numbers, pieces_in};
+use bridge_pair::Pair;
+use lane_model::Phase;
+use std::alloc::{AllocError, Global};
+use std::marker::Model;
+use step_kinds::{Begun, Frame, Label, LaneCopy, PairPlan, Side};
+
+/// One queue of one side of a pair: the ring that it sends to in the peer's memory, the ring that it receives in in its own,
+/// and how far it is with both. Contracts see that as a record.
+///
+/// Every call that takes a pair has to be given one of the port's plan. What a begin, a going down or a look promised, and
+/// the port hasn't used yet, has to be there when it is used: room for its writes among those that the side has promised, and
+/// the pages that they write to. Other calls on the pair leave both as they are.
+#[derive(Drop)]
+pub struct Port {
+    rings: QueueRings,
+    sender: Sender,
+    receiver: Receiver,
+}
+
+impl Model for Port {
+    ghost use Rattle.frame_ring.specs.Port.{PortState};
+    ghost use Rattle.frame_ring.specs.Ports.{IsPort, port_seen};
+
+    ghost Value = { PortState };
+
+    ghost view = { port_seen };
+
+    ghost invariant = { IsPort };
+}
+
+impl Port {
+    ghost use Rattle.frame_ring.specs.Calls.{down_begun, frame_begun, room_answer, TouchedByBegin, TouchedByDown, TouchedByFlags, TouchedByLook, ack_answer, acked_by, after_ack, after_begin, after_clear, after_copy, after_down, after_look, after_post, begin_answer, clear_answer, cleared_by, copy_answer, down_answer, free_answer, look_answer, post_answer, posted_by, refuses_answer, reset_by};
+    ghost use Rattle.frame_ring.specs.Port.{fresh_port, is_busy, unused_of, with_receiving, writes_left};
+    ghost use Rattle.frame_ring.specs.Seen.{FitsRings, HasPagesIn, HasRoomIn, TouchesLeft, TouchesWrite, with_room};
+
+    /// The port of one of a side's queues, with nothing sent and nothing received. It takes no memory yet; the
+    /// allocator is kept for [`Port::look`].
+    pub fn new(alloc: Global, plan: &PairPlan, side: Side, queue: u32) -> Port
+        requires declared { IsPair plan.now }
+        requires among { queue < (side_plan_of plan.now side).queues }
+        ensures { result ≡ fresh_port plan.now side queue }
+    {
+        let rings = QueueRings::new(plan, side, queue);
+        let largest = rings.out().max_payload();
+        Port {
+            rings,
+            sender: Sender::new(queue, largest),
+            receiver: Receiver::new(alloc),
+        }
+    }
+
+    /// Begins a frame, of one byte at least: as one entry, or on version 5 as so many as its bytes fill. Room for all its
+    /// writes is promised, and the pages that they write to.
+    ///
+    /// [`Begun::TooLong`] comes where the frame is longer than any may be, then [`Begun::Busy`] where writes of the frame
+    /// before are left to post, then [`Begun::NoRoom`] where the ring has fewer entries free than the frame takes, by the
+    /// index word in the side's memory; one that names no slot of the ring counts as no room. A refusal changes nothing and
+    /// drops the frame.
+    ///
+    /// # Errors
+    ///
+    /// [`AllocError`] from want of memory alone. The port is as it was, and of the pair nothing but pages that this frame
+    /// needs may have become promised.
+    pub fn begin(&mut self, pair: &mut Pair, frame: Frame) -> Result<Begun, AllocError>
+        requires some { 0 < length frame }
+        requires plan { pair.old.plan ≡ self.old.plan }
+        requires fits { FitsRings self.old.plan }
+        ensures answer { IfOk result (λ answer. answer ≡ begin_answer self.old pair.old (length frame)) }
+        ensures after { OnOk result (self.new ≡ after_begin self.old pair.old frame) }
+        ensures err { OnErr result (self.new ≡ self.old) }
+        ensures rest { pair.new ≡ with_room (with_pages pair.old (other_side self.old.side) (pages_of pair.new (other_side self.old.side))) self.old.side (unused_of self.new - unused_of self.old) }
+        ensures pages { PagesGrow (TouchedByBegin self.old pair.old frame) (pages_of pair.old (other_side self.old.side)) (pages_of pair.new (other_side self.old.side)) }
+        ensures ready { OnOk result (HasPagesIn self.old pair.old → HasPagesIn self.new pair.new) }
+    {
+        match self.begin_answer(pair, frame.len()) {
+            Begun::Ok { number } => {
+                self.begin_frame(pair, frame)?;
+                Ok(Begun::Ok { number })
+            }
+            refusal => Ok(refusal),
+        }
+    }
+
+    /// Begins a link-down entry, which tells the peer that this end of the queue goes down. [`Begun::Busy`] and
+    /// [`Begun::NoRoom`] come as from [`Port::begin`], and change nothing.
+    ///
+    /// # Errors
+    ///
+    /// [`AllocError`] from want of memory alone. The port is as it was, and of the pair nothing but pages that this entry
+    /// needs may have become promised.
+    pub fn down(&mut self, pair: &mut Pair) -> Result<Begun, AllocError>
+        requires plan { pair.old.plan ≡ self.old.plan }
+        requires fits { FitsRings self.old.plan }
+        ensures answer { IfOk result (λ answer. answer ≡ down_answer self.old pair.old) }
+        ensures after { OnOk result (self.new ≡ after_down self.old pair.old) }
+        ensures err { OnErr result (self.new ≡ self.old) }
+        ensures rest { pair.new ≡ with_room (with_pages pair.old (other_side self.old.side) (pages_of pair.new (other_side self.old.side))) self.old.side (unused_of self.new - unused_of self.old) }
+        ensures pages { PagesGrow (TouchedByDown self.old pair.old) (pages_of pair.old (other_side self.old.side)) (pages_of pair.new (other_side self.old.side)) }
+        ensures ready { OnOk result (HasPagesIn self.old pair.old → HasPagesIn self.new pair.new) }
+    {
+        match self.down_answer(pair) {
+            Begun::Ok { number } => {
+                self.begin_down(pair)?;
+                Ok(Begun::Ok { number })
+            }
+            refusal => Ok(refusal),
+        }
+    }
+
+    /// Posts the next write that is left, and answers its label; `None` exactly where none is left. Where the link isn't up the
+    /// write is lost, and so is one through a window that the peer lacks, which only a raw pair can have. It takes no memory.
+    pub fn post(&mut self, pair: &mut Pair) -> Option<Label>
+        requires plan { pair.old.plan ≡ self.old.plan }
+        requires room { HasRoomIn self.old pair.old }
+        requires pages { HasPagesIn self.old pair.old }
+        ensures answer { result ≡ post_answer self.old }
+        ensures after { self.new ≡ after_post self.old }
+        ensures pair { pair.new ≡ posted_by self.old pair.old }
+        ensures spare { (flight_of pair.new self.old.side).spare + unused_of self.old ≡ (flight_of pair.old self.old.side).spare + unused_of self.new }
+        ensures ready { HasPagesIn self.new pair.new }
+    {
+        self.sender.advance();
+        let label = self.sender.label();
+        match label {
+            Some(label) => post_write(&self.rings, &self.sender, pair, label),
+            None => {}
+        }
+        self.sender.posted();
+        label
+    }
+
+    /// Looks for the next entry, by the header of its slot in the side's memory. Where it is [`RingLook::Ready`], room for its
+    /// bytes and for the index write that gives it back is promised, and the pages of both and of its flags.
+    ///
+    /// [`RingLook::OutOfTurn`] comes where another entry is at hand, then [`RingLook::Empty`], [`RingLook::PeerDown`],
+    /// [`RingLook::VerDiffers`] and [`RingLook::Long`] by the header, in this order. All these change nothing.
+    ///
+    /// # Errors
+    ///
+    /// [`AllocError`] from want of memory alone. The port is as it was, and of the pair nothing but pages that this entry
+    /// needs may have become promised.
+    pub fn look(&mut self, pair: &mut Pair) -> Result<RingLook, AllocError>
+        requires plan { pair.old.plan ≡ self.old.plan }
+        requires fits { FitsRings self.old.plan }
+        ensures answer { IfOk result (λ answer. answer ≡ look_answer self.old pair.old) }
+        ensures after { OnOk result (self.new ≡ after_look self.old pair.old) }
+        ensures err { OnErr result (self.new ≡ self.old) }
+        ensures rest { pair.new ≡ with_room (with_pages (with_pages pair.old (other_side self.old.side) (pages_of pair.new (other_side self.old.side))) self.old.side (pages_of pair.new self.old.side)) self.old.side (unused_of self.new - unused_of self.old) }
+        ensures pages { PagesGrow (TouchedByLook self.old pair.old) (pages_of pair.old (other_side self.old.side)) (pages_of pair.new (other_side self.old.side)) }
+        ensures flags { PagesGrow (TouchedByFlags self.old pair.old) (pages_of pair.old self.old.side) (pages_of pair.new self.old.side) }
+        ensures ready { OnOk result (HasPagesIn self.old pair.old → HasPagesIn self.new pair.new) }
+    {
+        let Phase::Idle = self.receiver.phase() else {
+            return Ok(RingLook::OutOfTurn);
+        };
+        let header = header(&self.rings, pair, self.receiver.got());
+        match self.receiver.sight(&self.rings, &header) {
+            RingLook::Ready { number, len } => {
+                self.find(pair, len, header.left)?;
+                Ok(RingLook::Ready { number, len })
+            }
+            other => Ok(other),
+        }
+    }
+
+    /// Copies the next part of the entry at hand, as it stands in the side's memory: 128 bytes, or the rest. With the last part
+    /// of a frame's last entry the whole frame is delivered; an entry without bytes takes one copy. It takes no memory.
+    pub fn copy(&mut self, pair: &Pair) -> LaneCopy
+        requires { pair.now.plan ≡ self.old.plan }
+        ensures answer { result ≡ copy_answer self.old pair.now }
+        ensures after { self.new ≡ after_copy self.old pair.now }
+        ensures ready { HasPagesIn self.old pair.now → HasPagesIn self.new pair.now }
+    {
+        let Phase::Copying = self.receiver.phase() else {
+            return LaneCopy::OutOfTurn;
+        };
+        let _plan = pair.plan();
+        let side = self.rings.side();
+        let at = slot_at(&self.rings, self.receiver.got()) + self.receiver.part_offset();
+        self.receiver.copy(pair, side, at)
+    }
+
+    /// Zeroes the flags of the entry that was copied, in the side's own memory, and answers its number; `None` exactly where
+    /// none was. It takes no memory.
+    pub fn clear(&mut self, pair: &mut Pair) -> Option<u64>
+        requires plan { pair.old.plan ≡ self.old.plan }
+        requires pages { HasPagesIn self.old pair.old }
+        ensures answer { result ≡ clear_answer self.old }
+        ensures after { self.new ≡ after_clear self.old }
+        ensures pair { pair.new ≡ cleared_by self.old pair.old }
+        ensures ready { HasPagesIn self.new pair.new }
+    {
+        let Phase::Copied = self.receiver.phase() else {
+            return None;
+        };
+        let number = self.receiver.last_got();
+        clear_flags(&self.rings, pair, number);
+        self.receiver.cleared();
+        Some(number)
+    }
+
+    /// Gives the entry that was cleared back: posts the index write that names its slot, and answers its number; `None` exactly
+    /// where none was cleared. It takes no memory.
+    pub fn ack(&mut self, pair: &mut Pair) -> Option<u64>
+        requires plan { pair.old.plan ≡ self.old.plan }
+        requires room { HasRoomIn self.old pair.old }
+        requires pages { HasPagesIn self.old pair.old }
+        ensures answer { result ≡ ack_answer self.old }
+        ensures after { self.new ≡ after_ack self.old }
+        ensures pair { pair.new ≡ acked_by self.old pair.old }
+        ensures spare { (flight_of pair.new self.old.side).spare + unused_of self.old ≡ (flight_of pair.old self.old.side).spare + unused_of self.new }
+        ensures ready { HasPagesIn self.new pair.new }
+    {
+        let Phase::Cleared = self.receiver.phase() else {
+            return None;
+        };
+        let number = self.receiver.last_got();
+        post_index(&self.rings, pair, number);
+        self.receiver.given_back();
+        Some(number)
+    }
+
+    /// The side whose queue this is.
+    pub fn side(&self) -> Side
+        ensures { result ≡ self.now.side }
+    {
+        self.rings.side()
+    }
+
+    /// The queue's number, from 0, which is one of the side's.
+    pub fn queue(&self) -> u32
+        ensures { result ≡ self.now.queue }
+    {
+        self.rings.queue()
+    }
+
+    /// Whether [`Port::begin`] would answer [`Begun::TooLong`] or [`Begun::Busy`] for a frame of `len` bytes, 1 to 65,536,
+    /// whatever room there is. It takes no memory.
+    pub fn refuses(&self, len: u32) -> bool
+        requires some { 0 < len }
+        requires most { len ≤ most_frame_bytes }
+        ensures { result ≡ refuses_answer self.now len }
+    {
+        self.rings.most_sent() < len || self.sender.is_busy()
+    }
+
+    /// The free entries of the ring that the port sends to, by the index word in the side's memory: 0 where that word names no
+    /// slot of the ring, and where it doesn't lie wholly in the memory. It takes no memory.
+    pub fn free(&self, pair: &Pair) -> u32
+        requires { pair.now.plan ≡ self.now.plan }
+        ensures { result ≡ free_answer self.now pair.now }
+    {
+        if !has_index_word(&self.rings) {
+            return 0;
+        }
+        let head = slot_in(self.rings.out(), self.sender.begun());
+        free_by(&self.rings, head, index_word(&self.rings, pair))
+    }
+
+    /// Forgets all that was sent and received, as a side does between two sessions, and gives back the promises of room that
+    /// weren't used. It takes no memory.
+    pub fn reset(&mut self, pair: &mut Pair)
+        requires plan { pair.old.plan ≡ self.old.plan }
+        requires room { HasRoomIn self.old pair.old }
+        ensures after { self.new ≡ fresh_port self.old.plan self.old.side self.old.queue }
+        ensures pair { pair.new ≡ reset_by self.old pair.old }
+    {
+        let unused = self.unused();
+        pair.give_back(self.rings.side(), unused);
+        let largest = self.rings.out().max_payload();
+        self.sender = Sender::new(self.rings.queue(), largest);
+        self.receiver.reset();
+    }
+
+    // How many promises of room are unused.
+    fn unused(&self) -> usize
+        ensures { result ≡ unused_of self.now }
+    {
+        let found = match self.receiver.phase() {
+            Phase::Idle => 0,
+            _ => 1,
+        };
+        self.sender.left() + found
+    }
+
+    // What a begin of a frame of `len` bytes answers, but for want of memory.
+    fn begin_answer(&self, pair: &Pair, len: u32) -> Begun
+        requires plan { pair.now.plan ≡ self.now.plan }
+        requires fit { SizesFit self.now.plan }
+        requires few { len ≤ most_frame_bytes }
+        ensures { result ≡ begin_answer self.now pair.now len }
+    {
+        let max = self.rings.most_sent();
+        if max < len {
+            return Begun::TooLong { len, max };
+        }
+        if self.sender.is_busy() {
+            return Begun::Busy;
+        }
+        let largest = self.rings.out().max_payload();
+        self.room_answer(pair, pieces_in(largest, len))
+    }
+
+    // What a going down answers, but for want of memory.
+    fn down_answer(&self, pair: &Pair) -> Begun
+        requires plan { pair.now.plan ≡ self.now.plan }
+        requires fit { SizesFit self.now.plan }
+        ensures { result ≡ down_answer self.now pair.now }
+    {
+        if self.sender.is_busy() {
+            return Begun::Busy;
+        }
+        self.room_answer(pair, 1)
+    }
+
+    // What is answered where so many entries are wanted.
+    fn room_answer(&self, pair: &Pair, needed: u32) -> Begun
+        requires plan { pair.now.plan ≡ self.now.plan }
+        requires fit { SizesFit self.now.plan }
+        ensures { result ≡ room_answer self.now pair.now needed }
+    {
+        let head = slot_in(self.rings.out(), self.sender.begun());
+        let tail = tail(&self.rings, pair);
+        if free_by(&self.rings, head, tail) < needed {
+            Begun::NoRoom { head, tail }
+        } else {
+            Begun::Ok {
+                number: self.sender.told(),
+            }
+        }
+    }
+
+    // Promises what a frame needs, and begins it.
+    fn begin_frame(&mut self, pair: &mut Pair, frame: Frame) -> Result<(), AllocError>
+        requires plan { pair.old.plan ≡ self.old.plan }
+        requires fit { SizesFit self.old.plan }
+        requires idle { is_busy self.old.sending ≡ false }
+        ensures after { OnOk result (self.new ≡ frame_begun self.old frame) }
+        ensures err { OnErr result (self.new ≡ self.old) }
+        ensures rest { pair.new ≡ with_room (with_pages pair.old (other_side self.old.side) (pages_of pair.new (other_side self.old.side))) self.old.side (unused_of self.new - unused_of self.old) }
+        ensures pages { PagesGrow (TouchesLeft self.old.plan self.old.side (writes_left (frame_begun self.old frame))) (pages_of pair.old (other_side self.old.side)) (pages_of pair.new (other_side self.old.side)) }
+        ensures ready { OnOk result (HasPagesIn self.old pair.old → HasPagesIn self.new pair.new) }
+    {
+        let largest = self.rings.out().max_payload();
+        let from = self.sender.begun();
+        let pieces = pieces_in(largest, frame.len());
+        if !has_numbers(from, pieces, self.sender.told()) {
+            return Err(AllocError);
+        }
+        let count = count_writes(&frame, largest);
+        promise_frame(&self.rings, pair, from, &frame)?;
+        pair.promise(self.rings.side(), count)?;
+        self.sender.begin(frame, count);
+        Ok(())
+    }
+
+    // Promises what a link-down entry needs, and begins it.
+    fn begin_down(&mut self, pair: &mut Pair) -> Result<(), AllocError>
+        requires plan { pair.old.plan ≡ self.old.plan }
+        requires fit { SizesFit self.old.plan }
+        requires idle { is_busy self.old.sending ≡ false }
+        ensures after { OnOk result (self.new ≡ down_begun self.old) }
+        ensures err { OnErr result (self.new ≡ self.old) }
+        ensures rest { pair.new ≡ with_room (with_pages pair.old (other_side self.old.side) (pages_of pair.new (other_side self.old.side))) self.old.side (unused_of self.new - unused_of self.old) }
+        ensures pages { PagesGrow (TouchesLeft self.old.plan self.old.side (writes_left (down_begun self.old))) (pages_of pair.old (other_side self.old.side)) (pages_of pair.new (other_side self.old.side)) }
+        ensures ready { OnOk result (HasPagesIn self.old pair.old → HasPagesIn self.new pair.new) }
+    {
+        let from = self.sender.begun();
+        if !has_numbers(from, 1, 0) {
+            return Err(AllocError);
+        }
+        promise_entry(&self.rings, pair, from, 0)?;
+        pair.promise(self.rings.side(), 4)?;
+        self.sender.down();
+        Ok(())
+    }
+
+    // Promises what an entry of `len` bytes needs to be taken and given back, and stands at it.
+    fn find(&mut self, pair: &mut Pair, len: u32, left: u32) -> Result<(), AllocError>
+        requires plan { pair.old.plan ≡ self.old.plan }
+        requires fit { SizesFit self.old.plan }
+        requires idle { is_idle self.old.receiving.phase ≡ true }
+        requires short { len ≤ max_payload_of (layout_to self.old.plan self.old.side self.old.queue) }
+        requires fits { length self.old.receiving.gathered + len ≤ most_frame_bytes }
+        ensures after { OnOk result (self.new ≡ with_receiving self.old (record self.old.receiving { phase = Copying; part = 0; len = len; left = left })) }
+        ensures err { OnErr result (self.new ≡ self.old) }
+        ensures rest { pair.new ≡ with_room (with_pages (with_pages pair.old (other_side self.old.side) (pages_of pair.new (other_side self.old.side))) self.old.side (pages_of pair.new self.old.side)) self.old.side (unused_of self.new - unused_of self.old) }
+        ensures pages { PagesGrow (TouchesWrite self.old.plan self.old.side (index_write self.old.plan self.old.side self.old.queue self.old.receiving.got)) (pages_of pair.old (other_side self.old.side)) (pages_of pair.new (other_side self.old.side)) }
+        ensures flags { PagesGrow (Touches (own_header self.old.plan self.old.side self.old.queue self.old.receiving.got + flags_offset self.old.plan) 4) (pages_of pair.old self.old.side) (pages_of pair.new self.old.side) }
+        ensures ready { OnOk result (HasPagesIn self.old pair.old → HasPagesIn self.new pair.new) }
+    {
+        let got = self.receiver.got();
+        if !has_numbers(got, 1, 0) {
+            return Err(AllocError);
+        }
+        promise_index_word(&self.rings, pair)?;
+        promise_flags(&self.rings, pair, got)?;
+        self.receiver.find(pair, self.rings.side(), len, left)
+    }
+}

@@ -1,0 +1,128 @@
+//! The promises that a begin needs.
+
+ghost use Rattle.std.specs.Prelude.{◌≡◌, ◌+◌, ◌^◌, ◌<◌, ◌≤◌, OnOk, length};
+ghost use Rattle.bridge_pair.specs.Bridge.{pages_of, with_pages};
+ghost use Rattle.bridge_pair.specs.Pages.{PagesGrow};
+ghost use Rattle.byte_model.specs.Addresses.{own_header};
+ghost use Rattle.byte_model.specs.Headers.{flags_offset as offset_of_flags};
+ghost use Rattle.frame_ring.specs.Outgoing.{all_writes_in, most_numbers};
+ghost use Rattle.frame_ring.specs.Promises.{AreEntriesPromised, IsEntryPromised, IsRangePromised, TouchesEntries, TouchesEntry, TouchesRange};
+ghost use Rattle.host_memory.specs.Memory.{ArePromised, Touches};
+ghost use Rattle.plan_model.specs.DeclaredPlans.{SizesFit};
+ghost use Rattle.plan_model.specs.Pieces.{pieces_of};
+ghost use Rattle.plan_model.specs.Plans.{side_plan as side_plan_of};
+ghost use Rattle.plan_model.specs.Sizes.{layout_of, sizes_of};
+ghost use Rattle.ring_geometry.specs.Geometry.{index_of};
+ghost use Rattle.step_kinds.specs.Sides.{other_side};
+
+use crate::posting::{header_offset_of, reaches, slot_offset_of};
+use crate::reading::{flags_offset, header_at};
+use crate::rings::QueueRings;
+use crate::sending::{chunks_of, piece_bytes, pieces_in};
+use bridge_pair::{Pair, header_bytes, own_address};
+use std::alloc::AllocError;
+use step_kinds::Frame;
+
+/// Promises the pages of so many bytes at the peer, from an offset of the queue's window on, where the peer has the window.
+pub fn promise_bytes(
+    rings: &QueueRings,
+    pair: &mut Pair,
+    offset: u64,
+    len: u64,
+) -> Result<(), AllocError>
+    requires plan { pair.old.plan ≡ rings.now.plan }
+    requires fit { SizesFit rings.now.plan }
+    requires within { offset + len ≤ (side_plan_of rings.now.plan rings.now.side).size }
+    ensures rest { pair.new ≡ with_pages pair.old (other_side rings.now.side) (pages_of pair.new (other_side rings.now.side)) }
+    ensures pages { PagesGrow (TouchesRange rings.now offset len) (pages_of pair.old (other_side rings.now.side)) (pages_of pair.new (other_side rings.now.side)) }
+    ensures ok { OnOk result (IsRangePromised rings.now offset len (pages_of pair.new (other_side rings.now.side))) }
+{
+    if !reaches(rings) {
+        return Ok(());
+    }
+    let _plan = pair.plan();
+    let peer = rings.side().other();
+    let at = own_address(rings.plan(), peer, rings.out().window_of(), offset);
+    pair.promise_range(peer, at, len)
+}
+
+/// Promises the pages of entry `n`, which has so many bytes.
+pub fn promise_entry(
+    rings: &QueueRings,
+    pair: &mut Pair,
+    n: u64,
+    len: u64,
+) -> Result<(), AllocError>
+    requires plan { pair.old.plan ≡ rings.now.plan }
+    requires fit { SizesFit rings.now.plan }
+    requires fits { len ≤ (sizes_of rings.now.plan rings.now.side rings.now.queue).largest }
+    ensures rest { pair.new ≡ with_pages pair.old (other_side rings.now.side) (pages_of pair.new (other_side rings.now.side)) }
+    ensures pages { PagesGrow (TouchesEntry rings.now n len) (pages_of pair.old (other_side rings.now.side)) (pages_of pair.new (other_side rings.now.side)) }
+    ensures ok { OnOk result (IsEntryPromised rings.now n len (pages_of pair.new (other_side rings.now.side))) }
+{
+    promise_bytes(rings, pair, slot_offset_of(rings, n), len)?;
+    let header = u64::from(header_bytes(rings.plan()));
+    promise_bytes(rings, pair, header_offset_of(rings, n), header)
+}
+
+/// Promises the pages of all entries of a frame, the first of which has the number `from`.
+pub fn promise_frame(
+    rings: &QueueRings,
+    pair: &mut Pair,
+    from: u64,
+    frame: &Frame,
+) -> Result<(), AllocError>
+    requires plan { pair.old.plan ≡ rings.now.plan }
+    requires fit { SizesFit rings.now.plan }
+    requires few { from ≤ most_numbers }
+    ensures rest { pair.new ≡ with_pages pair.old (other_side rings.now.side) (pages_of pair.new (other_side rings.now.side)) }
+    ensures pages { PagesGrow (TouchesEntries rings.now from (pieces_of (sizes_of rings.now.plan rings.now.side rings.now.queue).largest frame.now)) (pages_of pair.old (other_side rings.now.side)) (pages_of pair.new (other_side rings.now.side)) }
+    ensures ok { OnOk result (AreEntriesPromised rings.now from (pieces_of (sizes_of rings.now.plan rings.now.side rings.now.queue).largest frame.now) (pages_of pair.new (other_side rings.now.side))) }
+{
+    let largest = rings.out().max_payload();
+    for k in 0..pieces_in(largest, frame.len()) {
+        let len = piece_bytes(frame.bytes(), largest, k).len() as u64;
+        promise_entry(rings, pair, from + u64::from(k), len)?;
+    }
+    Ok(())
+}
+
+/// How many writes the entries of a frame take.
+pub fn count_writes(frame: &Frame, largest: u32) -> usize
+    requires some { 4 ≤ largest }
+    requires few { largest ≤ 65536 }
+    ensures value { result ≡ all_writes_in (pieces_of largest frame.now) }
+    ensures small { result ≤ 2 ^ 30 }
+{
+    let mut count = 0;
+    for k in 0..pieces_in(largest, frame.len()) {
+        let len = piece_bytes(frame.bytes(), largest, k).len() as u32;
+        count += chunks_of(len) as usize + 4;
+    }
+    count
+}
+
+/// Promises the pages of the index words that the side posts.
+pub fn promise_index_word(rings: &QueueRings, pair: &mut Pair) -> Result<(), AllocError>
+    requires plan { pair.old.plan ≡ rings.now.plan }
+    requires fit { SizesFit rings.now.plan }
+    ensures rest { pair.new ≡ with_pages pair.old (other_side rings.now.side) (pages_of pair.new (other_side rings.now.side)) }
+    ensures pages { PagesGrow (TouchesRange rings.now (index_of (layout_of rings.now.plan rings.now.side rings.now.queue)) 4) (pages_of pair.old (other_side rings.now.side)) (pages_of pair.new (other_side rings.now.side)) }
+    ensures ok { OnOk result (IsRangePromised rings.now (index_of (layout_of rings.now.plan rings.now.side rings.now.queue)) 4 (pages_of pair.new (other_side rings.now.side))) }
+{
+    let offset = rings.out().index_at();
+    promise_bytes(rings, pair, offset, 4)
+}
+
+/// Promises the pages of the flags of the slot in which the side receives entry `n`.
+pub fn promise_flags(rings: &QueueRings, pair: &mut Pair, n: u64) -> Result<(), AllocError>
+    requires plan { pair.old.plan ≡ rings.now.plan }
+    requires fit { SizesFit rings.now.plan }
+    ensures rest { pair.new ≡ with_pages pair.old rings.now.side (pages_of pair.new rings.now.side) }
+    ensures pages { PagesGrow (Touches (own_header rings.now.plan rings.now.side rings.now.queue n + offset_of_flags rings.now.plan) 4) (pages_of pair.old rings.now.side) (pages_of pair.new rings.now.side) }
+    ensures ok { OnOk result (ArePromised (own_header rings.now.plan rings.now.side rings.now.queue n + offset_of_flags rings.now.plan) 4 (pages_of pair.new rings.now.side)) }
+{
+    let _plan = pair.plan();
+    let at = header_at(rings, n) + flags_offset(rings);
+    pair.promise_range(rings.side(), at, 4)
+}

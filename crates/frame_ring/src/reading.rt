@@ -1,0 +1,149 @@
+//! What a side reads of its rings in its own memory.
+
+ghost use Rattle.std.specs.Prelude.{◌≡◌, ◌+◌, ◌%◌, ◌*◌, ◌^◌, ◌<◌, ◌≤◌, nat_le};
+ghost use Rattle.bridge_pair.specs.Bridge.{memory_size};
+ghost use Rattle.byte_model.specs.Addresses.{own_header, own_index_word, own_slot};
+ghost use Rattle.byte_model.specs.Headers.{flags_offset as offset_of_flags, free_in_memory, header_in, index_word_in, word_at};
+ghost use Rattle.frame_ring.specs.Rings.{header_of};
+ghost use Rattle.frame_ring.specs.Seen.{bytes_seen};
+ghost use Rattle.plan_model.specs.DeclaredPlans.{SizesFit};
+ghost use Rattle.plan_model.specs.Sizes.{header_bytes as bytes_of_header, layout_to, sizes_of};
+ghost use Rattle.ring_geometry.specs.Geometry.{max_payload_of};
+
+use crate::rings::{QueueRings, slot_in};
+use bridge_pair::{Pair, memory_bytes, own_address, side_plan};
+
+/// The words of a header: on version 4 none follows, and `left` is 0.
+#[derive(Clone, Copy)]
+pub struct HeaderWords {
+    pub left: u32,
+    pub ver: u32,
+    pub len: u32,
+    pub flags: u32,
+}
+
+/// The address of the header of the slot in which the side receives entry `n`.
+pub fn header_at(rings: &QueueRings, n: u64) -> u64
+    requires { SizesFit rings.now.plan }
+    ensures value { result ≡ own_header rings.now.plan rings.now.side rings.now.queue n }
+    ensures within { result + bytes_of_header rings.now.plan ≤ memory_size rings.now.plan rings.now.side }
+    ensures small { result < 2 ^ 62 }
+{
+    let into = rings.into();
+    let slot = slot_in(into, n);
+    own_address(
+        rings.plan(),
+        rings.side(),
+        into.window_of(),
+        into.header_at(slot),
+    )
+}
+
+/// The address of the slot in which the side receives entry `n`.
+pub fn slot_at(rings: &QueueRings, n: u64) -> u64
+    requires { SizesFit rings.now.plan }
+    ensures value { result ≡ own_slot rings.now.plan rings.now.side rings.now.queue n }
+    ensures within { result + max_payload_of (layout_to rings.now.plan rings.now.side rings.now.queue) ≤ memory_size rings.now.plan rings.now.side }
+    ensures small { result < 2 ^ 62 }
+{
+    let into = rings.into();
+    let slot = slot_in(into, n);
+    own_address(
+        rings.plan(),
+        rings.side(),
+        into.window_of(),
+        into.slot_at(slot),
+    )
+}
+
+/// Where the flags stand in a header.
+pub fn flags_offset(rings: &QueueRings) -> u64
+    ensures value { result ≡ offset_of_flags rings.now.plan }
+    ensures within { result + 4 ≡ bytes_of_header rings.now.plan }
+{
+    if rings.speaks_five() { 12 } else { 8 }
+}
+
+// A word of the side's memory.
+fn word(rings: &QueueRings, pair: &Pair, at: u64) -> u32
+    requires plan { pair.now.plan ≡ rings.now.plan }
+    requires within { at + 4 ≤ memory_size rings.now.plan rings.now.side }
+    ensures { result ≡ word_at (bytes_seen pair.now) rings.now.side at }
+{
+    let _plan = pair.plan();
+    pair.local_word(rings.side(), at)
+}
+
+/// The header of the slot in which the side receives entry `n`.
+pub fn header(rings: &QueueRings, pair: &Pair, n: u64) -> HeaderWords
+    requires plan { pair.now.plan ≡ rings.now.plan }
+    requires fit { SizesFit rings.now.plan }
+    ensures { header_of result ≡ header_in rings.now.plan (bytes_seen pair.now) rings.now.side rings.now.queue n }
+{
+    let at = header_at(rings, n);
+    if rings.speaks_five() {
+        HeaderWords {
+            left: word(rings, pair, at),
+            ver: word(rings, pair, at + 4),
+            len: word(rings, pair, at + 8),
+            flags: word(rings, pair, at + 12),
+        }
+    } else {
+        HeaderWords {
+            left: 0,
+            ver: word(rings, pair, at),
+            len: word(rings, pair, at + 4),
+            flags: word(rings, pair, at + 8),
+        }
+    }
+}
+
+/// The address of the index word of the lane that the side sends, which needn't lie in the side's memory.
+pub fn index_word_at(rings: &QueueRings) -> u64
+    ensures value { result ≡ own_index_word rings.now.plan rings.now.side rings.now.queue }
+    ensures small { result < 2 ^ 62 }
+{
+    let into = rings.into();
+    let cap = side_plan(rings.plan(), rings.side()).cap;
+    u64::from(into.window_of()) * cap + into.index_at()
+}
+
+/// Whether the index word lies wholly in the side's memory.
+pub fn has_index_word(rings: &QueueRings) -> bool
+    ensures { result ≡ nat_le (own_index_word rings.now.plan rings.now.side rings.now.queue + 4) (memory_size rings.now.plan rings.now.side) }
+{
+    let _side = rings.side();
+    index_word_at(rings) + 4 <= memory_bytes(rings.plan(), rings.side())
+}
+
+/// The index word of the lane that the side sends.
+pub fn index_word(rings: &QueueRings, pair: &Pair) -> u32
+    requires plan { pair.now.plan ≡ rings.now.plan }
+    requires within { own_index_word rings.now.plan rings.now.side rings.now.queue + 4 ≤ memory_size rings.now.plan rings.now.side }
+    ensures { result ≡ index_word_in rings.now.plan (bytes_seen pair.now) rings.now.side rings.now.queue }
+{
+    word(rings, pair, index_word_at(rings))
+}
+
+/// The same where the peer's windows fit the side's memory, and so it lies there.
+pub fn tail(rings: &QueueRings, pair: &Pair) -> u32
+    requires plan { pair.now.plan ≡ rings.now.plan }
+    requires fit { SizesFit rings.now.plan }
+    ensures { result ≡ index_word_in rings.now.plan (bytes_seen pair.now) rings.now.side rings.now.queue }
+{
+    let at = bridge_pair::index_word_at(rings.plan(), rings.side(), rings.queue());
+    word(rings, pair, at)
+}
+
+/// The free entries of the ring that the side sends to, by the slot of its next entry and an index word.
+pub fn free_by(rings: &QueueRings, head: u32, index_word: u32) -> u32
+    requires { head < (sizes_of rings.now.plan rings.now.side rings.now.queue).entries }
+    ensures value { result ≡ free_in_memory (sizes_of rings.now.plan rings.now.side rings.now.queue).entries head index_word }
+{
+    let out = rings.out();
+    if index_word < out.entries() {
+        out.free(head, index_word)
+    } else {
+        0
+    }
+}

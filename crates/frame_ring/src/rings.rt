@@ -1,0 +1,140 @@
+//! The rings of one queue of one side.
+
+ghost use Rattle.std.specs.Prelude.{◌≡◌, ◌==◌, ◌+◌, ◌*◌, ◌%◌, ◌^◌, ◌<◌, ◌≤◌};
+ghost use Rattle.bridge_pair.specs.Bridge.{memory_size};
+ghost use Rattle.byte_model.specs.Addresses.{own_address as own_address_of, own_header, own_index_word, own_slot};
+ghost use Rattle.byte_model.specs.Headers.{flags_offset as offset_of_flags};
+ghost use Rattle.byte_model.specs.RingWrites.{header_offset, slot_offset};
+ghost use Rattle.frame_ring.specs.Rings.{IsQueueOf};
+ghost use Rattle.lane_model.specs.Ring.{free_entries};
+ghost use Rattle.plan_model.specs.DeclaredPlans.{IsPair, SizesFit};
+ghost use Rattle.plan_model.specs.Plans.{side_plan as side_plan_of};
+ghost use Rattle.plan_model.specs.Sizes.{agreed_version, header_bytes as bytes_of_header, layout_of, layout_to, sizes_in, sizes_of};
+ghost use Rattle.ring_geometry.specs.Geometry.{IsPlaced, entries_of, frame_size, header_of, index_of, max_payload_of, slot_of, window_of};
+
+use bridge_pair::{copy_of, header_bytes, own_address, receiving_ring, sending_ring, side_plan};
+use ring_geometry::Geometry;
+use ring_geometry::laws::ring_has_two_entries;
+use std::marker::Model;
+use step_kinds::{PairPlan, Side};
+
+/// The rings of one queue of one side: the one that it sends to in the peer's memory, and the one that it receives in in its
+/// own. They never change.
+#[derive(Drop)]
+pub struct QueueRings {
+    plan: PairPlan,
+    side: Side,
+    queue: u32,
+    out: Geometry,
+    into: Geometry,
+}
+
+impl Model for QueueRings {
+    ghost use Rattle.frame_ring.specs.Rings.{ArePlaced, QueueOf, rings_seen};
+
+    ghost Value = { QueueOf };
+
+    ghost view = { rings_seen };
+
+    ghost invariant = { ArePlaced };
+}
+
+impl QueueRings {
+    ghost use Rattle.frame_ring.specs.Rings.{QueueOf};
+
+    /// The rings of one of a side's queues.
+    pub fn new(plan: &PairPlan, side: Side, queue: u32) -> QueueRings
+        requires declared { IsPair plan.now }
+        requires among { queue < (side_plan_of plan.now side).queues }
+        ensures { result ≡ record { plan = plan.now; side = side; queue = queue } }
+    {
+        QueueRings {
+            plan: copy_of(plan),
+            side,
+            queue,
+            out: sending_ring(plan, side, queue),
+            into: receiving_ring(plan, side, queue),
+        }
+    }
+
+    /// The side, of a queue that it has.
+    pub fn side(&self) -> Side
+        ensures value { result ≡ self.now.side }
+        ensures law { IsQueueOf self.now }
+    {
+        self.side
+    }
+
+    /// The number of the queue.
+    pub fn queue(&self) -> u32
+        ensures value { result ≡ self.now.queue }
+        ensures few { result < 16 }
+    {
+        self.queue
+    }
+
+    /// The plan of the pair.
+    pub fn plan(&self) -> &PairPlan
+        ensures { result.now ≡ self.now.plan }
+    {
+        &self.plan
+    }
+
+    /// The ring that the side sends to.
+    pub fn out(&self) -> &Geometry
+        ensures value { result.now ≡ layout_of self.now.plan self.now.side self.now.queue }
+        ensures placed { IsPlaced result.now }
+    {
+        let _entries = self.out.entries();
+        &self.out
+    }
+
+    /// The ring that the side receives in.
+    pub fn into(&self) -> &Geometry
+        ensures value { result.now ≡ layout_to self.now.plan self.now.side self.now.queue }
+        ensures placed { IsPlaced result.now }
+    {
+        let _entries = self.into.entries();
+        &self.into
+    }
+
+    /// Whether the pair speaks version 5.
+    pub fn speaks_five(&self) -> bool
+        ensures { result ≡ (agreed_version self.now.plan == 5) }
+    {
+        self.plan.a.version == 5 && self.plan.b.version == 5
+    }
+
+    /// The most bytes of a frame that is sent.
+    pub fn most_sent(&self) -> u32
+        ensures value { result ≡ (sizes_of self.now.plan self.now.side self.now.queue).most }
+        ensures few { result ≤ 65536 }
+    {
+        if self.speaks_five() {
+            self.out.longest()
+        } else {
+            self.out.max_payload()
+        }
+    }
+
+    /// The most bytes of a frame that is received.
+    pub fn most_received(&self) -> u32
+        ensures value { result ≡ (sizes_in self.now.plan (layout_to self.now.plan self.now.side self.now.queue)).most }
+        ensures few { result ≤ 65536 }
+    {
+        if self.speaks_five() {
+            self.into.longest()
+        } else {
+            self.into.max_payload()
+        }
+    }
+}
+
+/// The slot of a ring for entry `n`.
+pub fn slot_in(ring: &Geometry, n: u64) -> u32
+    ensures value { result ≡ n % entries_of ring.now }
+    ensures within { result < entries_of ring.now }
+{
+    ring_has_two_entries();
+    (n % u64::from(ring.entries())) as u32
+}

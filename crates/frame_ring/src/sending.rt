@@ -1,0 +1,272 @@
+//! The sender's end: the frame under way, and which of its writes is next.
+
+ghost use Rattle.std.specs.Prelude.{◌≡◌, ◌↔◌, IsTrue, ◌+◌, ◌-◌, ◌*◌, ◌^◌, ◌<◌, ◌≤◌, ◌∷◌, [], MatchOption, drop, length, not, take, true};
+ghost use Rattle.frame_ring.specs.Calls.{entries_begun, first_label, let_go, next_begun, rest_of};
+ghost use Rattle.frame_ring.specs.Outgoing.{IsLabelOf, all_writes_in, count_left, entries_under, entry_at, label_by, most_numbers, with_progress, writes_in};
+ghost use Rattle.frame_ring.specs.Port.{is_busy as is_busy_by, nothing_sent};
+ghost use Rattle.lane_model.specs.Lane.{GoesDown, bytes_of, chunk_of, chunks_in, left_of};
+ghost use Rattle.lane_model.specs.Tests.{is_empty_list};
+ghost use Rattle.plan_model.specs.Pieces.{pieces_of};
+ghost use Rattle.plan_model.specs.Sizes.{pieces_in as pieces_by};
+
+use std::marker::Model;
+use step_kinds::{Frame, Label};
+
+// The most entries and frames of a session.
+const MOST_NUMBERS: u64 = 1 << 62;
+
+/// How far a side is with what it sends on a queue.
+#[derive(Drop)]
+pub struct Sender {
+    queue: u32,
+    largest: u32,
+    begun: u64,
+    told: u64,
+    frame: Option<Frame>,
+    piece: u32,
+    pieces: u32,
+    next: u32,
+    left: usize,
+}
+
+impl Model for Sender {
+    ghost use Rattle.frame_ring.specs.Outgoing.{IsSender, Outgoing, sender_seen};
+
+    ghost Value = { Outgoing };
+
+    ghost view = { sender_seen };
+
+    ghost invariant = { IsSender };
+}
+
+impl Sender {
+    /// A sender that has sent nothing.
+    pub fn new(queue: u32, largest: u32) -> Sender
+        requires some { 4 ≤ largest }
+        requires few { largest ≤ 65536 }
+        ensures { result ≡ record { queue = queue; largest = largest; sending = nothing_sent } }
+    {
+        Sender {
+            queue,
+            largest,
+            begun: 0,
+            told: 0,
+            frame: None,
+            piece: 0,
+            pieces: 1,
+            next: 4,
+            left: 0,
+        }
+    }
+
+    /// How many entries were begun, and how many will be with those that wait.
+    pub fn begun(&self) -> u64
+        ensures value { result ≡ self.now.sending.begun + length self.now.sending.waiting }
+        ensures few { result ≤ most_numbers }
+    {
+        self.begun + u64::from(self.pieces - 1 - self.piece)
+    }
+
+    /// How many frames were begun.
+    pub fn told(&self) -> u64
+        ensures value { result ≡ self.now.sending.told }
+        ensures few { result ≤ most_numbers }
+    {
+        self.told
+    }
+
+    /// Whether writes of a frame are left to post.
+    pub fn is_busy(&self) -> bool
+        ensures { result ≡ is_busy_by self.now.sending }
+    {
+        self.left != 0
+    }
+
+    /// How many.
+    pub fn left(&self) -> usize
+        ensures value { result ≡ count_left self.now }
+        ensures few { result ≤ 2 ^ 30 }
+    {
+        self.left
+    }
+
+    /// Where all writes of an entry were posted, the next of its frame is begun.
+    pub fn advance(&mut self)
+        ensures { self.new ≡ with_progress self.old (next_begun self.old.queue self.old.sending) }
+    {
+        let all = writes_of(&self.frame, self.largest, self.piece);
+        if self.next == all && self.piece + 1 < self.pieces {
+            self.piece += 1;
+            self.begun += 1;
+            self.next = 0;
+        }
+    }
+
+    /// The label of the next write of the entry at hand.
+    pub fn label(&self) -> Option<Label>
+        ensures value { result ≡ first_label self.now.sending.todo }
+        ensures of_entry { MatchOption result (Unit {0}) (IsLabelOf self.now.queue self.now.sending.entry) }
+    {
+        let chunks = writes_of(&self.frame, self.largest, self.piece) - 4;
+        let number = self.begun.saturating_sub(1);
+        label_at(self.queue, number, chunks, self.frame.is_some(), self.next)
+    }
+
+    /// The payload of the entry at hand.
+    pub fn payload(&self) -> &[u8]
+        ensures value { result.now ≡ bytes_of self.now.sending.entry }
+        ensures fits { length result.now ≤ self.now.largest }
+        ensures few { self.now.largest ≤ 65536 }
+    {
+        payload_of(&self.frame, self.largest, self.piece)
+    }
+
+    /// How many entries of its frame follow it.
+    pub fn followers(&self) -> u32
+        ensures { result ≡ left_of self.now.sending.entry }
+    {
+        self.pieces - 1 - self.piece
+    }
+
+    /// The next write of the entry at hand was posted, where one was left; with the last one of a frame it is let go.
+    pub fn posted(&mut self)
+        requires { is_empty_list self.old.sending.todo ≡ true → is_empty_list self.old.sending.waiting ≡ true }
+        ensures { self.new ≡ with_progress self.old (let_go (record self.old.sending { todo = rest_of self.old.sending.todo })) }
+    {
+        if self.left == 0 {
+            return;
+        }
+        self.left -= 1;
+        self.next += 1;
+        if self.left == 0 {
+            self.frame = None;
+            self.piece = 0;
+            self.pieces = 1;
+            self.next = 4;
+        }
+    }
+
+    /// A frame, which takes so many writes in all, is begun.
+    pub fn begin(&mut self, frame: Frame, left: usize)
+        requires free { not (is_busy_by self.old.sending) ≡ true }
+        requires writes { left ≡ all_writes_in (pieces_of self.old.largest frame) }
+        requires few { left ≤ 2 ^ 30 }
+        requires numbers { self.old.sending.begun + pieces_by self.old.largest (length frame) ≤ most_numbers }
+        requires frames { self.old.sending.told < most_numbers }
+        ensures { self.new ≡ with_progress self.old (record (entries_begun self.old.queue self.old.sending (pieces_of self.old.largest frame)) { told = self.old.sending.told + 1 }) }
+    {
+        self.pieces = pieces_in(self.largest, frame.len());
+        self.piece = 0;
+        self.next = 0;
+        self.left = left;
+        self.begun += 1;
+        self.told += 1;
+        self.frame = Some(frame);
+    }
+
+    /// A link-down entry is begun.
+    pub fn down(&mut self)
+        requires free { not (is_busy_by self.old.sending) ≡ true }
+        requires numbers { self.old.sending.begun < most_numbers }
+        ensures { self.new ≡ with_progress self.old (entries_begun self.old.queue self.old.sending (GoesDown ∷ [])) }
+    {
+        self.frame = None;
+        self.pieces = 1;
+        self.piece = 0;
+        self.next = 0;
+        self.left = 4;
+        self.begun += 1;
+    }
+}
+
+/// Whether numbers are left for so many more entries, and for a frame.
+pub fn has_numbers(begun: u64, more: u32, told: u64) -> bool
+    requires entries { begun ≤ most_numbers }
+    requires frames { told ≤ most_numbers }
+    ensures { IsTrue result ↔ (begun + more ≤ most_numbers) × (told < most_numbers) }
+{
+    begun + u64::from(more) <= MOST_NUMBERS && told < MOST_NUMBERS
+}
+
+/// How many chunks so many bytes are, at most 65,536.
+pub fn chunks_of(len: u32) -> u32
+    requires { len ≤ 65536 }
+    ensures value { result ≡ chunks_in len }
+    ensures few { result ≤ 512 }
+{
+    (len + 128 - 1) / 128
+}
+
+/// How many entries of so many bytes at most a frame of so many bytes takes.
+pub fn pieces_in(largest: u32, len: u32) -> u32
+    requires some { 4 ≤ largest }
+    requires few { largest ≤ 65536 }
+    requires fits { len ≤ 65536 }
+    ensures value { result ≡ pieces_by largest len }
+    ensures few { result ≤ 65536 }
+{
+    ((len + largest - 1) / largest).max(1)
+}
+
+/// The payload of a piece of a frame.
+pub fn piece_bytes(bytes: &[u8], largest: u32, piece: u32) -> &[u8]
+    requires among { piece < pieces_by largest (length bytes.now) }
+    requires some { 4 ≤ largest }
+    requires most { largest ≤ 65536 }
+    requires fits { length bytes.now ≤ 65536 }
+    ensures value { result.now ≡ take largest (drop (largest * piece) bytes.now) }
+    ensures short { length result.now ≤ largest }
+{
+    let start = largest as usize * piece as usize;
+    let rest = &bytes[start..];
+    let end = rest.len().min(largest as usize);
+    &rest[..end]
+}
+
+// The payload of an entry of the frame under way.
+fn payload_of(frame: &Option<Frame>, largest: u32, piece: u32) -> &[u8]
+    requires among { piece < length (entries_under largest frame.now) }
+    requires some { 4 ≤ largest }
+    requires most { largest ≤ 65536 }
+    ensures value { result.now ≡ bytes_of (entry_at (entries_under largest frame.now) piece) }
+    ensures fits { length result.now ≤ largest }
+{
+    match frame {
+        None => &[],
+        Some(frame) => piece_bytes(frame.bytes(), largest, piece),
+    }
+}
+
+// How many writes it takes.
+fn writes_of(frame: &Option<Frame>, largest: u32, piece: u32) -> u32
+    requires among { piece < length (entries_under largest frame.now) }
+    requires some { 4 ≤ largest }
+    requires most { largest ≤ 65536 }
+    ensures value { result ≡ writes_in (entry_at (entries_under largest frame.now) piece) }
+    ensures few { result ≤ 516 }
+{
+    let payload = payload_of(frame, largest, piece);
+    chunks_of(payload.len() as u32) + 4
+}
+
+// The label of an entry's write.
+fn label_at(queue: u32, number: u64, chunks: u32, carries: bool, next: u32) -> Option<Label>
+    requires { chunks ≤ 512 }
+    ensures { result ≡ label_by queue number chunks carries next }
+{
+    if next < chunks {
+        return Some(Label::Chunk {
+            queue,
+            number,
+            part: next,
+        });
+    }
+    match next - chunks {
+        0 => Some(Label::Len { queue, number }),
+        1 => Some(Label::Ver { queue, number }),
+        2 if carries => Some(Label::Flag { queue, number }),
+        2 => Some(Label::Down { queue, number }),
+        3 => Some(Label::Bell { queue }),
+        _ => None,
+    }
+}

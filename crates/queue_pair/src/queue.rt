@@ -1,0 +1,276 @@
+//! Queue pairs and doorbell interrupts.
+
+ghost use Rattle.std.specs.Prelude.{◌≡◌, ◌-◌, ◌<◌, ◌≤◌, true, IfOk, OnErr, OnOk, length};
+ghost use Rattle.bridge_pair.specs.Bridge.{pages_of, with_pages};
+ghost use Rattle.bridge_pair.specs.Pages.{PagesGrow};
+ghost use Rattle.plan_model.specs.DeclaredPlans.{IsPair};
+ghost use Rattle.plan_model.specs.Plans.{side_plan as side_plan_of};
+ghost use Rattle.queue_pair.specs.Gates.{after_irq, answer_of_begun as begun_answer, answer_of_look as answer_of_ring, irq_bits};
+ghost use Rattle.step_kinds.specs.Limits.{most_frame_bytes};
+ghost use Rattle.step_kinds.specs.Sides.{other_side};
+
+use crate::{BeginAnswer, LookAnswer};
+use bridge_pair::Pair;
+use frame_ring::{Begun, Port, RingLook};
+use link_state::LinkState;
+use std::alloc::{AllocError, Global};
+use std::marker::Model;
+use step_kinds::{Frame, Label, LaneCopy, PairPlan, Side};
+
+/// One queue pair of one side: its port, and whether the queue is closed on this side. Contracts see both. Every call that
+/// takes a pair has the conditions of the port's call: the pair is one of the queue's plan, and what the port was promised is
+/// there.
+#[derive(Drop)]
+pub struct QueuePair {
+    port: Port,
+    closed: bool,
+}
+
+impl Model for QueuePair {
+    ghost use Rattle.queue_pair.specs.Queue.{QueueState};
+
+    ghost Value = { QueueState };
+
+    ghost view = { λ queue. record { port = queue.port; closed = queue.closed } };
+}
+
+impl QueuePair {
+    ghost use Rattle.frame_ring.specs.Calls.{TouchedByBegin, TouchedByDown, TouchedByFlags, TouchedByLook, ack_answer, acked_by, after_ack, after_clear, after_copy, after_post, clear_answer, cleared_by, copy_answer, free_answer, post_answer, posted_by, reset_by};
+    ghost use Rattle.frame_ring.specs.Port.{unused_of};
+    ghost use Rattle.frame_ring.specs.Seen.{FitsRings, HasPagesIn, HasRoomIn, with_room};
+    ghost use Rattle.queue_pair.specs.Gates.{after_begin, after_look, after_qpdown, begin_answer, is_joined, look_answer, qpdown_answer, refuses_answer, sender_refusal};
+    ghost use Rattle.queue_pair.specs.Queue.{fresh_queue, with_port};
+
+    /// The queue pair of one of a side's queues, open, with nothing sent and nothing received.
+    pub fn new(alloc: Global, plan: &PairPlan, side: Side, queue: u32) -> QueuePair
+        requires declared { IsPair plan.now }
+        requires among { queue < (side_plan_of plan.now side).queues }
+        ensures { result ≡ fresh_queue plan.now side queue }
+    {
+        QueuePair {
+            port: Port::new(alloc, plan, side, queue),
+            closed: false,
+        }
+    }
+
+    /// Begins a frame, of one byte at least, as [`Port::begin`] does.
+    ///
+    /// [`BeginAnswer::LinkDown`] comes where the link isn't up, then [`BeginAnswer::NotReady`] where the queue isn't joined
+    /// on this side, then [`BeginAnswer::Closed`] where it is closed here, then the refusals of the port. A refusal changes
+    /// nothing and drops the frame.
+    ///
+    /// # Errors
+    ///
+    /// [`AllocError`] from want of memory alone, as [`Port::begin`].
+    pub fn begin(&mut self, pair: &mut Pair, frame: Frame) -> Result<BeginAnswer, AllocError>
+        requires some { 0 < length frame }
+        requires plan { pair.old.plan ≡ self.old.port.plan }
+        requires fits { is_joined self.old pair.old ≡ true → FitsRings self.old.port.plan }
+        ensures answer { IfOk result (λ answer. answer ≡ begin_answer self.old pair.old (length frame)) }
+        ensures after { OnOk result (self.new ≡ after_begin self.old pair.old frame) }
+        ensures err { OnErr result (self.new ≡ self.old) }
+        ensures rest { pair.new ≡ with_room (with_pages pair.old (other_side self.old.port.side) (pages_of pair.new (other_side self.old.port.side))) self.old.port.side (unused_of self.new.port - unused_of self.old.port) }
+        ensures pages { PagesGrow (TouchedByBegin self.old.port pair.old frame) (pages_of pair.old (other_side self.old.port.side)) (pages_of pair.new (other_side self.old.port.side)) }
+        ensures ready { OnOk result (HasPagesIn self.old.port pair.old → HasPagesIn self.new.port pair.new) }
+    {
+        if let Some(refusal) = self.sender_refusal(pair) {
+            return Ok(refusal);
+        }
+        let begun = self.port.begin(pair, frame)?;
+        Ok(answer_of_begun(begun))
+    }
+
+    /// Begins a link-down entry, as [`Port::down`] does, and closes the queue on this side. The refusals are those of
+    /// [`QueuePair::begin`] without [`BeginAnswer::TooLong`], and change nothing.
+    ///
+    /// # Errors
+    ///
+    /// [`AllocError`] from want of memory alone, as [`Port::down`].
+    pub fn qpdown(&mut self, pair: &mut Pair) -> Result<BeginAnswer, AllocError>
+        requires plan { pair.old.plan ≡ self.old.port.plan }
+        requires fits { is_joined self.old pair.old ≡ true → FitsRings self.old.port.plan }
+        ensures answer { IfOk result (λ answer. answer ≡ qpdown_answer self.old pair.old) }
+        ensures after { OnOk result (self.new ≡ after_qpdown self.old pair.old) }
+        ensures err { OnErr result (self.new ≡ self.old) }
+        ensures rest { pair.new ≡ with_room (with_pages pair.old (other_side self.old.port.side) (pages_of pair.new (other_side self.old.port.side))) self.old.port.side (unused_of self.new.port - unused_of self.old.port) }
+        ensures pages { PagesGrow (TouchedByDown self.old.port pair.old) (pages_of pair.old (other_side self.old.port.side)) (pages_of pair.new (other_side self.old.port.side)) }
+        ensures ready { OnOk result (HasPagesIn self.old.port pair.old → HasPagesIn self.new.port pair.new) }
+    {
+        if let Some(refusal) = self.sender_refusal(pair) {
+            return Ok(refusal);
+        }
+        let begun = self.port.down(pair)?;
+        if let Begun::Ok { .. } = begun {
+            self.closed = true;
+        }
+        Ok(answer_of_begun(begun))
+    }
+
+    /// Posts the next write that is left, as [`Port::post`], whatever the link's state is and whether or not the queue is
+    /// closed. It takes no memory.
+    pub fn post(&mut self, pair: &mut Pair) -> Option<Label>
+        requires plan { pair.old.plan ≡ self.old.port.plan }
+        requires room { HasRoomIn self.old.port pair.old }
+        requires pages { HasPagesIn self.old.port pair.old }
+        ensures answer { result ≡ post_answer self.old.port }
+        ensures after { self.new ≡ with_port self.old (after_post self.old.port) }
+        ensures pair { pair.new ≡ posted_by self.old.port pair.old }
+        ensures ready { HasPagesIn self.new.port pair.new }
+    {
+        self.port.post(pair)
+    }
+
+    /// Looks for the next entry, as [`Port::look`] does. [`LookAnswer::NotReady`] comes where the queue isn't joined on this
+    /// side, then [`LookAnswer::Closed`] where it is closed here; where a link-down entry stands there, the queue is closed on
+    /// this side. It doesn't depend on the link's state.
+    ///
+    /// # Errors
+    ///
+    /// [`AllocError`] from want of memory alone, as [`Port::look`].
+    pub fn look(&mut self, pair: &mut Pair) -> Result<LookAnswer, AllocError>
+        requires plan { pair.old.plan ≡ self.old.port.plan }
+        requires fits { is_joined self.old pair.old ≡ true → FitsRings self.old.port.plan }
+        ensures answer { IfOk result (λ answer. answer ≡ look_answer self.old pair.old) }
+        ensures after { OnOk result (self.new ≡ after_look self.old pair.old) }
+        ensures err { OnErr result (self.new ≡ self.old) }
+        ensures rest { pair.new ≡ with_room (with_pages (with_pages pair.old (other_side self.old.port.side) (pages_of pair.new (other_side self.old.port.side))) self.old.port.side (pages_of pair.new self.old.port.side)) self.old.port.side (unused_of self.new.port - unused_of self.old.port) }
+        ensures pages { PagesGrow (TouchedByLook self.old.port pair.old) (pages_of pair.old (other_side self.old.port.side)) (pages_of pair.new (other_side self.old.port.side)) }
+        ensures flags { PagesGrow (TouchedByFlags self.old.port pair.old) (pages_of pair.old self.old.port.side) (pages_of pair.new self.old.port.side) }
+        ensures ready { OnOk result (HasPagesIn self.old.port pair.old → HasPagesIn self.new.port pair.new) }
+    {
+        if !self.is_joined(pair) {
+            return Ok(LookAnswer::NotReady);
+        }
+        if self.closed {
+            return Ok(LookAnswer::Closed);
+        }
+        let look = self.port.look(pair)?;
+        if let RingLook::PeerDown = look {
+            self.closed = true;
+        }
+        Ok(answer_of_look(look))
+    }
+
+    /// Copies the next part of the entry at hand, as [`Port::copy`]. It takes no memory.
+    pub fn copy(&mut self, pair: &Pair) -> LaneCopy
+        requires { pair.now.plan ≡ self.old.port.plan }
+        ensures answer { result ≡ copy_answer self.old.port pair.now }
+        ensures after { self.new ≡ with_port self.old (after_copy self.old.port pair.now) }
+        ensures ready { HasPagesIn self.old.port pair.now → HasPagesIn self.new.port pair.now }
+    {
+        self.port.copy(pair)
+    }
+
+    /// Zeroes the flags of the entry that was copied, as [`Port::clear`]. It takes no memory.
+    pub fn clear(&mut self, pair: &mut Pair) -> Option<u64>
+        requires plan { pair.old.plan ≡ self.old.port.plan }
+        requires pages { HasPagesIn self.old.port pair.old }
+        ensures answer { result ≡ clear_answer self.old.port }
+        ensures after { self.new ≡ with_port self.old (after_clear self.old.port) }
+        ensures pair { pair.new ≡ cleared_by self.old.port pair.old }
+        ensures ready { HasPagesIn self.new.port pair.new }
+    {
+        self.port.clear(pair)
+    }
+
+    /// Gives the entry that was cleared back, as [`Port::ack`]. It takes no memory.
+    pub fn ack(&mut self, pair: &mut Pair) -> Option<u64>
+        requires plan { pair.old.plan ≡ self.old.port.plan }
+        requires room { HasRoomIn self.old.port pair.old }
+        requires pages { HasPagesIn self.old.port pair.old }
+        ensures answer { result ≡ ack_answer self.old.port }
+        ensures after { self.new ≡ with_port self.old (after_ack self.old.port) }
+        ensures pair { pair.new ≡ acked_by self.old.port pair.old }
+        ensures ready { HasPagesIn self.new.port pair.new }
+    {
+        self.port.ack(pair)
+    }
+
+    /// Whether [`QueuePair::begin`] would be refused for a frame of `len` bytes, 1 to 65,536, whatever room the ring has:
+    /// with `LinkDown`, `NotReady`, `Closed`, `TooLong` or `Busy`. It takes no memory.
+    pub fn refuses(&self, pair: &Pair, len: u32) -> bool
+        requires some { 0 < len }
+        requires most { len ≤ most_frame_bytes }
+        requires plan { pair.now.plan ≡ self.now.port.plan }
+        ensures { result ≡ refuses_answer self.now pair.now len }
+    {
+        self.sender_refusal(pair).is_some() || self.port.refuses(len)
+    }
+
+    /// The free entries of the ring that the side sends to on the queue, as [`Port::free`]. It takes no memory.
+    pub fn free(&self, pair: &Pair) -> u32
+        requires { pair.now.plan ≡ self.now.port.plan }
+        ensures { result ≡ free_answer self.now.port pair.now }
+    {
+        self.port.free(pair)
+    }
+
+    /// Opens the queue and forgets all that was sent and received, as its side does at a clean, and gives back the promises
+    /// of room that weren't used. It takes no memory.
+    pub fn reset(&mut self, pair: &mut Pair)
+        requires plan { pair.old.plan ≡ self.old.port.plan }
+        requires room { HasRoomIn self.old.port pair.old }
+        ensures after { self.new ≡ fresh_queue self.old.port.plan self.old.port.side self.old.port.queue }
+        ensures pair { pair.new ≡ reset_by self.old.port pair.old }
+    {
+        self.port.reset(pair);
+        self.closed = false;
+    }
+
+    // Whether the queue is joined on this side.
+    fn is_joined(&self, pair: &Pair) -> bool
+        ensures { result ≡ is_joined self.now pair.now }
+    {
+        (pair.book(self.port.side()).joined >> self.port.queue()) % 2 == 1
+    }
+
+    // Why the side may not begin anything on the queue.
+    fn sender_refusal(&self, pair: &Pair) -> Option<BeginAnswer>
+        ensures { result ≡ sender_refusal self.now pair.now }
+    {
+        if pair.link().state() != LinkState::Up {
+            Some(BeginAnswer::LinkDown)
+        } else if !self.is_joined(pair) {
+            Some(BeginAnswer::NotReady)
+        } else if self.closed {
+            Some(BeginAnswer::Closed)
+        } else {
+            None
+        }
+    }
+}
+
+// What the port's beginning is for the queue.
+fn answer_of_begun(begun: Begun) -> BeginAnswer
+    ensures { result ≡ begun_answer begun }
+{
+    match begun {
+        Begun::Ok { number } => BeginAnswer::Ok { number },
+        Begun::TooLong { len, max } => BeginAnswer::TooLong { len, max },
+        Begun::Busy => BeginAnswer::Busy,
+        Begun::NoRoom { head, tail } => BeginAnswer::NoRoom { head, tail },
+    }
+}
+
+// What the port's look is for the queue.
+fn answer_of_look(look: RingLook) -> LookAnswer
+    ensures { result ≡ answer_of_ring look }
+{
+    match look {
+        RingLook::Ready { number, len } => LookAnswer::Ready { number, len },
+        RingLook::Empty => LookAnswer::Empty,
+        RingLook::PeerDown => LookAnswer::PeerDown,
+        RingLook::VerDiffers { seen, own } => LookAnswer::VerDiffers { seen, own },
+        RingLook::Long { len, max } => LookAnswer::Long { len, max },
+        RingLook::OutOfTurn => LookAnswer::OutOfTurn,
+    }
+}
+
+/// A side takes its pending doorbell bits that aren't masked (`ntb_db_read`, `ntb_db_clear`): they are answered and no longer
+/// pending. It takes no memory.
+pub fn irq(pair: &mut Pair, side: Side) -> u32
+    ensures bits { result ≡ irq_bits pair.old side }
+    ensures after { pair.new ≡ after_irq pair.old side }
+{
+    pair.bells(side).take()
+}

@@ -1,0 +1,6 @@
+pub mod Classes
+pub mod Floods
+pub mod NameNumbers
+pub mod Posts
+pub mod Repeats
+pub mod Soundness

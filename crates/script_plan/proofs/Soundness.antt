@@ -1,0 +1,152 @@
+-- What a line gives keeps what holds of the lines so far.
+use Rattle.std.proofs.Common.{◌≡◌, ℕ, zero, suc, ◌+◌, ◌<◌, ◌≤◌, List, [], ◌∷◌, ◌++◌, length, slice_index, slice_index_or, slice_set, refl, sym, ◌∙◌, ap, subst, arith}
+use Rattle.std.specs.List.{All}
+use Rattle.std.proofs.lemmas.List.{get_or_append_left, length-append, length-map}
+use Rattle.std.proofs.lemmas.List.Elements.{All-push, All-set, All-weaker}
+use Rattle.step_kinds.specs.Limits.{IsClass, most_pairs, most_steps}
+use Rattle.step_kinds.specs.declared.names.Side.{Side}
+use Rattle.step_kinds.specs.declared.names.Side.TheVariants.{A, B}
+use Rattle.step_kinds.specs.declared.plan.PairPlan.{PairPlan}
+use Rattle.step_kinds.specs.declared.plan.DevPlan.{DevPlan}
+use Rattle.step_kinds.specs.declared.plan.Line.{Line}
+use Rattle.step_kinds.specs.declared.plan.Plan.{Plan}
+use Rattle.step_kinds.specs.declared.steps.Step.{Step}
+use Rattle.plan_model.specs.DeclaredPlans.{IsPair, IsDevice, IsQueueOf, AreClasses, Agree}
+use Rattle.plan_model.specs.Plans.{side_plan, pair_plan, no_pair}
+use Rattle.script_words.specs.Before.{Before, with_class}
+use Rattle.script_words.specs.Compact.{lines_with}
+use Rattle.script_words.specs.declared.parts.QueueName.{QueueName}
+use Rattle.script_plan.specs.Sound.{IsSound}
+use Rattle.script_plan.proofs.Classes.{length-set_pairs}
+
+-- A device stays one where the queues do.
+pub device_stays : (p q : Plan) → ((k : ℕ) (side : Side) (queue : ℕ) → IsQueueOf p k side queue → IsQueueOf q k side queue) → (dev : DevPlan) → IsDevice p dev → IsDevice q dev
+device_stays p q stays dev h = record { queue = stays dev.pair dev.side dev.queue h.queue; address = h.address; thresholds = h.thresholds }
+
+-- a queue of a declared pair stays one where there is one more pair
+pub queue_stays : (plan : Plan) (pair : PairPlan) (k : ℕ) (side : Side) (queue : ℕ) → IsQueueOf plan k side queue → IsQueueOf (record plan { pairs = plan.pairs ++ pair ∷ [] }) k side queue
+queue_stays plan pair k side queue h =
+    let P : PairPlan → Type 0 = λ p. queue < (side_plan p side).queues in
+    record {
+      declared = let long = length-append plan.pairs (pair ∷ []) in let before = h.declared in omega arith;
+      among = subst P (sym (get_or_append_left plan.pairs (pair ∷ []) no_pair k h.declared)) h.among;
+    }
+
+-- one more pair
+added_pair : (before : Before) (pair : PairPlan) → IsSound before → IsPair pair → length before.plan.pairs < most_pairs → IsSound (record before { plan = record before.plan { pairs = before.plan.pairs ++ pair ∷ [] } })
+added_pair before pair sound fits few = record {
+  pairs = All-push IsPair before.plan.pairs pair sound.pairs fits;
+  few_pairs = let long = length-append before.plan.pairs (pair ∷ []) in omega arith;
+  devices = All-weaker (IsDevice before.plan) (IsDevice (record before.plan { pairs = before.plan.pairs ++ pair ∷ [] }))
+      (device_stays before.plan (record before.plan { pairs = before.plan.pairs ++ pair ∷ [] }) (queue_stays before.plan pair)) before.plan.devs sound.devices;
+  few_steps = sound.few_steps;
+}
+
+pub pair_added : (before : Before) (more : List PairPlan) (pair : PairPlan) → IsSound before → IsPair pair → length before.plan.pairs < most_pairs → more ≡ before.plan.pairs ++ pair ∷ []
+    → IsSound (record before { plan = record before.plan { pairs = more } })
+pair_added before more pair sound fits few e =
+    subst (λ pairs. IsSound (record before { plan = record before.plan { pairs = pairs } })) (sym e) (added_pair before pair sound fits few)
+
+-- one more device
+pub device_added : (before : Before) (more : List DevPlan) (dev : DevPlan) → IsSound before → IsDevice before.plan dev → more ≡ before.plan.devs ++ dev ∷ []
+    → IsSound (record before { plan = record before.plan { devs = more } })
+device_added before more dev sound fits e =
+    let plan : Plan = record before.plan { devs = more } in
+    let stays : (d : DevPlan) → IsDevice before.plan d → IsDevice plan d = device_stays before.plan plan (λ k side queue h. record { declared = h.declared; among = h.among }) in
+    record {
+      pairs = sound.pairs;
+      few_pairs = sound.few_pairs;
+      devices = subst (All (IsDevice plan)) (sym e) (All-push (IsDevice plan) before.plan.devs dev (All-weaker (IsDevice before.plan) (IsDevice plan) stays before.plan.devs sound.devices) (stays dev fits));
+      few_steps = sound.few_steps;
+    }
+
+-- the classes of a side with one more
+classes_set : (classes : List ℕ) (queue class k : ℕ) → AreClasses classes → IsClass class → slice_index (slice_set classes queue class) k < 8
+classes_set [] queue class k h small = h k
+classes_set (x ∷ classes) zero class zero h small = small
+classes_set (x ∷ classes) zero class (suc k) h small = h (suc k)
+classes_set (x ∷ classes) (suc queue) class zero h small = h 0
+classes_set (x ∷ classes) (suc queue) class (suc k) h small = classes_set classes queue class k (λ j. h (suc j)) small
+
+agree_classed : (pair : PairPlan) (side : Side) (queue class : ℕ) → Agree pair → Agree (with_class pair side queue class)
+agree_classed pair A queue class h = record { versions = h.versions; queues = h.queues; windows = h.windows; sizes = h.sizes }
+agree_classed pair B queue class h = record { versions = h.versions; queues = h.queues; windows = h.windows; sizes = h.sizes }
+
+pub class_fits : (pair : PairPlan) (side : Side) (queue class : ℕ) → IsPair pair → IsClass class → IsPair (with_class pair side queue class)
+class_fits pair A queue class h small = record {
+  side_a = h.side_a;
+  side_b = h.side_b;
+  known_transport = h.known_transport;
+  mtu = h.mtu;
+  long_header = h.long_header;
+  classes_a = λ k. classes_set pair.class_a queue class k h.classes_a small;
+  classes_b = h.classes_b;
+  up = λ t. agree_classed pair A queue class (h.up t);
+  raw = h.raw;
+}
+class_fits pair B queue class h small = record {
+  side_a = h.side_a;
+  side_b = h.side_b;
+  known_transport = h.known_transport;
+  mtu = h.mtu;
+  long_header = h.long_header;
+  classes_a = h.classes_a;
+  classes_b = λ k. classes_set pair.class_b queue class k h.classes_b small;
+  up = λ t. agree_classed pair B queue class (h.up t);
+  raw = h.raw;
+}
+
+-- a class leaves the sides of a pair
+sides_stay : (pair : PairPlan) (side own : Side) (queue class : ℕ) → side_plan (with_class pair side queue class) own ≡ side_plan pair own
+sides_stay pair A A queue class = refl
+sides_stay pair A B queue class = refl
+sides_stay pair B A queue class = refl
+sides_stay pair B B queue class = refl
+
+-- one pair among others with another that has the same sides
+among_set : (pairs : List PairPlan) (k j : ℕ) (now : PairPlan) (own : Side) → side_plan now own ≡ side_plan (slice_index_or pairs k no_pair) own
+    → side_plan (slice_index_or (slice_set pairs k now) j no_pair) own ≡ side_plan (slice_index_or pairs j no_pair) own
+among_set [] k j now own e = refl
+among_set (p ∷ pairs) zero zero now own e = e
+among_set (p ∷ pairs) zero (suc j) now own e = refl
+among_set (p ∷ pairs) (suc k) zero now own e = refl
+among_set (p ∷ pairs) (suc k) (suc j) now own e = among_set pairs k j now own e
+
+pub queue_classed : (plan : Plan) (pair : ℕ) (whose : Side) (among class : ℕ) (k : ℕ) (side : Side) (queue : ℕ) → IsQueueOf plan k side queue
+    → IsQueueOf (record plan { pairs = slice_set plan.pairs pair (with_class (pair_plan plan pair) whose among class) }) k side queue
+queue_classed plan pair whose among class k side queue h =
+    let now : PairPlan = with_class (pair_plan plan pair) whose among class in
+    record {
+      declared = let same = length-set_pairs plan.pairs pair now in let before = h.declared in omega arith;
+      among = subst (λ own. queue < own.queues) (sym (among_set plan.pairs pair k now side (sides_stay (pair_plan plan pair) whose side among class))) h.among;
+    }
+
+pub class_added : (before : Before) (more : List PairPlan) (classed : List QueueName) (pair : ℕ) (side : Side) (queue class : ℕ) → IsSound before → pair < length before.plan.pairs → IsClass class
+    → more ≡ slice_set before.plan.pairs pair (with_class (pair_plan before.plan pair) side queue class) → IsSound (record before { plan = record before.plan { pairs = more }; classed = classed })
+class_added before more classed pair side queue class sound lt small e =
+    let now : PairPlan = with_class (pair_plan before.plan pair) side queue class in
+    let set : List PairPlan = slice_set before.plan.pairs pair now in
+    let plan : Plan = record before.plan { pairs = set } in
+    let all : IsSound (record before { plan = plan; classed = classed }) = record {
+      pairs = All-set IsPair before.plan.pairs pair now (class_fits (pair_plan before.plan pair) side queue class (sound.pairs pair no_pair lt) small) sound.pairs;
+      few_pairs = let same = length-set_pairs before.plan.pairs pair now in let few = sound.few_pairs in omega arith;
+      devices = All-weaker (IsDevice before.plan) (IsDevice plan) (device_stays before.plan plan (queue_classed before.plan pair side queue class)) before.plan.devs sound.devices;
+      few_steps = sound.few_steps;
+    } in
+    subst (λ pairs. IsSound (record before { plan = record before.plan { pairs = pairs }; classed = classed })) (sym e) all
+
+-- more steps
+pub steps_added : (before : Before) (more : List Line) (line : ℕ) (steps : List Step) → IsSound before → length before.plan.steps + length steps ≤ most_steps
+    → more ≡ before.plan.steps ++ lines_with line steps → IsSound (record before { plan = record before.plan { steps = more } })
+steps_added before more line steps sound few e =
+    let plan : Plan = record before.plan { steps = more } in
+    record {
+      pairs = sound.pairs;
+      few_pairs = sound.few_pairs;
+      devices = All-weaker (IsDevice before.plan) (IsDevice plan)
+          (device_stays before.plan plan (λ k side queue h. record { declared = h.declared; among = h.among })) before.plan.devs sound.devices;
+      few_steps =
+          let long : length more ≡ length before.plan.steps + length (lines_with line steps) = ap length e ∙ length-append before.plan.steps (lines_with line steps) in
+          let same : length (lines_with line steps) ≡ length steps = length-map steps (λ step. record { line = line; step = step }) in
+          omega arith;
+    }

@@ -1,0 +1,4 @@
+pub mod Counts
+pub mod NamesMatch
+pub mod Seen
+pub mod Sound

@@ -1,0 +1,35 @@
+-- What holds of the lines so far, and what a line gives beside them.
+use Rattle.std.specs.Prelude.{◌≡◌, ◌+◌, ◌*◌, ◌<◌, ◌≤◌, false, length, map, sum, count_by}
+use Rattle.std.specs.List.{All}
+use Rattle.step_kinds.specs.Limits.{most_hosts, most_pairs, most_devices, most_steps, most_traffic_frames, most_traffic_bytes, most_breaks, IsClass}
+use Rattle.plan_model.specs.DeclaredPlans.{IsPair, IsDevice, IsQueueOf}
+use Rattle.plan_model.specs.TrafficPlans.{frames_in, bytes_in, is_break_of}
+use Rattle.script_words.specs.Before.{Before, has_name, pair_names, dev_names}
+use Rattle.script_words.specs.Compact.{steps_of}
+use Rattle.script_words.specs.declared.given.Given.{Given}
+use Rattle.script_words.specs.declared.given.Given.TheVariants.{Nothing, Host, Pair, Device, Class, StepsBegin, TrafficBegins, Steps, Frame, Flood, Break}
+
+-- the pairs and devices are as a script can declare them, and pairs and steps are few
+pub record IsSound (before : Before) : Type 0 where
+  pub pairs : All IsPair before.plan.pairs
+  pub few_pairs : length before.plan.pairs ≤ most_pairs
+  pub devices : All (IsDevice before.plan) before.plan.devs
+  pub few_steps : length before.plan.steps ≤ most_steps
+
+-- what a line gives is new where it has a name, is as a script can declare it, and passes no limit
+abbrev pub Suits : Before → Given → Type 0
+Suits before Nothing = Unit {0}
+Suits before (Host name) = (has_name before.hosts name ≡ false) × (length before.hosts < most_hosts)
+Suits before (Pair pair) = (has_name (pair_names before) pair.name ≡ false) × (length before.plan.pairs < most_pairs) × IsPair pair
+Suits before (Device dev) = (has_name (dev_names before) dev.name ≡ false) × (length before.plan.devs < most_devices) × IsDevice before.plan dev
+Suits before (Class name class) = IsQueueOf before.plan name.pair name.side name.queue × IsClass class
+Suits before StepsBegin = Unit {0}
+Suits before TrafficBegins = Unit {0}
+Suits before (Steps steps) = length before.plan.steps + length (steps_of steps) ≤ most_steps
+Suits before (Frame lane frame) =
+    (sum (map frames_in before.plan.traffic) + 1 ≤ most_traffic_frames) × (sum (map bytes_in before.plan.traffic) + length frame ≤ most_traffic_bytes)
+Suits before (Flood lane count len) =
+    (0 < count → len ≤ 65536)
+    × (sum (map frames_in before.plan.traffic) + count ≤ most_traffic_frames)
+    × (sum (map bytes_in before.plan.traffic) + count * len ≤ most_traffic_bytes)
+Suits before (Break pair) = (pair < 16) × (count_by (is_break_of pair) before.plan.traffic < most_breaks)

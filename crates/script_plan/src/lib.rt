@@ -1,0 +1,20 @@
+//! What the lines of a script so far give: the plan that grows line by line, with the names by which it is looked up
+//! and the counters of its limits.
+#![tactic(auto)]
+
+mod devices;
+mod names;
+mod pairs;
+mod reader;
+pub mod rings;
+mod steps;
+mod traffic;
+
+pub use devices::Devices;
+pub use names::Names;
+pub use pairs::Pairs;
+pub use reader::Reader;
+pub use traffic::TrafficList;
+
+#[cfg(test)]
+mod tests;

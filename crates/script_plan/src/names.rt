@@ -1,0 +1,70 @@
+//! The names of one kind.
+
+ghost use Rattle.std.specs.Prelude.{◌≡◌, ◌∷◌, ◌++◌, ◌<◌, [], false, length, OnOk, IfSome};
+
+use indexmap::IndexSet;
+use std::alloc::{AllocError, Global};
+use std::marker::Model;
+
+/// The names of the hosts, the pairs or the devices, in the order of their declaration.
+#[derive(Drop)]
+pub struct Names {
+    names: IndexSet<Vec<u8>>,
+}
+
+impl Model for Names {
+    ghost use Rattle.std.specs.Prelude.{ℕ, List, ◌≤◌, length, map};
+
+    ghost Value = { List (List ℕ) };
+
+    ghost view = { λ all. map (λ name. name.items) all.names.keys };
+
+    ghost invariant = { λ all. length all.names.keys ≤ 64 };
+}
+
+impl Names {
+    ghost use Rattle.script_words.specs.Before.{number_named, has_name};
+
+    /// No names.
+    pub fn new(alloc: Global) -> Names
+        ensures { result ≡ [] }
+    {
+        Names {
+            names: IndexSet::new(alloc),
+        }
+    }
+
+    /// How many names there are.
+    pub fn len(&self) -> usize
+        ensures { result ≡ length self.now }
+    {
+        self.names.len()
+    }
+
+    /// Whether the name is among them.
+    pub fn contains(&self, name: &[u8]) -> bool
+        ensures { result ≡ has_name self.now name.now }
+    {
+        self.names.contains(name)
+    }
+
+    /// The number of the name, from 0.
+    pub fn number(&self, name: &[u8]) -> Option<u32>
+        ensures value { result ≡ number_named self.now name.now }
+        ensures below { IfSome result (λ k. k < length self.now) }
+    {
+        let place = self.names.get_index_of(name)?;
+        Some(place as u32)
+    }
+
+    /// Adds a name that isn't there yet. The only error is want of memory.
+    pub fn push(&mut self, alloc: Global, name: &[u8]) -> Result<(), AllocError>
+        requires new { has_name self.old name.now ≡ false }
+        requires few { length self.old < 64 }
+        ensures { OnOk result (self.new ≡ self.old ++ name.now ∷ []) }
+    {
+        let kept = Vec::from_slice(alloc, name)?;
+        self.names.insert(kept)?;
+        Ok(())
+    }
+}

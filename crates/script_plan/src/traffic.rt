@@ -1,0 +1,153 @@
+//! The traffic that the lines so far give, with its counters.
+
+ghost use Rattle.std.specs.Prelude.{◌≡◌, ◌∷◌, [], ◌++◌, ◌+◌, ◌*◌, ◌%◌, ◌^◌, ◌<◌, ◌≤◌, ◌&&◌, length, map, sum, count_by, nat_le, IfOk};
+ghost use Rattle.step_kinds.specs.Limits.{most_traffic_frames, most_traffic_bytes, most_breaks};
+ghost use Rattle.step_kinds.specs.declared.plan.Traffic.TheVariants.{Send, Break};
+ghost use Rattle.script_words.specs.Compact.{flood_of};
+ghost use Rattle.plan_model.specs.TrafficPlans.{frames_in, bytes_in, is_break_of};
+ghost use Rattle.script_words.specs.TrafficLines.{flood_frame};
+
+use std::alloc::{AllocError, Global};
+use std::marker::Model;
+use step_kinds::limits::{MOST_TRAFFIC_BYTES, MOST_TRAFFIC_FRAMES};
+use step_kinds::{Frame, Items, LaneName, Traffic};
+
+/// The traffic that the lines so far give, in order, and its counters.
+#[derive(Drop)]
+pub struct TrafficList {
+    items: Vec<Traffic>,
+    frames: u64,
+    bytes: u64,
+    breaks: [u32; 16],
+}
+
+impl Model for TrafficList {
+    ghost use Rattle.std.specs.Prelude.{List};
+    ghost use Rattle.step_kinds.specs.declared.plan.Traffic.{Traffic};
+    ghost use Rattle.script_plan.specs.Counts.{TrafficCounted};
+
+    ghost Value = { List Traffic };
+
+    ghost view = { λ all. all.items.items };
+
+    ghost invariant = { λ all. TrafficCounted all.items.items all.frames all.bytes all.breaks };
+}
+
+impl TrafficList {
+    /// No traffic.
+    pub fn new(alloc: Global) -> TrafficList
+        ensures { result ≡ [] }
+    {
+        TrafficList {
+            items: Vec::new(alloc),
+            frames: 0,
+            bytes: 0,
+            breaks: [0; 16],
+        }
+    }
+
+    /// Whether so many frames of so many bytes in all stay within the limits.
+    pub fn has_room(&self, frames: u64, bytes: u64) -> bool
+        requires frames { frames ≤ 2 ^ 32 }
+        requires bytes { bytes ≤ 2 ^ 62 }
+        ensures { result ≡ (nat_le (sum (map frames_in self.now) + frames) most_traffic_frames && nat_le (sum (map bytes_in self.now) + bytes) most_traffic_bytes) }
+    {
+        self.frames + frames <= MOST_TRAFFIC_FRAMES as u64
+            && self.bytes + bytes <= MOST_TRAFFIC_BYTES
+    }
+
+    /// How many link losses of the pair there are.
+    pub fn breaks_of(&self, pair: u32) -> u32
+        requires { pair < 16 }
+        ensures value { result ≡ count_by (is_break_of pair) self.now }
+        ensures few { result ≤ most_breaks }
+    {
+        self.breaks[pair as usize]
+    }
+
+    /// The traffic with one more frame. The only error is want of memory.
+    pub fn with_frame(self, lane: LaneName, frame: Frame) -> Result<TrafficList, AllocError>
+        requires frames { sum (map frames_in self) + 1 ≤ most_traffic_frames }
+        requires bytes { sum (map bytes_in self) + length frame ≤ most_traffic_bytes }
+        ensures { IfOk result (λ more. more ≡ self ++ Send lane frame ∷ []) }
+    {
+        let TrafficList {
+            mut items,
+            frames,
+            bytes,
+            breaks,
+        } = self;
+        let len = frame.len() as u64;
+        items.push(Traffic::Send { lane, frame })?;
+        Ok(TrafficList {
+            items,
+            frames: frames + 1,
+            bytes: bytes + len,
+            breaks,
+        })
+    }
+
+    /// The traffic with one more link loss of a pair. The only error is want of memory.
+    pub fn with_break(self, pair: u32) -> Result<TrafficList, AllocError>
+        requires pair { pair < 16 }
+        requires few { count_by (is_break_of pair) self < most_breaks }
+        ensures { IfOk result (λ more. more ≡ self ++ Break pair ∷ []) }
+    {
+        let TrafficList {
+            mut items,
+            frames,
+            bytes,
+            mut breaks,
+        } = self;
+        items.push(Traffic::Break { pair })?;
+        breaks[pair as usize] += 1;
+        Ok(TrafficList {
+            items,
+            frames,
+            bytes,
+            breaks,
+        })
+    }
+
+    /// The traffic with so many frames of so many bytes each. The only error is want of memory.
+    pub fn with_flood(
+        self,
+        alloc: Global,
+        lane: LaneName,
+        count: u32,
+        len: u32,
+    ) -> Result<TrafficList, AllocError>
+        requires len { 0 < count → len ≤ 65536 }
+        requires frames { sum (map frames_in self) + count ≤ most_traffic_frames }
+        requires bytes { sum (map bytes_in self) + count * len ≤ most_traffic_bytes }
+        ensures { IfOk result (λ more. more ≡ self ++ flood_of lane count len) }
+    {
+        let mut more = self;
+        for i in 0..count {
+            let frame = flood_frame(alloc, len, i)?;
+            more = more.with_frame(lane, frame)?;
+        }
+        Ok(more)
+    }
+
+    /// The traffic, in order.
+    pub fn into_items(self) -> Items<Traffic>
+        ensures { result ≡ self }
+    {
+        let TrafficList { items, .. } = self;
+        Items::of_vec(items)
+    }
+}
+
+/// Frame `i` of a flood.
+fn flood_frame(alloc: Global, len: u32, i: u32) -> Result<Frame, AllocError>
+    requires len { len ≤ 65536 }
+    requires i { i ≤ 100000 }
+    ensures { IfOk result (λ frame. frame ≡ flood_frame len i) }
+{
+    let mut bytes = Vec::new(alloc);
+    for j in 0..len {
+        bytes.push(((i + j) % 256) as u8)?;
+    }
+    Ok(Frame::of_vec(bytes))
+}

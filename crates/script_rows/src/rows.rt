@@ -1,0 +1,48 @@
+//! The rows on standard input.
+
+use std::alloc::{AllocError, Global};
+use std::io;
+
+/// A script, and the answer that is due.
+#[derive(Drop)]
+pub struct Row {
+    /// What the row shows.
+    pub about: String,
+    /// The plan's numbers or the fault, as a text.
+    pub answer: String,
+    /// The script's bytes: each of its lines with a line feed.
+    pub script: Vec<u8>,
+}
+
+/// The rows that standard input has.
+pub fn read_rows<R: Input + AllocGlobal>(rt: &R) -> io::Result<Vec<Row>> {
+    let mut rows = Vec::new(rt.alloc());
+    for line in rt.lines(rt.alloc()) {
+        let line = line?;
+        take_line(rt.alloc(), &mut rows, line.as_str())?;
+    }
+    Ok(rows)
+}
+
+// Begins a row, or adds a line to the script of the last one.
+fn take_line(alloc: Global, rows: &mut Vec<Row>, line: &str) -> Result<(), AllocError> {
+    if let Some(head) = line.strip_prefix("@ ") {
+        rows.push(row_of(alloc, head)?)?;
+        return Ok(());
+    }
+    if let Some(row) = rows.last_mut() {
+        row.script.extend_from_slice(line.as_bytes())?;
+        row.script.push(b'\n')?;
+    }
+    Ok(())
+}
+
+// A row without a script.
+fn row_of(alloc: Global, head: &str) -> Result<Row, AllocError> {
+    let (answer, about) = head.split_once(": ").unwrap_or((head, head));
+    Ok(Row {
+        about: String::from_str(alloc, about)?,
+        answer: String::from_str(alloc, answer)?,
+        script: Vec::new(alloc),
+    })
+}

@@ -1,0 +1,135 @@
+-- What a line among the declarations gives fits.
+use Rattle.std.proofs.Common.{◌≡◌, ℕ, ◌≤◌, Bool, true, false, not, ◌&&◌, List, [], ◌∷◌, ◌++◌, length, codes, nat_lt, refl, arith}
+use Rattle.std.proofs.lemmas.Bool.{ltb-false, not-false}
+use Rattle.std.specs.List.{list_any, list_all}
+use Rattle.std.specs.Str.{bytes_eq}
+use Rattle.step_kinds.specs.Limits.{most_hosts, most_pairs, most_devices}
+use Rattle.script_words.specs.Before.{Before, Given, Host, APair, ADevice, AClass, StepsBegin, TrafficBegins, pair_names, dev_names}
+use Rattle.script_words.specs.Declarations.{host_line, pair_line, dev_line, class_line, host_words, pair_words, dev_words, class_words, lone_word, declaration_line, host_word, threshold_word, sits_on, is_queue}
+use Rattle.script_words.specs.Settings.{settings_from, with_setting, setting_word, same_setting, in_range, goes_together, pair_with}
+use Rattle.script_words.specs.Tests.{found_or}
+use Rattle.script_words.specs.Words.{side_word, number_word, behind}
+use Rattle.script_words.specs.declared.fault.Cause.TheVariants.{UnknownWord, Repeated, BadGeometry, TooMany}
+use Rattle.script_words.specs.declared.parts.Part.TheVariants.{Declarations}
+use Rattle.script_words.specs.declared.settings.Setting.{Setting}
+use Rattle.script_text.proofs.Fits.{Fits}
+use Rattle.script_text.proofs.Gives.{Gives, gives_ok, gives_fault, gives_then, gives_passed, gives_any, gives_if}
+use Rattle.script_text.proofs.PairFits.{pair_fits}
+use Rattle.script_text.proofs.WordFacts.{below, pair_declared, queue_among, name_is_new, number_within, bytes_counted}
+
+-- The options of a pair are in their ranges
+
+all_and_one : (test : Setting → Bool) (settings : List Setting) (setting : Setting) → list_all test settings ≡ true → test setting ≡ true → list_all test (settings ++ setting ∷ []) ≡ true
+all_and_one test [] setting all h = rw h refl
+all_and_one test (first ∷ settings) setting all h = by (test first) all (all_and_one test settings setting)
+  where
+    by : (t : Bool) → (t && list_all test settings) ≡ true → (list_all test settings ≡ true → test setting ≡ true → list_all test (settings ++ setting ∷ []) ≡ true)
+        → (t && list_all test (settings ++ setting ∷ [])) ≡ true
+    by true e rest = rest e h
+    by false e rest = cc e
+
+setting_in_range : (settings : List Setting) (word : List ℕ) → list_all in_range settings ≡ true → Gives (λ more. list_all in_range more ≡ true) (with_setting settings word)
+setting_in_range settings word all =
+    gives_then _ _ _ (gives_any (setting_word word)) (λ setting _.
+    gives_then _ _ _ (gives_passed (list_any (same_setting setting) settings) Repeated) (λ _ _.
+    gives_then _ _ _ (gives_passed (not (in_range setting)) BadGeometry) (λ _ e.
+    gives_ok _ (settings ++ setting ∷ []) (all_and_one in_range settings setting all (not-false (in_range setting) e)))))
+
+settings_in_range : (settings : List Setting) (words : List (List ℕ)) → list_all in_range settings ≡ true → Gives (λ more. list_all in_range more ≡ true) (settings_from settings words)
+settings_in_range settings [] all = gives_ok _ settings all
+settings_in_range settings (word ∷ words) all = gives_then _ _ _ (setting_in_range settings word all) (λ more in_it. settings_in_range more words in_it)
+
+threshold_within : (key word : List ℕ) → Gives (λ k. k ≤ 65535) (threshold_word key word)
+threshold_within key word =
+    gives_then _ _ _ (gives_any (found_or (behind key word) UnknownWord)) (λ digits _.
+    gives_then _ _ _ (gives_any (number_word digits)) (λ number _.
+    gives_then _ _ _ (gives_passed (nat_lt 65535 number) BadGeometry) (λ _ e. gives_ok _ number (ltb-false 65535 number e))))
+
+module _ (before : Before) (part : before.part ≡ Declarations) where
+  host_fits : (word : List ℕ) → Gives (Fits before) (host_line before word)
+  host_fits word =
+      gives_then _ _ _ (name_is_new before.hosts word) (λ name is_new.
+      gives_then _ _ _ (gives_passed (not (nat_lt (length before.hosts) most_hosts)) TooMany) (λ _ e.
+      gives_ok (Fits before) (Host name) (record { is_new = is_new; few = below (length before.hosts) most_hosts e })))
+
+  pair_line_fits : (word host_a host_b : List ℕ) (options : List (List ℕ)) → Gives (Fits before) (pair_line before word host_a host_b options)
+  pair_line_fits word host_a host_b options =
+      gives_then _ _ _ (name_is_new (pair_names before) word) (λ name is_new.
+      gives_then _ _ _ (gives_any (host_word before host_a)) (λ a _.
+      gives_then _ _ _ (gives_any (host_word before host_b)) (λ b _.
+      gives_then _ _ _ (settings_in_range [] options refl) (λ settings all.
+      gives_then _ _ _ (gives_passed (bytes_eq a b) Repeated) (λ _ _.
+      gives_then _ _ _ (gives_passed (not (goes_together (pair_with name settings))) BadGeometry) (λ _ together.
+      gives_then _ _ _ (gives_passed (not (nat_lt (length before.plan.pairs) most_pairs)) TooMany) (λ _ e.
+      gives_ok (Fits before) (APair (pair_with name settings)) (record {
+        part = part;
+        is_new = is_new;
+        few = below (length before.plan.pairs) most_pairs e;
+        fits = pair_fits name settings all (not-false (goes_together (pair_with name settings)) together);
+      }))))))))
+
+  dev_line_fits : (name_text pair_text side_text queue_text address_text stop_text start_text : List ℕ)
+      → Gives (Fits before) (dev_line before name_text pair_text side_text queue_text address_text stop_text start_text)
+  dev_line_fits name_text pair_text side_text queue_text address_text stop_text start_text =
+      gives_then _ _ _ (name_is_new (dev_names before) name_text) (λ name is_new.
+      gives_then _ _ _ (pair_declared before pair_text) (λ pair declared.
+      gives_then _ _ _ (gives_any (side_word side_text)) (λ side _.
+      gives_then _ _ _ (queue_among before pair side queue_text) (λ queue among.
+      gives_then _ _ _ (bytes_counted 6 address_text) (λ address six.
+      gives_then _ _ _ (threshold_within (codes "stop=") stop_text) (λ stop _.
+      gives_then _ _ _ (threshold_within (codes "start=") start_text) (λ start small.
+      gives_then _ _ _ (gives_passed (list_any (sits_on pair side queue) before.plan.devs) Repeated) (λ _ free.
+      gives_then _ _ _ (gives_passed (nat_lt start stop) BadGeometry) (λ _ order.
+      gives_then _ _ _ (gives_passed (not (nat_lt (length before.plan.devs) most_devices)) TooMany) (λ _ e.
+      gives_ok (Fits before) (ADevice (record { name = name; pair = pair; side = side; queue = queue; address = address; stop = stop; start = start })) (record {
+        is_new = is_new;
+        few = below (length before.plan.devs) most_devices e;
+        fits = record { queue = record { declared = declared; among = among }; address = six; thresholds = (ltb-false start stop order, small) };
+        free = free;
+        part = part;
+      })))))))))))
+
+  class_line_fits : (pair_text side_text queue_text class_text : List ℕ) → Gives (Fits before) (class_line before pair_text side_text queue_text class_text)
+  class_line_fits pair_text side_text queue_text class_text =
+      gives_then _ _ _ (pair_declared before pair_text) (λ pair declared.
+      gives_then _ _ _ (gives_any (side_word side_text)) (λ side _.
+      gives_then _ _ _ (queue_among before pair side queue_text) (λ queue among.
+      gives_then _ _ _ (number_within 0 7 class_text) (λ class range.
+      gives_then _ _ _ (gives_passed (list_any (is_queue pair side queue) before.classed) Repeated) (λ _ _.
+      gives_ok (Fits before) (AClass (record { pair = pair; side = side; queue = queue }) class) (record {
+        part = part;
+        queue = record { declared = declared; among = among };
+        small = let most = range.1 in omega arith;
+      }))))))
+
+  lone_word_fits : (words : List (List ℕ)) (given : Given) → Fits before given → Gives (Fits before) (lone_word words given)
+  lone_word_fits [] given h = gives_ok (Fits before) given h
+  lone_word_fits (a ∷ words) given h = gives_fault (Fits before) UnknownWord
+
+  host_words_fit : (words : List (List ℕ)) → Gives (Fits before) (host_words before words)
+  host_words_fit [] = gives_fault (Fits before) UnknownWord
+  host_words_fit (a ∷ []) = host_fits a
+  host_words_fit (a ∷ b ∷ words) = gives_fault (Fits before) UnknownWord
+
+  pair_words_fit : (words : List (List ℕ)) → Gives (Fits before) (pair_words before words)
+  pair_words_fit [] = gives_fault (Fits before) UnknownWord
+  pair_words_fit (a ∷ []) = gives_fault (Fits before) UnknownWord
+  pair_words_fit (a ∷ b ∷ []) = gives_fault (Fits before) UnknownWord
+  pair_words_fit (a ∷ b ∷ c ∷ options) = pair_line_fits a b c options
+
+  dev_words_fit : (words : List (List ℕ)) → Gives (Fits before) (dev_words before words)
+  dev_words_fit (a ∷ b ∷ c ∷ d ∷ e ∷ f ∷ g ∷ []) = dev_line_fits a b c d e f g
+  dev_words_fit words = gives_fault (Fits before) UnknownWord
+
+  class_words_fit : (words : List (List ℕ)) → Gives (Fits before) (class_words before words)
+  class_words_fit (a ∷ b ∷ c ∷ d ∷ []) = class_line_fits a b c d
+  class_words_fit words = gives_fault (Fits before) UnknownWord
+
+  pub declaration_fits : (word : List ℕ) (words : List (List ℕ)) → Gives (Fits before) (declaration_line before word words)
+  declaration_fits word words =
+      gives_if _ (bytes_eq word (codes "host")) _ _ (host_words_fit words)
+      (gives_if _ (bytes_eq word (codes "pair")) _ _ (pair_words_fit words)
+      (gives_if _ (bytes_eq word (codes "dev")) _ _ (dev_words_fit words)
+      (gives_if _ (bytes_eq word (codes "class")) _ _ (class_words_fit words)
+      (gives_if _ (bytes_eq word (codes "steps")) _ _ (lone_word_fits words StepsBegin tt)
+      (gives_if _ (bytes_eq word (codes "traffic")) _ _ (lone_word_fits words TrafficBegins tt) (gives_fault (Fits before) UnknownWord))))))

@@ -1,0 +1,55 @@
+-- What holds of the value that a chain of tests gives, where it gives one.
+use Rattle.std.proofs.Common.{◌≡◌, Bool, true, false, cond, Option, Some, None, Result, Ok, Err, refl, subst}
+use Rattle.script_words.specs.Before.{Given}
+use Rattle.script_words.specs.StepLines.{or_unknown}
+use Rattle.script_words.specs.Tests.{and_then, fault_if, found_or}
+use Rattle.script_words.specs.declared.fault.Cause.{Cause}
+
+pub record Gives {X E : Type 0} (P : X → Type 0) (result : Result X E) : Type 0 where
+  pub holds : (x : X) → result ≡ Ok x → P x
+
+-- a value, and a fault
+pub gives_ok : {X E : Type 0} (P : X → Type 0) (x : X) → P x → Gives {E = E} P (Ok x)
+gives_ok P x p = record { holds = λ y e. let same : x ≡ y = cc in subst P same p }
+
+pub gives_fault : {X E : Type 0} (P : X → Type 0) (error : E) → Gives P (Err error)
+gives_fault P error = record { holds = λ y e. cc e }
+
+-- one part after another
+pub gives_then : {X Y : Type 0} {P : X → Type 0} (Q : Y → Type 0) (first : Result X Cause) (next : X → Result Y Cause) → Gives P first → ((x : X) → P x → Gives Q (next x))
+    → Gives Q (and_then first next)
+unfolding and_then
+gives_then Q (Ok x) next h k = k x (h.holds x refl)
+gives_then Q (Err cause) next h k = record { holds = λ y e. cc e }
+
+-- a test that has to fail
+pub gives_passed : (test : Bool) (cause : Cause) → Gives (λ _. test ≡ false) (fault_if test cause)
+gives_passed true cause = record { holds = λ y e. cc e }
+gives_passed false cause = record { holds = λ y e. refl }
+
+-- what there is
+pub gives_found : {X : Type 0} (option : Option X) (cause : Cause) → Gives (λ x. option ≡ Some x) (found_or option cause)
+gives_found (Some x) cause = record { holds = λ y e. let same : x ≡ y = cc in rw same refl }
+gives_found None cause = record { holds = λ y e. cc e }
+
+-- any value
+pub gives_any : {X E : Type 0} (result : Result X E) → Gives (λ x. Unit {0}) result
+gives_any result = record { holds = λ x e. tt }
+
+-- one of two
+pub gives_if : {X E : Type 0} (P : X → Type 0) (test : Bool) (one other : Result X E) → Gives P one → Gives P other → Gives P (cond test one other)
+gives_if P true one other h k = h
+gives_if P false one other h k = k
+
+-- the line of a word that is known
+pub gives_known : {X : Type 0} (P : Given → Type 0) (option : Option X) (line : X → Result Given Cause) → ((x : X) → option ≡ Some x → Gives P (line x)) → Gives P (or_unknown option line)
+gives_known P (Some x) line h = h x refl
+gives_known P None line h = record { holds = λ y e. cc e }
+
+-- what a word means, where it is one of these
+pub if_some : {X : Type 0} (P : X → Type 0) (test : Bool) (x : X) (rest : Option X) → P x → ((y : X) → rest ≡ Some y → P y) → (y : X) → cond test (Some x) rest ≡ Some y → P y
+if_some P true x rest p k y e = let same : x ≡ y = cc in subst P same p
+if_some P false x rest p k y e = k y e
+
+pub none_some : {X : Type 0} (P : X → Type 0) (y : X) → None ≡ Some y → P y
+none_some P y e = cc e

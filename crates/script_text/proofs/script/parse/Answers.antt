@@ -1,0 +1,23 @@
+use Rattle.std.proofs.Common.{◌+◌, ◌≤◌, [], length, ◌∙◌, ap}
+use Rattle.std.specs.Option.{option_map_or}
+use Rattle.script_words.specs.Words.{lines_of}
+use Rattle.script_text.specs.Script.{read_lines}
+use Rattle.script_text.proofs.LinesRead.{then_lines, line_turn, count_turn}
+use Rattle.script_text.proofs.Whole.{after_held}
+use Rattle.script_text.proofs.script.parse.Goals as goal
+
+pub loop-rest-preserved : goal.loop-rest-preserved
+loop-rest-preserved c =
+    let n = c.loop-rest.number in
+    let before = c.loop-rest.before in
+    let text = c.in-Some.text.now in
+    let rest = c.cut.result.1 in
+    let turn = line_turn n before text c.cut.result.0.now c.without_return.result.now rest c.cut.ensures.parts c.without_return.ensures in
+    let few : n + (length text + 1) ≤ length c.args.bytes.now + 2 =
+    rw c.in-Some.is at c.loop-rest.invariant.counted in
+    record {
+      read = c.loop-rest.invariant.read ∙ (ap (λ o. read_lines n before (option_map_or (λ text. lines_of text.now) o [])) c.in-Some.is
+          ∙ (turn ∙ ap (then_lines n (option_map_or (λ text. lines_of text.now) rest [])) c.in_ok-before.ensures));
+      held = (after_held n before c.without_return.result.now c.loop-rest.invariant.held).holds c.in_ok-before.before c.in_ok-before.ensures;
+      counted = count_turn rest text n (length c.args.bytes.now + 2) c.cut.ensures.shorter few;
+    }

@@ -1,6 +1,0 @@
-use Rattle.std.proofs.Common.{arith}
-use Rattle.script_text.proofs.Keys.{behind-cuts}
-use Rattle.script_text.proofs.settings.behind_key.Goals as goal
-
-pub returns : goal.returns
-returns c = rw (behind-cuts c.args.key.now c.args.word.now) (grind arith)

@@ -1,0 +1,5 @@
+pub mod HexTexts
+pub mod HexWords
+pub mod Keys
+pub mod NumberTexts
+pub mod Numbers

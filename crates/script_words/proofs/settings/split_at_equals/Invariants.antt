@@ -1,0 +1,9 @@
+use Rattle.std.proofs.Common.{◌≡◌, ◌++◌, take, drop}
+use Rattle.script_words.specs.Settings.{before_equals, behind_equals}
+use Rattle.script_words.proofs.settings.split_at_equals.Given as goal
+
+abbrev pub invariant-loop-i : goal.invariant-loop-i
+invariant-loop-i l = record {
+  before : before_equals l.word ≡ take l.i l.word ++ before_equals (drop l.i l.word);
+  behind : behind_equals l.word ≡ behind_equals (drop l.i l.word);
+}

@@ -1,0 +1,126 @@
+-- Declarations: hosts, pairs, devices and classes. The tests of a line come in this order: the words from left to right, each one's
+-- spelling, then what it names, then its range; then the line as a whole.
+use Rattle.std.specs.Prelude.{ℕ, ◌==◌, Bool, true, false, if◌then◌else◌, not, ◌&&◌, Result, Ok, Err, List, [], ◌∷◌, length, codes, nat_lt}
+use Rattle.std.specs.List.{list_any}
+use Rattle.std.specs.Str.{bytes_eq}
+use Rattle.step_kinds.specs.Limits.{most_hosts, most_pairs, most_devices}
+use Rattle.step_kinds.specs.declared.names.Side.{Side}
+use Rattle.step_kinds.specs.declared.names.Side.TheVariants.{A, B}
+use Rattle.step_kinds.specs.declared.plan.DevPlan.{DevPlan}
+use Rattle.script_words.specs.Before.{Before, Given, Host, APair, ADevice, AClass, StepsBegin, TrafficBegins, has_name, pair_names, dev_names, pair_word, queue_word}
+use Rattle.script_words.specs.Settings.{settings_from, pair_with, goes_together}
+use Rattle.script_words.specs.Tests.{◌>>=◌, fault_if, found_or}
+use Rattle.script_words.specs.Words.{name_word, side_word, number_word, number_between, hex_of, behind}
+use Rattle.script_words.specs.declared.parts.QueueName.{QueueName}
+use Rattle.script_words.specs.declared.fault.Cause.{Cause}
+use Rattle.script_words.specs.declared.fault.Cause.TheVariants.{UnknownWord, Repeated, UnknownName, BadGeometry, TooMany}
+
+-- a name that isn't one of these yet
+abbrev pub new_name : List (List ℕ) → List ℕ → Result (List ℕ) Cause
+new_name names word = do
+  name ← name_word word
+  _ ← fault_if (has_name names name) Repeated
+  Ok name
+
+-- `host NAME`
+abbrev pub host_line : Before → List ℕ → Result Given Cause
+host_line before word = do
+  name ← new_name before.hosts word
+  _ ← fault_if (not (nat_lt (length before.hosts) most_hosts)) TooMany
+  Ok (Host name)
+
+-- a host that is declared
+abbrev pub host_word : Before → List ℕ → Result (List ℕ) Cause
+host_word before word = do
+  name ← name_word word
+  _ ← fault_if (not (has_name before.hosts name)) UnknownName
+  Ok name
+
+-- `pair NAME HOST HOST OPTION..`
+abbrev pub pair_line : Before → List ℕ → List ℕ → List ℕ → List (List ℕ) → Result Given Cause
+pair_line before word host_a host_b options = do
+  name ← new_name (pair_names before) word
+  a ← host_word before host_a
+  b ← host_word before host_b
+  settings ← settings_from [] options
+  _ ← fault_if (bytes_eq a b) Repeated
+  _ ← fault_if (not (goes_together (pair_with name settings))) BadGeometry
+  _ ← fault_if (not (nat_lt (length before.plan.pairs) most_pairs)) TooMany
+  Ok (APair (pair_with name settings))
+
+-- a device's threshold behind its key
+abbrev pub threshold_word : List ℕ → List ℕ → Result ℕ Cause
+threshold_word key word = do
+  digits ← found_or (behind key word) UnknownWord
+  number ← number_word digits
+  _ ← fault_if (nat_lt 65535 number) BadGeometry
+  Ok number
+
+abbrev pub same_side : Side → Side → Bool
+same_side A A = true
+same_side B B = true
+same_side one other = false
+
+-- whether a device sits on this queue
+abbrev pub sits_on : ℕ → Side → ℕ → DevPlan → Bool
+sits_on pair side queue dev = (dev.pair == pair) && (same_side dev.side side && (dev.queue == queue))
+
+-- `dev NAME PAIR SIDE QUEUE ADDRESS stop=K start=K`
+abbrev pub dev_line : Before → List ℕ → List ℕ → List ℕ → List ℕ → List ℕ → List ℕ → List ℕ → Result Given Cause
+dev_line before name_text pair_text side_text queue_text address_text stop_text start_text = do
+  name ← new_name (dev_names before) name_text
+  pair ← pair_word before pair_text
+  side ← side_word side_text
+  queue ← queue_word before pair side queue_text
+  address ← hex_of 6 address_text
+  stop ← threshold_word (codes "stop=") stop_text
+  start ← threshold_word (codes "start=") start_text
+  _ ← fault_if (list_any (sits_on pair side queue) before.plan.devs) Repeated
+  _ ← fault_if (nat_lt start stop) BadGeometry
+  _ ← fault_if (not (nat_lt (length before.plan.devs) most_devices)) TooMany
+  Ok (ADevice (record { name = name; pair = pair; side = side; queue = queue; address = address; stop = stop; start = start }))
+
+-- whether this is the same queue
+abbrev pub is_queue : ℕ → Side → ℕ → QueueName → Bool
+is_queue pair side queue name = (name.pair == pair) && (same_side name.side side && (name.queue == queue))
+
+-- `class PAIR SIDE QUEUE CLASS`
+abbrev pub class_line : Before → List ℕ → List ℕ → List ℕ → List ℕ → Result Given Cause
+class_line before pair_text side_text queue_text class_text = do
+  pair ← pair_word before pair_text
+  side ← side_word side_text
+  queue ← queue_word before pair side queue_text
+  class ← number_between 0 7 class_text
+  _ ← fault_if (list_any (is_queue pair side queue) before.classed) Repeated
+  Ok (AClass (record { pair = pair; side = side; queue = queue }) class)
+
+-- A line among the declarations: its first word says what it is, and then the number of its words has to be one that it takes.
+abbrev pub lone_word : List (List ℕ) → Given → Result Given Cause
+lone_word [] given = Ok given
+lone_word words given = Err UnknownWord
+
+abbrev pub host_words : Before → List (List ℕ) → Result Given Cause
+host_words before (a ∷ []) = host_line before a
+host_words before words = Err UnknownWord
+
+abbrev pub pair_words : Before → List (List ℕ) → Result Given Cause
+pair_words before (a ∷ b ∷ c ∷ options) = pair_line before a b c options
+pair_words before words = Err UnknownWord
+
+abbrev pub dev_words : Before → List (List ℕ) → Result Given Cause
+dev_words before (a ∷ b ∷ c ∷ d ∷ e ∷ f ∷ g ∷ []) = dev_line before a b c d e f g
+dev_words before words = Err UnknownWord
+
+abbrev pub class_words : Before → List (List ℕ) → Result Given Cause
+class_words before (a ∷ b ∷ c ∷ d ∷ []) = class_line before a b c d
+class_words before words = Err UnknownWord
+
+abbrev pub declaration_line : Before → List ℕ → List (List ℕ) → Result Given Cause
+declaration_line before word words =
+    if bytes_eq word (codes "host") then host_words before words
+    else if bytes_eq word (codes "pair") then pair_words before words
+    else if bytes_eq word (codes "dev") then dev_words before words
+    else if bytes_eq word (codes "class") then class_words before words
+    else if bytes_eq word (codes "steps") then lone_word words StepsBegin
+    else if bytes_eq word (codes "traffic") then lone_word words TrafficBegins
+    else Err UnknownWord

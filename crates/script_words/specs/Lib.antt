@@ -1,0 +1,11 @@
+pub mod Before
+pub mod Compact
+pub mod Declarations
+pub mod Laws
+pub mod Reads
+pub mod Settings
+pub mod StepLines
+pub mod StepWords
+pub mod Tests
+pub mod TrafficLines
+pub mod Words

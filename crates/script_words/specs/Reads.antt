@@ -1,0 +1,16 @@
+-- What the code owes of a definition's value: that value, where memory was there.
+use Rattle.std.specs.Prelude.{◌≡◌, Result, Ok, Err}
+use Rattle.script_words.specs.declared.fault.Cause.{Cause}
+use Rattle.script_words.specs.declared.fault.LineError.{LineError}
+use Rattle.script_words.specs.declared.fault.LineError.TheVariants.{Fault, OutOfMemory}
+
+-- a line's reader gives what is due; only want of memory is free
+abbrev pub Reads : {X : Type 0} → Result X LineError → Result X Cause → Type 0
+Reads (Ok x) due = due ≡ Ok x
+Reads (Err (Fault cause)) due = due ≡ Err cause
+Reads (Err OutOfMemory) due = Unit {0}
+
+-- a result with its value seen otherwise
+abbrev pub result_map : {X Y E : Type 0} → (X → Y) → Result X E → Result Y E
+result_map seen (Ok x) = Ok (seen x)
+result_map seen (Err error) = Err error

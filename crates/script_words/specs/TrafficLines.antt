@@ -1,0 +1,75 @@
+-- Lines of traffic: frames that a threaded run sends, and losses of a link beside them.
+use Rattle.std.specs.Prelude.{ℕ, ◌+◌, ◌%◌, Bool, not, ◌&&◌, ◌||◌, Result, Ok, Err, List, [], ◌∷◌, length, codes, count_by, map, sum, nat_le, nat_lt, if◌then◌else◌}
+use Rattle.std.specs.Str.{bytes_eq}
+use Rattle.step_kinds.specs.Limits.{most_traffic_frames, most_traffic_bytes, most_breaks, most_traffic_entries}
+use Rattle.step_kinds.specs.declared.names.LaneName.{LaneName}
+use Rattle.step_kinds.specs.declared.plan.PairPlan.{PairPlan}
+use Rattle.step_kinds.specs.declared.plan.Traffic.{Traffic}
+use Rattle.step_kinds.specs.declared.plan.Traffic.TheVariants.{Send, Break}
+use Rattle.lane_model.specs.Lane.{count_from}
+use Rattle.plan_model.specs.Plans.{pair_plan}
+use Rattle.plan_model.specs.Sizes.{sizes_of}
+use Rattle.plan_model.specs.TrafficPlans.{frames_in, bytes_in, is_break_of}
+use Rattle.script_words.specs.Before.{Before, Given, MoreTraffic, pair_word, queue_word}
+use Rattle.script_words.specs.Settings.{agrees}
+use Rattle.script_words.specs.Tests.{◌>>=◌, fault_if}
+use Rattle.script_words.specs.Words.{side_word, number_between, hex_word}
+use Rattle.script_words.specs.declared.fault.Cause.{Cause}
+use Rattle.script_words.specs.declared.fault.Cause.TheVariants.{UnknownWord, BadGeometry, BadPair, TooMany}
+
+-- whether a pair may have traffic: its sides can be brought up and nothing is written past the transport
+abbrev pub may_have_traffic : PairPlan → Bool
+may_have_traffic pair = not pair.raw && agrees pair
+
+-- whether the traffic with some more stays within the limits of frames and bytes
+abbrev pub is_little : List Traffic → List Traffic → Bool
+is_little before more =
+    nat_le (sum (map frames_in before) + sum (map frames_in more)) most_traffic_frames
+    && nat_le (sum (map bytes_in before) + sum (map bytes_in more)) most_traffic_bytes
+
+-- frames of so many bytes each on a lane: they have to fit an entry of its ring, and the ring must not be too long
+abbrev pub traffic_within : Before → LaneName → ℕ → List Traffic → Result Given Cause
+traffic_within before lane len more = do
+  _ ← fault_if (nat_lt (sizes_of (pair_plan before.plan lane.pair) lane.from lane.queue).largest len
+      || nat_lt most_traffic_entries (sizes_of (pair_plan before.plan lane.pair) lane.from lane.queue).entries) BadGeometry
+  _ ← fault_if (not (may_have_traffic (pair_plan before.plan lane.pair))) BadPair
+  _ ← fault_if (not (is_little before.plan.traffic more)) TooMany
+  Ok (MoreTraffic more)
+
+-- `frame PAIR SIDE QUEUE HEX`
+abbrev pub traffic_frame_line : Before → List ℕ → List ℕ → List ℕ → List ℕ → Result Given Cause
+traffic_frame_line before pair_text side_text queue_text frame_text = do
+  pair ← pair_word before pair_text
+  side ← side_word side_text
+  queue ← queue_word before pair side queue_text
+  frame ← hex_word frame_text
+  traffic_within before (record { pair = pair; from = side; queue = queue }) (length frame) (Send (record { pair = pair; from = side; queue = queue }) frame ∷ [])
+
+-- frame i of a flood: byte j is the sum of both, in a byte
+abbrev pub flood_frame : ℕ → ℕ → List ℕ
+flood_frame len i = map (λ j. (i + j) % 256) (count_from 0 len)
+
+-- `flood PAIR SIDE QUEUE COUNT LEN`
+abbrev pub flood_line : Before → List ℕ → List ℕ → List ℕ → List ℕ → List ℕ → Result Given Cause
+flood_line before pair_text side_text queue_text count_text len_text = do
+  pair ← pair_word before pair_text
+  side ← side_word side_text
+  queue ← queue_word before pair side queue_text
+  count ← number_between 1 100000 count_text
+  len ← number_between 1 65536 len_text
+  traffic_within before (record { pair = pair; from = side; queue = queue }) len
+      (map (λ i. Send (record { pair = pair; from = side; queue = queue }) (flood_frame len i)) (count_from 0 count))
+
+-- `break PAIR`
+abbrev pub break_line : Before → List ℕ → Result Given Cause
+break_line before pair_text = do
+  pair ← pair_word before pair_text
+  _ ← fault_if (not (may_have_traffic (pair_plan before.plan pair))) BadPair
+  _ ← fault_if (not (nat_lt (count_by (is_break_of pair) before.plan.traffic) most_breaks)) TooMany
+  Ok (MoreTraffic (Break pair ∷ []))
+
+abbrev pub traffic_line : Before → List ℕ → List (List ℕ) → Result Given Cause
+traffic_line before word (a ∷ []) = if bytes_eq word (codes "break") then break_line before a else Err UnknownWord
+traffic_line before word (a ∷ b ∷ c ∷ d ∷ []) = if bytes_eq word (codes "frame") then traffic_frame_line before a b c d else Err UnknownWord
+traffic_line before word (a ∷ b ∷ c ∷ d ∷ e ∷ []) = if bytes_eq word (codes "flood") then flood_line before a b c d e else Err UnknownWord
+traffic_line before word words = Err UnknownWord

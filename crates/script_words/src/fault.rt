@@ -1,0 +1,72 @@
+//! Why a script is refused.
+
+ghost use Rattle.std.specs.Prelude.{◌≡◌};
+ghost use Rattle.script_words.specs.declared.fault.LineError.TheVariants.{Fault, OutOfMemory};
+
+use std::alloc::AllocError;
+
+/// Why a line of a script is refused. Within a line the first cause in the order of the tests is the one that is named:
+/// bytes that are no text; the header; the first word and the number of words; the other words from left to right, each
+/// one's spelling before what it names and its range; then the line as a whole.
+#[derive(Clone, Copy, Debug, PartialEq, Eq)]
+pub enum Cause {
+    /// A byte of the line is neither a printed character nor a space.
+    NotText,
+    /// Line 1 isn't `ntb 1`, or there is no byte at all.
+    BadHeader,
+    /// The first word may not stand in this part of the script, the number of words isn't one that it takes, or an option
+    /// isn't known.
+    UnknownWord,
+    /// A number is misspelled, or outside its argument's range.
+    BadNumber,
+    /// A name or a side is misspelled.
+    BadName,
+    /// A name of its kind, an option or a key stands twice, a pair names one host twice, or a queue has a second device or
+    /// a second class.
+    Repeated,
+    /// A host, a pair or a device isn't declared, a queue isn't one of the side's, or a window isn't one of both sides'.
+    UnknownName,
+    /// Bytes, an address or a kind are misspelled.
+    BadHex,
+    /// An option's number is outside its range, or the numbers of a pair, of a device or of traffic don't go together.
+    BadGeometry,
+    /// A limit on hosts, pairs, devices, steps, bytes of a frame or traffic is passed by this line.
+    TooMany,
+    /// A poke, or a write of a scratchpad that the transport uses, on a pair that isn't raw; or traffic on a pair that may
+    /// have none.
+    BadPair,
+}
+
+/// The first line of a script that has a fault, and its first fault.
+#[derive(Clone, Copy, Debug, PartialEq, Eq)]
+pub struct ScriptFault {
+    /// The line's number, from 1.
+    pub line: u32,
+    /// Why the line is refused.
+    pub cause: Cause,
+}
+
+/// Why a line gives nothing.
+#[derive(Clone, Copy, Debug, PartialEq, Eq)]
+pub enum LineError {
+    /// The line has a fault.
+    Fault(Cause),
+    /// There is no memory for what the line gives.
+    OutOfMemory,
+}
+
+impl From<Cause> for LineError {
+    ghost from_gives = { λ cause error. error ≡ Fault cause };
+
+    fn from(cause: Cause) -> LineError {
+        LineError::Fault(cause)
+    }
+}
+
+impl From<AllocError> for LineError {
+    ghost from_gives = { λ _ error. error ≡ OutOfMemory };
+
+    fn from(_error: AllocError) -> LineError {
+        LineError::OutOfMemory
+    }
+}

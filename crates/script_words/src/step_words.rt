@@ -1,0 +1,293 @@
+//! The first words of steps, by their arguments.
+
+ghost use Rattle.std.specs.Prelude.{◌≡◌, ◌≤◌};
+ghost use Rattle.std.specs.Option.{option_map};
+ghost use Rattle.script_words.specs.Compact.{steps_of};
+ghost use Rattle.script_words.specs.StepWords.{pair_step_of, side_steps_of, side_steps_with, queue_steps_of, numbered_of, frame_steps_of};
+ghost use Rattle.script_words.specs.StepLines as rules;
+
+use crate::macros::{Macro, Repeated};
+use step_kinds::{Side, Step};
+
+/// The first word of a line that has a pair.
+#[derive(Clone, Copy, Debug, PartialEq, Eq)]
+pub enum PairWord {
+    Train,
+    Break,
+    Drop,
+}
+
+/// The first word of a line that has a pair and a side: `enable`, `clean`, `offer`, `check`, `irq`, `offerall`.
+#[derive(Clone, Copy, Debug, PartialEq, Eq)]
+pub enum SideWord {
+    Enable,
+    Clean,
+    Offer,
+    Check,
+    Irq,
+    OfferAll,
+}
+
+/// The first word of a line that has a pair, a side and a queue: `ready`, `join`, `qpdown`, `post`, `look`, `copy`,
+/// `clear`, `ack`, `recv`.
+#[derive(Clone, Copy, Debug, PartialEq, Eq)]
+pub enum QueueWord {
+    Ready,
+    Join,
+    QpDown,
+    Post,
+    Look,
+    Copy,
+    Clear,
+    Ack,
+    Recv,
+}
+
+/// The first word of a line that has a pair, a side and a number: `land`, `landall`, `mask`, `unmask`, `showq`,
+/// `showspad`.
+#[derive(Clone, Copy, Debug, PartialEq, Eq)]
+pub enum NumberWord {
+    Land,
+    LandAll,
+    Mask,
+    Unmask,
+    ShowQueue,
+    ShowPad,
+}
+
+/// The first word of a line that has a pair, a side, a queue and bytes: `begin`, `send`.
+#[derive(Clone, Copy, Debug, PartialEq, Eq)]
+pub enum FrameWord {
+    Begin,
+    Send,
+}
+
+/// The word of steps that have a pair, a side, a queue and bytes.
+pub fn frame_word_of(word: &[u8]) -> Option<FrameWord>
+    ensures { option_map frame_steps_of result ≡ rules.frame_steps word.now }
+{
+    if word == b"begin".as_slice() {
+        Some(FrameWord::Begin)
+    } else if word == b"send".as_slice() {
+        Some(FrameWord::Send)
+    } else {
+        None
+    }
+}
+
+/// The word of a step that has a pair.
+pub fn pair_word_of(word: &[u8]) -> Option<PairWord>
+    ensures { option_map pair_step_of result ≡ rules.pair_step word.now }
+{
+    if word == b"train".as_slice() {
+        Some(PairWord::Train)
+    } else if word == b"break".as_slice() {
+        Some(PairWord::Break)
+    } else if word == b"drop".as_slice() {
+        Some(PairWord::Drop)
+    } else {
+        None
+    }
+}
+
+/// The word of steps that have a pair and a side.
+pub fn side_word_of(word: &[u8]) -> Option<SideWord>
+    ensures { option_map side_steps_of result ≡ rules.side_steps word.now }
+{
+    if word == b"enable".as_slice() {
+        Some(SideWord::Enable)
+    } else if word == b"clean".as_slice() {
+        Some(SideWord::Clean)
+    } else if word == b"offer".as_slice() {
+        Some(SideWord::Offer)
+    } else if word == b"check".as_slice() {
+        Some(SideWord::Check)
+    } else if word == b"irq".as_slice() {
+        Some(SideWord::Irq)
+    } else if word == b"offerall".as_slice() {
+        Some(SideWord::OfferAll)
+    } else {
+        None
+    }
+}
+
+/// The word of steps that have a pair, a side and a queue.
+pub fn queue_word_of(word: &[u8]) -> Option<QueueWord>
+    ensures { option_map queue_steps_of result ≡ rules.queue_steps word.now }
+{
+    if word == b"ready".as_slice() {
+        Some(QueueWord::Ready)
+    } else if word == b"join".as_slice() {
+        Some(QueueWord::Join)
+    } else if word == b"qpdown".as_slice() {
+        Some(QueueWord::QpDown)
+    } else if word == b"post".as_slice() {
+        Some(QueueWord::Post)
+    } else if word == b"look".as_slice() {
+        Some(QueueWord::Look)
+    } else if word == b"copy".as_slice() {
+        Some(QueueWord::Copy)
+    } else if word == b"clear".as_slice() {
+        Some(QueueWord::Clear)
+    } else if word == b"ack".as_slice() {
+        Some(QueueWord::Ack)
+    } else if word == b"recv".as_slice() {
+        Some(QueueWord::Recv)
+    } else {
+        None
+    }
+}
+
+/// The word of steps that have a pair, a side and a number.
+pub fn number_word_of(word: &[u8]) -> Option<NumberWord>
+    ensures { option_map numbered_of result ≡ rules.numbered_steps word.now }
+{
+    if word == b"land".as_slice() {
+        Some(NumberWord::Land)
+    } else if word == b"landall".as_slice() {
+        Some(NumberWord::LandAll)
+    } else if word == b"mask".as_slice() {
+        Some(NumberWord::Mask)
+    } else if word == b"unmask".as_slice() {
+        Some(NumberWord::Unmask)
+    } else if word == b"showq".as_slice() {
+        Some(NumberWord::ShowQueue)
+    } else if word == b"showspad".as_slice() {
+        Some(NumberWord::ShowPad)
+    } else {
+        None
+    }
+}
+
+impl PairWord {
+    /// The step.
+    pub fn step(self, pair: u32) -> Step
+        ensures { result ≡ pair_step_of self pair }
+    {
+        match self {
+            PairWord::Train => Step::Train { pair },
+            PairWord::Break => Step::Break { pair },
+            PairWord::Drop => Step::DropDone { pair },
+        }
+    }
+}
+
+impl SideWord {
+    /// The steps on a side with so many windows.
+    pub fn steps(self, windows: u32, pair: u32, side: Side) -> Macro
+        requires { windows ≤ 4 }
+        ensures { steps_of result ≡ side_steps_with self windows pair side }
+    {
+        match self {
+            SideWord::Enable => Macro::One {
+                step: Step::Enable { pair, side },
+            },
+            SideWord::Clean => Macro::One {
+                step: Step::Clean { pair, side },
+            },
+            SideWord::Offer => Macro::One {
+                step: Step::Offer { pair, side },
+            },
+            SideWord::Check => Macro::One {
+                step: Step::Check { pair, side },
+            },
+            SideWord::Irq => Macro::One {
+                step: Step::Irq { pair, side },
+            },
+            SideWord::OfferAll => Macro::Again {
+                repeated: Repeated::Offer { pair, side },
+                count: 2 * windows + 3,
+            },
+        }
+    }
+}
+
+impl QueueWord {
+    /// The steps.
+    pub fn steps(self, pair: u32, side: Side, queue: u32) -> Macro
+        ensures { steps_of result ≡ queue_steps_of self pair side queue }
+    {
+        let step = match self {
+            QueueWord::Ready => Step::Ready { pair, side, queue },
+            QueueWord::Join => Step::Join { pair, side, queue },
+            QueueWord::QpDown => Step::QpDown { pair, side, queue },
+            QueueWord::Post => Step::Post { pair, side, queue },
+            QueueWord::Look => Step::Look { pair, side, queue },
+            QueueWord::Copy => Step::Copy { pair, side, queue },
+            QueueWord::Clear => Step::Clear { pair, side, queue },
+            QueueWord::Ack => Step::Ack { pair, side, queue },
+            QueueWord::Recv => {
+                return Macro::Received {
+                    pair,
+                    side,
+                    queue,
+                    copies: 1,
+                };
+            }
+        };
+        Macro::One { step }
+    }
+}
+
+impl NumberWord {
+    /// The least number that the step takes.
+    pub fn least(self) -> u32
+        ensures { result ≡ (numbered_of self).least }
+    {
+        match self {
+            NumberWord::LandAll => 1,
+            _ => 0,
+        }
+    }
+
+    /// The largest number that the step takes.
+    pub fn most(self) -> u32
+        ensures { result ≡ (numbered_of self).most }
+    {
+        match self {
+            NumberWord::LandAll => 1_000_000,
+            NumberWord::ShowPad => 15,
+            _ => u32::MAX,
+        }
+    }
+
+    /// The steps.
+    pub fn steps(self, pair: u32, side: Side, number: u32) -> Macro
+        ensures { steps_of result ≡ (numbered_of self).steps pair side number }
+    {
+        let step = match self {
+            NumberWord::Land => Step::Land {
+                pair,
+                side,
+                place: number,
+            },
+            NumberWord::Mask => Step::Mask {
+                pair,
+                side,
+                bits: number,
+            },
+            NumberWord::Unmask => Step::Unmask {
+                pair,
+                side,
+                bits: number,
+            },
+            NumberWord::ShowQueue => Step::ShowQueue {
+                pair,
+                side,
+                place: number,
+            },
+            NumberWord::ShowPad => Step::ShowPad {
+                pair,
+                side,
+                index: number,
+            },
+            NumberWord::LandAll => {
+                return Macro::Again {
+                    repeated: Repeated::Land { pair, side },
+                    count: number,
+                };
+            }
+        };
+        Macro::One { step }
+    }
+}

@@ -1,0 +1,142 @@
+//! How words are spelled: names, sides, numbers and bytes.
+#![tactic(auto, unfolding(crate::specs::Tests::and_then))]
+
+ghost use Rattle.std.specs.Prelude.{◌≡◌, ◌||◌};
+ghost use Rattle.std.specs.List.{list_all};
+ghost use Rattle.script_words.specs.Reads.{Reads};
+ghost use Rattle.script_words.specs.Declarations.{same_side};
+ghost use Rattle.script_words.specs.Words as spelled;
+
+use crate::fault::{Cause, LineError};
+use hex::FromHexError;
+use std::alloc::Global;
+use step_kinds::{Items, Name, Side};
+
+/// Whether a word is a name: 1 to 16 small letters and digits, the first a letter.
+fn is_name(word: &[u8]) -> bool
+    ensures { result ≡ spelled.is_name word.now }
+{
+    match word {
+        [] => false,
+        [first, rest @ ..] => {
+            first.is_ascii_lowercase() && rest.len() < 16 && are_name_bytes(rest)
+        }
+    }
+}
+
+/// Whether bytes may stand in a name behind its first.
+fn are_name_bytes(bytes: &[u8]) -> bool
+    ensures { result ≡ list_all (λ b. spelled.is_letter b || spelled.is_digit b) bytes.now }
+{
+    bytes
+        .iter()
+        .all(|byte| byte.is_ascii_lowercase() || byte.is_ascii_digit())
+}
+
+/// The name that a word spells.
+pub fn read_name(word: &[u8]) -> Result<Name, Cause>
+    ensures { result ≡ spelled.name_word word.now }
+{
+    if is_name(word) {
+        Ok(Name::of_bytes(word))
+    } else {
+        Err(Cause::BadName)
+    }
+}
+
+/// The side that a word spells.
+pub fn read_side(word: &[u8]) -> Result<Side, Cause>
+    ensures { result ≡ spelled.side_word word.now }
+{
+    match word {
+        [b'A'] => Ok(Side::A),
+        [b'B'] => Ok(Side::B),
+        _ => Err(Cause::BadName),
+    }
+}
+
+/// Whether there is a digit, and no leading zero but for zero itself.
+fn is_plain(word: &[u8]) -> bool
+    ensures { result ≡ spelled.is_plain word.now }
+{
+    match word {
+        [] => false,
+        [_] => true,
+        [first, _, ..] => *first != b'0',
+    }
+}
+
+/// The number that a word spells: decimal digits without a leading zero but for zero itself, below 2^32.
+fn number_of(word: &[u8]) -> Option<u32>
+    ensures { result ≡ spelled.number_of word.now }
+{
+    if !is_plain(word) {
+        return None;
+    }
+    let mut value = 0u64;
+    for digit in word {
+        if !digit.is_ascii_digit() {
+            return None;
+        }
+        value = value * 10 + (*digit - b'0') as u64;
+        if value > u32::MAX as u64 {
+            return None;
+        }
+    }
+    Some(value as u32)
+}
+
+/// The number that a word spells.
+pub fn read_number(word: &[u8]) -> Result<u32, Cause>
+    ensures { result ≡ spelled.number_word word.now }
+{
+    number_of(word).ok_or(Cause::BadNumber)
+}
+
+/// The number that a word spells, from the least to the most.
+pub fn read_number_between(least: u32, most: u32, word: &[u8]) -> Result<u32, Cause>
+    ensures { result ≡ spelled.number_between least most word.now }
+{
+    let number = read_number(word)?;
+    if number < least || most < number {
+        return Err(Cause::BadNumber);
+    }
+    Ok(number)
+}
+
+/// The bytes that a word spells by pairs of hexadecimal digits.
+pub fn read_bytes(alloc: Global, word: &[u8]) -> Result<Items<u8>, LineError>
+    ensures { Reads result (spelled.hex_word word.now) }
+{
+    match hex::decode(alloc, word) {
+        Ok(bytes) => Ok(Items::of_vec(bytes)),
+        Err(FromHexError::OutOfMemory) => Err(LineError::OutOfMemory),
+        Err(_) => Err(LineError::Fault(Cause::BadHex)),
+    }
+}
+
+/// Whether two sides are the same.
+pub fn is_same_side(side: Side, other: Side) -> bool
+    ensures { result ≡ same_side side other }
+{
+    matches!((side, other), (Side::A, Side::A) | (Side::B, Side::B))
+}
+
+/// The bytes that a word spells, of which there have to be so many. It takes no memory.
+pub fn read_array<const N: usize>(word: &[u8]) -> Result<[u8; N], Cause>
+    ensures { result ≡ spelled.hex_of N word.now }
+{
+    let mut bytes = [0u8; N];
+    if hex::decode_to_slice(word, &mut bytes).is_err() {
+        return Err(Cause::BadHex);
+    }
+    Ok(bytes)
+}
+
+/// The number of two bytes that a word spells, the high one first.
+pub fn read_kind(word: &[u8]) -> Result<u16, Cause>
+    ensures { result ≡ spelled.kind_word word.now }
+{
+    let [high, low] = read_array::<2>(word)?;
+    Ok(high as u16 * 256 + low as u16)
+}

@@ -1,0 +1,4 @@
+pub mod Frames
+pub mod Repeats
+pub mod Sends
+pub mod Whole

@@ -1,0 +1,10 @@
+use Rattle.std.proofs.Common.{◌*◌, ◌/◌, ◌%◌, ◌^◌}
+use Rattle.step_kinds.specs.declared.names.Side.TheVariants.{A}
+use Rattle.step_kinds.specs.declared.steps.Step.TheVariants.{Land}
+use Rattle.traffic_plan.proofs.Frames.{appended}
+use Rattle.traffic_plan.proofs.steps.push_landings.Goals as goal
+
+pub loop-i-preserved : goal.loop-i-preserved
+loop-i-preserved c =
+    appended c.args.line (λ i. Land 0 A (c.args.word / 2 ^ (8 * i) % 4)) c.loop-i.i c.args.lines.now.items c.loop-i.lines.items c.push_step.new.lines.items c.loop-i.invariant
+    c.in_ok-push_step.ensures

@@ -1,0 +1,16 @@
+//! The plan of a generated load, and the traffic of a plan by lanes.
+//!
+//! A load is one pair and the steps of so many frames from its side A to its side B, with bytes and landings of a
+//! generator of numbers: the same seed gives the same plan.
+#![tactic(auto)]
+
+mod lanes;
+pub mod laws;
+mod load;
+mod steps;
+
+pub use lanes::{breaks, lane_traffic};
+pub use load::generate;
+
+#[cfg(test)]
+mod tests;

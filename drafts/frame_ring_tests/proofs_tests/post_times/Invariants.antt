@@ -1,0 +1,11 @@
+use Rattle.std.proofs.Common.{◌≡◌}
+use Rattle.frame_ring.specs.Seen.{HasPagesIn, HasRoomIn}
+use Rattle.frame_ring.proofs.tests.post_times.Given as goal
+
+abbrev pub invariant-loop-turn : goal.invariant-loop-turn
+invariant-loop-turn l =
+    record {
+      plan : l.pair.plan ≡ l.port.plan;
+      room : HasRoomIn l.port l.pair;
+      pages : HasPagesIn l.port l.pair;
+    }
