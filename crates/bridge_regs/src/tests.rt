@@ -30,3 +30,10 @@ fn masked_bits_wait(rt: HostRuntime) {
     assert_eq!(rt; bells.pending(), 0);
     assert_eq!(rt; bells.masked(), 0x10);
 }
+
+// The laws can be called.
+#[test]
+fn laws_hold() {
+    laws::take_is_bit_by_bit();
+    laws::masked_bits_stay();
+}

@@ -44,3 +44,9 @@ fn devices_stop_and_go_on(rt: HostRuntime) {
     flow.reset();
     assert!(rt; !flow.stopped());
 }
+
+// The laws can be called.
+#[test]
+fn laws_hold() {
+    laws::frame_says_its_parts();
+}

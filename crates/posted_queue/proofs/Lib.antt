@@ -3,3 +3,5 @@ pub mod RowLemmas
 pub mod LevelLemmas
 pub mod LandingLemmas
 pub mod LawLemmas
+pub mod TicketLemmas
+pub mod TicketLanding

@@ -5,3 +5,4 @@ pub mod Rows
 pub mod Counts
 pub mod Levels
 pub mod Waiting
+pub mod Tickets

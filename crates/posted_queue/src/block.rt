@@ -1,4 +1,4 @@
-//! The lowest part of a queue: up to 64 writes in one ring of memory.
+//! The lowest part of a queue: up to 256 writes in one ring of memory.
 
 ghost use Rattle.std.specs.Prelude.{◌≡◌, ◌≤◌, length, take};
 ghost use Rattle.posted_queue.specs.Rows.{is_held_back};
@@ -10,7 +10,7 @@ use std::collections::VecDeque;
 use std::marker::Model;
 
 /// How many writes a block holds at most.
-pub const BLOCK_MOST: usize = 64;
+pub const BLOCK_MOST: usize = 256;
 
 /// Up to [`BLOCK_MOST`] writes.
 #[derive(Drop)]
@@ -25,7 +25,7 @@ impl<W: Ordered> Model for Block<W> {
 
     ghost Value = { Flight W };
 
-    ghost view = { λ block. record { writes = block.writes.items; spare = min 64 (deque_capacity block.writes) - deque_len block.writes } };
+    ghost view = { λ block. record { writes = block.writes.items; spare = min 256 (deque_capacity block.writes) - deque_len block.writes } };
 }
 
 impl<W: Ordered> Part<W> for Block<W> {

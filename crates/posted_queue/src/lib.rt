@@ -7,20 +7,17 @@
 //! Room for a write is promised before it is posted, so that posting, landing and discarding take no memory.
 #![tactic(auto)]
 
-ghost use Rattle.std.specs.Prelude.{◌≡◌, ◌<◌, ◌≤◌, ◌↔◌, ◌==◌, not, map, take, length, IsSome, IfSome, OnOk, OnErr, option_copied, slice_get};
-ghost use Rattle.order_rules.specs.Order.{Order, may_land};
-ghost use Rattle.posted_queue.specs.Rows.{is_held_back};
-ghost use Rattle.posted_queue.specs.Waiting.{class_awaited as awaited};
+ghost use Rattle.std.specs.Prelude.{◌≡◌, ◌<◌, ◌≤◌, ◌↔◌, ◌==◌, length, IsSome, IsOk, OnOk, OnErr, option_copied, slice_get};
+ghost use Rattle.order_rules.specs.Order.{Order};
 
-use crate::block::Block;
-use crate::counted::Counted;
-use crate::level::Level;
-use crate::part::Part;
-use order_rules::{STRICT, posted_table};
+use crate::block_queue::BlockQueue;
+use crate::ticket::Ticket;
+use slab::Slab;
 use std::alloc::{AllocError, Global};
 use std::marker::Model;
 
 mod block;
+mod block_queue;
 mod counted;
 pub mod laws;
 mod level;
@@ -28,6 +25,7 @@ mod part;
 mod row;
 #[cfg(test)]
 mod tests;
+mod ticket;
 
 /// A posted write that has a kind and a traffic class, by which bridges order it.
 pub trait Ordered {
@@ -55,25 +53,25 @@ pub enum LandAnswer<W> {
     Nothing,
 }
 
-// Three levels of up to 64 parts over blocks of up to 64 writes: some 16 million writes.
-type Blocks<W> = Level<W, Level<W, Level<W, Block<W>>>>;
-
 /// The posted writes in flight, in the order in which they were posted, and the room that is promised for more.
+///
+/// The writes stay where they were put when they were posted, and only their tickets move.
 #[derive(Drop)]
 pub struct Queue<W: Ordered> {
-    blocks: Counted<W, Blocks<W>>,
-    spare: usize,
+    tickets: BlockQueue<Ticket>,
+    writes: Slab<W>,
 }
 
 impl<W: Ordered> Model for Queue<W> {
-    ghost use Rattle.std.specs.Prelude.{◌+◌, ◌≤◌, ◌<◌, ◌^◌, length};
     ghost use Rattle.posted_queue.specs.Flight.{Flight};
+    ghost use Rattle.posted_queue.specs.Tickets.{flight_of, AreKept};
+    ghost use Rattle.slab.specs.Slab.{HasRoomFor};
 
     ghost Value = { Flight W };
 
-    ghost view = { λ queue. record { writes = queue.blocks.writes; spare = queue.spare } };
+    ghost view = { λ queue. flight_of queue.writes.slots queue.tickets };
 
-    ghost invariant = { λ queue. (queue.spare ≤ queue.blocks.spare) × (length queue.blocks.writes + queue.spare < 2 ^ 64) };
+    ghost invariant = { λ queue. AreKept W.order queue.writes.slots queue.tickets.writes × HasRoomFor queue.writes queue.tickets.spare };
 }
 
 impl<W: Ordered> Queue<W> {
@@ -85,8 +83,8 @@ impl<W: Ordered> Queue<W> {
         ensures { result ≡ nothing_in_flight }
     {
         Queue {
-            blocks: Counted::empty(alloc),
-            spare: 0,
+            tickets: BlockQueue::new(alloc),
+            writes: Slab::new(alloc),
         }
     }
 
@@ -94,14 +92,14 @@ impl<W: Ordered> Queue<W> {
     pub fn len(&self) -> usize
         ensures { result ≡ length self.now.writes }
     {
-        self.blocks.len()
+        self.tickets.len()
     }
 
     /// Whether no write is in flight.
     pub fn is_empty(&self) -> bool
         ensures { result ≡ (length self.now.writes == 0) }
     {
-        self.blocks.len() == 0
+        self.len() == 0
     }
 
     /// The write at this place in flight, counted from 0 for the one that was posted first. `None` where no more
@@ -110,27 +108,22 @@ impl<W: Ordered> Queue<W> {
         ensures write { option_copied result ≡ slice_get self.now.writes place }
         ensures within { IsSome result ↔ (place < length self.now.writes) }
     {
-        self.blocks.get(place)
+        self.write_at(place)
     }
 
     /// Promises room for `more` writes, on top of those that are promised already.
     ///
-    /// An `Err` comes only from want of memory, and leaves the queue as it was. A queue has memory for 16,777,216 writes
-    /// at most, and for fewer where landings out of order left most of each block empty.
+    /// An `Err` comes only from want of memory, never to a promise of 0 writes, and leaves the queue as it was. A queue
+    /// has memory for 67,108,864 writes at most, and for fewer where landings out of order left most of each block
+    /// empty.
     pub fn promise(&mut self, more: usize) -> Result<(), AllocError>
         ensures ok { OnOk result (self.new ≡ promised self.old more) }
         ensures err { OnErr result (self.new ≡ self.old) }
+        ensures had { more ≡ 0 → IsOk result }
     {
-        let spare = self.spare.checked_add(more).ok_or(AllocError)?;
-        self.blocks.len().checked_add(spare).ok_or(AllocError)?;
-        if self.blocks.room() < spare {
-            self.blocks.reserve(spare)?;
-        }
-        if self.blocks.room() < spare {
-            return Err(AllocError);
-        }
-        self.spare = spare;
-        Ok(())
+        let spare = self.tickets.spare().checked_add(more).ok_or(AllocError)?;
+        self.writes.reserve(spare)?;
+        self.tickets.promise(more)
     }
 
     /// Gives back the promise of `count` writes, which are not posted after all. So many must be promised.
@@ -138,7 +131,7 @@ impl<W: Ordered> Queue<W> {
         requires { count ≤ self.old.spare }
         ensures { self.new ≡ given_back self.old count }
     {
-        self.spare -= count;
+        self.tickets.give_back(count);
     }
 
     /// Posts a write behind all others, into room that was promised for at least one more. It takes no memory.
@@ -146,8 +139,9 @@ impl<W: Ordered> Queue<W> {
         requires { 0 < self.old.spare }
         ensures { self.new ≡ posted self.old write }
     {
-        self.blocks.push(write);
-        self.spare -= 1;
+        let (kind, class) = (write.kind(), write.class());
+        let key = self.writes.insert_reserved(write);
+        self.tickets.push(Ticket::new(key, kind, class));
     }
 
     /// Lands the write at this place in flight, counted from 0 for the one that was posted first. It is taken out and
@@ -163,14 +157,11 @@ impl<W: Ordered> Queue<W> {
         ensures answer { result ≡ land_answer W.order self.old place }
         ensures after { self.new ≡ after_landing W.order self.old place }
     {
-        if place >= self.blocks.len() {
-            return LandAnswer::Nothing;
+        match self.tickets.land(place) {
+            LandAnswer::Landed(ticket) => LandAnswer::Landed(self.writes.remove(ticket.key)),
+            LandAnswer::Blocked => LandAnswer::Blocked,
+            LandAnswer::Nothing => LandAnswer::Nothing,
         }
-        let waits_for = class_awaited_at(&self.blocks, place);
-        let Some(write) = self.blocks.take(place, waits_for) else {
-            return LandAnswer::Blocked;
-        };
-        LandAnswer::Landed(write)
     }
 
     /// Drops all writes in flight. What was promised stays promised.
@@ -179,34 +170,17 @@ impl<W: Ordered> Queue<W> {
         W: Drop,
         ensures { self.new ≡ discarded self.old }
     {
-        while self.blocks.len() > 0 {
-            let _write = self.blocks.take(0, None);
+        self.tickets.discard();
+        self.writes.clear();
+    }
+
+    // The write that the ticket at this place stands for.
+    fn write_at(&self, place: usize) -> Option<&W>
+        ensures { option_copied result ≡ slice_get self.now.writes place }
+    {
+        match self.tickets.label_at(place) {
+            Some(ticket) => self.writes.get(ticket.key),
+            None => None,
         }
     }
-}
-
-// A class of which the write at this place passes no earlier one: none where it passes all, as it does at the front.
-fn class_awaited_at<W: Ordered>(blocks: &Counted<W, Blocks<W>>, place: usize) -> Option<usize>
-    requires { place < length blocks.now.writes }
-    ensures lands { not (is_held_back W.order result (take place blocks.now.writes)) ≡ may_land (map W.order blocks.now.writes) place }
-    ensures small { IfSome result (λ class. class < 8) }
-{
-    if place == 0 {
-        return None;
-    }
-    match blocks.get(place) {
-        Some(write) => class_awaited(write),
-        None => None,
-    }
-}
-
-// The class of which this write passes no earlier one: none where it may pass a strict one, and so any.
-fn class_awaited<W: Ordered>(write: &W) -> Option<usize>
-    ensures class { result ≡ awaited (W.order write.now) }
-    ensures small { IfSome result (λ class. class < 8) }
-{
-    if posted_table().may_pass(write.kind(), STRICT) {
-        return None;
-    }
-    Some(write.class() as usize)
 }

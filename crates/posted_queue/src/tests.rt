@@ -1,7 +1,7 @@
 ghost use Rattle.std.specs.Prelude.{◌<◌};
 
 use super::*;
-use order_rules::RELAXED;
+use order_rules::{RELAXED, STRICT};
 use plain::PlainQueue;
 use std::test::Fail;
 
@@ -118,6 +118,7 @@ fn room_is_promised_before_a_write_is_posted(rt: HostRuntime) -> Result<(), Fail
     let mut queue = Queue::new(rt.alloc());
     assert!(rt; queue.is_empty());
     queue.promise(2)?;
+    queue.promise(0)?;
     queue.push(strict(1));
     queue.give_back(1);
     queue.promise(1)?;
@@ -135,16 +136,16 @@ fn room_is_promised_before_a_write_is_posted(rt: HostRuntime) -> Result<(), Fail
 fn many_blocks_are_used_again(rt: HostRuntime) -> Result<(), Fail> {
     let mut queue = Queue::new(rt.alloc());
     for round in 0..3 {
-        for number in 0..5000 {
+        for number in 0..20000 {
             queue.promise(1)?;
             queue.push(strict(number + round));
         }
-        assert_eq!(rt; queue.len(), 5000);
-        assert!(rt; queue.label_at(4999) == Some(&strict(4999 + round)));
+        assert_eq!(rt; queue.len(), 20000);
+        assert!(rt; queue.label_at(19999) == Some(&strict(19999 + round)));
         queue.discard();
         assert!(rt; queue.is_empty());
-        queue.promise(5000)?;
-        queue.give_back(5000);
+        queue.promise(20000)?;
+        queue.give_back(20000);
     }
     Ok(())
 }
@@ -155,8 +156,8 @@ fn blocks_answer_as_one_list(rt: HostRuntime) -> Result<(), Fail> {
     let mut queue = Queue::new(rt.alloc());
     let mut plain = PlainQueue::new(rt.alloc());
     let mut state: u64 = 7;
-    for number in 0..12000 {
-        if number < 3000 || random_below(&mut state, 3) == 0 {
+    for number in 0..26000 {
+        if number < 18000 || random_below(&mut state, 3) == 0 {
             let write = Numbered {
                 number,
                 is_strict: random_below(&mut state, 2) == 0,
@@ -166,9 +167,9 @@ fn blocks_answer_as_one_list(rt: HostRuntime) -> Result<(), Fail> {
             queue.push(write);
             plain.push(write)?;
         }
-        let place = random_below(&mut state, 4000) as usize;
+        let place = random_below(&mut state, 20000) as usize;
         assert!(rt; queue.label_at(place) == plain.label_at(place));
-        if number >= 3000 {
+        if number >= 18000 {
             assert_eq!(rt; queue.land(place), plain.land(place));
         }
         assert_eq!(rt; queue.len(), plain.len());

@@ -1,27 +1,55 @@
-use Rattle.std.proofs.Common.{◌≡◌, remove, arith, ap, subst, ◌∙◌}
+use Rattle.std.proofs.Common.{◌≡◌, IsSome, arith, refl, ap, sym, subst, ◌∙◌}
 use Rattle.posted_queue.specs.Landing.{land_answer, after_landing}
-use Rattle.posted_queue.specs.declared.LandAnswer.TheVariants.{Landed, Blocked}
-use Rattle.posted_queue.proofs.LandingLemmas.{landed, blocked}
+use Rattle.posted_queue.specs.Tickets.{AreKept, IsKept}
+use Rattle.posted_queue.proofs.TicketLanding.{LandsKept, lands_kept, landed-kept, blocks_kept, nothing_kept}
 use Rattle.posted_queue.proofs.Queue.land.Goals as goal
 
-pub returns-in_default-clause-answer : goal.returns-in_default-clause-answer
-returns-in_default-clause-answer g c =
-    subst (λ flight. Blocked ≡ land_answer g.W.Ordered.order flight c.args.place) c.self.view_is
-    (blocked g.W.Ordered.order c.self.inside.blocks.writes c.self.inside.spare c.args.place _ c.class_awaited_at-waits_for.ensures.lands (omega arith) c.in_default.ensures.held_back).0
+pub remove-requires : goal.remove-requires
+remove-requires g c =
+    let is : IsKept g.W.Ordered.order c.self.inside.writes.slots c.in-Landed.ticket = landed-kept g.W.Ordered.order c.self.inside.writes.slots c.self.inside.tickets c.args.place c.in-Landed.ticket c.self.invariant.0 c.in-Landed.ensures.answer in
+    subst IsSome (sym is.there) refl
 
-pub returns-in_default-clause-after : goal.returns-in_default-clause-after
-returns-in_default-clause-after g c =
-    ap (λ blocks. record { writes = blocks.writes; spare = c.self.inside.spare }) c.in_default.ensures.rests
-    ∙ subst (λ flight. record { writes = c.self.inside.blocks.writes; spare = c.self.inside.spare } ≡ after_landing g.W.Ordered.order flight c.args.place) c.self.view_is
-    (blocked g.W.Ordered.order c.self.inside.blocks.writes c.self.inside.spare c.args.place _ c.class_awaited_at-waits_for.ensures.lands (omega arith) c.in_default.ensures.held_back).1
+pub invariant_of-self : goal.invariant_of-self
+invariant_of-self g c =
+    let lands : LandsKept g.W.Ordered.order c.self.inside.writes c.remove.new.self c.self.inside.tickets c.land.new.self c.args.place c.remove.result =
+    lands_kept g.W.Ordered.order c.self.inside.writes c.remove.new.self c.self.inside.tickets c.land.new.self c.args.place c.in-Landed.ticket c.remove.result c.self.invariant.0 c.in-Landed.ensures.answer c.in-Landed.ensures.after c.remove.ensures.value c.remove.ensures.updates in
+    (lands.kept, (let same = lands.spare in let room = c.self.invariant.1 in let len = c.remove.ensures.len in let whole = c.remove.ensures.capacity in omega arith))
 
-pub returns-clause-answer : goal.returns-clause-answer
-returns-clause-answer g c =
-    subst (λ flight. Landed c.in-Some.write ≡ land_answer g.W.Ordered.order flight c.args.place) c.self.view_is
-    (landed g.W.Ordered.order c.self.inside.blocks.writes c.self.inside.spare c.args.place c.in-Some.write _ c.class_awaited_at-waits_for.ensures.lands c.in-Some.ensures.write c.in-Some.ensures.held_back).0
+pub returns-in-Landed-clause-answer : goal.returns-in-Landed-clause-answer
+returns-in-Landed-clause-answer g c =
+    let lands : LandsKept g.W.Ordered.order c.self.inside.writes c.remove.new.self c.self.inside.tickets c.land.new.self c.args.place c.remove.result =
+    lands_kept g.W.Ordered.order c.self.inside.writes c.remove.new.self c.self.inside.tickets c.land.new.self c.args.place c.in-Landed.ticket c.remove.result c.self.invariant.0 c.in-Landed.ensures.answer c.in-Landed.ensures.after c.remove.ensures.value c.remove.ensures.updates in
+    lands.answer ∙ ap (λ flight. land_answer g.W.Ordered.order flight c.args.place) c.self.view_is
 
-pub returns-clause-after : goal.returns-clause-after
-returns-clause-after g c =
-    ap (λ writes. record { writes = writes; spare = c.self.inside.spare }) c.in-Some.ensures.writes
-    ∙ subst (λ flight. record { writes = remove c.self.inside.blocks.writes c.args.place; spare = c.self.inside.spare } ≡ after_landing g.W.Ordered.order flight c.args.place) c.self.view_is
-    (landed g.W.Ordered.order c.self.inside.blocks.writes c.self.inside.spare c.args.place c.in-Some.write _ c.class_awaited_at-waits_for.ensures.lands c.in-Some.ensures.write c.in-Some.ensures.held_back).1
+pub returns-in-Landed-clause-after : goal.returns-in-Landed-clause-after
+returns-in-Landed-clause-after g c =
+    let lands : LandsKept g.W.Ordered.order c.self.inside.writes c.remove.new.self c.self.inside.tickets c.land.new.self c.args.place c.remove.result =
+    lands_kept g.W.Ordered.order c.self.inside.writes c.remove.new.self c.self.inside.tickets c.land.new.self c.args.place c.in-Landed.ticket c.remove.result c.self.invariant.0 c.in-Landed.ensures.answer c.in-Landed.ensures.after c.remove.ensures.value c.remove.ensures.updates in
+    lands.after ∙ ap (λ flight. after_landing g.W.Ordered.order flight c.args.place) c.self.view_is
+
+pub returns-in-Blocked-clause-answer : goal.returns-in-Blocked-clause-answer
+returns-in-Blocked-clause-answer g c =
+    (blocks_kept g.W.Ordered.order c.self.inside.writes.slots c.self.inside.tickets c.land.new.self c.args.place c.self.invariant.0 c.in-Blocked.ensures.answer c.in-Blocked.ensures.after).0
+    ∙ ap (λ flight. land_answer g.W.Ordered.order flight c.args.place) c.self.view_is
+
+pub returns-in-Blocked-clause-after : goal.returns-in-Blocked-clause-after
+returns-in-Blocked-clause-after g c =
+    (blocks_kept g.W.Ordered.order c.self.inside.writes.slots c.self.inside.tickets c.land.new.self c.args.place c.self.invariant.0 c.in-Blocked.ensures.answer c.in-Blocked.ensures.after).1
+    ∙ ap (λ flight. after_landing g.W.Ordered.order flight c.args.place) c.self.view_is
+
+pub invariant_of-self-in-Nothing : goal.invariant_of-self-in-Nothing
+invariant_of-self-in-Nothing g c =
+    let stays : c.land.new.self ≡ c.self.inside.tickets =
+    (nothing_kept g.W.Ordered.order c.self.inside.writes.slots c.self.inside.tickets c.land.new.self c.args.place c.self.invariant.0 c.in-Nothing.ensures.answer c.in-Nothing.ensures.after).2 in
+    let same : c.land.new.self.spare ≡ c.self.inside.tickets.spare = ap (λ flight. flight.spare) stays in
+    (subst (λ flight. AreKept g.W.Ordered.order c.self.inside.writes.slots flight.writes) (sym stays) c.self.invariant.0, (let room = c.self.invariant.1 in omega arith))
+
+pub returns-in-Nothing-clause-answer : goal.returns-in-Nothing-clause-answer
+returns-in-Nothing-clause-answer g c =
+    (nothing_kept g.W.Ordered.order c.self.inside.writes.slots c.self.inside.tickets c.land.new.self c.args.place c.self.invariant.0 c.in-Nothing.ensures.answer c.in-Nothing.ensures.after).0
+    ∙ ap (λ flight. land_answer g.W.Ordered.order flight c.args.place) c.self.view_is
+
+pub returns-in-Nothing-clause-after : goal.returns-in-Nothing-clause-after
+returns-in-Nothing-clause-after g c =
+    (nothing_kept g.W.Ordered.order c.self.inside.writes.slots c.self.inside.tickets c.land.new.self c.args.place c.self.invariant.0 c.in-Nothing.ensures.answer c.in-Nothing.ensures.after).1
+    ∙ ap (λ flight. after_landing g.W.Ordered.order flight c.args.place) c.self.view_is

@@ -1,6 +1,6 @@
 use Rattle.std.proofs.Common.{sym}
 use Rattle.posted_queue.proofs.LandingLemmas.{may_land-found, none_within}
-use Rattle.posted_queue.proofs.class_awaited_at.Goals as goal
+use Rattle.posted_queue.proofs.block_queue.class_awaited_at.Goals as goal
 
 pub returns-in-Some-clause-lands : goal.returns-in-Some-clause-lands
 returns-in-Some-clause-lands g c =

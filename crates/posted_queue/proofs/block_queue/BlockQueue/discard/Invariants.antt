@@ -1,5 +1,5 @@
 use Rattle.std.proofs.Common.{◌≡◌, ◌<◌, ◌≤◌, ◌+◌, ◌^◌, length}
-use Rattle.posted_queue.proofs.Queue.discard.Given as goal
+use Rattle.posted_queue.proofs.block_queue.BlockQueue.discard.Given as goal
 
 abbrev pub invariant-loop-self : goal.invariant-loop-self
 invariant-loop-self g l = record {

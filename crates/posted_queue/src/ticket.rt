@@ -1,0 +1,45 @@
+//! What stands in flight for a write that is kept elsewhere.
+
+ghost use Rattle.std.specs.Prelude.{◌≡◌, ◌<◌};
+
+use crate::Ordered;
+
+/// The key of a write that is kept elsewhere, and how bridges order it.
+#[derive(Clone, Copy)]
+pub struct Ticket {
+    pub key: usize,
+    kind: u8,
+    class: u8,
+    ghost small: { (kind < 2) × (class < 8) },
+}
+
+impl Ticket {
+    /// The ticket of the write at this key, which has this kind and this traffic class.
+    pub fn new(key: usize, kind: usize, class: u32) -> Self
+        requires kind { kind < 2 }
+        requires class { class < 8 }
+        ensures key { result.key ≡ key }
+        ensures kind { result.kind ≡ kind }
+        ensures class { result.class ≡ class }
+    {
+        Ticket {
+            key,
+            kind: kind as u8,
+            class: class as u8,
+        }
+    }
+}
+
+impl Ordered for Ticket {
+    ghost order = { λ ticket. record { kind = ticket.kind; class = ticket.class } };
+
+    #[inline]
+    fn kind(&self) -> usize {
+        self.kind as usize
+    }
+
+    #[inline]
+    fn class(&self) -> u32 {
+        self.class as u32
+    }
+}
