@@ -1,9 +1,10 @@
 -- The writes of the labels in flight: one for each, in order; one more, and one that is taken out.
 use Rattle.std.proofs.Common.{◌≡◌, ℕ, zero, suc, ◌+◌, ◌<◌, ◌≤◌, Bool, true, false, Option, Some, None, List, [], ◌∷◌, ◌++◌, length, map, take, refl, sym, ap, ◌∙◌, subst, arith}
-use Rattle.std.specs.Prelude.{remove, slice_get, slice_index_or, option_map}
+use Rattle.std.specs.Prelude.{if◌then◌else◌, remove, slice_get, slice_index_or, option_map}
 use Rattle.std.specs.List.{AllByRecursion}
 use Rattle.std.proofs.lemmas.Option.{none-some, same_Some}
 use Rattle.std.proofs.lemmas.List.{append-nil, length-append, get_or_append_left}
+use Rattle.std.proofs.lemmas.List.Sums.{sum_by-cons}
 use Rattle.order_rules.specs.Order.{Order}
 use Rattle.step_kinds.specs.Sides.{other_side}
 use Rattle.step_kinds.specs.declared.names.Side.{Side}
@@ -104,7 +105,7 @@ abbrev pub SentGrows : (ℕ → List Entry) → (ℕ → List Entry) → Type 0
 SentGrows sent sent' = (queue : ℕ) → (more : List Entry) × (sent' queue ≡ sent queue ++ more)
 
 entry-grows : (old new more : List Entry) (n : ℕ) → new ≡ old ++ more → n < length old → slice_index_or new n GoesDown ≡ slice_index_or old n GoesDown
-entry-grows old new more n grows within = ap (λ entries. slice_index_or entries n GoesDown) grows ∙ get_or_append_left old more n GoesDown within
+entry-grows old new more n grows within = ap (λ entries. slice_index_or entries n GoesDown) grows ∙ get_or_append_left old more GoesDown n within
 
 length-grows : (old new more : List Entry) (n : ℕ) → new ≡ old ++ more → n < length old → n < length new
 length-grows old new more n grows within = rw grows (rw length-append (omega arith))
@@ -135,9 +136,97 @@ poked_left labels poked place label = poked_without (record idle_side { flight =
 abbrev pub poked_at : List Label → List (List ℕ) → ℕ → List ℕ
 poked_at labels poked place = slice_index_or poked (raws_before labels place) []
 
-none-before : (n : ℕ) → 0 + n ≡ n
-none-before n = omega arith
+abbrev is_raw : Label → Bool
+is_raw (Raw window offset len) = true
+is_raw label = false
 
-one-before : (n : ℕ) → 1 + n ≡ suc n
-one-before n = omega arith
+before-cons : (first : Label) (labels : List Label) (place : ℕ) → raws_before (first ∷ labels) (suc place) ≡ (if is_raw first then 1 else 0) + raws_before labels place
+before-cons first labels place = sum_by-cons (λ label. if is_raw label then 1 else 0) first (take place labels)
 
+one-before : (window offset len : ℕ) (labels : List Label) (place : ℕ) → raws_before (Raw window offset len ∷ labels) (suc place) ≡ suc (raws_before labels place)
+one-before window offset len labels place = let e = before-cons (Raw window offset len) labels place in omega (arith, e)
+
+abbrev IsNotRaw : Label → Type 0
+IsNotRaw (Raw window offset len) = ⊥
+IsNotRaw label = Unit {0}
+
+none-counted : (first : Label) → IsNotRaw first → ◌≡◌ {A = ℕ} (if is_raw first then 1 else 0) 0
+none-counted (Raw window offset len) other = absurd other
+none-counted first other = refl
+
+left-behind_raw : (window offset len : ℕ) (labels : List Label) (one : List ℕ) (poked : List (List ℕ)) (place : ℕ) (label : Label)
+    → poked_left (Raw window offset len ∷ labels) (one ∷ poked) (suc place) label ≡ one ∷ poked_left labels poked place label
+left-behind_raw window offset len labels one poked place (Raw window' offset' len') = ap (remove (one ∷ poked)) (one-before window offset len labels place)
+left-behind_raw window offset len labels one poked place label = refl
+
+at-behind_raw : (window offset len : ℕ) (labels : List Label) (one : List ℕ) (poked : List (List ℕ)) (place : ℕ)
+    → poked_at (Raw window offset len ∷ labels) (one ∷ poked) (suc place) ≡ poked_at labels poked place
+at-behind_raw window offset len labels one poked place = ap (λ n. slice_index_or (one ∷ poked) n []) (one-before window offset len labels place)
+
+raws-behind : (first : Label) (labels : List Label) (place : ℕ) → IsNotRaw first → raws_before (first ∷ labels) (suc place) ≡ raws_before labels place
+raws-behind first labels place other = let e = before-cons first labels place in let none = none-counted first other in omega (arith, e, none)
+
+left-behind : (first : Label) (labels : List Label) (poked : List (List ℕ)) (place : ℕ) (label : Label) → IsNotRaw first
+    → poked_left (first ∷ labels) poked (suc place) label ≡ poked_left labels poked place label
+left-behind first labels poked place (Raw window offset len) other = ap (remove poked) (raws-behind first labels place other)
+left-behind first labels poked place label other = refl
+
+at-behind : (first : Label) (labels : List Label) (poked : List (List ℕ)) (place : ℕ) → IsNotRaw first → poked_at (first ∷ labels) poked (suc place) ≡ poked_at labels poked place
+at-behind first labels poked place other = ap (λ n. slice_index_or poked n []) (raws-behind first labels place other)
+
+-- the label at the front
+left-first : (first : Label) (labels : List Label) (poked : List (List ℕ)) → HaveBytes (first ∷ labels) poked → poked_left (first ∷ labels) poked zero first ≡ raws_behind first poked
+left-first (Raw window offset len) labels [] have = absurd have
+left-first (Raw window offset len) labels (one ∷ poked) have = refl
+left-first first labels poked have = refl
+
+have-first : (first : Label) (labels : List Label) (poked : List (List ℕ)) → HaveBytes (first ∷ labels) poked → HaveBytes labels (raws_behind first poked)
+have-first (Raw window offset len) labels [] have = absurd have
+have-first (Raw window offset len) labels (one ∷ poked) have = have
+have-first first labels poked have = have
+
+module _ (plan : PairPlan) (side : Side) (sent : ℕ → List Entry) where
+  flying-first : (first : Label) (labels : List Label) (poked : List (List ℕ)) → HaveBytes (first ∷ labels) poked
+      → flying_labelled plan side sent (raw_bytes first poked) first ≡ flying_labelled plan side sent (poked_at (first ∷ labels) poked zero) first
+  flying-first (Raw window offset len) labels [] have = absurd have
+  flying-first (Raw window offset len) labels (one ∷ poked) have = refl
+  flying-first first labels poked have = refl
+
+  -- the write at a place
+  pub writes-get : (labels : List Label) (poked : List (List ℕ)) (place : ℕ) (label : Label) → HaveBytes labels poked → slice_get labels place ≡ Some label
+      → slice_get (writes_labelled plan side sent labels poked) place ≡ Some (flying_labelled plan side sent (poked_at labels poked place) label)
+  writes-get [] poked place label have at = absurd (none-some label at)
+  writes-get (first ∷ labels) poked zero label have at =
+      ap Some (flying-first first labels poked have) ∙ ap (λ (l : Label). Some (flying_labelled plan side sent (poked_at (first ∷ labels) poked zero) l)) (same_Some first label at)
+  writes-get (Raw window offset len ∷ labels) [] (suc place) label have at = absurd have
+  writes-get (Raw window offset len ∷ labels) (one ∷ poked) (suc place) label have at =
+      writes-get labels poked place label have at ∙ ap (λ bytes. Some (flying_labelled plan side sent bytes label)) (sym (at-behind_raw window offset len labels one poked place))
+  writes-get (first ∷ labels) poked (suc place) label have at =
+      writes-get labels poked place label have at ∙ ap (λ bytes. Some (flying_labelled plan side sent bytes label)) (sym (at-behind first labels poked place tt))
+
+  -- and the others without it
+  pub writes-remove : (labels : List Label) (poked : List (List ℕ)) (place : ℕ) (label : Label) → HaveBytes labels poked → slice_get labels place ≡ Some label
+      → writes_labelled plan side sent (remove labels place) (poked_left labels poked place label) ≡ remove (writes_labelled plan side sent labels poked) place
+  writes-remove [] poked place label have at = absurd (none-some label at)
+  writes-remove (first ∷ labels) poked zero label have at =
+      ap (λ (l : Label). writes_labelled plan side sent labels (poked_left (first ∷ labels) poked zero l)) (sym (same_Some first label at))
+      ∙ ap (writes_labelled plan side sent labels) (left-first first labels poked have)
+  writes-remove (Raw window offset len ∷ labels) [] (suc place) label have at = absurd have
+  writes-remove (Raw window offset len ∷ labels) (one ∷ poked) (suc place) label have at =
+      ap (writes_labelled plan side sent (Raw window offset len ∷ remove labels place)) (left-behind_raw window offset len labels one poked place label)
+      ∙ ap (λ ws. flying_labelled plan side sent one (Raw window offset len) ∷ ws) (writes-remove labels poked place label have at)
+  writes-remove (first ∷ labels) poked (suc place) label have at =
+      ap (writes_labelled plan side sent (first ∷ remove labels place)) (left-behind first labels poked place label tt)
+      ∙ ap (λ ws. flying_labelled plan side sent [] first ∷ ws) (writes-remove labels poked place label have at)
+
+pub have-remove : (labels : List Label) (poked : List (List ℕ)) (place : ℕ) (label : Label) → HaveBytes labels poked → slice_get labels place ≡ Some label
+    → HaveBytes (remove labels place) (poked_left labels poked place label)
+have-remove [] poked place label have at = absurd (none-some label at)
+have-remove (first ∷ labels) poked zero label have at =
+    subst (λ (l : Label). HaveBytes labels (poked_left (first ∷ labels) poked zero l)) (same_Some first label at)
+    (subst (HaveBytes labels) (sym (left-first first labels poked have)) (have-first first labels poked have))
+have-remove (Raw window offset len ∷ labels) [] (suc place) label have at = absurd have
+have-remove (Raw window offset len ∷ labels) (one ∷ poked) (suc place) label have at =
+    subst (HaveBytes (Raw window offset len ∷ remove labels place)) (sym (left-behind_raw window offset len labels one poked place label)) (have-remove labels poked place label have at)
+have-remove (first ∷ labels) poked (suc place) label have at =
+    subst (HaveBytes (first ∷ remove labels place)) (sym (left-behind first labels poked place label tt)) (have-remove labels poked place label have at)
