@@ -1,5 +1,7 @@
+pub mod Aside
 pub mod Flights
 pub mod Follows
 pub mod Links
+pub mod Posting
 pub mod Registers
 pub mod StoredBytes

@@ -64,7 +64,7 @@ passed_where true refusal passed = refl
 passed_where false refusal passed = cc
 
 -- a link that is up or closing isn't down
-not_down_up : (state : LinkState) → is_up state ≡ true → is_down state ≡ false
+pub not_down_up : (state : LinkState) → is_up state ≡ true → is_down state ≡ false
 not_down_up Down up = absurd (false≢true up)
 not_down_up Up up = refl
 not_down_up Closing up = absurd (false≢true up)
