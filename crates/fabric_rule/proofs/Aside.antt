@@ -33,6 +33,7 @@ use Rattle.fabric_rule.proofs.Flights.{labels-writes, length-writes}
 use Rattle.fabric_rule.proofs.Follows.{AllSides, Follows, by_side, state_for}
 use Rattle.fabric_rule.proofs.Links.{not_down_up}
 use Rattle.fabric_rule.proofs.Posting.{one_more_plain, one_more_write, side_posts, side_posts_raw, with_writes}
+use Rattle.fabric_rule.proofs.RingPlaces.{in_window}
 use Rattle.fabric_rule.proofs.StoredBytes.{read_inside}
 
 module _ (devs : List DevPlan) (plan : PairPlan) (k : ℕ) (site : Site) (pages : Both (List ℕ)) (spare : Both ℕ) (queues : Both (List QueuePart))
@@ -64,8 +65,8 @@ module _ (devs : List DevPlan) (plan : PairPlan) (k : ℕ) (site : Site) (pages 
   -- Raw bytes
 
   poke_place : (side : Side) (window offset : ℕ) (bytes : List ℕ) → IsPoke plan side window offset bytes → window * (side_plan plan (other_side side)).cap + offset + length bytes ≤ memory_size plan (other_side side)
-  poke_place A window offset bytes fits = ?
-  poke_place B window offset bytes fits = ?
+  poke_place A window offset bytes fits = in_window window plan.b.windows plan.b.cap offset (length bytes) fits.windows.1 (omega (arith, fits.within))
+  poke_place B window offset bytes fits = in_window window plan.a.windows plan.a.cap offset (length bytes) fits.windows.0 (omega (arith, fits.within))
 
   poke_at : (side : Side) (window offset : ℕ) (bytes : List ℕ) (up : Bool) → IsPoke plan side window offset bytes → is_up site.pair.link.state ≡ up
       → Follows devs plan k site (Poke k side window offset bytes)

@@ -1,7 +1,9 @@
 pub mod Aside
 pub mod Flights
 pub mod Follows
+pub mod Handshake
 pub mod Links
 pub mod Posting
 pub mod Registers
+pub mod RingPlaces
 pub mod StoredBytes
