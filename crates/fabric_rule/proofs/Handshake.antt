@@ -260,5 +260,5 @@ module _ (devs : List DevPlan) (plan : PairPlan) (k : ℕ) (site : Site) (pages 
 
   pub check_follows : (side : Side) → IsPair plan → (check_refusal (side_plan plan side) (side_of site.pair side) (link_up site.pair) ≡ None → (side_plan plan (other_side side)).size ≤ (side_plan plan side).cap)
       → Follows devs plan k site (Check k side) (check_step plan site.pair side) (check_move state side)
-  check_follows A declared fits = check_as A (check_answer state.bridge A) (check_refusal plan.a site.pair.sides.a (link_up site.pair)) declared fits (?)
-  check_follows B declared fits = check_as B (check_answer state.bridge B) (check_refusal plan.b site.pair.sides.b (link_up site.pair)) declared fits (?)
+  check_follows A declared fits = check_as A (check_answer state.bridge A) (check_refusal plan.a site.pair.sides.a (link_up site.pair)) declared fits (same_check (not (is_up site.pair.link.state)) site.pair.sides.a.up (pad_in site.pair.sides.a version_pad == 0) (not (pad_in site.pair.sides.a version_pad == plan.a.version) && (nat_lt (pad_in site.pair.sides.a version_pad) 4 || nat_lt plan.a.version 4)) (not (pad_in site.pair.sides.a queues_pad == plan.a.queues)) (not (pad_in site.pair.sides.a windows_pad == plan.a.windows)) (find (λ m. nat_lt plan.a.cap (size_in site.pair.sides.a m)) (count_from 0 plan.a.windows)) (pad_in site.pair.sides.a version_pad) plan.a.version (pad_in site.pair.sides.a queues_pad) plan.a.queues (pad_in site.pair.sides.a windows_pad) plan.a.windows plan.a.cap (size_in site.pair.sides.a))
+  check_follows B declared fits = check_as B (check_answer state.bridge B) (check_refusal plan.b site.pair.sides.b (link_up site.pair)) declared fits (same_check (not (is_up site.pair.link.state)) site.pair.sides.b.up (pad_in site.pair.sides.b version_pad == 0) (not (pad_in site.pair.sides.b version_pad == plan.b.version) && (nat_lt (pad_in site.pair.sides.b version_pad) 4 || nat_lt plan.b.version 4)) (not (pad_in site.pair.sides.b queues_pad == plan.b.queues)) (not (pad_in site.pair.sides.b windows_pad == plan.b.windows)) (find (λ m. nat_lt plan.b.cap (size_in site.pair.sides.b m)) (count_from 0 plan.b.windows)) (pad_in site.pair.sides.b version_pad) plan.b.version (pad_in site.pair.sides.b queues_pad) plan.b.queues (pad_in site.pair.sides.b windows_pad) plan.b.windows plan.b.cap (size_in site.pair.sides.b))
