@@ -4,6 +4,7 @@ pub mod Follows
 pub mod Handshake
 pub mod Links
 pub mod Posting
+pub mod Queues
 pub mod Registers
 pub mod RingPlaces
 pub mod StoredBytes
