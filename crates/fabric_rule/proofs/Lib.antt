@@ -8,3 +8,4 @@ pub mod Queues
 pub mod Registers
 pub mod RingPlaces
 pub mod StoredBytes
+pub mod WhatIsRead
