@@ -1,8 +1,11 @@
 pub mod Aside
+pub mod Counts
 pub mod Flights
 pub mod Follows
 pub mod Handshake
 pub mod Links
+pub mod Looking
+pub mod OneQueue
 pub mod Posting
 pub mod Queues
 pub mod Registers

@@ -126,7 +126,7 @@ port_plan : (plan : PairPlan) (side : Side) (queue : ℕ) (forgotten : Bool) (vi
 port_plan plan side queue true view entry port is = ap (λ (port : PortState). fresh_port port.plan port.side port.queue) is
 port_plan plan side queue false view entry port is = ap (λ (port : PortState). fresh_port port.plan port.side port.queue) is
 
-no_bits : (queue : ℕ) → has_bit 0 queue ≡ false
+pub no_bits : (queue : ℕ) → has_bit 0 queue ≡ false
 no_bits queue = ap (λ b. b == 1) (bit_at-zero queue)
 
 -- the lanes of a queue whose side forgets the session
