@@ -92,3 +92,13 @@ updated_same g f k x same j = elim (cases_eq j k) [
   | inl e ↦ ap (λ b. g (if b then x else f j)) (eq-eqb j k e) ∙ same ∙ ap (λ i. g (f i)) (sym e)
   | inr ne ↦ ap g (updated_other f k x j ne)
 ]
+
+-- a field of a function with another value at one number
+pub updated_field : {X Y : Type 0} (g : X → Y) (f : ℕ → X) (k : ℕ) (x : X) (j : ℕ) → g (updated f k x j) ≡ updated (λ i. g (f i)) k (g x) j
+updated_field g f k x j = elim (j == k) as (λ b. g (if b then x else f j) ≡ (if b then g x else g (f j))) [ true ↦ refl | false ↦ refl ]
+
+pub three_same : {X Y Z W : Type 0} (f : X → Y → Z → W) {x x' : X} {y y' : Y} {z z' : Z} → x ≡ x' → y ≡ y' → z ≡ z' → f x y z ≡ f x' y' z'
+three_same f p q r = λ i. f (p i) (q i) (r i)
+
+pub two_same : {X Y W : Type 0} (f : X → Y → W) {x x' : X} {y y' : Y} → x ≡ x' → y ≡ y' → f x y ≡ f x' y'
+two_same f p q = λ i. f (p i) (q i)

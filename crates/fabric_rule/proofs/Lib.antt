@@ -1,4 +1,5 @@
 pub mod Aside
+pub mod Copying
 pub mod Counts
 pub mod Flights
 pub mod Follows
