@@ -3,6 +3,7 @@ pub mod Copying
 pub mod Counts
 pub mod Flights
 pub mod Follows
+pub mod GivingBack
 pub mod Handshake
 pub mod Links
 pub mod Looking
@@ -11,5 +12,6 @@ pub mod Posting
 pub mod Queues
 pub mod Registers
 pub mod RingPlaces
+pub mod RingPosts
 pub mod StoredBytes
 pub mod WhatIsRead
