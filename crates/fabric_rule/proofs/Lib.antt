@@ -1,10 +1,12 @@
 pub mod Aside
+pub mod Begun
 pub mod Copying
 pub mod Counts
 pub mod Flights
 pub mod Follows
 pub mod GivingBack
 pub mod Handshake
+pub mod Landing
 pub mod Links
 pub mod Looking
 pub mod OneQueue
