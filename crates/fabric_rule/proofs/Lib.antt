@@ -11,6 +11,7 @@ pub mod Links
 pub mod Looking
 pub mod OneQueue
 pub mod Posting
+pub mod PostingNext
 pub mod Queues
 pub mod Registers
 pub mod RingPlaces
