@@ -1,9 +1,11 @@
 pub mod Aside
+pub mod Beginning
 pub mod Begun
 pub mod Copying
 pub mod Counts
 pub mod Flights
 pub mod Follows
+pub mod Gates
 pub mod GivingBack
 pub mod Handshake
 pub mod Landing
