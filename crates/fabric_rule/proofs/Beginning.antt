@@ -34,9 +34,12 @@ use Rattle.ledger_model.specs.Sending.{begin_step, counts_accepted, counts_refus
 use Rattle.memory_model.specs.Memory.{Site, bytes_of_site}
 use Rattle.bridge_pair.specs.Bridge.{Bridge, memory_size}
 use Rattle.frame_ring.specs.Port.{PortState, Sending, with_sending}
-use Rattle.frame_ring.specs.Calls.{entries_begun, free_answer, where_begun}
+use Rattle.frame_ring.specs.Calls.{begin_answer as port_begin_answer, after_begin as port_after_begin, down_answer, after_down, entries_begun, free_answer, where_begun}
 use Rattle.queue_pair.specs.Gates.{answer_unless, begin_answer, after_begin, qpdown_answer, after_qpdown, closed_where_begun, port_unless}
 use Rattle.queue_pair.specs.Queue.{QueueState, with_port}
+use Rattle.queue_pair.specs.declared.BeginAnswer.{BeginAnswer}
+use Rattle.step_kinds.specs.declared.lanes.Begun.{Begun}
+use Rattle.frame_ring.specs.Seen.{bytes_seen}
 use Rattle.fabric_rule.specs.Answers.{of_begin, of_xbegin}
 use Rattle.fabric_rule.specs.InPlace.{FitsSlot, SendingEnd, SendingInPlace, last_entry, receiver_of, sender_of}
 use Rattle.fabric_rule.specs.Moves.{Move, accepted_where_begun, begin_move, qpdown_move, xbegin_move, xbegun, wake_move}
@@ -107,6 +110,14 @@ module _ (devs : List DevPlan) (plan : PairPlan) (k : ℕ) (now : Standing devs 
         stops = inr fits;
       })
 
+  -- the part of a queue on which a frame was begun and accepted
+  abbrev accepted_part : Side → ℕ → Entry → List Entry → QueuePart
+  accepted_part side queue first others =
+      record (part side queue) {
+        queue = record { port = port_with side queue first others ((lane_of now.site.pair side queue).told + 1); closed = has_bit (side_of now.site.pair side).closed queue };
+        accepted = one_more (part side queue).accepted now.site.pair.link.session;
+      }
+
   -- the frames accepted, with one more in the session
   abbrev one_accepted : Side → ℕ → Tally
   one_accepted side queue = record (tally_of now.site.pair side queue now.site.pair.link.session) { accepted = (tally_of now.site.pair side queue now.site.pair.link.session).accepted + 1 }
@@ -144,3 +155,173 @@ module _ (devs : List DevPlan) (plan : PairPlan) (k : ℕ) (now : Standing devs 
   tests side queue len needed long stopped joined index =
       refusal_says (is_up now.site.pair.link.state) joined (has_bit (side_of now.site.pair side).closed queue) long (is_lane_busy (lane_of now.site.pair side queue)) stopped (is_full side queue needed index) len
       (sizes_of plan side queue).most (head_in (sizes_of plan side queue) (lane_of now.site.pair side queue)) index
+
+  begin_core : (side : Side) (queue : ℕ) (frame : List ℕ) (pieces : List Entry) (refusal : Option Answer) (said : Answer) (begun : BeginAnswer) (joined busy full : Bool) (q after : QueueState) (new : PortState) → (part side queue).queue ≡ q
+      → (joined ≡ true → PairStands devs plan k (record site { pair = counts_accepted (with_lane now.site.pair side queue (lane_begun queue (lane_of now.site.pair side queue) pieces)) side queue }) (begin_says side queue frame (answer.OkNumber (lane_of now.site.pair side queue).told) (with_port q new)).after)
+      → Passes joined busy full said begun refusal (lane_of now.site.pair side queue).told q new after ⊎ Refuses false said begun refusal q after
+      → Follows devs plan k site (Begin k side queue frame) (begin_made side queue frame pieces refusal) (begin_says side queue frame said after)
+  begin_core side queue frame pieces refusal said begun joined busy full q after new is ok (inl passes) =
+      subst (λ refusal. Follows devs plan k site (Begin k side queue frame) (begin_made side queue frame pieces refusal) (begin_says side queue frame said after)) (sym passes.none)
+      (subst (λ said. Follows devs plan k site (Begin k side queue frame) (begin_made side queue frame pieces None) (begin_says side queue frame said after)) (sym passes.said_is)
+      (subst (λ (after : QueueState). Follows devs plan k site (Begin k side queue frame) (begin_made side queue frame pieces None) (begin_says side queue frame (answer.OkNumber (lane_of now.site.pair side queue).told) after)) (sym passes.after_is) (refl, ok passes.is_joined)))
+  begin_core side queue frame pieces refusal said begun joined busy full q after new is ok (inr refuses) =
+      subst (λ refusal. Follows devs plan k site (Begin k side queue frame) (begin_made side queue frame pieces refusal) (begin_says side queue frame said after)) (sym refuses.refusal_is)
+      (refl, subst (λ (part : QueuePart). PairStands devs plan k site (with_queue kept side queue part))
+      (sym (ap (λ (after : QueueState). accepted_where_begun said now.site.pair.link.session (part_with devs plan k now side queue after)) (refuses.after_is refl) ∙ not_accepted said now.site.pair.link.session (part_with devs plan k now side queue q) refuses.not_ok))
+      (unchanged devs plan k now side queue q is))
+
+  -- the move of a begin by its queue pair
+  abbrev begin_with : Side → ℕ → List ℕ → QueueState → Move
+  begin_with side queue frame q = begin_says side queue frame (of_begin (begin_answer q kept.bridge (length frame))) (after_begin q kept.bridge frame)
+
+  abbrev seen_word : Side → ℕ → ℕ
+  seen_word side queue = index_word_in plan (bytes_seen kept.bridge) side queue
+
+  abbrev needs : Side → ℕ → List ℕ → ℕ
+  needs side queue frame = pieces_in (sizes_of plan side queue).largest (length frame)
+
+  abbrev is_long : Side → ℕ → List ℕ → Bool
+  is_long side queue frame = nat_lt (sizes_of plan side queue).most (length frame)
+
+  abbrev port_new : Side → ℕ → List Entry → PortState
+  port_new side queue pieces =
+      with_sending (port_queue side queue false).port (record (entries_begun queue (port_queue side queue false).port.sending pieces) { told = (lane_of now.site.pair side queue).told + 1 })
+
+  abbrev says : Side → ℕ → Bool → Bool → Bool → ℕ → ℕ → ℕ → Begun
+  says side queue long busy full len index told = port_says long busy full len (sizes_of plan side queue).most (head_in (sizes_of plan side queue) (lane_of now.site.pair side queue)) index told
+
+  abbrev says_frame : Side → ℕ → List ℕ → Begun
+  says_frame side queue frame = says side queue (is_long side queue frame) (is_lane_busy (lane_of now.site.pair side queue)) (is_full side queue (needs side queue frame) (seen_word side queue)) (length frame) (seen_word side queue) (lane_of now.site.pair side queue).told
+
+  abbrev side_refuses : Side → ℕ → Bool → Option BeginAnswer
+  side_refuses side queue joined = side_says (is_up now.site.pair.link.state) joined (has_bit (side_of now.site.pair side).closed queue)
+
+  -- the tests of a frame by the index word that the ledger reads, and by the one that the port sees
+  abbrev BeginAt : Side → ℕ → List ℕ → List Entry → Bool → ℕ → Type 0
+  BeginAt side queue frame pieces joined index =
+      Follows devs plan k site (Begin k side queue frame) (begin_made side queue frame pieces (tests side queue (length frame) (needs side queue frame) (is_long side queue frame) false joined index))
+      (begin_says side queue frame (of_begin (answer_unless (side_refuses side queue joined) (says_frame side queue frame)))
+      (port_unless (side_refuses side queue joined) (port_queue side queue false) (where_begun (port_queue side queue false).port (port_new side queue pieces) (says_frame side queue frame))))
+
+  begin_read : (side : Side) (queue : ℕ) (frame : List ℕ) (pieces : List Entry) (joined : Bool) → (joined ≡ true → seen_word side queue ≡ reads.index_word side queue) → BeginAt side queue frame pieces joined (seen_word side queue) → BeginAt side queue frame pieces joined (reads.index_word side queue)
+  begin_read side queue frame pieces true same at_seen = subst (BeginAt side queue frame pieces true) (same refl) at_seen
+  begin_read side queue frame pieces false same at_seen = at_seen
+
+  -- the other side, where a lane of this one has other entries and another tally
+  others_A : (queue : ℕ) (lane : LanePart) → queue < plan.a.queues → receiver_of lane ≡ receiver_of (site.pair.lanes.a queue)
+      → SideStands devs plan k B (is_down site.pair.link.state) (has_forgotten site.pair.link B) site.pair.sides.b.joined site.pair.sides.b.flight site.pair.sides.b.poked
+      (λ other. record (view_of site.pair B other) { receives = receiver_of (updated site.pair.lanes.a queue lane other); delivered = λ session. (updated site.pair.tallies.a queue (more_accepted A queue) other session).delivered }) now.queues.b
+  others_A queue lane among same =
+      side_same devs plan k B _ _ _ _ _ (view_of site.pair B) _ now.queues.b
+      (λ other.
+      two_same (λ r d. record (view_of site.pair B other) { receives = r; delivered = d }) (updated_same receiver_of site.pair.lanes.a queue lane same other)
+      (updated_same (λ (tally : ℕ → Tally). λ session. (tally session).delivered) site.pair.tallies.a queue (more_accepted A queue)
+      (same_at (updated_same (λ (tally : Tally). tally.delivered) (site.pair.tallies.a queue) site.pair.link.session (one_accepted A queue) refl)) other)) (now.sides B)
+
+  -- the sides once a frame was begun
+  begin_ok_A : (queue : ℕ) (first : Entry) (others : List Entry) → queue < plan.a.queues → has_forgotten site.pair.link A ≡ false → SizesFit plan → AllByRecursion (FitsSlot plan A queue) (first ∷ others)
+      → PairStands devs plan k (record site { pair = counts_accepted (with_lane site.pair A queue (lane_with A queue first others ((site.pair.lanes.a queue).told + 1))) A queue })
+      (with_queue kept A queue (accepted_part A queue first others))
+  begin_ok_A queue first others among fresh fits all =
+      let lane = lane_with A queue first others ((site.pair.lanes.a queue).told + 1) in
+      record {
+        bridge = bridge_same plan site.pair.link site.pair.sides (all_sent site.pair.lanes) (record { a = sent_of (updated site.pair.lanes.a queue lane); b = sent_of site.pair.lanes.b }) site.stores (sym (writes_grow plan A (sent_of site.pair.lanes.a) (sent_of (updated site.pair.lanes.a queue lane)) (grows_at site.pair.lanes.a queue lane (first ∷ []) refl) site.pair.sides.a.flight site.pair.sides.a.poked (now.sides A).in_flight.begun)) refl;
+        link = now.link;
+        sides =
+            by_side _ (side_at devs plan k A _ _ _ _ _ _ _ (view_of site.pair A) _ now.queues.a queue (accepted_part A queue first others) among
+            (λ other ne. two_same (λ (l : LanePart) (t : ℕ → Tally). record (view_of site.pair A other) { sends = sender_of l; accepted = λ session. (t session).accepted }) (updated_other site.pair.lanes.a queue lane other ne) (updated_other site.pair.tallies.a queue (more_accepted A queue) other ne))
+            (flight_grows plan A (sent_of site.pair.lanes.a) (sent_of (updated site.pair.lanes.a queue lane)) (grows_at site.pair.lanes.a queue lane (first ∷ []) refl) site.pair.sides.a.flight site.pair.sides.a.poked (is_down site.pair.link.state) (now.sides A).in_flight)
+            (subst (λ (v : QueueView). QueueStands devs plan k A queue (has_forgotten site.pair.link A) v (accepted_part A queue first others))
+            (sym (two_same (λ (l : LanePart) (t : ℕ → Tally). record (view_of site.pair A queue) { sends = sender_of l; accepted = λ session. (t session).accepted }) (updated_here site.pair.lanes.a queue lane) (updated_here site.pair.tallies.a queue (more_accepted A queue))))
+            (begins A queue first others ((site.pair.lanes.a queue).told + 1) (has_bit site.pair.sides.a.closed queue) (has_bit site.pair.sides.a.closed queue) (part A queue).flow (part A queue).counters (one_more (part A queue).accepted site.pair.link.session) (site.pair.devs.a queue)
+            (λ session. (more_accepted A queue session).accepted) among fresh fits all.0 all.1 refl ((now.sides A).queues queue among).stopped refl refl ((now.sides A).queues queue among).counters (counts_one A queue among))) (now.sides A)) (others_A queue lane among refl);
+      }
+
+  begin_fresh_A : (queue : ℕ) (frame : List ℕ) (pieces : List Entry) (joined : Bool) → queue < plan.a.queues → has_forgotten site.pair.link A ≡ false → (joined ≡ true → SizesFit plan) → pieces_of (sizes_of plan A queue).largest frame ≡ pieces → AllByRecursion (FitsSlot plan A queue) pieces
+      → BeginAt A queue frame pieces joined (seen_word A queue)
+  begin_fresh_A queue frame [] joined among fresh fits is all = absurd (is_some_piece (sizes_of plan A queue).largest frame is)
+  begin_fresh_A queue frame (first ∷ others) joined among fresh fits is all =
+      begin_core A queue frame (first ∷ others) _ _ _ joined _ _ (port_queue A queue false) _ (port_new A queue (first ∷ others)) (is_queue devs plan k now A queue false among fresh)
+      (λ yes. begin_ok_A queue first others among fresh (fits yes) all)
+      (gates (length frame) (sizes_of plan A queue).most (head_in (sizes_of plan A queue) (site.pair.lanes.a queue)) (seen_word A queue) (site.pair.lanes.a queue).told (port_queue A queue false) (port_new A queue (first ∷ others))
+      (is_up site.pair.link.state) joined (has_bit site.pair.sides.a.closed queue) (is_long A queue frame) (is_lane_busy (site.pair.lanes.a queue)) false (is_full A queue (needs A queue frame) (seen_word A queue)))
+
+  begin_by_A : (queue : ℕ) (frame : List ℕ) (forgotten : Bool) → queue < plan.a.queues → has_forgotten site.pair.link A ≡ forgotten → (has_bit site.pair.sides.a.joined queue ≡ true → SizesFit plan)
+      → Follows devs plan k site (Begin k A queue frame) (begin_step (sizes_of plan A queue) reads site.pair A queue frame) (begin_with A queue frame (port_queue A queue forgotten))
+  begin_by_A queue frame true among forgot fits =
+      subst (λ up. Follows devs plan k site (Begin k A queue frame)
+      (begin_made A queue frame (pieces_of (sizes_of plan A queue).largest frame)
+      (refusal_says up (has_bit site.pair.sides.a.joined queue) (has_bit site.pair.sides.a.closed queue) (is_long A queue frame) (is_lane_busy (site.pair.lanes.a queue)) false
+      (is_full A queue (needs A queue frame) (reads.index_word A queue)) (length frame) (sizes_of plan A queue).most (head_in (sizes_of plan A queue) (site.pair.lanes.a queue)) (reads.index_word A queue)))
+      (begin_says A queue frame
+      (of_begin (answer_unless (side_says up (has_bit site.pair.sides.a.joined queue) (has_bit site.pair.sides.a.closed queue)) (port_begin_answer (port_queue A queue true).port kept.bridge (length frame))))
+      (port_unless (side_says up (has_bit site.pair.sides.a.joined queue) (has_bit site.pair.sides.a.closed queue)) (port_queue A queue true) (port_after_begin (port_queue A queue true).port kept.bridge frame))))
+      (sym (not_up A forgot)) (refl, unchanged devs plan k now A queue (port_queue A queue true) (is_queue devs plan k now A queue true among forgot))
+  begin_by_A queue frame false among fresh fits =
+      begin_read A queue frame (pieces_of (sizes_of plan A queue).largest frame) (has_bit site.pair.sides.a.joined queue)
+      (λ joined. same_word plan site now.pages now.spare A queue now.declared among (own_fits plan (fits joined) A))
+      (begin_fresh_A queue frame (pieces_of (sizes_of plan A queue).largest frame) (has_bit site.pair.sides.a.joined queue) among fresh fits refl (pieces_fit (sizes_of plan A queue).largest frame))
+
+  -- the other side, where a lane of this one has other entries and another tally
+  others_B : (queue : ℕ) (lane : LanePart) → queue < plan.b.queues → receiver_of lane ≡ receiver_of (site.pair.lanes.b queue)
+      → SideStands devs plan k A (is_down site.pair.link.state) (has_forgotten site.pair.link A) site.pair.sides.a.joined site.pair.sides.a.flight site.pair.sides.a.poked
+      (λ other. record (view_of site.pair A other) { receives = receiver_of (updated site.pair.lanes.b queue lane other); delivered = λ session. (updated site.pair.tallies.b queue (more_accepted B queue) other session).delivered }) now.queues.a
+  others_B queue lane among same =
+      side_same devs plan k A _ _ _ _ _ (view_of site.pair A) _ now.queues.a
+      (λ other.
+      two_same (λ r d. record (view_of site.pair A other) { receives = r; delivered = d }) (updated_same receiver_of site.pair.lanes.b queue lane same other)
+      (updated_same (λ (tally : ℕ → Tally). λ session. (tally session).delivered) site.pair.tallies.b queue (more_accepted B queue)
+      (same_at (updated_same (λ (tally : Tally). tally.delivered) (site.pair.tallies.b queue) site.pair.link.session (one_accepted B queue) refl)) other)) (now.sides A)
+
+  -- the sides once a frame was begun
+  begin_ok_B : (queue : ℕ) (first : Entry) (others : List Entry) → queue < plan.b.queues → has_forgotten site.pair.link B ≡ false → SizesFit plan → AllByRecursion (FitsSlot plan B queue) (first ∷ others)
+      → PairStands devs plan k (record site { pair = counts_accepted (with_lane site.pair B queue (lane_with B queue first others ((site.pair.lanes.b queue).told + 1))) B queue })
+      (with_queue kept B queue (accepted_part B queue first others))
+  begin_ok_B queue first others among fresh fits all =
+      let lane = lane_with B queue first others ((site.pair.lanes.b queue).told + 1) in
+      record {
+        bridge = bridge_same plan site.pair.link site.pair.sides (all_sent site.pair.lanes) (record { a = sent_of site.pair.lanes.a; b = sent_of (updated site.pair.lanes.b queue lane) }) site.stores refl (sym (writes_grow plan B (sent_of site.pair.lanes.b) (sent_of (updated site.pair.lanes.b queue lane)) (grows_at site.pair.lanes.b queue lane (first ∷ []) refl) site.pair.sides.b.flight site.pair.sides.b.poked (now.sides B).in_flight.begun));
+        link = now.link;
+        sides =
+            by_side _ (others_B queue lane among refl) (side_at devs plan k B _ _ _ _ _ _ _ (view_of site.pair B) _ now.queues.b queue (accepted_part B queue first others) among
+            (λ other ne. two_same (λ (l : LanePart) (t : ℕ → Tally). record (view_of site.pair B other) { sends = sender_of l; accepted = λ session. (t session).accepted }) (updated_other site.pair.lanes.b queue lane other ne) (updated_other site.pair.tallies.b queue (more_accepted B queue) other ne))
+            (flight_grows plan B (sent_of site.pair.lanes.b) (sent_of (updated site.pair.lanes.b queue lane)) (grows_at site.pair.lanes.b queue lane (first ∷ []) refl) site.pair.sides.b.flight site.pair.sides.b.poked (is_down site.pair.link.state) (now.sides B).in_flight)
+            (subst (λ (v : QueueView). QueueStands devs plan k B queue (has_forgotten site.pair.link B) v (accepted_part B queue first others))
+            (sym (two_same (λ (l : LanePart) (t : ℕ → Tally). record (view_of site.pair B queue) { sends = sender_of l; accepted = λ session. (t session).accepted }) (updated_here site.pair.lanes.b queue lane) (updated_here site.pair.tallies.b queue (more_accepted B queue))))
+            (begins B queue first others ((site.pair.lanes.b queue).told + 1) (has_bit site.pair.sides.b.closed queue) (has_bit site.pair.sides.b.closed queue) (part B queue).flow (part B queue).counters (one_more (part B queue).accepted site.pair.link.session) (site.pair.devs.b queue)
+            (λ session. (more_accepted B queue session).accepted) among fresh fits all.0 all.1 refl ((now.sides B).queues queue among).stopped refl refl ((now.sides B).queues queue among).counters (counts_one B queue among))) (now.sides B));
+      }
+
+  begin_fresh_B : (queue : ℕ) (frame : List ℕ) (pieces : List Entry) (joined : Bool) → queue < plan.b.queues → has_forgotten site.pair.link B ≡ false → (joined ≡ true → SizesFit plan) → pieces_of (sizes_of plan B queue).largest frame ≡ pieces → AllByRecursion (FitsSlot plan B queue) pieces
+      → BeginAt B queue frame pieces joined (seen_word B queue)
+  begin_fresh_B queue frame [] joined among fresh fits is all = absurd (is_some_piece (sizes_of plan B queue).largest frame is)
+  begin_fresh_B queue frame (first ∷ others) joined among fresh fits is all =
+      begin_core B queue frame (first ∷ others) _ _ _ joined _ _ (port_queue B queue false) _ (port_new B queue (first ∷ others)) (is_queue devs plan k now B queue false among fresh)
+      (λ yes. begin_ok_B queue first others among fresh (fits yes) all)
+      (gates (length frame) (sizes_of plan B queue).most (head_in (sizes_of plan B queue) (site.pair.lanes.b queue)) (seen_word B queue) (site.pair.lanes.b queue).told (port_queue B queue false) (port_new B queue (first ∷ others))
+      (is_up site.pair.link.state) joined (has_bit site.pair.sides.b.closed queue) (is_long B queue frame) (is_lane_busy (site.pair.lanes.b queue)) false (is_full B queue (needs B queue frame) (seen_word B queue)))
+
+  begin_by_B : (queue : ℕ) (frame : List ℕ) (forgotten : Bool) → queue < plan.b.queues → has_forgotten site.pair.link B ≡ forgotten → (has_bit site.pair.sides.b.joined queue ≡ true → SizesFit plan)
+      → Follows devs plan k site (Begin k B queue frame) (begin_step (sizes_of plan B queue) reads site.pair B queue frame) (begin_with B queue frame (port_queue B queue forgotten))
+  begin_by_B queue frame true among forgot fits =
+      subst (λ up. Follows devs plan k site (Begin k B queue frame)
+      (begin_made B queue frame (pieces_of (sizes_of plan B queue).largest frame)
+      (refusal_says up (has_bit site.pair.sides.b.joined queue) (has_bit site.pair.sides.b.closed queue) (is_long B queue frame) (is_lane_busy (site.pair.lanes.b queue)) false
+      (is_full B queue (needs B queue frame) (reads.index_word B queue)) (length frame) (sizes_of plan B queue).most (head_in (sizes_of plan B queue) (site.pair.lanes.b queue)) (reads.index_word B queue)))
+      (begin_says B queue frame
+      (of_begin (answer_unless (side_says up (has_bit site.pair.sides.b.joined queue) (has_bit site.pair.sides.b.closed queue)) (port_begin_answer (port_queue B queue true).port kept.bridge (length frame))))
+      (port_unless (side_says up (has_bit site.pair.sides.b.joined queue) (has_bit site.pair.sides.b.closed queue)) (port_queue B queue true) (port_after_begin (port_queue B queue true).port kept.bridge frame))))
+      (sym (not_up B forgot)) (refl, unchanged devs plan k now B queue (port_queue B queue true) (is_queue devs plan k now B queue true among forgot))
+  begin_by_B queue frame false among fresh fits =
+      begin_read B queue frame (pieces_of (sizes_of plan B queue).largest frame) (has_bit site.pair.sides.b.joined queue)
+      (λ joined. same_word plan site now.pages now.spare B queue now.declared among (own_fits plan (fits joined) B))
+      (begin_fresh_B queue frame (pieces_of (sizes_of plan B queue).largest frame) (has_bit site.pair.sides.b.joined queue) among fresh fits refl (pieces_fit (sizes_of plan B queue).largest frame))
+
+  pub begin_follows : (side : Side) (queue : ℕ) (frame : List ℕ) → queue < (side_plan plan side).queues → (has_bit (side_of site.pair side).joined queue ≡ true → SizesFit plan)
+      → Follows devs plan k site (Begin k side queue frame) (begin_step (sizes_of plan side queue) reads site.pair side queue frame) (begin_move kept side queue frame)
+  begin_follows A queue frame among fits =
+      subst (λ (q : QueueState). Follows devs plan k site (Begin k A queue frame) (begin_step (sizes_of plan A queue) reads site.pair A queue frame) (begin_with A queue frame q)) (sym (is_queue devs plan k now A queue (has_forgotten site.pair.link A) among refl))
+      (begin_by_A queue frame (has_forgotten site.pair.link A) among refl fits)
+  begin_follows B queue frame among fits =
+      subst (λ (q : QueueState). Follows devs plan k site (Begin k B queue frame) (begin_step (sizes_of plan B queue) reads site.pair B queue frame) (begin_with B queue frame q)) (sym (is_queue devs plan k now B queue (has_forgotten site.pair.link B) among refl))
+      (begin_by_B queue frame (has_forgotten site.pair.link B) among refl fits)

@@ -38,12 +38,13 @@ pub not_accepted : (said : Answer) (session : ℕ) (part : QueuePart) → NotOk 
 not_accepted (answer.OkNumber number) session part not_ok = absurd not_ok
 not_accepted said session part not_ok = refl
 
-pub record Passes (joined full : Bool) (said : Answer) (begun : BeginAnswer) (refusal : Option Answer) (told : ℕ) (q : QueueState) (new : PortState) (after : QueueState) : Type 0 where
+pub record Passes (joined busy full : Bool) (said : Answer) (begun : BeginAnswer) (refusal : Option Answer) (told : ℕ) (q : QueueState) (new : PortState) (after : QueueState) : Type 0 where
   pub said_is : said ≡ answer.OkNumber told
   pub begun_is : begun ≡ begin.Ok told
   pub none : refusal ≡ None
   pub after_is : after ≡ with_port q new
   pub is_joined : joined ≡ true
+  pub not_busy : busy ≡ false
   pub has_room : full ≡ false
 
 pub record Refuses (stopped : Bool) (said : Answer) (begun : BeginAnswer) (refusal : Option Answer) (q : QueueState) (after : QueueState) : Type 0 where
@@ -55,7 +56,7 @@ pub record Refuses (stopped : Bool) (said : Answer) (begun : BeginAnswer) (refus
 module _ (len most head index told : ℕ) (q : QueueState) (new : PortState) where
   abbrev pub Gates : Bool → Bool → Bool → Bool → Bool → Bool → Bool → Type 0
   Gates up joined closed long busy stopped full =
-      Passes joined full (of_xbegin stopped (answer_unless (side_says up joined closed) (port_says long busy full len most head index told))) (answer_unless (side_says up joined closed) (port_says long busy full len most head index told))
+      Passes joined busy full (of_xbegin stopped (answer_unless (side_says up joined closed) (port_says long busy full len most head index told))) (answer_unless (side_says up joined closed) (port_says long busy full len most head index told))
       (refusal_says up joined closed long busy stopped full len most head index) told q new (port_unless (side_says up joined closed) q (where_begun q.port new (port_says long busy full len most head index told)))
       ⊎ Refuses stopped (of_xbegin stopped (answer_unless (side_says up joined closed) (port_says long busy full len most head index told))) (answer_unless (side_says up joined closed) (port_says long busy full len most head index told))
       (refusal_says up joined closed long busy stopped full len most head index) q (port_unless (side_says up joined closed) q (where_begun q.port new (port_says long busy full len most head index told)))
@@ -74,4 +75,4 @@ module _ (len most head index told : ℕ) (q : QueueState) (new : PortState) whe
   gates true true false false false true true = inr (record { not_ok = tt; refusal_is = refl; after_is = λ e. cc; stays_open = λ e x. cc })
   gates true true false false false true false = inr (record { not_ok = tt; refusal_is = refl; after_is = λ e. cc; stays_open = λ e x. cc })
   gates true true false false false false true = inr (record { not_ok = tt; refusal_is = refl; after_is = λ _. refl; stays_open = λ _ x. refl })
-  gates true true false false false false false = inl (record { said_is = refl; begun_is = refl; none = refl; after_is = refl; is_joined = refl; has_room = refl })
+  gates true true false false false false false = inl (record { said_is = refl; begun_is = refl; none = refl; after_is = refl; is_joined = refl; not_busy = refl; has_room = refl })
