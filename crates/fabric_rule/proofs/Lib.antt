@@ -1,8 +1,10 @@
 pub mod Aside
 pub mod Beginning
 pub mod Begun
+pub mod BothReadings
 pub mod Copying
 pub mod Counts
+pub mod EachStep
 pub mod Flights
 pub mod Follows
 pub mod Gates
