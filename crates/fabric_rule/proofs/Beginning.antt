@@ -30,7 +30,7 @@ use Rattle.byte_model.specs.Headers.{free_in_memory, index_word_in}
 use Rattle.ledger_model.specs.Ledger.{DevPart, LanePart, PairPart, Tally, dev_of, head_in, lane_of, side_of, tally_of, updated, with_dev, with_lane, with_side_part}
 use Rattle.ledger_model.specs.Outcome.{Outcome, decided, refuse_if}
 use Rattle.ledger_model.specs.Reading.{Reading, by_bytes}
-use Rattle.ledger_model.specs.Sending.{begin_step, counts_accepted, counts_refused, counts_sent, frame_begun as lane_begun, begun_lane, is_busy as is_lane_busy, qpdown_step, wake_step, xbegin_step}
+use Rattle.ledger_model.specs.Sending.{begin_step, counts_accepted, counts_refused, counts_sent, frame_begun as lane_begun, begun_lane, flow_of, is_busy as is_lane_busy, qpdown_step, wake_step, xbegin_step}
 use Rattle.memory_model.specs.Memory.{Site, bytes_of_site}
 use Rattle.bridge_pair.specs.Bridge.{Bridge, memory_size}
 use Rattle.frame_ring.specs.Port.{PortState, Sending, with_sending}
@@ -38,13 +38,14 @@ use Rattle.frame_ring.specs.Calls.{begin_answer as port_begin_answer, after_begi
 use Rattle.queue_pair.specs.Gates.{answer_unless, begin_answer, after_begin, qpdown_answer, after_qpdown, closed_where_begun, port_unless}
 use Rattle.queue_pair.specs.Queue.{QueueState, with_port}
 use Rattle.queue_pair.specs.declared.BeginAnswer.{BeginAnswer}
+use Rattle.queue_pair.specs.declared.BeginAnswer.TheVariants.{Ok as IsBegun}
 use Rattle.step_kinds.specs.declared.lanes.Begun.{Begun}
 use Rattle.frame_ring.specs.Seen.{bytes_seen}
 use Rattle.fabric_rule.specs.Answers.{of_begin, of_xbegin}
 use Rattle.fabric_rule.specs.InPlace.{FitsSlot, SendingEnd, SendingInPlace, last_entry, receiver_of, sender_of}
 use Rattle.fabric_rule.specs.Moves.{Move, accepted_where_begun, begin_move, qpdown_move, xbegin_move, xbegun, wake_move}
 use Rattle.fabric_rule.specs.Parts.{PairState, QueuePart, SessionCount, count_in, one_more, with_queue}
-use Rattle.fabric_rule.specs.StandsFor.{IsOn, PairStands, QueueStands, QueueView, SideStands, all_sent, bridge_for, has_forgotten, sent_of, view_of}
+use Rattle.fabric_rule.specs.StandsFor.{IsOn, PairStands, QueueStands, QueueView, SideStands, all_sent, bridge_for, has_forgotten, port_for, sent_of, view_of}
 use Rattle.fabric_rule.proofs.Begun.{begun_end, begun_in_place, free_less, last-begun, length-begun, length-pieces, pieces_fit, some_pieces}
 use Rattle.fabric_rule.proofs.Counts.{count-one_more, has-with_other, has-with_same, one_at, updated-one_more}
 use Rattle.fabric_rule.proofs.Follows.{AllSides, Follows, by_side, same_at, three_same, two_same, updated_field, updated_here, updated_other, updated_same, with_promises}
@@ -325,3 +326,244 @@ module _ (devs : List DevPlan) (plan : PairPlan) (k : ℕ) (now : Standing devs 
   begin_follows B queue frame among fits =
       subst (λ (q : QueueState). Follows devs plan k site (Begin k B queue frame) (begin_step (sizes_of plan B queue) reads site.pair B queue frame) (begin_with B queue frame q)) (sym (is_queue devs plan k now B queue (has_forgotten site.pair.link B) among refl))
       (begin_by_B queue frame (has_forgotten site.pair.link B) among refl fits)
+
+  -- A link-down entry
+
+  abbrev down_made : Side → ℕ → Option Answer → Outcome
+  down_made side queue refusal =
+      decided now.site.pair refusal (answer.OkNumber (lane_of now.site.pair side queue).told)
+      (with_side_part (with_lane now.site.pair side queue (begun_lane queue (lane_of now.site.pair side queue) (GoesDown ∷ []))) side (record (side_of now.site.pair side) { closed = with_bit (side_of now.site.pair side).closed queue }))
+
+  abbrev down_says : Side → ℕ → Answer → QueueState → Move
+  down_says side queue said after = record { answer = said; after = with_queue kept side queue (part_with devs plan k now side queue after) }
+
+  abbrev DownCore : Side → ℕ → Option Answer → Answer → BeginAnswer → QueueState → Type 0
+  DownCore side queue refusal said begun after = Follows devs plan k site (QpDown k side queue) (down_made side queue refusal) (down_says side queue said (closed_where_begun begun after))
+
+  down_core : (side : Side) (queue : ℕ) (refusal : Option Answer) (said : Answer) (begun : BeginAnswer) (joined busy full : Bool) (q after : QueueState) (new : PortState) → (part side queue).queue ≡ q
+      → (joined ≡ true → DownCore side queue None (answer.OkNumber (lane_of now.site.pair side queue).told) (IsBegun (lane_of now.site.pair side queue).told) (with_port q new))
+      → Passes joined busy full said begun refusal (lane_of now.site.pair side queue).told q new after ⊎ Refuses false said begun refusal q after
+      → DownCore side queue refusal said begun after
+  down_core side queue refusal said begun joined busy full q after new is ok (inl passes) =
+      subst (λ refusal. DownCore side queue refusal said begun after) (sym passes.none)
+      (subst (λ said. DownCore side queue None said begun after) (sym passes.said_is)
+      (subst (λ begun. DownCore side queue None (answer.OkNumber (lane_of now.site.pair side queue).told) begun after) (sym passes.begun_is)
+      (subst (DownCore side queue None (answer.OkNumber (lane_of now.site.pair side queue).told) (IsBegun (lane_of now.site.pair side queue).told)) (sym passes.after_is) (ok passes.is_joined))))
+  down_core side queue refusal said begun joined busy full q after new is ok (inr refuses) =
+      subst (λ refusal. DownCore side queue refusal said begun after) (sym refuses.refusal_is)
+      (refl, subst (λ (after : QueueState). PairStands devs plan k site (with_queue kept side queue (part_with devs plan k now side queue after))) (sym (refuses.stays_open refl after ∙ refuses.after_is refl)) (unchanged devs plan k now side queue q is))
+
+  abbrev says_down : Side → ℕ → Begun
+  says_down side queue = says side queue false (is_lane_busy (lane_of now.site.pair side queue)) (is_full side queue 1 (seen_word side queue)) 0 (seen_word side queue) (lane_of now.site.pair side queue).told
+
+  abbrev DownAt : Side → ℕ → Bool → ℕ → Type 0
+  DownAt side queue joined index =
+      DownCore side queue (tests side queue 0 1 false false joined index) (of_begin (answer_unless (side_refuses side queue joined) (says_down side queue))) (answer_unless (side_refuses side queue joined) (says_down side queue))
+      (port_unless (side_refuses side queue joined) (port_queue side queue false) (where_begun (port_queue side queue false).port (port_with side queue GoesDown [] (lane_of now.site.pair side queue).told) (says_down side queue)))
+
+  down_read : (side : Side) (queue : ℕ) (joined : Bool) → (joined ≡ true → seen_word side queue ≡ reads.index_word side queue) → DownAt side queue joined (seen_word side queue) → DownAt side queue joined (reads.index_word side queue)
+  down_read side queue true same at_seen = subst (DownAt side queue true) (same refl) at_seen
+  down_read side queue false same at_seen = at_seen
+
+  abbrev down_with : Side → ℕ → QueueState → Move
+  down_with side queue q = down_says side queue (of_begin (qpdown_answer q kept.bridge)) (after_qpdown q kept.bridge)
+
+  abbrev down_part : Side → ℕ → QueuePart
+  down_part side queue = part_with devs plan k now side queue (record { port = port_with side queue GoesDown [] (lane_of now.site.pair side queue).told; closed = true })
+
+  no_payload : (side : Side) (queue : ℕ) → FitsSlot plan side queue GoesDown
+  no_payload side queue = omega arith
+
+  down_ok_A : (queue : ℕ) → queue < plan.a.queues → has_forgotten site.pair.link A ≡ false → SizesFit plan
+      → DownCore A queue None (answer.OkNumber (site.pair.lanes.a queue).told) (IsBegun (site.pair.lanes.a queue).told) (with_port (port_queue A queue false) (port_with A queue GoesDown [] (site.pair.lanes.a queue).told))
+  down_ok_A queue among fresh fits =
+      let lane = lane_with A queue GoesDown [] (site.pair.lanes.a queue).told in
+      (refl, record {
+        bridge = bridge_same plan site.pair.link site.pair.sides (all_sent site.pair.lanes) (record { a = sent_of (updated site.pair.lanes.a queue lane); b = sent_of site.pair.lanes.b }) site.stores (sym (writes_grow plan A (sent_of site.pair.lanes.a) (sent_of (updated site.pair.lanes.a queue lane)) (grows_at site.pair.lanes.a queue lane (GoesDown ∷ []) refl) site.pair.sides.a.flight site.pair.sides.a.poked (now.sides A).in_flight.begun)) refl;
+        link = now.link;
+        sides =
+            by_side _ (side_at devs plan k A _ _ _ _ _ _ _ (view_of site.pair A) _ now.queues.a queue (down_part A queue) among
+            (λ other ne. two_same (λ (l : LanePart) (c : Bool). record (view_of site.pair A other) { sends = sender_of l; closed = c }) (updated_other site.pair.lanes.a queue lane other ne) (has-with_other site.pair.sides.a.closed queue other ne))
+            (flight_grows plan A (sent_of site.pair.lanes.a) (sent_of (updated site.pair.lanes.a queue lane)) (grows_at site.pair.lanes.a queue lane (GoesDown ∷ []) refl) site.pair.sides.a.flight site.pair.sides.a.poked (is_down site.pair.link.state) (now.sides A).in_flight)
+            (subst (λ (v : QueueView). QueueStands devs plan k A queue (has_forgotten site.pair.link A) v (down_part A queue))
+            (sym (ap (λ (l : LanePart). record (view_of site.pair A queue) { sends = sender_of l; closed = has_bit (with_bit site.pair.sides.a.closed queue) queue }) (updated_here site.pair.lanes.a queue lane)))
+            (begins A queue GoesDown [] (site.pair.lanes.a queue).told true (has_bit (with_bit site.pair.sides.a.closed queue) queue) (part A queue).flow (part A queue).counters (part A queue).accepted (site.pair.devs.a queue)
+            (λ session. (site.pair.tallies.a queue session).accepted) among fresh fits (no_payload A queue) tt (sym (has-with_same site.pair.sides.a.closed queue)) ((now.sides A).queues queue among).stopped refl refl ((now.sides A).queues queue among).counters ((now.sides A).queues queue among).accepted)) (now.sides A)) (side_same devs plan k B _ _ _ _ _ (view_of site.pair B) _ now.queues.b
+            (λ other. ap (λ r. record (view_of site.pair B other) { receives = r }) (updated_same receiver_of site.pair.lanes.a queue lane refl other)) (now.sides B));
+      })
+
+  down_by_A : (queue : ℕ) (forgotten : Bool) → queue < plan.a.queues → has_forgotten site.pair.link A ≡ forgotten → (has_bit site.pair.sides.a.joined queue ≡ true → SizesFit plan)
+      → Follows devs plan k site (QpDown k A queue) (qpdown_step (sizes_of plan A queue) reads site.pair A queue) (down_with A queue (port_queue A queue forgotten))
+  down_by_A queue true among forgot fits =
+      subst (λ up. Follows devs plan k site (QpDown k A queue)
+      (down_made A queue
+      (refusal_says up (has_bit site.pair.sides.a.joined queue) (has_bit site.pair.sides.a.closed queue) false (is_lane_busy (site.pair.lanes.a queue)) false (is_full A queue 1 (reads.index_word A queue)) 0 (sizes_of plan A queue).most
+      (head_in (sizes_of plan A queue) (site.pair.lanes.a queue)) (reads.index_word A queue)))
+      (down_says A queue (of_begin (answer_unless (side_says up (has_bit site.pair.sides.a.joined queue) (has_bit site.pair.sides.a.closed queue)) (down_answer (port_queue A queue true).port kept.bridge)))
+      (closed_where_begun (answer_unless (side_says up (has_bit site.pair.sides.a.joined queue) (has_bit site.pair.sides.a.closed queue)) (down_answer (port_queue A queue true).port kept.bridge))
+      (port_unless (side_says up (has_bit site.pair.sides.a.joined queue) (has_bit site.pair.sides.a.closed queue)) (port_queue A queue true) (after_down (port_queue A queue true).port kept.bridge)))))
+      (sym (not_up A forgot)) (refl, unchanged devs plan k now A queue (port_queue A queue true) (is_queue devs plan k now A queue true among forgot))
+  down_by_A queue false among fresh fits =
+      down_read A queue (has_bit site.pair.sides.a.joined queue) (λ joined. same_word plan site now.pages now.spare A queue now.declared among (own_fits plan (fits joined) A))
+      (down_core A queue _ _ _ (has_bit site.pair.sides.a.joined queue) _ _ (port_queue A queue false) _ (port_with A queue GoesDown [] (site.pair.lanes.a queue).told) (is_queue devs plan k now A queue false among fresh)
+      (λ joined. down_ok_A queue among fresh (fits joined))
+      (gates 0 (sizes_of plan A queue).most (head_in (sizes_of plan A queue) (site.pair.lanes.a queue)) (seen_word A queue) (site.pair.lanes.a queue).told (port_queue A queue false) (port_with A queue GoesDown [] (site.pair.lanes.a queue).told)
+      (is_up site.pair.link.state) (has_bit site.pair.sides.a.joined queue) (has_bit site.pair.sides.a.closed queue) false (is_lane_busy (site.pair.lanes.a queue)) false (is_full A queue 1 (seen_word A queue))))
+
+  down_ok_B : (queue : ℕ) → queue < plan.b.queues → has_forgotten site.pair.link B ≡ false → SizesFit plan
+      → DownCore B queue None (answer.OkNumber (site.pair.lanes.b queue).told) (IsBegun (site.pair.lanes.b queue).told) (with_port (port_queue B queue false) (port_with B queue GoesDown [] (site.pair.lanes.b queue).told))
+  down_ok_B queue among fresh fits =
+      let lane = lane_with B queue GoesDown [] (site.pair.lanes.b queue).told in
+      (refl, record {
+        bridge = bridge_same plan site.pair.link site.pair.sides (all_sent site.pair.lanes) (record { a = sent_of site.pair.lanes.a; b = sent_of (updated site.pair.lanes.b queue lane) }) site.stores refl (sym (writes_grow plan B (sent_of site.pair.lanes.b) (sent_of (updated site.pair.lanes.b queue lane)) (grows_at site.pair.lanes.b queue lane (GoesDown ∷ []) refl) site.pair.sides.b.flight site.pair.sides.b.poked (now.sides B).in_flight.begun));
+        link = now.link;
+        sides =
+            by_side _ (side_same devs plan k A _ _ _ _ _ (view_of site.pair A) _ now.queues.a
+            (λ other. ap (λ r. record (view_of site.pair A other) { receives = r }) (updated_same receiver_of site.pair.lanes.b queue lane refl other)) (now.sides A)) (side_at devs plan k B _ _ _ _ _ _ _ (view_of site.pair B) _ now.queues.b queue (down_part B queue) among
+            (λ other ne. two_same (λ (l : LanePart) (c : Bool). record (view_of site.pair B other) { sends = sender_of l; closed = c }) (updated_other site.pair.lanes.b queue lane other ne) (has-with_other site.pair.sides.b.closed queue other ne))
+            (flight_grows plan B (sent_of site.pair.lanes.b) (sent_of (updated site.pair.lanes.b queue lane)) (grows_at site.pair.lanes.b queue lane (GoesDown ∷ []) refl) site.pair.sides.b.flight site.pair.sides.b.poked (is_down site.pair.link.state) (now.sides B).in_flight)
+            (subst (λ (v : QueueView). QueueStands devs plan k B queue (has_forgotten site.pair.link B) v (down_part B queue))
+            (sym (ap (λ (l : LanePart). record (view_of site.pair B queue) { sends = sender_of l; closed = has_bit (with_bit site.pair.sides.b.closed queue) queue }) (updated_here site.pair.lanes.b queue lane)))
+            (begins B queue GoesDown [] (site.pair.lanes.b queue).told true (has_bit (with_bit site.pair.sides.b.closed queue) queue) (part B queue).flow (part B queue).counters (part B queue).accepted (site.pair.devs.b queue)
+            (λ session. (site.pair.tallies.b queue session).accepted) among fresh fits (no_payload B queue) tt (sym (has-with_same site.pair.sides.b.closed queue)) ((now.sides B).queues queue among).stopped refl refl ((now.sides B).queues queue among).counters ((now.sides B).queues queue among).accepted)) (now.sides B));
+      })
+
+  down_by_B : (queue : ℕ) (forgotten : Bool) → queue < plan.b.queues → has_forgotten site.pair.link B ≡ forgotten → (has_bit site.pair.sides.b.joined queue ≡ true → SizesFit plan)
+      → Follows devs plan k site (QpDown k B queue) (qpdown_step (sizes_of plan B queue) reads site.pair B queue) (down_with B queue (port_queue B queue forgotten))
+  down_by_B queue true among forgot fits =
+      subst (λ up. Follows devs plan k site (QpDown k B queue)
+      (down_made B queue
+      (refusal_says up (has_bit site.pair.sides.b.joined queue) (has_bit site.pair.sides.b.closed queue) false (is_lane_busy (site.pair.lanes.b queue)) false (is_full B queue 1 (reads.index_word B queue)) 0 (sizes_of plan B queue).most
+      (head_in (sizes_of plan B queue) (site.pair.lanes.b queue)) (reads.index_word B queue)))
+      (down_says B queue (of_begin (answer_unless (side_says up (has_bit site.pair.sides.b.joined queue) (has_bit site.pair.sides.b.closed queue)) (down_answer (port_queue B queue true).port kept.bridge)))
+      (closed_where_begun (answer_unless (side_says up (has_bit site.pair.sides.b.joined queue) (has_bit site.pair.sides.b.closed queue)) (down_answer (port_queue B queue true).port kept.bridge))
+      (port_unless (side_says up (has_bit site.pair.sides.b.joined queue) (has_bit site.pair.sides.b.closed queue)) (port_queue B queue true) (after_down (port_queue B queue true).port kept.bridge)))))
+      (sym (not_up B forgot)) (refl, unchanged devs plan k now B queue (port_queue B queue true) (is_queue devs plan k now B queue true among forgot))
+  down_by_B queue false among fresh fits =
+      down_read B queue (has_bit site.pair.sides.b.joined queue) (λ joined. same_word plan site now.pages now.spare B queue now.declared among (own_fits plan (fits joined) B))
+      (down_core B queue _ _ _ (has_bit site.pair.sides.b.joined queue) _ _ (port_queue B queue false) _ (port_with B queue GoesDown [] (site.pair.lanes.b queue).told) (is_queue devs plan k now B queue false among fresh)
+      (λ joined. down_ok_B queue among fresh (fits joined))
+      (gates 0 (sizes_of plan B queue).most (head_in (sizes_of plan B queue) (site.pair.lanes.b queue)) (seen_word B queue) (site.pair.lanes.b queue).told (port_queue B queue false) (port_with B queue GoesDown [] (site.pair.lanes.b queue).told)
+      (is_up site.pair.link.state) (has_bit site.pair.sides.b.joined queue) (has_bit site.pair.sides.b.closed queue) false (is_lane_busy (site.pair.lanes.b queue)) false (is_full B queue 1 (seen_word B queue))))
+
+  pub qpdown_follows : (side : Side) (queue : ℕ) → queue < (side_plan plan side).queues → (has_bit (side_of site.pair side).joined queue ≡ true → SizesFit plan)
+      → Follows devs plan k site (QpDown k side queue) (qpdown_step (sizes_of plan side queue) reads site.pair side queue) (qpdown_move kept side queue)
+  qpdown_follows A queue among fits =
+      subst (λ (q : QueueState). Follows devs plan k site (QpDown k A queue) (qpdown_step (sizes_of plan A queue) reads site.pair A queue) (down_with A queue q)) (sym (is_queue devs plan k now A queue (has_forgotten site.pair.link A) among refl))
+      (down_by_A queue (has_forgotten site.pair.link A) among refl fits)
+  qpdown_follows B queue among fits =
+      subst (λ (q : QueueState). Follows devs plan k site (QpDown k B queue) (qpdown_step (sizes_of plan B queue) reads site.pair B queue) (down_with B queue q)) (sym (is_queue devs plan k now B queue (has_forgotten site.pair.link B) among refl))
+      (down_by_B queue (has_forgotten site.pair.link B) among refl fits)
+
+  -- A device that goes on
+
+  abbrev goes_on : Side → ℕ → DevPart
+  goes_on side queue = record (dev_of now.site.pair side queue) { stopped = false }
+
+  abbrev flow_part : Side → ℕ → Bool → QueuePart
+  flow_part side queue stopped = record (part side queue) { flow = record (part side queue).flow { stopped = stopped } }
+
+  -- a port knows nothing of its device
+  other_dev : (side : Side) (queue : ℕ) (forgotten : Bool) (view : QueueView) (dev : DevPart) (entry : Entry) → port_for plan side queue forgotten view entry ≡ port_for plan side queue forgotten (record view { dev = dev }) entry
+  other_dev side queue true view dev entry = refl
+  other_dev side queue false view dev entry = refl
+
+  goes_on_stands : (side : Side) (queue : ℕ) → queue < (side_plan plan side).queues → QueueStands devs plan k side queue (has_forgotten now.site.pair.link side) (record (view_of now.site.pair side queue) { dev = goes_on side queue }) (flow_part side queue false)
+  goes_on_stands side queue among =
+      let h = (now.sides side).queues queue among in
+      record {
+        port = h.port ∙ other_dev side queue (has_forgotten now.site.pair.link side) (view_of now.site.pair side queue) (goes_on side queue) (part side queue).queue.port.sending.entry;
+        entry = h.entry;
+        closed = h.closed;
+        stopped = refl;
+        limits = h.limits;
+        counters = h.counters;
+        accepted = h.accepted;
+        delivered = h.delivered;
+        sending = h.sending;
+        receiving = h.receiving;
+        forgets = λ forgot. record { todo = (h.forgets forgot).todo; waiting = (h.forgets forgot).waiting; phase = (h.forgets forgot).phase; goes_on = refl };
+        stops = inl refl;
+      }
+
+  abbrev wakes : Side → ℕ → Bool → Move
+  wakes side queue stays = record { answer = (if stays then answer.Stopped else answer.Awake); after = with_queue kept side queue (flow_part side queue stays) }
+
+  abbrev wake_made : Side → ℕ → Bool → Outcome
+  wake_made side queue stays = decided now.site.pair (refuse_if stays answer.Stopped None) answer.Awake (with_dev now.site.pair side queue (goes_on side queue))
+
+
+  wake_A : (queue : ℕ) (stays : Bool) → queue < plan.a.queues → (stays ≡ true → (part A queue).flow.stopped ≡ true) → Follows devs plan k site (Wake k A queue 0) (wake_made A queue stays) (wakes A queue stays)
+  wake_A queue true among is = (refl, subst (λ stopped. PairStands devs plan k site (with_queue kept A queue (flow_part A queue stopped))) (is refl)
+      (subst (PairStands devs plan k site) (sym (set_again kept A queue)) (record { bridge = refl; link = now.link; sides = now.sides })))
+  wake_A queue false among is = (refl, record {
+    bridge = refl;
+    link = now.link;
+    sides =
+        by_side _ (side_at devs plan k A _ _ _ _ _ _ _ (view_of site.pair A) _ now.queues.a queue (flow_part A queue false) among
+        (λ other ne. ap (λ (d : DevPart). record (view_of site.pair A other) { dev = d }) (updated_other site.pair.devs.a queue (goes_on A queue) other ne)) (now.sides A).in_flight
+        (subst (λ (v : QueueView). QueueStands devs plan k A queue (has_forgotten site.pair.link A) v (flow_part A queue false))
+        (sym (ap (λ (d : DevPart). record (view_of site.pair A queue) { dev = d }) (updated_here site.pair.devs.a queue (goes_on A queue)))) (goes_on_stands A queue among)) (now.sides A)) (now.sides B);
+  })
+
+  free_A : (queue : ℕ) → queue < plan.a.queues → SizesFit plan → has_forgotten site.pair.link A ≡ false → free_answer (part A queue).queue.port kept.bridge ≡ reads.free A queue
+  free_A queue among fits fresh =
+      ap (λ (q : QueueState). free_answer q.port kept.bridge) (is_queue devs plan k now A queue false among fresh)
+      ∙ ap (λ inside. if inside then free_in_memory (sizes_of plan A queue).entries (head_in (sizes_of plan A queue) (site.pair.lanes.a queue)) (seen_word A queue) else 0)
+      (le-leb (own_index_word plan A queue + 4) (memory_size plan A) (word_inside plan site now.pages now.spare A queue now.declared among (own_fits plan fits A)))
+      ∙ ap (free_in_memory (sizes_of plan A queue).entries (head_in (sizes_of plan A queue) (site.pair.lanes.a queue))) (same_word plan site now.pages now.spare A queue now.declared among (own_fits plan fits A))
+
+  stays_A : (queue d : ℕ) (stopped : Bool) → queue < plan.a.queues → d < length devs → IsOn (dev_plan devs d) k A queue → (site.pair.devs.a queue).stopped ≡ stopped
+      → stays_stopped (part A queue).flow (free_answer (part A queue).queue.port kept.bridge) ≡ stays_stopped (flow_of (dev_plan devs d) (site.pair.devs.a queue)) (reads.free A queue)
+  stays_A queue d false among declared on is =
+      ap (λ stopped. stopped && nat_lt (free_answer (part A queue).queue.port kept.bridge) (part A queue).flow.start) (((now.sides A).queues queue among).stopped ∙ is)
+      ∙ sym (ap (λ stopped. stopped && nat_lt (reads.free A queue) (dev_plan devs d).start) is)
+  stays_A queue d true among declared on is =
+      let h = (now.sides A).queues queue among in
+      let fits : SizesFit plan = ⊎_elim (λ goes. absurd (true≢false (sym is ∙ goes))) (λ fits. fits) h.stops in
+      let fresh : has_forgotten site.pair.link A ≡ false = ⊎_elim (λ forgot. absurd (true≢false (sym is ∙ (h.forgets forgot).goes_on))) (λ fresh. fresh) (cases_Bool (has_forgotten site.pair.link A)) in
+      three_same (λ stopped free start. stopped && nat_lt free start) h.stopped (free_A queue among fits fresh) (h.limits d declared on).1
+
+  wake_B : (queue : ℕ) (stays : Bool) → queue < plan.b.queues → (stays ≡ true → (part B queue).flow.stopped ≡ true) → Follows devs plan k site (Wake k B queue 0) (wake_made B queue stays) (wakes B queue stays)
+  wake_B queue true among is = (refl, subst (λ stopped. PairStands devs plan k site (with_queue kept B queue (flow_part B queue stopped))) (is refl)
+      (subst (PairStands devs plan k site) (sym (set_again kept B queue)) (record { bridge = refl; link = now.link; sides = now.sides })))
+  wake_B queue false among is = (refl, record {
+    bridge = refl;
+    link = now.link;
+    sides =
+        by_side _ (now.sides A) (side_at devs plan k B _ _ _ _ _ _ _ (view_of site.pair B) _ now.queues.b queue (flow_part B queue false) among
+        (λ other ne. ap (λ (d : DevPart). record (view_of site.pair B other) { dev = d }) (updated_other site.pair.devs.b queue (goes_on B queue) other ne)) (now.sides B).in_flight
+        (subst (λ (v : QueueView). QueueStands devs plan k B queue (has_forgotten site.pair.link B) v (flow_part B queue false))
+        (sym (ap (λ (d : DevPart). record (view_of site.pair B queue) { dev = d }) (updated_here site.pair.devs.b queue (goes_on B queue)))) (goes_on_stands B queue among)) (now.sides B));
+  })
+
+  free_B : (queue : ℕ) → queue < plan.b.queues → SizesFit plan → has_forgotten site.pair.link B ≡ false → free_answer (part B queue).queue.port kept.bridge ≡ reads.free B queue
+  free_B queue among fits fresh =
+      ap (λ (q : QueueState). free_answer q.port kept.bridge) (is_queue devs plan k now B queue false among fresh)
+      ∙ ap (λ inside. if inside then free_in_memory (sizes_of plan B queue).entries (head_in (sizes_of plan B queue) (site.pair.lanes.b queue)) (seen_word B queue) else 0)
+      (le-leb (own_index_word plan B queue + 4) (memory_size plan B) (word_inside plan site now.pages now.spare B queue now.declared among (own_fits plan fits B)))
+      ∙ ap (free_in_memory (sizes_of plan B queue).entries (head_in (sizes_of plan B queue) (site.pair.lanes.b queue))) (same_word plan site now.pages now.spare B queue now.declared among (own_fits plan fits B))
+
+  stays_B : (queue d : ℕ) (stopped : Bool) → queue < plan.b.queues → d < length devs → IsOn (dev_plan devs d) k B queue → (site.pair.devs.b queue).stopped ≡ stopped
+      → stays_stopped (part B queue).flow (free_answer (part B queue).queue.port kept.bridge) ≡ stays_stopped (flow_of (dev_plan devs d) (site.pair.devs.b queue)) (reads.free B queue)
+  stays_B queue d false among declared on is =
+      ap (λ stopped. stopped && nat_lt (free_answer (part B queue).queue.port kept.bridge) (part B queue).flow.start) (((now.sides B).queues queue among).stopped ∙ is)
+      ∙ sym (ap (λ stopped. stopped && nat_lt (reads.free B queue) (dev_plan devs d).start) is)
+  stays_B queue d true among declared on is =
+      let h = (now.sides B).queues queue among in
+      let fits : SizesFit plan = ⊎_elim (λ goes. absurd (true≢false (sym is ∙ goes))) (λ fits. fits) h.stops in
+      let fresh : has_forgotten site.pair.link B ≡ false = ⊎_elim (λ forgot. absurd (true≢false (sym is ∙ (h.forgets forgot).goes_on))) (λ fresh. fresh) (cases_Bool (has_forgotten site.pair.link B)) in
+      three_same (λ stopped free start. stopped && nat_lt free start) h.stopped (free_B queue among fits fresh) (h.limits d declared on).1
+
+  stays_means : (stopped rest : Bool) → (stopped && rest) ≡ true → stopped ≡ true
+  stays_means true rest stays = refl
+  stays_means false rest stays = absurd (false≢true stays)
+
+  pub wake_follows : (side : Side) (queue d : ℕ) → queue < (side_plan plan side).queues → d < length devs → IsOn (dev_plan devs d) k side queue
+      → Follows devs plan k site (Wake k side queue d) (wake_step reads (dev_plan devs d) site.pair side queue) (wake_move kept side queue)
+  wake_follows A queue d among declared on =
+      subst (λ stays. Follows devs plan k site (Wake k A queue d) (wake_made A queue stays) (wake_move kept A queue)) (stays_A queue d (site.pair.devs.a queue).stopped among declared on refl)
+      (wake_A queue (stays_stopped (part A queue).flow (free_answer (part A queue).queue.port kept.bridge)) among (stays_means (part A queue).flow.stopped _))
+  wake_follows B queue d among declared on =
+      subst (λ stays. Follows devs plan k site (Wake k B queue d) (wake_made B queue stays) (wake_move kept B queue)) (stays_B queue d (site.pair.devs.b queue).stopped among declared on refl)
+      (wake_B queue (stays_stopped (part B queue).flow (free_answer (part B queue).queue.port kept.bridge)) among (stays_means (part B queue).flow.stopped _))
