@@ -15,6 +15,7 @@ use Rattle.step_kinds.specs.declared.steps.Answer.TheVariants as answer
 use Rattle.step_kinds.specs.declared.steps.Label.{Label}
 use Rattle.step_kinds.specs.declared.steps.Step.TheVariants.{Begin, QpDown, Xbegin, Wake}
 use Rattle.lane_model.specs.Lane.{Entry, GoesDown}
+use Rattle.lane_model.specs.Ring.{head_of}
 use Rattle.lane_model.specs.Tests.{is_empty_list}
 use Rattle.plan_model.specs.Both.{Both, at_side, with_side}
 use Rattle.plan_model.specs.DeclaredPlans.{IsPair, SizesFit}
@@ -38,7 +39,7 @@ use Rattle.frame_ring.specs.Calls.{begin_answer as port_begin_answer, after_begi
 use Rattle.queue_pair.specs.Gates.{answer_unless, begin_answer, after_begin, qpdown_answer, after_qpdown, closed_where_begun, port_unless}
 use Rattle.queue_pair.specs.Queue.{QueueState, with_port}
 use Rattle.queue_pair.specs.declared.BeginAnswer.{BeginAnswer}
-use Rattle.queue_pair.specs.declared.BeginAnswer.TheVariants.{Ok as IsBegun}
+use Rattle.queue_pair.specs.declared.BeginAnswer.TheVariants.{Ok as IsBegun, LinkDown as IsLinkDown}
 use Rattle.step_kinds.specs.declared.lanes.Begun.{Begun}
 use Rattle.frame_ring.specs.Seen.{bytes_seen}
 use Rattle.fabric_rule.specs.Answers.{of_begin, of_xbegin}
@@ -567,3 +568,287 @@ module _ (devs : List DevPlan) (plan : PairPlan) (k : ℕ) (now : Standing devs 
   wake_follows B queue d among declared on =
       subst (λ stays. Follows devs plan k site (Wake k B queue d) (wake_made B queue stays) (wake_move kept B queue)) (stays_B queue d (site.pair.devs.b queue).stopped among declared on refl)
       (wake_B queue (stays_stopped (part B queue).flow (free_answer (part B queue).queue.port kept.bridge)) among (stays_means (part B queue).flow.stopped _))
+
+  -- A device's frame
+
+  -- the part of its queue then, by the answer
+  abbrev device_part : Side → ℕ → List ℕ → Answer → QueueState → QueueState → QueuePart
+  device_part side queue frame (answer.OkNumber number) q after =
+      record {
+        queue = after;
+        flow = record (part side queue).flow { stopped = stopped_after_send (part side queue).flow (free_answer after.port kept.bridge) };
+        counters = count_accepted (part side queue).counters (length frame);
+        accepted = one_more (part side queue).accepted now.site.pair.link.session;
+        delivered = (part side queue).delivered;
+      }
+  device_part side queue frame said q after = record (part_with devs plan k now side queue q) { counters = count_refused (part side queue).counters }
+
+  device_part_is : (side : Side) (queue : ℕ) (frame : List ℕ) (said : Answer) (q : QueueState) → xbegun said kept (part_with devs plan k now side queue q) frame ≡ device_part side queue frame said q (after_begin q kept.bridge frame)
+  device_part_is side queue frame (answer.OkNumber number) q = refl
+  device_part_is side queue frame said q = refl
+
+  device_refused : (side : Side) (queue : ℕ) (frame : List ℕ) (said : Answer) (q after : QueueState) → NotOk said → device_part side queue frame said q after ≡ record (part_with devs plan k now side queue q) { counters = count_refused (part side queue).counters }
+  device_refused side queue frame (answer.OkNumber number) q after not_ok = absurd not_ok
+  device_refused side queue frame said q after not_ok = refl
+
+  abbrev sent_dev : Side → ℕ → ℕ → List ℕ → DevPart
+  sent_dev side queue d frame =
+      record {
+        stopped = stopped_after_send (flow_of (dev_plan devs d) (dev_of now.site.pair side queue)) (reads.free side queue - needs side queue frame);
+        counters = count_accepted (dev_of now.site.pair side queue).counters (length frame);
+      }
+
+  abbrev refused_dev : Side → ℕ → DevPart
+  refused_dev side queue = record (dev_of now.site.pair side queue) { counters = count_refused (dev_of now.site.pair side queue).counters }
+
+  abbrev device_made : Side → ℕ → ℕ → List ℕ → List Entry → Option Answer → Outcome
+  device_made side queue d frame pieces refusal =
+      decided (counts_refused now.site.pair side queue) refusal (answer.OkNumber (lane_of now.site.pair side queue).told)
+      (counts_sent (dev_plan devs d) (counts_accepted (with_lane now.site.pair side queue (lane_begun queue (lane_of now.site.pair side queue) pieces)) side queue) side queue (length frame) (reads.free side queue - needs side queue frame))
+
+  abbrev device_says : Side → ℕ → List ℕ → Answer → QueueState → QueueState → Move
+  device_says side queue frame said q after = record { answer = said; after = with_queue kept side queue (device_part side queue frame said q after) }
+
+  refused_stands : (side : Side) (queue : ℕ) → queue < (side_plan plan side).queues
+      → QueueStands devs plan k side queue (has_forgotten now.site.pair.link side) (record (view_of now.site.pair side queue) { dev = refused_dev side queue }) (record (part side queue) { counters = count_refused (part side queue).counters })
+  refused_stands side queue among =
+      let h = (now.sides side).queues queue among in
+      record {
+        port = h.port ∙ other_dev side queue (has_forgotten now.site.pair.link side) (view_of now.site.pair side queue) (refused_dev side queue) (part side queue).queue.port.sending.entry;
+        entry = h.entry;
+        closed = h.closed;
+        stopped = h.stopped;
+        limits = h.limits;
+        counters = ap count_refused h.counters;
+        accepted = h.accepted;
+        delivered = h.delivered;
+        sending = h.sending;
+        receiving = h.receiving;
+        forgets = h.forgets;
+        stops = h.stops;
+      }
+
+  abbrev stopped_then : Bool → ℕ → ℕ → Bool
+  stopped_then stopped free stop = stopped || nat_lt free stop
+
+  idle_waiting : (todo : List Label) (waiting : List Entry) → (not (is_empty_list todo) || not (is_empty_list waiting)) ≡ false → waiting ≡ []
+  idle_waiting [] [] idle = refl
+  idle_waiting [] (next ∷ waiting) idle = absurd (true≢false idle)
+  idle_waiting (label ∷ todo) waiting idle = absurd (true≢false idle)
+
+  module _ (d : ℕ) (dst : List ℕ) (kind : ℕ) (payload frame : List ℕ) where
+    abbrev DeviceCore : Side → ℕ → List Entry → Option Answer → Answer → QueueState → QueueState → Type 0
+    DeviceCore side queue pieces refusal said q after = Follows devs plan k site (Xbegin k side queue d dst kind payload) (device_made side queue d frame pieces refusal) (device_says side queue frame said q after)
+
+    device_core : (side : Side) (queue : ℕ) (pieces : List Entry) (refusal : Option Answer) (said : Answer) (begun : BeginAnswer) (joined busy stopped full : Bool) (q after : QueueState) (new : PortState)
+        → (joined ≡ true → busy ≡ false → full ≡ false → DeviceCore side queue pieces None (answer.OkNumber (lane_of now.site.pair side queue).told) q (with_port q new))
+        → PairStands devs plan k (record site { pair = counts_refused now.site.pair side queue }) (with_queue kept side queue (record (part_with devs plan k now side queue q) { counters = count_refused (part side queue).counters }))
+        → Passes joined busy full said begun refusal (lane_of now.site.pair side queue).told q new after ⊎ Refuses stopped said begun refusal q after
+        → DeviceCore side queue pieces refusal said q after
+    device_core side queue pieces refusal said begun joined busy stopped full q after new ok refused (inl passes) =
+        subst (λ refusal. DeviceCore side queue pieces refusal said q after) (sym passes.none)
+        (subst (λ said. DeviceCore side queue pieces None said q after) (sym passes.said_is)
+        (subst (DeviceCore side queue pieces None (answer.OkNumber (lane_of now.site.pair side queue).told) q) (sym passes.after_is) (ok passes.is_joined passes.not_busy passes.has_room)))
+    device_core side queue pieces refusal said begun joined busy stopped full q after new ok refused (inr refuses) =
+        subst (λ refusal. DeviceCore side queue pieces refusal said q after) (sym refuses.refusal_is)
+        (refl, subst (λ (part : QueuePart). PairStands devs plan k (record site { pair = counts_refused now.site.pair side queue }) (with_queue kept side queue part)) (sym (device_refused side queue frame said q after refuses.not_ok)) refused)
+
+    abbrev DeviceAt : Side → ℕ → List Entry → Bool → Bool → ℕ → Type 0
+    DeviceAt side queue pieces stopped joined index =
+        DeviceCore side queue pieces (tests side queue (length frame) (needs side queue frame) (is_long side queue frame) (dev_of now.site.pair side queue).stopped joined index)
+        (of_xbegin stopped (answer_unless (side_refuses side queue joined) (says_frame side queue frame))) (port_queue side queue false)
+        (port_unless (side_refuses side queue joined) (port_queue side queue false) (where_begun (port_queue side queue false).port (port_new side queue pieces) (says_frame side queue frame)))
+
+    device_read : (side : Side) (queue : ℕ) (pieces : List Entry) (stopped joined : Bool) → (joined ≡ true → seen_word side queue ≡ reads.index_word side queue) → DeviceAt side queue pieces stopped joined (seen_word side queue)
+        → DeviceAt side queue pieces stopped joined (reads.index_word side queue)
+    device_read side queue pieces stopped true same at_seen = subst (DeviceAt side queue pieces stopped true) (same refl) at_seen
+    device_read side queue pieces stopped false same at_seen = at_seen
+
+    abbrev device_with : Side → ℕ → Bool → QueueState → Move
+    device_with side queue stopped q =
+        device_says side queue frame (of_xbegin stopped (begin_answer q kept.bridge (length frame))) q (after_begin q kept.bridge frame)
+
+    abbrev sent_part_A : ℕ → Entry → List Entry → QueuePart
+    sent_part_A queue first others = device_part A queue frame (answer.OkNumber (site.pair.lanes.a queue).told) (port_queue A queue false) (with_port (port_queue A queue false) (port_new A queue (first ∷ others)))
+
+    refused_A : (queue : ℕ) (q : QueueState) → queue < plan.a.queues → (part A queue).queue ≡ q
+        → PairStands devs plan k (record site { pair = counts_refused site.pair A queue }) (with_queue kept A queue (record (part_with devs plan k now A queue q) { counters = count_refused (part A queue).counters }))
+    refused_A queue q among is =
+        subst (λ (q : QueueState). PairStands devs plan k (record site { pair = counts_refused site.pair A queue }) (with_queue kept A queue (record (part_with devs plan k now A queue q) { counters = count_refused (part A queue).counters }))) is
+        (record {
+          bridge = refl;
+          link = now.link;
+          sides =
+              by_side _ (side_at devs plan k A _ _ _ _ _ _ _ (view_of site.pair A) _ now.queues.a queue (record (part A queue) { counters = count_refused (part A queue).counters }) among
+              (λ other ne. ap (λ (d : DevPart). record (view_of site.pair A other) { dev = d }) (updated_other site.pair.devs.a queue (refused_dev A queue) other ne)) (now.sides A).in_flight
+              (subst (λ (v : QueueView). QueueStands devs plan k A queue (has_forgotten site.pair.link A) v (record (part A queue) { counters = count_refused (part A queue).counters }))
+              (sym (ap (λ (d : DevPart). record (view_of site.pair A queue) { dev = d }) (updated_here site.pair.devs.a queue (refused_dev A queue)))) (refused_stands A queue among)) (now.sides A)) (now.sides B);
+        })
+
+    -- what is free then
+    free_then_A : (queue : ℕ) (first : Entry) (others : List Entry) (told : ℕ) → queue < plan.a.queues → SizesFit plan → (site.pair.lanes.a queue).waiting ≡ [] → length (first ∷ others) ≡ needs A queue frame → is_full A queue (needs A queue frame) (seen_word A queue) ≡ false
+        → free_answer (port_with A queue first others told) kept.bridge ≡ reads.free A queue - needs A queue frame
+    free_then_A queue first others told among fits none count room =
+        ap (λ inside. if inside then free_in_memory (sizes_of plan A queue).entries (head_of (sizes_of plan A queue).entries (length (site.pair.lanes.a queue).sent + 1 + length others)) (seen_word A queue) else 0)
+        (le-leb (own_index_word plan A queue + 4) (memory_size plan A) (word_inside plan site now.pages now.spare A queue now.declared among (own_fits plan fits A)))
+        ∙ ap (λ n. free_in_memory (sizes_of plan A queue).entries (head_of (sizes_of plan A queue).entries n) (seen_word A queue))
+        (let z = ap length none in let same : length (site.pair.lanes.a queue).sent + 1 + length others ≡ length (site.pair.lanes.a queue).sent + length (site.pair.lanes.a queue).waiting + needs A queue frame = omega (arith, z, count) in same)
+        ∙ free_less (sizes_of plan A queue).entries (length (site.pair.lanes.a queue).sent + length (site.pair.lanes.a queue).waiting) (needs A queue frame) (seen_word A queue) room (some_pieces (sizes_of plan A queue).largest (length frame))
+        ∙ ap (λ index. free_in_memory (sizes_of plan A queue).entries (head_in (sizes_of plan A queue) (site.pair.lanes.a queue)) index - needs A queue frame)
+        (same_word plan site now.pages now.spare A queue now.declared among (own_fits plan fits A))
+
+    device_ok_A : (queue : ℕ) (first : Entry) (others : List Entry) → queue < plan.a.queues → d < length devs → IsOn (dev_plan devs d) k A queue → has_forgotten site.pair.link A ≡ false → SizesFit plan → AllByRecursion (FitsSlot plan A queue) (first ∷ others)
+        → length (first ∷ others) ≡ needs A queue frame → is_lane_busy (site.pair.lanes.a queue) ≡ false → is_full A queue (needs A queue frame) (seen_word A queue) ≡ false
+        → DeviceCore A queue (first ∷ others) None (answer.OkNumber (site.pair.lanes.a queue).told) (port_queue A queue false) (with_port (port_queue A queue false) (port_new A queue (first ∷ others)))
+    device_ok_A queue first others among declared on fresh fits all count idle room =
+        let lane = lane_with A queue first others ((site.pair.lanes.a queue).told + 1) in
+        let h = (now.sides A).queues queue among in
+        (refl, record {
+          bridge = bridge_same plan site.pair.link site.pair.sides (all_sent site.pair.lanes) (record { a = sent_of (updated site.pair.lanes.a queue lane); b = sent_of site.pair.lanes.b }) site.stores (sym (writes_grow plan A (sent_of site.pair.lanes.a) (sent_of (updated site.pair.lanes.a queue lane)) (grows_at site.pair.lanes.a queue lane (first ∷ []) refl) site.pair.sides.a.flight site.pair.sides.a.poked (now.sides A).in_flight.begun)) refl;
+          link = now.link;
+          sides =
+              by_side _ (side_at devs plan k A _ _ _ _ _ _ _ (view_of site.pair A) _ now.queues.a queue (sent_part_A queue first others) among
+              (λ other ne. three_same (λ (l : LanePart) (t : ℕ → Tally) (dev : DevPart). record (view_of site.pair A other) { sends = sender_of l; accepted = λ session. (t session).accepted; dev = dev }) (updated_other site.pair.lanes.a queue lane other ne)
+              (updated_other site.pair.tallies.a queue (more_accepted A queue) other ne) (updated_other site.pair.devs.a queue (sent_dev A queue d frame) other ne))
+              (flight_grows plan A (sent_of site.pair.lanes.a) (sent_of (updated site.pair.lanes.a queue lane)) (grows_at site.pair.lanes.a queue lane (first ∷ []) refl) site.pair.sides.a.flight site.pair.sides.a.poked (is_down site.pair.link.state) (now.sides A).in_flight)
+              (subst (λ (v : QueueView). QueueStands devs plan k A queue (has_forgotten site.pair.link A) v (sent_part_A queue first others))
+              (sym (three_same (λ (l : LanePart) (t : ℕ → Tally) (dev : DevPart). record (view_of site.pair A queue) { sends = sender_of l; accepted = λ session. (t session).accepted; dev = dev }) (updated_here site.pair.lanes.a queue lane)
+              (updated_here site.pair.tallies.a queue (more_accepted A queue)) (updated_here site.pair.devs.a queue (sent_dev A queue d frame))))
+              (begins A queue first others ((site.pair.lanes.a queue).told + 1) (has_bit site.pair.sides.a.closed queue) (has_bit site.pair.sides.a.closed queue) (sent_part_A queue first others).flow (sent_part_A queue first others).counters
+              (one_more (part A queue).accepted site.pair.link.session) (sent_dev A queue d frame) (λ session. (more_accepted A queue session).accepted) among fresh fits all.0 all.1 refl
+              (three_same stopped_then h.stopped (free_then_A queue first others ((site.pair.lanes.a queue).told + 1) among fits (idle_waiting (site.pair.lanes.a queue).todo (site.pair.lanes.a queue).waiting idle) count room) (h.limits d declared on).0)
+              refl refl (ap (λ counters. count_accepted counters (length frame)) h.counters) (counts_one A queue among))) (now.sides A)) (others_A queue lane among refl);
+        })
+
+    device_fresh_A : (queue : ℕ) (pieces : List Entry) (joined : Bool) → queue < plan.a.queues → d < length devs → IsOn (dev_plan devs d) k A queue → has_forgotten site.pair.link A ≡ false → (joined ≡ true → SizesFit plan)
+        → pieces_of (sizes_of plan A queue).largest frame ≡ pieces → AllByRecursion (FitsSlot plan A queue) pieces → DeviceAt A queue pieces (site.pair.devs.a queue).stopped joined (seen_word A queue)
+    device_fresh_A queue [] joined among declared on fresh fits is all = absurd (is_some_piece (sizes_of plan A queue).largest frame is)
+    device_fresh_A queue (first ∷ others) joined among declared on fresh fits is all =
+        device_core A queue (first ∷ others) _ _ _ joined _ (site.pair.devs.a queue).stopped _ (port_queue A queue false) _ (port_new A queue (first ∷ others))
+        (λ yes idle room. device_ok_A queue first others among declared on fresh (fits yes) all (sym (ap length is) ∙ length-pieces (sizes_of plan A queue).largest frame) idle room)
+        (refused_A queue (port_queue A queue false) among (is_queue devs plan k now A queue false among fresh))
+        (gates (length frame) (sizes_of plan A queue).most (head_in (sizes_of plan A queue) (site.pair.lanes.a queue)) (seen_word A queue) (site.pair.lanes.a queue).told (port_queue A queue false) (port_new A queue (first ∷ others))
+        (is_up site.pair.link.state) joined (has_bit site.pair.sides.a.closed queue) (is_long A queue frame) (is_lane_busy (site.pair.lanes.a queue)) (site.pair.devs.a queue).stopped (is_full A queue (needs A queue frame) (seen_word A queue)))
+
+    device_by_A : (queue : ℕ) (forgotten : Bool) → queue < plan.a.queues → d < length devs → IsOn (dev_plan devs d) k A queue → has_forgotten site.pair.link A ≡ forgotten → (has_bit site.pair.sides.a.joined queue ≡ true → SizesFit plan)
+        → Follows devs plan k site (Xbegin k A queue d dst kind payload)
+        (device_made A queue d frame (pieces_of (sizes_of plan A queue).largest frame) (tests A queue (length frame) (needs A queue frame) (is_long A queue frame) (site.pair.devs.a queue).stopped (has_bit site.pair.sides.a.joined queue) (reads.index_word A queue)))
+        (device_with A queue (site.pair.devs.a queue).stopped (port_queue A queue forgotten))
+    device_by_A queue true among declared on forgot fits =
+        subst (λ up. Follows devs plan k site (Xbegin k A queue d dst kind payload)
+        (device_made A queue d frame (pieces_of (sizes_of plan A queue).largest frame)
+        (refusal_says up (has_bit site.pair.sides.a.joined queue) (has_bit site.pair.sides.a.closed queue) (is_long A queue frame) (is_lane_busy (site.pair.lanes.a queue)) (site.pair.devs.a queue).stopped
+        (is_full A queue (needs A queue frame) (reads.index_word A queue)) (length frame) (sizes_of plan A queue).most (head_in (sizes_of plan A queue) (site.pair.lanes.a queue)) (reads.index_word A queue)))
+        (device_says A queue frame
+        (of_xbegin (site.pair.devs.a queue).stopped (answer_unless (side_says up (has_bit site.pair.sides.a.joined queue) (has_bit site.pair.sides.a.closed queue)) (port_begin_answer (port_queue A queue true).port kept.bridge (length frame))))
+        (port_queue A queue true)
+        (port_unless (side_says up (has_bit site.pair.sides.a.joined queue) (has_bit site.pair.sides.a.closed queue)) (port_queue A queue true) (port_after_begin (port_queue A queue true).port kept.bridge frame))))
+        (sym (not_up A forgot)) (down (site.pair.devs.a queue).stopped)
+      where
+        down : (stopped : Bool) → Follows devs plan k site (Xbegin k A queue d dst kind payload) (device_made A queue d frame (pieces_of (sizes_of plan A queue).largest frame) (Some answer.LinkDown))
+            (device_says A queue frame (of_xbegin stopped IsLinkDown) (port_queue A queue true) (port_queue A queue true))
+        down true = (refl, refused_A queue (port_queue A queue true) among (is_queue devs plan k now A queue true among forgot))
+        down false = (refl, refused_A queue (port_queue A queue true) among (is_queue devs plan k now A queue true among forgot))
+    device_by_A queue false among declared on fresh fits =
+        device_read A queue (pieces_of (sizes_of plan A queue).largest frame) (site.pair.devs.a queue).stopped (has_bit site.pair.sides.a.joined queue)
+        (λ joined. same_word plan site now.pages now.spare A queue now.declared among (own_fits plan (fits joined) A))
+        (device_fresh_A queue (pieces_of (sizes_of plan A queue).largest frame) (has_bit site.pair.sides.a.joined queue) among declared on fresh fits refl (pieces_fit (sizes_of plan A queue).largest frame))
+
+    abbrev sent_part_B : ℕ → Entry → List Entry → QueuePart
+    sent_part_B queue first others = device_part B queue frame (answer.OkNumber (site.pair.lanes.b queue).told) (port_queue B queue false) (with_port (port_queue B queue false) (port_new B queue (first ∷ others)))
+
+    refused_B : (queue : ℕ) (q : QueueState) → queue < plan.b.queues → (part B queue).queue ≡ q
+        → PairStands devs plan k (record site { pair = counts_refused site.pair B queue }) (with_queue kept B queue (record (part_with devs plan k now B queue q) { counters = count_refused (part B queue).counters }))
+    refused_B queue q among is =
+        subst (λ (q : QueueState). PairStands devs plan k (record site { pair = counts_refused site.pair B queue }) (with_queue kept B queue (record (part_with devs plan k now B queue q) { counters = count_refused (part B queue).counters }))) is
+        (record {
+          bridge = refl;
+          link = now.link;
+          sides =
+              by_side _ (now.sides A) (side_at devs plan k B _ _ _ _ _ _ _ (view_of site.pair B) _ now.queues.b queue (record (part B queue) { counters = count_refused (part B queue).counters }) among
+              (λ other ne. ap (λ (d : DevPart). record (view_of site.pair B other) { dev = d }) (updated_other site.pair.devs.b queue (refused_dev B queue) other ne)) (now.sides B).in_flight
+              (subst (λ (v : QueueView). QueueStands devs plan k B queue (has_forgotten site.pair.link B) v (record (part B queue) { counters = count_refused (part B queue).counters }))
+              (sym (ap (λ (d : DevPart). record (view_of site.pair B queue) { dev = d }) (updated_here site.pair.devs.b queue (refused_dev B queue)))) (refused_stands B queue among)) (now.sides B));
+        })
+
+    -- what is free then
+    free_then_B : (queue : ℕ) (first : Entry) (others : List Entry) (told : ℕ) → queue < plan.b.queues → SizesFit plan → (site.pair.lanes.b queue).waiting ≡ [] → length (first ∷ others) ≡ needs B queue frame → is_full B queue (needs B queue frame) (seen_word B queue) ≡ false
+        → free_answer (port_with B queue first others told) kept.bridge ≡ reads.free B queue - needs B queue frame
+    free_then_B queue first others told among fits none count room =
+        ap (λ inside. if inside then free_in_memory (sizes_of plan B queue).entries (head_of (sizes_of plan B queue).entries (length (site.pair.lanes.b queue).sent + 1 + length others)) (seen_word B queue) else 0)
+        (le-leb (own_index_word plan B queue + 4) (memory_size plan B) (word_inside plan site now.pages now.spare B queue now.declared among (own_fits plan fits B)))
+        ∙ ap (λ n. free_in_memory (sizes_of plan B queue).entries (head_of (sizes_of plan B queue).entries n) (seen_word B queue))
+        (let z = ap length none in let same : length (site.pair.lanes.b queue).sent + 1 + length others ≡ length (site.pair.lanes.b queue).sent + length (site.pair.lanes.b queue).waiting + needs B queue frame = omega (arith, z, count) in same)
+        ∙ free_less (sizes_of plan B queue).entries (length (site.pair.lanes.b queue).sent + length (site.pair.lanes.b queue).waiting) (needs B queue frame) (seen_word B queue) room (some_pieces (sizes_of plan B queue).largest (length frame))
+        ∙ ap (λ index. free_in_memory (sizes_of plan B queue).entries (head_in (sizes_of plan B queue) (site.pair.lanes.b queue)) index - needs B queue frame)
+        (same_word plan site now.pages now.spare B queue now.declared among (own_fits plan fits B))
+
+    device_ok_B : (queue : ℕ) (first : Entry) (others : List Entry) → queue < plan.b.queues → d < length devs → IsOn (dev_plan devs d) k B queue → has_forgotten site.pair.link B ≡ false → SizesFit plan → AllByRecursion (FitsSlot plan B queue) (first ∷ others)
+        → length (first ∷ others) ≡ needs B queue frame → is_lane_busy (site.pair.lanes.b queue) ≡ false → is_full B queue (needs B queue frame) (seen_word B queue) ≡ false
+        → DeviceCore B queue (first ∷ others) None (answer.OkNumber (site.pair.lanes.b queue).told) (port_queue B queue false) (with_port (port_queue B queue false) (port_new B queue (first ∷ others)))
+    device_ok_B queue first others among declared on fresh fits all count idle room =
+        let lane = lane_with B queue first others ((site.pair.lanes.b queue).told + 1) in
+        let h = (now.sides B).queues queue among in
+        (refl, record {
+          bridge = bridge_same plan site.pair.link site.pair.sides (all_sent site.pair.lanes) (record { a = sent_of site.pair.lanes.a; b = sent_of (updated site.pair.lanes.b queue lane) }) site.stores refl (sym (writes_grow plan B (sent_of site.pair.lanes.b) (sent_of (updated site.pair.lanes.b queue lane)) (grows_at site.pair.lanes.b queue lane (first ∷ []) refl) site.pair.sides.b.flight site.pair.sides.b.poked (now.sides B).in_flight.begun));
+          link = now.link;
+          sides =
+              by_side _ (others_B queue lane among refl) (side_at devs plan k B _ _ _ _ _ _ _ (view_of site.pair B) _ now.queues.b queue (sent_part_B queue first others) among
+              (λ other ne. three_same (λ (l : LanePart) (t : ℕ → Tally) (dev : DevPart). record (view_of site.pair B other) { sends = sender_of l; accepted = λ session. (t session).accepted; dev = dev }) (updated_other site.pair.lanes.b queue lane other ne)
+              (updated_other site.pair.tallies.b queue (more_accepted B queue) other ne) (updated_other site.pair.devs.b queue (sent_dev B queue d frame) other ne))
+              (flight_grows plan B (sent_of site.pair.lanes.b) (sent_of (updated site.pair.lanes.b queue lane)) (grows_at site.pair.lanes.b queue lane (first ∷ []) refl) site.pair.sides.b.flight site.pair.sides.b.poked (is_down site.pair.link.state) (now.sides B).in_flight)
+              (subst (λ (v : QueueView). QueueStands devs plan k B queue (has_forgotten site.pair.link B) v (sent_part_B queue first others))
+              (sym (three_same (λ (l : LanePart) (t : ℕ → Tally) (dev : DevPart). record (view_of site.pair B queue) { sends = sender_of l; accepted = λ session. (t session).accepted; dev = dev }) (updated_here site.pair.lanes.b queue lane)
+              (updated_here site.pair.tallies.b queue (more_accepted B queue)) (updated_here site.pair.devs.b queue (sent_dev B queue d frame))))
+              (begins B queue first others ((site.pair.lanes.b queue).told + 1) (has_bit site.pair.sides.b.closed queue) (has_bit site.pair.sides.b.closed queue) (sent_part_B queue first others).flow (sent_part_B queue first others).counters
+              (one_more (part B queue).accepted site.pair.link.session) (sent_dev B queue d frame) (λ session. (more_accepted B queue session).accepted) among fresh fits all.0 all.1 refl
+              (three_same stopped_then h.stopped (free_then_B queue first others ((site.pair.lanes.b queue).told + 1) among fits (idle_waiting (site.pair.lanes.b queue).todo (site.pair.lanes.b queue).waiting idle) count room) (h.limits d declared on).0)
+              refl refl (ap (λ counters. count_accepted counters (length frame)) h.counters) (counts_one B queue among))) (now.sides B));
+        })
+
+    device_fresh_B : (queue : ℕ) (pieces : List Entry) (joined : Bool) → queue < plan.b.queues → d < length devs → IsOn (dev_plan devs d) k B queue → has_forgotten site.pair.link B ≡ false → (joined ≡ true → SizesFit plan)
+        → pieces_of (sizes_of plan B queue).largest frame ≡ pieces → AllByRecursion (FitsSlot plan B queue) pieces → DeviceAt B queue pieces (site.pair.devs.b queue).stopped joined (seen_word B queue)
+    device_fresh_B queue [] joined among declared on fresh fits is all = absurd (is_some_piece (sizes_of plan B queue).largest frame is)
+    device_fresh_B queue (first ∷ others) joined among declared on fresh fits is all =
+        device_core B queue (first ∷ others) _ _ _ joined _ (site.pair.devs.b queue).stopped _ (port_queue B queue false) _ (port_new B queue (first ∷ others))
+        (λ yes idle room. device_ok_B queue first others among declared on fresh (fits yes) all (sym (ap length is) ∙ length-pieces (sizes_of plan B queue).largest frame) idle room)
+        (refused_B queue (port_queue B queue false) among (is_queue devs plan k now B queue false among fresh))
+        (gates (length frame) (sizes_of plan B queue).most (head_in (sizes_of plan B queue) (site.pair.lanes.b queue)) (seen_word B queue) (site.pair.lanes.b queue).told (port_queue B queue false) (port_new B queue (first ∷ others))
+        (is_up site.pair.link.state) joined (has_bit site.pair.sides.b.closed queue) (is_long B queue frame) (is_lane_busy (site.pair.lanes.b queue)) (site.pair.devs.b queue).stopped (is_full B queue (needs B queue frame) (seen_word B queue)))
+
+    device_by_B : (queue : ℕ) (forgotten : Bool) → queue < plan.b.queues → d < length devs → IsOn (dev_plan devs d) k B queue → has_forgotten site.pair.link B ≡ forgotten → (has_bit site.pair.sides.b.joined queue ≡ true → SizesFit plan)
+        → Follows devs plan k site (Xbegin k B queue d dst kind payload)
+        (device_made B queue d frame (pieces_of (sizes_of plan B queue).largest frame) (tests B queue (length frame) (needs B queue frame) (is_long B queue frame) (site.pair.devs.b queue).stopped (has_bit site.pair.sides.b.joined queue) (reads.index_word B queue)))
+        (device_with B queue (site.pair.devs.b queue).stopped (port_queue B queue forgotten))
+    device_by_B queue true among declared on forgot fits =
+        subst (λ up. Follows devs plan k site (Xbegin k B queue d dst kind payload)
+        (device_made B queue d frame (pieces_of (sizes_of plan B queue).largest frame)
+        (refusal_says up (has_bit site.pair.sides.b.joined queue) (has_bit site.pair.sides.b.closed queue) (is_long B queue frame) (is_lane_busy (site.pair.lanes.b queue)) (site.pair.devs.b queue).stopped
+        (is_full B queue (needs B queue frame) (reads.index_word B queue)) (length frame) (sizes_of plan B queue).most (head_in (sizes_of plan B queue) (site.pair.lanes.b queue)) (reads.index_word B queue)))
+        (device_says B queue frame
+        (of_xbegin (site.pair.devs.b queue).stopped (answer_unless (side_says up (has_bit site.pair.sides.b.joined queue) (has_bit site.pair.sides.b.closed queue)) (port_begin_answer (port_queue B queue true).port kept.bridge (length frame))))
+        (port_queue B queue true)
+        (port_unless (side_says up (has_bit site.pair.sides.b.joined queue) (has_bit site.pair.sides.b.closed queue)) (port_queue B queue true) (port_after_begin (port_queue B queue true).port kept.bridge frame))))
+        (sym (not_up B forgot)) (down (site.pair.devs.b queue).stopped)
+      where
+        down : (stopped : Bool) → Follows devs plan k site (Xbegin k B queue d dst kind payload) (device_made B queue d frame (pieces_of (sizes_of plan B queue).largest frame) (Some answer.LinkDown))
+            (device_says B queue frame (of_xbegin stopped IsLinkDown) (port_queue B queue true) (port_queue B queue true))
+        down true = (refl, refused_B queue (port_queue B queue true) among (is_queue devs plan k now B queue true among forgot))
+        down false = (refl, refused_B queue (port_queue B queue true) among (is_queue devs plan k now B queue true among forgot))
+    device_by_B queue false among declared on fresh fits =
+        device_read B queue (pieces_of (sizes_of plan B queue).largest frame) (site.pair.devs.b queue).stopped (has_bit site.pair.sides.b.joined queue)
+        (λ joined. same_word plan site now.pages now.spare B queue now.declared among (own_fits plan (fits joined) B))
+        (device_fresh_B queue (pieces_of (sizes_of plan B queue).largest frame) (has_bit site.pair.sides.b.joined queue) among declared on fresh fits refl (pieces_fit (sizes_of plan B queue).largest frame))
+
+  pub xbegin_follows : (side : Side) (queue d : ℕ) (dst : List ℕ) (kind : ℕ) (payload : List ℕ) → queue < (side_plan plan side).queues → d < length devs → IsOn (dev_plan devs d) k side queue → (has_bit (side_of site.pair side).joined queue ≡ true → SizesFit plan)
+      → Follows devs plan k site (Xbegin k side queue d dst kind payload) (xbegin_step (sizes_of plan side queue) reads (dev_plan devs d) site.pair side queue dst kind payload) (xbegin_move kept (dev_plan devs d) side queue dst kind payload)
+  xbegin_follows A queue d dst kind payload among declared on fits =
+      subst (λ (new : QueuePart). Follows devs plan k site (Xbegin k A queue d dst kind payload) (xbegin_step (sizes_of plan A queue) reads (dev_plan devs d) site.pair A queue dst kind payload)  (record { answer = (of_xbegin (part A queue).flow.stopped (begin_answer (part A queue).queue kept.bridge (length (ethernet_frame dst (dev_plan devs d).address kind payload)))); after = with_queue kept A queue new })) (sym (device_part_is A queue (ethernet_frame dst (dev_plan devs d).address kind payload) (of_xbegin (part A queue).flow.stopped (begin_answer (part A queue).queue kept.bridge (length (ethernet_frame dst (dev_plan devs d).address kind payload)))) (part A queue).queue))
+      (subst (λ (q : QueueState). Follows devs plan k site (Xbegin k A queue d dst kind payload) (xbegin_step (sizes_of plan A queue) reads (dev_plan devs d) site.pair A queue dst kind payload)  (device_with d dst kind payload (ethernet_frame dst (dev_plan devs d).address kind payload) A queue (part A queue).flow.stopped q)) (sym (is_queue devs plan k now A queue (has_forgotten site.pair.link A) among refl))
+      (subst (λ stopped. Follows devs plan k site (Xbegin k A queue d dst kind payload) (xbegin_step (sizes_of plan A queue) reads (dev_plan devs d) site.pair A queue dst kind payload)  (device_with d dst kind payload (ethernet_frame dst (dev_plan devs d).address kind payload) A queue stopped (port_queue A queue (has_forgotten site.pair.link A)))) (sym ((now.sides A).queues queue among).stopped)
+      (device_by_A d dst kind payload (ethernet_frame dst (dev_plan devs d).address kind payload) queue (has_forgotten site.pair.link A) among declared on refl fits)))
+  xbegin_follows B queue d dst kind payload among declared on fits =
+      subst (λ (new : QueuePart). Follows devs plan k site (Xbegin k B queue d dst kind payload) (xbegin_step (sizes_of plan B queue) reads (dev_plan devs d) site.pair B queue dst kind payload)  (record { answer = (of_xbegin (part B queue).flow.stopped (begin_answer (part B queue).queue kept.bridge (length (ethernet_frame dst (dev_plan devs d).address kind payload)))); after = with_queue kept B queue new })) (sym (device_part_is B queue (ethernet_frame dst (dev_plan devs d).address kind payload) (of_xbegin (part B queue).flow.stopped (begin_answer (part B queue).queue kept.bridge (length (ethernet_frame dst (dev_plan devs d).address kind payload)))) (part B queue).queue))
+      (subst (λ (q : QueueState). Follows devs plan k site (Xbegin k B queue d dst kind payload) (xbegin_step (sizes_of plan B queue) reads (dev_plan devs d) site.pair B queue dst kind payload)  (device_with d dst kind payload (ethernet_frame dst (dev_plan devs d).address kind payload) B queue (part B queue).flow.stopped q)) (sym (is_queue devs plan k now B queue (has_forgotten site.pair.link B) among refl))
+      (subst (λ stopped. Follows devs plan k site (Xbegin k B queue d dst kind payload) (xbegin_step (sizes_of plan B queue) reads (dev_plan devs d) site.pair B queue dst kind payload)  (device_with d dst kind payload (ethernet_frame dst (dev_plan devs d).address kind payload) B queue stopped (port_queue B queue (has_forgotten site.pair.link B)))) (sym ((now.sides B).queues queue among).stopped)
+      (device_by_B d dst kind payload (ethernet_frame dst (dev_plan devs d).address kind payload) queue (has_forgotten site.pair.link B) among declared on refl fits)))

@@ -31,7 +31,7 @@ use Rattle.fabric_rule.specs.Parts.{PairState}
 use Rattle.fabric_rule.specs.StandsFor.{PairStands}
 use Rattle.fabric_rule.specs.Steps.{move_of}
 use Rattle.fabric_rule.proofs.Aside.{poke_follows, show_mem_follows, show_queue_follows, spad_follows}
-use Rattle.fabric_rule.proofs.Beginning.{begin_follows, qpdown_follows, wake_follows}
+use Rattle.fabric_rule.proofs.Beginning.{begin_follows, qpdown_follows, wake_follows, xbegin_follows}
 use Rattle.fabric_rule.proofs.BothReadings.{bytes_say_the_ledger, sites_are_the_ledger}
 use Rattle.fabric_rule.proofs.Copying.{copy_follows}
 use Rattle.fabric_rule.proofs.Follows.{Follows, follows_if, made_by_bytes, pages_in, spare_in}
@@ -68,7 +68,8 @@ module _ (plan : Plan) where
   by_bytes_follows (Join k side queue) now sizes may = join_follows plan.devs (pair_plan plan k) k now.site now.pages now.spare now.queues now.link now.sides side queue
   by_bytes_follows (Begin k side queue frame) now sizes may = begin_follows plan.devs (pair_plan plan k) k now side queue frame may.0.among (sizes.joined side queue)
   by_bytes_follows (QpDown k side queue) now sizes may = qpdown_follows plan.devs (pair_plan plan k) k now side queue may.among (sizes.joined side queue)
-  by_bytes_follows (Xbegin k side queue dev dst kind payload) now sizes may = ?
+  by_bytes_follows (Xbegin k side queue dev dst kind payload) now sizes may =
+      xbegin_follows plan.devs (pair_plan plan k) k now side queue dev dst kind payload may.0.among may.1.declared (record { its_pair = may.1.its_pair; its_side = may.1.its_side; its_queue = may.1.its_queue }) (sizes.joined side queue)
   by_bytes_follows (Post k side queue) now sizes may = post_follows plan.devs (pair_plan plan k) k now side queue may.among
   by_bytes_follows (Land k side place) now sizes may = land_follows plan.devs (pair_plan plan k) k now place side
   by_bytes_follows (Look k side queue) now sizes may = look_follows plan.devs (pair_plan plan k) k now side queue may.among (sizes.joined side queue)
