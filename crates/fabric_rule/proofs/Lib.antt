@@ -7,8 +7,10 @@ pub mod Counts
 pub mod EachStep
 pub mod Flights
 pub mod Follows
+pub mod FreshPairs
 pub mod Gates
 pub mod GivingBack
+pub mod GoingOn
 pub mod Handshake
 pub mod Landing
 pub mod Links

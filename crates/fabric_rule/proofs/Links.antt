@@ -99,7 +99,7 @@ pub none_in_flight : (plan : PairPlan) (side : Side) (down : Bool) (sent : ℕ �
 none_in_flight plan side down sent = record { begun = tt; raws = tt; places = tt; none = λ _. (refl, refl) }
 
 -- a queue in a fresh session
-fresh_queue_stands : (devs : List DevPlan) (plan : PairPlan) (k : ℕ) (side : Side) (queue : ℕ) (view : QueueView) (part : QueuePart) → QueueStands devs plan k side queue true view part
+pub fresh_queue_stands : (devs : List DevPlan) (plan : PairPlan) (k : ℕ) (side : Side) (queue : ℕ) (view : QueueView) (part : QueuePart) → QueueStands devs plan k side queue true view part
     → QueueStands devs plan k side queue false (record view { sends = sender_of fresh_lane; receives = receiver_of fresh_lane }) part
 fresh_queue_stands devs plan k side queue view part h =
     record {

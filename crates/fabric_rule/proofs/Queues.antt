@@ -14,7 +14,7 @@ use Rattle.plan_model.specs.Both.{Both, at_side, with_side}
 use Rattle.plan_model.specs.Link.{Link, is_down}
 use Rattle.plan_model.specs.Plans.{side_plan}
 use Rattle.byte_model.specs.Stores.{Store}
-use Rattle.ledger_model.specs.Ledger.{LanePart, PairPart, SidePart, lane_of, lane_to, side_of, updated, with_lane}
+use Rattle.ledger_model.specs.Ledger.{DevPart, LanePart, PairPart, SidePart, lane_of, lane_to, side_of, updated, with_lane}
 use Rattle.memory_model.specs.Memory.{Site}
 use Rattle.bridge_pair.specs.Bridge.{Bridge}
 use Rattle.queue_pair.specs.Queue.{QueueState}
@@ -70,6 +70,11 @@ pub queue_is : (devs : List DevPlan) (plan : PairPlan) (k : ℕ) (side : Side) (
 queue_is devs plan k side queue forgotten remembered view part same h =
     ap (λ port. record part.queue { port = port }) (h.port ∙ ap (λ b. port_for plan side queue b view part.queue.port.sending.entry) same)
     ∙ ap (λ closed. record { port = port_for plan side queue remembered view part.queue.port.sending.entry; closed = closed }) h.closed
+
+-- a port knows nothing of its device
+pub other_dev : (plan : PairPlan) (side : Side) (queue : ℕ) (forgotten : Bool) (view : QueueView) (dev : DevPart) (entry : Entry) → port_for plan side queue forgotten view entry ≡ port_for plan side queue forgotten (record view { dev = dev }) entry
+other_dev plan side queue true view dev entry = refl
+other_dev plan side queue false view dev entry = refl
 
 -- A lane as its receiver changes it
 
