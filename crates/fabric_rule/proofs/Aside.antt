@@ -48,16 +48,22 @@ module _ (devs : List DevPlan) (plan : PairPlan) (k : ℕ) (site : Site) (pages 
       (record { answer = Done; after = if up then with_side_part site.pair side (record (side_of site.pair side) { flight = (side_of site.pair side).flight ++ Pad i value ∷ [] }) else site.pair })
       (record { answer = Done; after = record state { bridge = if up then with_posted state.bridge side (pad_write i value) else state.bridge } })
   spad_at side i value false is = (refl, record { bridge = refl; link = link; sides = sides })
-  spad_at A i value true is = (refl, record {
-    bridge = ap (with_writes (bridge_for plan site) A) (one_more_plain plan A (sent_of site.pair.lanes.a) site.pair.sides.a.flight site.pair.sides.a.poked (Pad i value) (sides A).in_flight.raws);
-    link = link;
-    sides = by_side _ (side_posts devs plan k A _ _ _ _ _ _ _ (Pad i value) (sides A) (not_down_up site.pair.link.state is) tt tt tt) (sides B);
-  })
-  spad_at B i value true is = (refl, record {
-    bridge = ap (with_writes (bridge_for plan site) B) (one_more_plain plan B (sent_of site.pair.lanes.b) site.pair.sides.b.flight site.pair.sides.b.poked (Pad i value) (sides B).in_flight.raws);
-    link = link;
-    sides = by_side _ (sides A) (side_posts devs plan k B _ _ _ _ _ _ _ (Pad i value) (sides B) (not_down_up site.pair.link.state is) tt tt tt);
-  })
+  spad_at A i value true is = (
+    refl,
+    record {
+      bridge = ap (with_writes (bridge_for plan site) A) (one_more_plain plan A (sent_of site.pair.lanes.a) site.pair.sides.a.flight site.pair.sides.a.poked (Pad i value) (sides A).in_flight.raws);
+      link = link;
+      sides = by_side _ (side_posts devs plan k A _ _ _ _ _ _ _ (Pad i value) (sides A) (not_down_up site.pair.link.state is) tt tt tt) (sides B);
+    },
+  )
+  spad_at B i value true is = (
+    refl,
+    record {
+      bridge = ap (with_writes (bridge_for plan site) B) (one_more_plain plan B (sent_of site.pair.lanes.b) site.pair.sides.b.flight site.pair.sides.b.poked (Pad i value) (sides B).in_flight.raws);
+      link = link;
+      sides = by_side _ (sides A) (side_posts devs plan k B _ _ _ _ _ _ _ (Pad i value) (sides B) (not_down_up site.pair.link.state is) tt tt tt);
+    },
+  )
 
   pub spad_follows : (side : Side) (i value : ℕ) → Follows devs plan k site (Spad k side i value) (spad_step site.pair side i value) (spad_move state side i value)
   spad_follows side i value = spad_at side i value (is_up site.pair.link.state) refl
@@ -80,16 +86,22 @@ module _ (devs : List DevPlan) (plan : PairPlan) (k : ℕ) (site : Site) (pages 
       })
       (record { answer = Done; after = record state { bridge = if up then with_posted state.bridge side (memory_write (Raw window offset (length bytes)) window offset bytes) else state.bridge } })
   poke_at side window offset bytes false fits is = (refl, record { bridge = refl; link = link; sides = sides })
-  poke_at A window offset bytes true fits is = (refl, record {
-    bridge = ap (with_writes (bridge_for plan site) A) (one_more_write plan A (sent_of site.pair.lanes.a) site.pair.sides.a.flight site.pair.sides.a.poked (Raw window offset (length bytes)) (bytes ∷ []) (sides A).in_flight.raws);
-    link = link;
-    sides = by_side _ (side_posts_raw devs plan k A _ _ _ _ _ _ _ (Raw window offset (length bytes)) (bytes ∷ []) (sides A) (not_down_up site.pair.link.state is) tt (poke_place A window offset bytes fits) tt) (sides B);
-  })
-  poke_at B window offset bytes true fits is = (refl, record {
-    bridge = ap (with_writes (bridge_for plan site) B) (one_more_write plan B (sent_of site.pair.lanes.b) site.pair.sides.b.flight site.pair.sides.b.poked (Raw window offset (length bytes)) (bytes ∷ []) (sides B).in_flight.raws);
-    link = link;
-    sides = by_side _ (sides A) (side_posts_raw devs plan k B _ _ _ _ _ _ _ (Raw window offset (length bytes)) (bytes ∷ []) (sides B) (not_down_up site.pair.link.state is) tt (poke_place B window offset bytes fits) tt);
-  })
+  poke_at A window offset bytes true fits is = (
+    refl,
+    record {
+      bridge = ap (with_writes (bridge_for plan site) A) (one_more_write plan A (sent_of site.pair.lanes.a) site.pair.sides.a.flight site.pair.sides.a.poked (Raw window offset (length bytes)) (bytes ∷ []) (sides A).in_flight.raws);
+      link = link;
+      sides = by_side _ (side_posts_raw devs plan k A _ _ _ _ _ _ _ (Raw window offset (length bytes)) (bytes ∷ []) (sides A) (not_down_up site.pair.link.state is) tt (poke_place A window offset bytes fits) tt) (sides B);
+    },
+  )
+  poke_at B window offset bytes true fits is = (
+    refl,
+    record {
+      bridge = ap (with_writes (bridge_for plan site) B) (one_more_write plan B (sent_of site.pair.lanes.b) site.pair.sides.b.flight site.pair.sides.b.poked (Raw window offset (length bytes)) (bytes ∷ []) (sides B).in_flight.raws);
+      link = link;
+      sides = by_side _ (sides A) (side_posts_raw devs plan k B _ _ _ _ _ _ _ (Raw window offset (length bytes)) (bytes ∷ []) (sides B) (not_down_up site.pair.link.state is) tt (poke_place B window offset bytes fits) tt);
+    },
+  )
 
   pub poke_follows : (side : Side) (window offset : ℕ) (bytes : List ℕ) → IsPoke plan side window offset bytes
       → Follows devs plan k site (Poke k side window offset bytes) (poke_step site.pair side window offset bytes) (poke_move state side window offset bytes)

@@ -167,10 +167,12 @@ module _ (devs : List DevPlan) (plan : PairPlan) (k : ℕ) (now : Standing devs 
       (subst (λ said. Follows devs plan k site (Begin k side queue frame) (begin_made side queue frame pieces None) (begin_says side queue frame said after)) (sym passes.said_is)
       (subst (λ (after : QueueState). Follows devs plan k site (Begin k side queue frame) (begin_made side queue frame pieces None) (begin_says side queue frame (answer.OkNumber (lane_of now.site.pair side queue).told) after)) (sym passes.after_is) (refl, ok passes.is_joined)))
   begin_core side queue frame pieces refusal said begun joined busy full q after new is ok (inr refuses) =
-      subst (λ refusal. Follows devs plan k site (Begin k side queue frame) (begin_made side queue frame pieces refusal) (begin_says side queue frame said after)) (sym refuses.refusal_is)
-      (refl, subst (λ (part : QueuePart). PairStands devs plan k site (with_queue kept side queue part))
-      (sym (ap (λ (after : QueueState). accepted_where_begun said now.site.pair.link.session (part_with devs plan k now side queue after)) (refuses.after_is refl) ∙ not_accepted said now.site.pair.link.session (part_with devs plan k now side queue q) refuses.not_ok))
-      (unchanged devs plan k now side queue q is))
+      subst (λ refusal. Follows devs plan k site (Begin k side queue frame) (begin_made side queue frame pieces refusal) (begin_says side queue frame said after)) (sym refuses.refusal_is) (
+        refl,
+        subst (λ (part : QueuePart). PairStands devs plan k site (with_queue kept side queue part))
+            (sym (ap (λ (after : QueueState). accepted_where_begun said now.site.pair.link.session (part_with devs plan k now side queue after)) (refuses.after_is refl) ∙ not_accepted said now.site.pair.link.session (part_with devs plan k now side queue q) refuses.not_ok))
+            (unchanged devs plan k now side queue q is),
+      )
 
   -- the move of a begin by its queue pair
   abbrev begin_with : Side → ℕ → List ℕ → QueueState → Move
@@ -378,20 +380,22 @@ module _ (devs : List DevPlan) (plan : PairPlan) (k : ℕ) (now : Standing devs 
   down_ok_A : (queue : ℕ) → queue < plan.a.queues → has_forgotten site.pair.link A ≡ false → SizesFit plan
       → DownCore A queue None (answer.OkNumber (site.pair.lanes.a queue).told) (IsBegun (site.pair.lanes.a queue).told) (with_port (port_queue A queue false) (port_with A queue GoesDown [] (site.pair.lanes.a queue).told))
   down_ok_A queue among fresh fits =
-      let lane = lane_with A queue GoesDown [] (site.pair.lanes.a queue).told in
-      (refl, record {
-        bridge = bridge_same plan site.pair.link site.pair.sides (all_sent site.pair.lanes) (record { a = sent_of (updated site.pair.lanes.a queue lane); b = sent_of site.pair.lanes.b }) site.stores (sym (writes_grow plan A (sent_of site.pair.lanes.a) (sent_of (updated site.pair.lanes.a queue lane)) (grows_at site.pair.lanes.a queue lane (GoesDown ∷ []) refl) site.pair.sides.a.flight site.pair.sides.a.poked (now.sides A).in_flight.begun)) refl;
-        link = now.link;
-        sides =
-            by_side _ (side_at devs plan k A _ _ _ _ _ _ _ (view_of site.pair A) _ now.queues.a queue (down_part A queue) among
-            (λ other ne. two_same (λ (l : LanePart) (c : Bool). record (view_of site.pair A other) { sends = sender_of l; closed = c }) (updated_other site.pair.lanes.a queue lane other ne) (has-with_other site.pair.sides.a.closed queue other ne))
-            (flight_grows plan A (sent_of site.pair.lanes.a) (sent_of (updated site.pair.lanes.a queue lane)) (grows_at site.pair.lanes.a queue lane (GoesDown ∷ []) refl) site.pair.sides.a.flight site.pair.sides.a.poked (is_down site.pair.link.state) (now.sides A).in_flight)
-            (subst (λ (v : QueueView). QueueStands devs plan k A queue (has_forgotten site.pair.link A) v (down_part A queue))
-            (sym (ap (λ (l : LanePart). record (view_of site.pair A queue) { sends = sender_of l; closed = has_bit (with_bit site.pair.sides.a.closed queue) queue }) (updated_here site.pair.lanes.a queue lane)))
-            (begins A queue GoesDown [] (site.pair.lanes.a queue).told true (has_bit (with_bit site.pair.sides.a.closed queue) queue) (part A queue).flow (part A queue).counters (part A queue).accepted (site.pair.devs.a queue)
-            (λ session. (site.pair.tallies.a queue session).accepted) among fresh fits (no_payload A queue) tt (sym (has-with_same site.pair.sides.a.closed queue)) ((now.sides A).queues queue among).stopped refl refl ((now.sides A).queues queue among).counters ((now.sides A).queues queue among).accepted)) (now.sides A)) (side_same devs plan k B _ _ _ _ _ (view_of site.pair B) _ now.queues.b
-            (λ other. ap (λ r. record (view_of site.pair B other) { receives = r }) (updated_same receiver_of site.pair.lanes.a queue lane refl other)) (now.sides B));
-      })
+      let lane = lane_with A queue GoesDown [] (site.pair.lanes.a queue).told in (
+        refl,
+        record {
+          bridge = bridge_same plan site.pair.link site.pair.sides (all_sent site.pair.lanes) (record { a = sent_of (updated site.pair.lanes.a queue lane); b = sent_of site.pair.lanes.b }) site.stores (sym (writes_grow plan A (sent_of site.pair.lanes.a) (sent_of (updated site.pair.lanes.a queue lane)) (grows_at site.pair.lanes.a queue lane (GoesDown ∷ []) refl) site.pair.sides.a.flight site.pair.sides.a.poked (now.sides A).in_flight.begun)) refl;
+          link = now.link;
+          sides =
+              by_side _ (side_at devs plan k A _ _ _ _ _ _ _ (view_of site.pair A) _ now.queues.a queue (down_part A queue) among
+              (λ other ne. two_same (λ (l : LanePart) (c : Bool). record (view_of site.pair A other) { sends = sender_of l; closed = c }) (updated_other site.pair.lanes.a queue lane other ne) (has-with_other site.pair.sides.a.closed queue other ne))
+              (flight_grows plan A (sent_of site.pair.lanes.a) (sent_of (updated site.pair.lanes.a queue lane)) (grows_at site.pair.lanes.a queue lane (GoesDown ∷ []) refl) site.pair.sides.a.flight site.pair.sides.a.poked (is_down site.pair.link.state) (now.sides A).in_flight)
+              (subst (λ (v : QueueView). QueueStands devs plan k A queue (has_forgotten site.pair.link A) v (down_part A queue))
+              (sym (ap (λ (l : LanePart). record (view_of site.pair A queue) { sends = sender_of l; closed = has_bit (with_bit site.pair.sides.a.closed queue) queue }) (updated_here site.pair.lanes.a queue lane)))
+              (begins A queue GoesDown [] (site.pair.lanes.a queue).told true (has_bit (with_bit site.pair.sides.a.closed queue) queue) (part A queue).flow (part A queue).counters (part A queue).accepted (site.pair.devs.a queue)
+              (λ session. (site.pair.tallies.a queue session).accepted) among fresh fits (no_payload A queue) tt (sym (has-with_same site.pair.sides.a.closed queue)) ((now.sides A).queues queue among).stopped refl refl ((now.sides A).queues queue among).counters ((now.sides A).queues queue among).accepted)) (now.sides A)) (side_same devs plan k B _ _ _ _ _ (view_of site.pair B) _ now.queues.b
+              (λ other. ap (λ r. record (view_of site.pair B other) { receives = r }) (updated_same receiver_of site.pair.lanes.a queue lane refl other)) (now.sides B));
+        },
+      )
 
   down_by_A : (queue : ℕ) (forgotten : Bool) → queue < plan.a.queues → has_forgotten site.pair.link A ≡ forgotten → (has_bit site.pair.sides.a.joined queue ≡ true → SizesFit plan)
       → Follows devs plan k site (QpDown k A queue) (qpdown_step (sizes_of plan A queue) reads site.pair A queue) (down_with A queue (port_queue A queue forgotten))
@@ -414,20 +418,22 @@ module _ (devs : List DevPlan) (plan : PairPlan) (k : ℕ) (now : Standing devs 
   down_ok_B : (queue : ℕ) → queue < plan.b.queues → has_forgotten site.pair.link B ≡ false → SizesFit plan
       → DownCore B queue None (answer.OkNumber (site.pair.lanes.b queue).told) (IsBegun (site.pair.lanes.b queue).told) (with_port (port_queue B queue false) (port_with B queue GoesDown [] (site.pair.lanes.b queue).told))
   down_ok_B queue among fresh fits =
-      let lane = lane_with B queue GoesDown [] (site.pair.lanes.b queue).told in
-      (refl, record {
-        bridge = bridge_same plan site.pair.link site.pair.sides (all_sent site.pair.lanes) (record { a = sent_of site.pair.lanes.a; b = sent_of (updated site.pair.lanes.b queue lane) }) site.stores refl (sym (writes_grow plan B (sent_of site.pair.lanes.b) (sent_of (updated site.pair.lanes.b queue lane)) (grows_at site.pair.lanes.b queue lane (GoesDown ∷ []) refl) site.pair.sides.b.flight site.pair.sides.b.poked (now.sides B).in_flight.begun));
-        link = now.link;
-        sides =
-            by_side _ (side_same devs plan k A _ _ _ _ _ (view_of site.pair A) _ now.queues.a
-            (λ other. ap (λ r. record (view_of site.pair A other) { receives = r }) (updated_same receiver_of site.pair.lanes.b queue lane refl other)) (now.sides A)) (side_at devs plan k B _ _ _ _ _ _ _ (view_of site.pair B) _ now.queues.b queue (down_part B queue) among
-            (λ other ne. two_same (λ (l : LanePart) (c : Bool). record (view_of site.pair B other) { sends = sender_of l; closed = c }) (updated_other site.pair.lanes.b queue lane other ne) (has-with_other site.pair.sides.b.closed queue other ne))
-            (flight_grows plan B (sent_of site.pair.lanes.b) (sent_of (updated site.pair.lanes.b queue lane)) (grows_at site.pair.lanes.b queue lane (GoesDown ∷ []) refl) site.pair.sides.b.flight site.pair.sides.b.poked (is_down site.pair.link.state) (now.sides B).in_flight)
-            (subst (λ (v : QueueView). QueueStands devs plan k B queue (has_forgotten site.pair.link B) v (down_part B queue))
-            (sym (ap (λ (l : LanePart). record (view_of site.pair B queue) { sends = sender_of l; closed = has_bit (with_bit site.pair.sides.b.closed queue) queue }) (updated_here site.pair.lanes.b queue lane)))
-            (begins B queue GoesDown [] (site.pair.lanes.b queue).told true (has_bit (with_bit site.pair.sides.b.closed queue) queue) (part B queue).flow (part B queue).counters (part B queue).accepted (site.pair.devs.b queue)
-            (λ session. (site.pair.tallies.b queue session).accepted) among fresh fits (no_payload B queue) tt (sym (has-with_same site.pair.sides.b.closed queue)) ((now.sides B).queues queue among).stopped refl refl ((now.sides B).queues queue among).counters ((now.sides B).queues queue among).accepted)) (now.sides B));
-      })
+      let lane = lane_with B queue GoesDown [] (site.pair.lanes.b queue).told in (
+        refl,
+        record {
+          bridge = bridge_same plan site.pair.link site.pair.sides (all_sent site.pair.lanes) (record { a = sent_of site.pair.lanes.a; b = sent_of (updated site.pair.lanes.b queue lane) }) site.stores refl (sym (writes_grow plan B (sent_of site.pair.lanes.b) (sent_of (updated site.pair.lanes.b queue lane)) (grows_at site.pair.lanes.b queue lane (GoesDown ∷ []) refl) site.pair.sides.b.flight site.pair.sides.b.poked (now.sides B).in_flight.begun));
+          link = now.link;
+          sides =
+              by_side _ (side_same devs plan k A _ _ _ _ _ (view_of site.pair A) _ now.queues.a
+              (λ other. ap (λ r. record (view_of site.pair A other) { receives = r }) (updated_same receiver_of site.pair.lanes.b queue lane refl other)) (now.sides A)) (side_at devs plan k B _ _ _ _ _ _ _ (view_of site.pair B) _ now.queues.b queue (down_part B queue) among
+              (λ other ne. two_same (λ (l : LanePart) (c : Bool). record (view_of site.pair B other) { sends = sender_of l; closed = c }) (updated_other site.pair.lanes.b queue lane other ne) (has-with_other site.pair.sides.b.closed queue other ne))
+              (flight_grows plan B (sent_of site.pair.lanes.b) (sent_of (updated site.pair.lanes.b queue lane)) (grows_at site.pair.lanes.b queue lane (GoesDown ∷ []) refl) site.pair.sides.b.flight site.pair.sides.b.poked (is_down site.pair.link.state) (now.sides B).in_flight)
+              (subst (λ (v : QueueView). QueueStands devs plan k B queue (has_forgotten site.pair.link B) v (down_part B queue))
+              (sym (ap (λ (l : LanePart). record (view_of site.pair B queue) { sends = sender_of l; closed = has_bit (with_bit site.pair.sides.b.closed queue) queue }) (updated_here site.pair.lanes.b queue lane)))
+              (begins B queue GoesDown [] (site.pair.lanes.b queue).told true (has_bit (with_bit site.pair.sides.b.closed queue) queue) (part B queue).flow (part B queue).counters (part B queue).accepted (site.pair.devs.b queue)
+              (λ session. (site.pair.tallies.b queue session).accepted) among fresh fits (no_payload B queue) tt (sym (has-with_same site.pair.sides.b.closed queue)) ((now.sides B).queues queue among).stopped refl refl ((now.sides B).queues queue among).counters ((now.sides B).queues queue among).accepted)) (now.sides B));
+        },
+      )
 
   down_by_B : (queue : ℕ) (forgotten : Bool) → queue < plan.b.queues → has_forgotten site.pair.link B ≡ forgotten → (has_bit site.pair.sides.b.joined queue ≡ true → SizesFit plan)
       → Follows devs plan k site (QpDown k B queue) (qpdown_step (sizes_of plan B queue) reads site.pair B queue) (down_with B queue (port_queue B queue forgotten))
@@ -589,23 +595,25 @@ module _ (devs : List DevPlan) (plan : PairPlan) (k : ℕ) (now : Standing devs 
         → DeviceCore A queue (first ∷ others) None (answer.OkNumber (site.pair.lanes.a queue).told) (port_queue A queue false) (with_port (port_queue A queue false) (port_new A queue (first ∷ others)))
     device_ok_A queue first others among declared on fresh fits all count idle room =
         let lane = lane_with A queue first others ((site.pair.lanes.a queue).told + 1) in
-        let h = (now.sides A).queues queue among in
-        (refl, record {
-          bridge = bridge_same plan site.pair.link site.pair.sides (all_sent site.pair.lanes) (record { a = sent_of (updated site.pair.lanes.a queue lane); b = sent_of site.pair.lanes.b }) site.stores (sym (writes_grow plan A (sent_of site.pair.lanes.a) (sent_of (updated site.pair.lanes.a queue lane)) (grows_at site.pair.lanes.a queue lane (first ∷ []) refl) site.pair.sides.a.flight site.pair.sides.a.poked (now.sides A).in_flight.begun)) refl;
-          link = now.link;
-          sides =
-              by_side _ (side_at devs plan k A _ _ _ _ _ _ _ (view_of site.pair A) _ now.queues.a queue (sent_part_A queue first others) among
-              (λ other ne. three_same (λ (l : LanePart) (t : ℕ → Tally) (dev : DevPart). record (view_of site.pair A other) { sends = sender_of l; accepted = λ session. (t session).accepted; dev = dev }) (updated_other site.pair.lanes.a queue lane other ne)
-              (updated_other site.pair.tallies.a queue (more_accepted A queue) other ne) (updated_other site.pair.devs.a queue (sent_dev A queue d frame) other ne))
-              (flight_grows plan A (sent_of site.pair.lanes.a) (sent_of (updated site.pair.lanes.a queue lane)) (grows_at site.pair.lanes.a queue lane (first ∷ []) refl) site.pair.sides.a.flight site.pair.sides.a.poked (is_down site.pair.link.state) (now.sides A).in_flight)
-              (subst (λ (v : QueueView). QueueStands devs plan k A queue (has_forgotten site.pair.link A) v (sent_part_A queue first others))
-              (sym (three_same (λ (l : LanePart) (t : ℕ → Tally) (dev : DevPart). record (view_of site.pair A queue) { sends = sender_of l; accepted = λ session. (t session).accepted; dev = dev }) (updated_here site.pair.lanes.a queue lane)
-              (updated_here site.pair.tallies.a queue (more_accepted A queue)) (updated_here site.pair.devs.a queue (sent_dev A queue d frame))))
-              (begins A queue first others ((site.pair.lanes.a queue).told + 1) (has_bit site.pair.sides.a.closed queue) (has_bit site.pair.sides.a.closed queue) (sent_part_A queue first others).flow (sent_part_A queue first others).counters
-              (one_more (part A queue).accepted site.pair.link.session) (sent_dev A queue d frame) (λ session. (more_accepted A queue session).accepted) among fresh fits all.0 all.1 refl
-              (three_same stopped_then h.stopped (free_then_A queue first others ((site.pair.lanes.a queue).told + 1) among fits (idle_waiting (site.pair.lanes.a queue).todo (site.pair.lanes.a queue).waiting idle) count room) (h.limits d declared on).0)
-              refl refl (ap (λ counters. count_accepted counters (length frame)) h.counters) (counts_one A queue among))) (now.sides A)) (others_A queue lane among refl);
-        })
+        let h = (now.sides A).queues queue among in (
+          refl,
+          record {
+            bridge = bridge_same plan site.pair.link site.pair.sides (all_sent site.pair.lanes) (record { a = sent_of (updated site.pair.lanes.a queue lane); b = sent_of site.pair.lanes.b }) site.stores (sym (writes_grow plan A (sent_of site.pair.lanes.a) (sent_of (updated site.pair.lanes.a queue lane)) (grows_at site.pair.lanes.a queue lane (first ∷ []) refl) site.pair.sides.a.flight site.pair.sides.a.poked (now.sides A).in_flight.begun)) refl;
+            link = now.link;
+            sides =
+                by_side _ (side_at devs plan k A _ _ _ _ _ _ _ (view_of site.pair A) _ now.queues.a queue (sent_part_A queue first others) among
+                (λ other ne. three_same (λ (l : LanePart) (t : ℕ → Tally) (dev : DevPart). record (view_of site.pair A other) { sends = sender_of l; accepted = λ session. (t session).accepted; dev = dev }) (updated_other site.pair.lanes.a queue lane other ne)
+                (updated_other site.pair.tallies.a queue (more_accepted A queue) other ne) (updated_other site.pair.devs.a queue (sent_dev A queue d frame) other ne))
+                (flight_grows plan A (sent_of site.pair.lanes.a) (sent_of (updated site.pair.lanes.a queue lane)) (grows_at site.pair.lanes.a queue lane (first ∷ []) refl) site.pair.sides.a.flight site.pair.sides.a.poked (is_down site.pair.link.state) (now.sides A).in_flight)
+                (subst (λ (v : QueueView). QueueStands devs plan k A queue (has_forgotten site.pair.link A) v (sent_part_A queue first others))
+                (sym (three_same (λ (l : LanePart) (t : ℕ → Tally) (dev : DevPart). record (view_of site.pair A queue) { sends = sender_of l; accepted = λ session. (t session).accepted; dev = dev }) (updated_here site.pair.lanes.a queue lane)
+                (updated_here site.pair.tallies.a queue (more_accepted A queue)) (updated_here site.pair.devs.a queue (sent_dev A queue d frame))))
+                (begins A queue first others ((site.pair.lanes.a queue).told + 1) (has_bit site.pair.sides.a.closed queue) (has_bit site.pair.sides.a.closed queue) (sent_part_A queue first others).flow (sent_part_A queue first others).counters
+                (one_more (part A queue).accepted site.pair.link.session) (sent_dev A queue d frame) (λ session. (more_accepted A queue session).accepted) among fresh fits all.0 all.1 refl
+                (three_same stopped_then h.stopped (free_then_A queue first others ((site.pair.lanes.a queue).told + 1) among fits (idle_waiting (site.pair.lanes.a queue).todo (site.pair.lanes.a queue).waiting idle) count room) (h.limits d declared on).0)
+                refl refl (ap (λ counters. count_accepted counters (length frame)) h.counters) (counts_one A queue among))) (now.sides A)) (others_A queue lane among refl);
+          },
+        )
 
     device_fresh_A : (queue : ℕ) (pieces : List Entry) (joined : Bool) → queue < plan.a.queues → d < length devs → IsOn (dev_plan devs d) k A queue → has_forgotten site.pair.link A ≡ false → (joined ≡ true → SizesFit plan)
         → pieces_of (sizes_of plan A queue).largest frame ≡ pieces → AllByRecursion (FitsSlot plan A queue) pieces → DeviceAt A queue pieces (site.pair.devs.a queue).stopped joined (seen_word A queue)
@@ -675,23 +683,25 @@ module _ (devs : List DevPlan) (plan : PairPlan) (k : ℕ) (now : Standing devs 
         → DeviceCore B queue (first ∷ others) None (answer.OkNumber (site.pair.lanes.b queue).told) (port_queue B queue false) (with_port (port_queue B queue false) (port_new B queue (first ∷ others)))
     device_ok_B queue first others among declared on fresh fits all count idle room =
         let lane = lane_with B queue first others ((site.pair.lanes.b queue).told + 1) in
-        let h = (now.sides B).queues queue among in
-        (refl, record {
-          bridge = bridge_same plan site.pair.link site.pair.sides (all_sent site.pair.lanes) (record { a = sent_of site.pair.lanes.a; b = sent_of (updated site.pair.lanes.b queue lane) }) site.stores refl (sym (writes_grow plan B (sent_of site.pair.lanes.b) (sent_of (updated site.pair.lanes.b queue lane)) (grows_at site.pair.lanes.b queue lane (first ∷ []) refl) site.pair.sides.b.flight site.pair.sides.b.poked (now.sides B).in_flight.begun));
-          link = now.link;
-          sides =
-              by_side _ (others_B queue lane among refl) (side_at devs plan k B _ _ _ _ _ _ _ (view_of site.pair B) _ now.queues.b queue (sent_part_B queue first others) among
-              (λ other ne. three_same (λ (l : LanePart) (t : ℕ → Tally) (dev : DevPart). record (view_of site.pair B other) { sends = sender_of l; accepted = λ session. (t session).accepted; dev = dev }) (updated_other site.pair.lanes.b queue lane other ne)
-              (updated_other site.pair.tallies.b queue (more_accepted B queue) other ne) (updated_other site.pair.devs.b queue (sent_dev B queue d frame) other ne))
-              (flight_grows plan B (sent_of site.pair.lanes.b) (sent_of (updated site.pair.lanes.b queue lane)) (grows_at site.pair.lanes.b queue lane (first ∷ []) refl) site.pair.sides.b.flight site.pair.sides.b.poked (is_down site.pair.link.state) (now.sides B).in_flight)
-              (subst (λ (v : QueueView). QueueStands devs plan k B queue (has_forgotten site.pair.link B) v (sent_part_B queue first others))
-              (sym (three_same (λ (l : LanePart) (t : ℕ → Tally) (dev : DevPart). record (view_of site.pair B queue) { sends = sender_of l; accepted = λ session. (t session).accepted; dev = dev }) (updated_here site.pair.lanes.b queue lane)
-              (updated_here site.pair.tallies.b queue (more_accepted B queue)) (updated_here site.pair.devs.b queue (sent_dev B queue d frame))))
-              (begins B queue first others ((site.pair.lanes.b queue).told + 1) (has_bit site.pair.sides.b.closed queue) (has_bit site.pair.sides.b.closed queue) (sent_part_B queue first others).flow (sent_part_B queue first others).counters
-              (one_more (part B queue).accepted site.pair.link.session) (sent_dev B queue d frame) (λ session. (more_accepted B queue session).accepted) among fresh fits all.0 all.1 refl
-              (three_same stopped_then h.stopped (free_then_B queue first others ((site.pair.lanes.b queue).told + 1) among fits (idle_waiting (site.pair.lanes.b queue).todo (site.pair.lanes.b queue).waiting idle) count room) (h.limits d declared on).0)
-              refl refl (ap (λ counters. count_accepted counters (length frame)) h.counters) (counts_one B queue among))) (now.sides B));
-        })
+        let h = (now.sides B).queues queue among in (
+          refl,
+          record {
+            bridge = bridge_same plan site.pair.link site.pair.sides (all_sent site.pair.lanes) (record { a = sent_of site.pair.lanes.a; b = sent_of (updated site.pair.lanes.b queue lane) }) site.stores refl (sym (writes_grow plan B (sent_of site.pair.lanes.b) (sent_of (updated site.pair.lanes.b queue lane)) (grows_at site.pair.lanes.b queue lane (first ∷ []) refl) site.pair.sides.b.flight site.pair.sides.b.poked (now.sides B).in_flight.begun));
+            link = now.link;
+            sides =
+                by_side _ (others_B queue lane among refl) (side_at devs plan k B _ _ _ _ _ _ _ (view_of site.pair B) _ now.queues.b queue (sent_part_B queue first others) among
+                (λ other ne. three_same (λ (l : LanePart) (t : ℕ → Tally) (dev : DevPart). record (view_of site.pair B other) { sends = sender_of l; accepted = λ session. (t session).accepted; dev = dev }) (updated_other site.pair.lanes.b queue lane other ne)
+                (updated_other site.pair.tallies.b queue (more_accepted B queue) other ne) (updated_other site.pair.devs.b queue (sent_dev B queue d frame) other ne))
+                (flight_grows plan B (sent_of site.pair.lanes.b) (sent_of (updated site.pair.lanes.b queue lane)) (grows_at site.pair.lanes.b queue lane (first ∷ []) refl) site.pair.sides.b.flight site.pair.sides.b.poked (is_down site.pair.link.state) (now.sides B).in_flight)
+                (subst (λ (v : QueueView). QueueStands devs plan k B queue (has_forgotten site.pair.link B) v (sent_part_B queue first others))
+                (sym (three_same (λ (l : LanePart) (t : ℕ → Tally) (dev : DevPart). record (view_of site.pair B queue) { sends = sender_of l; accepted = λ session. (t session).accepted; dev = dev }) (updated_here site.pair.lanes.b queue lane)
+                (updated_here site.pair.tallies.b queue (more_accepted B queue)) (updated_here site.pair.devs.b queue (sent_dev B queue d frame))))
+                (begins B queue first others ((site.pair.lanes.b queue).told + 1) (has_bit site.pair.sides.b.closed queue) (has_bit site.pair.sides.b.closed queue) (sent_part_B queue first others).flow (sent_part_B queue first others).counters
+                (one_more (part B queue).accepted site.pair.link.session) (sent_dev B queue d frame) (λ session. (more_accepted B queue session).accepted) among fresh fits all.0 all.1 refl
+                (three_same stopped_then h.stopped (free_then_B queue first others ((site.pair.lanes.b queue).told + 1) among fits (idle_waiting (site.pair.lanes.b queue).todo (site.pair.lanes.b queue).waiting idle) count room) (h.limits d declared on).0)
+                refl refl (ap (λ counters. count_accepted counters (length frame)) h.counters) (counts_one B queue among))) (now.sides B));
+          },
+        )
 
     device_fresh_B : (queue : ℕ) (pieces : List Entry) (joined : Bool) → queue < plan.b.queues → d < length devs → IsOn (dev_plan devs d) k B queue → has_forgotten site.pair.link B ≡ false → (joined ≡ true → SizesFit plan)
         → pieces_of (sizes_of plan B queue).largest frame ≡ pieces → AllByRecursion (FitsSlot plan B queue) pieces → DeviceAt B queue pieces (site.pair.devs.b queue).stopped joined (seen_word B queue)
@@ -730,12 +740,12 @@ module _ (devs : List DevPlan) (plan : PairPlan) (k : ℕ) (now : Standing devs 
   pub xbegin_follows : (side : Side) (queue d : ℕ) (dst : List ℕ) (kind : ℕ) (payload : List ℕ) → queue < (side_plan plan side).queues → d < length devs → IsOn (dev_plan devs d) k side queue → (has_bit (side_of site.pair side).joined queue ≡ true → SizesFit plan)
       → Follows devs plan k site (Xbegin k side queue d dst kind payload) (xbegin_step (sizes_of plan side queue) reads (dev_plan devs d) site.pair side queue dst kind payload) (xbegin_move kept (dev_plan devs d) side queue dst kind payload)
   xbegin_follows A queue d dst kind payload among declared on fits =
-      subst (λ (new : QueuePart). Follows devs plan k site (Xbegin k A queue d dst kind payload) (xbegin_step (sizes_of plan A queue) reads (dev_plan devs d) site.pair A queue dst kind payload)  (record { answer = (of_xbegin (part A queue).flow.stopped (begin_answer (part A queue).queue kept.bridge (length (ethernet_frame dst (dev_plan devs d).address kind payload)))); after = with_queue kept A queue new })) (sym (device_part_is A queue (ethernet_frame dst (dev_plan devs d).address kind payload) (of_xbegin (part A queue).flow.stopped (begin_answer (part A queue).queue kept.bridge (length (ethernet_frame dst (dev_plan devs d).address kind payload)))) (part A queue).queue))
-      (subst (λ (q : QueueState). Follows devs plan k site (Xbegin k A queue d dst kind payload) (xbegin_step (sizes_of plan A queue) reads (dev_plan devs d) site.pair A queue dst kind payload)  (device_with d dst kind payload (ethernet_frame dst (dev_plan devs d).address kind payload) A queue (part A queue).flow.stopped q)) (sym (is_queue devs plan k now A queue (has_forgotten site.pair.link A) among refl))
-      (subst (λ stopped. Follows devs plan k site (Xbegin k A queue d dst kind payload) (xbegin_step (sizes_of plan A queue) reads (dev_plan devs d) site.pair A queue dst kind payload)  (device_with d dst kind payload (ethernet_frame dst (dev_plan devs d).address kind payload) A queue stopped (port_queue A queue (has_forgotten site.pair.link A)))) (sym ((now.sides A).queues queue among).stopped)
+      subst (λ (new : QueuePart). Follows devs plan k site (Xbegin k A queue d dst kind payload) (xbegin_step (sizes_of plan A queue) reads (dev_plan devs d) site.pair A queue dst kind payload) (record { answer = (of_xbegin (part A queue).flow.stopped (begin_answer (part A queue).queue kept.bridge (length (ethernet_frame dst (dev_plan devs d).address kind payload)))); after = with_queue kept A queue new })) (sym (device_part_is A queue (ethernet_frame dst (dev_plan devs d).address kind payload) (of_xbegin (part A queue).flow.stopped (begin_answer (part A queue).queue kept.bridge (length (ethernet_frame dst (dev_plan devs d).address kind payload)))) (part A queue).queue))
+      (subst (λ (q : QueueState). Follows devs plan k site (Xbegin k A queue d dst kind payload) (xbegin_step (sizes_of plan A queue) reads (dev_plan devs d) site.pair A queue dst kind payload) (device_with d dst kind payload (ethernet_frame dst (dev_plan devs d).address kind payload) A queue (part A queue).flow.stopped q)) (sym (is_queue devs plan k now A queue (has_forgotten site.pair.link A) among refl))
+      (subst (λ stopped. Follows devs plan k site (Xbegin k A queue d dst kind payload) (xbegin_step (sizes_of plan A queue) reads (dev_plan devs d) site.pair A queue dst kind payload) (device_with d dst kind payload (ethernet_frame dst (dev_plan devs d).address kind payload) A queue stopped (port_queue A queue (has_forgotten site.pair.link A)))) (sym ((now.sides A).queues queue among).stopped)
       (device_by_A d dst kind payload (ethernet_frame dst (dev_plan devs d).address kind payload) queue (has_forgotten site.pair.link A) among declared on refl fits)))
   xbegin_follows B queue d dst kind payload among declared on fits =
-      subst (λ (new : QueuePart). Follows devs plan k site (Xbegin k B queue d dst kind payload) (xbegin_step (sizes_of plan B queue) reads (dev_plan devs d) site.pair B queue dst kind payload)  (record { answer = (of_xbegin (part B queue).flow.stopped (begin_answer (part B queue).queue kept.bridge (length (ethernet_frame dst (dev_plan devs d).address kind payload)))); after = with_queue kept B queue new })) (sym (device_part_is B queue (ethernet_frame dst (dev_plan devs d).address kind payload) (of_xbegin (part B queue).flow.stopped (begin_answer (part B queue).queue kept.bridge (length (ethernet_frame dst (dev_plan devs d).address kind payload)))) (part B queue).queue))
-      (subst (λ (q : QueueState). Follows devs plan k site (Xbegin k B queue d dst kind payload) (xbegin_step (sizes_of plan B queue) reads (dev_plan devs d) site.pair B queue dst kind payload)  (device_with d dst kind payload (ethernet_frame dst (dev_plan devs d).address kind payload) B queue (part B queue).flow.stopped q)) (sym (is_queue devs plan k now B queue (has_forgotten site.pair.link B) among refl))
-      (subst (λ stopped. Follows devs plan k site (Xbegin k B queue d dst kind payload) (xbegin_step (sizes_of plan B queue) reads (dev_plan devs d) site.pair B queue dst kind payload)  (device_with d dst kind payload (ethernet_frame dst (dev_plan devs d).address kind payload) B queue stopped (port_queue B queue (has_forgotten site.pair.link B)))) (sym ((now.sides B).queues queue among).stopped)
+      subst (λ (new : QueuePart). Follows devs plan k site (Xbegin k B queue d dst kind payload) (xbegin_step (sizes_of plan B queue) reads (dev_plan devs d) site.pair B queue dst kind payload) (record { answer = (of_xbegin (part B queue).flow.stopped (begin_answer (part B queue).queue kept.bridge (length (ethernet_frame dst (dev_plan devs d).address kind payload)))); after = with_queue kept B queue new })) (sym (device_part_is B queue (ethernet_frame dst (dev_plan devs d).address kind payload) (of_xbegin (part B queue).flow.stopped (begin_answer (part B queue).queue kept.bridge (length (ethernet_frame dst (dev_plan devs d).address kind payload)))) (part B queue).queue))
+      (subst (λ (q : QueueState). Follows devs plan k site (Xbegin k B queue d dst kind payload) (xbegin_step (sizes_of plan B queue) reads (dev_plan devs d) site.pair B queue dst kind payload) (device_with d dst kind payload (ethernet_frame dst (dev_plan devs d).address kind payload) B queue (part B queue).flow.stopped q)) (sym (is_queue devs plan k now B queue (has_forgotten site.pair.link B) among refl))
+      (subst (λ stopped. Follows devs plan k site (Xbegin k B queue d dst kind payload) (xbegin_step (sizes_of plan B queue) reads (dev_plan devs d) site.pair B queue dst kind payload) (device_with d dst kind payload (ethernet_frame dst (dev_plan devs d).address kind payload) B queue stopped (port_queue B queue (has_forgotten site.pair.link B)))) (sym ((now.sides B).queues queue among).stopped)
       (device_by_B d dst kind payload (ethernet_frame dst (dev_plan devs d).address kind payload) queue (has_forgotten site.pair.link B) among declared on refl fits)))

@@ -239,21 +239,24 @@ module _ (devs : List DevPlan) (plan : PairPlan) (k : ℕ) (now : Standing devs 
   copy_A queue false more_parts more_entries gathered among fresh is = (refl, unchanged devs plan k now A queue (port_queue A queue false) (is_queue devs plan k now A queue false among fresh))
   copy_A queue true true more_entries gathered among fresh is = (refl, receives devs plan k now A queue (with_part A queue gathered) _ among refl (copies_part A queue among fresh is gathered))
   copy_A queue true false true gathered among fresh is = (refl, receives devs plan k now A queue (with_entry A queue gathered) _ among refl (copies_entry A queue among fresh is gathered))
-  copy_A queue true false false gathered among fresh is = (refl, record {
-    bridge = ap (λ (sent : ℕ → List Entry). bridge_with plan site.pair.link site.pair.sides (record { a = sent_of site.pair.lanes.a; b = sent }) site.stores) (sym (sent_kept site.pair.lanes.b queue (with_frame A queue) refl));
-    link = now.link;
-    sides =
-        by_side _ (side_at devs plan k A _ _ _ _ _ _ _ (view_of site.pair A) _ now.queues.a queue (whole_part A queue among fresh is gathered) among
-        (λ other ne. three_same (seen_A other) (updated_other site.pair.lanes.b queue (with_frame A queue) other ne) (updated_other site.pair.devs.a queue (dev_A queue gathered) other ne) (updated_other site.pair.tallies.b queue (tally_A queue) other ne))
-        (now.sides A).in_flight
-        (subst (λ (v : QueueView). QueueStands devs plan k A queue (has_forgotten site.pair.link A) v (whole_part A queue among fresh is gathered))
-        (sym (three_same (seen_A queue) (updated_here site.pair.lanes.b queue (with_frame A queue)) (updated_here site.pair.devs.a queue (dev_A queue gathered)) (updated_here site.pair.tallies.b queue (tally_A queue))))
-        (copies_frame A queue among fresh is gathered)) (now.sides A)) (side_same devs plan k B _ _ _ _ _ (view_of site.pair B) _ now.queues.b
-        (λ other.
-        two_same (λ sends accepted. record (view_of site.pair B other) { sends = sends; accepted = accepted }) (updated_same sender_of site.pair.lanes.b queue (with_frame A queue) refl other)
-        (updated_same (λ (tally : ℕ → Tally). λ session. (tally session).accepted) site.pair.tallies.b queue (tally_A queue)
-        (same_at (updated_same (λ (tally : Tally). tally.accepted) (site.pair.tallies.b queue) site.pair.link.session (counted_at A queue) refl)) other)) (now.sides B));
-  })
+  copy_A queue true false false gathered among fresh is = (
+    refl,
+    record {
+      bridge = ap (λ (sent : ℕ → List Entry). bridge_with plan site.pair.link site.pair.sides (record { a = sent_of site.pair.lanes.a; b = sent }) site.stores) (sym (sent_kept site.pair.lanes.b queue (with_frame A queue) refl));
+      link = now.link;
+      sides =
+          by_side _ (side_at devs plan k A _ _ _ _ _ _ _ (view_of site.pair A) _ now.queues.a queue (whole_part A queue among fresh is gathered) among
+          (λ other ne. three_same (seen_A other) (updated_other site.pair.lanes.b queue (with_frame A queue) other ne) (updated_other site.pair.devs.a queue (dev_A queue gathered) other ne) (updated_other site.pair.tallies.b queue (tally_A queue) other ne))
+          (now.sides A).in_flight
+          (subst (λ (v : QueueView). QueueStands devs plan k A queue (has_forgotten site.pair.link A) v (whole_part A queue among fresh is gathered))
+          (sym (three_same (seen_A queue) (updated_here site.pair.lanes.b queue (with_frame A queue)) (updated_here site.pair.devs.a queue (dev_A queue gathered)) (updated_here site.pair.tallies.b queue (tally_A queue))))
+          (copies_frame A queue among fresh is gathered)) (now.sides A)) (side_same devs plan k B _ _ _ _ _ (view_of site.pair B) _ now.queues.b
+          (λ other.
+          two_same (λ sends accepted. record (view_of site.pair B other) { sends = sends; accepted = accepted }) (updated_same sender_of site.pair.lanes.b queue (with_frame A queue) refl other)
+          (updated_same (λ (tally : ℕ → Tally). λ session. (tally session).accepted) site.pair.tallies.b queue (tally_A queue)
+          (same_at (updated_same (λ (tally : Tally). tally.accepted) (site.pair.tallies.b queue) site.pair.link.session (counted_at A queue) refl)) other)) (now.sides B));
+    },
+  )
     where
       counted_at : Side → ℕ → Tally
       counted_at side queue = record (tally_of site.pair (other_side side) queue site.pair.link.session) { delivered = (tally_of site.pair (other_side side) queue site.pair.link.session).delivered + 1 }
@@ -295,21 +298,24 @@ module _ (devs : List DevPlan) (plan : PairPlan) (k : ℕ) (now : Standing devs 
   copy_B queue false more_parts more_entries gathered among fresh is = (refl, unchanged devs plan k now B queue (port_queue B queue false) (is_queue devs plan k now B queue false among fresh))
   copy_B queue true true more_entries gathered among fresh is = (refl, receives devs plan k now B queue (with_part B queue gathered) _ among refl (copies_part B queue among fresh is gathered))
   copy_B queue true false true gathered among fresh is = (refl, receives devs plan k now B queue (with_entry B queue gathered) _ among refl (copies_entry B queue among fresh is gathered))
-  copy_B queue true false false gathered among fresh is = (refl, record {
-    bridge = ap (λ (sent : ℕ → List Entry). bridge_with plan site.pair.link site.pair.sides (record { b = sent_of site.pair.lanes.b; a = sent }) site.stores) (sym (sent_kept site.pair.lanes.a queue (with_frame B queue) refl));
-    link = now.link;
-    sides =
-        by_side _ (side_same devs plan k A _ _ _ _ _ (view_of site.pair A) _ now.queues.a
-        (λ other.
-        two_same (λ sends accepted. record (view_of site.pair A other) { sends = sends; accepted = accepted }) (updated_same sender_of site.pair.lanes.a queue (with_frame B queue) refl other)
-        (updated_same (λ (tally : ℕ → Tally). λ session. (tally session).accepted) site.pair.tallies.a queue (tally_B queue)
-        (same_at (updated_same (λ (tally : Tally). tally.accepted) (site.pair.tallies.a queue) site.pair.link.session (counted_at B queue) refl)) other)) (now.sides A)) (side_at devs plan k B _ _ _ _ _ _ _ (view_of site.pair B) _ now.queues.b queue (whole_part B queue among fresh is gathered) among
-        (λ other ne. three_same (seen_B other) (updated_other site.pair.lanes.a queue (with_frame B queue) other ne) (updated_other site.pair.devs.b queue (dev_B queue gathered) other ne) (updated_other site.pair.tallies.a queue (tally_B queue) other ne))
-        (now.sides B).in_flight
-        (subst (λ (v : QueueView). QueueStands devs plan k B queue (has_forgotten site.pair.link B) v (whole_part B queue among fresh is gathered))
-        (sym (three_same (seen_B queue) (updated_here site.pair.lanes.a queue (with_frame B queue)) (updated_here site.pair.devs.b queue (dev_B queue gathered)) (updated_here site.pair.tallies.a queue (tally_B queue))))
-        (copies_frame B queue among fresh is gathered)) (now.sides B));
-  })
+  copy_B queue true false false gathered among fresh is = (
+    refl,
+    record {
+      bridge = ap (λ (sent : ℕ → List Entry). bridge_with plan site.pair.link site.pair.sides (record { b = sent_of site.pair.lanes.b; a = sent }) site.stores) (sym (sent_kept site.pair.lanes.a queue (with_frame B queue) refl));
+      link = now.link;
+      sides =
+          by_side _ (side_same devs plan k A _ _ _ _ _ (view_of site.pair A) _ now.queues.a
+          (λ other.
+          two_same (λ sends accepted. record (view_of site.pair A other) { sends = sends; accepted = accepted }) (updated_same sender_of site.pair.lanes.a queue (with_frame B queue) refl other)
+          (updated_same (λ (tally : ℕ → Tally). λ session. (tally session).accepted) site.pair.tallies.a queue (tally_B queue)
+          (same_at (updated_same (λ (tally : Tally). tally.accepted) (site.pair.tallies.a queue) site.pair.link.session (counted_at B queue) refl)) other)) (now.sides A)) (side_at devs plan k B _ _ _ _ _ _ _ (view_of site.pair B) _ now.queues.b queue (whole_part B queue among fresh is gathered) among
+          (λ other ne. three_same (seen_B other) (updated_other site.pair.lanes.a queue (with_frame B queue) other ne) (updated_other site.pair.devs.b queue (dev_B queue gathered) other ne) (updated_other site.pair.tallies.a queue (tally_B queue) other ne))
+          (now.sides B).in_flight
+          (subst (λ (v : QueueView). QueueStands devs plan k B queue (has_forgotten site.pair.link B) v (whole_part B queue among fresh is gathered))
+          (sym (three_same (seen_B queue) (updated_here site.pair.lanes.a queue (with_frame B queue)) (updated_here site.pair.devs.b queue (dev_B queue gathered)) (updated_here site.pair.tallies.a queue (tally_B queue))))
+          (copies_frame B queue among fresh is gathered)) (now.sides B));
+    },
+  )
     where
       counted_at : Side → ℕ → Tally
       counted_at side queue = record (tally_of site.pair (other_side side) queue site.pair.link.session) { delivered = (tally_of site.pair (other_side side) queue site.pair.link.session).delivered + 1 }

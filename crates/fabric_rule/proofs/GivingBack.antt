@@ -165,15 +165,17 @@ module _ (devs : List DevPlan) (plan : PairPlan) (k : ℕ) (now : Standing devs 
       → Follows devs plan k site (Clear k A queue) (clear_made A queue copied) (clears A queue copied ((site.pair.lanes.b queue).got - 1))
   clear_A queue false among fresh is = (refl, unchanged devs plan k now A queue (port_queue A queue false) (is_queue devs plan k now A queue false among fresh))
   clear_A queue true among fresh is =
-      subst (λ n. Follows devs plan k site (Clear k A queue) (clear_made A queue true) (clears A queue true n)) (sym last)
-      (refl, record {
-        bridge =
-            ap (λ bytes. with_memory (bridge_for plan site) A (record { bytes = bytes; promised = [] })) (sym (one_stored store site.stores.a (memory_size plan A) inside))
-            ∙ ap (λ (sent : ℕ → List Entry). bridge_with plan site.pair.link site.pair.sides (record { a = sent_of site.pair.lanes.a; b = sent }) (record { a = store ∷ site.stores.a; b = site.stores.b }))
-            (sym (sent_kept site.pair.lanes.b queue (flags_gone A queue) refl));
-        link = now.link;
-        sides = (receives devs plan k now A queue (flags_gone A queue) (with_phase A queue Cleared) among refl (in_phase A queue among fresh (flags_gone A queue) Cleared refl counts (inr fits) refl)).sides;
-      })
+      subst (λ n. Follows devs plan k site (Clear k A queue) (clear_made A queue true) (clears A queue true n)) (sym last) (
+        refl,
+        record {
+          bridge =
+              ap (λ bytes. with_memory (bridge_for plan site) A (record { bytes = bytes; promised = [] })) (sym (one_stored store site.stores.a (memory_size plan A) inside))
+              ∙ ap (λ (sent : ℕ → List Entry). bridge_with plan site.pair.link site.pair.sides (record { a = sent_of site.pair.lanes.a; b = sent }) (record { a = store ∷ site.stores.a; b = site.stores.b }))
+              (sym (sent_kept site.pair.lanes.b queue (flags_gone A queue) refl));
+          link = now.link;
+          sides = (receives devs plan k now A queue (flags_gone A queue) (with_phase A queue Cleared) among refl (in_phase A queue among fresh (flags_gone A queue) Cleared refl counts (inr fits) refl)).sides;
+        },
+      )
     where
       counts : ((site.pair.lanes.b queue).acked + 1 ≡ (site.pair.lanes.b queue).cleared + 1) × ((site.pair.lanes.b queue).cleared + 1 ≡ (site.pair.lanes.b queue).got)
       counts = after_copied (site.pair.lanes.b queue).phase (site.pair.lanes.b queue).acked (site.pair.lanes.b queue).cleared (site.pair.lanes.b queue).got is ((old A queue among fresh).receiving.counts refl)
@@ -200,12 +202,13 @@ module _ (devs : List DevPlan) (plan : PairPlan) (k : ℕ) (now : Standing devs 
       → Follows devs plan k site (Ack k A queue) (ack_made A queue cleared) (acks A queue cleared ((site.pair.lanes.b queue).got - 1))
   ack_A queue false among fresh is = (refl, unchanged devs plan k now A queue (port_queue A queue false) (is_queue devs plan k now A queue false among fresh))
   ack_A queue true among fresh is =
-      subst (λ n. Follows devs plan k site (Ack k A queue) (ack_made A queue true) (acks A queue true n)) (sym last)
-      (refl,
-      subst (λ (bridge : Bridge). PairStands devs plan k
-      (record site { pair = posts_through reads (with_lane site.pair B queue (given A queue)) A (Index queue (site.pair.lanes.b queue).acked) })
-      (record (with_queue kept A queue (with_phase A queue Idle)) { bridge = index_posted bridge A queue (site.pair.lanes.b queue).acked }))
-      (sym (ap (λ (bridge : Bridge). with_promises bridge now.pages now.spare) first.bridge)) (index_posts_A devs plan k changed queue (site.pair.lanes.b queue).acked among fits))
+      subst (λ n. Follows devs plan k site (Ack k A queue) (ack_made A queue true) (acks A queue true n)) (sym last) (
+        refl,
+        subst (λ (bridge : Bridge). PairStands devs plan k
+            (record site { pair = posts_through reads (with_lane site.pair B queue (given A queue)) A (Index queue (site.pair.lanes.b queue).acked) })
+            (record (with_queue kept A queue (with_phase A queue Idle)) { bridge = index_posted bridge A queue (site.pair.lanes.b queue).acked }))
+            (sym (ap (λ (bridge : Bridge). with_promises bridge now.pages now.spare) first.bridge)) (index_posts_A devs plan k changed queue (site.pair.lanes.b queue).acked among fits),
+      )
     where
       counts : ((site.pair.lanes.b queue).acked + 1 ≡ (site.pair.lanes.b queue).cleared) × ((site.pair.lanes.b queue).cleared ≡ (site.pair.lanes.b queue).got)
       counts = after_cleared (site.pair.lanes.b queue).phase (site.pair.lanes.b queue).acked (site.pair.lanes.b queue).cleared (site.pair.lanes.b queue).got is ((old A queue among fresh).receiving.counts refl)
@@ -241,15 +244,17 @@ module _ (devs : List DevPlan) (plan : PairPlan) (k : ℕ) (now : Standing devs 
       → Follows devs plan k site (Clear k B queue) (clear_made B queue copied) (clears B queue copied ((site.pair.lanes.a queue).got - 1))
   clear_B queue false among fresh is = (refl, unchanged devs plan k now B queue (port_queue B queue false) (is_queue devs plan k now B queue false among fresh))
   clear_B queue true among fresh is =
-      subst (λ n. Follows devs plan k site (Clear k B queue) (clear_made B queue true) (clears B queue true n)) (sym last)
-      (refl, record {
-        bridge =
-            ap (λ bytes. with_memory (bridge_for plan site) B (record { bytes = bytes; promised = [] })) (sym (one_stored store site.stores.b (memory_size plan B) inside))
-            ∙ ap (λ (sent : ℕ → List Entry). bridge_with plan site.pair.link site.pair.sides (record { b = sent_of site.pair.lanes.b; a = sent }) (record { b = store ∷ site.stores.b; a = site.stores.a }))
-            (sym (sent_kept site.pair.lanes.a queue (flags_gone B queue) refl));
-        link = now.link;
-        sides = (receives devs plan k now B queue (flags_gone B queue) (with_phase B queue Cleared) among refl (in_phase B queue among fresh (flags_gone B queue) Cleared refl counts (inr fits) refl)).sides;
-      })
+      subst (λ n. Follows devs plan k site (Clear k B queue) (clear_made B queue true) (clears B queue true n)) (sym last) (
+        refl,
+        record {
+          bridge =
+              ap (λ bytes. with_memory (bridge_for plan site) B (record { bytes = bytes; promised = [] })) (sym (one_stored store site.stores.b (memory_size plan B) inside))
+              ∙ ap (λ (sent : ℕ → List Entry). bridge_with plan site.pair.link site.pair.sides (record { b = sent_of site.pair.lanes.b; a = sent }) (record { b = store ∷ site.stores.b; a = site.stores.a }))
+              (sym (sent_kept site.pair.lanes.a queue (flags_gone B queue) refl));
+          link = now.link;
+          sides = (receives devs plan k now B queue (flags_gone B queue) (with_phase B queue Cleared) among refl (in_phase B queue among fresh (flags_gone B queue) Cleared refl counts (inr fits) refl)).sides;
+        },
+      )
     where
       counts : ((site.pair.lanes.a queue).acked + 1 ≡ (site.pair.lanes.a queue).cleared + 1) × ((site.pair.lanes.a queue).cleared + 1 ≡ (site.pair.lanes.a queue).got)
       counts = after_copied (site.pair.lanes.a queue).phase (site.pair.lanes.a queue).acked (site.pair.lanes.a queue).cleared (site.pair.lanes.a queue).got is ((old B queue among fresh).receiving.counts refl)
@@ -276,12 +281,13 @@ module _ (devs : List DevPlan) (plan : PairPlan) (k : ℕ) (now : Standing devs 
       → Follows devs plan k site (Ack k B queue) (ack_made B queue cleared) (acks B queue cleared ((site.pair.lanes.a queue).got - 1))
   ack_B queue false among fresh is = (refl, unchanged devs plan k now B queue (port_queue B queue false) (is_queue devs plan k now B queue false among fresh))
   ack_B queue true among fresh is =
-      subst (λ n. Follows devs plan k site (Ack k B queue) (ack_made B queue true) (acks B queue true n)) (sym last)
-      (refl,
-      subst (λ (bridge : Bridge). PairStands devs plan k
-      (record site { pair = posts_through reads (with_lane site.pair A queue (given B queue)) B (Index queue (site.pair.lanes.a queue).acked) })
-      (record (with_queue kept B queue (with_phase B queue Idle)) { bridge = index_posted bridge B queue (site.pair.lanes.a queue).acked }))
-      (sym (ap (λ (bridge : Bridge). with_promises bridge now.pages now.spare) first.bridge)) (index_posts_B devs plan k changed queue (site.pair.lanes.a queue).acked among fits))
+      subst (λ n. Follows devs plan k site (Ack k B queue) (ack_made B queue true) (acks B queue true n)) (sym last) (
+        refl,
+        subst (λ (bridge : Bridge). PairStands devs plan k
+            (record site { pair = posts_through reads (with_lane site.pair A queue (given B queue)) B (Index queue (site.pair.lanes.a queue).acked) })
+            (record (with_queue kept B queue (with_phase B queue Idle)) { bridge = index_posted bridge B queue (site.pair.lanes.a queue).acked }))
+            (sym (ap (λ (bridge : Bridge). with_promises bridge now.pages now.spare) first.bridge)) (index_posts_B devs plan k changed queue (site.pair.lanes.a queue).acked among fits),
+      )
     where
       counts : ((site.pair.lanes.a queue).acked + 1 ≡ (site.pair.lanes.a queue).cleared) × ((site.pair.lanes.a queue).cleared ≡ (site.pair.lanes.a queue).got)
       counts = after_cleared (site.pair.lanes.a queue).phase (site.pair.lanes.a queue).acked (site.pair.lanes.a queue).cleared (site.pair.lanes.a queue).got is ((old B queue among fresh).receiving.counts refl)

@@ -107,19 +107,24 @@ module _ (devs : List DevPlan) (plan : PairPlan) (k : ℕ) (now : Standing devs 
   abbrev wake_made : Side → ℕ → Bool → Outcome
   wake_made side queue stays = decided now.site.pair (refuse_if stays answer.Stopped None) answer.Awake (with_dev now.site.pair side queue (goes_on side queue))
 
-
   wake_A : (queue : ℕ) (stays : Bool) → queue < plan.a.queues → (stays ≡ true → (part A queue).flow.stopped ≡ true) → Follows devs plan k site (Wake k A queue 0) (wake_made A queue stays) (wakes A queue stays)
-  wake_A queue true among is = (refl, subst (λ stopped. PairStands devs plan k site (with_queue kept A queue (flow_part A queue stopped))) (is refl)
-      (subst (PairStands devs plan k site) (sym (set_again kept A queue)) (record { bridge = refl; link = now.link; sides = now.sides })))
-  wake_A queue false among is = (refl, record {
-    bridge = refl;
-    link = now.link;
-    sides =
-        by_side _ (side_at devs plan k A _ _ _ _ _ _ _ (view_of site.pair A) _ now.queues.a queue (flow_part A queue false) among
-        (λ other ne. ap (λ (d : DevPart). record (view_of site.pair A other) { dev = d }) (updated_other site.pair.devs.a queue (goes_on A queue) other ne)) (now.sides A).in_flight
-        (subst (λ (v : QueueView). QueueStands devs plan k A queue (has_forgotten site.pair.link A) v (flow_part A queue false))
-        (sym (ap (λ (d : DevPart). record (view_of site.pair A queue) { dev = d }) (updated_here site.pair.devs.a queue (goes_on A queue)))) (goes_on_stands A queue among)) (now.sides A)) (now.sides B);
-  })
+  wake_A queue true among is = (
+    refl,
+    subst (λ stopped. PairStands devs plan k site (with_queue kept A queue (flow_part A queue stopped))) (is refl)
+        (subst (PairStands devs plan k site) (sym (set_again kept A queue)) (record { bridge = refl; link = now.link; sides = now.sides })),
+  )
+  wake_A queue false among is = (
+    refl,
+    record {
+      bridge = refl;
+      link = now.link;
+      sides =
+          by_side _ (side_at devs plan k A _ _ _ _ _ _ _ (view_of site.pair A) _ now.queues.a queue (flow_part A queue false) among
+          (λ other ne. ap (λ (d : DevPart). record (view_of site.pair A other) { dev = d }) (updated_other site.pair.devs.a queue (goes_on A queue) other ne)) (now.sides A).in_flight
+          (subst (λ (v : QueueView). QueueStands devs plan k A queue (has_forgotten site.pair.link A) v (flow_part A queue false))
+          (sym (ap (λ (d : DevPart). record (view_of site.pair A queue) { dev = d }) (updated_here site.pair.devs.a queue (goes_on A queue)))) (goes_on_stands A queue among)) (now.sides A)) (now.sides B);
+    },
+  )
 
   free_A : (queue : ℕ) → queue < plan.a.queues → SizesFit plan → has_forgotten site.pair.link A ≡ false → free_answer (part A queue).queue.port kept.bridge ≡ reads.free A queue
   free_A queue among fits fresh =
@@ -140,17 +145,23 @@ module _ (devs : List DevPlan) (plan : PairPlan) (k : ℕ) (now : Standing devs 
       three_same (λ stopped free start. stopped && nat_lt free start) h.stopped (free_A queue among fits fresh) (h.limits d declared on).1
 
   wake_B : (queue : ℕ) (stays : Bool) → queue < plan.b.queues → (stays ≡ true → (part B queue).flow.stopped ≡ true) → Follows devs plan k site (Wake k B queue 0) (wake_made B queue stays) (wakes B queue stays)
-  wake_B queue true among is = (refl, subst (λ stopped. PairStands devs plan k site (with_queue kept B queue (flow_part B queue stopped))) (is refl)
-      (subst (PairStands devs plan k site) (sym (set_again kept B queue)) (record { bridge = refl; link = now.link; sides = now.sides })))
-  wake_B queue false among is = (refl, record {
-    bridge = refl;
-    link = now.link;
-    sides =
-        by_side _ (now.sides A) (side_at devs plan k B _ _ _ _ _ _ _ (view_of site.pair B) _ now.queues.b queue (flow_part B queue false) among
-        (λ other ne. ap (λ (d : DevPart). record (view_of site.pair B other) { dev = d }) (updated_other site.pair.devs.b queue (goes_on B queue) other ne)) (now.sides B).in_flight
-        (subst (λ (v : QueueView). QueueStands devs plan k B queue (has_forgotten site.pair.link B) v (flow_part B queue false))
-        (sym (ap (λ (d : DevPart). record (view_of site.pair B queue) { dev = d }) (updated_here site.pair.devs.b queue (goes_on B queue)))) (goes_on_stands B queue among)) (now.sides B));
-  })
+  wake_B queue true among is = (
+    refl,
+    subst (λ stopped. PairStands devs plan k site (with_queue kept B queue (flow_part B queue stopped))) (is refl)
+        (subst (PairStands devs plan k site) (sym (set_again kept B queue)) (record { bridge = refl; link = now.link; sides = now.sides })),
+  )
+  wake_B queue false among is = (
+    refl,
+    record {
+      bridge = refl;
+      link = now.link;
+      sides =
+          by_side _ (now.sides A) (side_at devs plan k B _ _ _ _ _ _ _ (view_of site.pair B) _ now.queues.b queue (flow_part B queue false) among
+          (λ other ne. ap (λ (d : DevPart). record (view_of site.pair B other) { dev = d }) (updated_other site.pair.devs.b queue (goes_on B queue) other ne)) (now.sides B).in_flight
+          (subst (λ (v : QueueView). QueueStands devs plan k B queue (has_forgotten site.pair.link B) v (flow_part B queue false))
+          (sym (ap (λ (d : DevPart). record (view_of site.pair B queue) { dev = d }) (updated_here site.pair.devs.b queue (goes_on B queue)))) (goes_on_stands B queue among)) (now.sides B));
+    },
+  )
 
   free_B : (queue : ℕ) → queue < plan.b.queues → SizesFit plan → has_forgotten site.pair.link B ≡ false → free_answer (part B queue).queue.port kept.bridge ≡ reads.free B queue
   free_B queue among fits fresh =

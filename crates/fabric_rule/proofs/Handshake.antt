@@ -139,22 +139,28 @@ module _ (devs : List DevPlan) (plan : PairPlan) (k : ℕ) (site : Site) (pages 
       (after_offer_answer state.bridge side (if not up then offer.LinkDown else if spent then offer.Already else offer.Offered (pad_index (next side)))))
   offer_at side false spent is = (refl, record { bridge = refl; link = link; sides = sides })
   offer_at side true true is = (refl, record { bridge = refl; link = link; sides = sides })
-  offer_at A true false is = (refl, record {
-    bridge =
-        ap (with_writes (with_book (bridge_for plan site) A (record (book_for site.pair.sides.a) { offered = site.pair.sides.a.offered + 1 })) A)
-        (one_more_plain plan A (sent_of site.pair.lanes.a) site.pair.sides.a.flight site.pair.sides.a.poked (Pad (pad_index (next A)) (pad_value (next A))) (sides A).in_flight.raws
-        ∙ ap (λ label. writes_labelled plan A (sent_of site.pair.lanes.a) (site.pair.sides.a.flight ++ label ∷ []) site.pair.sides.a.poked) (sym (offer_is plan.a site.pair.sides.a.offered)));
-    link = link;
-    sides = by_side _ (subst (posts_one A) (sym (offer_is plan.a site.pair.sides.a.offered)) (side_posts devs plan k A _ _ _ _ _ _ _ (Pad (pad_index (next A)) (pad_value (next A))) (sides A) (not_down_up site.pair.link.state is) tt tt tt)) (sides B);
-  })
-  offer_at B true false is = (refl, record {
-    bridge =
-        ap (with_writes (with_book (bridge_for plan site) B (record (book_for site.pair.sides.b) { offered = site.pair.sides.b.offered + 1 })) B)
-        (one_more_plain plan B (sent_of site.pair.lanes.b) site.pair.sides.b.flight site.pair.sides.b.poked (Pad (pad_index (next B)) (pad_value (next B))) (sides B).in_flight.raws
-        ∙ ap (λ label. writes_labelled plan B (sent_of site.pair.lanes.b) (site.pair.sides.b.flight ++ label ∷ []) site.pair.sides.b.poked) (sym (offer_is plan.b site.pair.sides.b.offered)));
-    link = link;
-    sides = by_side _ (sides A) (subst (posts_one B) (sym (offer_is plan.b site.pair.sides.b.offered)) (side_posts devs plan k B _ _ _ _ _ _ _ (Pad (pad_index (next B)) (pad_value (next B))) (sides B) (not_down_up site.pair.link.state is) tt tt tt));
-  })
+  offer_at A true false is = (
+    refl,
+    record {
+      bridge =
+          ap (with_writes (with_book (bridge_for plan site) A (record (book_for site.pair.sides.a) { offered = site.pair.sides.a.offered + 1 })) A)
+          (one_more_plain plan A (sent_of site.pair.lanes.a) site.pair.sides.a.flight site.pair.sides.a.poked (Pad (pad_index (next A)) (pad_value (next A))) (sides A).in_flight.raws
+          ∙ ap (λ label. writes_labelled plan A (sent_of site.pair.lanes.a) (site.pair.sides.a.flight ++ label ∷ []) site.pair.sides.a.poked) (sym (offer_is plan.a site.pair.sides.a.offered)));
+      link = link;
+      sides = by_side _ (subst (posts_one A) (sym (offer_is plan.a site.pair.sides.a.offered)) (side_posts devs plan k A _ _ _ _ _ _ _ (Pad (pad_index (next A)) (pad_value (next A))) (sides A) (not_down_up site.pair.link.state is) tt tt tt)) (sides B);
+    },
+  )
+  offer_at B true false is = (
+    refl,
+    record {
+      bridge =
+          ap (with_writes (with_book (bridge_for plan site) B (record (book_for site.pair.sides.b) { offered = site.pair.sides.b.offered + 1 })) B)
+          (one_more_plain plan B (sent_of site.pair.lanes.b) site.pair.sides.b.flight site.pair.sides.b.poked (Pad (pad_index (next B)) (pad_value (next B))) (sides B).in_flight.raws
+          ∙ ap (λ label. writes_labelled plan B (sent_of site.pair.lanes.b) (site.pair.sides.b.flight ++ label ∷ []) site.pair.sides.b.poked) (sym (offer_is plan.b site.pair.sides.b.offered)));
+      link = link;
+      sides = by_side _ (sides A) (subst (posts_one B) (sym (offer_is plan.b site.pair.sides.b.offered)) (side_posts devs plan k B _ _ _ _ _ _ _ (Pad (pad_index (next B)) (pad_value (next B))) (sides B) (not_down_up site.pair.link.state is) tt tt tt));
+    },
+  )
 
   pub offer_follows : (side : Side) → Follows devs plan k site (Offer k side) (offer_step plan site.pair side) (offer_move state side)
   offer_follows A = offer_at A (is_up site.pair.link.state) (site.pair.sides.a.offered == length (offers plan.a)) refl
@@ -172,20 +178,26 @@ module _ (devs : List DevPlan) (plan : PairPlan) (k : ℕ) (site : Site) (pages 
   ready_at side queue false checked done is = (refl, record { bridge = refl; link = link; sides = sides })
   ready_at side queue true false done is = (refl, record { bridge = refl; link = link; sides = sides })
   ready_at side queue true true true is = (refl, record { bridge = refl; link = link; sides = sides })
-  ready_at A queue true true false is = (refl, record {
-    bridge =
-        ap (with_writes (with_book (bridge_for plan site) A (record (book_for site.pair.sides.a) { ready = with_bit site.pair.sides.a.ready queue })) A)
-        (one_more_plain plan A (sent_of site.pair.lanes.a) site.pair.sides.a.flight site.pair.sides.a.poked (Pad links_pad (with_bit site.pair.sides.a.ready queue)) (sides A).in_flight.raws);
-    link = link;
-    sides = by_side _ (side_posts devs plan k A _ _ _ _ _ _ _ (Pad links_pad (with_bit site.pair.sides.a.ready queue)) (sides A) (not_down_up site.pair.link.state is) tt tt tt) (sides B);
-  })
-  ready_at B queue true true false is = (refl, record {
-    bridge =
-        ap (with_writes (with_book (bridge_for plan site) B (record (book_for site.pair.sides.b) { ready = with_bit site.pair.sides.b.ready queue })) B)
-        (one_more_plain plan B (sent_of site.pair.lanes.b) site.pair.sides.b.flight site.pair.sides.b.poked (Pad links_pad (with_bit site.pair.sides.b.ready queue)) (sides B).in_flight.raws);
-    link = link;
-    sides = by_side _ (sides A) (side_posts devs plan k B _ _ _ _ _ _ _ (Pad links_pad (with_bit site.pair.sides.b.ready queue)) (sides B) (not_down_up site.pair.link.state is) tt tt tt);
-  })
+  ready_at A queue true true false is = (
+    refl,
+    record {
+      bridge =
+          ap (with_writes (with_book (bridge_for plan site) A (record (book_for site.pair.sides.a) { ready = with_bit site.pair.sides.a.ready queue })) A)
+          (one_more_plain plan A (sent_of site.pair.lanes.a) site.pair.sides.a.flight site.pair.sides.a.poked (Pad links_pad (with_bit site.pair.sides.a.ready queue)) (sides A).in_flight.raws);
+      link = link;
+      sides = by_side _ (side_posts devs plan k A _ _ _ _ _ _ _ (Pad links_pad (with_bit site.pair.sides.a.ready queue)) (sides A) (not_down_up site.pair.link.state is) tt tt tt) (sides B);
+    },
+  )
+  ready_at B queue true true false is = (
+    refl,
+    record {
+      bridge =
+          ap (with_writes (with_book (bridge_for plan site) B (record (book_for site.pair.sides.b) { ready = with_bit site.pair.sides.b.ready queue })) B)
+          (one_more_plain plan B (sent_of site.pair.lanes.b) site.pair.sides.b.flight site.pair.sides.b.poked (Pad links_pad (with_bit site.pair.sides.b.ready queue)) (sides B).in_flight.raws);
+      link = link;
+      sides = by_side _ (sides A) (side_posts devs plan k B _ _ _ _ _ _ _ (Pad links_pad (with_bit site.pair.sides.b.ready queue)) (sides B) (not_down_up site.pair.link.state is) tt tt tt);
+    },
+  )
 
   pub ready_follows : (side : Side) (queue : ℕ) → Follows devs plan k site (Ready k side queue) (ready_step site.pair side queue) (ready_move state side queue)
   ready_follows A queue = ready_at A queue (is_up site.pair.link.state) site.pair.sides.a.up (has_bit site.pair.sides.a.ready queue) refl
@@ -242,16 +254,22 @@ module _ (devs : List DevPlan) (plan : PairPlan) (k : ℕ) (site : Site) (pages 
   came_up_with side bytes = with_book (with_memory (bridge_for plan site) side (record { bytes = bytes; promised = [] })) side (record (book_for (side_of site.pair side)) { up = true })
 
   checked_up : (side : Side) → IsPair plan → (side_plan plan (other_side side)).size ≤ (side_plan plan side).cap → checks_as side check.Up None
-  checked_up A declared fits = (refl, record {
-    bridge = ap (came_up_with A) (all_stored (fresh_index_words plan A ++ zeroed_headers plan A) site.stores.a (memory_size plan A) (rings_inside plan A declared fits));
-    link = link;
-    sides = by_side _ (sides A) (sides B);
-  })
-  checked_up B declared fits = (refl, record {
-    bridge = ap (came_up_with B) (all_stored (fresh_index_words plan B ++ zeroed_headers plan B) site.stores.b (memory_size plan B) (rings_inside plan B declared fits));
-    link = link;
-    sides = by_side _ (sides A) (sides B);
-  })
+  checked_up A declared fits = (
+    refl,
+    record {
+      bridge = ap (came_up_with A) (all_stored (fresh_index_words plan A ++ zeroed_headers plan A) site.stores.a (memory_size plan A) (rings_inside plan A declared fits));
+      link = link;
+      sides = by_side _ (sides A) (sides B);
+    },
+  )
+  checked_up B declared fits = (
+    refl,
+    record {
+      bridge = ap (came_up_with B) (all_stored (fresh_index_words plan B ++ zeroed_headers plan B) site.stores.b (memory_size plan B) (rings_inside plan B declared fits));
+      link = link;
+      sides = by_side _ (sides A) (sides B);
+    },
+  )
 
   check_as : (side : Side) (found : CheckAnswer) (refusal : Option Answer) → IsPair plan → (refusal ≡ None → (side_plan plan (other_side side)).size ≤ (side_plan plan side).cap) → ChecksAs found refusal → checks_as side found refusal
   check_as side found refusal declared fits (inl both) =

@@ -5,6 +5,7 @@ pub mod BothReadings
 pub mod Copying
 pub mod Counts
 pub mod EachStep
+pub mod Facade
 pub mod Flights
 pub mod Follows
 pub mod FreshPairs

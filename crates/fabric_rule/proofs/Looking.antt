@@ -153,13 +153,16 @@ module _ (devs : List DevPlan) (plan : PairPlan) (k : ℕ) (now : Standing devs 
   look_A queue false true NoEntry among fresh is fits short = (refl, unchanged devs plan k now A queue _ (is_queue devs plan k now A queue false among fresh))
   look_A queue false true (AnotherVersion seen own) among fresh is fits short = (refl, unchanged devs plan k now A queue _ (is_queue devs plan k now A queue false among fresh))
   look_A queue false true (TooManyBytes len most) among fresh is fits short = (refl, unchanged devs plan k now A queue _ (is_queue devs plan k now A queue false among fresh))
-  look_A queue false true ALinkDownEntry among fresh is fits short = (refl, record {
-    bridge = refl;
-    link = now.link;
-    sides =
-        by_side _ (side_at devs plan k A _ _ _ _ _ _ _ (view_of site.pair A) _ now.queues.a queue _ among
-        (λ other ne. ap (λ closed. record (view_of site.pair A other) { closed = closed }) (has-with_other site.pair.sides.a.closed queue other ne)) (now.sides A).in_flight (closes_queue A queue among fresh) (now.sides A)) (now.sides B);
-  })
+  look_A queue false true ALinkDownEntry among fresh is fits short = (
+    refl,
+    record {
+      bridge = refl;
+      link = now.link;
+      sides =
+          by_side _ (side_at devs plan k A _ _ _ _ _ _ _ (view_of site.pair A) _ now.queues.a queue _ among
+          (λ other ne. ap (λ closed. record (view_of site.pair A other) { closed = closed }) (has-with_other site.pair.sides.a.closed queue other ne)) (now.sides A).in_flight (closes_queue A queue among fresh) (now.sides A)) (now.sides B);
+    },
+  )
   look_A queue false true (AnEntry len left) among fresh is fits short =
       (refl, receives devs plan k now A queue (record (site.pair.lanes.b queue) { phase = Copying; part = 0; len = len; left = left }) _ among refl (finds A queue len left among fresh is fits (short len left refl)))
 
@@ -188,13 +191,16 @@ module _ (devs : List DevPlan) (plan : PairPlan) (k : ℕ) (now : Standing devs 
   look_B queue false true NoEntry among fresh is fits short = (refl, unchanged devs plan k now B queue _ (is_queue devs plan k now B queue false among fresh))
   look_B queue false true (AnotherVersion seen own) among fresh is fits short = (refl, unchanged devs plan k now B queue _ (is_queue devs plan k now B queue false among fresh))
   look_B queue false true (TooManyBytes len most) among fresh is fits short = (refl, unchanged devs plan k now B queue _ (is_queue devs plan k now B queue false among fresh))
-  look_B queue false true ALinkDownEntry among fresh is fits short = (refl, record {
-    bridge = refl;
-    link = now.link;
-    sides =
-        by_side _ (now.sides A) (side_at devs plan k B _ _ _ _ _ _ _ (view_of site.pair B) _ now.queues.b queue _ among
-        (λ other ne. ap (λ closed. record (view_of site.pair B other) { closed = closed }) (has-with_other site.pair.sides.b.closed queue other ne)) (now.sides B).in_flight (closes_queue B queue among fresh) (now.sides B));
-  })
+  look_B queue false true ALinkDownEntry among fresh is fits short = (
+    refl,
+    record {
+      bridge = refl;
+      link = now.link;
+      sides =
+          by_side _ (now.sides A) (side_at devs plan k B _ _ _ _ _ _ _ (view_of site.pair B) _ now.queues.b queue _ among
+          (λ other ne. ap (λ closed. record (view_of site.pair B other) { closed = closed }) (has-with_other site.pair.sides.b.closed queue other ne)) (now.sides B).in_flight (closes_queue B queue among fresh) (now.sides B));
+    },
+  )
   look_B queue false true (AnEntry len left) among fresh is fits short =
       (refl, receives devs plan k now B queue (record (site.pair.lanes.a queue) { phase = Copying; part = 0; len = len; left = left }) _ among refl (finds B queue len left among fresh is fits (short len left refl)))
 

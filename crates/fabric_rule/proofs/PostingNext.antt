@@ -208,10 +208,12 @@ module _ (devs : List DevPlan) (plan : PairPlan) (k : ℕ) (now : Standing devs 
             (posted_queue A queue (length (site.pair.lanes.a queue).sent) entry (site.pair.lanes.a queue).sent [] [] among fresh refl (λ left. absurd (false≢true left)) (record { todo = tt; last = in_place.last; waiting = tt; todo_fits = inl refl; waiting_fits = inl refl })))
 
     posts_some_A : (label : Label) (rest : List Label) (waiting : List Entry) → (site.pair.lanes.a queue).todo ≡ label ∷ rest → (site.pair.lanes.a queue).waiting ≡ waiting → PostFollows_A queue entry waiting (label ∷ rest)
-    posts_some_A label rest waiting some all =
-        (refl, post_one_A queue (length (site.pair.lanes.a queue).sent) entry (site.pair.lanes.a queue).sent waiting label rest [] among fresh (sym (append-nil (site.pair.lanes.a queue).sent)) refl
-        (is (ap (λ todo. is_left (record { sent = (site.pair.lanes.a queue).sent; waiting = (site.pair.lanes.a queue).waiting; todo = todo; told = (site.pair.lanes.a queue).told })) some))
-        (⊎_elim (λ none. absurd (is_some label rest (sym some ∙ none))) (λ fits. fits) in_place.todo_fits) now_in_place)
+    posts_some_A label rest waiting some all = (
+      refl,
+      post_one_A queue (length (site.pair.lanes.a queue).sent) entry (site.pair.lanes.a queue).sent waiting label rest [] among fresh (sym (append-nil (site.pair.lanes.a queue).sent)) refl
+          (is (ap (λ todo. is_left (record { sent = (site.pair.lanes.a queue).sent; waiting = (site.pair.lanes.a queue).waiting; todo = todo; told = (site.pair.lanes.a queue).told })) some))
+          (⊎_elim (λ none. absurd (is_some label rest (sym some ∙ none))) (λ fits. fits) in_place.todo_fits) now_in_place,
+    )
       where
         is_some : (label : Label) (rest : List Label) → label ∷ rest ≡ [] → ⊥
         is_some label rest e = cc
@@ -225,11 +227,13 @@ module _ (devs : List DevPlan) (plan : PairPlan) (k : ℕ) (now : Standing devs 
     posts_next_A next others none all =
         subst (λ todo. Follows devs plan k site (Post k A queue) (post_first reads site.pair A queue (lane_as A queue ((site.pair.lanes.a queue).sent ++ next ∷ []) others todo) todo)
         (record { answer = of_post (first_label todo); after = with_bridge (with_queue kept A queue (part_as A queue (length (site.pair.lanes.a queue).sent + 1) next others (rest_of todo))) (posts_from kept.bridge A next todo) }))
-        (sym labels.2)
-        (refl, post_one_A queue (length (site.pair.lanes.a queue).sent + 1) next ((site.pair.lanes.a queue).sent ++ next ∷ []) others labels.0 labels.1 (next ∷ []) among fresh refl (sym (length-begun (site.pair.lanes.a queue).sent next))
-        (sym (last-begun queue (sender_of (site.pair.lanes.a queue)) next others (site.pair.lanes.a queue).told)) fits
-        (subst (λ todo. SendingInPlace plan A queue (record { sent = (site.pair.lanes.a queue).sent ++ next ∷ []; waiting = others; todo = todo; told = (site.pair.lanes.a queue).told })) labels.2
-        (begun_in_place plan A queue (sender_of (site.pair.lanes.a queue)) next others (site.pair.lanes.a queue).told fits waits.0 waits.1)))
+        (sym labels.2) (
+          refl,
+          post_one_A queue (length (site.pair.lanes.a queue).sent + 1) next ((site.pair.lanes.a queue).sent ++ next ∷ []) others labels.0 labels.1 (next ∷ []) among fresh refl (sym (length-begun (site.pair.lanes.a queue).sent next))
+              (sym (last-begun queue (sender_of (site.pair.lanes.a queue)) next others (site.pair.lanes.a queue).told)) fits
+              (subst (λ todo. SendingInPlace plan A queue (record { sent = (site.pair.lanes.a queue).sent ++ next ∷ []; waiting = others; todo = todo; told = (site.pair.lanes.a queue).told })) labels.2
+              (begun_in_place plan A queue (sender_of (site.pair.lanes.a queue)) next others (site.pair.lanes.a queue).told fits waits.0 waits.1)),
+        )
       where
         labels : (label : Label) × (rest : List Label) × (labels_of queue (length (site.pair.lanes.a queue).sent) next ≡ label ∷ rest)
         labels = some_labels queue (length (site.pair.lanes.a queue).sent) next
@@ -332,10 +336,12 @@ module _ (devs : List DevPlan) (plan : PairPlan) (k : ℕ) (now : Standing devs 
             (posted_queue B queue (length (site.pair.lanes.b queue).sent) entry (site.pair.lanes.b queue).sent [] [] among fresh refl (λ left. absurd (false≢true left)) (record { todo = tt; last = in_place.last; waiting = tt; todo_fits = inl refl; waiting_fits = inl refl })))
 
     posts_some_B : (label : Label) (rest : List Label) (waiting : List Entry) → (site.pair.lanes.b queue).todo ≡ label ∷ rest → (site.pair.lanes.b queue).waiting ≡ waiting → PostFollows_B queue entry waiting (label ∷ rest)
-    posts_some_B label rest waiting some all =
-        (refl, post_one_B queue (length (site.pair.lanes.b queue).sent) entry (site.pair.lanes.b queue).sent waiting label rest [] among fresh (sym (append-nil (site.pair.lanes.b queue).sent)) refl
-        (is (ap (λ todo. is_left (record { sent = (site.pair.lanes.b queue).sent; waiting = (site.pair.lanes.b queue).waiting; todo = todo; told = (site.pair.lanes.b queue).told })) some))
-        (⊎_elim (λ none. absurd (is_some label rest (sym some ∙ none))) (λ fits. fits) in_place.todo_fits) now_in_place)
+    posts_some_B label rest waiting some all = (
+      refl,
+      post_one_B queue (length (site.pair.lanes.b queue).sent) entry (site.pair.lanes.b queue).sent waiting label rest [] among fresh (sym (append-nil (site.pair.lanes.b queue).sent)) refl
+          (is (ap (λ todo. is_left (record { sent = (site.pair.lanes.b queue).sent; waiting = (site.pair.lanes.b queue).waiting; todo = todo; told = (site.pair.lanes.b queue).told })) some))
+          (⊎_elim (λ none. absurd (is_some label rest (sym some ∙ none))) (λ fits. fits) in_place.todo_fits) now_in_place,
+    )
       where
         is_some : (label : Label) (rest : List Label) → label ∷ rest ≡ [] → ⊥
         is_some label rest e = cc
@@ -349,11 +355,13 @@ module _ (devs : List DevPlan) (plan : PairPlan) (k : ℕ) (now : Standing devs 
     posts_next_B next others none all =
         subst (λ todo. Follows devs plan k site (Post k B queue) (post_first reads site.pair B queue (lane_as B queue ((site.pair.lanes.b queue).sent ++ next ∷ []) others todo) todo)
         (record { answer = of_post (first_label todo); after = with_bridge (with_queue kept B queue (part_as B queue (length (site.pair.lanes.b queue).sent + 1) next others (rest_of todo))) (posts_from kept.bridge B next todo) }))
-        (sym labels.2)
-        (refl, post_one_B queue (length (site.pair.lanes.b queue).sent + 1) next ((site.pair.lanes.b queue).sent ++ next ∷ []) others labels.0 labels.1 (next ∷ []) among fresh refl (sym (length-begun (site.pair.lanes.b queue).sent next))
-        (sym (last-begun queue (sender_of (site.pair.lanes.b queue)) next others (site.pair.lanes.b queue).told)) fits
-        (subst (λ todo. SendingInPlace plan B queue (record { sent = (site.pair.lanes.b queue).sent ++ next ∷ []; waiting = others; todo = todo; told = (site.pair.lanes.b queue).told })) labels.2
-        (begun_in_place plan B queue (sender_of (site.pair.lanes.b queue)) next others (site.pair.lanes.b queue).told fits waits.0 waits.1)))
+        (sym labels.2) (
+          refl,
+          post_one_B queue (length (site.pair.lanes.b queue).sent + 1) next ((site.pair.lanes.b queue).sent ++ next ∷ []) others labels.0 labels.1 (next ∷ []) among fresh refl (sym (length-begun (site.pair.lanes.b queue).sent next))
+              (sym (last-begun queue (sender_of (site.pair.lanes.b queue)) next others (site.pair.lanes.b queue).told)) fits
+              (subst (λ todo. SendingInPlace plan B queue (record { sent = (site.pair.lanes.b queue).sent ++ next ∷ []; waiting = others; todo = todo; told = (site.pair.lanes.b queue).told })) labels.2
+              (begun_in_place plan B queue (sender_of (site.pair.lanes.b queue)) next others (site.pair.lanes.b queue).told fits waits.0 waits.1)),
+        )
       where
         labels : (label : Label) × (rest : List Label) × (labels_of queue (length (site.pair.lanes.b queue).sent) next ≡ label ∷ rest)
         labels = some_labels queue (length (site.pair.lanes.b queue).sent) next
