@@ -1,7 +1,6 @@
 -- What is written past the transport, and what is shown of memories and flights.
-use Rattle.std.proofs.Common.{◌≡◌, ℕ, ◌+◌, ◌*◌, ◌<◌, ◌≤◌, Bool, true, false, List, [], ◌∷◌, ◌++◌, length, min, refl, sym, ap, ◌∙◌, subst, arith}
-use Rattle.std.specs.Prelude.{if◌then◌else◌, option_map, slice_get, map}
-use Rattle.std.proofs.lemmas.Bool.{true≢false, false≢true}
+use Rattle.std.proofs.Common.{◌≡◌, ℕ, ◌+◌, ◌*◌, ◌≤◌, Bool, true, false, List, [], ◌∷◌, ◌++◌, length, refl, sym, ap, ◌∙◌, arith}
+use Rattle.std.specs.Prelude.{if◌then◌else◌, option_map, slice_get}
 use Rattle.std.proofs.lemmas.Option.{slice_get-map}
 use Rattle.step_kinds.specs.Sides.{other_side}
 use Rattle.lane_model.specs.Lane.{Entry}
@@ -13,22 +12,21 @@ use Rattle.step_kinds.specs.declared.steps.Answer.TheVariants.{Ok as Done, Mem, 
 use Rattle.step_kinds.specs.declared.steps.Label.{Label}
 use Rattle.step_kinds.specs.declared.steps.Label.TheVariants.{Pad, Raw}
 use Rattle.step_kinds.specs.declared.steps.Step.TheVariants.{Poke, ShowMem, ShowQueue, Spad}
-use Rattle.plan_model.specs.Both.{Both, at_side}
+use Rattle.plan_model.specs.Both.{Both}
 use Rattle.plan_model.specs.DeclaredPlans.{IsPoke, IsShown}
-use Rattle.plan_model.specs.Link.{is_down, is_up}
+use Rattle.plan_model.specs.Link.{is_up}
 use Rattle.plan_model.specs.Plans.{side_plan}
-use Rattle.byte_model.specs.Stores.{bytes_in}
-use Rattle.ledger_model.specs.Ledger.{PairPart, link_up, side_of, with_side_part}
+use Rattle.ledger_model.specs.Ledger.{side_of, with_side_part}
 use Rattle.ledger_model.specs.Registers.{poke_step, show_mem_step, show_queue_step, spad_step}
 use Rattle.memory_model.specs.Memory.{Site, bytes_of_site}
-use Rattle.bridge_pair.specs.Bridge.{Bridge, memory_size}
+use Rattle.bridge_pair.specs.Bridge.{memory_size}
 use Rattle.bridge_pair.specs.Flights.{Flying}
 use Rattle.bridge_pair.specs.Writes.{memory_write, pad_write}
 use Rattle.hand_shake.specs.Offers.{with_posted}
 use Rattle.fabric_rule.specs.InPlace.{LinkInPlace}
 use Rattle.fabric_rule.specs.Moves.{poke_move, show_mem_move, show_queue_move, spad_move}
 use Rattle.fabric_rule.specs.Parts.{PairState, QueuePart}
-use Rattle.fabric_rule.specs.StandsFor.{bridge_for, has_forgotten, sent_of, view_of, writes_labelled}
+use Rattle.fabric_rule.specs.StandsFor.{bridge_for, sent_of, writes_labelled}
 use Rattle.fabric_rule.proofs.Flights.{labels-writes, length-writes}
 use Rattle.fabric_rule.proofs.Follows.{AllSides, Follows, by_side, state_for}
 use Rattle.fabric_rule.proofs.Links.{not_down_up}

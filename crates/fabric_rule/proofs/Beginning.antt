@@ -1,10 +1,9 @@
 -- Frames and link-down entries that are begun, by users and by devices.
-use Rattle.std.proofs.Common.{◌≡◌, ℕ, zero, suc, ◌+◌, ◌-◌, ◌<◌, ◌≤◌, ◌&&◌, ◌||◌, ◌⊎◌, Bool, true, false, Option, Some, None, List, [], ◌∷◌, ◌++◌, length, refl, sym, ap, ◌∙◌, subst, inl, inr, ⊎_elim, arith}
-use Rattle.std.specs.Prelude.{if◌then◌else◌, nat_le, nat_lt, not, slice_index_or, slice_set}
+use Rattle.std.proofs.Common.{◌≡◌, ℕ, ◌+◌, ◌-◌, ◌<◌, ◌&&◌, ◌||◌, ◌⊎◌, Bool, true, false, Option, Some, None, List, [], ◌∷◌, ◌++◌, length, refl, sym, ap, ◌∙◌, subst, inl, inr, ⊎_elim, arith}
+use Rattle.std.specs.Prelude.{if◌then◌else◌, nat_lt, not}
 use Rattle.std.specs.List.{AllByRecursion}
 use Rattle.std.proofs.lemmas.Bool.{true≢false, false≢true, cases_Bool, le-leb}
 use Rattle.step_kinds.specs.Bits.{has_bit, with_bit}
-use Rattle.step_kinds.specs.Sides.{other_side}
 use Rattle.step_kinds.specs.declared.names.Side.{Side}
 use Rattle.step_kinds.specs.declared.names.Side.TheVariants.{A, B}
 use Rattle.step_kinds.specs.declared.plan.Counters.{Counters}
@@ -13,28 +12,28 @@ use Rattle.step_kinds.specs.declared.plan.PairPlan.{PairPlan}
 use Rattle.step_kinds.specs.declared.steps.Answer.{Answer}
 use Rattle.step_kinds.specs.declared.steps.Answer.TheVariants as answer
 use Rattle.step_kinds.specs.declared.steps.Label.{Label}
-use Rattle.step_kinds.specs.declared.steps.Step.TheVariants.{Begin, QpDown, Xbegin, Wake}
+use Rattle.step_kinds.specs.declared.steps.Step.TheVariants.{Begin, QpDown, Xbegin}
 use Rattle.lane_model.specs.Lane.{Entry, GoesDown}
 use Rattle.lane_model.specs.Ring.{head_of}
 use Rattle.lane_model.specs.Tests.{is_empty_list}
-use Rattle.plan_model.specs.Both.{Both, at_side, with_side}
-use Rattle.plan_model.specs.DeclaredPlans.{IsPair, SizesFit}
-use Rattle.plan_model.specs.Device.{Flow, stopped_after_send, stays_stopped, count_accepted, count_refused}
+use Rattle.plan_model.specs.Both.{at_side}
+use Rattle.plan_model.specs.DeclaredPlans.{SizesFit}
+use Rattle.plan_model.specs.Device.{Flow, stopped_after_send, count_accepted, count_refused}
 use Rattle.plan_model.specs.Ethernet.{ethernet_frame}
 use Rattle.plan_model.specs.Labels.{labels_of}
 use Rattle.plan_model.specs.Link.{is_down, is_up}
 use Rattle.plan_model.specs.Pieces.{pieces_of}
 use Rattle.plan_model.specs.Plans.{dev_plan, side_plan}
-use Rattle.plan_model.specs.Sizes.{Sizes, sizes_of, pieces_in}
+use Rattle.plan_model.specs.Sizes.{sizes_of, pieces_in}
 use Rattle.byte_model.specs.Addresses.{own_index_word}
 use Rattle.byte_model.specs.Headers.{free_in_memory, index_word_in}
-use Rattle.ledger_model.specs.Ledger.{DevPart, LanePart, PairPart, Tally, dev_of, head_in, lane_of, side_of, tally_of, updated, with_dev, with_lane, with_side_part}
-use Rattle.ledger_model.specs.Outcome.{Outcome, decided, refuse_if}
+use Rattle.ledger_model.specs.Ledger.{DevPart, LanePart, Tally, dev_of, head_in, lane_of, side_of, tally_of, updated, with_lane, with_side_part}
+use Rattle.ledger_model.specs.Outcome.{Outcome, decided}
 use Rattle.ledger_model.specs.Reading.{Reading, by_bytes}
-use Rattle.ledger_model.specs.Sending.{begin_step, counts_accepted, counts_refused, counts_sent, frame_begun as lane_begun, begun_lane, flow_of, is_busy as is_lane_busy, qpdown_step, wake_step, xbegin_step}
+use Rattle.ledger_model.specs.Sending.{begin_step, counts_accepted, counts_refused, counts_sent, frame_begun as lane_begun, begun_lane, flow_of, is_busy as is_lane_busy, qpdown_step, xbegin_step}
 use Rattle.memory_model.specs.Memory.{Site, bytes_of_site}
-use Rattle.bridge_pair.specs.Bridge.{Bridge, memory_size}
-use Rattle.frame_ring.specs.Port.{PortState, Sending, with_sending}
+use Rattle.bridge_pair.specs.Bridge.{memory_size}
+use Rattle.frame_ring.specs.Port.{PortState, with_sending}
 use Rattle.frame_ring.specs.Calls.{begin_answer as port_begin_answer, after_begin as port_after_begin, down_answer, after_down, entries_begun, free_answer, where_begun}
 use Rattle.queue_pair.specs.Gates.{answer_unless, begin_answer, after_begin, qpdown_answer, after_qpdown, closed_where_begun, port_unless}
 use Rattle.queue_pair.specs.Queue.{QueueState, with_port}
@@ -43,17 +42,17 @@ use Rattle.queue_pair.specs.declared.BeginAnswer.TheVariants.{Ok as IsBegun, Lin
 use Rattle.step_kinds.specs.declared.lanes.Begun.{Begun}
 use Rattle.frame_ring.specs.Seen.{bytes_seen}
 use Rattle.fabric_rule.specs.Answers.{of_begin, of_xbegin}
-use Rattle.fabric_rule.specs.InPlace.{FitsSlot, SendingEnd, SendingInPlace, last_entry, receiver_of, sender_of}
-use Rattle.fabric_rule.specs.Moves.{Move, accepted_where_begun, begin_move, qpdown_move, xbegin_move, xbegun, wake_move}
+use Rattle.fabric_rule.specs.InPlace.{FitsSlot, receiver_of, sender_of}
+use Rattle.fabric_rule.specs.Moves.{Move, accepted_where_begun, begin_move, qpdown_move, xbegin_move, xbegun}
 use Rattle.fabric_rule.specs.Parts.{PairState, QueuePart, SessionCount, count_in, one_more, with_queue}
-use Rattle.fabric_rule.specs.StandsFor.{IsOn, PairStands, QueueStands, QueueView, SideStands, all_sent, bridge_for, has_forgotten, port_for, sent_of, view_of}
-use Rattle.fabric_rule.proofs.Begun.{begun_end, begun_in_place, free_less, last-begun, length-begun, length-pieces, pieces_fit, some_pieces}
+use Rattle.fabric_rule.specs.StandsFor.{IsOn, PairStands, QueueStands, QueueView, SideStands, all_sent, has_forgotten, sent_of, view_of}
+use Rattle.fabric_rule.proofs.Begun.{begun_in_place, free_less, last-begun, length-begun, length-pieces, pieces_fit, some_pieces}
 use Rattle.fabric_rule.proofs.Counts.{count-one_more, has-with_other, has-with_same, one_at, updated-one_more}
-use Rattle.fabric_rule.proofs.Follows.{AllSides, Follows, by_side, same_at, three_same, two_same, updated_field, updated_here, updated_other, updated_same, with_promises}
+use Rattle.fabric_rule.proofs.Follows.{Follows, by_side, same_at, three_same, two_same, updated_field, updated_here, updated_other, updated_same}
 use Rattle.fabric_rule.proofs.Gates.{NotOk, Passes, Refuses, gates, not_accepted, port_says, refusal_says, side_says}
 use Rattle.fabric_rule.proofs.Links.{bridge_same, not_down_up}
-use Rattle.fabric_rule.proofs.OneQueue.{Standing, is_queue, part_at, part_with, queue_at, remembers, stands_by, state, unchanged}
-use Rattle.fabric_rule.proofs.Queues.{other_dev, flight_kept, set_again, side_at, side_same}
+use Rattle.fabric_rule.proofs.OneQueue.{Standing, is_queue, part_at, part_with, queue_at, stands_by, state, unchanged}
+use Rattle.fabric_rule.proofs.Queues.{other_dev, side_at, side_same}
 use Rattle.fabric_rule.proofs.RingPosts.{flight_grows, grows_at, writes_grow}
 use Rattle.fabric_rule.proofs.WhatIsRead.{own_fits, same_word, word_inside}
 

@@ -1,8 +1,8 @@
 -- Every step: a fabric answers as the ledger says, and then stands for one step more.
-use Rattle.std.proofs.Common.{◌≡◌, ℕ, ◌<◌, ◌≤◌, ◌==◌, Bool, true, false, Option, Some, None, List, [], ◌∷◌, ◌++◌, refl, sym, ap, ◌∙◌, subst, inl, inr, ⊎_elim}
+use Rattle.std.proofs.Common.{◌≡◌, ℕ, ◌≤◌, ◌==◌, Bool, true, false, None, List, [], ◌∷◌, ◌++◌, refl, sym, ap, ◌∙◌, subst, ⊎_elim}
 use Rattle.std.specs.Prelude.{if◌then◌else◌}
 use Rattle.std.specs.List.{AllByRecursion}
-use Rattle.std.proofs.lemmas.Bool.{cases_Bool, eq-eqb, true≢false}
+use Rattle.std.proofs.lemmas.Bool.{eq-eqb, true≢false}
 use Rattle.step_kinds.specs.Bits.{has_bit}
 use Rattle.step_kinds.specs.Sides.{other_side}
 use Rattle.step_kinds.specs.Subject.{subject_of}
@@ -16,18 +16,15 @@ use Rattle.step_kinds.specs.declared.steps.Step.{Step}
 use Rattle.step_kinds.specs.declared.steps.Step.TheVariants.{Enable, Train, Break, DropDone, Clean, Offer, Check, Ready, Join, Begin, QpDown, Xbegin, Post, Land, Look, Copy, Clear, Ack, Wake, Irq, Mask, Unmask, Spad, Poke, ShowMem, ShowPad, ShowQueue}
 use Rattle.plan_model.specs.DeclaredPlans.{IsDeclared, IsPair, IsPairOf, IsPermitted, SizesFit}
 use Rattle.plan_model.specs.Plans.{pair_plan, side_plan}
-use Rattle.byte_model.specs.Headers.{Bytes}
 use Rattle.ledger_laws.proofs.Facade.{joined_means_agreement, up_side_agrees}
 use Rattle.ledger_laws.specs.Laws.{IsOrdinaryOn}
-use Rattle.ledger_model.specs.Handshake.{check_refusal, check_step}
+use Rattle.ledger_model.specs.Handshake.{check_refusal}
 use Rattle.ledger_model.specs.Ledger.{PairPart, link_up, side_of, with_side_part}
-use Rattle.ledger_model.specs.Log.{ledger_of}
 use Rattle.ledger_model.specs.Next.{pair_next, read_next}
 use Rattle.ledger_model.specs.Outcome.{Outcome, decided}
-use Rattle.ledger_model.specs.Reading.{Reading, by_bytes, by_ledger}
+use Rattle.ledger_model.specs.Reading.{by_bytes, by_ledger}
 use Rattle.memory_model.specs.Memory.{Site, bytes_of_site, memory_of, site_from, site_next, site_of, fresh_site}
 use Rattle.fabric_rule.specs.Laws.{EachStepStands}
-use Rattle.fabric_rule.specs.Parts.{PairState}
 use Rattle.fabric_rule.specs.StandsFor.{PairStands}
 use Rattle.fabric_rule.specs.Steps.{move_of}
 use Rattle.fabric_rule.proofs.Aside.{poke_follows, show_mem_follows, show_queue_follows, spad_follows}

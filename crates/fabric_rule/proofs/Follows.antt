@@ -1,26 +1,22 @@
 -- What is owed of each step: its answer is the ledger's, and the pair after it stands for one step more.
-use Rattle.std.proofs.Common.{◌≡◌, ℕ, ◌<◌, ◌==◌, Bool, true, false, Option, Some, None, List, [], ◌∷◌, ◌++◌, length, refl, sym, ap, ◌∙◌, subst, inl, inr}
-use Rattle.std.specs.Prelude.{if◌then◌else◌, slice_index_or, slice_set, set}
+use Rattle.std.proofs.Common.{◌≡◌, ℕ, ◌==◌, true, false, List, ◌++◌, refl, sym, ap, ◌∙◌, subst, inl, inr}
+use Rattle.std.specs.Prelude.{if◌then◌else◌}
 use Rattle.std.proofs.lemmas.Bool.{eq-eqb, ne_eqb, cases_eq}
-use Rattle.std.proofs.lemmas.List.{set-get_or, get_or-set_same, get_or-set_other}
 use Rattle.step_kinds.specs.declared.names.Side.{Side}
 use Rattle.step_kinds.specs.declared.names.Side.TheVariants.{A, B}
 use Rattle.step_kinds.specs.declared.plan.DevPlan.{DevPlan}
 use Rattle.step_kinds.specs.declared.plan.PairPlan.{PairPlan}
-use Rattle.step_kinds.specs.declared.steps.Answer.{Answer}
 use Rattle.step_kinds.specs.declared.steps.Step.{Step}
 use Rattle.plan_model.specs.Both.{Both, at_side}
-use Rattle.plan_model.specs.Plans.{side_plan}
-use Rattle.byte_model.specs.Stores.{Store}
 use Rattle.ledger_model.specs.Ledger.{PairPart, updated}
 use Rattle.ledger_model.specs.Next.{read_next}
 use Rattle.ledger_model.specs.Outcome.{Outcome}
-use Rattle.ledger_model.specs.Reading.{Reading, by_bytes}
+use Rattle.ledger_model.specs.Reading.{by_bytes}
 use Rattle.memory_model.specs.Memory.{Site, bytes_of_site, stores_by}
 use Rattle.bridge_pair.specs.Bridge.{Bridge}
 use Rattle.fabric_rule.specs.Moves.{Move}
-use Rattle.fabric_rule.specs.Parts.{PairState, QueuePart, no_queue, plain_bridge, queue_of, queues_of, with_queue}
-use Rattle.fabric_rule.specs.StandsFor.{PairStands, QueueStands, QueueView, SideStands, SideStandsIn, bridge_for}
+use Rattle.fabric_rule.specs.Parts.{PairState, QueuePart}
+use Rattle.fabric_rule.specs.StandsFor.{PairStands, SideStandsIn, bridge_for}
 use Rattle.fabric_rule.specs.Steps.{move_of}
 
 -- Sides

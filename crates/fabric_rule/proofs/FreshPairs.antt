@@ -1,5 +1,5 @@
 -- A pair before any step.
-use Rattle.std.proofs.Common.{◌≡◌, ℕ, ◌<◌, ◌≤◌, Bool, true, false, List, [], ◌∷◌, ◌++◌, length, replicate, refl, sym, ap, ◌∙◌, subst, inl, arith}
+use Rattle.std.proofs.Common.{◌≡◌, ℕ, ◌<◌, ◌≤◌, Bool, true, false, List, [], ◌∷◌, ◌++◌, length, replicate, refl, sym, ap, ◌∙◌, inl, arith}
 use Rattle.std.specs.List.{AllByRecursion}
 use Rattle.std.proofs.lemmas.Bool.{true≢false, false≢true}
 use Rattle.std.proofs.lemmas.List.{append-nil}
@@ -9,7 +9,7 @@ use Rattle.step_kinds.specs.declared.names.Side.{Side}
 use Rattle.step_kinds.specs.declared.names.Side.TheVariants.{A, B}
 use Rattle.step_kinds.specs.declared.plan.DevPlan.{DevPlan}
 use Rattle.step_kinds.specs.declared.plan.PairPlan.{PairPlan}
-use Rattle.plan_model.specs.Both.{Both, at_side, both_of}
+use Rattle.plan_model.specs.Both.{Both, both_of}
 use Rattle.plan_model.specs.DeclaredPlans.{IsPair}
 use Rattle.plan_model.specs.Link.{fresh_link}
 use Rattle.plan_model.specs.Pads.{agreed_pads, offers}
@@ -27,10 +27,10 @@ use Rattle.hand_shake.proofs.OwnOffers.{own_length}
 use Rattle.std.specs.Prelude.{slice_index_or}
 use Rattle.ledger_model.specs.Next.{fresh_dev}
 use Rattle.queue_pair.specs.Queue.{QueueState}
-use Rattle.fabric_rule.specs.InPlace.{LinkInPlace, receiver_of, sender_of}
+use Rattle.fabric_rule.specs.InPlace.{receiver_of, sender_of}
 use Rattle.fabric_rule.specs.Laws.{FreshPairStands, IsFreshPair, IsFreshQueue}
-use Rattle.fabric_rule.specs.Parts.{PairState, QueuePart, count_in, no_queue, plain_bridge, queue_of, queues_of}
-use Rattle.fabric_rule.specs.StandsFor.{PairStands, QueueStands, QueueView, SideStands, bridge_for, view_of}
+use Rattle.fabric_rule.specs.Parts.{PairState, QueuePart, count_in, no_queue, plain_bridge}
+use Rattle.fabric_rule.specs.StandsFor.{PairStands, QueueStands, QueueView, SideStands, bridge_for}
 use Rattle.fabric_rule.proofs.Follows.{by_side}
 use Rattle.fabric_rule.proofs.Links.{fresh_queue_stands, no_bits, none_in_flight}
 use Rattle.fabric_rule.proofs.RingPlaces.{rings_inside}

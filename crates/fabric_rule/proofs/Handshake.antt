@@ -1,8 +1,8 @@
 -- The steps of the handshake.
-use Rattle.std.proofs.Common.{◌≡◌, ℕ, zero, suc, ◌+◌, ◌*◌, ◌/◌, ◌%◌, ◌<◌, ◌≤◌, ◌==◌, ◌&&◌, ◌||◌, ◌⊎◌, Bool, true, false, Option, Some, None, List, [], ◌∷◌, ◌++◌, length, refl, sym, ap, ◌∙◌, subst, inl, inr, arith}
-use Rattle.std.specs.Prelude.{if◌then◌else◌, not, nat_lt, find, slice_index, slice_index_or}
+use Rattle.std.proofs.Common.{◌≡◌, ℕ, zero, suc, ◌+◌, ◌/◌, ◌%◌, ◌≤◌, ◌==◌, ◌&&◌, ◌||◌, ◌⊎◌, Bool, true, false, Option, Some, None, List, [], ◌∷◌, ◌++◌, length, refl, sym, ap, ◌∙◌, subst, inl, inr}
+use Rattle.std.specs.Prelude.{if◌then◌else◌, not, nat_lt, find, slice_index_or}
 use Rattle.std.specs.List.{AllByRecursion, flat_map}
-use Rattle.std.proofs.lemmas.Bool.{true≢false, false≢true}
+use Rattle.std.proofs.lemmas.Bool.{true≢false}
 use Rattle.step_kinds.specs.Bits.{has_bit, with_bit}
 use Rattle.step_kinds.specs.Sides.{other_side}
 use Rattle.step_kinds.specs.declared.names.Side.{Side}
@@ -15,35 +15,31 @@ use Rattle.step_kinds.specs.declared.steps.Answer.TheVariants as answer
 use Rattle.step_kinds.specs.declared.steps.Label.{Label}
 use Rattle.step_kinds.specs.declared.steps.Label.TheVariants.{Chunk, Len, Ver, Flag, Down, Bell, Index, Pad, Raw}
 use Rattle.step_kinds.specs.declared.steps.Step.TheVariants.{Offer, Check, Ready, Join}
-use Rattle.lane_model.specs.Lane.{Entry, count_from}
+use Rattle.lane_model.specs.Lane.{count_from}
 use Rattle.plan_model.specs.Both.{Both, at_side}
 use Rattle.plan_model.specs.DeclaredPlans.{IsPair}
 use Rattle.plan_model.specs.Link.{is_down, is_up}
 use Rattle.plan_model.specs.Pads.{high_pad, links_pad, low_pad, offers, pad_index, queues_pad, version_pad, windows_pad, word}
 use Rattle.plan_model.specs.Plans.{side_plan}
 use Rattle.byte_model.specs.FreshRings.{fresh_index_words, zeroed_headers}
-use Rattle.ledger_model.specs.Handshake.{check_refusal, check_step, join_step, offer_step, pad_in, ready_step, refuse_differing, refuse_larger, refuse_version, size_in}
-use Rattle.ledger_model.specs.Ledger.{PairPart, SidePart, link_up, side_of, with_side_part}
-use Rattle.ledger_model.specs.Outcome.{Outcome, decided, refuse_if}
+use Rattle.ledger_model.specs.Handshake.{check_refusal, check_step, join_step, offer_step, pad_in, ready_step, size_in}
+use Rattle.ledger_model.specs.Ledger.{link_up, side_of, with_side_part}
+use Rattle.ledger_model.specs.Outcome.{decided, refuse_if}
 use Rattle.memory_model.specs.Memory.{Site}
-use Rattle.bridge_pair.specs.Bridge.{Bridge, bytes_of, memory_size, with_book, with_memory}
-use Rattle.bridge_pair.specs.Writes.{pad_write}
-use Rattle.hand_shake.specs.Checks.{after_answer as after_check_answer, check_answer, size_answer}
+use Rattle.bridge_pair.specs.Bridge.{Bridge, memory_size, with_book, with_memory}
+use Rattle.hand_shake.specs.Checks.{after_answer as after_check_answer, check_answer}
 use Rattle.hand_shake.specs.Offers.{after_answer as after_offer_answer, pad_value}
 use Rattle.hand_shake.specs.Queues.{after_join_answer, after_ready_answer}
 use Rattle.hand_shake.specs.declared.CheckAnswer.{CheckAnswer}
 use Rattle.hand_shake.specs.declared.CheckAnswer.TheVariants as check
-use Rattle.hand_shake.specs.declared.OfferAnswer.{OfferAnswer}
 use Rattle.hand_shake.specs.declared.OfferAnswer.TheVariants as offer
-use Rattle.hand_shake.specs.declared.ReadyAnswer.{ReadyAnswer}
 use Rattle.hand_shake.specs.declared.ReadyAnswer.TheVariants as ready
-use Rattle.hand_shake.specs.declared.JoinAnswer.{JoinAnswer}
 use Rattle.hand_shake.specs.declared.JoinAnswer.TheVariants as join
 use Rattle.fabric_rule.specs.Answers.{of_check, of_join, of_offer, of_ready}
 use Rattle.fabric_rule.specs.InPlace.{LinkInPlace}
-use Rattle.fabric_rule.specs.Moves.{Move, bridge_move, check_move, join_move, offer_move, ready_move}
+use Rattle.fabric_rule.specs.Moves.{bridge_move, check_move, join_move, offer_move, ready_move}
 use Rattle.fabric_rule.specs.Parts.{PairState, QueuePart}
-use Rattle.fabric_rule.specs.StandsFor.{SideStands, book_for, bridge_for, flying_labelled, has_forgotten, sent_of, view_of, writes_labelled}
+use Rattle.fabric_rule.specs.StandsFor.{SideStands, book_for, bridge_for, has_forgotten, sent_of, view_of, writes_labelled}
 use Rattle.fabric_rule.proofs.Follows.{AllSides, Follows, by_side, state_for}
 use Rattle.fabric_rule.proofs.Links.{not_down_up}
 use Rattle.fabric_rule.proofs.Posting.{one_more_plain, side_posts, with_writes}

@@ -1,6 +1,6 @@
 -- A write that lands: it is taken out of those in flight, and arrives.
-use Rattle.std.proofs.Common.{◌≡◌, ℕ, ◌+◌, ◌-◌, ◌*◌, ◌<◌, ◌≤◌, Bool, true, false, Option, Some, None, List, [], ◌∷◌, ◌++◌, length, map, take, refl, sym, ap, ◌∙◌, subst}
-use Rattle.std.specs.Prelude.{if◌then◌else◌, not, option_map, remove, slice_get, slice_index_or, slice_set}
+use Rattle.std.proofs.Common.{◌≡◌, ℕ, ◌+◌, ◌-◌, Bool, true, false, Option, Some, None, List, [], ◌∷◌, map, take, refl, sym, ap, ◌∙◌, subst}
+use Rattle.std.specs.Prelude.{if◌then◌else◌, not, option_map, remove, slice_get, slice_set}
 use Rattle.std.specs.List.{AllByRecursion}
 use Rattle.std.proofs.lemmas.Option.{none-some, slice_get-map}
 use Rattle.step_kinds.specs.Bits.{with_bit}
@@ -15,17 +15,16 @@ use Rattle.step_kinds.specs.declared.steps.Label.TheVariants.{Chunk, Len, Ver, F
 use Rattle.step_kinds.specs.declared.steps.Step.TheVariants.{Land}
 use Rattle.order_rules.specs.Order.{lands_behind, may_land}
 use Rattle.lane_model.specs.Lane.{Entry}
-use Rattle.plan_model.specs.Both.{Both, at_side}
+use Rattle.plan_model.specs.Both.{at_side}
 use Rattle.plan_model.specs.Link.{is_down}
 use Rattle.plan_model.specs.Orders.{order_of}
-use Rattle.byte_model.specs.Stores.{Store, bytes_in, store_at}
-use Rattle.ledger_model.specs.Ledger.{LanePart, PairPart, SidePart, side_of, updated}
+use Rattle.byte_model.specs.Stores.{bytes_in, store_at}
+use Rattle.ledger_model.specs.Ledger.{side_of}
 use Rattle.ledger_model.specs.Outcome.{Outcome, decided, refuse_if}
 use Rattle.ledger_model.specs.Receiving.{land_found, land_step, lands_on, taken_out}
-use Rattle.memory_model.specs.Memory.{Site, stored}
-use Rattle.memory_model.specs.Targets.{store_of}
+use Rattle.memory_model.specs.Memory.{Site}
 use Rattle.posted_queue.specs.Landing.{answer_for}
-use Rattle.bridge_pair.specs.Bridge.{Bridge, bytes_of, memory_size, pads_of, bells_of, with_bells, with_flight, with_memory, with_pads}
+use Rattle.bridge_pair.specs.Bridge.{bytes_of, memory_size, with_bells, with_flight, with_memory, with_pads}
 use Rattle.bridge_pair.specs.Calls.{after_landed, arrived}
 use Rattle.bridge_pair.specs.Ends.{label_landed}
 use Rattle.bridge_pair.specs.Flights.{Flying, flying_order}
@@ -35,10 +34,10 @@ use Rattle.host_memory.specs.Memory.{written}
 use Rattle.fabric_rule.specs.Answers.{of_land}
 use Rattle.fabric_rule.specs.InPlace.{IsBegun, LiesIn, receiver_of, sender_of}
 use Rattle.fabric_rule.specs.Moves.{Move, land_move}
-use Rattle.fabric_rule.specs.Parts.{PairState, QueuePart}
-use Rattle.fabric_rule.specs.StandsFor.{PairStands, SideStands, QueueView, bells_for, bridge_for, bridge_with, entry_among, flying_labelled, has_forgotten, sent_in, sent_of, view_of, writes_labelled}
+use Rattle.fabric_rule.specs.Parts.{PairState}
+use Rattle.fabric_rule.specs.StandsFor.{PairStands, SideStands, bridge_for, entry_among, flying_labelled, has_forgotten, sent_in, sent_of, view_of, writes_labelled}
 use Rattle.fabric_rule.proofs.Flights.{all_get, all_remove, have-remove, label-write, labels-writes, orders-writes, poked_at, poked_left, writes-get, writes-remove}
-use Rattle.fabric_rule.proofs.Follows.{AllSides, Follows, by_side, site_made, updated_same}
+use Rattle.fabric_rule.proofs.Follows.{Follows, by_side, site_made, updated_same}
 use Rattle.fabric_rule.proofs.OneQueue.{Standing, state}
 use Rattle.fabric_rule.proofs.Posting.{with_writes}
 use Rattle.fabric_rule.proofs.Queues.{sent_kept, side_same}

@@ -1,11 +1,10 @@
 -- The steps of the link.
-use Rattle.std.proofs.Common.{◌≡◌, ℕ, ◌+◌, ◌<◌, ◌==◌, ◌&&◌, Bool, true, false, Option, Some, None, List, [], ◌∷◌, length, map, refl, sym, ap, ◌∙◌, subst, inl, inr, arith}
-use Rattle.std.specs.Prelude.{if◌then◌else◌, not, slice_index_or}
-use Rattle.std.proofs.lemmas.Bool.{true≢false, false≢true, cases_Bool}
+use Rattle.std.proofs.Common.{◌≡◌, ℕ, ◌+◌, ◌<◌, ◌==◌, ◌&&◌, Bool, true, false, Option, Some, None, List, [], length, map, refl, sym, ap, ◌∙◌, subst, inl, arith}
+use Rattle.std.specs.Prelude.{not, slice_index_or}
+use Rattle.std.proofs.lemmas.Bool.{true≢false, false≢true}
 use Rattle.std.proofs.lemmas.List.{get_or-map, length-map}
 use Rattle.std.proofs.lemmas.Nat.Bits.{bit_at-zero}
 use Rattle.step_kinds.specs.Bits.{has_bit}
-use Rattle.step_kinds.specs.Sides.{other_side}
 use Rattle.step_kinds.specs.declared.names.Side.{Side}
 use Rattle.step_kinds.specs.declared.names.Side.TheVariants.{A, B}
 use Rattle.step_kinds.specs.declared.plan.DevPlan.{DevPlan}
@@ -19,7 +18,7 @@ use Rattle.plan_model.specs.declared.LinkRefusal.TheVariants.{NotDown, Dirty, No
 use Rattle.plan_model.specs.declared.LinkState.{LinkState}
 use Rattle.plan_model.specs.declared.LinkState.TheVariants.{Down, Up, Closing}
 use Rattle.ledger_model.specs.LinkSteps.{answer_of_refusal, cleaned_side, emptied_side, forgotten_lanes, fresh_lane, started_dev, enable_step, train_step, break_step, drop_step, clean_step, refusal_answer}
-use Rattle.ledger_model.specs.Outcome.{Outcome, decided}
+use Rattle.ledger_model.specs.Outcome.{decided}
 use Rattle.ledger_model.specs.Ledger.{PairPart, SidePart, side_of}
 use Rattle.lane_model.specs.Lane.{Entry}
 use Rattle.lane_model.specs.declared.Phase.TheVariants.{Idle}

@@ -1,55 +1,44 @@
 -- Looking for the next entry.
-use Rattle.std.proofs.Common.{◌≡◌, ℕ, zero, suc, ◌+◌, ◌-◌, ◌*◌, ◌<◌, ◌≤◌, ◌==◌, ◌&&◌, ◌⊎◌, Bool, true, false, Option, Some, None, List, [], ◌∷◌, ◌++◌, length, refl, sym, ap, ◌∙◌, subst, inl, inr, ⊎_elim, arith}
-use Rattle.std.specs.Prelude.{if◌then◌else◌, not, nat_lt, slice_index_or, slice_set}
-use Rattle.std.proofs.lemmas.Bool.{true≢false, false≢true, cases_Bool}
+use Rattle.std.proofs.Common.{◌≡◌, ℕ, ◌-◌, ◌<◌, ◌≤◌, Bool, true, false, None, List, length, refl, sym, ap, subst, inr}
+use Rattle.std.specs.Prelude.{if◌then◌else◌, not}
+use Rattle.std.proofs.lemmas.Bool.{false≢true}
 use Rattle.step_kinds.specs.Bits.{has_bit, with_bit}
-use Rattle.step_kinds.specs.Sides.{other_side}
 use Rattle.step_kinds.specs.declared.names.Side.{Side}
 use Rattle.step_kinds.specs.declared.names.Side.TheVariants.{A, B}
 use Rattle.step_kinds.specs.declared.plan.DevPlan.{DevPlan}
 use Rattle.step_kinds.specs.declared.plan.PairPlan.{PairPlan}
-use Rattle.step_kinds.specs.declared.lanes.LaneCopy.{LaneCopy}
-use Rattle.step_kinds.specs.declared.lanes.LaneCopy.TheVariants.{Part, Whole, OutOfTurn as NotCopying}
-use Rattle.step_kinds.specs.declared.steps.Answer.{Answer}
 use Rattle.step_kinds.specs.declared.steps.Answer.TheVariants as answer
-use Rattle.step_kinds.specs.declared.steps.Label.{Label}
-use Rattle.step_kinds.specs.declared.steps.Step.TheVariants.{Look, Copy, Clear, Ack}
-use Rattle.lane_model.specs.Lane.{Entry, chunks_in}
-use Rattle.lane_model.specs.Tests.{is_idle, is_copying, is_copied, is_cleared}
+use Rattle.step_kinds.specs.declared.steps.Step.TheVariants.{Look}
+use Rattle.lane_model.specs.Tests.{is_idle}
 use Rattle.lane_model.specs.declared.Phase.{Phase}
 use Rattle.lane_model.specs.declared.Phase.TheVariants.{Idle, Copying, Copied, Cleared}
 use Rattle.ring_geometry.specs.Geometry.{max_payload_of}
-use Rattle.plan_model.specs.Both.{Both, at_side, with_side}
-use Rattle.plan_model.specs.DeclaredPlans.{IsPair, SizesFit}
-use Rattle.plan_model.specs.Device.{count_delivered}
-use Rattle.plan_model.specs.Link.{is_down}
+use Rattle.plan_model.specs.DeclaredPlans.{SizesFit}
 use Rattle.plan_model.specs.Plans.{side_plan}
 use Rattle.plan_model.specs.Sizes.{layout_to}
-use Rattle.byte_model.specs.Headers.{Found, NoEntry, ALinkDownEntry, AnotherVersion, TooManyBytes, AnEntry, found_in_memory, part_in_memory}
-use Rattle.ledger_model.specs.Ledger.{DevPart, LanePart, PairPart, SidePart, Tally, dev_of, lane_to, side_of, tally_of, updated, with_lane}
+use Rattle.byte_model.specs.Headers.{Found, NoEntry, ALinkDownEntry, AnotherVersion, TooManyBytes, AnEntry}
+use Rattle.ledger_model.specs.Ledger.{lane_to, side_of}
 use Rattle.ledger_model.specs.Outcome.{Outcome, decided, refuse_if}
 use Rattle.ledger_model.specs.Reading.{Reading, by_bytes}
-use Rattle.ledger_model.specs.Receiving.{ack_step, clear_step, copy_of, copy_step, counts_delivered, look_at, look_step}
+use Rattle.ledger_model.specs.Receiving.{look_at, look_step}
 use Rattle.memory_model.specs.Memory.{Site, bytes_of_site}
-use Rattle.bridge_pair.specs.Bridge.{Bridge, memory_size}
-use Rattle.frame_ring.specs.Port.{PortState, Receiving, fresh_port, with_receiving}
+use Rattle.frame_ring.specs.Port.{Receiving, fresh_port, with_receiving}
 use Rattle.frame_ring.specs.Calls.{entry_found, found_seen, look_found}
-use Rattle.frame_ring.specs.Seen.{bytes_seen}
 use Rattle.frame_ring.specs.declared.RingLook.TheVariants.{OutOfTurn as RingOutOfTurn}
 use Rattle.queue_pair.specs.Gates.{after_look_answer, answer_of_look, look_answer, after_look}
 use Rattle.queue_pair.specs.Queue.{QueueState, with_port}
 use Rattle.queue_pair.specs.declared.LookAnswer.{LookAnswer}
 use Rattle.queue_pair.specs.declared.LookAnswer.TheVariants.{NotReady as NotJoined, Closed as QueueClosed}
-use Rattle.fabric_rule.specs.Answers.{of_look, of_copy}
-use Rattle.fabric_rule.specs.InPlace.{CountsOfPhase, LinkInPlace, receiver_of, sender_of}
-use Rattle.fabric_rule.specs.Moves.{Move, copy_move, look_move}
-use Rattle.fabric_rule.specs.Parts.{PairState, QueuePart, no_queue, one_more, with_queue}
-use Rattle.fabric_rule.specs.StandsFor.{PairStands, QueueStands, QueueView, SideStands, bridge_for, bridge_with, has_forgotten, port_for, sent_of, view_of}
+use Rattle.fabric_rule.specs.Answers.{of_look}
+use Rattle.fabric_rule.specs.InPlace.{CountsOfPhase, receiver_of}
+use Rattle.fabric_rule.specs.Moves.{Move, look_move}
+use Rattle.fabric_rule.specs.Parts.{PairState, QueuePart, with_queue}
+use Rattle.fabric_rule.specs.StandsFor.{QueueStands, has_forgotten, view_of}
 use Rattle.fabric_rule.proofs.Counts.{has-with_same, has-with_other}
-use Rattle.fabric_rule.proofs.Follows.{AllSides, Follows, by_side, state_for, with_promises, updated_here, updated_other, updated_same, same_at}
-use Rattle.fabric_rule.proofs.OneQueue.{Standing, is_queue, no_joined, part_at, part_with, queue_at, receives, remembers, stands_by, state, unchanged}
-use Rattle.fabric_rule.proofs.Queues.{sent_kept, side_at, side_same}
-use Rattle.fabric_rule.proofs.WhatIsRead.{found_fits, own_fits, same_found, same_part}
+use Rattle.fabric_rule.proofs.Follows.{Follows, by_side}
+use Rattle.fabric_rule.proofs.OneQueue.{Standing, is_queue, no_joined, part_at, part_with, queue_at, receives, stands_by, state, unchanged}
+use Rattle.fabric_rule.proofs.Queues.{side_at}
+use Rattle.fabric_rule.proofs.WhatIsRead.{found_fits, own_fits, same_found}
 
 -- an idle receiver has given back all that it took
 idle_counts : (phase : Phase) (acked cleared got : ℕ) → is_idle phase ≡ true → CountsOfPhase phase acked cleared got → (acked ≡ cleared) × (cleared ≡ got)

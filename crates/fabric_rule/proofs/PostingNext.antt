@@ -1,43 +1,41 @@
 -- Posting the next write of a lane.
-use Rattle.std.proofs.Common.{◌≡◌, ℕ, zero, suc, ◌+◌, ◌-◌, ◌<◌, ◌≤◌, ◌||◌, ◌⊎◌, Bool, true, false, Option, Some, None, List, [], ◌∷◌, ◌++◌, length, map, refl, sym, ap, ◌∙◌, subst, inl, inr, ⊎_elim, arith}
+use Rattle.std.proofs.Common.{◌≡◌, ℕ, ◌+◌, ◌-◌, ◌<◌, ◌||◌, ◌⊎◌, Bool, true, false, List, [], ◌∷◌, ◌++◌, length, map, refl, sym, ap, ◌∙◌, subst, inl, inr, ⊎_elim, arith}
 use Rattle.std.specs.Prelude.{if◌then◌else◌, not, slice_index_or, slice_set}
 use Rattle.std.specs.List.{AllByRecursion}
-use Rattle.std.proofs.lemmas.Bool.{true≢false, false≢true}
+use Rattle.std.proofs.lemmas.Bool.{false≢true}
 use Rattle.std.proofs.lemmas.List.{append-nil, length-append}
-use Rattle.step_kinds.specs.Sides.{other_side}
 use Rattle.step_kinds.specs.declared.names.Side.{Side}
 use Rattle.step_kinds.specs.declared.names.Side.TheVariants.{A, B}
 use Rattle.step_kinds.specs.declared.plan.DevPlan.{DevPlan}
 use Rattle.step_kinds.specs.declared.plan.PairPlan.{PairPlan}
-use Rattle.step_kinds.specs.declared.steps.Answer.TheVariants as answer
 use Rattle.step_kinds.specs.declared.steps.Label.{Label}
 use Rattle.step_kinds.specs.declared.steps.Step.TheVariants.{Post}
 use Rattle.lane_model.specs.Lane.{Entry, GoesDown, data_of, writes_of}
 use Rattle.lane_model.specs.declared.Write.TheVariants.{Flag, Bell}
 use Rattle.lane_model.specs.Tests.{is_empty_list}
 use Rattle.lane_model.specs.declared.Write.{Write}
-use Rattle.plan_model.specs.Both.{Both, at_side, with_side}
-use Rattle.plan_model.specs.DeclaredPlans.{IsPair, SizesFit}
+use Rattle.plan_model.specs.Both.{with_side}
+use Rattle.plan_model.specs.DeclaredPlans.{SizesFit}
 use Rattle.plan_model.specs.Labels.{label_of, labels_of}
 use Rattle.plan_model.specs.Link.{is_down}
 use Rattle.plan_model.specs.Plans.{side_plan}
-use Rattle.ledger_model.specs.Ledger.{LanePart, PairPart, lane_of, side_of, updated, with_lane}
+use Rattle.ledger_model.specs.Ledger.{LanePart, lane_of, updated, with_lane}
 use Rattle.ledger_model.specs.Outcome.{Outcome}
 use Rattle.ledger_model.specs.Reading.{Reading, by_bytes}
 use Rattle.ledger_model.specs.Sending.{next_begun as next_in_ledger, post_first, post_step, posts_through}
 use Rattle.memory_model.specs.Memory.{Site, bytes_of_site}
 use Rattle.bridge_pair.specs.Bridge.{Bridge}
-use Rattle.frame_ring.specs.Port.{PortState, Sending, with_sending}
+use Rattle.frame_ring.specs.Port.{Sending, with_sending}
 use Rattle.frame_ring.specs.Calls.{after_post, first_label, rest_of, let_go, post_answer, posted_by}
 use Rattle.frame_ring.specs.Seen.{ring_posted}
 use Rattle.queue_pair.specs.Queue.{QueueState, with_port}
 use Rattle.fabric_rule.specs.Answers.{of_post}
-use Rattle.fabric_rule.specs.InPlace.{FitsSlot, IsLeftOf, IsWriteOf, LinkInPlace, SendingEnd, SendingInPlace, last_entry, receiver_of, sender_of}
+use Rattle.fabric_rule.specs.InPlace.{FitsSlot, IsWriteOf, SendingInPlace, last_entry, receiver_of, sender_of}
 use Rattle.fabric_rule.specs.Moves.{Move, post_move}
 use Rattle.fabric_rule.specs.Parts.{PairState, QueuePart, with_bridge, with_queue}
-use Rattle.fabric_rule.specs.StandsFor.{PairStands, QueueStands, QueueView, SideStands, all_sent, bridge_for, bridge_with, has_forgotten, is_left, port_for, sending_for, sent_of, view_of, writes_labelled}
-use Rattle.fabric_rule.proofs.Begun.{begun_end, begun_in_place, last-begun, length-begun}
-use Rattle.fabric_rule.proofs.Follows.{AllSides, Follows, by_side, state_for, two_same, updated_here, updated_other, updated_same, with_promises}
+use Rattle.fabric_rule.specs.StandsFor.{PairStands, QueueStands, QueueView, all_sent, has_forgotten, is_left, sent_of, view_of}
+use Rattle.fabric_rule.proofs.Begun.{begun_in_place, last-begun, length-begun}
+use Rattle.fabric_rule.proofs.Follows.{Follows, by_side, two_same, updated_here, updated_other, updated_same, with_promises}
 use Rattle.fabric_rule.proofs.Links.{bridge_same}
 use Rattle.fabric_rule.proofs.OneQueue.{Standing, is_queue, part_at, part_with, queue_at, stands_by, state, unchanged}
 use Rattle.fabric_rule.proofs.Queues.{side_at, side_same}

@@ -1,6 +1,6 @@
 -- A step on one queue of one side: the other queues, and the other side, stand as they did.
-use Rattle.std.proofs.Common.{◌≡◌, ◌≢◌, ℕ, ◌<◌, ◌==◌, Bool, true, false, List, [], ◌∷◌, ◌++◌, length, refl, sym, ap, ◌∙◌, subst, inl, inr}
-use Rattle.std.specs.Prelude.{if◌then◌else◌, slice_index_or, slice_set, set}
+use Rattle.std.proofs.Common.{◌≡◌, ℕ, ◌<◌, Bool, true, false, List, refl, sym, ap, ◌∙◌, subst, inl, inr}
+use Rattle.std.specs.Prelude.{slice_index_or, slice_set, set}
 use Rattle.std.proofs.lemmas.Bool.{cases_eq}
 use Rattle.std.proofs.lemmas.List.{set-get_or, get_or-set_same, get_or-set_other, length-set}
 use Rattle.step_kinds.specs.Sides.{other_side}
@@ -11,17 +11,12 @@ use Rattle.step_kinds.specs.declared.plan.PairPlan.{PairPlan}
 use Rattle.step_kinds.specs.declared.steps.Label.{Label}
 use Rattle.lane_model.specs.Lane.{Entry}
 use Rattle.plan_model.specs.Both.{Both, at_side, with_side}
-use Rattle.plan_model.specs.Link.{Link, is_down}
 use Rattle.plan_model.specs.Plans.{side_plan}
-use Rattle.byte_model.specs.Stores.{Store}
-use Rattle.ledger_model.specs.Ledger.{DevPart, LanePart, PairPart, SidePart, lane_of, lane_to, side_of, updated, with_lane}
-use Rattle.memory_model.specs.Memory.{Site}
-use Rattle.bridge_pair.specs.Bridge.{Bridge}
-use Rattle.queue_pair.specs.Queue.{QueueState}
+use Rattle.ledger_model.specs.Ledger.{DevPart, LanePart, PairPart, lane_to, updated, with_lane}
 use Rattle.fabric_rule.specs.InPlace.{FlightInPlace, receiver_of, sender_of}
-use Rattle.fabric_rule.specs.Parts.{PairState, QueuePart, no_queue, queue_of, queues_of, with_queue}
-use Rattle.fabric_rule.specs.StandsFor.{QueueStands, QueueView, SideStands, SideStandsIn, all_sent, bridge_with, has_forgotten, port_for, sent_in, sent_of, view_of, writes_labelled}
-use Rattle.fabric_rule.proofs.Follows.{AllSides, by_side, same_at, state_for, updated_here, updated_other, updated_same}
+use Rattle.fabric_rule.specs.Parts.{PairState, QueuePart, no_queue, queue_of, with_queue}
+use Rattle.fabric_rule.specs.StandsFor.{QueueStands, QueueView, SideStands, has_forgotten, port_for, sent_in, sent_of, view_of, writes_labelled}
+use Rattle.fabric_rule.proofs.Follows.{AllSides, by_side, same_at, updated_here, updated_other, updated_same}
 
 module _ (devs : List DevPlan) (plan : PairPlan) (k : ℕ) (side : Side) (down forgotten : Bool) (joined : ℕ) where
   -- the same side by views that are the same

@@ -1,24 +1,24 @@
 -- Rings lie in their windows, and the windows in the memories.
-use Rattle.std.proofs.Common.{◌≡◌, ℕ, zero, suc, ◌+◌, ◌-◌, ◌*◌, ◌/◌, ◌%◌, ◌&&◌, ◌<◌, ◌≤◌, ◌==◌, Bool, true, false, List, [], ◌∷◌, ◌++◌, length, take, drop, min, replicate, refl, sym, ap, ◌∙◌, arith, mod-lt}
+use Rattle.std.proofs.Common.{ℕ, zero, suc, ◌+◌, ◌-◌, ◌*◌, ◌/◌, ◌%◌, ◌&&◌, ◌<◌, ◌≤◌, ◌==◌, Bool, true, false, List, [], ◌∷◌, ◌++◌, length, min, arith, mod-lt}
 use Rattle.std.specs.Prelude.{if◌then◌else◌, map}
 use Rattle.std.specs.List.{AllByRecursion, flat_map}
-use Rattle.std.proofs.Math.Nat.{mul_comm, mul-le-mul_right}
+use Rattle.std.proofs.Math.Nat.{mul-le-mul_right}
 use Rattle.std.proofs.lemmas.Nat.{le-div}
-use Rattle.std.proofs.lemmas.List.{length-append, length-take, length-drop, length-replicate}
+use Rattle.std.proofs.lemmas.List.{length-append, length-replicate}
 use Rattle.step_kinds.specs.Sides.{other_side}
 use Rattle.step_kinds.specs.declared.names.Side.{Side}
-use Rattle.step_kinds.specs.declared.names.Side.TheVariants.{A, B}
+use Rattle.step_kinds.specs.declared.names.Side.TheVariants.{A}
 use Rattle.step_kinds.specs.declared.plan.PairPlan.{PairPlan}
-use Rattle.lane_model.specs.Lane.{bytes_of, chunk_of, chunk_size, chunks_in, count_from, version_of}
+use Rattle.lane_model.specs.Lane.{count_from, version_of}
 use Rattle.ring_geometry.specs.Geometry.{Layout, HasRing, IsPlaced, entries_of, frame_size, header_of, index_of, max_payload_of, ring_bytes, slot_of, window_of}
 use Rattle.ring_geometry.proofs.Areas.{area_in_window, slot_in_window}
 use Rattle.ring_geometry.proofs.SpotLemmas.{in_area}
 use Rattle.ring_geometry.specs.Spots.{Index}
-use Rattle.plan_model.specs.DeclaredPlans.{IsPair, SizesFit}
+use Rattle.plan_model.specs.DeclaredPlans.{IsPair}
 use Rattle.plan_model.specs.Plans.{side_plan}
-use Rattle.plan_model.specs.Sizes.{agreed_version, header_bytes, layout_of, layout_to}
+use Rattle.plan_model.specs.Sizes.{header_bytes, layout_of, layout_to}
 use Rattle.plan_model.proofs.Rings.{each_queue_has_a_ring}
-use Rattle.byte_model.specs.Addresses.{own_address, own_header, own_index_word, peer_address}
+use Rattle.byte_model.specs.Addresses.{own_address}
 use Rattle.byte_model.specs.FreshRings.{fresh_index_word, fresh_index_words, zeroed_header, zeroed_headers}
 use Rattle.byte_model.specs.Headers.{flags_offset, len_offset, version_bytes, word_bytes}
 use Rattle.byte_model.specs.Stores.{Store}

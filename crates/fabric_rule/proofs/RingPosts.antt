@@ -1,5 +1,5 @@
 -- A write of a ring that a side posts, through a window that the peer has or lacks.
-use Rattle.std.proofs.Common.{◌≡◌, ℕ, ◌+◌, ◌-◌, ◌*◌, ◌/◌, ◌%◌, ◌<◌, ◌≤◌, Bool, true, false, Option, Some, None, List, [], ◌∷◌, ◌++◌, length, min, take, drop, refl, sym, ap, ◌∙◌, subst, inl, inr, arith}
+use Rattle.std.proofs.Common.{◌≡◌, ℕ, ◌+◌, ◌-◌, ◌*◌, ◌/◌, ◌%◌, ◌<◌, ◌≤◌, Bool, true, false, List, [], ◌∷◌, ◌++◌, length, min, drop, refl, sym, ap, ◌∙◌, subst, inl, inr, arith}
 use Rattle.std.specs.Prelude.{if◌then◌else◌, nat_lt, slice_index_or}
 use Rattle.std.specs.List.{AllByRecursion}
 use Rattle.std.proofs.lemmas.Bool.{cases_eq, ltb-true}
@@ -13,17 +13,16 @@ use Rattle.step_kinds.specs.declared.plan.PairPlan.{PairPlan}
 use Rattle.step_kinds.specs.declared.steps.Label.{Label}
 use Rattle.step_kinds.specs.declared.steps.Label.TheVariants.{Chunk, Len, Ver, Flag, Down, Bell, Index, Pad, Raw}
 use Rattle.lane_model.specs.Lane.{Entry, GoesDown, bytes_of, chunk_of, chunk_size, chunks_in, done, left_of}
-use Rattle.plan_model.specs.Both.{Both, at_side, with_side}
 use Rattle.plan_model.specs.DeclaredPlans.{IsPair, SizesFit}
-use Rattle.plan_model.specs.Link.{is_down, is_up}
+use Rattle.plan_model.specs.Link.{is_up}
 use Rattle.plan_model.specs.Plans.{side_plan}
 use Rattle.plan_model.specs.Sizes.{header_bytes, layout_of, layout_to}
 use Rattle.ring_geometry.specs.Geometry.{entries_of, header_of, index_of, max_payload_of, slot_of, window_of}
 use Rattle.byte_model.specs.Addresses.{peer_address}
 use Rattle.byte_model.specs.Headers.{flags_offset, len_offset, version_bytes, word_bytes}
-use Rattle.byte_model.specs.RingWrites.{WindowWrite, entry_write, index_write}
+use Rattle.byte_model.specs.RingWrites.{entry_write}
 use Rattle.byte_model.proofs.Facade.{length-word_bytes}
-use Rattle.ledger_model.specs.Ledger.{PairPart, SidePart, LanePart, lane_of, side_of, updated, posts, with_lane, with_side_part}
+use Rattle.ledger_model.specs.Ledger.{PairPart, LanePart, side_of, updated, posts, with_side_part}
 use Rattle.ledger_model.specs.Reading.{has_window}
 use Rattle.memory_model.specs.Memory.{Site}
 use Rattle.bridge_pair.specs.Bridge.{Bridge, flight_of, memory_size, with_flight}
@@ -32,10 +31,10 @@ use Rattle.bridge_pair.specs.Writes.{PostedWrite, bell_write, memory_write}
 use Rattle.frame_ring.specs.Seen.{ring_posted, index_posted}
 use Rattle.posted_queue.specs.Flight.{given_back, posted}
 use Rattle.fabric_rule.specs.InPlace.{FlightInPlace, HaveBytes, IsBegun, IsWriteOf, LiesIn}
-use Rattle.fabric_rule.specs.Parts.{PairState, QueuePart}
+use Rattle.fabric_rule.specs.Parts.{PairState}
 use Rattle.fabric_rule.specs.StandsFor.{PairStands, bridge_for, entry_among, flying_labelled, raw_bytes, sent_of, write_through, writes_labelled}
 use Rattle.fabric_rule.proofs.Flights.{SentGrows, all_weaker, among-grows, begun-grows, writes-same}
-use Rattle.fabric_rule.proofs.Follows.{AllSides, by_side, state_for, updated_here, updated_other}
+use Rattle.fabric_rule.proofs.Follows.{by_side, updated_here, updated_other}
 use Rattle.fabric_rule.proofs.Links.{not_down_up}
 use Rattle.fabric_rule.proofs.OneQueue.{Standing, state}
 use Rattle.fabric_rule.proofs.Posting.{one_more_plain, side_posts, with_writes}

@@ -1,10 +1,10 @@
 -- The bytes of a memory after what was stored in it.
-use Rattle.std.proofs.Common.{◌≡◌, ℕ, zero, suc, ◌+◌, ◌-◌, ◌*◌, ◌<◌, ◌≤◌, List, [], ◌∷◌, ◌++◌, length, map, take, drop, replicate, refl, sym, ap, ◌∙◌, arith}
+use Rattle.std.proofs.Common.{◌≡◌, ℕ, zero, suc, ◌+◌, ◌-◌, ◌≤◌, List, [], ◌∷◌, ◌++◌, length, map, take, drop, refl, sym, ap, ◌∙◌, arith}
 use Rattle.std.specs.List.{AllByRecursion}
 use Rattle.std.proofs.lemmas.List.{drop-map, take-map}
 use Rattle.lane_model.specs.Lane.{count_from}
 use Rattle.byte_model.specs.Stores.{Store, byte_in, bytes_in}
-use Rattle.byte_model.proofs.Facade.{bytes_over, length-bytes_in, nothing_stored}
+use Rattle.byte_model.proofs.Facade.{bytes_over}
 use Rattle.host_memory.specs.Memory.{bytes_at, written}
 use Rattle.bridge_pair.specs.Ends.{bytes_after}
 

@@ -1,6 +1,6 @@
 -- What a port reads of its side's memory is what the site's bytes are.
-use Rattle.std.proofs.Common.{◌≡◌, ℕ, zero, suc, ◌+◌, ◌-◌, ◌*◌, ◌%◌, ◌<◌, ◌≤◌, ◌==◌, ◌&&◌, Bool, true, false, List, [], ◌∷◌, min, refl, sym, ap, ◌∙◌, inl, inr, arith}
-use Rattle.std.specs.Prelude.{if◌then◌else◌, nat_lt, not, map, take}
+use Rattle.std.proofs.Common.{◌≡◌, ℕ, ◌+◌, ◌-◌, ◌*◌, ◌%◌, ◌<◌, ◌≤◌, ◌==◌, ◌&&◌, Bool, true, false, List, min, refl, sym, ap, ◌∙◌, inl, inr, arith}
+use Rattle.std.specs.Prelude.{if◌then◌else◌, nat_lt, not}
 use Rattle.std.proofs.lemmas.Bool.{cases_lt, ltb-false}
 use Rattle.byteorder.specs.Endian.{little_number}
 use Rattle.step_kinds.specs.Bits.{has_bit}
@@ -9,18 +9,16 @@ use Rattle.step_kinds.specs.declared.names.Side.{Side}
 use Rattle.step_kinds.specs.declared.names.Side.TheVariants.{A, B}
 use Rattle.step_kinds.specs.declared.plan.PairPlan.{PairPlan}
 use Rattle.lane_model.specs.Lane.{chunk_size, version_of}
-use Rattle.ring_geometry.specs.Geometry.{Layout, entries_of, header_of, index_of, max_payload_of, slot_of}
+use Rattle.ring_geometry.specs.Geometry.{entries_of, header_of, index_of, max_payload_of, slot_of}
 use Rattle.plan_model.specs.Both.{Both}
 use Rattle.plan_model.specs.DeclaredPlans.{IsPair, SizesFit}
 use Rattle.plan_model.specs.Plans.{side_plan}
 use Rattle.plan_model.specs.Sizes.{Sizes, header_bytes, layout_to, sizes_in}
 use Rattle.byte_model.specs.Addresses.{own_header, own_index_word, own_slot}
-use Rattle.byte_model.specs.Headers.{Bytes, Found, NoEntry, ALinkDownEntry, AnotherVersion, TooManyBytes, AnEntry, Header, found_in_memory, found_with, header_in, header_with, index_word_in, part_in_memory, word_at}
-use Rattle.byte_model.specs.Stores.{bytes_in}
+use Rattle.byte_model.specs.Headers.{Bytes, NoEntry, ALinkDownEntry, AnotherVersion, TooManyBytes, AnEntry, Header, found_in_memory, found_with, header_in, header_with, index_word_in, part_in_memory, word_at}
 use Rattle.memory_model.specs.Memory.{Site, bytes_of_site}
 use Rattle.bridge_pair.specs.Bridge.{Bridge, memory_size}
 use Rattle.frame_ring.specs.Seen.{bytes_seen}
-use Rattle.host_memory.specs.Memory.{bytes_at}
 use Rattle.fabric_rule.specs.StandsFor.{bridge_for}
 use Rattle.fabric_rule.proofs.Follows.{with_promises}
 use Rattle.fabric_rule.proofs.RingPlaces.{RingLies, lies_to, own_inside}

@@ -6,9 +6,9 @@ use Rattle.step_kinds.specs.Sides.{other_side}
 use Rattle.step_kinds.specs.declared.names.Side.{Side}
 use Rattle.step_kinds.specs.declared.plan.PairPlan.{PairPlan}
 use Rattle.step_kinds.specs.declared.steps.Label.{Label}
-use Rattle.step_kinds.specs.declared.steps.Label.TheVariants.{Chunk, Len, Ver, Flag, Down, Bell, Index, Pad, Raw}
+use Rattle.step_kinds.specs.declared.steps.Label.TheVariants.{Chunk, Len, Ver, Flag, Down, Bell, Raw}
 use Rattle.lane_model.specs.Lane.{Entry, GoesDown, bytes_of, chunks_in}
-use Rattle.lane_model.specs.Tests.{is_idle, is_copying}
+use Rattle.lane_model.specs.Tests.{is_copying}
 use Rattle.lane_model.specs.declared.Phase.{Phase}
 use Rattle.lane_model.specs.declared.Phase.TheVariants.{Idle, Copying, Copied, Cleared}
 use Rattle.ring_geometry.specs.Geometry.{max_payload_of}
@@ -20,7 +20,7 @@ use Rattle.ledger_model.specs.Ledger.{LanePart}
 use Rattle.bridge_pair.specs.Bridge.{memory_size}
 use Rattle.bridge_pair.specs.Flights.{Flying}
 use Rattle.bridge_pair.specs.declared.flying.Arrival.{Arrival}
-use Rattle.bridge_pair.specs.declared.flying.Arrival.TheVariants.{AtAddress, AtPad, AtBell}
+use Rattle.bridge_pair.specs.declared.flying.Arrival.TheVariants.{AtAddress}
 
 -- A lane from each of its ends
 
