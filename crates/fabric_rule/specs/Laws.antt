@@ -1,5 +1,5 @@
 -- The laws of what a fabric keeps: it stands for the steps made, whatever they are.
-use Rattle.std.specs.Prelude.{◌≡◌, ℕ, false, ◌<◌, ◌≤◌, ◌∷◌, [], ◌++◌, List, length}
+use Rattle.std.specs.Prelude.{◌≡◌, ℕ, false, ◌<◌, ◌∷◌, [], ◌++◌, List, length}
 use Rattle.std.specs.List.{AllByRecursion}
 use Rattle.step_kinds.specs.Subject.{subject_of}
 use Rattle.step_kinds.specs.declared.names.Side.{Side}

@@ -1,4 +1,5 @@
 pub mod Answers
+pub mod InPlace
 pub mod Laws
 pub mod Moves
 pub mod Parts

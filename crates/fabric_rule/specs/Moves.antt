@@ -1,6 +1,6 @@
 -- What each step does to a pair as a fabric keeps it, by the bytes in its memories and the counts of its ports: the answer, and
 -- the pair after it. Room and pages that are promised stand aside (`plain_pair`).
-use Rattle.std.specs.Prelude.{ℕ, ◌+◌, ◌==◌, Bool, true, false, not, Option, Some, None, List, length, map, option_map, slice_get, slice_index, bit_or, if◌then◌else◌}
+use Rattle.std.specs.Prelude.{ℕ, ◌+◌, false, Option, Some, None, List, length, map, option_map, slice_get, slice_index, bit_or, if◌then◌else◌}
 use Rattle.step_kinds.specs.Bits.{without_bits}
 use Rattle.step_kinds.specs.declared.names.Side.{Side}
 use Rattle.step_kinds.specs.declared.plan.DevPlan.{DevPlan}
@@ -9,7 +9,7 @@ use Rattle.step_kinds.specs.declared.lanes.LaneCopy.TheVariants.{Whole}
 use Rattle.step_kinds.specs.declared.steps.Answer.{Answer}
 use Rattle.step_kinds.specs.declared.steps.Answer.TheVariants.{Ok as Done, OkSession, OkNumber, Stopped, Awake, Irq, Mem, PadValue, QueueShown}
 use Rattle.step_kinds.specs.declared.steps.Label.TheVariants.{Raw}
-use Rattle.plan_model.specs.Device.{Flow, stopped_after_send, stays_stopped, count_accepted, count_refused, count_delivered}
+use Rattle.plan_model.specs.Device.{stopped_after_send, stays_stopped, count_accepted, count_refused, count_delivered}
 use Rattle.plan_model.specs.Ethernet.{ethernet_frame}
 use Rattle.plan_model.specs.Link.{is_up, enable_refusal, train_refusal, cut_refusal, drop_refusal, clean_refusal}
 use Rattle.plan_model.specs.declared.LinkRefusal.{LinkRefusal}
@@ -26,8 +26,7 @@ use Rattle.hand_shake.specs.Checks.{check_answer, after_check}
 use Rattle.hand_shake.specs.Queues.{ready_answer, after_ready, join_answer, after_join}
 use Rattle.frame_ring.specs.Calls.{post_answer, after_post, posted_by, copy_answer, after_copy, clear_answer, after_clear, cleared_by, ack_answer, after_ack, acked_by, free_answer}
 use Rattle.queue_pair.specs.Gates.{begin_answer, after_begin, qpdown_answer, after_qpdown, look_answer, after_look, irq_bits, after_irq}
-use Rattle.queue_pair.specs.Queue.{QueueState, fresh_queue, with_port}
-use Rattle.queue_pair.specs.declared.BeginAnswer.{BeginAnswer}
+use Rattle.queue_pair.specs.Queue.{fresh_queue, with_port}
 use Rattle.fabric_rule.specs.Answers.{of_link, of_offer, of_check, of_ready, of_join, of_begin, of_xbegin, of_post, of_land, of_look, of_copy, of_clear, of_ack}
 use Rattle.fabric_rule.specs.Parts.{PairState, QueuePart, one_more, queues_of, queue_of, with_bridge, with_queues, with_queue, plain_pair}
 

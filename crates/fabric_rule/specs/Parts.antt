@@ -1,6 +1,6 @@
 -- What a fabric keeps of a pair: the pair in bytes, and of each queue of each side its queue pair, its device's flow and counts,
 -- and the frames of each session.
-use Rattle.std.specs.Prelude.{◌≡◌, ℕ, ◌+◌, ◌==◌, List, [], ◌∷◌, ◌++◌, false, if◌then◌else◌, slice_index_or, slice_set}
+use Rattle.std.specs.Prelude.{ℕ, ◌+◌, ◌==◌, List, [], ◌∷◌, false, if◌then◌else◌, slice_index_or, slice_set}
 use Rattle.step_kinds.specs.declared.names.Side.{Side}
 use Rattle.step_kinds.specs.declared.names.Side.TheVariants.{A}
 use Rattle.step_kinds.specs.declared.plan.Counters.{Counters}

@@ -1,106 +1,162 @@
 -- When what a fabric keeps of a pair stands for the ledger of the steps that were made: link, registers, books, counts and lists
 -- in flight are the ledger's, each byte of its memories is the last one that was stored there, and what a port keeps of the entry
 -- at hand is that entry.
-use Rattle.std.specs.Prelude.{◌≡◌, ℕ, ◌+◌, ◌-◌, ◌<◌, ◌&&◌, Bool, true, false, Option, Some, None, List, [], ◌∷◌, length, if◌then◌else◌}
+use Rattle.std.specs.Prelude.{◌≡◌, ℕ, ◌-◌, ◌<◌, ◌&&◌, ◌⊎◌, Bool, true, false, Option, Some, None, List, [], ◌∷◌, length, slice_index_or, if◌then◌else◌}
 use Rattle.step_kinds.specs.Bits.{has_bit}
 use Rattle.step_kinds.specs.Sides.{other_side}
 use Rattle.step_kinds.specs.declared.names.Side.{Side}
+use Rattle.step_kinds.specs.declared.names.Side.TheVariants.{A, B}
 use Rattle.step_kinds.specs.declared.plan.DevPlan.{DevPlan}
 use Rattle.step_kinds.specs.declared.plan.PairPlan.{PairPlan}
 use Rattle.step_kinds.specs.declared.steps.Label.{Label}
-use Rattle.step_kinds.specs.declared.steps.Label.TheVariants.{Bell, Index, Pad, Raw}
-use Rattle.lane_model.specs.declared.Phase.{Phase}
-use Rattle.lane_model.specs.declared.Phase.TheVariants.{Idle, Copying, Copied, Cleared}
-use Rattle.plan_model.specs.Both.{at_side}
-use Rattle.plan_model.specs.Link.{is_down}
+use Rattle.step_kinds.specs.declared.steps.Label.TheVariants.{Chunk, Len, Ver, Flag, Down, Bell, Index, Pad, Raw}
+use Rattle.lane_model.specs.Lane.{Entry, GoesDown}
+use Rattle.lane_model.specs.Tests.{is_empty_list}
+use Rattle.plan_model.specs.Both.{Both, at_side}
+use Rattle.plan_model.specs.DeclaredPlans.{SizesFit}
+use Rattle.plan_model.specs.Link.{Link, is_down}
 use Rattle.plan_model.specs.Plans.{dev_plan, side_plan}
 use Rattle.byte_model.specs.RingWrites.{WindowWrite, entry_write, index_write}
-use Rattle.byte_model.specs.Stores.{bytes_in}
-use Rattle.ledger_model.specs.Ledger.{LanePart, PairPart, side_of, lane_of, lane_to, dev_of, tally_of, entry_in}
+use Rattle.byte_model.specs.Stores.{Store, bytes_in}
+use Rattle.ledger_model.specs.Ledger.{DevPart, LanePart, PairPart, SidePart, side_of, lane_of, lane_to, dev_of, tally_of}
 use Rattle.memory_model.specs.Memory.{Site}
-use Rattle.memory_model.specs.Targets.{entry_labelled}
-use Rattle.bridge_pair.specs.Bridge.{Bridge, book_of, pads_of, bells_of, bytes_of, flight_of, memory_size}
+use Rattle.bridge_regs.specs.Doorbell.{Doorbell}
+use Rattle.host_memory.specs.Memory.{Contents}
+use Rattle.posted_queue.specs.Flight.{Flight}
+use Rattle.bridge_pair.specs.Bridge.{Bridge, memory_size}
 use Rattle.bridge_pair.specs.Flights.{Flying, flying_of}
 use Rattle.bridge_pair.specs.Writes.{PostedWrite, bell_write, memory_write, pad_write}
-use Rattle.frame_ring.specs.Port.{PortState, Receiving, Sending, fresh_port, is_busy}
-use Rattle.fabric_rule.specs.Parts.{PairState, QueuePart, count_in, queue_of, queues_of}
+use Rattle.bridge_pair.specs.declared.book.SideBook.{SideBook}
+use Rattle.frame_ring.specs.Port.{PortState, Receiving, Sending, fresh_port}
+use Rattle.fabric_rule.specs.InPlace.{FlightInPlace, IsForgotten, LinkInPlace, ReceivingEnd, ReceivingInPlace, SendingEnd, SendingInPlace, last_entry, receiver_of, sender_of}
+use Rattle.fabric_rule.specs.Parts.{PairState, QueuePart, count_in, no_queue, plain_bridge, queues_of}
 
 -- Writes in flight
 
--- the write of a label, `raw` being the bytes of a raw one
-abbrev pub write_labelled : PairPlan → PairPart → Side → List ℕ → Label → PostedWrite
-write_labelled plan pair side raw (Bell queue) = bell_write queue
-write_labelled plan pair side raw (Pad i value) = pad_write i value
-write_labelled plan pair side raw (Raw window offset len) = memory_write (Raw window offset len) window offset raw
-write_labelled plan pair side raw (Index queue n) =
-    let write = index_write plan side queue n in
-    memory_write (Index queue n) write.window write.offset write.bytes
-write_labelled plan pair side raw label = through (entry_write plan side (entry_labelled pair side label) label) where
-  through : Option WindowWrite → PostedWrite
-  through None = memory_write label 0 0 []
-  through (Some write) = memory_write label write.window write.offset write.bytes
+-- the entry whose write a label is, of those that a side sent on each queue
+abbrev pub entry_among : (ℕ → List Entry) → Label → Entry
+entry_among sent (Chunk queue n part) = slice_index_or (sent queue) n GoesDown
+entry_among sent (Len queue n) = slice_index_or (sent queue) n GoesDown
+entry_among sent (Ver queue n) = slice_index_or (sent queue) n GoesDown
+entry_among sent (Flag queue n) = slice_index_or (sent queue) n GoesDown
+entry_among sent (Down queue n) = slice_index_or (sent queue) n GoesDown
+entry_among sent label = GoesDown
+
+abbrev pub write_through : Label → Option WindowWrite → PostedWrite
+write_through label None = memory_write label 0 0 []
+write_through label (Some write) = memory_write label write.window write.offset write.bytes
+
+-- the write of a label that is of this entry, `raw` being the bytes of a raw one
+abbrev pub write_of : PairPlan → Side → Entry → List ℕ → Label → PostedWrite
+write_of plan side entry raw (Bell queue) = bell_write queue
+write_of plan side entry raw (Pad i value) = pad_write i value
+write_of plan side entry raw (Raw window offset len) = memory_write (Raw window offset len) window offset raw
+write_of plan side entry raw (Index queue n) = write_through (Index queue n) (Some (index_write plan side queue n))
+write_of plan side entry raw label = write_through label (entry_write plan side entry label)
+
+-- a raw label takes the first of the bytes of raw writes, and leaves the others
+abbrev pub raw_bytes : Label → List (List ℕ) → List ℕ
+raw_bytes (Raw window offset len) (bytes ∷ poked) = bytes
+raw_bytes label poked = []
+
+abbrev pub raws_behind : Label → List (List ℕ) → List (List ℕ)
+raws_behind (Raw window offset len) (bytes ∷ poked) = poked
+raws_behind label poked = poked
+
+-- the write in flight of a label
+abbrev pub flying_labelled : PairPlan → Side → (ℕ → List Entry) → List ℕ → Label → Flying
+flying_labelled plan side sent raw label = flying_of plan side (write_of plan side (entry_among sent label) raw label)
 
 -- the writes of the labels in flight, the raw ones with their bytes in order
-abbrev pub writes_labelled : PairPlan → PairPart → Side → List Label → List (List ℕ) → List Flying
-writes_labelled plan pair side [] poked = []
-writes_labelled plan pair side (Raw window offset len ∷ labels) [] =
-    flying_of plan side (write_labelled plan pair side [] (Raw window offset len)) ∷ writes_labelled plan pair side labels []
-writes_labelled plan pair side (Raw window offset len ∷ labels) (bytes ∷ poked) =
-    flying_of plan side (write_labelled plan pair side bytes (Raw window offset len)) ∷ writes_labelled plan pair side labels poked
-writes_labelled plan pair side (label ∷ labels) poked =
-    flying_of plan side (write_labelled plan pair side [] label) ∷ writes_labelled plan pair side labels poked
+abbrev pub writes_labelled : PairPlan → Side → (ℕ → List Entry) → List Label → List (List ℕ) → List Flying
+writes_labelled plan side sent [] poked = []
+writes_labelled plan side sent (label ∷ labels) poked =
+    flying_labelled plan side sent (raw_bytes label poked) label ∷ writes_labelled plan side sent labels (raws_behind label poked)
 
--- A side
+-- The pair in bytes, promises aside
 
-pub record SideStands (plan : PairPlan) (site : Site) (bridge : Bridge) (side : Side) : Type 0 where
-  pub up : (book_of bridge side).up ≡ (side_of site.pair side).up
-  pub ready : (book_of bridge side).ready ≡ (side_of site.pair side).ready
-  pub joined : (book_of bridge side).joined ≡ (side_of site.pair side).joined
-  pub offered : (book_of bridge side).offered ≡ (side_of site.pair side).offered
-  pub pads : pads_of bridge side ≡ (side_of site.pair side).pads
-  pub pending : (bells_of bridge side).pending ≡ (side_of site.pair side).pending
-  pub masked : (bells_of bridge side).masked ≡ (side_of site.pair side).masked
-  pub flight : (flight_of bridge side).writes ≡ writes_labelled plan site.pair side (side_of site.pair side).flight (side_of site.pair side).poked
-  pub bytes : bytes_of bridge side ≡ bytes_in (at_side site.stores side) 0 (memory_size plan side)
+abbrev pub book_for : SidePart → SideBook
+book_for part = record { up = part.up; ready = part.ready; joined = part.joined; offered = part.offered }
+
+abbrev pub bells_for : SidePart → Doorbell
+bells_for part = record { pending = part.pending; masked = part.masked }
+
+abbrev pub memory_for : PairPlan → Side → List Store → Contents
+memory_for plan side stores = record { bytes = bytes_in stores 0 (memory_size plan side); promised = [] }
+
+abbrev pub flight_for : PairPlan → Side → (ℕ → List Entry) → SidePart → Flight Flying
+flight_for plan side sent part = record { writes = writes_labelled plan side sent part.flight part.poked; spare = 0 }
+
+-- the bridge of a pair with this link and these sides, whose lanes have these entries, and in whose memories this was stored
+abbrev pub bridge_with : PairPlan → Link → Both SidePart → Both (ℕ → List Entry) → Both (List Store) → Bridge
+bridge_with plan link sides sent stores =
+    record {
+      plan = plan;
+      link = link;
+      books = record { a = book_for sides.a; b = book_for sides.b };
+      pads = record { a = sides.a.pads; b = sides.b.pads };
+      bells = record { a = bells_for sides.a; b = bells_for sides.b };
+      memories = record { a = memory_for plan A stores.a; b = memory_for plan B stores.b };
+      flights = record { a = flight_for plan A sent.a sides.a; b = flight_for plan B sent.b sides.b };
+    }
+
+-- the entries of all lanes
+abbrev pub sent_of : (ℕ → LanePart) → ℕ → List Entry
+sent_of lanes queue = (lanes queue).sent
+
+abbrev pub all_sent : Both (ℕ → LanePart) → Both (ℕ → List Entry)
+all_sent lanes = record { a = sent_of lanes.a; b = sent_of lanes.b }
+
+abbrev pub bridge_for : PairPlan → Site → Bridge
+bridge_for plan site = bridge_with plan site.pair.link site.pair.sides (all_sent site.pair.lanes) site.stores
 
 -- A queue of a side
 
-pub record SendingStands (sending : Sending) (lane : LanePart) : Type 0 where
-  pub begun : sending.begun ≡ length lane.sent
-  pub told : sending.told ≡ lane.told
-  pub todo : sending.todo ≡ lane.todo
-  pub waiting : sending.waiting ≡ lane.waiting
-  pub entry : is_busy sending ≡ true → sending.entry ≡ entry_in lane (length lane.sent - 1)
+-- what a side sees of one of its queues: the two lanes, each from its end, its device, the frames by session of both lanes, and
+-- whether the queue is closed
+pub record QueueView : Type 0 where
+  pub sends : SendingEnd
+  pub receives : ReceivingEnd
+  pub dev : DevPart
+  pub accepted : ℕ → ℕ
+  pub delivered : ℕ → ℕ
+  pub closed : Bool
 
--- how far the receiver's counts are apart in each phase
-abbrev pub CountsOfPhase : Phase → ℕ → ℕ → ℕ → Type 0
-CountsOfPhase Idle acked cleared got = (acked ≡ cleared) × (cleared ≡ got)
-CountsOfPhase Copying acked cleared got = (acked ≡ cleared) × (cleared ≡ got)
-CountsOfPhase Copied acked cleared got = (acked ≡ cleared) × (cleared + 1 ≡ got)
-CountsOfPhase Cleared acked cleared got = (acked + 1 ≡ cleared) × (cleared ≡ got)
+abbrev pub view_of : PairPart → Side → ℕ → QueueView
+view_of pair side queue =
+    record {
+      sends = sender_of (lane_of pair side queue);
+      receives = receiver_of (lane_to pair side queue);
+      dev = dev_of pair side queue;
+      accepted = λ session. (tally_of pair side queue session).accepted;
+      delivered = λ session. (tally_of pair (other_side side) queue session).delivered;
+      closed = has_bit (side_of pair side).closed queue;
+    }
 
-pub record ReceivingStands (receiving : Receiving) (lane : LanePart) : Type 0 where
-  pub got : receiving.got ≡ lane.got
-  pub done : receiving.done ≡ lane.done
-  pub phase : receiving.phase ≡ lane.phase
-  pub part : receiving.part ≡ lane.part
-  pub len : receiving.len ≡ lane.len
-  pub left : receiving.left ≡ lane.left
-  pub gathered : receiving.gathered ≡ lane.gathered
-  pub counts : CountsOfPhase lane.phase lane.acked lane.cleared lane.got
+-- whether something is left to post
+abbrev pub is_left : SendingEnd → Bool
+is_left sends = if is_empty_list sends.todo then (if is_empty_list sends.waiting then false else true) else true
 
--- a side that has forgotten its session: from its clean to the next train
-abbrev pub has_forgotten : PairPart → Side → Bool
-has_forgotten pair side = is_down pair.link.state && at_side pair.link.clean side
+abbrev pub sending_for : SendingEnd → Entry → Sending
+sending_for sends entry = record { begun = length sends.sent; told = sends.told; entry = entry; todo = sends.todo; waiting = sends.waiting }
+
+abbrev pub receiving_for : ReceivingEnd → Receiving
+receiving_for receives =
+    record {
+      got = receives.got;
+      done = receives.done;
+      phase = receives.phase;
+      part = receives.part;
+      len = receives.len;
+      left = receives.left;
+      gathered = receives.gathered;
+    }
 
 -- the port's counts are the ledger's, but that they are 0 once its side has forgotten the session
-pub record PortStands (plan : PairPlan) (pair : PairPart) (side : Side) (queue : ℕ) (port : PortState) : Type 0 where
-  pub plan_is : port.plan ≡ plan
-  pub side_is : port.side ≡ side
-  pub queue_is : port.queue ≡ queue
-  pub forgotten : has_forgotten pair side ≡ true → port ≡ fresh_port plan side queue
-  pub sending : has_forgotten pair side ≡ false → SendingStands port.sending (lane_of pair side queue)
-  pub receiving : has_forgotten pair side ≡ false → ReceivingStands port.receiving (lane_to pair side queue)
+abbrev pub port_for : PairPlan → Side → ℕ → Bool → QueueView → Entry → PortState
+port_for plan side queue true view entry = fresh_port plan side queue
+port_for plan side queue false view entry =
+    record { plan = plan; side = side; queue = queue; sending = sending_for view.sends entry; receiving = receiving_for view.receives }
 
 -- the device of this number is on the queue
 pub record IsOn (dev : DevPlan) (pair : ℕ) (side : Side) (queue : ℕ) : Type 0 where
@@ -108,22 +164,44 @@ pub record IsOn (dev : DevPlan) (pair : ℕ) (side : Side) (queue : ℕ) : Type 
   pub its_side : dev.side ≡ side
   pub its_queue : dev.queue ≡ queue
 
-pub record QueueStands (devs : List DevPlan) (plan : PairPlan) (k : ℕ) (pair : PairPart) (side : Side) (queue : ℕ) (part : QueuePart) : Type 0 where
-  pub closed : part.queue.closed ≡ has_bit (side_of pair side).closed queue
-  pub port : PortStands plan pair side queue part.queue.port
-  pub stopped : part.flow.stopped ≡ (dev_of pair side queue).stopped
+pub record QueueStands (devs : List DevPlan) (plan : PairPlan) (k : ℕ) (side : Side) (queue : ℕ) (forgotten : Bool) (view : QueueView) (part : QueuePart) : Type 0 where
+  pub port : part.queue.port ≡ port_for plan side queue forgotten view part.queue.port.sending.entry
+  pub entry : forgotten ≡ false → is_left view.sends ≡ true → part.queue.port.sending.entry ≡ last_entry view.sends
+  pub closed : part.queue.closed ≡ view.closed
+  pub stopped : part.flow.stopped ≡ view.dev.stopped
   pub limits : (d : ℕ) → d < length devs → IsOn (dev_plan devs d) k side queue
       → (part.flow.stop ≡ (dev_plan devs d).stop) × (part.flow.start ≡ (dev_plan devs d).start)
-  pub counters : part.counters ≡ (dev_of pair side queue).counters
-  pub accepted : (session : ℕ) → count_in part.accepted session ≡ (tally_of pair side queue session).accepted
-  pub delivered : (session : ℕ) → count_in part.delivered session ≡ (tally_of pair (other_side side) queue session).delivered
+  pub counters : part.counters ≡ view.dev.counters
+  pub accepted : (session : ℕ) → count_in part.accepted session ≡ view.accepted session
+  pub delivered : (session : ℕ) → count_in part.delivered session ≡ view.delivered session
+  pub sending : SendingInPlace plan side queue view.sends
+  pub receiving : ReceivingInPlace plan side queue forgotten view.receives
+  pub forgets : forgotten ≡ true → IsForgotten view.sends view.receives view.dev.stopped
+  pub stops : (view.dev.stopped ≡ false) ⊎ SizesFit plan
+
+-- A side
+
+-- a side that has forgotten its session: from its clean to the next train
+abbrev pub has_forgotten : Link → Side → Bool
+has_forgotten link side = is_down link.state && at_side link.clean side
+
+-- the entries that are sent on each queue
+abbrev pub sent_in : (ℕ → QueueView) → ℕ → List Entry
+sent_in view queue = (view queue).sends.sent
+
+pub record SideStands (devs : List DevPlan) (plan : PairPlan) (k : ℕ) (side : Side) (down forgotten : Bool) (joined : ℕ) (flight : List Label) (poked : List (List ℕ)) (view : ℕ → QueueView) (parts : List QueuePart) : Type 0 where
+  pub none_joined : forgotten ≡ true → joined ≡ 0
+  pub in_flight : FlightInPlace plan side down (sent_in view) flight poked (writes_labelled plan side (sent_in view) flight poked)
+  pub all_queues : length parts ≡ (side_plan plan side).queues
+  pub queues : (queue : ℕ) → queue < (side_plan plan side).queues → QueueStands devs plan k side queue forgotten (view queue) (slice_index_or parts queue no_queue)
+
+abbrev pub SideStandsIn : List DevPlan → PairPlan → ℕ → PairPart → Side → List QueuePart → Type 0
+SideStandsIn devs plan k pair side parts =
+    SideStands devs plan k side (is_down pair.link.state) (has_forgotten pair.link side) (side_of pair side).joined (side_of pair side).flight (side_of pair side).poked (view_of pair side) parts
 
 -- A pair, whose number is k
 
 pub record PairStands (devs : List DevPlan) (plan : PairPlan) (k : ℕ) (site : Site) (state : PairState) : Type 0 where
-  pub plan_is : state.bridge.plan ≡ plan
-  pub link : state.bridge.link ≡ site.pair.link
-  pub sides : (side : Side) → SideStands plan site state.bridge side
-  pub all_queues : (side : Side) → length (queues_of state side) ≡ (side_plan plan side).queues
-  pub queues : (side : Side) (queue : ℕ) → queue < (side_plan plan side).queues
-      → QueueStands devs plan k site.pair side queue (queue_of state side queue)
+  pub bridge : plain_bridge state.bridge ≡ bridge_for plan site
+  pub link : LinkInPlace site.pair.link
+  pub sides : (side : Side) → SideStandsIn devs plan k site.pair side (queues_of state side)

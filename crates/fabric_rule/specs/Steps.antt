@@ -1,8 +1,6 @@
 -- Every step of a pair, and of a cluster.
-use Rattle.std.specs.Prelude.{ℕ, List, length, slice_index_or, slice_set}
-use Rattle.step_kinds.specs.Subject.{subject_of}
+use Rattle.std.specs.Prelude.{List}
 use Rattle.step_kinds.specs.declared.plan.DevPlan.{DevPlan}
-use Rattle.step_kinds.specs.declared.steps.Answer.{Answer}
 use Rattle.step_kinds.specs.declared.steps.Step.{Step}
 use Rattle.step_kinds.specs.declared.steps.Step.TheVariants.{Enable, Train, Break, DropDone, Clean, Offer, Check, Ready, Join, Begin, QpDown, Xbegin, Post, Land, Look, Copy, Clear, Ack, Wake, Irq, Mask, Unmask, Spad, Poke, ShowMem, ShowPad, ShowQueue}
 use Rattle.plan_model.specs.Plans.{dev_plan}

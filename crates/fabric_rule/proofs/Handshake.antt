@@ -1,0 +1,278 @@
+-- The steps of the handshake.
+use Rattle.std.proofs.Common.{◌≡◌, ℕ, zero, suc, ◌+◌, ◌/◌, ◌%◌, ◌≤◌, ◌==◌, ◌&&◌, ◌||◌, ◌⊎◌, Bool, true, false, Option, Some, None, List, [], ◌∷◌, ◌++◌, length, refl, sym, ap, ◌∙◌, subst, inl, inr}
+use Rattle.std.specs.Prelude.{if◌then◌else◌, not, nat_lt, find, slice_index_or}
+use Rattle.std.specs.List.{AllByRecursion, flat_map}
+use Rattle.std.proofs.lemmas.Bool.{true≢false}
+use Rattle.step_kinds.specs.Bits.{has_bit, with_bit}
+use Rattle.step_kinds.specs.Sides.{other_side}
+use Rattle.step_kinds.specs.declared.names.Side.{Side}
+use Rattle.step_kinds.specs.declared.names.Side.TheVariants.{A, B}
+use Rattle.step_kinds.specs.declared.plan.DevPlan.{DevPlan}
+use Rattle.step_kinds.specs.declared.plan.PairPlan.{PairPlan}
+use Rattle.step_kinds.specs.declared.plan.SidePlan.{SidePlan}
+use Rattle.step_kinds.specs.declared.steps.Answer.{Answer}
+use Rattle.step_kinds.specs.declared.steps.Answer.TheVariants as answer
+use Rattle.step_kinds.specs.declared.steps.Label.{Label}
+use Rattle.step_kinds.specs.declared.steps.Label.TheVariants.{Chunk, Len, Ver, Flag, Down, Bell, Index, Pad, Raw}
+use Rattle.step_kinds.specs.declared.steps.Step.TheVariants.{Offer, Check, Ready, Join}
+use Rattle.lane_model.specs.Lane.{count_from}
+use Rattle.plan_model.specs.Both.{Both, at_side}
+use Rattle.plan_model.specs.DeclaredPlans.{IsPair}
+use Rattle.plan_model.specs.Link.{is_down, is_up}
+use Rattle.plan_model.specs.Pads.{high_pad, links_pad, low_pad, offers, pad_index, queues_pad, version_pad, windows_pad, word}
+use Rattle.plan_model.specs.Plans.{side_plan}
+use Rattle.byte_model.specs.FreshRings.{fresh_index_words, zeroed_headers}
+use Rattle.ledger_model.specs.Handshake.{check_refusal, check_step, join_step, offer_step, pad_in, ready_step, size_in}
+use Rattle.ledger_model.specs.Ledger.{link_up, side_of, with_side_part}
+use Rattle.ledger_model.specs.Outcome.{decided, refuse_if}
+use Rattle.memory_model.specs.Memory.{Site}
+use Rattle.bridge_pair.specs.Bridge.{Bridge, memory_size, with_book, with_memory}
+use Rattle.hand_shake.specs.Checks.{after_answer as after_check_answer, check_answer}
+use Rattle.hand_shake.specs.Offers.{after_answer as after_offer_answer, pad_value}
+use Rattle.hand_shake.specs.Queues.{after_join_answer, after_ready_answer}
+use Rattle.hand_shake.specs.declared.CheckAnswer.{CheckAnswer}
+use Rattle.hand_shake.specs.declared.CheckAnswer.TheVariants as check
+use Rattle.hand_shake.specs.declared.OfferAnswer.TheVariants as offer
+use Rattle.hand_shake.specs.declared.ReadyAnswer.TheVariants as ready
+use Rattle.hand_shake.specs.declared.JoinAnswer.TheVariants as join
+use Rattle.fabric_rule.specs.Answers.{of_check, of_join, of_offer, of_ready}
+use Rattle.fabric_rule.specs.InPlace.{LinkInPlace}
+use Rattle.fabric_rule.specs.Moves.{bridge_move, check_move, join_move, offer_move, ready_move}
+use Rattle.fabric_rule.specs.Parts.{PairState, QueuePart}
+use Rattle.fabric_rule.specs.StandsFor.{SideStands, book_for, bridge_for, has_forgotten, sent_of, view_of, writes_labelled}
+use Rattle.fabric_rule.proofs.Follows.{AllSides, Follows, by_side, state_for}
+use Rattle.fabric_rule.proofs.Links.{not_down_up}
+use Rattle.fabric_rule.proofs.Posting.{one_more_plain, side_posts, with_writes}
+use Rattle.fabric_rule.proofs.RingPlaces.{rings_inside}
+use Rattle.fabric_rule.proofs.StoredBytes.{all_stored}
+
+-- What is offered
+
+abbrev IsPad : Label → Type 0
+IsPad (Pad i value) = Unit {0}
+IsPad label = ⊥
+
+offers_are_pads : (own : SidePlan) → AllByRecursion IsPad (offers own)
+offers_are_pads own = sizes (count_from 0 own.windows)
+  where
+    sizes : (windows : List ℕ)
+        → AllByRecursion IsPad
+        (flat_map (λ m. Pad (high_pad m) (own.size / word) ∷ Pad (low_pad m) (own.size % word) ∷ []) windows
+        ++ Pad windows_pad own.windows ∷ Pad queues_pad own.queues ∷ Pad version_pad own.version ∷ [])
+    sizes [] = (tt, (tt, (tt, tt)))
+    sizes (m ∷ windows) = (tt, (tt, sizes windows))
+
+pad_is : (label : Label) → IsPad label → label ≡ Pad (pad_index label) (pad_value label)
+pad_is (Pad i value) is = refl
+pad_is (Chunk q n part) is = absurd is
+pad_is (Len q n) is = absurd is
+pad_is (Ver q n) is = absurd is
+pad_is (Flag q n) is = absurd is
+pad_is (Down q n) is = absurd is
+pad_is (Bell q) is = absurd is
+pad_is (Index q n) is = absurd is
+pad_is (Raw window offset len) is = absurd is
+
+pad_among : (labels : List Label) → AllByRecursion IsPad labels → (n : ℕ) → IsPad (slice_index_or labels n (Pad 0 0))
+pad_among [] all n = tt
+pad_among (label ∷ labels) all zero = all.0
+pad_among (label ∷ labels) all (suc n) = pad_among labels all.1 n
+
+offer_is : (own : SidePlan) (n : ℕ) → slice_index_or (offers own) n (Pad 0 0) ≡ Pad (pad_index (slice_index_or (offers own) n (Pad 0 0))) (pad_value (slice_index_or (offers own) n (Pad 0 0)))
+offer_is own n = pad_is _ (pad_among (offers own) (offers_are_pads own) n)
+
+-- Checks
+
+-- a check that comes up, and one that is refused
+abbrev ChecksAs : CheckAnswer → Option Answer → Type 0
+ChecksAs found refusal = ((found ≡ check.Up) × (refusal ≡ None)) ⊎ ((refusal ≡ Some (of_check found)) × (found ≡ check.Up → ⊥))
+
+abbrev larger_answer : (ℕ → ℕ) → ℕ → Option ℕ → CheckAnswer
+larger_answer size cap None = check.Up
+larger_answer size cap (Some m) = check.Size (size m) cap
+
+abbrev larger_refusal : (ℕ → ℕ) → ℕ → Option ℕ → Option Answer
+larger_refusal size cap None = None
+larger_refusal size cap (Some m) = Some (answer.Size (size m) cap)
+
+-- the tests in their order
+same_check : (down already none version queues windows : Bool) (larger : Option ℕ) (v ov q oq w ow cap : ℕ) (size : ℕ → ℕ)
+    → ChecksAs
+    (if down then check.LinkDown else if already then check.Already else if none then check.NotYet else if version then check.Version v ov else if queues then check.Queues q oq else if windows then check.Windows w ow
+    else larger_answer size cap larger)
+    (refuse_if down answer.LinkDown (refuse_if already answer.Already (refuse_if none answer.NotYet (refuse_if version (answer.Version v ov) (refuse_if queues (answer.Queues q oq) (refuse_if windows (answer.Windows w ow) (larger_refusal size cap larger)))))))
+same_check true already none version queues windows larger v ov q oq w ow cap size = inr (refl, λ e. cc)
+same_check false true none version queues windows larger v ov q oq w ow cap size = inr (refl, λ e. cc)
+same_check false false true version queues windows larger v ov q oq w ow cap size = inr (refl, λ e. cc)
+same_check false false false true queues windows larger v ov q oq w ow cap size = inr (refl, λ e. cc)
+same_check false false false false true windows larger v ov q oq w ow cap size = inr (refl, λ e. cc)
+same_check false false false false false true larger v ov q oq w ow cap size = inr (refl, λ e. cc)
+same_check false false false false false false None v ov q oq w ow cap size = inl (refl, refl)
+same_check false false false false false false (Some m) v ov q oq w ow cap size = inr (refl, λ e. cc)
+
+module _ (devs : List DevPlan) (plan : PairPlan) (k : ℕ) (site : Site) (pages : Both (List ℕ)) (spare : Both ℕ) (queues : Both (List QueuePart))
+    (link : LinkInPlace site.pair.link) (sides : AllSides devs plan k site.pair queues) where
+  abbrev state : PairState
+  state = state_for plan site pages spare queues
+
+  -- Offers
+
+  abbrev next : Side → Label
+  next side = slice_index_or (offers (side_plan plan side)) (side_of site.pair side).offered (Pad 0 0)
+
+  -- a side with a write more in flight
+  abbrev posts_one : Side → Label → Type 0
+  posts_one side label =
+      SideStands devs plan k side (is_down site.pair.link.state) (has_forgotten site.pair.link side) (side_of site.pair side).joined ((side_of site.pair side).flight ++ label ∷ []) (side_of site.pair side).poked
+      (view_of site.pair side) (at_side queues side)
+
+  offer_at : (side : Side) (up spent : Bool) → is_up site.pair.link.state ≡ up
+      → Follows devs plan k site (Offer k side)
+      (decided site.pair (refuse_if (not up) answer.LinkDown (refuse_if spent answer.Already None)) (answer.Offered (pad_index (next side)))
+      (if up then with_side_part site.pair side (record (side_of site.pair side) { offered = (side_of site.pair side).offered + 1; flight = (side_of site.pair side).flight ++ next side ∷ [] })
+      else with_side_part site.pair side (record (side_of site.pair side) { offered = (side_of site.pair side).offered + 1 })))
+      (bridge_move state (of_offer (if not up then offer.LinkDown else if spent then offer.Already else offer.Offered (pad_index (next side))))
+      (after_offer_answer state.bridge side (if not up then offer.LinkDown else if spent then offer.Already else offer.Offered (pad_index (next side)))))
+  offer_at side false spent is = (refl, record { bridge = refl; link = link; sides = sides })
+  offer_at side true true is = (refl, record { bridge = refl; link = link; sides = sides })
+  offer_at A true false is = (
+    refl,
+    record {
+      bridge =
+          ap (with_writes (with_book (bridge_for plan site) A (record (book_for site.pair.sides.a) { offered = site.pair.sides.a.offered + 1 })) A)
+          (one_more_plain plan A (sent_of site.pair.lanes.a) site.pair.sides.a.flight site.pair.sides.a.poked (Pad (pad_index (next A)) (pad_value (next A))) (sides A).in_flight.raws
+          ∙ ap (λ label. writes_labelled plan A (sent_of site.pair.lanes.a) (site.pair.sides.a.flight ++ label ∷ []) site.pair.sides.a.poked) (sym (offer_is plan.a site.pair.sides.a.offered)));
+      link = link;
+      sides = by_side _ (subst (posts_one A) (sym (offer_is plan.a site.pair.sides.a.offered)) (side_posts devs plan k A _ _ _ _ _ _ _ (Pad (pad_index (next A)) (pad_value (next A))) (sides A) (not_down_up site.pair.link.state is) tt tt tt)) (sides B);
+    },
+  )
+  offer_at B true false is = (
+    refl,
+    record {
+      bridge =
+          ap (with_writes (with_book (bridge_for plan site) B (record (book_for site.pair.sides.b) { offered = site.pair.sides.b.offered + 1 })) B)
+          (one_more_plain plan B (sent_of site.pair.lanes.b) site.pair.sides.b.flight site.pair.sides.b.poked (Pad (pad_index (next B)) (pad_value (next B))) (sides B).in_flight.raws
+          ∙ ap (λ label. writes_labelled plan B (sent_of site.pair.lanes.b) (site.pair.sides.b.flight ++ label ∷ []) site.pair.sides.b.poked) (sym (offer_is plan.b site.pair.sides.b.offered)));
+      link = link;
+      sides = by_side _ (sides A) (subst (posts_one B) (sym (offer_is plan.b site.pair.sides.b.offered)) (side_posts devs plan k B _ _ _ _ _ _ _ (Pad (pad_index (next B)) (pad_value (next B))) (sides B) (not_down_up site.pair.link.state is) tt tt tt));
+    },
+  )
+
+  pub offer_follows : (side : Side) → Follows devs plan k site (Offer k side) (offer_step plan site.pair side) (offer_move state side)
+  offer_follows A = offer_at A (is_up site.pair.link.state) (site.pair.sides.a.offered == length (offers plan.a)) refl
+  offer_follows B = offer_at B (is_up site.pair.link.state) (site.pair.sides.b.offered == length (offers plan.b)) refl
+
+  -- Ready
+
+  ready_at : (side : Side) (queue : ℕ) (up checked done : Bool) → is_up site.pair.link.state ≡ up
+      → Follows devs plan k site (Ready k side queue)
+      (decided site.pair (refuse_if (not up) answer.LinkDown (refuse_if (not checked) answer.NotChecked (refuse_if done answer.Already None))) answer.Ok
+      (if up then with_side_part site.pair side (record (side_of site.pair side) { ready = with_bit (side_of site.pair side).ready queue; flight = (side_of site.pair side).flight ++ Pad links_pad (with_bit (side_of site.pair side).ready queue) ∷ [] })
+      else with_side_part site.pair side (record (side_of site.pair side) { ready = with_bit (side_of site.pair side).ready queue })))
+      (bridge_move state (of_ready (if not up then ready.LinkDown else if not checked then ready.NotChecked else if done then ready.Already else ready.Ok))
+      (after_ready_answer state.bridge side queue (if not up then ready.LinkDown else if not checked then ready.NotChecked else if done then ready.Already else ready.Ok)))
+  ready_at side queue false checked done is = (refl, record { bridge = refl; link = link; sides = sides })
+  ready_at side queue true false done is = (refl, record { bridge = refl; link = link; sides = sides })
+  ready_at side queue true true true is = (refl, record { bridge = refl; link = link; sides = sides })
+  ready_at A queue true true false is = (
+    refl,
+    record {
+      bridge =
+          ap (with_writes (with_book (bridge_for plan site) A (record (book_for site.pair.sides.a) { ready = with_bit site.pair.sides.a.ready queue })) A)
+          (one_more_plain plan A (sent_of site.pair.lanes.a) site.pair.sides.a.flight site.pair.sides.a.poked (Pad links_pad (with_bit site.pair.sides.a.ready queue)) (sides A).in_flight.raws);
+      link = link;
+      sides = by_side _ (side_posts devs plan k A _ _ _ _ _ _ _ (Pad links_pad (with_bit site.pair.sides.a.ready queue)) (sides A) (not_down_up site.pair.link.state is) tt tt tt) (sides B);
+    },
+  )
+  ready_at B queue true true false is = (
+    refl,
+    record {
+      bridge =
+          ap (with_writes (with_book (bridge_for plan site) B (record (book_for site.pair.sides.b) { ready = with_bit site.pair.sides.b.ready queue })) B)
+          (one_more_plain plan B (sent_of site.pair.lanes.b) site.pair.sides.b.flight site.pair.sides.b.poked (Pad links_pad (with_bit site.pair.sides.b.ready queue)) (sides B).in_flight.raws);
+      link = link;
+      sides = by_side _ (sides A) (side_posts devs plan k B _ _ _ _ _ _ _ (Pad links_pad (with_bit site.pair.sides.b.ready queue)) (sides B) (not_down_up site.pair.link.state is) tt tt tt);
+    },
+  )
+
+  pub ready_follows : (side : Side) (queue : ℕ) → Follows devs plan k site (Ready k side queue) (ready_step site.pair side queue) (ready_move state side queue)
+  ready_follows A queue = ready_at A queue (is_up site.pair.link.state) site.pair.sides.a.up (has_bit site.pair.sides.a.ready queue) refl
+  ready_follows B queue = ready_at B queue (is_up site.pair.link.state) site.pair.sides.b.up (has_bit site.pair.sides.b.ready queue) refl
+
+  -- Join
+
+  joins : (side : Side) (queue : ℕ) → is_up site.pair.link.state ≡ true
+      → SideStands devs plan k side (is_down site.pair.link.state) (has_forgotten site.pair.link side) (with_bit (side_of site.pair side).joined queue) (side_of site.pair side).flight (side_of site.pair side).poked (view_of site.pair side) (at_side queues side)
+  joins side queue up =
+      let remembers : has_forgotten site.pair.link side ≡ false = ap (λ down. down && at_side site.pair.link.clean side) (not_down_up site.pair.link.state up) in
+      record {
+        none_joined = λ forgotten. absurd (true≢false (sym forgotten ∙ remembers));
+        in_flight = (sides side).in_flight;
+        all_queues = (sides side).all_queues;
+        queues = (sides side).queues;
+      }
+
+  join_at : (side : Side) (queue : ℕ) (up is_ready done agreed : Bool) → is_up site.pair.link.state ≡ up
+      → Follows devs plan k site (Join k side queue)
+      (decided site.pair (refuse_if (not up) answer.LinkDown (refuse_if (not is_ready) answer.NotReady (refuse_if done answer.Already (refuse_if (not agreed) answer.NotYet None)))) answer.Joined
+      (with_side_part site.pair side (record (side_of site.pair side) { joined = with_bit (side_of site.pair side).joined queue })))
+      (bridge_move state (of_join (if not up then join.LinkDown else if not is_ready then join.NotReady else if done then join.Already else if not agreed then join.NotYet else join.Joined))
+      (after_join_answer state.bridge side queue (if not up then join.LinkDown else if not is_ready then join.NotReady else if done then join.Already else if not agreed then join.NotYet else join.Joined)))
+  join_at side queue false is_ready done agreed is = (refl, record { bridge = refl; link = link; sides = sides })
+  join_at side queue true false done agreed is = (refl, record { bridge = refl; link = link; sides = sides })
+  join_at side queue true true true agreed is = (refl, record { bridge = refl; link = link; sides = sides })
+  join_at side queue true true false false is = (refl, record { bridge = refl; link = link; sides = sides })
+  join_at A queue true true false true is = (refl, record { bridge = refl; link = link; sides = by_side _ (joins A queue is) (sides B) })
+  join_at B queue true true false true is = (refl, record { bridge = refl; link = link; sides = by_side _ (sides A) (joins B queue is) })
+
+  pub join_follows : (side : Side) (queue : ℕ) → Follows devs plan k site (Join k side queue) (join_step site.pair side queue) (join_move state side queue)
+  join_follows A queue = join_at A queue (is_up site.pair.link.state) (has_bit site.pair.sides.a.ready queue) (has_bit site.pair.sides.a.joined queue) (has_bit (pad_in site.pair.sides.a links_pad) queue) refl
+  join_follows B queue = join_at B queue (is_up site.pair.link.state) (has_bit site.pair.sides.b.ready queue) (has_bit site.pair.sides.b.joined queue) (has_bit (pad_in site.pair.sides.b links_pad) queue) refl
+
+  -- Check
+
+  abbrev checks_as : Side → CheckAnswer → Option Answer → Type 0
+  checks_as side found refusal =
+      Follows devs plan k site (Check k side) (decided site.pair refusal answer.Up (with_side_part site.pair side (record (side_of site.pair side) { up = true }))) (bridge_move state (of_check found) (after_check_answer state.bridge side found))
+
+  refused_check : (side : Side) (found : CheckAnswer) → (found ≡ check.Up → ⊥) → checks_as side found (Some (of_check found))
+  refused_check side check.Up other = absurd (other refl)
+  refused_check side check.Already other = (refl, record { bridge = refl; link = link; sides = sides })
+  refused_check side check.LinkDown other = (refl, record { bridge = refl; link = link; sides = sides })
+  refused_check side check.NotYet other = (refl, record { bridge = refl; link = link; sides = sides })
+  refused_check side (check.Version seen own) other = (refl, record { bridge = refl; link = link; sides = sides })
+  refused_check side (check.Queues seen own) other = (refl, record { bridge = refl; link = link; sides = sides })
+  refused_check side (check.Windows seen own) other = (refl, record { bridge = refl; link = link; sides = sides })
+  refused_check side (check.Size seen cap) other = (refl, record { bridge = refl; link = link; sides = sides })
+
+  -- the bridge with other bytes in a side's memory
+  abbrev came_up_with : Side → List ℕ → Bridge
+  came_up_with side bytes = with_book (with_memory (bridge_for plan site) side (record { bytes = bytes; promised = [] })) side (record (book_for (side_of site.pair side)) { up = true })
+
+  checked_up : (side : Side) → IsPair plan → (side_plan plan (other_side side)).size ≤ (side_plan plan side).cap → checks_as side check.Up None
+  checked_up A declared fits = (
+    refl,
+    record {
+      bridge = ap (came_up_with A) (all_stored (fresh_index_words plan A ++ zeroed_headers plan A) site.stores.a (memory_size plan A) (rings_inside plan A declared fits));
+      link = link;
+      sides = by_side _ (sides A) (sides B);
+    },
+  )
+  checked_up B declared fits = (
+    refl,
+    record {
+      bridge = ap (came_up_with B) (all_stored (fresh_index_words plan B ++ zeroed_headers plan B) site.stores.b (memory_size plan B) (rings_inside plan B declared fits));
+      link = link;
+      sides = by_side _ (sides A) (sides B);
+    },
+  )
+
+  check_as : (side : Side) (found : CheckAnswer) (refusal : Option Answer) → IsPair plan → (refusal ≡ None → (side_plan plan (other_side side)).size ≤ (side_plan plan side).cap) → ChecksAs found refusal → checks_as side found refusal
+  check_as side found refusal declared fits (inl both) =
+      subst (λ (found : CheckAnswer). checks_as side found refusal) (sym both.0) (subst (checks_as side check.Up) (sym both.1) (checked_up side declared (fits both.1)))
+  check_as side found refusal declared fits (inr both) = subst (checks_as side found) (sym both.0) (refused_check side found both.1)
+
+  pub check_follows : (side : Side) → IsPair plan → (check_refusal (side_plan plan side) (side_of site.pair side) (link_up site.pair) ≡ None → (side_plan plan (other_side side)).size ≤ (side_plan plan side).cap)
+      → Follows devs plan k site (Check k side) (check_step plan site.pair side) (check_move state side)
+  check_follows A declared fits = check_as A (check_answer state.bridge A) (check_refusal plan.a site.pair.sides.a (link_up site.pair)) declared fits (same_check (not (is_up site.pair.link.state)) site.pair.sides.a.up (pad_in site.pair.sides.a version_pad == 0) (not (pad_in site.pair.sides.a version_pad == plan.a.version) && (nat_lt (pad_in site.pair.sides.a version_pad) 4 || nat_lt plan.a.version 4)) (not (pad_in site.pair.sides.a queues_pad == plan.a.queues)) (not (pad_in site.pair.sides.a windows_pad == plan.a.windows)) (find (λ m. nat_lt plan.a.cap (size_in site.pair.sides.a m)) (count_from 0 plan.a.windows)) (pad_in site.pair.sides.a version_pad) plan.a.version (pad_in site.pair.sides.a queues_pad) plan.a.queues (pad_in site.pair.sides.a windows_pad) plan.a.windows plan.a.cap (size_in site.pair.sides.a))
+  check_follows B declared fits = check_as B (check_answer state.bridge B) (check_refusal plan.b site.pair.sides.b (link_up site.pair)) declared fits (same_check (not (is_up site.pair.link.state)) site.pair.sides.b.up (pad_in site.pair.sides.b version_pad == 0) (not (pad_in site.pair.sides.b version_pad == plan.b.version) && (nat_lt (pad_in site.pair.sides.b version_pad) 4 || nat_lt plan.b.version 4)) (not (pad_in site.pair.sides.b queues_pad == plan.b.queues)) (not (pad_in site.pair.sides.b windows_pad == plan.b.windows)) (find (λ m. nat_lt plan.b.cap (size_in site.pair.sides.b m)) (count_from 0 plan.b.windows)) (pad_in site.pair.sides.b version_pad) plan.b.version (pad_in site.pair.sides.b queues_pad) plan.b.queues (pad_in site.pair.sides.b windows_pad) plan.b.windows plan.b.cap (size_in site.pair.sides.b))
