@@ -256,7 +256,8 @@ impl Port {
 
     /// The queue's number, from 0, which is one of the side's.
     pub fn queue(&self) -> u32
-        ensures { result ≡ self.now.queue }
+        ensures value { result ≡ self.now.queue }
+        ensures few { result < 16 }
     {
         self.rings.queue()
     }

@@ -1,0 +1,2 @@
+pub mod LookAnswers
+pub mod Refusals

@@ -3,6 +3,7 @@
 //! link-down entry or finds one, until its next clean; posts, copies, clears and acks go on.
 #![tactic(auto)]
 
+pub mod laws;
 mod queue;
 
 pub use queue::{QueuePair, irq};
