@@ -145,8 +145,10 @@ pub fn entries_fit_the_ring()
 {}
 
 /// Until both sides of a pair are up in a session, each of its lanes is as it was at the session's start, and nothing of
-/// a lane is in flight. Premises: the pair isn't declared raw, its link isn't down, and among the steps on the pair none
-/// writes a scratchpad below 12 or bytes past the transport.
+/// a lane is in flight. So it stays where the session is lost before one side came up, until that side forgets it.
+/// Premises: the pair isn't declared raw; one side isn't up and hasn't forgotten the session, that is, the link isn't
+/// down or the side isn't clean; and among the steps on the pair none writes a scratchpad below 12 or bytes past the
+/// transport.
 pub fn no_entry_before_both_up()
     ensures { NoEntryBeforeBothUp }
 {}
