@@ -1,5 +1,5 @@
 -- The laws of every log.
-use Rattle.std.specs.Prelude.{◌≡◌, ℕ, ◌+◌, ◌<◌, ◌==◌, Bool, true, false, ◌&&◌, ◌||◌, ◌⊎◌, Option, Some, None, List, [], ◌∷◌, ◌++◌, length, filter, max, nat_lt, not, if◌then◌else◌, ◌≤◌, ◌/◌, ◌%◌}
+use Rattle.std.specs.Prelude.{◌≡◌, ℕ, ◌+◌, ◌<◌, ◌==◌, Bool, true, false, ◌&&◌, ◌||◌, ◌⊎◌, Option, Some, None, List, [], ◌∷◌, ◌++◌, count_by, length, filter, max, nat_lt, not, if◌then◌else◌, ◌≤◌, ◌/◌, ◌%◌}
 use Rattle.std.specs.List.{AllByRecursion}
 use Rattle.step_kinds.specs.Bits.{has_bit}
 use Rattle.step_kinds.specs.Sides.{other_side}
@@ -19,7 +19,7 @@ use Rattle.plan_model.specs.Both.{at_side}
 use Rattle.plan_model.specs.Link.{is_down}
 use Rattle.ledger_model.specs.Labels.{labels_of}
 use Rattle.ledger_model.specs.Ledger.{PairPart, side_of, lane_of, dev_of, tally_of, link_up, with_dev}
-use Rattle.ledger_model.specs.Log.{Answered, Memories, Numbered, log_of, ledger_of, accepted, delivered, room_in, up_at, landed_pad, last_look_empty, counters_in, posted_in, Looked, looked_in}
+use Rattle.ledger_model.specs.Log.{Answered, Memories, Numbered, log_of, ledger_of, trains, first_session, accepted, delivered, room_in, up_at, landed_pad, last_look_empty, counters_in, posted_in, Looked, looked_in}
 use Rattle.ledger_model.specs.Sending.{is_busy}
 use Rattle.plan_model.specs.Device.{count_refused}
 use Rattle.plan_model.specs.Ethernet.{ethernet_frame}
@@ -323,6 +323,11 @@ TalliesAreCounts = (plan : Plan) (memories : Memories) (steps : List Step) (lane
     let log = log_of plan memories steps in
     tally_of (ledger_of plan memories steps lane.pair) lane.from lane.queue session
     ≡ record { accepted = length (accepted plan log lane session); delivered = length (delivered plan log lane session) }
+
+-- the session of a pair is its first one and one more for each time that the link was trained
+abbrev pub SessionsAreCounts : Type 0
+SessionsAreCounts = (plan : Plan) (memories : Memories) (steps : List Step) (pair : ℕ) →
+    (ledger_of plan memories steps pair).link.session ≡ first_session plan pair + count_by (trains pair) (log_of plan memories steps)
 
 -- the counters of each side and queue are what the log counts there, whether a device is declared or not
 abbrev pub CountersAreCounts : Type 0

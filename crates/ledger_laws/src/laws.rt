@@ -14,6 +14,7 @@ ghost use Rattle.ledger_laws.specs.Laws.{
   PostedAreWrites,
   QuietMeansDone,
   RefusalsChangeNothing,
+  SessionsAreCounts,
   TalliesAreCounts,
   UpMeansAgreement,
 };
@@ -63,6 +64,12 @@ pub fn link_down_where_not_up()
 /// premise.
 pub fn tallies_are_counts()
     ensures { TalliesAreCounts }
+{}
+
+/// The number of a pair's session is that of its first, which is 1 where the pair is declared up and else 0, and one more
+/// for each train that the log has as made. No premise.
+pub fn sessions_are_counts()
+    ensures { SessionsAreCounts }
 {}
 
 /// An entry is copied in as many parts as its length, as it was found, has chunks of 128 bytes, one part at least: a copy
