@@ -13,6 +13,7 @@ pub mod Frames
 pub mod FramesInOrder
 pub mod FramesWithinMost
 pub mod FreshLanes
+pub mod Hands
 pub mod InFlight
 pub mod JoinedMeansAgreement
 pub mod JoinedOnSides
