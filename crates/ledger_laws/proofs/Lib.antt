@@ -21,6 +21,7 @@ pub mod JoinedSides
 pub mod Labels
 pub mod LabelsOfEntries
 pub mod LabelsPostable
+pub mod LanePart
 pub mod LinkDownWhereNotUp
 pub mod LogGrowth
 pub mod LogReaders

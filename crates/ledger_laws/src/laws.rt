@@ -2,6 +2,7 @@
 //! and whatever the memories show, but for the premises that a law's text names. In each, steps may be refused, and
 //! pairs, sides and queues be any.
 
+ghost use Rattle.ledger_laws.specs.Landing.{LanePartLands};
 ghost use Rattle.ledger_laws.specs.Laws.{
   AgainWhereNoRoom,
   CopiedInParts,
@@ -234,4 +235,13 @@ pub fn receiver_knows_its_frame()
 /// declared raw.
 pub fn no_ordinary_ver_differs_or_long()
     ensures { NoOrdinaryVerDiffersOrLong }
+{}
+
+/// What may land among all that a side has in flight may land in the part of its lane, by the kinds alone: the writes of
+/// a lane in one direction have one traffic class. A write of the lane that the side sends on a queue, and so an index
+/// write of the lane that it receives there, stands in the part behind those of the lane that stand before it in flight,
+/// may land there as if the lane were alone, and leaves the rest of the part. Premise: the write at that place may land
+/// among all that is in flight.
+pub fn lane_part_lands()
+    ensures { LanePartLands }
 {}
