@@ -1,6 +1,7 @@
 pub mod BytesSayTheLedger
 pub mod Facade
 pub mod LabelStores
+pub mod MemoriesApart
 pub mod OrdinarySteps
 pub mod OwnStores
 pub mod RingStores

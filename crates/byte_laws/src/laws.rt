@@ -3,6 +3,7 @@
 
 ghost use Rattle.byte_laws.specs.Readings.{BytesSayTheLedger, SitesAreTheLedger};
 ghost use Rattle.byte_laws.specs.Rings.{RingsStandInMemory};
+ghost use Rattle.byte_laws.specs.Separate.{MemoriesKeepPairsApart, StoredPairsAreSeparate};
 
 /// The pair of a site, that is, of a pair with its memories, is the ledger's after the same steps. No premise.
 pub fn sites_are_the_ledger()
@@ -21,4 +22,16 @@ pub fn rings_stand_in_memory()
 /// outcome where it reads the bytes in memory as where it reads the ledger.
 pub fn bytes_say_the_ledger()
     ensures { BytesSayTheLedger }
+{}
+
+/// What the memories of a pair show after a log is what the steps on that pair alone have stored: steps on other pairs
+/// leave it. No premise: it holds on raw pairs too. It is the premise of `pairs_are_separate` of `ledger_laws`.
+pub fn memories_keep_pairs_apart()
+    ensures { MemoriesKeepPairsApart }
+{}
+
+/// Where memories show what was stored, the answers to the steps on one pair are those of the list without the steps on
+/// other pairs. No premise: it holds on raw pairs too.
+pub fn stored_pairs_are_separate()
+    ensures { StoredPairsAreSeparate }
 {}

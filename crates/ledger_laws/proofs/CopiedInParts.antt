@@ -34,6 +34,7 @@ use Rattle.ledger_model.specs.Sending.{begun_lane, frame_begun, with_next, posts
 use Rattle.ledger_laws.specs.Laws.{FitsLook, CopiedInParts}
 use Rattle.ledger_laws.proofs.AtStart.{fresh-lane}
 use Rattle.ledger_laws.proofs.EachPair.{HoldsOfLog, AnyStep, log_after, same-posts, same-posts_raw, same-through}
+use Rattle.ledger_laws.proofs.Hands.{clears_last}
 use Rattle.ledger_laws.proofs.LogGrowth.{answer_of, made_by, left_by}
 use Rattle.ledger_laws.proofs.LogReaders.{looked_after-last}
 use Rattle.ledger_laws.proofs.walk.Cases.{found_refusals, refuses, Refused, enable_cases, train_cases, break_cases, drop_cases, clean_cases, offer_cases, check_cases, ready_cases, join_cases, begin_cases, qpdown_cases, xbegin_cases, post_cases, land_cases, look_cases, copy_cases, clear_cases, ack_cases, acking, wake_cases, trained, cleaned, offering, readied}
@@ -55,7 +56,7 @@ stand lane = record { phase = lane.phase; got = lane.got; part = lane.part; len 
 -- what the log says of it
 record Knows (looked : Option Looked) (at : Stand) : Type 0 where
   copying : is_copying at.phase ≡ true → (looked ≡ Some (record { number = at.got; len = at.len; copies = at.part })) × (at.part < max 1 (chunks_in at.len))
-  copied : is_copied at.phase ≡ true → (found : Looked) × ((looked ≡ Some found) × (found.copies ≡ max 1 (chunks_in found.len)))
+  copied : is_copied at.phase ≡ true → (found : Looked) × ((looked ≡ Some found) × ((found.copies ≡ max 1 (chunks_in found.len)) × (found.number + 1 ≡ at.got)))
 
 -- in a phase in which it has no entry
 knows_none : (looked : Option Looked) (at : Stand) → is_copying at.phase ≡ false → is_copied at.phase ≡ false → Knows looked at
@@ -215,7 +216,7 @@ module _ (plan : Plan) (own : LaneName) (reading : Reading) (bytes : Bytes) (pai
         copying = λ c. absurd (false≢true c);
         copied = λ _. (
           record { number = Now.got; len = Now.len; copies = Now.part + 1 },
-          (one_more looked p on h turn, let below = (h.copying turn).1 in let no_more = ltb-false (Now.part + 1) (chunks_in Now.len) all in omega arith),
+          (one_more looked p on h turn, (let below = (h.copying turn).1 in let no_more = ltb-false (Now.part + 1) (chunks_in Now.len) all in omega arith, refl)),
         );
       }
 
@@ -319,31 +320,50 @@ parts_run plan own = record {
 
 -- The law
 
-copy_fits : (reading : Reading) (pair : PairPart) (side : Side) (queue : ℕ) (looked : Option Looked) → Knows looked (stand (lane_to pair side queue)) → FitsLook looked (copy_step reading pair side queue).answer
+copy_fits : (reading : Reading) (pair : PairPart) (side : Side) (queue : ℕ) (looked : Option Looked) → Knows looked (stand (lane_to pair side queue))
+    → FitsLook looked (lane_to pair side queue).left (copy_step reading pair side queue).answer
 copy_fits reading pair side queue looked h =
-    copy_cases reading (λ o. FitsLook looked o.answer) pair side queue refused
-    (λ turn more. (to.len, h.copying turn)) (λ turn all others. (to.len, h.copying turn))
-    (λ turn all whole. (
-      record { number = to.got; len = to.len; copies = to.part },
-      ((h.copying turn).0, let below = (h.copying turn).1 in let no_more = ltb-false (to.part + 1) (chunks_in to.len) all in omega arith),
-    ))
+    copy_cases reading (λ o. FitsLook looked to.left o.answer) pair side queue refused
+    (λ turn more. record {
+      len = to.len;
+      of_found = (h.copying turn).0;
+      among = (h.copying turn).1;
+      followed = λ last. let less = ltb-true (to.part + 1) (chunks_in to.len) more in absurd (omega arith);
+    })
+    (λ turn all others. record { len = to.len; of_found = (h.copying turn).0; among = (h.copying turn).1; followed = λ last. ltb-true 0 to.left others })
+    (λ turn all whole. record {
+      found = record { number = to.got; len = to.len; copies = to.part };
+      of_found = (h.copying turn).0;
+      all_parts = let below = (h.copying turn).1 in let no_more = ltb-false (to.part + 1) (chunks_in to.len) all in omega arith;
+      followed_by_none = let none = ltb-false 0 to.left whole in omega arith;
+    })
   where
     to : LanePart
     to = lane_to pair side queue
 
-    refused : (r : Answer) → Refused false r → FitsLook looked r
+    refused : (r : Answer) → Refused false r → FitsLook looked to.left r
     refused r is_refused = no_fit r is_refused.is
       where
-        no_fit : (r : Answer) → refuses r ≡ true → FitsLook looked r
+        no_fit : (r : Answer) → refuses r ≡ true → FitsLook looked to.left r
         no_fit (CopiedPart number part) is = absurd (false≢true is)
         no_fit (Delivered number frame) is = absurd (false≢true is)
         no_fit (ClearedFrame number) is = absurd (false≢true is)
         no_fit r is = tt
 
-clear_fits : (pair : PairPart) (side : Side) (queue : ℕ) (looked : Option Looked) → Knows looked (stand (lane_to pair side queue)) → FitsLook looked (clear_step pair side queue).answer
-clear_fits pair side queue looked h = clear_cases (λ o. FitsLook looked o.answer) pair side queue (λ r no. no_fit r no.is) (λ turn. h.copied turn)
+clear_fits : (pair : PairPart) (side : Side) (queue : ℕ) (looked : Option Looked) → Knows looked (stand (lane_to pair side queue))
+    → (is_copied (lane_to pair side queue).phase ≡ true → (lane_to pair side queue).got ≡ (lane_to pair side queue).cleared + 1)
+    → FitsLook looked (lane_to pair side queue).left (clear_step pair side queue).answer
+clear_fits pair side queue looked h last =
+    clear_cases (λ o. FitsLook looked to.left o.answer) pair side queue (λ r no. no_fit r no.is)
+    (λ turn. let known = h.copied turn in record { found = known.0; of_found = known.1.0; all_parts = known.1.1.0; its_number = same known.0.number known.1.1.1 (last turn) })
   where
-    no_fit : (r : Answer) → refuses r ≡ true → FitsLook looked r
+    to : LanePart
+    to = lane_to pair side queue
+
+    same : (number : ℕ) → number + 1 ≡ to.got → to.got ≡ to.cleared + 1 → number ≡ to.cleared
+    same number one last = omega arith
+
+    no_fit : (r : Answer) → refuses r ≡ true → FitsLook looked to.left r
     no_fit (CopiedPart number part) is = absurd (false≢true is)
     no_fit (Delivered number frame) is = absurd (false≢true is)
     no_fit (ClearedFrame number) is = absurd (false≢true is)
@@ -351,7 +371,7 @@ clear_fits pair side queue looked h = clear_cases (λ o. FitsLook looked o.answe
 
 pub copied_in_parts : CopiedInParts
 copied_in_parts plan memories steps pair side queue step answer which goes =
-    subst (FitsLook looked) (sym (answer_of plan memories steps step answer goes)) (fits step which)
+    subst (FitsLook looked (lane_to now side queue).left) (sym (answer_of plan memories steps step answer goes)) (fits step which)
   where
     own : LaneName
     own = record { pair = pair; from = side; queue = queue }
@@ -366,9 +386,9 @@ copied_in_parts plan memories steps pair side queue step answer which goes =
     knows = log_after plan pair AnyStep (KnowsParts own) (parts_run plan own) memories steps (all_fit steps)
 
     fits : (step : Step) → (step ≡ Copy pair side queue) ⊎ (step ≡ Clear pair side queue)
-        → FitsLook looked (outcome_in plan (memories (log_of plan memories steps)) (ledger_of plan memories steps) step).answer
+        → FitsLook looked (lane_to now side queue).left (outcome_in plan (memories (log_of plan memories steps)) (ledger_of plan memories steps) step).answer
     fits step (inl e) =
-        subst (λ s. FitsLook looked (outcome_in plan (memories (log_of plan memories steps)) (ledger_of plan memories steps) s).answer) (sym e)
+        subst (λ s. FitsLook looked (lane_to now side queue).left (outcome_in plan (memories (log_of plan memories steps)) (ledger_of plan memories steps) s).answer) (sym e)
         (copy_fits (reading_of (pair_plan plan pair) (memories (log_of plan memories steps) pair) now) now side queue looked knows)
     fits step (inr e) =
-        subst (λ s. FitsLook looked (outcome_in plan (memories (log_of plan memories steps)) (ledger_of plan memories steps) s).answer) (sym e) (clear_fits now side queue looked knows)
+        subst (λ s. FitsLook looked (lane_to now side queue).left (outcome_in plan (memories (log_of plan memories steps)) (ledger_of plan memories steps) s).answer) (sym e) (clear_fits now side queue looked knows (clears_last plan memories steps pair side queue))

@@ -3,7 +3,8 @@ pub use Rattle.ledger_laws.proofs.AgainWhereNoRoom.{again_where_no_room}
 pub use Rattle.ledger_laws.proofs.CopiedInParts.{copied_in_parts}
 pub use Rattle.ledger_laws.proofs.CountersAreCounts.{counters_are_counts}
 pub use Rattle.ledger_laws.proofs.FramesInOrder.{every_log_is_in_order, every_frame_comes_once}
-pub use Rattle.ledger_laws.proofs.Tallies.{tallies_are_counts}
+pub use Rattle.ledger_laws.proofs.Tallies.{tallies_are_counts, sessions_are_counts}
+pub use Rattle.ledger_laws.proofs.LanePart.{lane_part_lands}
 pub use Rattle.ledger_laws.proofs.LinkDownWhereNotUp.{link_down_where_not_up}
 pub use Rattle.ledger_laws.proofs.PairsAreSeparate.{pairs_are_separate}
 pub use Rattle.ledger_laws.proofs.PostedAreWrites.{posted_are_writes}

@@ -245,7 +245,7 @@ cleared-not_copying Copying e = absurd (false≢true e)
 cleared-not_copying Copied e = refl
 cleared-not_copying Cleared e = refl
 
-empty_set : (bits q : ℕ) → bits ≡ 0 → has_bit bits q ≡ false
+pub empty_set : (bits q : ℕ) → bits ≡ 0 → has_bit bits q ≡ false
 empty_set bits q none = elim (cases_Bool (has_bit bits q)) [ inl has ↦ absurd (no_bit bits q none has) | inr hasnt ↦ hasnt ]
 
 -- what the receiver holds while it copies

@@ -75,7 +75,7 @@ some_read {Y = Y} read (z ∷ xs) (suc place) x y at some none = some_read read 
 
 -- A strict write lands first of those of its class
 
-get-map : {X Y : Type 0} (f : X → Y) (xs : List X) (place : ℕ) (x : X) → slice_get xs place ≡ Some x → slice_get (map f xs) place ≡ Some (f x)
+pub get-map : {X Y : Type 0} (f : X → Y) (xs : List X) (place : ℕ) (x : X) → slice_get xs place ≡ Some x → slice_get (map f xs) place ≡ Some (f x)
 get-map f [] place x e = absurd (none-some x e)
 get-map f (y ∷ xs) zero x e = ap (λ z. Some (f z)) (same_Some y x e)
 get-map f (y ∷ xs) (suc place) x e = get-map f xs place x e

@@ -13,6 +13,7 @@ pub mod Frames
 pub mod FramesInOrder
 pub mod FramesWithinMost
 pub mod FreshLanes
+pub mod Hands
 pub mod InFlight
 pub mod JoinedMeansAgreement
 pub mod JoinedOnSides
@@ -20,6 +21,7 @@ pub mod JoinedSides
 pub mod Labels
 pub mod LabelsOfEntries
 pub mod LabelsPostable
+pub mod LanePart
 pub mod LinkDownWhereNotUp
 pub mod LogGrowth
 pub mod LogReaders

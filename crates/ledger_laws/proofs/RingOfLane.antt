@@ -37,7 +37,7 @@ use Rattle.ledger_laws.specs.Rings.{with_tail}
 use Rattle.ledger_laws.proofs.AtStart.{up-not_down, down-not_up, closing-not_up}
 use Rattle.ledger_laws.proofs.CleanSides.{not_down_with}
 use Rattle.ledger_laws.proofs.EntriesFit.{AreOpen, IsPieceWithin, FitsOf, IsUnderWay, LeavesOf, cut_within}
-use Rattle.ledger_laws.proofs.FreshLanes.{IsFreshLane, SidesKnown, both_up, no_write, own_index}
+use Rattle.ledger_laws.proofs.FreshLanes.{IsFreshLane, SidesKnown, both_up, late_up, one_late, no_write, own_index}
 use Rattle.ledger_laws.proofs.InFlight.{first_none, first_some, middle_some, filter_map-remove, posted_unread, posted_read, split_whole, lands_first}
 use Rattle.ledger_laws.proofs.Labels.{writes_among-labels, flag_strict, bell_strict, index_strict, writes_one_class, indexes_one_class}
 use Rattle.ledger_laws.proofs.Offers.{pad-write, pad-index}
@@ -312,7 +312,7 @@ law_kept plan lane s made news t ring two no_raw (Offers Receiver label may) sid
 law_kept plan lane s made news t ring two no_raw (Checks Sender may) sides fits leaves sized h up = h up
 law_kept plan lane s made news t ring two no_raw (Checks Receiver may) sides fits leaves sized h up =
     law_at_start (SizesOf plan lane) lane.queue (is_up s.state) _ _ s.lane (ring_checked Receiver (SizesOf plan lane) ring) two (zeroed_sized (SizesOf plan lane) ring.ring sized)
-    (sides.fresh (up-not_down s.state may.up) (inr may.not_yet)) (zeroed_flags ring.ring)
+    (sides.fresh (inr (late_up s.state (up-not_down s.state may.up) may.not_yet))) (zeroed_flags ring.ring)
 law_kept plan lane s made news t ring two no_raw (Readies Sender queue may) sides fits leaves sized h up =
     out_posted (SizesOf plan lane) lane.queue s ring (Pad links_pad (with_bit s.sender.ready queue)) refl (h up)
 law_kept plan lane s made news t ring two no_raw (Readies Receiver queue may) sides fits leaves sized h up =
@@ -363,7 +363,7 @@ word_kept plan lane s made news t ring two no_raw (Trains may) sides h up =
     absurd (both_ways s.sender.up (new_at_train s lane.queue may.down may.sender may.receiver sides).0 up)
 word_kept plan lane s made news t ring two no_raw (Forgets Sender may) sides h up = absurd (false≢true up)
 word_kept plan lane s made news t ring two no_raw (Checks Sender may) sides h up =
-    let fresh = (sides.fresh (up-not_down s.state may.up) (inl may.not_yet)).fresh in
+    let fresh = (sides.fresh (inl (late_up s.state (up-not_down s.state may.up) may.not_yet))).fresh in
     tail_at_start (SizesOf plan lane).entries two ∙ ap (tail_of (SizesOf plan lane).entries) (sym (ap (λ (l : LanePart). l.freed) fresh))
 word_kept plan lane s made news t ring two no_raw (Strays after may) sides h up = absurd (both_ways (IsRaw plan lane) no_raw may.raw_pair)
 word_kept plan lane s made news t ring two no_raw (LandsIndex place n may) sides h up = tail_after (SizesOf plan lane).entries n two
@@ -373,7 +373,7 @@ word_kept plan lane s made news t ring two no_raw turn sides h up = h up
 write_up : (q : ℕ) {own : PairPlan} {side : Side} (s : Sight) (place : ℕ) (label : Label) (write : Write) → MayLand own side s Sender place label → write_of q label ≡ Some write → SidesKnown q s
     → s.receiver.up ≡ true
 write_up q s place label write may is sides =
-    (both_up s.sender.up s.receiver.up (no_write q s place label write may is (not_down_with s Sender place label sides.empty may) sides.fresh)).1
+    (both_up s.sender.up s.receiver.up (λ one. no_write q s place label write may is sides.fresh (one_late s.state (not_down_with s Sender place label sides.empty may) one))).1
 
 pub sized_kept : (plan : Plan) (lane : LaneName) (s : Sight) (made : Answered) (news : News) (t : Sight) (ring : RingPart) → 2 ≤ (SizesOf plan lane).entries → Turn plan lane s made news t
     → SidesKnown lane.queue s → LawOf (SizesOf plan lane) lane.queue s ring → IsSized (SizesOf plan lane) ring.ring → IsSized (SizesOf plan lane) (news.ring (SizesOf plan lane) ring).ring

@@ -1,19 +1,20 @@
 -- In every log, on raw pairs too, the ledger's tallies count the frames that a lane accepted and delivered in a session.
-use Rattle.std.proofs.Common.{◌≡◌, ℕ, ◌+◌, ◌==◌, Bool, true, false, List, [], ◌∷◌, ◌++◌, length, refl, sym, ap, ◌∙◌, subst, inl, inr, ◌⊎◌}
-use Rattle.std.specs.Prelude.{if◌then◌else◌}
+use Rattle.std.proofs.Common.{◌≡◌, ℕ, ◌+◌, ◌==◌, Bool, true, false, List, [], ◌∷◌, ◌++◌, length, refl, sym, ap, ◌∙◌, subst, inl, inr, ◌⊎◌, arith}
+use Rattle.std.specs.Prelude.{count_by, if◌then◌else◌}
 use Rattle.std.specs.List.{flat_map}
 use Rattle.std.proofs.lemmas.Bool.{eq-eqb, ne_eqb, cases_eq}
 use Rattle.std.proofs.lemmas.List.{append-nil, length-append}
+use Rattle.std.proofs.lemmas.List.Sums.{sum_by-cons}
 use Rattle.step_kinds.specs.declared.names.LaneName.{LaneName}
 use Rattle.step_kinds.specs.declared.names.Side.{Side}
 use Rattle.step_kinds.specs.declared.names.Side.TheVariants.{A, B}
 use Rattle.step_kinds.specs.declared.plan.Plan.{Plan}
 use Rattle.step_kinds.specs.declared.plan.PairPlan.{PairPlan}
 use Rattle.ledger_model.specs.Ledger.{Tally, tally_of, updated}
-use Rattle.ledger_model.specs.Log.{Answered, Numbered, accepts, delivers, accepted, delivered, first_session, trains, made_in}
+use Rattle.ledger_model.specs.Log.{Answered, Numbered, accepts, delivers, accepted, delivered, first_session, trains, made_in, log_of}
 use Rattle.ledger_model.specs.Next.{fresh_pair, no_tally}
 use Rattle.plan_model.specs.Plans.{pair_plan}
-use Rattle.ledger_laws.specs.Laws.{TalliesAreCounts}
+use Rattle.ledger_laws.specs.Laws.{SessionsAreCounts, TalliesAreCounts}
 use Rattle.ledger_laws.proofs.LogReaders.{session_at, session_at-last, found_in-last}
 use Rattle.ledger_laws.proofs.walk.Logs.{HoldsAlways, always_after}
 use Rattle.ledger_laws.proofs.walk.Sight.{Sight}
@@ -108,3 +109,29 @@ tally_runs plan lane session = record {
 
 pub tallies_are_counts : TalliesAreCounts
 tallies_are_counts plan memories steps lane session = (always_after plan lane (TallyRun plan lane session) (tally_runs plan lane session) memories steps).tallied
+
+-- The session is a count of the log too
+
+session_at-counts : (k now : ℕ) (log : List Answered) → session_at k now log ≡ now + count_by (trains k) log
+session_at-counts k now [] = omega arith
+session_at-counts k now (made ∷ log) =
+    session_at-counts k (if trains k made then now + 1 else now) log ∙ one (trains k made) (count_by (trains k) log)
+    ∙ ap (λ n. now + n) (sym (sum_by-cons (λ m. if trains k m then 1 else 0) made log))
+  where
+    one : (starts : Bool) (others : ℕ) → (if starts then now + 1 else now) + others ≡ now + ((if starts then 1 else 0) + others)
+    one true others = omega arith
+    one false others = omega arith
+
+session_runs : (plan : Plan) (lane : LaneName) → HoldsAlways plan lane (λ log s. session_at lane.pair (first_session plan lane.pair) log ≡ s.session)
+session_runs plan lane = record {
+  fresh = fresh_now (pair_plan plan lane.pair).up (pair_plan plan lane.pair) refl;
+  turns = λ log s made news t tells turn now. now_kept plan lane log s made news t tells turn now;
+}
+
+pub sessions_are_counts : SessionsAreCounts
+sessions_are_counts plan memories steps pair =
+    sym (always_after plan any _ (session_runs plan any) memories steps) ∙ session_at-counts pair (first_session plan pair) (log_of plan memories steps)
+  where
+    -- any lane of the pair
+    any : LaneName
+    any = record { pair = pair; from = A; queue = 0 }

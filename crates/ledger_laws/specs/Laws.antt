@@ -1,5 +1,5 @@
 -- The laws of every log.
-use Rattle.std.specs.Prelude.{◌≡◌, ℕ, ◌+◌, ◌<◌, ◌==◌, Bool, true, false, ◌&&◌, ◌||◌, ◌⊎◌, Option, Some, None, List, [], ◌∷◌, ◌++◌, length, filter, max, nat_lt, not, if◌then◌else◌, ◌≤◌, ◌/◌, ◌%◌}
+use Rattle.std.specs.Prelude.{◌≡◌, ℕ, ◌+◌, ◌<◌, ◌==◌, Bool, true, false, ◌&&◌, ◌||◌, ◌⊎◌, Option, Some, None, List, [], ◌∷◌, ◌++◌, count_by, length, filter, max, nat_lt, not, if◌then◌else◌, ◌≤◌, ◌/◌, ◌%◌}
 use Rattle.std.specs.List.{AllByRecursion}
 use Rattle.step_kinds.specs.Bits.{has_bit}
 use Rattle.step_kinds.specs.Sides.{other_side}
@@ -18,8 +18,8 @@ use Rattle.lane_model.specs.Lane.{Entry, chunks_in}
 use Rattle.plan_model.specs.Both.{at_side}
 use Rattle.plan_model.specs.Link.{is_down}
 use Rattle.ledger_model.specs.Labels.{labels_of}
-use Rattle.ledger_model.specs.Ledger.{PairPart, side_of, lane_of, dev_of, tally_of, link_up, with_dev}
-use Rattle.ledger_model.specs.Log.{Answered, Memories, Numbered, log_of, ledger_of, accepted, delivered, room_in, up_at, landed_pad, last_look_empty, counters_in, posted_in, Looked, looked_in}
+use Rattle.ledger_model.specs.Ledger.{PairPart, side_of, lane_of, lane_to, dev_of, tally_of, link_up, with_dev}
+use Rattle.ledger_model.specs.Log.{Answered, Memories, Numbered, log_of, ledger_of, trains, first_session, accepted, delivered, room_in, up_at, landed_pad, last_look_empty, counters_in, posted_in, Looked, looked_in}
 use Rattle.ledger_model.specs.Sending.{is_busy}
 use Rattle.plan_model.specs.Device.{count_refused}
 use Rattle.plan_model.specs.Ethernet.{ethernet_frame}
@@ -283,20 +283,46 @@ PostedAreWrites = (plan : Plan) (memories : Memories) (steps : List Step) (lane 
 
 -- Parts
 
--- what a copy and a clear are answered, by the entry that was found last and the copies made of it since
-abbrev pub FitsLook : Option Looked → Answer → Type 0
-FitsLook looked (Copied number part) = (len : ℕ) × ((looked ≡ Some (record { number = number; len = len; copies = part })) × (part < max 1 (chunks_in len)))
-FitsLook looked (Delivered number frame) =
-    (found : Looked) × ((looked ≡ Some found) × (found.copies + 1 ≡ max 1 (chunks_in found.len)))
-FitsLook looked (Cleared number) = (found : Looked) × ((looked ≡ Some found) × (found.copies ≡ max 1 (chunks_in found.len)))
-FitsLook looked answer = Unit {0}
+-- how many parts an entry of so many bytes has
+abbrev pub parts_in : ℕ → ℕ
+parts_in len = max 1 (chunks_in len)
 
--- an entry is copied in as many parts as it has chunks, one at least, which are numbered from 0 on: a frame is delivered with the
--- last part of an entry, and an entry is cleared after it
+-- this part of an entry was answered `copied`: it is the next one of the entry that was found last; and where it is the entry's last
+-- part, the entry is followed by others of its frame
+pub record FitsPart (looked : Option Looked) (left number part : ℕ) : Type 0 where
+  pub len : ℕ
+  pub of_found : looked ≡ Some (record { number = number; len = len; copies = part })
+  pub among : part < parts_in len
+  pub followed : part + 1 ≡ parts_in len → 0 < left
+
+-- a copy was answered `frame`: it is the last part of the entry that was found last, which no other of its frame follows
+pub record FitsFrame (looked : Option Looked) (left : ℕ) : Type 0 where
+  pub found : Looked
+  pub of_found : looked ≡ Some found
+  pub all_parts : found.copies + 1 ≡ parts_in found.len
+  pub followed_by_none : left ≡ 0
+
+-- a clear was answered `cleared` with this number: it is that of the entry that was found last, and all its parts were copied
+pub record FitsClear (looked : Option Looked) (number : ℕ) : Type 0 where
+  pub found : Looked
+  pub of_found : looked ≡ Some found
+  pub all_parts : found.copies ≡ parts_in found.len
+  pub its_number : found.number ≡ number
+
+-- what a copy and a clear are answered, by the entry that was found last and the copies made of it since; `left` is the number of
+-- entries that follow it in its frame, as it was found
+abbrev pub FitsLook : Option Looked → ℕ → Answer → Type 0
+FitsLook looked left (Copied number part) = FitsPart looked left number part
+FitsLook looked left (Delivered number frame) = FitsFrame looked left
+FitsLook looked left (Cleared number) = FitsClear looked number
+FitsLook looked left answer = Unit {0}
+
+-- an entry is copied in as many parts as it has chunks, one at least, which are numbered from 0 on: its last part is answered `frame`
+-- where no other entry of the frame follows, and `copied` where one does, and the entry is cleared after it
 abbrev pub CopiedInParts : Type 0
 CopiedInParts = (plan : Plan) (memories : Memories) (steps : List Step) (pair : ℕ) (side : Side) (queue : ℕ) (step : Step) (answer : Answer) →
     (step ≡ Copy pair side queue) ⊎ (step ≡ Clear pair side queue) → GoesOn plan memories steps step answer →
-    FitsLook (looked_in (log_of plan memories steps) pair side queue) answer
+    FitsLook (looked_in (log_of plan memories steps) pair side queue) (lane_to (ledger_of plan memories steps pair) side queue).left answer
 
 -- Separate pairs
 
@@ -323,6 +349,11 @@ TalliesAreCounts = (plan : Plan) (memories : Memories) (steps : List Step) (lane
     let log = log_of plan memories steps in
     tally_of (ledger_of plan memories steps lane.pair) lane.from lane.queue session
     ≡ record { accepted = length (accepted plan log lane session); delivered = length (delivered plan log lane session) }
+
+-- the session of a pair is its first one and one more for each time that the link was trained
+abbrev pub SessionsAreCounts : Type 0
+SessionsAreCounts = (plan : Plan) (memories : Memories) (steps : List Step) (pair : ℕ) →
+    (ledger_of plan memories steps pair).link.session ≡ first_session plan pair + count_by (trains pair) (log_of plan memories steps)
 
 -- the counters of each side and queue are what the log counts there, whether a device is declared or not
 abbrev pub CountersAreCounts : Type 0

@@ -1,3 +1,4 @@
+pub mod Landing
 pub mod Laws
 pub mod Rings
 pub mod States

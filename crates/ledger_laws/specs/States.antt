@@ -23,7 +23,7 @@ use Rattle.plan_model.specs.DeclaredPlans.{IsPair, Agree, IsPermitted}
 use Rattle.plan_model.specs.Link.{is_down}
 use Rattle.plan_model.specs.Plans.{pair_plan, side_plan}
 use Rattle.plan_model.specs.Sizes.{Sizes, sizes_of}
-use Rattle.ledger_laws.specs.Laws.{IsOrdinaryOn, IsOrdinaryPair}
+use Rattle.ledger_laws.specs.Laws.{IsOrdinaryOn, IsOrdinaryPair, has_forgotten}
 
 -- The entries of a lane
 
@@ -43,9 +43,9 @@ EntriesFitTheRing = (plan : Plan) (memories : Memories) (steps : List Step) (nam
 
 -- A session that isn't up at both sides
 
--- the link is lost no more than to closing, and a side has not come up
+-- a side has not come up in the session, which may be lost, and hasn't forgotten it yet
 pub record HasNotComeUp (now : PairPart) (side : Side) : Type 0 where
-  pub not_down : is_down now.link.state ≡ false
+  pub not_forgotten : has_forgotten now side ≡ false
   pub not_up : (side_of now side).up ≡ false
 
 -- until both sides are up no lane has an entry, and nothing of a lane is in flight, either way

@@ -2,6 +2,7 @@
 //! and whatever the memories show, but for the premises that a law's text names. In each, steps may be refused, and
 //! pairs, sides and queues be any.
 
+ghost use Rattle.ledger_laws.specs.Landing.{LanePartLands};
 ghost use Rattle.ledger_laws.specs.Laws.{
   AgainWhereNoRoom,
   CopiedInParts,
@@ -14,6 +15,7 @@ ghost use Rattle.ledger_laws.specs.Laws.{
   PostedAreWrites,
   QuietMeansDone,
   RefusalsChangeNothing,
+  SessionsAreCounts,
   TalliesAreCounts,
   UpMeansAgreement,
 };
@@ -65,10 +67,17 @@ pub fn tallies_are_counts()
     ensures { TalliesAreCounts }
 {}
 
+/// The number of a pair's session is that of its first, which is 1 where the pair is declared up and else 0, and one more
+/// for each train that the log has as made. No premise.
+pub fn sessions_are_counts()
+    ensures { SessionsAreCounts }
+{}
+
 /// An entry is copied in as many parts as its length, as it was found, has chunks of 128 bytes, one part at least: a copy
 /// that is answered `copied` has the number of copies made since the entry was found, and that is below those parts; a
-/// copy that is answered `frame` is the last of them; and a clear that is answered `cleared` comes after all of them. No
-/// premise: it holds on raw pairs too.
+/// copy that is answered `frame` is the last of them. The last part is answered `copied` where others of its frame follow
+/// the entry, as it was found, and `frame` where none does. A clear that is answered `cleared` comes after all parts, and
+/// has the number of the entry that the last look found. No premise: it holds on raw pairs too.
 pub fn copied_in_parts()
     ensures { CopiedInParts }
 {}
@@ -145,8 +154,10 @@ pub fn entries_fit_the_ring()
 {}
 
 /// Until both sides of a pair are up in a session, each of its lanes is as it was at the session's start, and nothing of
-/// a lane is in flight. Premises: the pair isn't declared raw, its link isn't down, and among the steps on the pair none
-/// writes a scratchpad below 12 or bytes past the transport.
+/// a lane is in flight. So it stays where the session is lost before one side came up, until that side forgets it.
+/// Premises: the pair isn't declared raw; one side isn't up and hasn't forgotten the session, that is, the link isn't
+/// down or the side isn't clean; and among the steps on the pair none writes a scratchpad below 12 or bytes past the
+/// transport.
 pub fn no_entry_before_both_up()
     ensures { NoEntryBeforeBothUp }
 {}
@@ -224,4 +235,13 @@ pub fn receiver_knows_its_frame()
 /// declared raw.
 pub fn no_ordinary_ver_differs_or_long()
     ensures { NoOrdinaryVerDiffersOrLong }
+{}
+
+/// What may land among all that a side has in flight may land in the part of its lane, by the kinds alone: the writes of
+/// a lane in one direction have one traffic class. A write of the lane that the side sends on a queue, and so an index
+/// write of the lane that it receives there, stands in the part behind those of the lane that stand before it in flight,
+/// may land there as if the lane were alone, and leaves the rest of the part. Premise: the write at that place may land
+/// among all that is in flight.
+pub fn lane_part_lands()
+    ensures { LanePartLands }
 {}

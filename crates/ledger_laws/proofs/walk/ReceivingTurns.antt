@@ -1,5 +1,5 @@
 -- The steps of a receiver: a look, a copy, a clear and an ack, as a turn of its lane and of every other lane.
-use Rattle.std.proofs.Common.{◌≡◌, ℕ, ◌+◌, ◌==◌, Bool, true, false, List, length, refl, sym, ap, ◌∙◌}
+use Rattle.std.proofs.Common.{◌≡◌, ℕ, ◌+◌, ◌==◌, Bool, true, false, List, length, refl, sym, ap, ◌∙◌, inr}
 use Rattle.std.specs.Prelude.{nat_lt}
 use Rattle.std.proofs.lemmas.Bool.{false≢true, ne_eqb, cond-false, cond_both}
 use Rattle.step_kinds.specs.Bits.{has_bit}
@@ -222,7 +222,7 @@ module _ (plan : Plan) (lane : LaneName) (pair : PairPart) (reading : Reading) (
           (sight-posts lane.from lane.queue after Receiver here ∙ ap (posted Receiver here) (sight-lane lane.from lane.queue pair _))
           (turned (Acks (record { turn = turn })) told))
           (λ lost. shown_as plan lane pair (Ack p (other_side lane.from) lane.queue) (Acked Now.lane.acked) after _ (sight-lane lane.from lane.queue pair _)
-          (turned (Strays _ (record { raw_pair = unreached_raw plan lane pair reading reads (other_side lane.from) here lost; own = todos lane.from lane.queue })) told))
+          (turned (Strays _ (record { raw_pair = unreached_raw plan lane pair reading reads (other_side lane.from) here lost; own = todos lane.from lane.queue; hand = inr (turn, refl) })) told))
 
       off : (s sender : Side) (q : ℕ) → OffReceived lane.from lane.queue s sender q → IsOff lane.from lane.queue sender q → is_cleared (lane_of pair sender q).phase ≡ true
           → Done s sender q (posts_through reading (acked sender q) s (label sender q))

@@ -1,5 +1,5 @@
 -- The steps of a sender: what it begins and what it posts, as a turn of its lane and of every other lane.
-use Rattle.std.proofs.Common.{◌≡◌, ℕ, ◌==◌, ◌≤◌, Bool, true, false, None, List, [], ◌∷◌, length, refl, sym, ap, ◌∙◌, subst}
+use Rattle.std.proofs.Common.{◌≡◌, ℕ, ◌==◌, ◌≤◌, Bool, true, false, None, List, [], ◌∷◌, length, refl, sym, ap, ◌∙◌, subst, inl}
 use Rattle.std.specs.List.{list_all}
 use Rattle.std.proofs.lemmas.Bool.{false≢true, ne_eqb, eq-eqb, eqb-true, cond_both}
 use Rattle.step_kinds.specs.Bits.{with_bit}
@@ -26,7 +26,7 @@ use Rattle.plan_model.specs.Plans.{pair_plan}
 use Rattle.plan_model.specs.Sizes.{Sizes, sizes_of}
 use Rattle.ledger_laws.proofs.walk.Cases.{MaySend, needs, closing, posted_by}
 use Rattle.ledger_laws.proofs.walk.Sight.{Sight, Sender, Receiver, posted, sight, IsOff, OffCase, OtherQueue, OtherWay, by_lane, sight-side, sight-posts, sight-lane, sight-off, sight-tally, sight-tally_off}
-use Rattle.ledger_laws.proofs.walk.Turn.{is_handshake, on_queue, more_accepted, Turn, turned, IsRaw, SizesOf, Rests, Begins, Closes, Strays, Shuts, Says}
+use Rattle.ledger_laws.proofs.walk.Turn.{hand_of, is_handshake, on_queue, more_accepted, Turn, turned, IsRaw, SizesOf, Rests, Begins, Closes, Strays, Shuts, Says}
 use Rattle.ledger_laws.proofs.walk.News.{Tells, no_news, begun_news}
 use Rattle.ledger_laws.proofs.walk.Tells.{tells_no, on-own, on-off, tells_qpdown}
 use Rattle.ledger_laws.proofs.walk.TurnAt.{TurnAt, ReadsLedger, unreached_raw, shown_as, rests}
@@ -163,6 +163,7 @@ module _ (plan : Plan) (lane : LaneName) (pair : PairPart) (reading : Reading) (
   -- A write is posted, of this lane or of another: `Ready` says which, and `lane_then` is the lane that posts it by then
   module _ (p : ℕ) (label : Label) (later : List Label) (lane_then : Side → ℕ → LanePart) (Ready : Side → ℕ → Type 0)
       (on_it : (s : Side) (q : ℕ) → Ready s q → (on_queue q label ≡ true) × (list_all (on_queue q) later ≡ true))
+      (same_hand : hand_of (lane_then lane.from lane.queue) ≡ hand_of Now.lane)
       (own_turn : Ready lane.from lane.queue → Turn plan lane Now (record { step = Post p lane.from lane.queue; answer = Posted label }) no_news
       (posted Sender label (record Now { lane = record (lane_then lane.from lane.queue) { todo = later } }))) where
     abbrev Left : Side → ℕ → PairPart
@@ -181,7 +182,7 @@ module _ (plan : Plan) (lane : LaneName) (pair : PairPart) (reading : Reading) (
             (sight-posts lane.from lane.queue (Left lane.from lane.queue) Sender label ∙ ap (posted Sender label) (sight-lane lane.from lane.queue pair _))
             (turned (own_turn ready) (tells_no plan lane Now.lane (Post p lane.from lane.queue) (Posted label) refl)))
             (λ lost. shown_as plan lane pair (Post p lane.from lane.queue) (Posted label) (Left lane.from lane.queue) _ (sight-lane lane.from lane.queue pair _)
-            (turned (Strays _ (record { raw_pair = unreached_raw plan lane pair reading reads lane.from label lost; own = (on_it lane.from lane.queue ready).1 }))
+            (turned (Strays _ (record { raw_pair = unreached_raw plan lane pair reading reads lane.from label lost; own = (on_it lane.from lane.queue ready).1; hand = inl same_hand }))
             (tells_no plan lane Now.lane (Post p lane.from lane.queue) (Posted label) refl)))
 
         off : (s : Side) (q : ℕ) → OffCase lane.from lane.queue s q → IsOff lane.from lane.queue s q → Ready s q → Done s q (posted_by reading pair s q (lane_then s q) later label)

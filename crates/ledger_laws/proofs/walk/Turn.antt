@@ -1,7 +1,7 @@
 -- What a step can be for a lane: one constructor for each kind of thing that can happen to it, with what the step has passed in
 -- a record, and with the sight after it in closed form. Steps on other lanes of the pair arrive as resting, as another lane's
 -- write that is said or lands, or as a queue that is shut.
-use Rattle.std.specs.Prelude.{◌≡◌, ℕ, ◌+◌, ◌==◌, ◌≤◌, Bool, true, false, Some, None, List, [], ◌∷◌, ◌++◌, length, map, remove, replicate, slice_get, slice_set, slice_index, slice_index_or, nat_lt, bit_and}
+use Rattle.std.specs.Prelude.{◌≡◌, ◌⊎◌, ℕ, ◌+◌, ◌==◌, ◌≤◌, Bool, true, false, Some, None, List, [], ◌∷◌, ◌++◌, length, map, remove, replicate, slice_get, slice_set, slice_index, slice_index_or, nat_lt, bit_and}
 use Rattle.step_kinds.specs.Bits.{has_bit, with_bit, without_bits}
 use Rattle.step_kinds.specs.declared.names.LaneName.{LaneName}
 use Rattle.step_kinds.specs.declared.plan.Plan.{Plan}
@@ -16,6 +16,7 @@ use Rattle.lane_model.specs.Lane.{Entry, Carries, GoesDown, chunks_in}
 use Rattle.ledger_model.specs.Pieces.{pieces_of}
 use Rattle.ledger_model.specs.Reading.{part_in_ledger}
 use Rattle.lane_model.specs.declared.Field.{Field}
+use Rattle.lane_model.specs.declared.Phase.{Phase}
 use Rattle.lane_model.specs.declared.Phase.TheVariants.{Idle, Copying, Copied, Cleared}
 use Rattle.lane_model.specs.declared.Write.{Write}
 use Rattle.lane_model.specs.declared.Write.TheVariants.{Data, Flag as EntryFlag}
@@ -120,10 +121,21 @@ pub record MayPostNext (q : ℕ) (s : Sight) (entry : Entry) (others : List Entr
   pub next : labels_of q (length s.lane.sent) entry ≡ label ∷ rest
   pub own : on_queue q label ≡ true
 
--- what a lane is after a write of a raw pair was lost
-pub record MayStray (raw : Bool) (q : ℕ) (after : LanePart) : Type 0 where
+-- where a receiver stands: its phase, and how many entries it took, cleared, and put together to frames
+pub record Hand : Type 0 where
+  pub phase : Phase
+  pub got : ℕ
+  pub cleared : ℕ
+  pub done : ℕ
+
+abbrev pub hand_of : LanePart → Hand
+hand_of lane = record { phase = lane.phase; got = lane.got; cleared = lane.cleared; done = lane.done }
+
+-- what a lane is after a write of a raw pair was lost, its receiver's index write or one of its sender's
+pub record MayStray (raw : Bool) (q : ℕ) (before after : LanePart) : Type 0 where
   pub raw_pair : raw ≡ true
   pub own : list_all (on_queue q) after.todo ≡ true
+  pub hand : (hand_of after ≡ hand_of before) ⊎ ((is_cleared before.phase ≡ true) × (hand_of after ≡ record (hand_of before) { phase = Idle }))
 
 -- not a write of this lane, where this end posts it
 abbrev pub IsForeign : ℕ → Role → Label → Type 0
@@ -257,7 +269,7 @@ pub data Turn (plan : Plan) (lane : LaneName) (s : Sight) (made : Answered) : Ne
   PostsNext : (entry : Entry) (others : List Entry) (label : Label) (rest : List Label) → MayPostNext lane.queue s entry others label rest
       → Turn plan lane s made no_news (posted Sender label (record s { lane = record (picked lane.queue s.lane entry others) { todo = rest } }))
   -- a write of a raw pair is lost, whichever of the lane's ends it was to be posted by
-  Strays : (after : LanePart) → MayStray (IsRaw plan lane) lane.queue after → Turn plan lane s made no_news (record s { lane = after })
+  Strays : (after : LanePart) → MayStray (IsRaw plan lane) lane.queue s.lane after → Turn plan lane s made no_news (record s { lane = after })
   -- a queue is closed on an end, and a write that isn't the lane's is posted
   Shuts : (e : Role) (queue : ℕ) (looked : Bool) → Turn plan lane s made (looked_news looked) (with_closed e (with_bit (end_at s e).closed queue) s)
   Says : (e : Role) (label : Label) → IsAside lane made e label → Turn plan lane s made no_news (posted e label s)
