@@ -19,7 +19,7 @@ looked look queue port = with_port queue port
 
 found_looked : (queue : QueueState) (found : Found)
     → after_look_answer (answer_of_look (look_found queue.port.receiving found)) queue (with_receiving queue.port (entry_found queue.port.receiving found))
-      ≡ looked (look_found queue.port.receiving found) queue (with_receiving queue.port (entry_found queue.port.receiving found))
+    ≡ looked (look_found queue.port.receiving found) queue (with_receiving queue.port (entry_found queue.port.receiving found))
 found_looked queue NoEntry = refl
 found_looked queue ALinkDownEntry = refl
 found_looked queue (AnotherVersion seen own) = refl
@@ -29,7 +29,7 @@ found_looked queue (AnEntry len left) = refl
 -- whether or not the receiver is idle
 idle_looked : (queue : QueueState) (found : Found) (idle : Bool)
     → after_look_answer (answer_of_look (if idle then look_found queue.port.receiving found else RingOutOfTurn)) queue (if idle then with_receiving queue.port (entry_found queue.port.receiving found) else queue.port)
-      ≡ looked (if idle then look_found queue.port.receiving found else RingOutOfTurn) queue (if idle then with_receiving queue.port (entry_found queue.port.receiving found) else queue.port)
+    ≡ looked (if idle then look_found queue.port.receiving found else RingOutOfTurn) queue (if idle then with_receiving queue.port (entry_found queue.port.receiving found) else queue.port)
 idle_looked queue found true = found_looked queue found
 idle_looked queue found false = refl
 
@@ -43,8 +43,8 @@ pub looked_is : (queue : QueueState) (bridge : Bridge) (look : RingLook) (port :
     → look ≡ port_look_answer queue.port bridge → port ≡ port_after_look queue.port bridge → after_look queue bridge ≡ looked look queue port
 looked_is queue bridge look port joined opened look_is port_is =
     rw look_is (rw port_is (
-        ap (λ answer. after_look_answer answer queue (port_after_look queue.port bridge)) (open_answer (is_joined queue bridge) queue.closed (answer_of_look (port_look_answer queue.port bridge)) joined opened)
-        ∙ idle_looked queue (found_seen queue.port bridge) (is_idle queue.port.receiving.phase)))
+    ap (λ answer. after_look_answer answer queue (port_after_look queue.port bridge)) (open_answer (is_joined queue bridge) queue.closed (answer_of_look (port_look_answer queue.port bridge)) joined opened)
+    ∙ idle_looked queue (found_seen queue.port bridge) (is_idle queue.port.receiving.phase)))
 
 -- where no link-down entry was found
 pub looked_else : (queue : QueueState) (look : RingLook) (port : PortState) → (look ≡ RingPeerDown → ⊥) → looked look queue port ≡ with_port queue port

@@ -13,8 +13,8 @@ use Rattle.queue_pair.specs.declared.BeginAnswer.TheVariants.{LinkDown, NotReady
 
 by_tests : (len most head tail told : ℕ) (up joined closed long busy few : Bool)
     → is_some (if not up then Some LinkDown else if not joined then Some NotReady else if closed then Some Closed else None) || (long || busy)
-      ≡ is_refusal (answer_unless (if not up then Some LinkDown else if not joined then Some NotReady else if closed then Some Closed else None)
-        (if long then FrameTooLong len most else if busy then PortBusy else if few then RingFull head tail else BegunOk told))
+    ≡ is_refusal (answer_unless (if not up then Some LinkDown else if not joined then Some NotReady else if closed then Some Closed else None)
+    (if long then FrameTooLong len most else if busy then PortBusy else if few then RingFull head tail else BegunOk told))
 by_tests len most head tail told false joined closed long busy few = refl
 by_tests len most head tail told true false closed long busy few = refl
 by_tests len most head tail told true true true long busy few = refl
