@@ -1,5 +1,5 @@
 -- An entry is copied in as many parts as it has chunks, in order, on raw pairs too.
-use Rattle.std.proofs.Common.{◌≡◌, ℕ, ◌+◌, ◌<◌, ◌==◌, ◌&&◌, ◌⊎◌, true, false, Option, Some, None, List, [], ◌∷◌, ◌++◌, refl, sym, ap, ◌∙◌, subst, arith, inl, inr}
+use Rattle.std.proofs.Common.{◌≡◌, ℕ, ◌+◌, ◌<◌, ◌==◌, ◌&&◌, ◌⊎◌, true, false, Option, Some, None, List, [], ◌∷◌, ◌++◌, length, refl, sym, ap, ◌∙◌, subst, arith, inl, inr}
 use Rattle.std.specs.Prelude.{if◌then◌else◌, max, nat_lt}
 use Rattle.std.proofs.lemmas.Bool.{false≢true, both_ways, ne_eqb, cond-true, cond-false, ltb-true, ltb-false}
 use Rattle.step_kinds.specs.Sides.{other_side}
@@ -24,7 +24,7 @@ use Rattle.plan_model.specs.Plans.{dev_plan, pair_plan}
 use Rattle.plan_model.specs.Sizes.{sizes_of}
 use Rattle.byte_model.specs.Headers.{Bytes}
 use Rattle.ledger_model.specs.Ledger.{LanePart, PairPart, lane_of, lane_to, with_lane}
-use Rattle.ledger_model.specs.Log.{Answered, same_side, is_on, Looked, one_copied, looked_after, looked_in, log_of, ledger_of}
+use Rattle.ledger_model.specs.Log.{Answered, same_side, is_on, Looked, one_copied, looked_after, looked_in, delivered, log_of, ledger_of}
 use Rattle.ledger_model.specs.Next.{read_next, outcome_in}
 use Rattle.ledger_model.specs.Outcome.{Outcome}
 use Rattle.ledger_model.specs.Pieces.{pieces_of}
@@ -34,6 +34,7 @@ use Rattle.ledger_model.specs.Sending.{begun_lane, frame_begun, with_next, posts
 use Rattle.ledger_laws.specs.Laws.{FitsLook, CopiedInParts}
 use Rattle.ledger_laws.proofs.AtStart.{fresh-lane}
 use Rattle.ledger_laws.proofs.EachPair.{HoldsOfLog, AnyStep, log_after, same-posts, same-posts_raw, same-through}
+use Rattle.ledger_laws.proofs.FrameNumbers.{done_is_delivered}
 use Rattle.ledger_laws.proofs.Hands.{clears_last}
 use Rattle.ledger_laws.proofs.LogGrowth.{answer_of, made_by, left_by}
 use Rattle.ledger_laws.proofs.LogReaders.{looked_after-last}
@@ -320,10 +321,10 @@ parts_run plan own = record {
 
 -- The law
 
-copy_fits : (reading : Reading) (pair : PairPart) (side : Side) (queue : ℕ) (looked : Option Looked) → Knows looked (stand (lane_to pair side queue))
-    → FitsLook looked (lane_to pair side queue).left (copy_step reading pair side queue).answer
-copy_fits reading pair side queue looked h =
-    copy_cases reading (λ o. FitsLook looked to.left o.answer) pair side queue refused
+copy_fits : (reading : Reading) (pair : PairPart) (side : Side) (queue : ℕ) (looked : Option Looked) (given : ℕ) → Knows looked (stand (lane_to pair side queue))
+    → (lane_to pair side queue).done ≡ given → FitsLook looked (lane_to pair side queue).left given (copy_step reading pair side queue).answer
+copy_fits reading pair side queue looked given h done_is =
+    copy_cases reading (λ o. FitsLook looked to.left given o.answer) pair side queue refused
     (λ turn more. record {
       len = to.len;
       of_found = (h.copying turn).0;
@@ -336,25 +337,26 @@ copy_fits reading pair side queue looked h =
       of_found = (h.copying turn).0;
       all_parts = let below = (h.copying turn).1 in let no_more = ltb-false (to.part + 1) (chunks_in to.len) all in omega arith;
       followed_by_none = let none = ltb-false 0 to.left whole in omega arith;
+      its_number = done_is;
     })
   where
     to : LanePart
     to = lane_to pair side queue
 
-    refused : (r : Answer) → Refused false r → FitsLook looked to.left r
+    refused : (r : Answer) → Refused false r → FitsLook looked to.left given r
     refused r is_refused = no_fit r is_refused.is
       where
-        no_fit : (r : Answer) → refuses r ≡ true → FitsLook looked to.left r
+        no_fit : (r : Answer) → refuses r ≡ true → FitsLook looked to.left given r
         no_fit (CopiedPart number part) is = absurd (false≢true is)
         no_fit (Delivered number frame) is = absurd (false≢true is)
         no_fit (ClearedFrame number) is = absurd (false≢true is)
         no_fit r is = tt
 
-clear_fits : (pair : PairPart) (side : Side) (queue : ℕ) (looked : Option Looked) → Knows looked (stand (lane_to pair side queue))
+clear_fits : (pair : PairPart) (side : Side) (queue : ℕ) (looked : Option Looked) (given : ℕ) → Knows looked (stand (lane_to pair side queue))
     → (is_copied (lane_to pair side queue).phase ≡ true → (lane_to pair side queue).got ≡ (lane_to pair side queue).cleared + 1)
-    → FitsLook looked (lane_to pair side queue).left (clear_step pair side queue).answer
-clear_fits pair side queue looked h last =
-    clear_cases (λ o. FitsLook looked to.left o.answer) pair side queue (λ r no. no_fit r no.is)
+    → FitsLook looked (lane_to pair side queue).left given (clear_step pair side queue).answer
+clear_fits pair side queue looked given h last =
+    clear_cases (λ o. FitsLook looked to.left given o.answer) pair side queue (λ r no. no_fit r no.is)
     (λ turn. let known = h.copied turn in record { found = known.0; of_found = known.1.0; all_parts = known.1.1.0; its_number = same known.0.number known.1.1.1 (last turn) })
   where
     to : LanePart
@@ -363,7 +365,7 @@ clear_fits pair side queue looked h last =
     same : (number : ℕ) → number + 1 ≡ to.got → to.got ≡ to.cleared + 1 → number ≡ to.cleared
     same number one last = omega arith
 
-    no_fit : (r : Answer) → refuses r ≡ true → FitsLook looked to.left r
+    no_fit : (r : Answer) → refuses r ≡ true → FitsLook looked to.left given r
     no_fit (CopiedPart number part) is = absurd (false≢true is)
     no_fit (Delivered number frame) is = absurd (false≢true is)
     no_fit (ClearedFrame number) is = absurd (false≢true is)
@@ -371,7 +373,7 @@ clear_fits pair side queue looked h last =
 
 pub copied_in_parts : CopiedInParts
 copied_in_parts plan memories steps pair side queue step answer which goes =
-    subst (FitsLook looked (lane_to now side queue).left) (sym (answer_of plan memories steps step answer goes)) (fits step which)
+    subst (FitsLook looked (lane_to now side queue).left given) (sym (answer_of plan memories steps step answer goes)) (fits step which)
   where
     own : LaneName
     own = record { pair = pair; from = side; queue = queue }
@@ -382,13 +384,16 @@ copied_in_parts plan memories steps pair side queue step answer which goes =
     now : PairPart
     now = ledger_of plan memories steps pair
 
+    given : ℕ
+    given = length (delivered plan (log_of plan memories steps) (record { pair = pair; from = other_side side; queue = queue }) now.link.session)
+
     knows : Knows looked (stand (lane_to now side queue))
     knows = log_after plan pair AnyStep (KnowsParts own) (parts_run plan own) memories steps (all_fit steps)
 
     fits : (step : Step) → (step ≡ Copy pair side queue) ⊎ (step ≡ Clear pair side queue)
-        → FitsLook looked (lane_to now side queue).left (outcome_in plan (memories (log_of plan memories steps)) (ledger_of plan memories steps) step).answer
+        → FitsLook looked (lane_to now side queue).left given (outcome_in plan (memories (log_of plan memories steps)) (ledger_of plan memories steps) step).answer
     fits step (inl e) =
-        subst (λ s. FitsLook looked (lane_to now side queue).left (outcome_in plan (memories (log_of plan memories steps)) (ledger_of plan memories steps) s).answer) (sym e)
-        (copy_fits (reading_of (pair_plan plan pair) (memories (log_of plan memories steps) pair) now) now side queue looked knows)
+        subst (λ s. FitsLook looked (lane_to now side queue).left given (outcome_in plan (memories (log_of plan memories steps)) (ledger_of plan memories steps) s).answer) (sym e)
+        (copy_fits (reading_of (pair_plan plan pair) (memories (log_of plan memories steps) pair) now) now side queue looked given knows (done_is_delivered plan memories steps pair side queue))
     fits step (inr e) =
-        subst (λ s. FitsLook looked (lane_to now side queue).left (outcome_in plan (memories (log_of plan memories steps)) (ledger_of plan memories steps) s).answer) (sym e) (clear_fits now side queue looked knows (clears_last plan memories steps pair side queue))
+        subst (λ s. FitsLook looked (lane_to now side queue).left given (outcome_in plan (memories (log_of plan memories steps)) (ledger_of plan memories steps) s).answer) (sym e) (clear_fits now side queue looked given knows (clears_last plan memories steps pair side queue))

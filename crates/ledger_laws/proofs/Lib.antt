@@ -9,6 +9,7 @@ pub mod Facade
 pub mod EntriesFit
 pub mod FlagsAndBells
 pub mod FollowersFew
+pub mod FrameNumbers
 pub mod Frames
 pub mod FramesInOrder
 pub mod FramesWithinMost

@@ -295,12 +295,14 @@ pub record FitsPart (looked : Option Looked) (left number part : ℕ) : Type 0 w
   pub among : part < parts_in len
   pub followed : part + 1 ≡ parts_in len → 0 < left
 
--- a copy was answered `frame`: it is the last part of the entry that was found last, which no other of its frame follows
-pub record FitsFrame (looked : Option Looked) (left : ℕ) : Type 0 where
+-- a copy was answered `frame` with this number: it is the last part of the entry that was found last, which no other of its frame
+-- follows, and so many frames were delivered before in the session
+pub record FitsFrame (looked : Option Looked) (left given number : ℕ) : Type 0 where
   pub found : Looked
   pub of_found : looked ≡ Some found
   pub all_parts : found.copies + 1 ≡ parts_in found.len
   pub followed_by_none : left ≡ 0
+  pub its_number : number ≡ given
 
 -- a clear was answered `cleared` with this number: it is that of the entry that was found last, and all its parts were copied
 pub record FitsClear (looked : Option Looked) (number : ℕ) : Type 0 where
@@ -310,19 +312,22 @@ pub record FitsClear (looked : Option Looked) (number : ℕ) : Type 0 where
   pub its_number : found.number ≡ number
 
 -- what a copy and a clear are answered, by the entry that was found last and the copies made of it since; `left` is the number of
--- entries that follow it in its frame, as it was found
-abbrev pub FitsLook : Option Looked → ℕ → Answer → Type 0
-FitsLook looked left (Copied number part) = FitsPart looked left number part
-FitsLook looked left (Delivered number frame) = FitsFrame looked left
-FitsLook looked left (Cleared number) = FitsClear looked number
-FitsLook looked left answer = Unit {0}
+-- entries that follow it in its frame, as it was found, and `given` that of the frames delivered before on the lane in the session
+abbrev pub FitsLook : Option Looked → ℕ → ℕ → Answer → Type 0
+FitsLook looked left given (Copied number part) = FitsPart looked left number part
+FitsLook looked left given (Delivered number frame) = FitsFrame looked left given number
+FitsLook looked left given (Cleared number) = FitsClear looked number
+FitsLook looked left given answer = Unit {0}
 
 -- an entry is copied in as many parts as it has chunks, one at least, which are numbered from 0 on: its last part is answered `frame`
 -- where no other entry of the frame follows, and `copied` where one does, and the entry is cleared after it
 abbrev pub CopiedInParts : Type 0
 CopiedInParts = (plan : Plan) (memories : Memories) (steps : List Step) (pair : ℕ) (side : Side) (queue : ℕ) (step : Step) (answer : Answer) →
+    let log = log_of plan memories steps in
+    let now = ledger_of plan memories steps pair in
+    let lane : LaneName = record { pair = pair; from = other_side side; queue = queue } in
     (step ≡ Copy pair side queue) ⊎ (step ≡ Clear pair side queue) → GoesOn plan memories steps step answer →
-    FitsLook (looked_in (log_of plan memories steps) pair side queue) (lane_to (ledger_of plan memories steps pair) side queue).left answer
+    FitsLook (looked_in log pair side queue) (lane_to now side queue).left (length (delivered plan log lane now.link.session)) answer
 
 -- Separate pairs
 

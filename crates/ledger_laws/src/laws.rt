@@ -76,8 +76,9 @@ pub fn sessions_are_counts()
 /// An entry is copied in as many parts as its length, as it was found, has chunks of 128 bytes, one part at least: a copy
 /// that is answered `copied` has the number of copies made since the entry was found, and that is below those parts; a
 /// copy that is answered `frame` is the last of them. The last part is answered `copied` where others of its frame follow
-/// the entry, as it was found, and `frame` where none does. A clear that is answered `cleared` comes after all parts, and
-/// has the number of the entry that the last look found. No premise: it holds on raw pairs too.
+/// the entry, as it was found, and `frame` where none does, with the number of frames that were delivered before on the
+/// lane in the session. A clear that is answered `cleared` comes after all parts, and has the number of the entry that
+/// the last look found. No premise: it holds on raw pairs too.
 pub fn copied_in_parts()
     ensures { CopiedInParts }
 {}
