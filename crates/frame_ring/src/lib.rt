@@ -14,6 +14,8 @@ mod reading;
 mod receiving;
 mod rings;
 mod sending;
+#[cfg(test)]
+mod tests;
 
 pub use port::Port;
 pub use step_kinds::{Begun, LaneCopy};
