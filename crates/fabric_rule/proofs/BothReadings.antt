@@ -1,9 +1,2 @@
--- What is proved of bytes and ledger below, until it lands there: an ordinary pair reads alike by both, and the pair of a site is the
--- ledger's.
-use Rattle.byte_laws.specs.Readings.{BytesSayTheLedger, SitesAreTheLedger}
-
-pub bytes_say_the_ledger : BytesSayTheLedger
-bytes_say_the_ledger = ?
-
-pub sites_are_the_ledger : SitesAreTheLedger
-sites_are_the_ledger = ?
+-- An ordinary pair reads alike by the bytes and by the ledger, and the pair of a site is the ledger's.
+pub use Rattle.byte_laws.proofs.Facade.{bytes_say_the_ledger, sites_are_the_ledger}

@@ -1,8 +1,15 @@
 //! The laws of what a fabric keeps, each the clause of a function with an empty body.
 
-ghost use Rattle.fabric_rule.specs.Laws.{FreshPairStands};
+ghost use Rattle.fabric_rule.specs.Laws.{EachStepStands, FreshPairStands};
 
 /// What is kept of a pair before any step stands for no steps. Premise: the pair is one that a script can declare.
 pub fn fresh_pair_stands()
     ensures { FreshPairStands }
+{}
+
+/// Where what is kept of a pair stands for the steps that were made, a further one is answered as the ledger says, by its
+/// entries on an ordinary pair and by the bytes in memory on a raw one, and then it stands for one step more. Premises: the
+/// plan is one that a script can declare, and it permits each of the steps.
+pub fn each_step_stands()
+    ensures { EachStepStands }
 {}

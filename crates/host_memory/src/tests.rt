@@ -127,18 +127,3 @@ fn window_translates_what_lies_in_it(rt: HostRuntime) {
     assert_eq!(rt; window.translate(1025, 0), None);
     assert_eq!(rt; window.translate(u64::MAX, u64::MAX), None);
 }
-
-// The laws can be called.
-#[test]
-fn laws_hold() {
-    laws::written_inside();
-    laws::old_outside();
-    laws::length_stays();
-    laws::reads_back();
-    laws::reads_elsewhere();
-    laws::word_reads_back();
-    laws::word_elsewhere();
-    laws::part_promised();
-    laws::both_promised();
-    laws::stays_promised();
-}

@@ -90,17 +90,3 @@ fn versions_wrap(rt: HostRuntime) {
     assert_eq!(rt; ver_of(4294967296), 0);
     assert_eq!(rt; ver_of(4294967295), 4294967295);
 }
-
-// The laws can be called.
-#[test]
-fn laws_hold() {
-    laws::ring_has_two_entries();
-    laws::slots_stand_apart();
-    laws::header_ends_slot();
-    laws::index_follows_slots();
-    laws::areas_stand_apart();
-    laws::area_lies_in_window();
-    laws::free_is_room();
-    laws::spots_stand_apart();
-    laws::spots_lie_inside();
-}

@@ -1,2 +1,0 @@
-//! A fabric of pairs.
-#![tactic(auto)]
