@@ -90,10 +90,11 @@ module _ (devs : List DevPlan) (plan : PairPlan) (k : ℕ) (now : Standing devs 
 
   abbrev copy_value : QueueState → Bool → Bool → Bool → List ℕ → LaneCopy
   copy_value q copying more_parts more_entries gathered =
-      if not copying then NotCopying
-      else if more_parts then Part q.port.receiving.got q.port.receiving.part
+      if copying
+      then (if more_parts then Part q.port.receiving.got q.port.receiving.part
       else if more_entries then Part q.port.receiving.got q.port.receiving.part
-      else Whole q.port.receiving.done gathered
+      else Whole q.port.receiving.done gathered)
+      else NotCopying
 
   abbrev copy_port : QueueState → Bool → Bool → Bool → List ℕ → PortState
   copy_port q copying more_parts more_entries gathered =
