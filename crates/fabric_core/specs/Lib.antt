@@ -1,1 +1,3 @@
 pub mod Fabric
+pub mod Counts
+pub mod Sessions

@@ -1,2 +1,4 @@
 //! A fabric of pairs.
 #![tactic(auto)]
+
+mod counts;

@@ -1,7 +1,7 @@
 //! Queue pairs and doorbell interrupts.
 
-ghost use Rattle.std.specs.Prelude.{◌≡◌, ◌-◌, ◌<◌, ◌≤◌, true, IfOk, OnErr, OnOk, length};
-ghost use Rattle.bridge_pair.specs.Bridge.{pages_of, with_pages};
+ghost use Rattle.std.specs.Prelude.{◌≡◌, ◌+◌, ◌-◌, ◌<◌, ◌≤◌, true, IfOk, OnErr, OnOk, length};
+ghost use Rattle.bridge_pair.specs.Bridge.{flight_of, pages_of, with_pages};
 ghost use Rattle.bridge_pair.specs.Pages.{PagesGrow};
 ghost use Rattle.plan_model.specs.DeclaredPlans.{IsPair};
 ghost use Rattle.plan_model.specs.Plans.{side_plan as side_plan_of};
@@ -115,6 +115,7 @@ impl QueuePair {
         ensures answer { result ≡ post_answer self.old.port }
         ensures after { self.new ≡ with_port self.old (after_post self.old.port) }
         ensures pair { pair.new ≡ posted_by self.old.port pair.old }
+        ensures spare { (flight_of pair.new self.old.port.side).spare + unused_of self.old.port ≡ (flight_of pair.old self.old.port.side).spare + unused_of self.new.port }
         ensures ready { HasPagesIn self.new.port pair.new }
     {
         self.port.post(pair)
@@ -181,6 +182,7 @@ impl QueuePair {
         ensures answer { result ≡ ack_answer self.old.port }
         ensures after { self.new ≡ with_port self.old (after_ack self.old.port) }
         ensures pair { pair.new ≡ acked_by self.old.port pair.old }
+        ensures spare { (flight_of pair.new self.old.port.side).spare + unused_of self.old.port ≡ (flight_of pair.old self.old.port.side).spare + unused_of self.new.port }
         ensures ready { HasPagesIn self.new.port pair.new }
     {
         self.port.ack(pair)
@@ -221,7 +223,9 @@ impl QueuePair {
     fn is_joined(&self, pair: &Pair) -> bool
         ensures { result ≡ is_joined self.now pair.now }
     {
-        (pair.book(self.port.side()).joined >> self.port.queue()) % 2 == 1
+        let joined = pair.book(self.port.side()).joined;
+        let queue = self.port.queue();
+        queue < 32 && (joined >> queue) % 2 == 1
     }
 
     // Why the side may not begin anything on the queue.
