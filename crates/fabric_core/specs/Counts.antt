@@ -1,7 +1,6 @@
 -- What contracts see of the counts that are kept of the sessions.
-use Rattle.std.specs.Prelude.{◌≡◌, ◌<◌, ◌≤◌, true, All, length, map, vec_capacity}
-use Rattle.fabric_core.specs.Sessions.{AreApart, Tallied, count_seen, most_frames}
-use Rattle.fabric_core.specs.declared.counts.OfSession.{OfSession}
+use Rattle.std.specs.Prelude.{◌≡◌, ◌<◌, ◌≤◌, true, length, map, vec_capacity}
+use Rattle.fabric_core.specs.Sessions.{AreApart, AreFew, AreUpTo, Tallied, count_seen, most_frames}
 use Rattle.fabric_core.specs.declared.counts.SessionCounts.TheInside.{Inside}
 
 abbrev pub tallied_seen : Inside → Tallied
@@ -9,8 +8,8 @@ tallied_seen tally = record { counts = map count_seen tally.counts.items; has_ro
 
 pub record IsTally (tally : Inside) : Type 0 where
   pub apart : AreApart (map count_seen tally.counts.items)
-  pub most : All (λ (one : OfSession). one.session ≤ tally.most) tally.counts.items
-  pub few : All (λ (one : OfSession). one.count ≤ tally.made) tally.counts.items
+  pub most : AreUpTo (map count_seen tally.counts.items) tally.most
+  pub few : AreFew (map count_seen tally.counts.items) tally.made
   pub made : tally.made ≤ most_frames
   pub room : tally.has_room ≡ true → length tally.counts.items < vec_capacity tally.counts
   pub more : tally.has_room ≡ true → tally.made < most_frames

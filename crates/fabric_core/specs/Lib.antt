@@ -1,3 +1,6 @@
-pub mod Fabric
 pub mod Counts
+pub mod Fabric
+pub mod Numbers
+pub mod Promised
 pub mod Sessions
+pub mod Turns

@@ -1,5 +1,5 @@
 -- The frames of each session, counted one session at one place.
-use Rattle.std.specs.Prelude.{◌≡◌, ◌≢◌, ℕ, ◌<◌, ◌^◌, Bool, false, List, [], length, slice_index_or}
+use Rattle.std.specs.Prelude.{◌≡◌, ◌≢◌, ℕ, ◌<◌, ◌≤◌, ◌^◌, Bool, false, List, [], length, slice_index_or}
 use Rattle.fabric_rule.specs.Parts.{SessionCount}
 use Rattle.fabric_core.specs.declared.counts.OfSession.{OfSession}
 
@@ -25,6 +25,13 @@ most_frames = 2 ^ 62
 -- each session is counted at one place
 abbrev pub AreApart : List SessionCount → Type 0
 AreApart counts = (j k : ℕ) → j < k → k < length counts → (slice_index_or counts j no_count).session ≢ (slice_index_or counts k no_count).session
+
+-- no session is above this one, and none has more frames than so many
+abbrev pub AreUpTo : List SessionCount → ℕ → Type 0
+AreUpTo counts most = (k : ℕ) → k < length counts → (slice_index_or counts k no_count).session ≤ most
+
+abbrev pub AreFew : List SessionCount → ℕ → Type 0
+AreFew counts made = (k : ℕ) → k < length counts → (slice_index_or counts k no_count).count ≤ made
 
 -- no place before this one counts the session
 abbrev pub IsNowhere : List SessionCount → ℕ → ℕ → Type 0

@@ -1,8 +1,7 @@
 //! How many frames of a lane there were in each session.
 
 ghost use Rattle.std.specs.Prelude.{◌≡◌, ◌≢◌, ◌<◌, ◌≤◌, All, IfNone, IfSome, OnErr, OnOk, ℕ, length, map, slice_index_or, true};
-ghost use Rattle.fabric_core.specs.Sessions.{AreApart, IsNowhere, IsPlaceOf, count_seen, nothing_tallied};
-ghost use Rattle.fabric_core.specs.declared.counts.OfSession.{OfSession as KeptCount};
+ghost use Rattle.fabric_core.specs.Sessions.{AreApart, AreUpTo, IsNowhere, IsPlaceOf, count_seen, nothing_tallied};
 ghost use Rattle.fabric_rule.specs.Parts.{count_in, one_more};
 
 use std::alloc::{AllocError, Global};
@@ -103,7 +102,7 @@ impl SessionCounts {
 // Where a session is counted: mostly at the end, where it is the last one, or nowhere, where it comes after all.
 fn place_of(counts: &[OfSession], most: u32, session: u32) -> Option<usize>
     requires apart { AreApart (map count_seen counts.now) }
-    requires most { All (λ (one : KeptCount). one.session ≤ most) counts.now }
+    requires most { AreUpTo (map count_seen counts.now) most }
     ensures found { IfSome result (λ place. IsPlaceOf (map count_seen counts.now) session place) }
     ensures none { IfNone result (IsNowhere (map count_seen counts.now) session (length counts.now)) }
 {

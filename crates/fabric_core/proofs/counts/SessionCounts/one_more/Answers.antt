@@ -1,0 +1,12 @@
+use Rattle.std.proofs.Common.{rules, ◌≡◌, ◌≢◌, ◌<◌, ◌≤◌, All, IfNone, IfSome, OnErr, OnOk, ℕ, length, map, slice_index_or, true, ◌+◌, ◌-◌, ◌*◌, ◌/◌, ◌%◌, Bool, false, nat_eq, nat_lt, List, [], ◌∷◌, ◌++◌, slice_set, bit_and, bit_or, Fits, w8, w32, w64, Bor, MutBor}
+use Rattle.fabric_core.specs.Sessions.{AreApart, AreUpTo, IsNowhere, IsPlaceOf, count_seen, nothing_tallied}
+use Rattle.fabric_rule.specs.Parts.{count_in, one_more}
+use Rattle.fabric_core.proofs.counts.SessionCounts.one_more.Goals as goal
+
+-- src/counts.rt:73:5
+pub invariant_of-self : goal.invariant_of-self
+invariant_of-self c = ?
+
+-- src/counts.rt:73:5
+pub returns : goal.returns
+returns c = ?
