@@ -1,1 +1,2 @@
+pub mod MorePages
 pub mod SessionTallies

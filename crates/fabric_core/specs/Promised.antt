@@ -1,10 +1,9 @@
 -- What is promised of a bridge stays so through steps, and a bridge that differs in promised pages alone.
-use Rattle.std.specs.Prelude.{◌≡◌, ℕ, ◌<◌, ◌≤◌, Contains, length, true}
+use Rattle.std.specs.Prelude.{◌≡◌, ℕ, ◌<◌, ◌≤◌, Contains, List}
 use Rattle.step_kinds.specs.declared.names.Side.{Side}
 use Rattle.step_kinds.specs.declared.steps.Step.{Step}
-use Rattle.step_kinds.specs.declared.steps.Step.TheVariants.{Ready, Join, Begin, Xbegin, Check, Spad, Poke, ShowMem, ShowPad}
-use Rattle.step_kinds.specs.declared.plan.DevPlan.{DevPlan}
-use Rattle.plan_model.specs.DeclaredPlans.{IsFrame, IsPayload, IsPoke, IsShown}
+use Rattle.step_kinds.specs.declared.steps.Step.TheVariants.{Ready, Join, Check, Spad, Poke, ShowMem, ShowPad}
+use Rattle.plan_model.specs.DeclaredPlans.{IsPoke, IsShown}
 use Rattle.plan_model.specs.Plans.{side_plan}
 use Rattle.bridge_pair.specs.Bridge.{Bridge, pages_of, flight_of}
 use Rattle.bridge_pair.specs.Words.{WindowsFit}
@@ -17,14 +16,14 @@ pub record KeepsPromised (old new : Bridge) : Type 0 where
   pub pages : (side : Side) (page : ℕ) → Contains (pages_of old side) page → Contains (pages_of new side) page
   pub spare : (side : Side) → (flight_of old side).spare ≤ (flight_of new side).spare
 
+-- the same bridge with these pages promised at its sides
+abbrev pub with_promised : Bridge → List ℕ → List ℕ → Bridge
+with_promised bridge a b =
+    record bridge { memories = record { a = record { bytes = bridge.memories.a.bytes; promised = a }; b = record { bytes = bridge.memories.b.bytes; promised = b } } }
+
 -- further pages may be promised, and all else is the same
 pub record HasMorePages (old new : Bridge) : Type 0 where
-  pub rest : new ≡ record old {
-    memories = record {
-      a = record { bytes = old.memories.a.bytes; promised = new.memories.a.promised };
-      b = record { bytes = old.memories.b.bytes; promised = new.memories.b.promised };
-    };
-  }
+  pub rest : new ≡ with_promised old new.memories.a.promised new.memories.b.promised
   pub stay : (side : Side) (page : ℕ) → Contains (pages_of old side) page → Contains (pages_of new side) page
 
 -- what a step on the bridge needs of its numbers, and where a side would come up, of the plan

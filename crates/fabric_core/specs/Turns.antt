@@ -5,7 +5,7 @@ use Rattle.step_kinds.specs.declared.plan.DevPlan.{DevPlan}
 use Rattle.step_kinds.specs.declared.steps.Answer.{Answer}
 use Rattle.step_kinds.specs.declared.steps.Answer.TheVariants.{Ok as Done, Stopped, Awake}
 use Rattle.step_kinds.specs.declared.steps.Step.{Step}
-use Rattle.step_kinds.specs.declared.steps.Step.TheVariants.{Clean, Begin, QpDown, Xbegin, Post, Look, Copy, Clear, Ack, Wake}
+use Rattle.step_kinds.specs.declared.steps.Step.TheVariants.{Enable, Train, Break, DropDone, Clean, Offer, Check, Ready, Join, Begin, QpDown, Xbegin, Post, Land, Look, Copy, Clear, Ack, Wake, Irq, Mask, Unmask, Spad, Poke, ShowMem, ShowPad, ShowQueue}
 use Rattle.plan_model.specs.Both.{both_of}
 use Rattle.plan_model.specs.Device.{stays_stopped}
 use Rattle.plan_model.specs.Ethernet.{ethernet_frame}
@@ -15,9 +15,8 @@ use Rattle.frame_ring.specs.Calls.{post_answer, after_post, posted_by, copy_answ
 use Rattle.queue_pair.specs.Gates.{begin_answer, after_begin, qpdown_answer, after_qpdown, look_answer, after_look}
 use Rattle.queue_pair.specs.Queue.{with_port}
 use Rattle.fabric_rule.specs.Answers.{of_begin, of_xbegin, of_post, of_look, of_copy, of_clear, of_ack}
-use Rattle.fabric_rule.specs.Moves.{Move, accepted_where_begun, delivered_where_whole, xbegun}
+use Rattle.fabric_rule.specs.Moves.{Move, accepted_where_begun, break_move, check_move, delivered_where_whole, drop_move, enable_move, irq_move, join_move, land_move, mask_move, offer_move, poke_move, ready_move, show_mem_move, show_pad_move, show_queue_move, spad_move, train_move, unmask_move, xbegun}
 use Rattle.fabric_rule.specs.Parts.{PairState, QueuePart, queue_of, with_bridge, with_queue}
-use Rattle.fabric_rule.specs.Steps.{move_of}
 use Rattle.fabric_core.specs.declared.places.StepPlace.{StepPlace}
 use Rattle.fabric_core.specs.declared.places.StepPlace.TheVariants.{OnQueue, OnSide, OnBridge}
 
@@ -45,11 +44,33 @@ pub record BridgeTurn : Type 0 where
 abbrev pub bare_pair : Bridge → PairState
 bare_pair bridge = record { bridge = bridge; queues = both_of [] }
 
+abbrev pub of_move : Move → BridgeTurn
+of_move move = record { answer = move.answer; bridge = move.after.bridge }
+
+-- landings, registers and what is shown; other steps do nothing here
+abbrev pub register_turn : Bridge → Step → BridgeTurn
+register_turn bridge (Land p side place) = of_move (land_move (bare_pair bridge) side place)
+register_turn bridge (Irq p side) = of_move (irq_move (bare_pair bridge) side)
+register_turn bridge (Mask p side bits) = of_move (mask_move (bare_pair bridge) side bits)
+register_turn bridge (Unmask p side bits) = of_move (unmask_move (bare_pair bridge) side bits)
+register_turn bridge (Spad p side i value) = of_move (spad_move (bare_pair bridge) side i value)
+register_turn bridge (Poke p side window offset bytes) = of_move (poke_move (bare_pair bridge) side window offset bytes)
+register_turn bridge (ShowMem p side at len) = of_move (show_mem_move (bare_pair bridge) side at len)
+register_turn bridge (ShowPad p side i) = of_move (show_pad_move (bare_pair bridge) side i)
+register_turn bridge (ShowQueue p side place) = of_move (show_queue_move (bare_pair bridge) side place)
+register_turn bridge step = record { answer = Done; bridge = bridge }
+
+-- the link and the handshake, and the others
 abbrev pub bridge_turn : Bridge → Step → BridgeTurn
-bridge_turn bridge step = where_on (place_of step) where
-  where_on : StepPlace → BridgeTurn
-  where_on OnBridge = record { answer = (move_of [] (bare_pair bridge) step).answer; bridge = (move_of [] (bare_pair bridge) step).after.bridge }
-  where_on place = record { answer = Done; bridge = bridge }
+bridge_turn bridge (Enable p side) = of_move (enable_move (bare_pair bridge) side)
+bridge_turn bridge (Train p) = of_move (train_move (bare_pair bridge))
+bridge_turn bridge (Break p) = of_move (break_move (bare_pair bridge))
+bridge_turn bridge (DropDone p) = of_move (drop_move (bare_pair bridge))
+bridge_turn bridge (Offer p side) = of_move (offer_move (bare_pair bridge) side)
+bridge_turn bridge (Check p side) = of_move (check_move (bare_pair bridge) side)
+bridge_turn bridge (Ready p side queue) = of_move (ready_move (bare_pair bridge) side queue)
+bridge_turn bridge (Join p side queue) = of_move (join_move (bare_pair bridge) side queue)
+bridge_turn bridge step = register_turn bridge step
 
 -- One queue
 

@@ -1,20 +1,23 @@
 //! The steps that touch the bridge of a pair alone: the link, the handshake, registers, landings and what is shown.
 
 ghost use Rattle.std.specs.Prelude.{IfOk, IsErr, OnErr, OnOk, bit_or, false, length, option_map, slice_get, ◌+◌, ◌<◌, ◌≡◌, ◌≤◌, true};
-ghost use Rattle.bridge_pair.specs.Bridge.{bells_of, bytes_of, flight_of, with_bells};
-ghost use Rattle.bridge_pair.specs.Flights.{Flying};
+ghost use Rattle.bridge_pair.specs.Bridge.{bells_of, bytes_of, flight_of, memory_size, pages_of, with_bells};
+ghost use Rattle.bridge_pair.specs.Calls.{HasPages};
+ghost use Rattle.bridge_pair.specs.Flights.{Flying, Translates, arrival_of};
 ghost use Rattle.bridge_pair.specs.Links.{after_train};
 ghost use Rattle.bridge_pair.specs.Writes.{memory_write, pad_write};
 ghost use Rattle.bridge_regs.specs.Doorbell.{with_masked};
 ghost use Rattle.fabric_core.specs.Fabric.{may_want_memory};
 ghost use Rattle.fabric_core.specs.Promised.{CanTurn, HasMorePages};
-ghost use Rattle.fabric_core.specs.Turns.{bridge_turn};
+ghost use Rattle.fabric_core.specs.Turns.{bridge_turn, register_turn};
 ghost use Rattle.fabric_rule.specs.Answers.{of_link};
 ghost use Rattle.fabric_rule.specs.Moves.{posted_aside};
+ghost use Rattle.hand_shake.specs.Offers.{with_posted};
 ghost use Rattle.host_memory.specs.Memory.{bytes_at};
 ghost use Rattle.plan_model.specs.DeclaredPlans.{IsPoke};
-ghost use Rattle.plan_model.specs.Link.{train_refusal};
+ghost use Rattle.plan_model.specs.Link.{is_up, train_refusal};
 ghost use Rattle.step_kinds.specs.Bits.{without_bits};
+ghost use Rattle.step_kinds.specs.Sides.{other_side};
 ghost use Rattle.step_kinds.specs.declared.steps.Answer.TheVariants as answer;
 ghost use Rattle.step_kinds.specs.declared.steps.Label.TheVariants.{Raw as RawLabel};
 
@@ -56,8 +59,8 @@ pub fn bridge_step(pair: &mut Pair, alloc: Global, step: &Step) -> Result<Answer
 // The other half of the steps.
 fn register_step(pair: &mut Pair, alloc: Global, step: &Step) -> Result<Answer, AllocError>
     requires { CanTurn pair.old step.now }
-    ensures answer { IfOk result (λ answer. answer ≡ (bridge_turn pair.old step.now).answer) }
-    ensures after { OnOk result (HasMorePages (bridge_turn pair.old step.now).bridge pair.new) }
+    ensures answer { IfOk result (λ answer. answer ≡ (register_turn pair.old step.now).answer) }
+    ensures after { OnOk result (HasMorePages (register_turn pair.old step.now).bridge pair.new) }
     ensures err { OnErr result (HasMorePages pair.old pair.new) }
     ensures wants { IsErr result → may_want_memory step.now ≡ true }
 {
@@ -118,9 +121,21 @@ fn spad(pair: &mut Pair, side: Side, index: u32, value: u32) -> Result<Answer, A
     if pair.link().state() != LinkState::Up {
         return Ok(Answer::Ok);
     }
-    pair.promise(side, 1)?;
-    pair.post(side, Write::pad(index, value));
+    post_aside(pair, side, Write::pad(index, value))?;
     Ok(Answer::Ok)
+}
+
+// A side posts a write while the link is up, and asks for its room.
+fn post_aside(pair: &mut Pair, side: Side, write: Write) -> Result<(), AllocError>
+    requires up { is_up pair.old.link.state ≡ true }
+    requires translates { Translates pair.old.plan side write.target }
+    requires pages { HasPages (pages_of pair.old (other_side side)) (arrival_of pair.old.plan side write.target) }
+    ensures ok { OnOk result (pair.new ≡ with_posted pair.old side write) }
+    ensures err { OnErr result (pair.new ≡ pair.old) }
+{
+    pair.promise(side, 1)?;
+    pair.post(side, write);
+    Ok(())
 }
 
 // A side posts bytes through a window, past the transport.
@@ -143,18 +158,18 @@ fn poke(
     let peer = side.other();
     let at = own_address(pair.plan(), peer, window, offset);
     pair.promise_range(peer, at, u64::from(len))?;
-    pair.promise(side, 1)?;
     let label = Label::Raw { window, offset, len };
-    pair.post(side, Write::memory(label, window, offset, bytes.bytes()));
+    post_aside(pair, side, Write::memory(label, window, offset, bytes.bytes()))?;
     Ok(Answer::Ok)
 }
 
 // Bytes of a side's memory.
 fn shown_memory(pair: &Pair, alloc: Global, side: Side, at: u64, len: u32) -> Result<Answer, AllocError>
-    requires within { at + len ≤ length (bytes_of pair.now side) }
+    requires within { at + len ≤ memory_size pair.now.plan side }
     requires few { len ≤ 64 }
     ensures { IfOk result (λ given. given ≡ answer.Mem (bytes_at at len (bytes_of pair.now side))) }
 {
+    let _plan = pair.plan();
     let mut bytes = Vec::new(alloc);
     bytes.resize(len as usize, 0u8)?;
     pair.local_read(side, at, &mut bytes);
