@@ -3,11 +3,11 @@ use Rattle.std.specs.Prelude.{ℕ, Bool, true, false, List, [], length, if◌the
 use Rattle.step_kinds.specs.declared.names.Side.{Side}
 use Rattle.step_kinds.specs.declared.plan.DevPlan.{DevPlan}
 use Rattle.step_kinds.specs.declared.steps.Answer.{Answer}
-use Rattle.step_kinds.specs.declared.steps.Answer.TheVariants.{Ok as Done, Stopped, Awake}
+use Rattle.step_kinds.specs.declared.steps.Answer.TheVariants.{Ok as Done, OkNumber, Stopped, Awake}
 use Rattle.step_kinds.specs.declared.steps.Step.{Step}
 use Rattle.step_kinds.specs.declared.steps.Step.TheVariants.{Enable, Train, Break, DropDone, Clean, Offer, Check, Ready, Join, Begin, QpDown, Xbegin, Post, Land, Look, Copy, Clear, Ack, Wake, Irq, Mask, Unmask, Spad, Poke, ShowMem, ShowPad, ShowQueue}
 use Rattle.plan_model.specs.Both.{both_of}
-use Rattle.plan_model.specs.Device.{stays_stopped}
+use Rattle.plan_model.specs.Device.{count_accepted, count_refused, stays_stopped, stopped_after_send}
 use Rattle.plan_model.specs.Ethernet.{ethernet_frame}
 use Rattle.plan_model.specs.Plans.{dev_plan}
 use Rattle.bridge_pair.specs.Bridge.{Bridge}
@@ -92,11 +92,20 @@ abbrev pub qpdown_turn : QueuePart → Bridge → QueueTurn
 qpdown_turn part bridge =
     record { answer = of_begin (qpdown_answer part.queue bridge); part = record part { queue = after_qpdown part.queue bridge }; bridge = bridge }
 
-abbrev pub xbegin_turn : DevPlan → QueuePart → Bridge → List ℕ → ℕ → List ℕ → QueueTurn
-xbegin_turn dev part bridge dst kind payload =
-    let frame = ethernet_frame dst dev.address kind payload in
+-- a device's frame
+abbrev pub frame_turn : QueuePart → Bridge → List ℕ → QueueTurn
+frame_turn part bridge frame =
     let answer = of_xbegin part.flow.stopped (begin_answer part.queue bridge (length frame)) in
     record { answer = answer; part = xbegun answer (bare_pair bridge) part frame; bridge = bridge }
+
+abbrev pub xbegin_turn : DevPlan → QueuePart → Bridge → List ℕ → ℕ → List ℕ → QueueTurn
+xbegin_turn dev part bridge dst kind payload = frame_turn part bridge (ethernet_frame dst dev.address kind payload)
+
+-- a device's frame is counted, once it was begun, which left so many entries free, or refused
+abbrev pub counted_begun : Answer → QueuePart → ℕ → ℕ → QueuePart
+counted_begun (OkNumber number) part free len =
+    record part { flow = record part.flow { stopped = stopped_after_send part.flow free }; counters = count_accepted part.counters len }
+counted_begun answer part free len = record part { counters = count_refused part.counters }
 
 abbrev pub post_turn : QueuePart → Bridge → QueueTurn
 post_turn part bridge =
