@@ -1,2 +1,3 @@
+pub mod Keeping
 pub mod MorePages
 pub mod SessionTallies
