@@ -62,6 +62,13 @@ pub grown_plain : (bridge : Bridge) (side : Side) (pages : List ℕ) (more : ℕ
 grown_plain bridge A pages more = refl
 grown_plain bridge B pages more = refl
 
+-- of numbers alone
+more_room : (spare spare_after unused unused_after : ℕ) → spare_after ≡ spare + (unused_after - unused) → spare + unused_after ≤ spare_after + unused
+more_room spare spare_after unused unused_after e = omega (arith, e)
+
+no_less : (n m : ℕ) → n ≡ m → m ≤ n
+no_less n m e = omega (arith, e)
+
 either_side : (P : Side → Type 0) (side : Side) → P side → P (other_side side) → (any : Side) → P any
 either_side P A own peer A = own
 either_side P A own peer B = peer
@@ -96,8 +103,8 @@ keeps_grown old new before after touched same rest grow ready =
       pages =
           either_side (λ any. (page : ℕ) → Contains (pages_of before any) page → Contains (pages_of after any) page) side
           (λ page had. subst (λ pages. Contains pages page) (sym own) had) grow.stay;
-      room = omega (arith, spare);
-      peer_room = omega (arith, peer);
+      room = more_room (flight_of before side).spare (flight_of after side).spare (unused_of old) (unused_of new) spare;
+      peer_room = no_less (flight_of after (other_side side)).spare (flight_of before (other_side side)).spare peer;
       ready = ready;
     }
 
@@ -131,7 +138,8 @@ keeps_exact old new before after same plan pages room peer ready =
     }
 
 pub keeps_still : (port : PortState) (bridge : Bridge) → HasPagesIn port bridge → KeepsPort port port bridge bridge
-keeps_still port bridge ready = keeps_exact port port bridge bridge (same_place port) refl (λ any. refl) (omega arith) (omega arith) ready
+keeps_still port bridge ready = keeps_exact port port bridge bridge (same_place port) refl (λ any. refl) (no_less ((flight_of bridge port.side).spare + unused_of port) _ refl)
+    (no_less (flight_of bridge (other_side port.side)).spare _ refl) ready
 
 -- The port after each call is of the same queue, and but for a look and a copy it receives as before
 
