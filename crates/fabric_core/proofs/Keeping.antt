@@ -118,7 +118,7 @@ ready_after result old new before after touched rest grow ready same =
     ap (λ (bridge : Bridge). pages_of bridge old.side) rest ∙ grown_own before old.side (pages_of after (other_side old.side)) (unused_of new - unused_of old) in
     subst (λ (port : PortState). HasPagesIn port after) (sym same)
     (pages_stay old (pages_of before old.side) (pages_of before (other_side old.side)) (pages_of after old.side) (pages_of after (other_side old.side))
-      (λ page had. subst (λ pages. Contains pages page) (sym own) had) grow.stay ready)
+    (λ page had. subst (λ pages. Contains pages page) (sym own) had) grow.stay ready)
 
 -- A call that changed no promise but those that it used
 

@@ -29,18 +29,18 @@ more_pages old new A is stay =
       rest = is ∙ ap (λ pages. with_promised old new.memories.a.promised pages) (sym other);
       stay = at_side;
     } where
-  at_side : (side : Side) (page : ℕ) → Contains (pages_of old side) page → Contains (pages_of new side) page
-  at_side A page had = stay page had
-  at_side B page had = subst (λ pages. Contains pages page) (sym (ap (λ (bridge : Bridge). bridge.memories.b.promised) is)) had
+      at_side : (side : Side) (page : ℕ) → Contains (pages_of old side) page → Contains (pages_of new side) page
+      at_side A page had = stay page had
+      at_side B page had = subst (λ pages. Contains pages page) (sym (ap (λ (bridge : Bridge). bridge.memories.b.promised) is)) had
 more_pages old new B is stay =
     let other : new.memories.a.promised ≡ old.memories.a.promised = ap (λ (bridge : Bridge). bridge.memories.a.promised) is in
     record {
       rest = is ∙ ap (λ pages. with_promised old pages new.memories.b.promised) (sym other);
       stay = at_side;
     } where
-  at_side : (side : Side) (page : ℕ) → Contains (pages_of old side) page → Contains (pages_of new side) page
-  at_side A page had = subst (λ pages. Contains pages page) (sym (ap (λ (bridge : Bridge). bridge.memories.a.promised) is)) had
-  at_side B page had = stay page had
+      at_side : (side : Side) (page : ℕ) → Contains (pages_of old side) page → Contains (pages_of new side) page
+      at_side A page had = subst (λ pages. Contains pages page) (sym (ap (λ (bridge : Bridge). bridge.memories.a.promised) is)) had
+      at_side B page had = stay page had
 
 -- a post leaves the pages, and depends on none
 posted-promised : (bridge : Bridge) (side : Side) (write : PostedWrite) (a b : List ℕ) → with_posted (with_promised bridge a b) side write ≡ with_promised (with_posted bridge side write) a b
@@ -59,11 +59,11 @@ posted_more old mid new side write up more is =
     subst (λ (before : Bridge). HasMorePages before new) (sym up_is)
     (record {
       rest = is ∙ ap (λ (bridge : Bridge). with_posted bridge side write) more.rest
-      ∙ posted-promised old side write mid.memories.a.promised mid.memories.b.promised
-      ∙ ap (λ a. with_promised (with_posted old side write) a mid.memories.b.promised) (sym (pages A))
-      ∙ ap (λ b. with_promised (with_posted old side write) new.memories.a.promised b) (sym (pages B));
+          ∙ posted-promised old side write mid.memories.a.promised mid.memories.b.promised
+          ∙ ap (λ a. with_promised (with_posted old side write) a mid.memories.b.promised) (sym (pages A))
+          ∙ ap (λ b. with_promised (with_posted old side write) new.memories.a.promised b) (sym (pages B));
       stay = λ any page had.
-        subst (λ pages. Contains pages page) (sym (pages any)) (more.stay any page (subst (λ pages. Contains pages page) (posted-pages old side any write) had));
+          subst (λ pages. Contains pages page) (sym (pages any)) (more.stay any page (subst (λ pages. Contains pages page) (posted-pages old side any write) had));
     })
 
 checked-pages : (bridge : Bridge) (side : Side) (answer : CheckAnswer) → pages_of (after_answer bridge side answer) side ≡ pages_of bridge side

@@ -71,8 +71,19 @@ fn register_step(pair: &mut Pair, alloc: Global, step: &Step) -> Result<Answer, 
         }),
         Step::Mask { side, bits, .. } => Ok(mask(pair, *side, *bits)),
         Step::Unmask { side, bits, .. } => Ok(unmask(pair, *side, *bits)),
-        Step::Spad { side, index, value, .. } => spad(pair, *side, *index, *value),
-        Step::Poke { side, window, offset, bytes, .. } => poke(pair, *side, *window, *offset, bytes),
+        Step::Spad {
+            side,
+            index,
+            value,
+            ..
+        } => spad(pair, *side, *index, *value),
+        Step::Poke {
+            side,
+            window,
+            offset,
+            bytes,
+            ..
+        } => poke(pair, *side, *window, *offset, bytes),
         Step::ShowMem { side, at, len, .. } => shown_memory(pair, alloc, *side, *at, *len),
         Step::ShowPad { side, index, .. } => Ok(Answer::PadValue {
             value: pair.pad(*side, *index),
@@ -158,13 +169,27 @@ fn poke(
     let peer = side.other();
     let at = own_address(pair.plan(), peer, window, offset);
     pair.promise_range(peer, at, u64::from(len))?;
-    let label = Label::Raw { window, offset, len };
-    post_aside(pair, side, Write::memory(label, window, offset, bytes.bytes()))?;
+    let label = Label::Raw {
+        window,
+        offset,
+        len,
+    };
+    post_aside(
+        pair,
+        side,
+        Write::memory(label, window, offset, bytes.bytes()),
+    )?;
     Ok(Answer::Ok)
 }
 
 // Bytes of a side's memory.
-fn shown_memory(pair: &Pair, alloc: Global, side: Side, at: u64, len: u32) -> Result<Answer, AllocError>
+fn shown_memory(
+    pair: &Pair,
+    alloc: Global,
+    side: Side,
+    at: u64,
+    len: u32,
+) -> Result<Answer, AllocError>
     requires within { at + len ≤ memory_size pair.now.plan side }
     requires few { len ≤ 64 }
     ensures { IfOk result (λ given. given ≡ answer.Mem (bytes_at at len (bytes_of pair.now side))) }

@@ -83,7 +83,9 @@ impl Fabric {
     {
         let pair = &self.pairs[lane.pair as usize];
         let accepted = pair.queue(lane.from, lane.queue).accepted_in(session);
-        let delivered = pair.queue(lane.from.other(), lane.queue).delivered_in(session);
+        let delivered = pair
+            .queue(lane.from.other(), lane.queue)
+            .delivered_in(session);
         (accepted, delivered)
     }
 

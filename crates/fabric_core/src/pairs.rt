@@ -52,7 +52,12 @@ impl PairBox {
     /// # Errors
     ///
     /// [`AllocError`] from want of memory alone.
-    pub fn new(alloc: Global, devs: &[DevPlan], plan: &PairPlan, k: u32) -> Result<PairBox, AllocError>
+    pub fn new(
+        alloc: Global,
+        devs: &[DevPlan],
+        plan: &PairPlan,
+        k: u32,
+    ) -> Result<PairBox, AllocError>
         requires declared { IsPair plan.now }
         requires alone { AreAlone devs.now k }
         ensures { IfOk result (λ kept. IsFreshPair devs.now plan.now k (record { a = pages_of kept.bridge A; b = pages_of kept.bridge B }) kept) }
@@ -98,7 +103,13 @@ impl PairBox {
     }
 
     // Makes a step on one of a side's queues.
-    fn queue_step(&mut self, side: Side, queue: u32, devs: &[DevPlan], step: &Step) -> Result<Answer, AllocError>
+    fn queue_step(
+        &mut self,
+        side: Side,
+        queue: u32,
+        devs: &[DevPlan],
+        step: &Step,
+    ) -> Result<Answer, AllocError>
         requires agrees { Agrees self.old.bridge }
         requires among { queue < (side_plan_of self.old.bridge.plan side).queues }
         requires can { CanTurnQueue devs.now step.now }

@@ -13,7 +13,9 @@ ghost use Rattle.plan_model.specs.DeclaredPlans.{IsPair};
 ghost use Rattle.plan_model.specs.Plans.{side_plan as side_plan_of};
 ghost use Rattle.queue_pair.specs.Gates.{is_joined};
 
-use crate::answers::{ack_answer, begin_answer, clear_answer, copy_answer, look_answer, post_answer};
+use crate::answers::{
+    ack_answer, begin_answer, clear_answer, copy_answer, look_answer, post_answer,
+};
 use crate::counting::{accepted, can_deliver, can_send, delivered, no_counts, refused};
 use crate::counts::SessionCounts;
 use bridge_pair::Pair;
@@ -47,7 +49,14 @@ impl Model for QueueBox {
 
 impl QueueBox {
     /// A queue before any step, with the limits of the device on it.
-    pub fn new(alloc: Global, plan: &PairPlan, side: Side, queue: u32, stop: u32, start: u32) -> QueueBox
+    pub fn new(
+        alloc: Global,
+        plan: &PairPlan,
+        side: Side,
+        queue: u32,
+        stop: u32,
+        start: u32,
+    ) -> QueueBox
         requires declared { IsPair plan.now }
         requires among { queue < (side_plan_of plan.now side).queues }
         ensures { result ≡ fresh_part plan.now side queue stop start }
@@ -66,7 +75,13 @@ impl QueueBox {
     /// # Errors
     ///
     /// [`AllocError`] from want of memory alone. Further pages of the pair may then be promised, and nothing else changes.
-    pub fn make(&mut self, pair: &mut Pair, alloc: Global, devs: &[DevPlan], step: &Step) -> Result<Answer, AllocError>
+    pub fn make(
+        &mut self,
+        pair: &mut Pair,
+        alloc: Global,
+        devs: &[DevPlan],
+        step: &Step,
+    ) -> Result<Answer, AllocError>
         requires plan { pair.old.plan ≡ self.old.queue.port.plan }
         requires fits { is_joined self.old.queue pair.old ≡ true → FitsRings self.old.queue.port.plan }
         requires room { HasRoomIn self.old.queue.port pair.old }
@@ -83,7 +98,13 @@ impl QueueBox {
         match step {
             Step::Begin { frame, .. } => self.begin(pair, frame.copy_of(alloc)?),
             Step::QpDown { .. } => self.qpdown(pair),
-            Step::Xbegin { dev, dst, kind, payload, .. } => {
+            Step::Xbegin {
+                dev,
+                dst,
+                kind,
+                payload,
+                ..
+            } => {
                 let from = devs[*dev as usize].address;
                 let frame = encode(alloc, *dst, from, *kind, payload.bytes())?;
                 self.xbegin(pair, frame)

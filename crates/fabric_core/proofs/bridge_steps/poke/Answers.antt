@@ -33,7 +33,7 @@ post_aside-requires-clause-pages c =
     (subst (λ n. ArePromised c.own_address-at.result n (pages_of mid c.other-peer.result)) c.from.ensures c.in_ok-promise_range.ensures.ok) in
     subst (λ (write : PostedWrite). HasPages pages (arrival_of mid.plan c.args.side write.target)) (sym c.memory.ensures)
     (promised_there mid.plan c.plan.result.now c.args.side c.other-peer.result c.args.window c.args.offset c.own_address-at.result c.len-len.result c.bytes.result.now pages plans c.other-peer.ensures
-      c.own_address-at.ensures.value (c.len-len.ensures.value ∙ ap length (sym c.bytes.ensures.value)) promised)
+    c.own_address-at.ensures.value (c.len-len.ensures.value ∙ ap length (sym c.bytes.ensures.value)) promised)
 
 pub returns-in_err-promise_range-clause-err : goal.returns-in_err-promise_range-clause-err
 returns-in_err-promise_range-clause-err c =
@@ -43,7 +43,7 @@ pub returns-in_err-post_aside-clause-err : goal.returns-in_err-post_aside-clause
 returns-in_err-post_aside-clause-err c =
     on_err _
     (subst (λ (bridge : Bridge). HasMorePages c.args.pair.now bridge) (sym c.in_err-post_aside.ensures.err)
-      (more_pages c.args.pair.now c.promise_range.new.self c.other-peer.result c.promise_range.ensures.rest c.promise_range.ensures.pages.stay))
+    (more_pages c.args.pair.now c.promise_range.new.self c.other-peer.result c.promise_range.ensures.rest c.promise_range.ensures.pages.stay))
 
 pub returns-clause-after : goal.returns-clause-after
 returns-clause-after c =
