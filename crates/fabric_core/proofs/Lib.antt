@@ -1,0 +1,3 @@
+pub mod Keeping
+pub mod MorePages
+pub mod SessionTallies

@@ -1,0 +1,91 @@
+-- Bridges that differ in promised pages alone.
+use Rattle.std.proofs.Common.{◌≡◌, ◌∙◌, ℕ, ◌+◌, ◌≤◌, Bool, true, false, Contains, List, Result, Ok, Err, OnErr, OnOk, refl, sym, ap, subst, arith}
+use Rattle.step_kinds.specs.Sides.{other_side}
+use Rattle.step_kinds.specs.declared.names.Side.{Side}
+use Rattle.step_kinds.specs.declared.names.Side.TheVariants.{A, B}
+use Rattle.step_kinds.specs.declared.steps.Step.{Step}
+use Rattle.step_kinds.specs.declared.steps.Step.TheVariants.{Enable, Train, Break, DropDone, Offer, Check, Ready, Join}
+use Rattle.bridge_pair.specs.Bridge.{Bridge, pages_of, with_bytes, with_pages}
+use Rattle.bridge_pair.specs.Writes.{PostedWrite}
+use Rattle.fabric_rule.specs.Moves.{posted_aside}
+use Rattle.fabric_rule.specs.Parts.{plain_bridge}
+use Rattle.hand_shake.specs.Checks.{after_answer, after_check, check_answer}
+use Rattle.hand_shake.specs.Offers.{with_posted}
+use Rattle.hand_shake.specs.declared.CheckAnswer.{CheckAnswer}
+use Rattle.hand_shake.specs.declared.CheckAnswer.TheVariants.{Up}
+use Rattle.plan_model.specs.Link.{is_up}
+use Rattle.fabric_core.specs.Promised.{HasMorePages, with_promised}
+use Rattle.fabric_core.specs.Turns.{BridgeTurn, bridge_turn, register_turn}
+
+pub on_err : {X E : Type 0} {P : Type 0} (result : Result X E) → P → OnErr result P
+on_err (Ok x) p = tt
+on_err (Err e) p = p
+
+pub more_pages : (old new : Bridge) (side : Side) → new ≡ with_pages old side (pages_of new side)
+    → ((page : ℕ) → Contains (pages_of old side) page → Contains (pages_of new side) page) → HasMorePages old new
+more_pages old new A is stay =
+    let other : new.memories.b.promised ≡ old.memories.b.promised = ap (λ (bridge : Bridge). bridge.memories.b.promised) is in
+    record {
+      rest = is ∙ ap (λ pages. with_promised old new.memories.a.promised pages) (sym other);
+      stay = at_side;
+    } where
+      at_side : (side : Side) (page : ℕ) → Contains (pages_of old side) page → Contains (pages_of new side) page
+      at_side A page had = stay page had
+      at_side B page had = subst (λ pages. Contains pages page) (sym (ap (λ (bridge : Bridge). bridge.memories.b.promised) is)) had
+more_pages old new B is stay =
+    let other : new.memories.a.promised ≡ old.memories.a.promised = ap (λ (bridge : Bridge). bridge.memories.a.promised) is in
+    record {
+      rest = is ∙ ap (λ pages. with_promised old pages new.memories.b.promised) (sym other);
+      stay = at_side;
+    } where
+      at_side : (side : Side) (page : ℕ) → Contains (pages_of old side) page → Contains (pages_of new side) page
+      at_side A page had = subst (λ pages. Contains pages page) (sym (ap (λ (bridge : Bridge). bridge.memories.a.promised) is)) had
+      at_side B page had = stay page had
+
+-- a post leaves the pages, and depends on none
+posted-promised : (bridge : Bridge) (side : Side) (write : PostedWrite) (a b : List ℕ) → with_posted (with_promised bridge a b) side write ≡ with_promised (with_posted bridge side write) a b
+posted-promised bridge A write a b = refl
+posted-promised bridge B write a b = refl
+
+posted-pages : (bridge : Bridge) (side any : Side) (write : PostedWrite) → pages_of (with_posted bridge side write) any ≡ pages_of bridge any
+posted-pages bridge A any write = refl
+posted-pages bridge B any write = refl
+
+pub posted_more : (old mid new : Bridge) (side : Side) (write : PostedWrite) → is_up old.link.state ≡ true → HasMorePages old mid → new ≡ with_posted mid side write
+    → HasMorePages (posted_aside old side write) new
+posted_more old mid new side write up more is =
+    let pages = λ (any : Side). ap (λ (bridge : Bridge). pages_of bridge any) is ∙ posted-pages mid side any write in
+    let up_is : posted_aside old side write ≡ with_posted old side write = rw up refl in
+    subst (λ (before : Bridge). HasMorePages before new) (sym up_is)
+    (record {
+      rest = is ∙ ap (λ (bridge : Bridge). with_posted bridge side write) more.rest
+          ∙ posted-promised old side write mid.memories.a.promised mid.memories.b.promised
+          ∙ ap (λ a. with_promised (with_posted old side write) a mid.memories.b.promised) (sym (pages A))
+          ∙ ap (λ b. with_promised (with_posted old side write) new.memories.a.promised b) (sym (pages B));
+      stay = λ any page had.
+          subst (λ pages. Contains pages page) (sym (pages any)) (more.stay any page (subst (λ pages. Contains pages page) (posted-pages old side any write) had));
+    })
+
+checked-pages : (bridge : Bridge) (side : Side) (answer : CheckAnswer) → pages_of (after_answer bridge side answer) side ≡ pages_of bridge side
+checked-pages bridge A Up = refl
+checked-pages bridge B Up = refl
+checked-pages bridge side answer = refl
+
+pub checked_more : (old new : Bridge) (side : Side) → new ≡ with_pages (after_check old side) side (pages_of new side)
+    → ((page : ℕ) → Contains (pages_of old side) page → Contains (pages_of new side) page) → HasMorePages (after_check old side) new
+checked_more old new side is stay =
+    more_pages (after_check old side) new side is (λ page had. stay page (subst (λ pages. Contains pages page) (checked-pages old side (check_answer old side)) had))
+
+pub by_register : (bridge : Bridge) (step : Step) → ((p : ℕ) (side : Side) → step ≡ Enable p side → ⊥) → ((p : ℕ) → step ≡ Train p → ⊥) → ((p : ℕ) → step ≡ Break p → ⊥)
+    → ((p : ℕ) → step ≡ DropDone p → ⊥) → ((p : ℕ) (side : Side) → step ≡ Offer p side → ⊥) → ((p : ℕ) (side : Side) → step ≡ Check p side → ⊥)
+    → ((p : ℕ) (side : Side) (queue : ℕ) → step ≡ Ready p side queue → ⊥) → ((p : ℕ) (side : Side) (queue : ℕ) → step ≡ Join p side queue → ⊥)
+    → bridge_turn bridge step ≡ register_turn bridge step
+by_register bridge (Enable p side) enable train cut drop offer check ready join = absurd (enable p side refl)
+by_register bridge (Train p) enable train cut drop offer check ready join = absurd (train p refl)
+by_register bridge (Break p) enable train cut drop offer check ready join = absurd (cut p refl)
+by_register bridge (DropDone p) enable train cut drop offer check ready join = absurd (drop p refl)
+by_register bridge (Offer p side) enable train cut drop offer check ready join = absurd (offer p side refl)
+by_register bridge (Check p side) enable train cut drop offer check ready join = absurd (check p side refl)
+by_register bridge (Ready p side queue) enable train cut drop offer check ready join = absurd (ready p side queue refl)
+by_register bridge (Join p side queue) enable train cut drop offer check ready join = absurd (join p side queue refl)
+by_register bridge step enable train cut drop offer check ready join = refl

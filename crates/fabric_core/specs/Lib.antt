@@ -1,0 +1,11 @@
+pub mod Counts
+pub mod Fabric
+pub mod Fabrics
+pub mod Numbers
+pub mod PairBoxes
+pub mod Parts
+pub mod Pinned
+pub mod Promised
+pub mod QueueBoxes
+pub mod Sessions
+pub mod Turns

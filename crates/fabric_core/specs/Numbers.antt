@@ -1,0 +1,18 @@
+-- Numbers that could grow without end: where one of them is this large, want of memory is answered before it is needed.
+use Rattle.std.specs.Prelude.{ℕ, ◌<◌, ◌^◌}
+use Rattle.step_kinds.specs.declared.plan.Counters.{Counters}
+
+abbrev pub most_count : ℕ
+most_count = 2 ^ 62
+
+-- one more frame can be counted as sent or refused
+pub record HasRoomToSend (counters : Counters) : Type 0 where
+  pub tx : counters.tx < most_count
+  pub tx_bytes : counters.tx_bytes < most_count
+  pub refused : counters.refused < most_count
+
+-- and one more as delivered
+pub record HasRoomToDeliver (counters : Counters) : Type 0 where
+  pub rx : counters.rx < most_count
+  pub rx_bytes : counters.rx_bytes < most_count
+  pub short : counters.short < most_count

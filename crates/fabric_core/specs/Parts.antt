@@ -1,0 +1,113 @@
+-- What a step on a queue needs, and what it keeps of all that was promised.
+use Rattle.std.specs.Prelude.{◌≡◌, ℕ, ◌+◌, ◌<◌, ◌≤◌, true, false, Contains, List, [], length, slice_index_or}
+use Rattle.std.specs.List.{sum_by}
+use Rattle.step_kinds.specs.Bits.{has_bit}
+use Rattle.step_kinds.specs.Sides.{other_side}
+use Rattle.step_kinds.specs.declared.names.Side.{Side}
+use Rattle.step_kinds.specs.declared.plan.DevPlan.{DevPlan}
+use Rattle.step_kinds.specs.declared.plan.PairPlan.{PairPlan}
+use Rattle.step_kinds.specs.declared.steps.Step.{Step}
+use Rattle.step_kinds.specs.declared.steps.Step.TheVariants.{Begin, Xbegin}
+use Rattle.bridge_pair.specs.Bridge.{Bridge, book_of, flight_of, pages_of, with_flight}
+use Rattle.bridge_pair.specs.Words.{WindowsFit}
+use Rattle.frame_ring.specs.Port.{PortState, unused_of}
+use Rattle.frame_ring.specs.Seen.{FitsRings, HasPagesIn}
+use Rattle.hand_shake.specs.Checks.{check_answer}
+use Rattle.hand_shake.specs.declared.CheckAnswer.TheVariants.{Up}
+use Rattle.plan_model.specs.DeclaredPlans.{IsPayload, SameQueue}
+use Rattle.plan_model.specs.Device.{no_counts}
+use Rattle.plan_model.specs.Plans.{dev_plan, side_plan}
+use Rattle.queue_pair.specs.Queue.{fresh_queue}
+use Rattle.fabric_rule.specs.Parts.{PairState, QueuePart, no_queue, queue_of, queues_of}
+use Rattle.fabric_rule.specs.Laws.{IsFreshQueue}
+use Rattle.fabric_rule.specs.StandsFor.{IsOn}
+use Rattle.fabric_core.specs.Promised.{CanTurn}
+use Rattle.fabric_core.specs.Turns.{place_of}
+use Rattle.fabric_core.specs.declared.places.StepPlace.{StepPlace}
+use Rattle.fabric_core.specs.declared.places.StepPlace.TheVariants.{OnQueue}
+
+-- a queue before any step, whose device has these limits
+abbrev pub fresh_part : PairPlan → Side → ℕ → ℕ → ℕ → QueuePart
+fresh_part plan side queue stop start =
+    record {
+      queue = fresh_queue plan side queue;
+      flow = record { stop = stop; start = start; stopped = false };
+      counters = no_counts;
+      accepted = [];
+      delivered = [];
+    }
+
+-- what a step on a queue needs of what it carries
+abbrev pub CanTurnQueue : List DevPlan → Step → Type 0
+CanTurnQueue devs (Begin p side queue frame) = 0 < length frame
+CanTurnQueue devs (Xbegin p side queue dev dst kind payload) = (dev < length devs) × IsPayload dst kind payload
+CanTurnQueue devs step = Unit {0}
+
+-- What a call of a port keeps: its own promises are there still, the room grows with what it hasn't used, no page that was promised
+-- is lost, and the peer's room stays.
+pub record KeepsPort (old new : PortState) (before after : Bridge) : Type 0 where
+  pub same_plan : new.plan ≡ old.plan
+  pub same_side : new.side ≡ old.side
+  pub same_queue : new.queue ≡ old.queue
+  pub plan : after.plan ≡ before.plan
+  pub pages : (side : Side) (page : ℕ) → Contains (pages_of before side) page → Contains (pages_of after side) page
+  pub room : (flight_of before old.side).spare + unused_of new ≤ (flight_of after old.side).spare + unused_of old
+  pub peer_room : (flight_of before (other_side old.side)).spare ≤ (flight_of after (other_side old.side)).spare
+  pub ready : HasPagesIn new after
+
+-- what the ports of these queues were promised and haven't used
+abbrev pub all_unused : List QueuePart → ℕ
+all_unused queues = sum_by (λ (part : QueuePart). unused_of part.queue.port) queues
+
+-- A queue of a pair: it stands at its own place, and the pages that it was promised are there.
+pub record IsInPlace (bridge : Bridge) (side : Side) (queue : ℕ) (part : QueuePart) : Type 0 where
+  pub its_plan : part.queue.port.plan ≡ bridge.plan
+  pub its_side : part.queue.port.side ≡ side
+  pub its_queue : part.queue.port.queue ≡ queue
+  pub ready : HasPagesIn part.queue.port bridge
+
+-- What is so of every pair: each side has all its queues, and room for all that their ports were promised.
+pub record IsWhole (state : PairState) : Type 0 where
+  pub all_queues : (side : Side) → length (queues_of state side) ≡ (side_plan state.bridge.plan side).queues
+  pub queues : (side : Side) (queue : ℕ) → queue < (side_plan state.bridge.plan side).queues → IsInPlace state.bridge side queue (queue_of state side queue)
+  pub room : (side : Side) → all_unused (queues_of state side) ≤ (flight_of state.bridge side).spare
+
+-- a queue is joined on a side only where its rings fit, and a side that would come up has windows that fit
+pub record Agrees (bridge : Bridge) : Type 0 where
+  pub joined : (side : Side) (queue : ℕ) → has_bit (book_of bridge side).joined queue ≡ true → FitsRings bridge.plan
+  pub up : (side : Side) → check_answer bridge side ≡ Up → WindowsFit bridge.plan side
+
+-- what a step needs, wherever it is made
+abbrev pub HasPlace : Bridge → StepPlace → Type 0
+HasPlace bridge (OnQueue side queue) = queue < (side_plan bridge.plan side).queues
+HasPlace bridge place = Unit {0}
+
+pub record CanMake (devs : List DevPlan) (bridge : Bridge) (step : Step) : Type 0 where
+  pub place : HasPlace bridge (place_of step)
+  pub queue : CanTurnQueue devs step
+  pub bridge : CanTurn bridge step
+
+-- no two devices of the pair are on one queue
+abbrev pub AreAlone : List DevPlan → ℕ → Type 0
+AreAlone devs k =
+    (i j : ℕ) → i < length devs → j < length devs → (dev_plan devs i).pair ≡ k → SameQueue (dev_plan devs i) (dev_plan devs j) → i ≡ j
+
+-- these are the limits of the device on the queue, where there is one
+abbrev pub AreLimitsOn : List DevPlan → ℕ → Side → ℕ → ℕ → ℕ → Type 0
+AreLimitsOn devs k side queue stop start =
+    (d : ℕ) → d < length devs → IsOn (dev_plan devs d) k side queue → (stop ≡ (dev_plan devs d).stop) × (start ≡ (dev_plan devs d).start)
+
+-- the queues of a side before any step
+pub record AreFreshQueues (devs : List DevPlan) (plan : PairPlan) (k : ℕ) (side : Side) (queues : List QueuePart) : Type 0 where
+  pub all_queues : length queues ≡ (side_plan plan side).queues
+  pub queues : (queue : ℕ) → queue < (side_plan plan side).queues → IsFreshQueue devs plan k side queue (slice_index_or queues queue no_queue)
+
+-- the queues of one side of a bridge, which has room for what they haven't used
+pub record CanForget (bridge : Bridge) (side : Side) (queues : List QueuePart) : Type 0 where
+  pub its_plan : (k : ℕ) → k < length queues → (slice_index_or queues k no_queue).queue.port.plan ≡ bridge.plan
+  pub its_side : (k : ℕ) → k < length queues → (slice_index_or queues k no_queue).queue.port.side ≡ side
+  pub room : all_unused queues ≤ (flight_of bridge side).spare
+
+-- a bridge that differs in the room of a side alone
+pub record HasOtherRoom (old : Bridge) (side : Side) (new : Bridge) : Type 0 where
+  pub rest : new ≡ with_flight old side (record { writes = (flight_of old side).writes; spare = (flight_of new side).spare })

@@ -1,0 +1,166 @@
+-- What a step does to the part of a pair that it touches: to one queue and the bridge, or to the bridge alone.
+use Rattle.std.specs.Prelude.{ℕ, Bool, true, false, List, [], length, if◌then◌else◌}
+use Rattle.step_kinds.specs.declared.names.Side.{Side}
+use Rattle.step_kinds.specs.declared.plan.DevPlan.{DevPlan}
+use Rattle.step_kinds.specs.declared.steps.Answer.{Answer}
+use Rattle.step_kinds.specs.declared.steps.Answer.TheVariants.{Ok as Done, OkNumber, Stopped, Awake}
+use Rattle.step_kinds.specs.declared.steps.Step.{Step}
+use Rattle.step_kinds.specs.declared.steps.Step.TheVariants.{Enable, Train, Break, DropDone, Clean, Offer, Check, Ready, Join, Begin, QpDown, Xbegin, Post, Land, Look, Copy, Clear, Ack, Wake, Irq, Mask, Unmask, Spad, Poke, ShowMem, ShowPad, ShowQueue}
+use Rattle.plan_model.specs.Both.{both_of}
+use Rattle.plan_model.specs.Device.{count_accepted, count_refused, stays_stopped, stopped_after_send}
+use Rattle.plan_model.specs.Ethernet.{ethernet_frame}
+use Rattle.plan_model.specs.Plans.{dev_plan}
+use Rattle.bridge_pair.specs.Bridge.{Bridge}
+use Rattle.frame_ring.specs.Calls.{post_answer, after_post, posted_by, copy_answer, after_copy, clear_answer, after_clear, cleared_by, ack_answer, after_ack, acked_by, free_answer}
+use Rattle.queue_pair.specs.Gates.{begin_answer, after_begin, qpdown_answer, after_qpdown, look_answer, after_look}
+use Rattle.queue_pair.specs.Queue.{with_port}
+use Rattle.fabric_rule.specs.Answers.{of_begin, of_xbegin, of_post, of_look, of_copy, of_clear, of_ack}
+use Rattle.fabric_rule.specs.Moves.{Move, accepted_where_begun, break_move, check_move, delivered_where_whole, drop_move, enable_move, irq_move, join_move, land_move, mask_move, offer_move, poke_move, ready_move, show_mem_move, show_pad_move, show_queue_move, spad_move, train_move, unmask_move, xbegun}
+use Rattle.fabric_rule.specs.Parts.{PairState, QueuePart, queue_of, with_bridge, with_queue}
+use Rattle.fabric_core.specs.declared.places.StepPlace.{StepPlace}
+use Rattle.fabric_core.specs.declared.places.StepPlace.TheVariants.{OnQueue, OnSide, OnBridge}
+
+-- Where a step is made: on a queue of a side, on all queues of a side, or on the bridge alone.
+abbrev pub place_of : Step → StepPlace
+place_of (Begin p side queue frame) = OnQueue side queue
+place_of (QpDown p side queue) = OnQueue side queue
+place_of (Xbegin p side queue dev dst kind payload) = OnQueue side queue
+place_of (Post p side queue) = OnQueue side queue
+place_of (Look p side queue) = OnQueue side queue
+place_of (Copy p side queue) = OnQueue side queue
+place_of (Clear p side queue) = OnQueue side queue
+place_of (Ack p side queue) = OnQueue side queue
+place_of (Wake p side queue dev) = OnQueue side queue
+place_of (Clean p side) = OnSide side
+place_of step = OnBridge
+
+-- The bridge alone
+
+pub record BridgeTurn : Type 0 where
+  pub answer : Answer
+  pub bridge : Bridge
+
+-- a pair without queues
+abbrev pub bare_pair : Bridge → PairState
+bare_pair bridge = record { bridge = bridge; queues = both_of [] }
+
+abbrev pub of_move : Move → BridgeTurn
+of_move move = record { answer = move.answer; bridge = move.after.bridge }
+
+-- landings, registers and what is shown; other steps do nothing here
+abbrev pub register_turn : Bridge → Step → BridgeTurn
+register_turn bridge (Land p side place) = of_move (land_move (bare_pair bridge) side place)
+register_turn bridge (Irq p side) = of_move (irq_move (bare_pair bridge) side)
+register_turn bridge (Mask p side bits) = of_move (mask_move (bare_pair bridge) side bits)
+register_turn bridge (Unmask p side bits) = of_move (unmask_move (bare_pair bridge) side bits)
+register_turn bridge (Spad p side i value) = of_move (spad_move (bare_pair bridge) side i value)
+register_turn bridge (Poke p side window offset bytes) = of_move (poke_move (bare_pair bridge) side window offset bytes)
+register_turn bridge (ShowMem p side at len) = of_move (show_mem_move (bare_pair bridge) side at len)
+register_turn bridge (ShowPad p side i) = of_move (show_pad_move (bare_pair bridge) side i)
+register_turn bridge (ShowQueue p side place) = of_move (show_queue_move (bare_pair bridge) side place)
+register_turn bridge step = record { answer = Done; bridge = bridge }
+
+-- the link and the handshake, and the others
+abbrev pub bridge_turn : Bridge → Step → BridgeTurn
+bridge_turn bridge (Enable p side) = of_move (enable_move (bare_pair bridge) side)
+bridge_turn bridge (Train p) = of_move (train_move (bare_pair bridge))
+bridge_turn bridge (Break p) = of_move (break_move (bare_pair bridge))
+bridge_turn bridge (DropDone p) = of_move (drop_move (bare_pair bridge))
+bridge_turn bridge (Offer p side) = of_move (offer_move (bare_pair bridge) side)
+bridge_turn bridge (Check p side) = of_move (check_move (bare_pair bridge) side)
+bridge_turn bridge (Ready p side queue) = of_move (ready_move (bare_pair bridge) side queue)
+bridge_turn bridge (Join p side queue) = of_move (join_move (bare_pair bridge) side queue)
+bridge_turn bridge step = register_turn bridge step
+
+-- One queue
+
+pub record QueueTurn : Type 0 where
+  pub answer : Answer
+  pub part : QueuePart
+  pub bridge : Bridge
+
+abbrev pub begin_turn : QueuePart → Bridge → List ℕ → QueueTurn
+begin_turn part bridge frame =
+    let answer = of_begin (begin_answer part.queue bridge (length frame)) in
+    record {
+      answer = answer;
+      part = accepted_where_begun answer bridge.link.session (record part { queue = after_begin part.queue bridge frame });
+      bridge = bridge;
+    }
+
+abbrev pub qpdown_turn : QueuePart → Bridge → QueueTurn
+qpdown_turn part bridge =
+    record { answer = of_begin (qpdown_answer part.queue bridge); part = record part { queue = after_qpdown part.queue bridge }; bridge = bridge }
+
+-- a device's frame
+abbrev pub frame_turn : QueuePart → Bridge → List ℕ → QueueTurn
+frame_turn part bridge frame =
+    let answer = of_xbegin part.flow.stopped (begin_answer part.queue bridge (length frame)) in
+    record { answer = answer; part = xbegun answer (bare_pair bridge) part frame; bridge = bridge }
+
+abbrev pub xbegin_turn : DevPlan → QueuePart → Bridge → List ℕ → ℕ → List ℕ → QueueTurn
+xbegin_turn dev part bridge dst kind payload = frame_turn part bridge (ethernet_frame dst dev.address kind payload)
+
+-- a device's frame is counted, once it was begun, which left so many entries free, or refused
+abbrev pub counted_begun : Answer → QueuePart → ℕ → ℕ → QueuePart
+counted_begun (OkNumber number) part free len =
+    record part { flow = record part.flow { stopped = stopped_after_send part.flow free }; counters = count_accepted part.counters len }
+counted_begun answer part free len = record part { counters = count_refused part.counters }
+
+abbrev pub post_turn : QueuePart → Bridge → QueueTurn
+post_turn part bridge =
+    record {
+      answer = of_post (post_answer part.queue.port);
+      part = record part { queue = with_port part.queue (after_post part.queue.port) };
+      bridge = posted_by part.queue.port bridge;
+    }
+
+abbrev pub look_turn : QueuePart → Bridge → QueueTurn
+look_turn part bridge =
+    record { answer = of_look (look_answer part.queue bridge); part = record part { queue = after_look part.queue bridge }; bridge = bridge }
+
+abbrev pub copy_turn : QueuePart → Bridge → QueueTurn
+copy_turn part bridge =
+    let copy = copy_answer part.queue.port bridge in
+    record {
+      answer = of_copy copy;
+      part = delivered_where_whole copy bridge.link.session (record part { queue = with_port part.queue (after_copy part.queue.port bridge) });
+      bridge = bridge;
+    }
+
+abbrev pub clear_turn : QueuePart → Bridge → QueueTurn
+clear_turn part bridge =
+    record {
+      answer = of_clear (clear_answer part.queue.port);
+      part = record part { queue = with_port part.queue (after_clear part.queue.port) };
+      bridge = cleared_by part.queue.port bridge;
+    }
+
+abbrev pub ack_turn : QueuePart → Bridge → QueueTurn
+ack_turn part bridge =
+    record {
+      answer = of_ack (ack_answer part.queue.port);
+      part = record part { queue = with_port part.queue (after_ack part.queue.port) };
+      bridge = acked_by part.queue.port bridge;
+    }
+
+abbrev pub wake_turn : QueuePart → Bridge → QueueTurn
+wake_turn part bridge =
+    let stays = stays_stopped part.flow (free_answer part.queue.port bridge) in
+    record { answer = (if stays then Stopped else Awake); part = record part { flow = record part.flow { stopped = stays } }; bridge = bridge }
+
+abbrev pub queue_turn : List DevPlan → QueuePart → Bridge → Step → QueueTurn
+queue_turn devs part bridge (Begin p side queue frame) = begin_turn part bridge frame
+queue_turn devs part bridge (QpDown p side queue) = qpdown_turn part bridge
+queue_turn devs part bridge (Xbegin p side queue dev dst kind payload) = xbegin_turn (dev_plan devs dev) part bridge dst kind payload
+queue_turn devs part bridge (Post p side queue) = post_turn part bridge
+queue_turn devs part bridge (Look p side queue) = look_turn part bridge
+queue_turn devs part bridge (Copy p side queue) = copy_turn part bridge
+queue_turn devs part bridge (Clear p side queue) = clear_turn part bridge
+queue_turn devs part bridge (Ack p side queue) = ack_turn part bridge
+queue_turn devs part bridge (Wake p side queue dev) = wake_turn part bridge
+queue_turn devs part bridge step = record { answer = Done; part = part; bridge = bridge }
+
+-- the pair with one of its queues, and its bridge, after a turn
+abbrev pub turned : PairState → Side → ℕ → QueueTurn → Move
+turned pair side queue turn = record { answer = turn.answer; after = with_bridge (with_queue pair side queue turn.part) turn.bridge }

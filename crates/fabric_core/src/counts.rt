@@ -1,0 +1,123 @@
+//! How many frames of a lane there were in each session.
+
+ghost use Rattle.std.specs.Prelude.{◌≡◌, ◌≢◌, ◌<◌, ◌≤◌, All, IfNone, IfSome, OnErr, OnOk, ℕ, length, map, slice_index_or, true};
+ghost use Rattle.fabric_core.specs.Sessions.{AreApart, AreUpTo, IsNowhere, IsPlaceOf, count_seen, nothing_tallied};
+ghost use Rattle.fabric_rule.specs.Parts.{count_in, one_more};
+
+use std::alloc::{AllocError, Global};
+use std::marker::Model;
+
+/// How many frames are counted before want of memory is answered.
+const MOST_FRAMES: u64 = 1 << 62;
+
+/// How many frames there were in one session.
+#[derive(Clone, Copy)]
+pub struct OfSession {
+    pub session: u32,
+    pub count: u64,
+}
+
+/// How many frames there were in each session, a session without frames left out. Room for one more is taken before it is
+/// counted.
+#[derive(Drop)]
+pub struct SessionCounts {
+    counts: Vec<OfSession>,
+    most: u32,
+    made: u64,
+    has_room: bool,
+}
+
+impl Model for SessionCounts {
+    ghost use Rattle.fabric_core.specs.Sessions.{Tallied};
+
+    ghost Value = { Tallied };
+
+    ghost use Rattle.fabric_core.specs.Counts.{IsTally, tallied_seen};
+
+    ghost view = { tallied_seen };
+
+    ghost invariant = { IsTally };
+}
+
+impl SessionCounts {
+    /// No frame in any session, and no room for one. It takes no memory.
+    pub fn new(alloc: Global) -> SessionCounts
+        ensures { result ≡ nothing_tallied }
+    {
+        SessionCounts {
+            counts: Vec::new(alloc),
+            most: 0,
+            made: 0,
+            has_room: false,
+        }
+    }
+
+    /// Takes room for one more frame, in whichever session.
+    ///
+    /// # Errors
+    ///
+    /// [`AllocError`] from want of memory alone, and then nothing changes.
+    pub fn make_room(&mut self) -> Result<(), AllocError>
+        ensures ok { OnOk result (self.new ≡ record self.old { has_room = true }) }
+        ensures err { OnErr result (self.new ≡ self.old) }
+    {
+        if self.made >= MOST_FRAMES {
+            return Err(AllocError);
+        }
+        self.counts.reserve(1)?;
+        self.has_room = true;
+        Ok(())
+    }
+
+    /// Counts one more frame in a session. Room has to be there; it takes no memory.
+    pub fn one_more(&mut self, session: u32)
+        requires { self.old.has_room ≡ true }
+        ensures { self.new.counts ≡ one_more self.old.counts session }
+    {
+        match place_of(&self.counts, self.most, session) {
+            Some(place) => {
+                let one = &mut self.counts[place];
+                one.count += 1;
+            }
+            None => {
+                self.counts.push_reserved(OfSession { session, count: 1 });
+                self.most = self.most.max(session);
+            }
+        }
+        self.made += 1;
+        self.has_room = false;
+    }
+
+    /// How many frames there were in a session.
+    pub fn count_in(&self, session: u32) -> u64
+        ensures { result ≡ count_in self.now.counts session }
+    {
+        match place_of(&self.counts, self.most, session) {
+            Some(place) => self.counts[place].count,
+            None => 0,
+        }
+    }
+}
+
+// Where a session is counted: mostly at the end, where it is the last one, or nowhere, where it comes after all.
+fn place_of(counts: &[OfSession], most: u32, session: u32) -> Option<usize>
+    requires apart { AreApart (map count_seen counts.now) }
+    requires most { AreUpTo (map count_seen counts.now) most }
+    ensures found { IfSome result (λ place. IsPlaceOf (map count_seen counts.now) session place) }
+    ensures none { IfNone result (IsNowhere (map count_seen counts.now) session (length counts.now)) }
+{
+    if session > most {
+        return None;
+    }
+    if let Some(last) = counts.last()
+        && last.session == session
+    {
+        return Some(counts.len() - 1);
+    }
+    for (place, one) in counts.iter().enumerate() {
+        if one.session == session {
+            return Some(place);
+        }
+    }
+    None
+}

@@ -1,0 +1,135 @@
+//! The fabric.
+
+ghost use Rattle.std.specs.Prelude.{IfOk, IsErr, List, OnErr, OnOk, [], length, true, ◌++◌, ◌<◌, ◌∷◌, ◌≡◌};
+ghost use Rattle.std.specs.List.{AllByRecursion};
+ghost use Rattle.fabric_core.specs.Fabric.{StandsFor, accepted_of, delivered_of, may_want_memory, pair_of, plain, plan_kept};
+ghost use Rattle.fabric_core.specs.Pinned.{IsAnswered};
+ghost use Rattle.fabric_rule.specs.Parts.{queue_of};
+ghost use Rattle.plan_model.specs.DeclaredPlans.{IsDeclared, IsPermitted};
+ghost use Rattle.plan_model.specs.Plans.{dev_plan, side_plan as side_plan_of};
+ghost use Rattle.step_kinds.specs.Sides.{other_side};
+ghost use Rattle.step_kinds.specs.declared.plan.Plan.{Plan as DeclaredPlan};
+ghost use Rattle.step_kinds.specs.declared.steps.Step.{Step as MadeStep};
+
+use crate::pairs::PairBox;
+use std::alloc::{AllocError, Global};
+use std::marker::Model;
+use step_kinds::{Answer, Counters, DevPlan, LaneName, Name, Plan, Step};
+
+/// A cluster in bytes: its pairs and its devices. Contracts see both.
+#[derive(Drop)]
+pub struct Fabric {
+    devs: Vec<DevPlan>,
+    pairs: Vec<PairBox>,
+}
+
+impl Model for Fabric {
+    ghost use Rattle.fabric_core.specs.Fabric.{FabricState};
+
+    ghost Value = { FabricState };
+
+    ghost use Rattle.fabric_core.specs.Fabrics.{IsFabric, fabric_seen};
+
+    ghost view = { fabric_seen };
+
+    ghost invariant = { IsFabric };
+}
+
+impl Fabric {
+    /// The fabric of a plan before any step. The plan's pairs and devices are ones that a script can declare.
+    ///
+    /// # Errors
+    ///
+    /// [`AllocError`] from want of memory alone.
+    pub fn new(alloc: Global, plan: &Plan) -> Result<Fabric, AllocError>
+        requires { IsDeclared plan.now }
+        ensures { IfOk result (λ fabric. StandsFor plan.now [] fabric) }
+    {
+        let devs = copies(alloc, plan.devs.as_slice())?;
+        let mut pairs = Vec::new(alloc);
+        for (k, pair) in plan.pairs.as_slice().iter().enumerate() {
+            let kept = PairBox::new(alloc, &devs, pair, k as u32)?;
+            pairs.push(kept)?;
+        }
+        Ok(Fabric { devs, pairs })
+    }
+
+    /// Makes a step, which has to be one that a script of the fabric's plan may make, and answers it. Whatever steps the fabric
+    /// stands for, the answer is the ledger's after them, and it stands for them and this one then.
+    ///
+    /// # Errors
+    ///
+    /// [`AllocError`] from want of memory alone: of a step that posts, promises or hands out bytes. The fabric stands for the
+    /// same steps as before then.
+    pub fn step(&mut self, step: &Step) -> Result<Answer, AllocError>
+        requires { IsPermitted (plan_kept self.old) step.now }
+        ensures stands { (plan : DeclaredPlan) (steps : List MadeStep) → IsDeclared plan → AllByRecursion (IsPermitted plan) steps → StandsFor plan steps self.old → IfOk result (λ answer. IsAnswered plan steps step.now answer × StandsFor plan (steps ++ step.now ∷ []) self.new) }
+        ensures err { OnErr result (plain self.new ≡ plain self.old) }
+        ensures wants { IsErr result → may_want_memory step.now ≡ true }
+    {
+        let k = step.subject() as usize;
+        let pair = &mut self.pairs[k];
+        pair.make(&self.devs, step)
+    }
+
+    /// How many frames of a lane were accepted and how many delivered in a session, both 0 in a session that wasn't. The lane's
+    /// pair has to be one of the fabric's, and its queue one of both sides.
+    pub fn ledger(&self, lane: LaneName, session: u32) -> (u64, u64)
+        requires pair { lane.pair < length self.now.pairs }
+        requires sent { lane.queue < (side_plan_of (pair_of self.now lane.pair).bridge.plan lane.from).queues }
+        requires received { lane.queue < (side_plan_of (pair_of self.now lane.pair).bridge.plan (other_side lane.from)).queues }
+        ensures accepted { result.0 ≡ accepted_of self.now lane session }
+        ensures delivered { result.1 ≡ delivered_of self.now lane session }
+    {
+        let pair = &self.pairs[lane.pair as usize];
+        let accepted = pair.queue(lane.from, lane.queue).accepted_in(session);
+        let delivered = pair
+            .queue(lane.from.other(), lane.queue)
+            .delivered_in(session);
+        (accepted, delivered)
+    }
+
+    /// The number of the session that a pair is in, or was in last; 0 before the first. The pair has to be one of the fabric's.
+    pub fn sessions(&self, pair: u32) -> u32
+        requires { pair < length self.now.pairs }
+        ensures { result ≡ (pair_of self.now pair).bridge.link.session }
+    {
+        self.pairs[pair as usize].session()
+    }
+
+    /// What is counted of a device, which has to be one of the fabric's.
+    pub fn counters(&self, dev: u32) -> Counters
+        requires { dev < length self.now.devs }
+        ensures { result ≡ (queue_of (pair_of self.now (dev_plan self.now.devs dev).pair) (dev_plan self.now.devs dev).side (dev_plan self.now.devs dev).queue).counters }
+    {
+        let device = &self.devs[dev as usize];
+        let pair = &self.pairs[device.pair as usize];
+        pair.queue(device.side, device.queue).counters()
+    }
+}
+
+// The same devices.
+fn copies(alloc: Global, devs: &[DevPlan]) -> Result<Vec<DevPlan>, AllocError>
+    ensures { IfOk result (λ copies. copies.items ≡ devs.now) }
+{
+    let mut copies = Vec::new(alloc);
+    for dev in devs {
+        copies.push(copy_of(dev))?;
+    }
+    Ok(copies)
+}
+
+// The same device.
+fn copy_of(dev: &DevPlan) -> DevPlan
+    ensures { result ≡ dev.now }
+{
+    DevPlan {
+        name: Name::of_bytes(dev.name.bytes()),
+        pair: dev.pair,
+        side: dev.side,
+        queue: dev.queue,
+        address: dev.address,
+        stop: dev.stop,
+        start: dev.start,
+    }
+}

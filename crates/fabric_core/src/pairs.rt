@@ -1,0 +1,235 @@
+//! A pair with its queues.
+
+ghost use Rattle.std.specs.Prelude.{IfOk, IsErr, OnErr, OnOk, length, map, slice_index_or, slice_set, true, ◌<◌, ◌≡◌};
+ghost use Rattle.bridge_pair.specs.Bridge.{pages_of};
+ghost use Rattle.fabric_core.specs.Fabric.{may_want_memory};
+ghost use Rattle.fabric_core.specs.Parts.{Agrees, AreAlone, AreFreshQueues, AreLimitsOn, CanForget, CanMake, CanTurnQueue, HasOtherRoom, KeepsPort};
+ghost use Rattle.fabric_core.specs.Promised.{CanTurn};
+ghost use Rattle.fabric_core.specs.Turns.{bridge_turn, queue_turn, turned};
+ghost use Rattle.fabric_rule.specs.Laws.{IsFreshPair};
+ghost use Rattle.fabric_rule.specs.Moves.{bridge_move, clean_move, forgotten_queue};
+ghost use Rattle.fabric_rule.specs.Parts.{no_queue, plain_bridge, plain_pair, queue_of};
+ghost use Rattle.fabric_rule.specs.Steps.{move_of};
+ghost use Rattle.frame_ring.specs.Seen.{FitsRings, HasPagesIn, HasRoomIn};
+ghost use Rattle.plan_model.specs.DeclaredPlans.{IsPair};
+ghost use Rattle.plan_model.specs.Plans.{side_plan as side_plan_of};
+ghost use Rattle.queue_pair.specs.Gates.{is_joined};
+ghost use Rattle.step_kinds.specs.declared.names.Side.TheVariants.{A, B};
+
+use crate::answers::refusal_answer;
+use crate::bridge_steps::bridge_step;
+use crate::places::{StepPlace, place_of};
+use crate::queues::QueueBox;
+use bridge_pair::{Pair, side_plan};
+use std::alloc::{AllocError, Global};
+use std::marker::Model;
+use step_kinds::{Answer, DevPlan, PairPlan, Side, Step};
+
+/// A pair in bytes with the queues of its two sides. Contracts see both.
+#[derive(Drop)]
+pub struct PairBox {
+    pair: Pair,
+    queues_a: Vec<QueueBox>,
+    queues_b: Vec<QueueBox>,
+    alloc: Global,
+}
+
+impl Model for PairBox {
+    ghost use Rattle.fabric_rule.specs.Parts.{PairState};
+
+    ghost Value = { PairState };
+
+    ghost use Rattle.fabric_core.specs.PairBoxes.{IsPairBox, pair_seen};
+
+    ghost view = { pair_seen };
+
+    ghost invariant = { IsPairBox };
+}
+
+impl PairBox {
+    /// A pair before any step, with the limits of the devices on its queues. No two devices are on one queue.
+    ///
+    /// # Errors
+    ///
+    /// [`AllocError`] from want of memory alone.
+    pub fn new(
+        alloc: Global,
+        devs: &[DevPlan],
+        plan: &PairPlan,
+        k: u32,
+    ) -> Result<PairBox, AllocError>
+        requires declared { IsPair plan.now }
+        requires alone { AreAlone devs.now k }
+        ensures { IfOk result (λ kept. IsFreshPair devs.now plan.now k (record { a = pages_of kept.bridge A; b = pages_of kept.bridge B }) kept) }
+    {
+        Ok(PairBox {
+            pair: Pair::new(alloc, plan)?,
+            queues_a: fresh_queues(alloc, devs, plan, k, Side::A)?,
+            queues_b: fresh_queues(alloc, devs, plan, k, Side::B)?,
+            alloc,
+        })
+    }
+
+    /// Makes a step on the pair and answers it.
+    ///
+    /// # Errors
+    ///
+    /// [`AllocError`] from want of memory alone. Further pages may then be promised, and nothing else changes.
+    pub fn make(&mut self, devs: &[DevPlan], step: &Step) -> Result<Answer, AllocError>
+        requires agrees { Agrees self.old.bridge }
+        requires can { CanMake devs.now self.old.bridge step.now }
+        ensures answer { IfOk result (λ answer. answer ≡ (move_of devs.now self.old step.now).answer) }
+        ensures after { OnOk result (plain_pair self.new ≡ plain_pair (move_of devs.now self.old step.now).after) }
+        ensures err { OnErr result (plain_pair self.new ≡ plain_pair self.old) }
+        ensures wants { IsErr result → may_want_memory step.now ≡ true }
+    {
+        match place_of(step) {
+            StepPlace::OnQueue { side, queue } => self.queue_step(side, queue, devs, step),
+            StepPlace::OnSide { side } => Ok(self.clean(side)),
+            StepPlace::OnBridge => self.step_aside(step),
+        }
+    }
+
+    // Makes a step on the bridge alone.
+    fn step_aside(&mut self, step: &Step) -> Result<Answer, AllocError>
+        requires { CanTurn self.old.bridge step.now }
+        ensures answer { IfOk result (λ answer. answer ≡ (bridge_turn self.old.bridge step.now).answer) }
+        ensures after { OnOk result (plain_pair self.new ≡ plain_pair (bridge_move self.old (bridge_turn self.old.bridge step.now).answer (bridge_turn self.old.bridge step.now).bridge).after) }
+        ensures err { OnErr result (plain_pair self.new ≡ plain_pair self.old) }
+        ensures wants { IsErr result → may_want_memory step.now ≡ true }
+    {
+        let alloc = self.alloc;
+        bridge_step(&mut self.pair, alloc, step)
+    }
+
+    // Makes a step on one of a side's queues.
+    fn queue_step(
+        &mut self,
+        side: Side,
+        queue: u32,
+        devs: &[DevPlan],
+        step: &Step,
+    ) -> Result<Answer, AllocError>
+        requires agrees { Agrees self.old.bridge }
+        requires among { queue < (side_plan_of self.old.bridge.plan side).queues }
+        requires can { CanTurnQueue devs.now step.now }
+        ensures answer { IfOk result (λ answer. answer ≡ (queue_turn devs.now (queue_of self.old side queue) self.old.bridge step.now).answer) }
+        ensures after { OnOk result (plain_pair self.new ≡ plain_pair (turned self.old side queue (queue_turn devs.now (queue_of self.old side queue) self.old.bridge step.now)).after) }
+        ensures err { OnErr result (plain_pair self.new ≡ plain_pair self.old) }
+        ensures wants { IsErr result → may_want_memory step.now ≡ true }
+    {
+        let alloc = self.alloc;
+        match side {
+            Side::A => make_at(&mut self.pair, &mut self.queues_a, alloc, queue, devs, step),
+            Side::B => make_at(&mut self.pair, &mut self.queues_b, alloc, queue, devs, step),
+        }
+    }
+
+    // A side forgets the session that was lost, and its queues with it.
+    fn clean(&mut self, side: Side) -> Answer
+        ensures answer { result ≡ (clean_move self.old side).answer }
+        ensures after { plain_pair self.new ≡ plain_pair (clean_move self.old side).after }
+    {
+        match self.pair.clean(side) {
+            Ok(()) => {
+                match side {
+                    Side::A => forget_all(&mut self.pair, &mut self.queues_a, Side::A),
+                    Side::B => forget_all(&mut self.pair, &mut self.queues_b, Side::B),
+                }
+                Answer::Ok
+            }
+            Err(refusal) => refusal_answer(refusal),
+        }
+    }
+
+    /// The number of the pair's session, 0 before the first.
+    pub fn session(&self) -> u32
+        ensures { result ≡ self.now.bridge.link.session }
+    {
+        self.pair.link().session()
+    }
+
+    /// One of a side's queues.
+    pub fn queue(&self, side: Side, queue: u32) -> &QueueBox
+        requires { queue < (side_plan_of self.now.bridge.plan side).queues }
+        ensures { result.now ≡ queue_of self.now side queue }
+    {
+        match side {
+            Side::A => &self.queues_a[queue as usize],
+            Side::B => &self.queues_b[queue as usize],
+        }
+    }
+}
+
+// Makes a step on one of these queues, which are those of one side.
+fn make_at(
+    pair: &mut Pair,
+    queues: &mut Vec<QueueBox>,
+    alloc: Global,
+    queue: u32,
+    devs: &[DevPlan],
+    step: &Step,
+) -> Result<Answer, AllocError>
+    requires among { queue < length queues.old.items }
+    requires plan { pair.old.plan ≡ (slice_index_or queues.old.items queue no_queue).queue.port.plan }
+    requires fits { is_joined (slice_index_or queues.old.items queue no_queue).queue pair.old ≡ true → FitsRings (slice_index_or queues.old.items queue no_queue).queue.port.plan }
+    requires room { HasRoomIn (slice_index_or queues.old.items queue no_queue).queue.port pair.old }
+    requires pages { HasPagesIn (slice_index_or queues.old.items queue no_queue).queue.port pair.old }
+    requires step { CanTurnQueue devs.now step.now }
+    ensures answer { IfOk result (λ answer. answer ≡ (queue_turn devs.now (slice_index_or queues.old.items queue no_queue) pair.old step.now).answer) }
+    ensures queues { queues.new.items ≡ slice_set queues.old.items queue (slice_index_or queues.new.items queue no_queue) }
+    ensures after { OnOk result (slice_index_or queues.new.items queue no_queue ≡ (queue_turn devs.now (slice_index_or queues.old.items queue no_queue) pair.old step.now).part) }
+    ensures bridge { OnOk result (plain_bridge pair.new ≡ plain_bridge (queue_turn devs.now (slice_index_or queues.old.items queue no_queue) pair.old step.now).bridge) }
+    ensures err { OnErr result (queues.new.items ≡ queues.old.items) }
+    ensures err_bridge { OnErr result (plain_bridge pair.new ≡ plain_bridge pair.old) }
+    ensures keeps { KeepsPort (slice_index_or queues.old.items queue no_queue).queue.port (slice_index_or queues.new.items queue no_queue).queue.port pair.old pair.new }
+    ensures wants { IsErr result → may_want_memory step.now ≡ true }
+{
+    let part = &mut queues[queue as usize];
+    part.make(pair, alloc, devs, step)
+}
+
+// All queues of a side forget the session.
+fn forget_all(pair: &mut Pair, queues: &mut Vec<QueueBox>, side: Side)
+    requires { CanForget pair.old side queues.old.items }
+    ensures queues { queues.new.items ≡ map forgotten_queue queues.old.items }
+    ensures bridge { HasOtherRoom pair.old side pair.new }
+{
+    for number in 0..queues.len() {
+        let queue = &mut queues[number];
+        queue.forget(pair);
+    }
+}
+
+// The queues of a side before any step.
+fn fresh_queues(
+    alloc: Global,
+    devs: &[DevPlan],
+    plan: &PairPlan,
+    k: u32,
+    side: Side,
+) -> Result<Vec<QueueBox>, AllocError>
+    requires declared { IsPair plan.now }
+    requires alone { AreAlone devs.now k }
+    ensures { IfOk result (λ queues. AreFreshQueues devs.now plan.now k side queues.items) }
+{
+    let mut queues = Vec::new(alloc);
+    for queue in 0..side_plan(plan, side).queues {
+        let (stop, start) = limits_on(devs, k, side, queue);
+        queues.push(QueueBox::new(alloc, plan, side, queue, stop, start))?;
+    }
+    Ok(queues)
+}
+
+// The limits of the device on a queue, where there is one.
+fn limits_on(devs: &[DevPlan], k: u32, side: Side, queue: u32) -> (u32, u32)
+    requires { AreAlone devs.now k }
+    ensures { AreLimitsOn devs.now k side queue result.0 result.1 }
+{
+    for dev in devs {
+        if dev.pair == k && dev.side == side && dev.queue == queue {
+            return (dev.stop, dev.start);
+        }
+    }
+    (0, 0)
+}

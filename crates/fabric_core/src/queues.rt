@@ -1,0 +1,316 @@
+//! One queue of one side, with what is counted of it.
+
+ghost use Rattle.std.specs.Prelude.{IfOk, IsErr, OnErr, OnOk, length, true, ◌<◌, ◌≡◌};
+ghost use Rattle.fabric_core.specs.Numbers.{HasRoomToSend};
+ghost use Rattle.fabric_core.specs.Fabric.{may_want_memory};
+ghost use Rattle.fabric_core.specs.Parts.{CanTurnQueue, KeepsPort, fresh_part};
+ghost use Rattle.fabric_core.specs.Turns.{ack_turn, begin_turn, clear_turn, copy_turn, counted_begun, frame_turn, look_turn, post_turn, qpdown_turn, queue_turn, wake_turn};
+ghost use Rattle.fabric_rule.specs.Moves.{forgotten_queue};
+ghost use Rattle.fabric_rule.specs.Parts.{count_in, plain_bridge};
+ghost use Rattle.frame_ring.specs.Calls.{free_answer, reset_by};
+ghost use Rattle.frame_ring.specs.Seen.{FitsRings, HasPagesIn, HasRoomIn};
+ghost use Rattle.plan_model.specs.DeclaredPlans.{IsPair};
+ghost use Rattle.plan_model.specs.Plans.{side_plan as side_plan_of};
+ghost use Rattle.queue_pair.specs.Gates.{is_joined};
+
+use crate::answers::{
+    ack_answer, begin_answer, clear_answer, copy_answer, look_answer, post_answer,
+};
+use crate::counting::{accepted, can_deliver, can_send, delivered, no_counts, refused};
+use crate::counts::SessionCounts;
+use bridge_pair::Pair;
+use net_dev::{Flow, encode};
+use queue_pair::{BeginAnswer, QueuePair};
+use std::alloc::{AllocError, Global};
+use std::marker::Model;
+use step_kinds::{Answer, Counters, DevPlan, Frame, LaneCopy, PairPlan, Side, Step};
+
+/// One queue of one side: its queue pair, the flow of the device on it, and what is counted. Contracts see them as a record.
+#[derive(Drop)]
+pub struct QueueBox {
+    queue: QueuePair,
+    flow: Flow,
+    counters: Counters,
+    accepted: SessionCounts,
+    delivered: SessionCounts,
+}
+
+impl Model for QueueBox {
+    ghost use Rattle.fabric_rule.specs.Parts.{QueuePart};
+
+    ghost Value = { QueuePart };
+
+    ghost use Rattle.fabric_core.specs.QueueBoxes.{IsQueueBox, part_seen};
+
+    ghost view = { part_seen };
+
+    ghost invariant = { IsQueueBox };
+}
+
+impl QueueBox {
+    /// A queue before any step, with the limits of the device on it.
+    pub fn new(
+        alloc: Global,
+        plan: &PairPlan,
+        side: Side,
+        queue: u32,
+        stop: u32,
+        start: u32,
+    ) -> QueueBox
+        requires declared { IsPair plan.now }
+        requires among { queue < (side_plan_of plan.now side).queues }
+        ensures { result ≡ fresh_part plan.now side queue stop start }
+    {
+        QueueBox {
+            queue: QueuePair::new(alloc, plan, side, queue),
+            flow: Flow::new(stop, start),
+            counters: no_counts(),
+            accepted: SessionCounts::new(alloc),
+            delivered: SessionCounts::new(alloc),
+        }
+    }
+
+    /// Makes a step on the queue and answers it. A step that is made elsewhere changes nothing here.
+    ///
+    /// # Errors
+    ///
+    /// [`AllocError`] from want of memory alone. Further pages of the pair may then be promised, and nothing else changes.
+    pub fn make(
+        &mut self,
+        pair: &mut Pair,
+        alloc: Global,
+        devs: &[DevPlan],
+        step: &Step,
+    ) -> Result<Answer, AllocError>
+        requires plan { pair.old.plan ≡ self.old.queue.port.plan }
+        requires fits { is_joined self.old.queue pair.old ≡ true → FitsRings self.old.queue.port.plan }
+        requires room { HasRoomIn self.old.queue.port pair.old }
+        requires pages { HasPagesIn self.old.queue.port pair.old }
+        requires step { CanTurnQueue devs.now step.now }
+        ensures answer { IfOk result (λ answer. answer ≡ (queue_turn devs.now self.old pair.old step.now).answer) }
+        ensures after { OnOk result (self.new ≡ (queue_turn devs.now self.old pair.old step.now).part) }
+        ensures bridge { OnOk result (plain_bridge pair.new ≡ plain_bridge (queue_turn devs.now self.old pair.old step.now).bridge) }
+        ensures err { OnErr result (self.new ≡ self.old) }
+        ensures err_bridge { OnErr result (plain_bridge pair.new ≡ plain_bridge pair.old) }
+        ensures keeps { KeepsPort self.old.queue.port self.new.queue.port pair.old pair.new }
+        ensures wants { IsErr result → may_want_memory step.now ≡ true }
+    {
+        match step {
+            Step::Begin { frame, .. } => self.begin(pair, frame.copy_of(alloc)?),
+            Step::QpDown { .. } => self.qpdown(pair),
+            Step::Xbegin {
+                dev,
+                dst,
+                kind,
+                payload,
+                ..
+            } => {
+                let from = devs[*dev as usize].address;
+                let frame = encode(alloc, *dst, from, *kind, payload.bytes())?;
+                self.xbegin(pair, frame)
+            }
+            Step::Post { .. } => Ok(self.post(pair)),
+            Step::Look { .. } => self.look(pair),
+            Step::Copy { .. } => Ok(self.copy(pair)),
+            Step::Clear { .. } => Ok(self.clear(pair)),
+            Step::Ack { .. } => Ok(self.ack(pair)),
+            Step::Wake { .. } => Ok(self.wake(pair)),
+            _ => Ok(Answer::Ok),
+        }
+    }
+
+    // Begins a frame, and counts it where it was begun.
+    fn begin(&mut self, pair: &mut Pair, frame: Frame) -> Result<Answer, AllocError>
+        requires some { 0 < length frame }
+        requires plan { pair.old.plan ≡ self.old.queue.port.plan }
+        requires fits { is_joined self.old.queue pair.old ≡ true → FitsRings self.old.queue.port.plan }
+        requires pages { HasPagesIn self.old.queue.port pair.old }
+        ensures answer { IfOk result (λ answer. answer ≡ (begin_turn self.old pair.old frame).answer) }
+        ensures after { OnOk result (self.new ≡ (begin_turn self.old pair.old frame).part) }
+        ensures err { OnErr result (self.new ≡ self.old) }
+        ensures plain { plain_bridge pair.new ≡ plain_bridge pair.old }
+        ensures keeps { KeepsPort self.old.queue.port self.new.queue.port pair.old pair.new }
+    {
+        self.accepted.make_room()?;
+        let begun = self.queue.begin(pair, frame)?;
+        if let BeginAnswer::Ok { .. } = begun {
+            self.accepted.one_more(pair.link().session());
+        }
+        Ok(begin_answer(begun))
+    }
+
+    // Begins a device's frame, counts it, and stops the device where it leaves too few entries free; or counts a refusal.
+    fn xbegin(&mut self, pair: &mut Pair, frame: Frame) -> Result<Answer, AllocError>
+        requires some { 0 < length frame }
+        requires plan { pair.old.plan ≡ self.old.queue.port.plan }
+        requires fits { is_joined self.old.queue pair.old ≡ true → FitsRings self.old.queue.port.plan }
+        requires pages { HasPagesIn self.old.queue.port pair.old }
+        ensures answer { IfOk result (λ answer. answer ≡ (frame_turn self.old pair.old frame).answer) }
+        ensures after { OnOk result (self.new ≡ (frame_turn self.old pair.old frame).part) }
+        ensures err { OnErr result (self.new ≡ self.old) }
+        ensures plain { plain_bridge pair.new ≡ plain_bridge pair.old }
+        ensures keeps { KeepsPort self.old.queue.port self.new.queue.port pair.old pair.new }
+    {
+        if !can_send(self.counters) {
+            return Err(AllocError);
+        }
+        let len = frame.len();
+        if self.flow.stopped() && !self.queue.refuses(pair, len) {
+            self.counters = refused(self.counters);
+            return Ok(Answer::Stopped);
+        }
+        let answer = self.begin(pair, frame)?;
+        self.count_begun(pair, len, &answer);
+        Ok(answer)
+    }
+
+    // Posts the next write.
+    fn post(&mut self, pair: &mut Pair) -> Answer
+        requires plan { pair.old.plan ≡ self.old.queue.port.plan }
+        requires room { HasRoomIn self.old.queue.port pair.old }
+        requires pages { HasPagesIn self.old.queue.port pair.old }
+        ensures answer { result ≡ (post_turn self.old pair.old).answer }
+        ensures after { self.new ≡ (post_turn self.old pair.old).part }
+        ensures bridge { pair.new ≡ (post_turn self.old pair.old).bridge }
+        ensures keeps { KeepsPort self.old.queue.port self.new.queue.port pair.old pair.new }
+    {
+        post_answer(self.queue.post(pair))
+    }
+
+    // Begins a link-down entry.
+    fn qpdown(&mut self, pair: &mut Pair) -> Result<Answer, AllocError>
+        requires plan { pair.old.plan ≡ self.old.queue.port.plan }
+        requires fits { is_joined self.old.queue pair.old ≡ true → FitsRings self.old.queue.port.plan }
+        requires pages { HasPagesIn self.old.queue.port pair.old }
+        ensures answer { IfOk result (λ answer. answer ≡ (qpdown_turn self.old pair.old).answer) }
+        ensures after { OnOk result (self.new ≡ (qpdown_turn self.old pair.old).part) }
+        ensures err { OnErr result (self.new ≡ self.old) }
+        ensures plain { plain_bridge pair.new ≡ plain_bridge pair.old }
+        ensures keeps { KeepsPort self.old.queue.port self.new.queue.port pair.old pair.new }
+    {
+        let begun = self.queue.qpdown(pair)?;
+        Ok(begin_answer(begun))
+    }
+
+    // Looks for the next entry. Where one is found, the frame that it may be the last of can be counted.
+    fn look(&mut self, pair: &mut Pair) -> Result<Answer, AllocError>
+        requires plan { pair.old.plan ≡ self.old.queue.port.plan }
+        requires fits { is_joined self.old.queue pair.old ≡ true → FitsRings self.old.queue.port.plan }
+        requires pages { HasPagesIn self.old.queue.port pair.old }
+        ensures answer { IfOk result (λ answer. answer ≡ (look_turn self.old pair.old).answer) }
+        ensures after { OnOk result (self.new ≡ (look_turn self.old pair.old).part) }
+        ensures err { OnErr result (self.new ≡ self.old) }
+        ensures plain { plain_bridge pair.new ≡ plain_bridge pair.old }
+        ensures keeps { KeepsPort self.old.queue.port self.new.queue.port pair.old pair.new }
+    {
+        if !can_deliver(self.counters) {
+            return Err(AllocError);
+        }
+        self.delivered.make_room()?;
+        let look = self.queue.look(pair)?;
+        Ok(look_answer(look))
+    }
+
+    // Copies the next part of the entry at hand, and counts a frame that is delivered with it.
+    fn copy(&mut self, pair: &Pair) -> Answer
+        requires plan { pair.now.plan ≡ self.old.queue.port.plan }
+        requires pages { HasPagesIn self.old.queue.port pair.now }
+        ensures answer { result ≡ (copy_turn self.old pair.now).answer }
+        ensures after { self.new ≡ (copy_turn self.old pair.now).part }
+        ensures keeps { KeepsPort self.old.queue.port self.new.queue.port pair.now pair.now }
+    {
+        let copy = self.queue.copy(pair);
+        if let LaneCopy::Whole { frame, .. } = &copy {
+            self.counters = delivered(self.counters, frame.len());
+            self.delivered.one_more(pair.link().session());
+        }
+        copy_answer(copy)
+    }
+
+    // Zeroes the flags of the entry that was copied.
+    fn clear(&mut self, pair: &mut Pair) -> Answer
+        requires plan { pair.old.plan ≡ self.old.queue.port.plan }
+        requires pages { HasPagesIn self.old.queue.port pair.old }
+        ensures answer { result ≡ (clear_turn self.old pair.old).answer }
+        ensures after { self.new ≡ (clear_turn self.old pair.old).part }
+        ensures bridge { pair.new ≡ (clear_turn self.old pair.old).bridge }
+        ensures keeps { KeepsPort self.old.queue.port self.new.queue.port pair.old pair.new }
+    {
+        clear_answer(self.queue.clear(pair))
+    }
+
+    // Gives the entry back.
+    fn ack(&mut self, pair: &mut Pair) -> Answer
+        requires plan { pair.old.plan ≡ self.old.queue.port.plan }
+        requires room { HasRoomIn self.old.queue.port pair.old }
+        requires pages { HasPagesIn self.old.queue.port pair.old }
+        ensures answer { result ≡ (ack_turn self.old pair.old).answer }
+        ensures after { self.new ≡ (ack_turn self.old pair.old).part }
+        ensures bridge { pair.new ≡ (ack_turn self.old pair.old).bridge }
+        ensures keeps { KeepsPort self.old.queue.port self.new.queue.port pair.old pair.new }
+    {
+        ack_answer(self.queue.ack(pair))
+    }
+
+    // The device on the queue tries to go on.
+    fn wake(&mut self, pair: &Pair) -> Answer
+        requires plan { pair.now.plan ≡ self.old.queue.port.plan }
+        ensures answer { result ≡ (wake_turn self.old pair.now).answer }
+        ensures after { self.new ≡ (wake_turn self.old pair.now).part }
+    {
+        let free = self.queue.free(pair);
+        if self.flow.try_wake(free) {
+            Answer::Awake
+        } else {
+            Answer::Stopped
+        }
+    }
+
+    // A device's frame was begun or refused: it is counted, and the device stops where it leaves too few entries free.
+    fn count_begun(&mut self, pair: &Pair, len: u32, answer: &Answer)
+        requires plan { pair.now.plan ≡ self.old.queue.port.plan }
+        requires room { HasRoomToSend self.old.counters }
+        ensures { self.new ≡ counted_begun answer.now self.old (free_answer self.old.queue.port pair.now) len }
+    {
+        match answer {
+            Answer::OkNumber { .. } => {
+                let free = self.queue.free(pair);
+                self.flow.after_send(free);
+                self.counters = accepted(self.counters, len);
+            }
+            _ => self.counters = refused(self.counters),
+        }
+    }
+
+    /// Forgets the session, as the queue's side does at a clean: nothing is sent or received, and the device isn't stopped.
+    pub fn forget(&mut self, pair: &mut Pair)
+        requires plan { pair.old.plan ≡ self.old.queue.port.plan }
+        requires room { HasRoomIn self.old.queue.port pair.old }
+        ensures after { self.new ≡ forgotten_queue self.old }
+        ensures bridge { pair.new ≡ reset_by self.old.queue.port pair.old }
+    {
+        self.queue.reset(pair);
+        self.flow.reset();
+    }
+
+    /// How many frames of a session were accepted on the lane that the side sends on the queue.
+    pub fn accepted_in(&self, session: u32) -> u64
+        ensures { result ≡ count_in self.now.accepted session }
+    {
+        self.accepted.count_in(session)
+    }
+
+    /// How many frames of a session were delivered on the lane that the side receives on the queue.
+    pub fn delivered_in(&self, session: u32) -> u64
+        ensures { result ≡ count_in self.now.delivered session }
+    {
+        self.delivered.count_in(session)
+    }
+
+    /// What is counted of the device on the queue.
+    pub fn counters(&self) -> Counters
+        ensures { result ≡ self.now.counters }
+    {
+        self.counters
+    }
+}
