@@ -1,3 +1,4 @@
 pub mod Keeping
 pub mod MorePages
 pub mod SessionTallies
+pub mod Standing

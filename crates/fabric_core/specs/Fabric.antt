@@ -19,10 +19,17 @@ pub record FabricState : Type 0 where
   pub devs : List DevPlan
   pub pairs : List PairState
 
--- the pair of a number; a fresh one where there is none
+-- stands where there is no pair
+abbrev pub no_state : PairState
+no_state = record { bridge = fresh_bridge no_pair (record { a = []; b = [] }); queues = record { a = []; b = [] } }
+
+-- the pair of a number
 abbrev pub pair_of : FabricState → ℕ → PairState
-pair_of fabric k =
-    slice_index_or fabric.pairs k (record { bridge = fresh_bridge no_pair (record { a = []; b = [] }); queues = record { a = []; b = [] } })
+pair_of fabric k = slice_index_or fabric.pairs k no_state
+
+-- a plan's pairs and devices alone
+abbrev pub bare_plan : Plan → Plan
+bare_plan plan = record plan { steps = []; traffic = [] }
 
 -- the plan of the pairs and devices that it has
 abbrev pub plan_kept : FabricState → Plan

@@ -1,12 +1,11 @@
 //! The fabric.
 
 ghost use Rattle.std.specs.Prelude.{IfOk, IsErr, List, OnErr, OnOk, [], length, true, ◌++◌, ◌<◌, ◌∷◌, ◌≡◌};
-ghost use Rattle.std.specs.List.{AllByRecursion};
-ghost use Rattle.fabric_core.specs.Fabric.{StandsFor, accepted_of, delivered_of, may_want_memory, pair_of, plain, plan_kept};
-ghost use Rattle.fabric_core.specs.Pinned.{IsAnswered};
+ghost use Rattle.fabric_core.specs.Fabric.{StandsFor, accepted_of, bare_plan, delivered_of, may_want_memory, pair_of, plain, plan_kept};
+ghost use Rattle.fabric_core.specs.Pinned.{AreCounters, HasMade, IsAccepted, IsAnswered, IsDelivered, IsLikely, IsSession};
 ghost use Rattle.fabric_rule.specs.Parts.{queue_of};
-ghost use Rattle.plan_model.specs.DeclaredPlans.{IsDeclared, IsPermitted};
-ghost use Rattle.plan_model.specs.Plans.{dev_plan, side_plan as side_plan_of};
+ghost use Rattle.plan_model.specs.DeclaredPlans.{IsDeclared, IsPairOf, IsPermitted, IsQueueOf};
+ghost use Rattle.plan_model.specs.Plans.{dev_plan};
 ghost use Rattle.step_kinds.specs.Sides.{other_side};
 ghost use Rattle.step_kinds.specs.declared.plan.Plan.{Plan as DeclaredPlan};
 ghost use Rattle.step_kinds.specs.declared.steps.Step.{Step as MadeStep};
@@ -43,7 +42,8 @@ impl Fabric {
     /// [`AllocError`] from want of memory alone.
     pub fn new(alloc: Global, plan: &Plan) -> Result<Fabric, AllocError>
         requires { IsDeclared plan.now }
-        ensures { IfOk result (λ fabric. StandsFor plan.now [] fabric) }
+        ensures stands { IfOk result (λ fabric. StandsFor plan.now [] fabric) }
+        ensures plan { IfOk result (λ fabric. plan_kept fabric ≡ bare_plan plan.now) }
     {
         let devs = copies(alloc, plan.devs.as_slice())?;
         let mut pairs = Vec::new(alloc);
@@ -55,16 +55,21 @@ impl Fabric {
     }
 
     /// Makes a step, which has to be one that a script of the fabric's plan may make, and answers it. Whatever steps the fabric
-    /// stands for, the answer is the ledger's after them, and it stands for them and this one then.
+    /// stands for, the answer is the log's of those steps and this one, and then it stands for them and this one. On an ordinary
+    /// pair, that is, one that isn't declared `raw`, no step is answered `verdiffers` or `long`. It costs what it touches: no
+    /// other pair, queue or device is looked at.
     ///
     /// # Errors
     ///
     /// [`AllocError`] from want of memory alone: of a step that posts, promises or hands out bytes. The fabric stands for the
-    /// same steps as before then.
+    /// same steps as before then, and the step can be made again.
     pub fn step(&mut self, step: &Step) -> Result<Answer, AllocError>
         requires { IsPermitted (plan_kept self.old) step.now }
-        ensures stands { (plan : DeclaredPlan) (steps : List MadeStep) → IsDeclared plan → AllByRecursion (IsPermitted plan) steps → StandsFor plan steps self.old → IfOk result (λ answer. IsAnswered plan steps step.now answer × StandsFor plan (steps ++ step.now ∷ []) self.new) }
+        ensures answered { (plan : DeclaredPlan) (steps : List MadeStep) → HasMade plan steps self.old → IfOk result (λ answer. IsAnswered plan steps step.now answer × IsLikely plan step.now answer) }
+        ensures stands { (plan : DeclaredPlan) (steps : List MadeStep) → HasMade plan steps self.old → OnOk result (HasMade plan (steps ++ step.now ∷ []) self.new) }
+        ensures still_stands { (plan : DeclaredPlan) (steps : List MadeStep) → HasMade plan steps self.old → OnErr result (HasMade plan steps self.new) }
         ensures err { OnErr result (plain self.new ≡ plain self.old) }
+        ensures plan { plan_kept self.new ≡ plan_kept self.old }
         ensures wants { IsErr result → may_want_memory step.now ≡ true }
     {
         let k = step.subject() as usize;
@@ -75,11 +80,12 @@ impl Fabric {
     /// How many frames of a lane were accepted and how many delivered in a session, both 0 in a session that wasn't. The lane's
     /// pair has to be one of the fabric's, and its queue one of both sides.
     pub fn ledger(&self, lane: LaneName, session: u32) -> (u64, u64)
-        requires pair { lane.pair < length self.now.pairs }
-        requires sent { lane.queue < (side_plan_of (pair_of self.now lane.pair).bridge.plan lane.from).queues }
-        requires received { lane.queue < (side_plan_of (pair_of self.now lane.pair).bridge.plan (other_side lane.from)).queues }
-        ensures accepted { result.0 ≡ accepted_of self.now lane session }
-        ensures delivered { result.1 ≡ delivered_of self.now lane session }
+        requires sent { IsQueueOf (plan_kept self.now) lane.pair lane.from lane.queue }
+        requires received { IsQueueOf (plan_kept self.now) lane.pair (other_side lane.from) lane.queue }
+        ensures kept_accepted { result.0 ≡ accepted_of self.now lane session }
+        ensures kept_delivered { result.1 ≡ delivered_of self.now lane session }
+        ensures accepted { IsAccepted self.now lane session result.0 }
+        ensures delivered { IsDelivered self.now lane session result.1 }
     {
         let pair = &self.pairs[lane.pair as usize];
         let accepted = pair.queue(lane.from, lane.queue).accepted_in(session);
@@ -91,16 +97,18 @@ impl Fabric {
 
     /// The number of the session that a pair is in, or was in last; 0 before the first. The pair has to be one of the fabric's.
     pub fn sessions(&self, pair: u32) -> u32
-        requires { pair < length self.now.pairs }
-        ensures { result ≡ (pair_of self.now pair).bridge.link.session }
+        requires { IsPairOf (plan_kept self.now) pair }
+        ensures kept { result ≡ (pair_of self.now pair).bridge.link.session }
+        ensures counted { IsSession self.now pair result }
     {
         self.pairs[pair as usize].session()
     }
 
     /// What is counted of a device, which has to be one of the fabric's.
     pub fn counters(&self, dev: u32) -> Counters
-        requires { dev < length self.now.devs }
-        ensures { result ≡ (queue_of (pair_of self.now (dev_plan self.now.devs dev).pair) (dev_plan self.now.devs dev).side (dev_plan self.now.devs dev).queue).counters }
+        requires { dev < length (plan_kept self.now).devs }
+        ensures kept { result ≡ (queue_of (pair_of self.now (dev_plan self.now.devs dev).pair) (dev_plan self.now.devs dev).side (dev_plan self.now.devs dev).queue).counters }
+        ensures counted { AreCounters self.now dev result }
     {
         let device = &self.devs[dev as usize];
         let pair = &self.pairs[device.pair as usize];

@@ -1,0 +1,369 @@
+-- What a fabric that stands for steps lets its pairs do, and what it stands for after one more.
+use Rattle.std.proofs.Common.{◌≡◌, ◌≢◌, ◌∙◌, ℕ, ◌+◌, ◌<◌, ◌≤◌, Bool, true, false, List, [], ◌∷◌, ◌++◌, map, length, refl, sym, ap, subst, arith, ext_get_or, slice_index_or, inl, inr, ⊎_elim, ◌⊎◌}
+use Rattle.std.specs.List.{AllByRecursion}
+use Rattle.std.proofs.lemmas.Bool.{cases_eq, true≢false}
+use Rattle.std.proofs.lemmas.List.{get_or-map, length-map}
+use Rattle.step_kinds.specs.Bits.{has_bit}
+use Rattle.step_kinds.specs.Sides.{other_side}
+use Rattle.step_kinds.specs.Subject.{subject_of}
+use Rattle.step_kinds.specs.declared.names.Side.{Side}
+use Rattle.step_kinds.specs.declared.names.Side.TheVariants.{A, B}
+use Rattle.step_kinds.specs.declared.plan.DevPlan.{DevPlan}
+use Rattle.step_kinds.specs.declared.plan.PairPlan.{PairPlan}
+use Rattle.step_kinds.specs.declared.plan.Plan.{Plan}
+use Rattle.step_kinds.specs.declared.plan.SidePlan.{SidePlan}
+use Rattle.step_kinds.specs.declared.steps.Answer.{Answer}
+use Rattle.step_kinds.specs.declared.steps.Answer.TheVariants.{Up}
+use Rattle.step_kinds.specs.declared.steps.Step.{Step}
+use Rattle.step_kinds.specs.declared.steps.Step.TheVariants.{Enable, Train, Break, DropDone, Clean, Offer, Check, Ready, Join, Begin, QpDown, Xbegin, Post, Land, Look, Copy, Clear, Ack, Wake, Irq, Mask, Unmask, Spad, Poke, ShowMem, ShowPad, ShowQueue}
+use Rattle.plan_model.specs.Both.{Both, at_side}
+use Rattle.plan_model.specs.DeclaredPlans.{Agree, IsDeclared, IsDeviceOn, IsPair, IsPairOf, IsPermitted, IsPoke, IsQueueOf, IsShown, IsSide, SizesFit}
+use Rattle.plan_model.specs.Plans.{no_pair, pair_plan, side_plan}
+use Rattle.ledger_laws.proofs.Facade.{joined_means_agreement, log_of-last, no_ordinary_ver_differs_or_long, up_means_agreement}
+use Rattle.ledger_laws.specs.Laws.{Agrees as PadsAgree, HasSides, IsOrdinaryOn, IsSide as IsLawSide}
+use Rattle.ledger_model.specs.Ledger.{PairPart, side_of}
+use Rattle.ledger_model.specs.Log.{answered, ledger_of, log_of}
+use Rattle.ledger_model.specs.Next.{pair_next}
+use Rattle.memory_model.specs.Memory.{Site, bytes_of_site, memory_of, site_of}
+use Rattle.byte_laws.proofs.Facade.{site_of-elsewhere, sites_are_the_ledger, steps_of_log}
+use Rattle.bridge_pair.specs.Bridge.{Bridge, book_of}
+use Rattle.bridge_pair.specs.Words.{WindowsFit}
+use Rattle.frame_ring.specs.Seen.{FitsRings}
+use Rattle.hand_shake.specs.Checks.{check_answer}
+use Rattle.hand_shake.specs.declared.CheckAnswer.TheVariants.{Up as ComesUp}
+use Rattle.fabric_rule.specs.Answers.{of_check}
+use Rattle.fabric_rule.specs.Parts.{PairState, QueuePart, plain_bridge, plain_pair}
+use Rattle.fabric_rule.specs.StandsFor.{PairStands, SideStandsIn, bridge_for}
+use Rattle.fabric_rule.specs.Steps.{move_of}
+use Rattle.fabric_rule.proofs.Facade.{each_step_stands}
+use Rattle.fabric_core.specs.Fabric.{FabricState, StandsFor, bare_plan, no_state, pair_of, plain, plan_kept}
+use Rattle.fabric_core.specs.Parts.{Agrees, CanMake}
+use Rattle.fabric_core.specs.Pinned.{HasMade, IsAnswered, IsLikely, log_after}
+
+-- A pair that differs in promises alone
+
+same_bridge : (old new : PairState) → plain_pair new ≡ plain_pair old → plain_bridge new.bridge ≡ plain_bridge old.bridge
+same_bridge old new same = ap (λ (pair : PairState). pair.bridge) same
+
+pub stands_plain : (devs : List DevPlan) (plan : PairPlan) (k : ℕ) (site : Site) (old new : PairState) → plain_pair new ≡ plain_pair old → PairStands devs plan k site old → PairStands devs plan k site new
+stands_plain devs plan k site old new same stands =
+    record {
+      bridge = same_bridge old new same ∙ stands.bridge;
+      link = stands.link;
+      sides = λ side.
+          subst (λ (queues : Both (List QueuePart)). SideStandsIn devs plan k site.pair side (at_side queues side)) (sym (ap (λ (pair : PairState). pair.queues) same)) (stands.sides side);
+    }
+
+-- The plan of a fabric
+
+pub plan_of_pair : (devs : List DevPlan) (plan : PairPlan) (k : ℕ) (site : Site) (state : PairState) → PairStands devs plan k site state → state.bridge.plan ≡ plan
+plan_of_pair devs plan k site state stands = ap (λ (bridge : Bridge). bridge.plan) stands.bridge
+
+pub plan_of_standing : (plan : Plan) (steps : List Step) (fabric : FabricState) → StandsFor plan steps fabric → plan_kept fabric ≡ bare_plan plan
+plan_of_standing plan steps fabric stands =
+    ap (λ pairs. record { pairs = pairs; devs = fabric.devs; steps = []; traffic = [] }) pairs ∙ ap (λ devs. record { pairs = plan.pairs; devs = devs; steps = []; traffic = [] }) stands.devs
+  where
+    plan_at : PairState → PairPlan
+    plan_at pair = pair.bridge.plan
+
+    at_k : (k : ℕ) → k < length (map plan_at fabric.pairs) → slice_index_or (map plan_at fabric.pairs) k no_pair ≡ slice_index_or plan.pairs k no_pair
+    at_k k below =
+        let among : k < length plan.pairs = omega (arith, length-map plan_at fabric.pairs, stands.all_pairs, below) in
+        get_or-map plan_at fabric.pairs k _ no_pair (omega (arith, length-map plan_at fabric.pairs, below))
+        ∙ plan_of_pair plan.devs (pair_plan plan k) k (site_of plan k steps) (pair_of fabric k) (stands.pairs k among)
+
+    pairs : map plan_at fabric.pairs ≡ plan.pairs
+    pairs = ext_get_or no_pair (map plan_at fabric.pairs) plan.pairs (length-map plan_at fabric.pairs ∙ stands.all_pairs) at_k
+
+-- Steps that a plan permits
+
+queue_of_bare : (plan : Plan) (k : ℕ) (side : Side) (queue : ℕ) → IsQueueOf (bare_plan plan) k side queue → IsQueueOf plan k side queue
+queue_of_bare plan k side queue may = record { declared = may.declared; among = may.among }
+
+device_of_bare : (plan : Plan) (k : ℕ) (side : Side) (queue dev : ℕ) → IsDeviceOn (bare_plan plan) k side queue dev → IsDeviceOn plan k side queue dev
+device_of_bare plan k side queue dev may = record { declared = may.declared; its_pair = may.its_pair; its_side = may.its_side; its_queue = may.its_queue }
+
+pub permitted_bare : (plan : Plan) (step : Step) → IsPermitted (bare_plan plan) step → IsPermitted plan step
+permitted_bare plan (Enable p side) may = may
+permitted_bare plan (Train p) may = may
+permitted_bare plan (Break p) may = may
+permitted_bare plan (DropDone p) may = may
+permitted_bare plan (Clean p side) may = may
+permitted_bare plan (Offer p side) may = may
+permitted_bare plan (Check p side) may = may
+permitted_bare plan (Ready p side queue) may = queue_of_bare plan p side queue may
+permitted_bare plan (Join p side queue) may = queue_of_bare plan p side queue may
+permitted_bare plan (Begin p side queue frame) may = (queue_of_bare plan p side queue may.0, may.1)
+permitted_bare plan (QpDown p side queue) may = queue_of_bare plan p side queue may
+permitted_bare plan (Xbegin p side queue dev dst kind payload) may = (queue_of_bare plan p side queue may.0, (device_of_bare plan p side queue dev may.1, may.2))
+permitted_bare plan (Post p side queue) may = queue_of_bare plan p side queue may
+permitted_bare plan (Land p side place) may = may
+permitted_bare plan (Look p side queue) may = queue_of_bare plan p side queue may
+permitted_bare plan (Copy p side queue) may = queue_of_bare plan p side queue may
+permitted_bare plan (Clear p side queue) may = queue_of_bare plan p side queue may
+permitted_bare plan (Ack p side queue) may = queue_of_bare plan p side queue may
+permitted_bare plan (Wake p side queue dev) may = (queue_of_bare plan p side queue may.0, device_of_bare plan p side queue dev may.1)
+permitted_bare plan (Irq p side) may = may
+permitted_bare plan (Mask p side bits) may = may
+permitted_bare plan (Unmask p side bits) may = may
+permitted_bare plan (Spad p side i value) may = may
+permitted_bare plan (Poke p side window offset bytes) may = may
+permitted_bare plan (ShowMem p side at len) may = may
+permitted_bare plan (ShowPad p side i) may = may
+permitted_bare plan (ShowQueue p side place) may = may
+
+pub declared_bare : (plan : Plan) → IsDeclared plan → IsDeclared (bare_plan plan)
+declared_bare plan declared =
+    record {
+      few_pairs = declared.few_pairs;
+      pairs = declared.pairs;
+      few_devices = declared.few_devices;
+      devices = λ k below.
+          let dev = declared.devices k below in
+          record { queue = record { declared = dev.queue.declared; among = dev.queue.among }; address = dev.address; thresholds = dev.thresholds };
+      one_on_a_queue = declared.one_on_a_queue;
+    }
+
+-- the steps that are permitted are ordinary on an ordinary pair
+
+is_ordinary : (plan : Plan) (k : ℕ) → (pair_plan plan k).raw ≡ false → (step : Step) → IsPermitted plan step → IsOrdinaryOn k step
+is_ordinary plan k no_raw (Spad p side i value) may on =
+    ⊎_elim (λ own. own) (λ raw. absurd (true≢false (sym raw ∙ ap (λ j. (pair_plan plan j).raw) on ∙ no_raw))) may.1.free
+is_ordinary plan k no_raw (Poke p side window offset bytes) may on = true≢false (sym may.1.raw ∙ ap (λ j. (pair_plan plan j).raw) on ∙ no_raw)
+is_ordinary plan k no_raw step may on = tt
+
+are_ordinary : (plan : Plan) (k : ℕ) → (pair_plan plan k).raw ≡ false → (steps : List Step) → AllByRecursion (IsPermitted plan) steps → AllByRecursion (IsOrdinaryOn k) steps
+are_ordinary plan k no_raw [] may = tt
+are_ordinary plan k no_raw (step ∷ steps) may = (is_ordinary plan k no_raw step may.0, are_ordinary plan k no_raw steps may.1)
+
+pub all_last : {X : Type 0} (P : X → Type 0) (xs : List X) (x : X) → AllByRecursion P xs → P x → AllByRecursion P (xs ++ x ∷ [])
+all_last P [] x all own = (own, tt)
+all_last P (first ∷ xs) x all own = (all.0, all_last P xs x all.1 own)
+
+-- The log of one step more
+
+pub goes_on : (plan : Plan) (steps : List Step) (step : Step) (answer : Answer)
+    → answer ≡ (pair_next plan.devs (pair_plan plan (subject_of step)) (bytes_of_site (site_of plan (subject_of step) steps)) (site_of plan (subject_of step) steps).pair step).answer
+    → IsAnswered plan steps step answer
+goes_on plan steps step answer is =
+    log_of-last plan (memory_of plan) steps step
+    ∙ ap (λ given. log_after plan steps ++ record { step = step; answer = given } ∷ [])
+    (ap (λ made. (pair_next plan.devs (pair_plan plan k) (bytes_of_site (site_of plan k made)) (ledger_of plan (memory_of plan) steps k) step).answer) (steps_of_log plan (memory_of plan) steps)
+    ∙ ap (λ (pair : PairPart). (pair_next plan.devs (pair_plan plan k) (bytes_of_site (site_of plan k steps)) pair step).answer) (sym (sites_are_the_ledger plan steps k))
+    ∙ sym is)
+  where
+    k : ℕ
+    k = subject_of step
+
+-- Agreement
+
+law_side : (side : SidePlan) → IsSide side → IsLawSide side
+law_side side is =
+    record {
+      a_version = omega (arith, is.known_version.0);
+      few_versions = omega (arith, is.known_version.1);
+      a_queue = omega (arith, is.queues.0);
+      few_queues = is.queues.1;
+      a_window = omega (arith, is.windows.0);
+      few_windows = is.windows.1;
+      a_size = is.size.0;
+      a_cap = is.cap.0;
+    }
+
+has_sides : (plan : Plan) → IsDeclared plan → HasSides plan
+has_sides plan declared k A below = law_side (pair_plan plan k).a (declared.pairs k below).side_a
+has_sides plan declared k B below = law_side (pair_plan plan k).b (declared.pairs k below).side_b
+
+half : (plan : PairPlan) → SizesFit plan → (side : Side) → WindowsFit plan side
+half plan fits A = fits.1
+half plan fits B = fits.0
+
+joined_book : (bridge other : Bridge) (side : Side) → plain_bridge bridge ≡ other → (book_of bridge side).joined ≡ (book_of other side).joined
+joined_book bridge other A same = ap (λ (bridge : Bridge). bridge.books.a.joined) same
+joined_book bridge other B same = ap (λ (bridge : Bridge). bridge.books.b.joined) same
+
+joined_there : (plan : PairPlan) (site : Site) (side : Side) → (book_of (bridge_for plan site) side).joined ≡ (side_of site.pair side).joined
+joined_there plan site A = refl
+joined_there plan site B = refl
+
+module _ (plan : Plan) (steps : List Step) (k : ℕ) (declared : IsDeclared plan) (permitted : AllByRecursion (IsPermitted plan) steps) (among : IsPairOf plan k) (state : PairState)
+    (stands : PairStands plan.devs (pair_plan plan k) k (site_of plan k steps) state) where
+  pair : PairPlan
+  pair = pair_plan plan k
+
+  own : IsPair (pair_plan plan k)
+  own = declared.pairs k among
+
+  in_ledger : (side : Side) (queue : ℕ) → has_bit (book_of state.bridge side).joined queue ≡ true → has_bit (side_of (ledger_of plan (memory_of plan) steps k) side).joined queue ≡ true
+  in_ledger side queue joined =
+      subst (λ (pair : PairPart). has_bit (side_of pair side).joined queue ≡ true) (sites_are_the_ledger plan steps k)
+      (ap (λ bits. has_bit bits queue) (sym (joined_book state.bridge (bridge_for (pair_plan plan k) (site_of plan k steps)) side stands.bridge ∙ joined_there (pair_plan plan k) (site_of plan k steps) side)) ∙ joined)
+
+  fits_where_joined : (side : Side) (queue : ℕ) → has_bit (book_of state.bridge side).joined queue ≡ true → (raw : Bool) → (pair_plan plan k).raw ≡ raw → FitsRings (pair_plan plan k)
+  fits_where_joined side queue joined true is =
+      record { queues = λ no. absurd (true≢false (sym is ∙ no)); windows = λ no. absurd (true≢false (sym is ∙ no)); sizes = own.raw is }
+  fits_where_joined side queue joined false is =
+      let agree : Agree (pair_plan plan k) = joined_means_agreement plan (memory_of plan) steps k side queue own (are_ordinary plan k is steps permitted) (in_ledger side queue joined) in
+      record { queues = λ no. agree.queues; windows = λ no. agree.windows; sizes = agree.sizes }
+
+  check_made : (side : Side) → check_answer state.bridge side ≡ ComesUp → IsAnswered plan steps (Check k side) Up
+  check_made side up = goes_on plan steps (Check k side) Up (ap of_check (sym up) ∙ (each_step_stands plan steps (Check k side) state declared permitted among among stands).0)
+
+  fit_where_up : (side : Side) → check_answer state.bridge side ≡ ComesUp → (raw : Bool) → (pair_plan plan k).raw ≡ raw → WindowsFit (pair_plan plan k) side
+  fit_where_up side up true is = half (pair_plan plan k) (own.raw is) side
+  fit_where_up side up false is =
+      (up_means_agreement plan (memory_of plan) steps k side (has_sides plan declared) among
+      (are_ordinary plan k is (steps ++ Check k side ∷ []) (all_last (IsPermitted plan) steps (Check k side) permitted among)) (check_made side up)).size_fits
+
+  pub agrees : Agrees state.bridge
+  agrees =
+      let plan_is = plan_of_pair plan.devs (pair_plan plan k) k (site_of plan k steps) state stands in
+      record {
+        joined = λ side queue joined. subst FitsRings (sym plan_is) (fits_where_joined side queue joined (pair_plan plan k).raw refl);
+        up = λ side up. subst (λ (pair : PairPlan). WindowsFit pair side) (sym plan_is) (fit_where_up side up (pair_plan plan k).raw refl);
+      }
+
+-- What each step needs of its pair
+
+queue_there : (plan : Plan) (k : ℕ) (side : Side) (queue : ℕ) (bridge : Bridge) → bridge.plan ≡ pair_plan plan k → IsQueueOf plan k side queue → queue < (side_plan bridge.plan side).queues
+queue_there plan k side queue bridge is may = subst (λ (pair : PairPlan). queue < (side_plan pair side).queues) (sym is) may.among
+
+pub can_make : (plan : Plan) (step : Step) (bridge : Bridge) → bridge.plan ≡ pair_plan plan (subject_of step) → Agrees bridge → IsPermitted plan step → CanMake plan.devs bridge step
+can_make plan (Enable p side) bridge is agrees may = record { place = tt; queue = tt; bridge = tt }
+can_make plan (Train p) bridge is agrees may = record { place = tt; queue = tt; bridge = tt }
+can_make plan (Break p) bridge is agrees may = record { place = tt; queue = tt; bridge = tt }
+can_make plan (DropDone p) bridge is agrees may = record { place = tt; queue = tt; bridge = tt }
+can_make plan (Clean p side) bridge is agrees may = record { place = tt; queue = tt; bridge = tt }
+can_make plan (Offer p side) bridge is agrees may = record { place = tt; queue = tt; bridge = tt }
+can_make plan (Check p side) bridge is agrees may = record { place = tt; queue = tt; bridge = agrees.up side }
+can_make plan (Ready p side queue) bridge is agrees may = record { place = tt; queue = tt; bridge = queue_there plan p side queue bridge is may }
+can_make plan (Join p side queue) bridge is agrees may = record { place = tt; queue = tt; bridge = queue_there plan p side queue bridge is may }
+can_make plan (Begin p side queue frame) bridge is agrees may = record { place = queue_there plan p side queue bridge is may.0; queue = may.1.0; bridge = tt }
+can_make plan (QpDown p side queue) bridge is agrees may = record { place = queue_there plan p side queue bridge is may; queue = tt; bridge = tt }
+can_make plan (Xbegin p side queue dev dst kind payload) bridge is agrees may = record { place = queue_there plan p side queue bridge is may.0; queue = (may.1.declared, may.2); bridge = tt }
+can_make plan (Post p side queue) bridge is agrees may = record { place = queue_there plan p side queue bridge is may; queue = tt; bridge = tt }
+can_make plan (Land p side place) bridge is agrees may = record { place = tt; queue = tt; bridge = tt }
+can_make plan (Look p side queue) bridge is agrees may = record { place = queue_there plan p side queue bridge is may; queue = tt; bridge = tt }
+can_make plan (Copy p side queue) bridge is agrees may = record { place = queue_there plan p side queue bridge is may; queue = tt; bridge = tt }
+can_make plan (Clear p side queue) bridge is agrees may = record { place = queue_there plan p side queue bridge is may; queue = tt; bridge = tt }
+can_make plan (Ack p side queue) bridge is agrees may = record { place = queue_there plan p side queue bridge is may; queue = tt; bridge = tt }
+can_make plan (Wake p side queue dev) bridge is agrees may = record { place = queue_there plan p side queue bridge is may.0; queue = tt; bridge = tt }
+can_make plan (Irq p side) bridge is agrees may = record { place = tt; queue = tt; bridge = tt }
+can_make plan (Mask p side bits) bridge is agrees may = record { place = tt; queue = tt; bridge = tt }
+can_make plan (Unmask p side bits) bridge is agrees may = record { place = tt; queue = tt; bridge = tt }
+can_make plan (Spad p side i value) bridge is agrees may = record { place = tt; queue = tt; bridge = may.1.among }
+can_make plan (Poke p side window offset bytes) bridge is agrees may = record { place = tt; queue = tt; bridge = subst (λ (pair : PairPlan). IsPoke pair side window offset bytes) (sym is) may.1 }
+can_make plan (ShowMem p side at len) bridge is agrees may = record { place = tt; queue = tt; bridge = subst (λ (pair : PairPlan). IsShown (side_plan pair side) at len) (sym is) may.1 }
+can_make plan (ShowPad p side i) bridge is agrees may = record { place = tt; queue = tt; bridge = may.1 }
+can_make plan (ShowQueue p side place) bridge is agrees may = record { place = tt; queue = tt; bridge = tt }
+
+-- One step more
+
+-- the fabric after a step of the pair with this number, which left it so, promises aside
+pub record HasMoved (old new : FabricState) (step : Step) (answer : Answer) : Type 0 where
+  pub devs : new.devs ≡ old.devs
+  pub all_pairs : length new.pairs ≡ length old.pairs
+  pub others : (k : ℕ) → k ≢ subject_of step → pair_of new k ≡ pair_of old k
+  pub answer_is : answer ≡ (move_of old.devs (pair_of old (subject_of step)) step).answer
+  pub moved : plain_pair (pair_of new (subject_of step)) ≡ plain_pair (move_of old.devs (pair_of old (subject_of step)) step).after
+
+pub pair_among : (plan : Plan) (step : Step) → IsPermitted plan step → IsPairOf plan (subject_of step)
+pair_among plan (Enable p side) may = may
+pair_among plan (Train p) may = may
+pair_among plan (Break p) may = may
+pair_among plan (DropDone p) may = may
+pair_among plan (Clean p side) may = may
+pair_among plan (Offer p side) may = may
+pair_among plan (Check p side) may = may
+pair_among plan (Ready p side queue) may = may.declared
+pair_among plan (Join p side queue) may = may.declared
+pair_among plan (Begin p side queue frame) may = may.0.declared
+pair_among plan (QpDown p side queue) may = may.declared
+pair_among plan (Xbegin p side queue dev dst kind payload) may = may.0.declared
+pair_among plan (Post p side queue) may = may.declared
+pair_among plan (Land p side place) may = may
+pair_among plan (Look p side queue) may = may.declared
+pair_among plan (Copy p side queue) may = may.declared
+pair_among plan (Clear p side queue) may = may.declared
+pair_among plan (Ack p side queue) may = may.declared
+pair_among plan (Wake p side queue dev) may = may.0.declared
+pair_among plan (Irq p side) may = may
+pair_among plan (Mask p side bits) may = may
+pair_among plan (Unmask p side bits) may = may
+pair_among plan (Spad p side i value) may = may.0
+pair_among plan (Poke p side window offset bytes) may = may.0
+pair_among plan (ShowMem p side at len) may = may.0
+pair_among plan (ShowPad p side i) may = may.0
+pair_among plan (ShowQueue p side place) may = may
+
+module _ (plan : Plan) (steps : List Step) (step : Step) (old new : FabricState) (made : HasMade plan steps old) (may : IsPermitted plan step) (answer : Answer) (moves : HasMoved old new step answer) where
+  k : ℕ
+  k = subject_of step
+
+  among : IsPairOf plan (subject_of step)
+  among = pair_among plan step may
+
+  abbrev AnswerAndAfter : List DevPlan → Type 0
+  AnswerAndAfter devs =
+      (answer ≡ (move_of devs (pair_of old (subject_of step)) step).answer)
+      × (plain_pair (pair_of new (subject_of step)) ≡ plain_pair (move_of devs (pair_of old (subject_of step)) step).after)
+
+  by_plan : AnswerAndAfter plan.devs
+  by_plan = subst AnswerAndAfter made.stands.devs (moves.answer_is, moves.moved)
+
+  followed : ((move_of plan.devs (pair_of old (subject_of step)) step).answer ≡ (pair_next plan.devs (pair_plan plan (subject_of step)) (bytes_of_site (site_of plan (subject_of step) steps)) (site_of plan (subject_of step) steps).pair step).answer)
+      × PairStands plan.devs (pair_plan plan (subject_of step)) (subject_of step) (site_of plan (subject_of step) (steps ++ step ∷ [])) (move_of plan.devs (pair_of old (subject_of step)) step).after
+  followed = each_step_stands plan steps step (pair_of old (subject_of step)) made.declared made.permitted may among (made.stands.pairs (subject_of step) among)
+
+  pub step_answered : IsAnswered plan steps step answer
+  step_answered = goes_on plan steps step answer (by_plan.0 ∙ followed.0)
+
+  pub step_likely : IsLikely plan step answer
+  step_likely ordinary = no_ordinary_ver_differs_or_long plan (memory_of plan) steps step answer ordinary step_answered
+
+  pair_stands : (j : ℕ) → j < length plan.pairs → PairStands plan.devs (pair_plan plan j) j (site_of plan j (steps ++ step ∷ [])) (pair_of new j)
+  pair_stands j below = here (cases_eq j (subject_of step)) where
+    here : ((j ≡ subject_of step) ⊎ (j ≢ subject_of step)) → PairStands plan.devs (pair_plan plan j) j (site_of plan j (steps ++ step ∷ [])) (pair_of new j)
+    here (inl is) =
+        subst (λ j. PairStands plan.devs (pair_plan plan j) j (site_of plan j (steps ++ step ∷ [])) (pair_of new j)) (sym is)
+        (stands_plain plan.devs (pair_plan plan (subject_of step)) (subject_of step) (site_of plan (subject_of step) (steps ++ step ∷ [])) _ (pair_of new (subject_of step)) by_plan.1 followed.1)
+    here (inr other) =
+        subst (λ (site : Site). PairStands plan.devs (pair_plan plan j) j site (pair_of new j)) (sym (site_of-elsewhere plan j steps step (λ e. other (sym e))))
+        (subst (λ (pair : PairState). PairStands plan.devs (pair_plan plan j) j (site_of plan j steps) pair) (sym (moves.others j other)) (made.stands.pairs j below))
+
+  pub step_made : HasMade plan (steps ++ step ∷ []) new
+  step_made =
+      record {
+        declared = made.declared;
+        permitted = all_last (IsPermitted plan) steps step made.permitted may;
+        stands = record { devs = moves.devs ∙ made.stands.devs; all_pairs = moves.all_pairs ∙ made.stands.all_pairs; pairs = pair_stands };
+      }
+
+-- Where nothing but promises changed it stands for the same steps
+
+pub still_made : (plan : Plan) (steps : List Step) (old new : FabricState) → plain new ≡ plain old → HasMade plan steps old → HasMade plan steps new
+still_made plan steps old new same made =
+    record {
+      declared = made.declared;
+      permitted = made.permitted;
+      stands = record {
+        devs = devs ∙ made.stands.devs;
+        all_pairs = lengths ∙ made.stands.all_pairs;
+        pairs = λ k below. stands_plain plan.devs (pair_plan plan k) k (site_of plan k steps) (pair_of old k) (pair_of new k) (at_k k (omega (arith, below, made.stands.all_pairs))) (made.stands.pairs k below);
+      };
+    }
+  where
+    devs : new.devs ≡ old.devs
+    devs = ap (λ (fabric : FabricState). fabric.devs) same
+
+    pairs : map plain_pair new.pairs ≡ map plain_pair old.pairs
+    pairs = ap (λ (fabric : FabricState). fabric.pairs) same
+
+    lengths : length new.pairs ≡ length old.pairs
+    lengths = sym (length-map plain_pair new.pairs) ∙ ap length pairs ∙ length-map plain_pair old.pairs
+
+    at_k : (k : ℕ) → k < length old.pairs → plain_pair (pair_of new k) ≡ plain_pair (pair_of old k)
+    at_k k below =
+        sym (get_or-map plain_pair new.pairs k _ (plain_pair no_state) (omega (arith, lengths, below)))
+        ∙ ap (λ pairs. slice_index_or pairs k (plain_pair no_state)) pairs
+        ∙ get_or-map plain_pair old.pairs k _ (plain_pair no_state) below
