@@ -1,3 +1,5 @@
+pub mod Counted
+pub mod FreshFabrics
 pub mod Keeping
 pub mod MorePages
 pub mod SessionTallies

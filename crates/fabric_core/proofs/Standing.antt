@@ -1,8 +1,9 @@
 -- What a fabric that stands for steps lets its pairs do, and what it stands for after one more.
-use Rattle.std.proofs.Common.{◌≡◌, ◌≢◌, ◌∙◌, ℕ, ◌+◌, ◌<◌, ◌≤◌, Bool, true, false, List, [], ◌∷◌, ◌++◌, map, length, refl, sym, ap, subst, arith, ext_get_or, slice_index_or, inl, inr, ⊎_elim, ◌⊎◌}
+use Rattle.std.proofs.Common.{◌≡◌, ◌≢◌, ◌∙◌, ℕ, ◌+◌, ◌<◌, ◌≤◌, Bool, true, false, List, [], ◌∷◌, ◌++◌, map, length, refl, sym, ap, subst, arith, ext_get_or, get_or-set_other, get_or-set_same, length-set, set, slice_index_or, Result, Ok, Err, IfOk, OnOk, OnErr, inl, inr, ⊎_elim, ◌⊎◌}
 use Rattle.std.specs.List.{AllByRecursion}
 use Rattle.std.proofs.lemmas.Bool.{cases_eq, true≢false}
 use Rattle.std.proofs.lemmas.List.{get_or-map, length-map}
+use Rattle.std.proofs.Math.Seq.{map-set_same}
 use Rattle.step_kinds.specs.Bits.{has_bit}
 use Rattle.step_kinds.specs.Sides.{other_side}
 use Rattle.step_kinds.specs.Subject.{subject_of}
@@ -37,7 +38,9 @@ use Rattle.fabric_rule.specs.StandsFor.{PairStands, SideStandsIn, bridge_for}
 use Rattle.fabric_rule.specs.Steps.{move_of}
 use Rattle.fabric_rule.proofs.Facade.{each_step_stands}
 use Rattle.fabric_core.specs.Fabric.{FabricState, StandsFor, bare_plan, no_state, pair_of, plain, plan_kept}
+use Rattle.fabric_core.specs.Fabrics.{IsFabric, fabric_seen}
 use Rattle.fabric_core.specs.Parts.{Agrees, CanMake}
+use Rattle.fabric_core.specs.declared.fabric.Fabric.TheInside.{Inside}
 use Rattle.fabric_core.specs.Pinned.{HasMade, IsAnswered, IsLikely, log_after}
 
 -- A pair that differs in promises alone
@@ -68,16 +71,16 @@ plan_of_standing plan steps fabric stands =
 
     at_k : (k : ℕ) → k < length (map plan_at fabric.pairs) → slice_index_or (map plan_at fabric.pairs) k no_pair ≡ slice_index_or plan.pairs k no_pair
     at_k k below =
-        let among : k < length plan.pairs = omega (arith, length-map plan_at fabric.pairs, stands.all_pairs, below) in
-        get_or-map plan_at fabric.pairs k _ no_pair (omega (arith, length-map plan_at fabric.pairs, below))
+        let among : k < length plan.pairs = omega (arith, length-map fabric.pairs plan_at, stands.all_pairs, below) in
+        get_or-map plan_at fabric.pairs k _ no_pair (omega (arith, length-map fabric.pairs plan_at, below))
         ∙ plan_of_pair plan.devs (pair_plan plan k) k (site_of plan k steps) (pair_of fabric k) (stands.pairs k among)
 
     pairs : map plan_at fabric.pairs ≡ plan.pairs
-    pairs = ext_get_or no_pair (map plan_at fabric.pairs) plan.pairs (length-map plan_at fabric.pairs ∙ stands.all_pairs) at_k
+    pairs = ext_get_or no_pair (map plan_at fabric.pairs) plan.pairs (length-map fabric.pairs plan_at ∙ stands.all_pairs) at_k
 
 -- Steps that a plan permits
 
-queue_of_bare : (plan : Plan) (k : ℕ) (side : Side) (queue : ℕ) → IsQueueOf (bare_plan plan) k side queue → IsQueueOf plan k side queue
+pub queue_of_bare : (plan : Plan) (k : ℕ) (side : Side) (queue : ℕ) → IsQueueOf (bare_plan plan) k side queue → IsQueueOf plan k side queue
 queue_of_bare plan k side queue may = record { declared = may.declared; among = may.among }
 
 device_of_bare : (plan : Plan) (k : ℕ) (side : Side) (queue dev : ℕ) → IsDeviceOn (bare_plan plan) k side queue dev → IsDeviceOn plan k side queue dev
@@ -95,7 +98,7 @@ permitted_bare plan (Ready p side queue) may = queue_of_bare plan p side queue m
 permitted_bare plan (Join p side queue) may = queue_of_bare plan p side queue may
 permitted_bare plan (Begin p side queue frame) may = (queue_of_bare plan p side queue may.0, may.1)
 permitted_bare plan (QpDown p side queue) may = queue_of_bare plan p side queue may
-permitted_bare plan (Xbegin p side queue dev dst kind payload) may = (queue_of_bare plan p side queue may.0, (device_of_bare plan p side queue dev may.1, may.2))
+permitted_bare plan (Xbegin p side queue dev dst kind payload) may = (queue_of_bare plan p side queue may.0, device_of_bare plan p side queue dev may.1, may.2)
 permitted_bare plan (Post p side queue) may = queue_of_bare plan p side queue may
 permitted_bare plan (Land p side place) may = may
 permitted_bare plan (Look p side queue) may = queue_of_bare plan p side queue may
@@ -360,10 +363,111 @@ still_made plan steps old new same made =
     pairs = ap (λ (fabric : FabricState). fabric.pairs) same
 
     lengths : length new.pairs ≡ length old.pairs
-    lengths = sym (length-map plain_pair new.pairs) ∙ ap length pairs ∙ length-map plain_pair old.pairs
+    lengths = sym (length-map new.pairs plain_pair) ∙ ap length pairs ∙ length-map old.pairs plain_pair
 
     at_k : (k : ℕ) → k < length old.pairs → plain_pair (pair_of new k) ≡ plain_pair (pair_of old k)
     at_k k below =
         sym (get_or-map plain_pair new.pairs k _ (plain_pair no_state) (omega (arith, lengths, below)))
         ∙ ap (λ pairs. slice_index_or pairs k (plain_pair no_state)) pairs
         ∙ get_or-map plain_pair old.pairs k _ (plain_pair no_state) below
+
+-- A fabric with another pair in one's place
+
+abbrev pub with_pair : FabricState → ℕ → PairState → FabricState
+with_pair fabric k pair = record fabric { pairs = set fabric.pairs k pair }
+
+pub set_moved : (old : FabricState) (step : Step) (pair : PairState) (answer : Answer) → subject_of step < length old.pairs
+    → answer ≡ (move_of old.devs (pair_of old (subject_of step)) step).answer → plain_pair pair ≡ plain_pair (move_of old.devs (pair_of old (subject_of step)) step).after
+    → HasMoved old (with_pair old (subject_of step) pair) step answer
+set_moved old step pair answer below is moved =
+    record {
+      devs = refl;
+      all_pairs = length-set old.pairs (subject_of step) pair;
+      others = λ k other. get_or-set_other old.pairs (subject_of step) k pair no_state other;
+      answer_is = is;
+      moved = ap plain_pair (get_or-set_same old.pairs (subject_of step) pair no_state below) ∙ moved;
+    }
+
+pub set_plain : (old : FabricState) (k : ℕ) (pair : PairState) → plain_pair pair ≡ plain_pair (pair_of old k) → plain (with_pair old k pair) ≡ plain old
+set_plain old k pair same = ap (λ pairs. record { devs = old.devs; pairs = pairs }) (map-set_same plain_pair old.pairs k pair no_state same)
+
+-- What a step leaves of a fabric, by what it leaves of its pair
+
+-- a call on a pair made the step, or left the pair as it was, promises aside
+pub record PairMoved {E : Type 0} (devs : List DevPlan) (step : Step) (old new : PairState) (result : Result Answer E) : Type 0 where
+  pub answer : IfOk result (λ answer. answer ≡ (move_of devs old step).answer)
+  pub after : OnOk result (plain_pair new ≡ plain_pair (move_of devs old step).after)
+  pub err : OnErr result (plain_pair new ≡ plain_pair old)
+
+-- so the fabric made it, or is as it was
+pub record FabricMoved {E : Type 0} (old new : FabricState) (step : Step) (result : Result Answer E) : Type 0 where
+  pub answered : (plan : Plan) (steps : List Step) → HasMade plan steps old → IfOk result (λ answer. IsAnswered plan steps step answer × IsLikely plan step answer)
+  pub stands : (plan : Plan) (steps : List Step) → HasMade plan steps old → OnOk result (HasMade plan (steps ++ step ∷ []) new)
+  pub still : (plan : Plan) (steps : List Step) → HasMade plan steps old → OnErr result (HasMade plan steps new)
+  pub err : OnErr result (plain new ≡ plain old)
+
+module _ (old : FabricState) (step : Step) (pair : PairState) (may : IsPermitted (plan_kept old) step) where
+  permitted_by : (plan : Plan) (steps : List Step) → HasMade plan steps old → IsPermitted plan step
+  permitted_by plan steps made = permitted_bare plan step (subst (λ plan. IsPermitted plan step) (plan_of_standing plan steps old made.stands) may)
+
+  pub among_pairs : subject_of step < length old.pairs
+  among_pairs = let below = pair_among (plan_kept old) step may in omega (arith, below, length-map old.pairs (λ (pair : PairState). pair.bridge.plan))
+
+  pub fabric_moved : {E : Type 0} (result : Result Answer E) → PairMoved old.devs step (pair_of old (subject_of step)) pair result → FabricMoved old (with_pair old (subject_of step) pair) step result
+  fabric_moved (Ok answer) moved =
+      let moves = set_moved old step pair answer among_pairs moved.answer moved.after in
+      let new = with_pair old (subject_of step) pair in
+      record {
+        answered = λ plan steps made.
+            let may = permitted_by plan steps made in
+            (step_answered plan steps step old new made may answer moves, step_likely plan steps step old new made may answer moves);
+        stands = λ plan steps made. step_made plan steps step old new made (permitted_by plan steps made) answer moves;
+        still = λ plan steps made. tt;
+        err = tt;
+      }
+  fabric_moved (Err e) moved =
+      let same = set_plain old (subject_of step) pair moved.err in
+      record {
+        answered = λ plan steps made. tt;
+        stands = λ plan steps made. tt;
+        still = λ plan steps made. still_made plan steps old (with_pair old (subject_of step) pair) same made;
+        err = same;
+      }
+
+-- and it stands for some steps still
+
+pub record MadeSome (plan : Plan) (fabric : FabricState) : Type 0 where
+  pub steps : List Step
+  pub made : HasMade plan steps fabric
+
+pub some_made : {E : Type 0} (old new : FabricState) (step : Step) (result : Result Answer E) (plan : Plan) → MadeSome plan old → FabricMoved old new step result → MadeSome plan new
+some_made old new step (Ok answer) plan some moved = record { steps = some.steps ++ step ∷ []; made = moved.stands plan some.steps some.made }
+some_made old new step (Err e) plan some moved = record { steps = some.steps; made = moved.still plan some.steps some.made }
+
+pub same_plan : (old new : FabricState) → MadeSome (plan_kept old) new → plan_kept new ≡ plan_kept old
+same_plan old new some = plan_of_standing (plan_kept old) some.steps new some.made.stands
+
+pub made_itself : (old new : FabricState) → MadeSome (plan_kept old) new → MadeSome (plan_kept new) new
+made_itself old new some = subst (λ plan. MadeSome plan new) (sym (same_plan old new some)) some
+
+-- so does what a fabric keeps
+
+pub some : (kept : Inside) → IsFabric kept → MadeSome (plan_kept (fabric_seen kept)) (fabric_seen kept)
+some kept is = record { steps = is.steps; made = record { declared = is.declared; permitted = is.permitted; stands = is.stands } }
+
+pub from_some : (kept : Inside) → MadeSome (plan_kept (fabric_seen kept)) (fabric_seen kept) → IsFabric kept
+from_some kept some = record { declared = some.made.declared; steps = some.steps; permitted = some.made.permitted; stands = some.made.stands }
+
+-- the pair that a step is made on, as it stands
+pub pair_agrees : (fabric : FabricState) (k : ℕ) → MadeSome (plan_kept fabric) fabric → k < length fabric.pairs → Agrees (pair_of fabric k).bridge
+pair_agrees fabric k some below =
+    agrees (plan_kept fabric) some.steps k some.made.declared some.made.permitted (omega (arith, below, length-map fabric.pairs (λ (pair : PairState). pair.bridge.plan))) (pair_of fabric k)
+    (some.made.stands.pairs k (omega (arith, below, length-map fabric.pairs (λ (pair : PairState). pair.bridge.plan))))
+
+pub pair_can : (fabric : FabricState) (step : Step) → MadeSome (plan_kept fabric) fabric → IsPermitted (plan_kept fabric) step → CanMake fabric.devs (pair_of fabric (subject_of step)).bridge step
+pair_can fabric step some may =
+    let k = subject_of step in
+    let among = pair_among (plan_kept fabric) step may in
+    can_make (plan_kept fabric) step (pair_of fabric k).bridge
+    (plan_of_pair fabric.devs (pair_plan (plan_kept fabric) k) k (site_of (plan_kept fabric) k some.steps) (pair_of fabric k) (some.made.stands.pairs k among))
+    (pair_agrees fabric k some (among_pairs fabric step (pair_of fabric k) may)) may

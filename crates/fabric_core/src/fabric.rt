@@ -1,19 +1,18 @@
 //! The fabric.
 
 ghost use Rattle.std.specs.Prelude.{IfOk, IsErr, List, OnErr, OnOk, [], length, true, ◌++◌, ◌<◌, ◌∷◌, ◌≡◌};
-ghost use Rattle.fabric_core.specs.Fabric.{StandsFor, accepted_of, bare_plan, delivered_of, may_want_memory, pair_of, plain, plan_kept};
+ghost use Rattle.fabric_core.specs.Fabric.{StandsFor, bare_plan, may_want_memory, pair_of, plain, plan_kept};
 ghost use Rattle.fabric_core.specs.Pinned.{AreCounters, HasMade, IsAccepted, IsAnswered, IsDelivered, IsLikely, IsSession};
 ghost use Rattle.fabric_rule.specs.Parts.{queue_of};
 ghost use Rattle.plan_model.specs.DeclaredPlans.{IsDeclared, IsPairOf, IsPermitted, IsQueueOf};
-ghost use Rattle.plan_model.specs.Plans.{dev_plan};
 ghost use Rattle.step_kinds.specs.Sides.{other_side};
 ghost use Rattle.step_kinds.specs.declared.plan.Plan.{Plan as DeclaredPlan};
 ghost use Rattle.step_kinds.specs.declared.steps.Step.{Step as MadeStep};
 
-use crate::pairs::PairBox;
+use crate::pairs::{PairBox, QueueBox};
 use std::alloc::{AllocError, Global};
 use std::marker::Model;
-use step_kinds::{Answer, Counters, DevPlan, LaneName, Name, Plan, Step};
+use step_kinds::{Answer, Counters, DevPlan, LaneName, Name, Plan, Side, Step};
 
 /// A cluster in bytes: its pairs and its devices. Contracts see both.
 #[derive(Drop)]
@@ -82,37 +81,46 @@ impl Fabric {
     pub fn ledger(&self, lane: LaneName, session: u32) -> (u64, u64)
         requires sent { IsQueueOf (plan_kept self.now) lane.pair lane.from lane.queue }
         requires received { IsQueueOf (plan_kept self.now) lane.pair (other_side lane.from) lane.queue }
-        ensures kept_accepted { result.0 ≡ accepted_of self.now lane session }
-        ensures kept_delivered { result.1 ≡ delivered_of self.now lane session }
         ensures accepted { IsAccepted self.now lane session result.0 }
         ensures delivered { IsDelivered self.now lane session result.1 }
     {
-        let pair = &self.pairs[lane.pair as usize];
-        let accepted = pair.queue(lane.from, lane.queue).accepted_in(session);
-        let delivered = pair
-            .queue(lane.from.other(), lane.queue)
-            .delivered_in(session);
-        (accepted, delivered)
+        let sent = self.queue(lane.pair, lane.from, lane.queue);
+        let received = self.queue(lane.pair, lane.from.other(), lane.queue);
+        (sent.accepted_in(session), received.delivered_in(session))
     }
 
     /// The number of the session that a pair is in, or was in last; 0 before the first. The pair has to be one of the fabric's.
     pub fn sessions(&self, pair: u32) -> u32
         requires { IsPairOf (plan_kept self.now) pair }
-        ensures kept { result ≡ (pair_of self.now pair).bridge.link.session }
-        ensures counted { IsSession self.now pair result }
+        ensures { IsSession self.now pair result }
     {
-        self.pairs[pair as usize].session()
+        self.pair(pair).session()
     }
 
     /// What is counted of a device, which has to be one of the fabric's.
     pub fn counters(&self, dev: u32) -> Counters
         requires { dev < length (plan_kept self.now).devs }
-        ensures kept { result ≡ (queue_of (pair_of self.now (dev_plan self.now.devs dev).pair) (dev_plan self.now.devs dev).side (dev_plan self.now.devs dev).queue).counters }
-        ensures counted { AreCounters self.now dev result }
+        ensures { AreCounters self.now dev result }
     {
         let device = &self.devs[dev as usize];
-        let pair = &self.pairs[device.pair as usize];
-        pair.queue(device.side, device.queue).counters()
+        self.queue(device.pair, device.side, device.queue)
+            .counters()
+    }
+
+    // One of the pairs.
+    fn pair(&self, pair: u32) -> &PairBox
+        requires { IsPairOf (plan_kept self.now) pair }
+        ensures { result.now ≡ pair_of self.now pair }
+    {
+        &self.pairs[pair as usize]
+    }
+
+    // One of the queues of a side of a pair.
+    fn queue(&self, pair: u32, side: Side, queue: u32) -> &QueueBox
+        requires { IsQueueOf (plan_kept self.now) pair side queue }
+        ensures { result.now ≡ queue_of (pair_of self.now pair) side queue }
+    {
+        self.pair(pair).queue(side, queue)
     }
 }
 
