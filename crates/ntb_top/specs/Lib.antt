@@ -1,9 +1,6 @@
-pub mod Drives
+pub mod Causes
+pub mod Commands
 pub mod Headline
-pub mod Moves
 pub mod Output
-pub mod Report
-pub mod Script
-pub mod Seen
-pub mod Spelling
-pub mod Texts
+pub mod Replays
+pub mod Runs

@@ -1,23 +1,21 @@
--- What the program answers to its words and its input where nothing outside fails: a text, and an exit status.
-use Rattle.std.specs.Prelude.{◌≡◌, ℕ, Bool, false, Option, Some, None, Result, Ok, Err, List, [], ◌∷◌, ◌++◌, length, nat_lt, codes, if◌then◌else◌, ◌⊎◌}
+-- What the program answers to its words and its input where nothing outside fails and there is memory: an exit status and a text.
+use Rattle.std.specs.Prelude.{ℕ, Option, Some, None, Result, Ok, Err, List, ◌∷◌, ◌++◌, codes, length, nat_lt, result_ok, if◌then◌else◌}
 use Rattle.std.specs.Fmt.{decimal}
-use Rattle.std.specs.Str.{bytes_eq}
-use Rattle.ntb_top.specs.Report.{line_of, report_of}
-use Rattle.ntb_top.specs.Script.{Script, script_of, plan_of}
+use Rattle.step_kinds.specs.Limits.{most_script_bytes}
+use Rattle.step_kinds.specs.declared.plan.Plan.{Plan}
+use Rattle.report_text.specs.Report.{line_of}
+use Rattle.script_text.specs.Script.{script_of}
+use Rattle.script_words.specs.declared.fault.ScriptFault.{ScriptFault}
+use Rattle.traffic_plan.specs.Load.{load_of}
+use Rattle.ntb_top.specs.Causes.{cause_text}
+use Rattle.ntb_top.specs.Commands.{command_of}
+use Rattle.ntb_top.specs.Replays.{load_text, replay_text}
+use Rattle.ntb_top.specs.declared.command.Command.{Command}
+use Rattle.ntb_top.specs.declared.command.Command.TheVariants.{Replay, Load}
 
 pub record Output : Type 0 where
   pub status : ℕ
   pub text : List ℕ
-
--- the most bytes of a script
-abbrev pub most_bytes : ℕ
-most_bytes = 16777216
-
--- whether the words of the command line are a command form: the one word `replay`
-abbrev pub is_command : List (List ℕ) → Bool
-is_command [] = false
-is_command (word ∷ []) = bytes_eq word (codes "replay")
-is_command (word ∷ other ∷ words) = false
 
 abbrev pub usage : Output
 usage = record { status = 2; text = line_of (codes "usage") }
@@ -25,31 +23,29 @@ usage = record { status = 2; text = line_of (codes "usage") }
 abbrev pub too_long : Output
 too_long = record { status = 7; text = line_of (codes "too long") }
 
--- the first line that isn't built
-abbrev pub refused : ℕ → Output
-refused line = record { status = 3; text = line_of (codes "refused line " ++ decimal line ++ codes " notbuilt") }
+-- the first line with a fault, and that line's first fault
+abbrev pub refused : ScriptFault → Output
+refused fault = record { status = 3; text = line_of (codes "refused line " ++ decimal fault.line ++ 32 ∷ cause_text fault.cause) }
 
 -- the report of the plan that a script declares
-abbrev pub replayed : Result Script ℕ → Output
-replayed (Ok script) = record { status = 0; text = report_of (plan_of script) }
-replayed (Err line) = refused line
+abbrev pub replayed : Result Plan ScriptFault → Output
+replayed (Ok plan) = record { status = 0; text = replay_text plan }
+replayed (Err fault) = refused fault
 
--- the output for these words and the bytes that are read; where the words are no command form nothing is read
+abbrev pub output_of_command : Option Command → List ℕ → Output
+output_of_command None bytes = usage
+output_of_command (Some Replay) bytes = if nat_lt most_script_bytes (length bytes) then too_long else replayed (script_of bytes)
+output_of_command (Some (Load seed frames)) bytes = record { status = 0; text = load_text seed frames }
+
+-- the output for these words and the bytes that are read
 abbrev pub output_of : List (List ℕ) → List ℕ → Output
-output_of words bytes = if is_command words then (if nat_lt most_bytes (length bytes) then too_long else replayed (script_of bytes)) else usage
+output_of words bytes = output_of_command (command_of words) bytes
 
--- the statuses of an output: a report, usage, a refused script, an input that is too long
-abbrev pub IsOutputStatus : ℕ → Type 0
-IsOutputStatus status = (status ≡ 0) ⊎ ((status ≡ 2) ⊎ ((status ≡ 3) ⊎ (status ≡ 7)))
+-- the plan whose steps are replayed: the one that the bytes declare, or a generated one
+abbrev pub plan_of_command : Option Command → List ℕ → Option Plan
+plan_of_command None bytes = None
+plan_of_command (Some Replay) bytes = result_ok (script_of bytes)
+plan_of_command (Some (Load seed frames)) bytes = Some (load_of seed frames)
 
--- these are the bytes of the input, where it tells them
-abbrev pub AreBytesOf : Option (List ℕ) → List ℕ → Type 0
-AreBytesOf None bytes = Unit {0}
-AreBytesOf (Some content) bytes = content ≡ bytes
-
--- this is the output for the words and the bytes of the input
-pub record IsOutput (words : List (List ℕ)) (input : Option (List ℕ)) (status : ℕ) (text : List ℕ) : Type 0 where
-  pub bytes : List ℕ
-  pub read : AreBytesOf input bytes
-  pub same_status : status ≡ (output_of words bytes).status
-  pub same_text : text ≡ (output_of words bytes).text
+abbrev pub plan_run : List (List ℕ) → List ℕ → Option Plan
+plan_run words bytes = plan_of_command (command_of words) bytes

@@ -1,16 +1,11 @@
-//! The top call of ntbsim: it takes the words of a command line, a source and a sink, does all that the program does, and answers
-//! the exit status.
+//! The top call of ntbsim: it takes the words of a command line, a source and a sink, does all that the program does, and
+//! answers the exit status.
 #![tactic(auto)]
 
-mod engine;
-mod given;
-mod macros;
-mod options;
+mod causes;
+mod command;
+mod load;
 mod program;
-mod reader;
-mod report;
-mod script;
-mod spelling;
-mod texts;
+mod replay;
 
 pub use program::run_program;

@@ -1,9 +1,0 @@
-use Rattle.std.proofs.Common.{◌≡◌, ◌<◌, ◌^◌, drop}
-use Rattle.ntb_top.proofs.Spelled.{digits_from}
-use Rattle.ntb_top.proofs.spelling.digits_of.Given as goal
-
-abbrev pub invariant-loop-digit : goal.invariant-loop-digit
-invariant-loop-digit l = record {
-  fits : l.value < 2 ^ 32;
-  same : digits_from l.value (drop l.digit-index l.digits) ≡ digits_from 0 l.digits;
-}

@@ -1,0 +1,17 @@
+-- The word of each cause for which a script is refused.
+use Rattle.std.specs.Prelude.{ℕ, List, codes}
+use Rattle.script_words.specs.declared.fault.Cause.{Cause}
+use Rattle.script_words.specs.declared.fault.Cause.TheVariants.{NotText, BadHeader, UnknownWord, BadNumber, BadName, Repeated, UnknownName, BadHex, BadGeometry, TooMany, BadPair}
+
+abbrev pub cause_text : Cause → List ℕ
+cause_text NotText = codes "nottext"
+cause_text BadHeader = codes "badheader"
+cause_text UnknownWord = codes "unknownword"
+cause_text BadNumber = codes "badnumber"
+cause_text BadName = codes "badname"
+cause_text Repeated = codes "repeated"
+cause_text UnknownName = codes "unknownname"
+cause_text BadHex = codes "badhex"
+cause_text BadGeometry = codes "badgeometry"
+cause_text TooMany = codes "toomany"
+cause_text BadPair = codes "badpair"

@@ -1,0 +1,30 @@
+-- The words of a command line, and the command that they are.
+use Rattle.std.specs.Prelude.{ℕ, ◌^◌, ◌&&◌, Bool, true, false, Option, Some, None, List, [], ◌∷◌, codes, nat_le, nat_lt, if◌then◌else◌}
+use Rattle.std.specs.List.{list_all}
+use Rattle.std.specs.Str.{bytes_eq}
+use Rattle.script_words.specs.Words.{is_digit, is_plain, value_from}
+use Rattle.traffic_plan.specs.Load.{most_load_frames}
+use Rattle.ntb_top.specs.declared.command.Command.{Command}
+use Rattle.ntb_top.specs.declared.command.Command.TheVariants.{Replay, Load}
+
+-- the number below a limit that a word spells: decimal digits without a leading zero but for zero itself
+abbrev pub number_below : ℕ → List ℕ → Option ℕ
+number_below limit word = if list_all is_digit word && (is_plain word && nat_lt (value_from 0 word) limit) then Some (value_from 0 word) else None
+
+-- a generated load has a seed below 2^64, and 1 to 30,000 frames
+abbrev pub load_command : Option ℕ → Option ℕ → Option Command
+load_command (Some seed) (Some frames) = if nat_lt 0 frames && nat_le frames most_load_frames then Some (Load seed frames) else None
+load_command seed frames = None
+
+-- `replay`, or `load SEED FRAMES`
+abbrev pub command_of : List (List ℕ) → Option Command
+command_of (word ∷ []) = if bytes_eq word (codes "replay") then Some Replay else None
+command_of (word ∷ seed ∷ frames ∷ []) = if bytes_eq word (codes "load") then load_command (number_below (2 ^ 64) seed) (number_below (2 ^ 32) frames) else None
+command_of words = None
+
+-- whether the words are a command that reads a script
+abbrev pub reads_script : List (List ℕ) → Bool
+reads_script words = reads (command_of words) where
+  reads : Option Command → Bool
+  reads (Some Replay) = true
+  reads command = false

@@ -1,0 +1,84 @@
+-- What is written of a plan whose steps are replayed: the report, and the summary of a generated load. Both are read off the log,
+-- in which memories show what was stored.
+use Rattle.std.specs.Prelude.{ℕ, ◌+◌, Bool, true, false, List, [], ◌∷◌, ◌++◌, count_by, codes, length, map, min}
+use Rattle.std.specs.List.{flat_map, range_with_len}
+use Rattle.step_kinds.specs.declared.names.LaneName.{LaneName}
+use Rattle.step_kinds.specs.declared.names.Side.TheVariants.{A, B}
+use Rattle.step_kinds.specs.declared.plan.Counters.{Counters}
+use Rattle.step_kinds.specs.declared.plan.Line.{Line}
+use Rattle.step_kinds.specs.declared.plan.LineAnswer.{LineAnswer}
+use Rattle.step_kinds.specs.declared.plan.Plan.{Plan}
+use Rattle.step_kinds.specs.declared.steps.Answer.{Answer}
+use Rattle.step_kinds.specs.declared.steps.Answer.TheVariants.{Blocked}
+use Rattle.step_kinds.specs.declared.steps.Step.{Step}
+use Rattle.plan_model.specs.Plans.{pair_plan}
+use Rattle.ledger_model.specs.Log.{Answered, accepted, counters_in, delivered, first_session, log_of, trains}
+use Rattle.memory_model.specs.Memory.{memory_of}
+use Rattle.fabric_core.specs.Pinned.{lane_of_device}
+use Rattle.report_text.specs.Report.{line_of, report_of}
+use Rattle.report_text.specs.Texts.{numbers_text}
+use Rattle.report_text.specs.declared.whole.LaneCount.{LaneCount}
+use Rattle.traffic_plan.specs.Load.{load_of}
+
+-- the log of all steps of a plan
+abbrev pub steps_of : Plan → List Step
+steps_of plan = map (λ line. line.step) plan.steps
+
+abbrev pub log_of_plan : Plan → List Answered
+log_of_plan plan = log_of plan (memory_of plan) (steps_of plan)
+
+-- each step's line with its answer
+abbrev pub line_answers : List Line → List Answered → List LineAnswer
+line_answers [] log = []
+line_answers (line ∷ lines) [] = []
+line_answers (line ∷ lines) (made ∷ log) = record { line = line.line; answer = made.answer } ∷ line_answers lines log
+
+-- what a lane accepted and delivered in a session
+abbrev pub lane_count : Plan → List Answered → LaneName → ℕ → LaneCount
+lane_count plan log lane session =
+    record { name = lane; session = session; accepted = length (accepted plan log lane session); delivered = length (delivered plan log lane session) }
+
+-- the last session of a pair
+abbrev pub last_session : Plan → List Answered → ℕ → ℕ
+last_session plan log k = first_session plan k + count_by (trains k) log
+
+-- a lane in each session, from 1 on
+abbrev pub sessions_of_lane : Plan → List Answered → LaneName → List LaneCount
+sessions_of_lane plan log lane = map (lane_count plan log lane) (range_with_len 1 (last_session plan log lane.pair))
+
+-- the lanes of a pair: side A before side B, each queue that both sides have
+abbrev pub lanes_of_pair : Plan → ℕ → List LaneName
+lanes_of_pair plan k =
+    let queues = range_with_len 0 (min (pair_plan plan k).a.queues (pair_plan plan k).b.queues) in
+    flat_map (λ from. map (λ queue. record { pair = k; from = from; queue = queue }) queues) (A ∷ B ∷ [])
+
+-- all lanes, in all sessions
+abbrev pub lane_counts : Plan → List Answered → List LaneCount
+lane_counts plan log = flat_map (sessions_of_lane plan log) (flat_map (lanes_of_pair plan) (range_with_len 0 (length plan.pairs)))
+
+abbrev pub device_counts : Plan → List Answered → List Counters
+device_counts plan log = map (λ dev. counters_in plan log (lane_of_device dev)) plan.devs
+
+-- The report of a plan: its answers, what its lanes accepted and delivered, what its devices counted, and the end.
+abbrev pub replay_text : Plan → List ℕ
+replay_text plan =
+    let log = log_of_plan plan in
+    report_of plan (line_answers plan.steps log) (lane_counts plan log) (device_counts plan log)
+
+-- The summary of a generated load, whose one lane is from side A on queue 0 in the session in which its pair starts
+
+abbrev pub load_lane : LaneName
+load_lane = record { pair = 0; from = A; queue = 0 }
+
+abbrev pub is_blocked : Answer → Bool
+is_blocked Blocked = true
+is_blocked answer = false
+
+abbrev pub load_text : ℕ → ℕ → List ℕ
+load_text seed frames =
+    let plan = load_of seed frames in
+    let log = log_of_plan plan in
+    line_of
+    (codes "load" ++ numbers_text (seed ∷ frames ∷ []) ++ codes " accepted" ++ numbers_text (length (accepted plan log load_lane 1) ∷ [])
+    ++ codes " delivered" ++ numbers_text (length (delivered plan log load_lane 1) ∷ []) ++ codes " blocked"
+    ++ numbers_text (count_by (λ made. is_blocked made.answer) log ∷ []))
