@@ -2,5 +2,7 @@ pub mod Causes
 pub mod Commands
 pub mod Headline
 pub mod Output
+pub mod Replayed
 pub mod Replays
+pub mod Replies
 pub mod Runs

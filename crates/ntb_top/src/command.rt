@@ -1,8 +1,15 @@
 //! The words of a command line.
 
-ghost use Rattle.std.specs.Prelude.{◌≡◌, map};
+ghost use Rattle.std.specs.Prelude.{◌≡◌, ◌&&◌, ◌^◌, Some, None, if◌then◌else◌, map, nat_lt};
+ghost use Rattle.std.specs.List.{list_all};
 ghost use Rattle.std.specs.String.{string_bytes};
-ghost use Rattle.ntb_top.specs.Commands.{command_of as command_by_words};
+ghost use Rattle.script_words.specs.Words.{is_digit, value_from};
+ghost use Rattle.ntb_top.specs.Commands.{command_of as command_by_words, load_command, number_below};
+
+use script_words::words::read_number;
+
+/// The most frames of a load.
+const MOST_LOAD_FRAMES: u32 = 30_000;
 
 /// What the program is asked to do.
 #[derive(Clone, Copy, Debug, PartialEq, Eq)]
@@ -16,4 +23,56 @@ pub enum Command {
         /// How many frames are sent, 1 to 30,000.
         frames: u32,
     },
+}
+
+/// The command that the words of a command line are: `replay`, or `load SEED FRAMES`.
+pub fn command_of(words: &[String]) -> Option<Command>
+    ensures { result ≡ command_by_words (map string_bytes words.now) }
+{
+    match words {
+        [word] if word.as_bytes() == b"replay".as_slice() => Some(Command::Replay),
+        [word, seed, frames] if word.as_bytes() == b"load".as_slice() => {
+            load_of(seed.as_bytes(), frames.as_bytes())
+        }
+        _ => None,
+    }
+}
+
+// The load that a seed and a number of frames say.
+fn load_of(seed: &[u8], frames: &[u8]) -> Option<Command>
+    ensures { result ≡ load_command (number_below (2 ^ 64) seed.now) (number_below (2 ^ 32) frames.now) }
+{
+    let seed = seed_of(seed)?;
+    let frames = read_number(frames).ok()?;
+    if frames > 0 && frames <= MOST_LOAD_FRAMES {
+        Some(Command::Load { seed, frames })
+    } else {
+        None
+    }
+}
+
+// The number below 2^64 that a word spells: decimal digits without a leading zero but for zero itself.
+fn seed_of(word: &[u8]) -> Option<u64>
+    ensures { result ≡ number_below (2 ^ 64) word.now }
+{
+    match word {
+        [] | [b'0', _, ..] => None,
+        _ => digits_of(word),
+    }
+}
+
+// The value of decimal digits, below 2^64.
+fn digits_of(digits: &[u8]) -> Option<u64>
+    ensures { result ≡ (if list_all is_digit digits.now && nat_lt (value_from 0 digits.now) (2 ^ 64) then Some (value_from 0 digits.now) else None) }
+{
+    let mut value = 0u64;
+    for digit in digits {
+        if !digit.is_ascii_digit() {
+            return None;
+        }
+        value = value
+            .checked_mul(10)?
+            .checked_add(u64::from(*digit - b'0'))?;
+    }
+    Some(value)
 }

@@ -1,12 +1,9 @@
 use super::*;
-use io_edges::{MemorySink, PlainSource};
+use io_edges::{MemorySink, MemorySource, PlainSource};
 use std::test::Fail;
 
 /// More bytes than any text here has.
 const ROOM: usize = 1_000;
-
-/// One byte more than a script may have.
-const TOO_MANY: usize = 16_777_217;
 
 const ONE_FRAME: &str = "ntb 1
 host a
@@ -36,36 +33,37 @@ lane p A 0 1 accepted 1 delivered 1
 end
 ";
 
-const EMPTY_RING: &str = "ntb 1
-host a
-host b
-pair p a b up strict size=4096 mtu=1023
-steps
-recv p B 0
-";
-
-const UNKNOWN_STEP: &str = "ntb 1
-host a
-host b
-pair p a b up strict size=4096 mtu=1023
-steps
-peek p A 0
-";
-
-// The status of the program on one word over these bytes, and what it wrote.
-fn answer_to(alloc: Global, word: &str, bytes: Vec<u8>) -> Result<(u8, MemorySink), AllocError> {
+// Words of a command line.
+fn words_of(alloc: Global, texts: &[&str]) -> Result<Vec<String>, AllocError> {
     let mut words = Vec::new(alloc);
-    words.push(String::from_str(alloc, word)?)?;
-    let mut source = PlainSource::new(bytes);
+    for text in texts {
+        words.push(String::from_str(alloc, *text)?)?;
+    }
+    Ok(words)
+}
+
+// The status of the program on these words over a source, and what it wrote.
+fn answer_to<S: Source>(
+    alloc: Global,
+    texts: &[&str],
+    source: &mut S,
+) -> Result<(u8, MemorySink), AllocError> {
+    let words = words_of(alloc, texts)?;
     let mut sink = MemorySink::new(alloc, ROOM, ROOM, Vec::new(alloc))?;
-    let status = run_program(alloc, &words, &mut source, &mut sink);
+    let status = run_program(alloc, &words, source, &mut sink);
     Ok((status, sink))
 }
 
 // The same of `replay` over a script.
 fn replay_of(alloc: Global, script: &str) -> Result<(u8, MemorySink), AllocError> {
-    let bytes = String::from_str(alloc, script)?.into_bytes();
-    answer_to(alloc, "replay", bytes)
+    let mut source = PlainSource::new(String::from_str(alloc, script)?.into_bytes());
+    answer_to(alloc, &["replay"], &mut source)
+}
+
+// The same of words over no bytes.
+fn answer_to_words(alloc: Global, texts: &[&str]) -> Result<(u8, MemorySink), AllocError> {
+    let mut source = PlainSource::new(Vec::new(alloc));
+    answer_to(alloc, texts, &mut source)
 }
 
 #[test]
@@ -77,43 +75,25 @@ fn one_frame_there_and_back(rt: HostRuntime) -> Result<(), Fail> {
 }
 
 #[test]
-fn header_alone(rt: HostRuntime) -> Result<(), Fail> {
-    let (status, sink) = replay_of(rt.alloc(), "ntb 1\n")?;
-    assert_eq!(rt; status, 0);
-    assert_eq!(rt; sink.held(), "end\n".as_bytes());
-    Ok(())
-}
-
-#[test]
-fn receive_from_an_empty_ring(rt: HostRuntime) -> Result<(), Fail> {
-    let (status, sink) = replay_of(rt.alloc(), EMPTY_RING)?;
-    assert_eq!(rt; status, 0);
-    let report = "6 empty\n6 outofturn\n6 outofturn\n6 outofturn\nend\n";
-    assert_eq!(rt; sink.held(), report.as_bytes());
-    Ok(())
-}
-
-#[test]
-fn unknown_step(rt: HostRuntime) -> Result<(), Fail> {
-    let (status, sink) = replay_of(rt.alloc(), UNKNOWN_STEP)?;
-    assert_eq!(rt; status, 3);
-    assert_eq!(rt; sink.held(), "refused line 6 notbuilt\n".as_bytes());
-    Ok(())
-}
-
-#[test]
-fn input_too_long(rt: HostRuntime) -> Result<(), Fail> {
-    let bytes = vec![in rt.alloc(); b'#'; TOO_MANY]?;
-    let (status, sink) = answer_to(rt.alloc(), "replay", bytes)?;
-    assert_eq!(rt; status, 7);
-    assert_eq!(rt; sink.held(), "too long\n".as_bytes());
-    Ok(())
-}
-
-#[test]
 fn no_such_command(rt: HostRuntime) -> Result<(), Fail> {
-    let (status, sink) = answer_to(rt.alloc(), "reply", Vec::new(rt.alloc()))?;
+    let (status, sink) = answer_to_words(rt.alloc(), &["reply"])?;
     assert_eq!(rt; status, 2);
     assert_eq!(rt; sink.held(), "usage\n".as_bytes());
+    Ok(())
+}
+
+#[test]
+fn more_frames_than_a_load_has(rt: HostRuntime) -> Result<(), Fail> {
+    let (status, sink) = answer_to_words(rt.alloc(), &["load", "1", "30001"])?;
+    assert_eq!(rt; status, 2);
+    assert_eq!(rt; sink.held(), "usage\n".as_bytes());
+    Ok(())
+}
+
+#[test]
+fn line_with_a_fault(rt: HostRuntime) -> Result<(), Fail> {
+    let (status, sink) = replay_of(rt.alloc(), "ntb 1\nhost a\nhots b\n")?;
+    assert_eq!(rt; status, 3);
+    assert_eq!(rt; sink.held(), "refused line 3 unknownword\n".as_bytes());
     Ok(())
 }
