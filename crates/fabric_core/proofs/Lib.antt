@@ -1,3 +1,6 @@
+pub mod FrameTurns
 pub mod Keeping
 pub mod MorePages
+pub mod OneFlight
+pub mod Phases
 pub mod SessionTallies
