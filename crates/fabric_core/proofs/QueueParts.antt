@@ -10,7 +10,10 @@ use Rattle.frame_ring.specs.Calls.{after_copy}
 use Rattle.frame_ring.specs.Port.{PortState, unused_of}
 use Rattle.frame_ring.specs.Seen.{HasPagesIn}
 use Rattle.queue_pair.specs.Queue.{QueueState}
-use Rattle.fabric_rule.specs.Moves.{delivered_where_whole}
+use Rattle.queue_pair.specs.declared.BeginAnswer.{BeginAnswer}
+use Rattle.queue_pair.specs.declared.BeginAnswer.TheVariants.{Ok as IsBegun}
+use Rattle.fabric_rule.specs.Answers.{of_begin}
+use Rattle.fabric_rule.specs.Moves.{accepted_where_begun, delivered_where_whole}
 use Rattle.fabric_rule.specs.Parts.{QueuePart, SessionCount}
 use Rattle.fabric_core.specs.Parts.{KeepsPort}
 use Rattle.fabric_core.proofs.Keeping.{keeps_exact}
@@ -40,3 +43,8 @@ keeps_copy port bridge ready =
     (at_most (flight_of bridge (other_side port.side)).spare) ready where
   at_most : (n : ℕ) → n ≤ n
   at_most n = omega arith
+
+pub not_begun : (answer : BeginAnswer) (session : ℕ) (part : QueuePart) → ((number : ℕ) → answer ≡ IsBegun number → ⊥)
+    → accepted_where_begun (of_begin answer) session part ≡ part
+not_begun (IsBegun number) session part other = absurd (other number refl)
+not_begun answer session part other = refl
