@@ -122,3 +122,17 @@ frame_stopped part new bridge frame stopped none counted =
       answered = sym stops;
       turned = counted ∙ ap (λ (answer : Answer). xbegun answer (bare_pair bridge) part frame) (sym stops);
     }
+
+-- What a beginning leaves of the counters, and counting of the queue
+
+begun_counters : (answer : Answer) (session : ℕ) (part : QueuePart) → (accepted_where_begun answer session part).counters ≡ part.counters
+begun_counters (OkNumber number) session part = refl
+begun_counters answer session part = refl
+
+pub begin_counters : (part : QueuePart) (bridge : Bridge) (frame : List ℕ) → (begin_turn part bridge frame).part.counters ≡ part.counters
+begin_counters part bridge frame =
+    begun_counters (of_begin (begin_answer part.queue bridge (length frame))) bridge.link.session (record part { queue = after_begin part.queue bridge frame })
+
+pub counted_queue : (answer : Answer) (part : QueuePart) (free len : ℕ) → (counted_begun answer part free len).queue ≡ part.queue
+counted_queue (OkNumber number) part free len = refl
+counted_queue answer part free len = refl
