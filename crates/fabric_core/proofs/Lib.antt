@@ -1,6 +1,10 @@
 pub mod Counted
+pub mod FrameTurns
 pub mod FreshFabrics
 pub mod Keeping
 pub mod MorePages
+pub mod OneFlight
+pub mod Phases
+pub mod QueueParts
 pub mod SessionTallies
 pub mod Standing
