@@ -82,10 +82,10 @@ abbrev pub HasPlace : Bridge → StepPlace → Type 0
 HasPlace bridge (OnQueue side queue) = queue < (side_plan bridge.plan side).queues
 HasPlace bridge place = Unit {0}
 
-pub record CanMake (devs : List DevPlan) (bridge : Bridge) (step : Step) : Type 0 where
-  pub place : HasPlace bridge (place_of step)
+pub record CanMake (devs : List DevPlan) (before : Bridge) (step : Step) : Type 0 where
+  pub place : HasPlace before (place_of step)
   pub queue : CanTurnQueue devs step
-  pub bridge : CanTurn bridge step
+  pub bridge : CanTurn before step
 
 -- no two devices of the pair are on one queue
 abbrev pub AreAlone : List DevPlan → ℕ → Type 0
@@ -98,9 +98,9 @@ AreLimitsOn devs k side queue stop start =
     (d : ℕ) → d < length devs → IsOn (dev_plan devs d) k side queue → (stop ≡ (dev_plan devs d).stop) × (start ≡ (dev_plan devs d).start)
 
 -- the queues of a side before any step
-pub record AreFreshQueues (devs : List DevPlan) (plan : PairPlan) (k : ℕ) (side : Side) (queues : List QueuePart) : Type 0 where
-  pub all_queues : length queues ≡ (side_plan plan side).queues
-  pub queues : (queue : ℕ) → queue < (side_plan plan side).queues → IsFreshQueue devs plan k side queue (slice_index_or queues queue no_queue)
+pub record AreFreshQueues (devs : List DevPlan) (plan : PairPlan) (k : ℕ) (side : Side) (parts : List QueuePart) : Type 0 where
+  pub all_queues : length parts ≡ (side_plan plan side).queues
+  pub queues : (queue : ℕ) → queue < (side_plan plan side).queues → IsFreshQueue devs plan k side queue (slice_index_or parts queue no_queue)
 
 -- the queues of one side of a bridge, which has room for what they haven't used
 pub record CanForget (bridge : Bridge) (side : Side) (queues : List QueuePart) : Type 0 where
