@@ -1,3 +1,4 @@
+pub mod CleanedPairs
 pub mod Forgetting
 pub mod FreshQueues
 pub mod Keeping
