@@ -4,5 +4,6 @@ pub mod FreshQueues
 pub mod Keeping
 pub mod MorePages
 pub mod SessionTallies
+pub mod SteppedPairs
 pub mod Turning
 pub mod Whole

@@ -1,14 +1,17 @@
 -- A step on a pair is a turn of the part that it touches, and a step on the bridge keeps all that was promised.
-use Rattle.std.proofs.Common.{◌≡◌, ◌∙◌, ℕ, ◌≤◌, Bool, true, false, Contains, List, refl, sym, ap, subst, arith, if◌then◌else◌}
+use Rattle.std.proofs.Common.{◌≡◌, ◌∙◌, ℕ, ◌≤◌, Bool, true, false, Contains, List, length, refl, sym, ap, subst, arith, if◌then◌else◌}
+use Rattle.step_kinds.specs.Bits.{with_bit}
 use Rattle.step_kinds.specs.declared.names.Side.{Side}
 use Rattle.step_kinds.specs.declared.names.Side.TheVariants.{A, B}
 use Rattle.step_kinds.specs.declared.plan.DevPlan.{DevPlan}
 use Rattle.step_kinds.specs.declared.steps.Answer.{Answer}
 use Rattle.step_kinds.specs.declared.steps.Answer.TheVariants.{OkNumber}
+use Rattle.step_kinds.specs.declared.steps.Label.TheVariants.{Raw}
 use Rattle.step_kinds.specs.declared.steps.Step.{Step}
 use Rattle.step_kinds.specs.declared.steps.Step.TheVariants.{Enable, Train, Break, DropDone, Clean, Offer, Check, Ready, Join, Begin, QpDown, Xbegin, Post, Land, Look, Copy, Clear, Ack, Wake, Irq, Mask, Unmask, Spad, Poke, ShowMem, ShowPad, ShowQueue}
 use Rattle.plan_model.specs.Ethernet.{ethernet_frame}
 use Rattle.plan_model.specs.Link.{is_up}
+use Rattle.plan_model.specs.Pads.{links_pad, pad_index}
 use Rattle.plan_model.specs.Plans.{dev_plan}
 use Rattle.bridge_pair.specs.Bridge.{Bridge, bells_of, book_of, flight_of, pages_of, with_bells, with_book, with_bytes}
 use Rattle.bridge_pair.specs.Laws.{KeepsPromises}
@@ -90,7 +93,7 @@ booked_keeps bridge side write book =
     (own_writes_keep_promises.book (with_posted bridge side write) side book)
 
 offer_keeps : (bridge : Bridge) (side : Side) (answer : OfferAnswer) → KeepsPromises bridge (after_offer_answer bridge side answer)
-offer_keeps bridge side (Offered index) = booked_keeps bridge side _ _
+offer_keeps bridge side (Offered index) = booked_keeps bridge side (pad_write (pad_index (next_offer bridge side)) (pad_value (next_offer bridge side))) _
 offer_keeps bridge side answer = keeps_all bridge
 
 check_keeps : (bridge : Bridge) (side : Side) (answer : CheckAnswer) → KeepsPromises bridge (after_check_answer bridge side answer)
@@ -100,7 +103,7 @@ check_keeps bridge side Up =
 check_keeps bridge side answer = keeps_all bridge
 
 ready_keeps : (bridge : Bridge) (side : Side) (queue : ℕ) (answer : ReadyAnswer) → KeepsPromises bridge (after_ready_answer bridge side queue answer)
-ready_keeps bridge side queue IsReady = booked_keeps bridge side _ _
+ready_keeps bridge side queue IsReady = booked_keeps bridge side (pad_write links_pad (with_bit (book_of bridge side).ready queue)) _
 ready_keeps bridge side queue answer = keeps_all bridge
 
 join_keeps : (bridge : Bridge) (side : Side) (queue : ℕ) (answer : JoinAnswer) → KeepsPromises bridge (after_join_answer bridge side queue answer)
@@ -126,8 +129,8 @@ turn_keeps bridge (Land p side place) = landing_keeps_promises bridge side place
 turn_keeps bridge (Irq p side) = own_writes_keep_promises.bells bridge side _
 turn_keeps bridge (Mask p side bits) = own_writes_keep_promises.bells bridge side _
 turn_keeps bridge (Unmask p side bits) = own_writes_keep_promises.bells bridge side _
-turn_keeps bridge (Spad p side i value) = aside_keeps bridge side _
-turn_keeps bridge (Poke p side window offset bytes) = aside_keeps bridge side _
+turn_keeps bridge (Spad p side i value) = aside_keeps bridge side (pad_write i value)
+turn_keeps bridge (Poke p side window offset bytes) = aside_keeps bridge side (memory_write (Raw window offset (length bytes)) window offset bytes)
 turn_keeps bridge step = keeps_all bridge
 
 -- and further pages may be promised
