@@ -1,6 +1,9 @@
+pub mod CleanedPairs
 pub mod Counted
+pub mod Forgetting
 pub mod FrameTurns
 pub mod FreshFabrics
+pub mod FreshQueues
 pub mod Keeping
 pub mod MorePages
 pub mod OneFlight
@@ -8,3 +11,6 @@ pub mod Phases
 pub mod QueueParts
 pub mod SessionTallies
 pub mod Standing
+pub mod SteppedPairs
+pub mod Turning
+pub mod Whole

@@ -1,0 +1,56 @@
+-- A pair stays whole where a side forgets its session, and its queues with it.
+use Rattle.std.proofs.Common.{◌≡◌, ◌∙◌, ℕ, ◌<◌, ◌≤◌, Contains, List, length, map, sym, ap, subst, arith}
+use Rattle.step_kinds.specs.Sides.{other_side}
+use Rattle.step_kinds.specs.declared.names.Side.{Side}
+use Rattle.step_kinds.specs.declared.names.Side.TheVariants.{A, B}
+use Rattle.bridge_pair.specs.Bridge.{Bridge, flight_of, pages_of}
+use Rattle.bridge_pair.specs.Flights.{Flying}
+use Rattle.bridge_pair.specs.Laws.{KeepsPromises}
+use Rattle.posted_queue.specs.Flight.{Flight}
+use Rattle.fabric_rule.specs.Moves.{forgotten_queue}
+use Rattle.fabric_rule.specs.Parts.{QueuePart}
+use Rattle.fabric_core.specs.Parts.{CanForget, HasOtherRoom, IsWhole}
+use Rattle.fabric_core.proofs.Forgetting.{other_plan}
+use Rattle.fabric_core.proofs.Whole.{SideIsWhole, both_whole, side_forgotten, side_kept, side_whole}
+
+-- of numbers alone
+no_less : (n m : ℕ) → n ≡ m → m ≤ n
+no_less n m e = omega (arith, e)
+
+kept_side : (old new : Bridge) (side : Side) (parts : List QueuePart) → KeepsPromises old new → SideIsWhole old side parts → SideIsWhole new side parts
+kept_side old new side parts keeps whole =
+    side_kept old new side parts keeps.plan (λ any page had. subst (λ pages. Contains pages page) (sym (keeps.pages any)) had)
+    (no_less (flight_of new side).spare (flight_of old side).spare (keeps.spare side)) whole
+
+pub can_forget : (old new : Bridge) (side : Side) (parts : List QueuePart) → KeepsPromises old new → SideIsWhole old side parts → CanForget new side parts
+can_forget old new side parts keeps before =
+    let whole = kept_side old new side parts keeps before in
+    record {
+      its_plan = λ k below. (whole.queues k (subst (λ n. k < n) whole.all_queues below)).its_plan;
+      its_side = λ k below. (whole.queues k (subst (λ n. k < n) whole.all_queues below)).its_side;
+      room = whole.room;
+    }
+
+other_flight : (old new : Bridge) (side : Side) → HasOtherRoom old side new → flight_of new (other_side side) ≡ flight_of old (other_side side)
+other_flight old new A other = ap (λ (bridge : Bridge). bridge.flights.b) other.rest
+other_flight old new B other = ap (λ (bridge : Bridge). bridge.flights.a) other.rest
+
+peer_still : (old new : Bridge) (side : Side) (parts : List QueuePart) → HasOtherRoom old side new → SideIsWhole old (other_side side) parts → SideIsWhole new (other_side side) parts
+peer_still old new side parts other whole =
+    side_kept old new (other_side side) parts (other_plan old new side other)
+    (λ any page had. subst (λ pages. Contains pages page) (sym (ap (λ (bridge : Bridge). pages_of bridge any) other.rest)) had)
+    (no_less (flight_of new (other_side side)).spare (flight_of old (other_side side)).spare (ap (λ (flight : Flight Flying). flight.spare) (other_flight old new side other))) whole
+
+pub forgot_a : (old mid new : Bridge) (a b forgotten : List QueuePart) → IsWhole (record { bridge = old; queues = record { a = a; b = b } }) → KeepsPromises old mid → HasOtherRoom mid A new
+    → forgotten ≡ map forgotten_queue a → IsWhole (record { bridge = new; queues = record { a = forgotten; b = b } })
+forgot_a old mid new a b forgotten whole keeps other is =
+    both_whole new forgotten b
+    (subst (λ parts. SideIsWhole new A parts) (sym is) (side_forgotten mid new A a (other_plan mid new A other) (kept_side old mid A a keeps (side_whole _ A whole))))
+    (peer_still mid new A b other (kept_side old mid B b keeps (side_whole _ B whole)))
+
+pub forgot_b : (old mid new : Bridge) (a b forgotten : List QueuePart) → IsWhole (record { bridge = old; queues = record { a = a; b = b } }) → KeepsPromises old mid → HasOtherRoom mid B new
+    → forgotten ≡ map forgotten_queue b → IsWhole (record { bridge = new; queues = record { a = a; b = forgotten } })
+forgot_b old mid new a b forgotten whole keeps other is =
+    both_whole new a forgotten
+    (peer_still mid new B a other (kept_side old mid A a keeps (side_whole _ A whole)))
+    (subst (λ parts. SideIsWhole new B parts) (sym is) (side_forgotten mid new B b (other_plan mid new B other) (kept_side old mid B b keeps (side_whole _ B whole))))

@@ -1,0 +1,166 @@
+-- A step on a pair is a turn of the part that it touches, and a step on the bridge keeps all that was promised.
+use Rattle.std.proofs.Common.{◌≡◌, ◌∙◌, ℕ, ◌≤◌, Bool, true, false, Contains, List, length, refl, sym, ap, subst, arith, if◌then◌else◌}
+use Rattle.step_kinds.specs.Bits.{with_bit}
+use Rattle.step_kinds.specs.declared.names.Side.{Side}
+use Rattle.step_kinds.specs.declared.names.Side.TheVariants.{A, B}
+use Rattle.step_kinds.specs.declared.plan.DevPlan.{DevPlan}
+use Rattle.step_kinds.specs.declared.steps.Answer.{Answer}
+use Rattle.step_kinds.specs.declared.steps.Answer.TheVariants.{OkNumber}
+use Rattle.step_kinds.specs.declared.steps.Label.TheVariants.{Raw}
+use Rattle.step_kinds.specs.declared.steps.Step.{Step}
+use Rattle.step_kinds.specs.declared.steps.Step.TheVariants.{Enable, Train, Break, DropDone, Clean, Offer, Check, Ready, Join, Begin, QpDown, Xbegin, Post, Land, Look, Copy, Clear, Ack, Wake, Irq, Mask, Unmask, Spad, Poke, ShowMem, ShowPad, ShowQueue}
+use Rattle.plan_model.specs.Ethernet.{ethernet_frame}
+use Rattle.plan_model.specs.Link.{is_up}
+use Rattle.plan_model.specs.Pads.{links_pad, pad_index}
+use Rattle.plan_model.specs.Plans.{dev_plan}
+use Rattle.bridge_pair.specs.Bridge.{Bridge, bells_of, book_of, flight_of, pages_of, with_bells, with_book, with_bytes}
+use Rattle.bridge_pair.specs.Laws.{KeepsPromises}
+use Rattle.bridge_pair.specs.Writes.{PostedWrite, memory_write, pad_write}
+use Rattle.bridge_pair.specs.declared.book.SideBook.{SideBook}
+use Rattle.bridge_pair.proofs.Keeping.{bytes_keep, keeps_all, keeps_both, landing_keeps_promises, link_steps_keep_promises, own_writes_keep_promises}
+use Rattle.hand_shake.specs.Checks.{after_answer as after_check_answer, check_answer, fresh_rings}
+use Rattle.hand_shake.specs.Offers.{after_answer as after_offer_answer, next_offer, offer_answer, pad_value, with_posted}
+use Rattle.hand_shake.specs.Queues.{after_join_answer, after_ready_answer, join_answer, ready_answer}
+use Rattle.hand_shake.specs.declared.CheckAnswer.{CheckAnswer}
+use Rattle.hand_shake.specs.declared.CheckAnswer.TheVariants.{Up}
+use Rattle.hand_shake.specs.declared.JoinAnswer.{JoinAnswer}
+use Rattle.hand_shake.specs.declared.JoinAnswer.TheVariants.{Joined}
+use Rattle.hand_shake.specs.declared.OfferAnswer.{OfferAnswer}
+use Rattle.hand_shake.specs.declared.OfferAnswer.TheVariants.{Offered}
+use Rattle.hand_shake.specs.declared.ReadyAnswer.{ReadyAnswer}
+use Rattle.hand_shake.specs.declared.ReadyAnswer.TheVariants.{Ok as IsReady}
+use Rattle.fabric_rule.specs.Moves.{Move, bridge_move, clean_move, posted_aside, xbegun}
+use Rattle.fabric_rule.specs.Parts.{PairState, QueuePart, plain_bridge, queue_of}
+use Rattle.fabric_rule.specs.Steps.{move_of}
+use Rattle.fabric_core.specs.Promised.{HasMorePages, KeepsPromised}
+use Rattle.fabric_core.specs.Turns.{bare_pair, bridge_turn, place_of, queue_turn, turned, xbegin_turn}
+use Rattle.fabric_core.specs.declared.places.StepPlace.{StepPlace}
+use Rattle.fabric_core.specs.declared.places.StepPlace.TheVariants.{OnQueue, OnSide, OnBridge}
+
+-- Where a step is made
+
+-- what a step is that is made there
+abbrev pub IsMadeAt : List DevPlan → PairState → Step → StepPlace → Type 0
+IsMadeAt devs pair step (OnQueue side queue) = move_of devs pair step ≡ turned pair side queue (queue_turn devs (queue_of pair side queue) pair.bridge step)
+IsMadeAt devs pair step (OnSide side) = move_of devs pair step ≡ clean_move pair side
+IsMadeAt devs pair step OnBridge = move_of devs pair step ≡ bridge_move pair (bridge_turn pair.bridge step).answer (bridge_turn pair.bridge step).bridge
+
+-- of a pair it is the bridge alone that a device's frame needs
+xbegun_bare : (answer : Answer) (pair : PairState) (part : QueuePart) (frame : List ℕ) → xbegun answer pair part frame ≡ xbegun answer (bare_pair pair.bridge) part frame
+xbegun_bare (OkNumber number) pair part frame = refl
+xbegun_bare answer pair part frame = refl
+
+with_part : PairState → Side → ℕ → Answer → QueuePart → Move
+with_part pair side queue answer part = turned pair side queue (record { answer = answer; part = part; bridge = pair.bridge })
+
+xbegin_made : (pair : PairState) (dev : DevPlan) (side : Side) (queue : ℕ) (frame : List ℕ) (answer : Answer)
+    → turned pair side queue (record { answer = answer; part = xbegun answer pair (queue_of pair side queue) frame; bridge = pair.bridge })
+    ≡ turned pair side queue (record { answer = answer; part = xbegun answer (bare_pair pair.bridge) (queue_of pair side queue) frame; bridge = pair.bridge })
+unfolding with_part
+xbegin_made pair dev side queue frame answer = ap (with_part pair side queue answer) (xbegun_bare answer pair (queue_of pair side queue) frame)
+
+pub made_at : (devs : List DevPlan) (pair : PairState) (step : Step) → IsMadeAt devs pair step (place_of step)
+made_at devs pair (Xbegin p side queue dev dst kind payload) = xbegin_made pair (dev_plan devs dev) side queue (ethernet_frame dst (dev_plan devs dev).address kind payload) _
+made_at devs pair (Begin p side queue frame) = refl
+made_at devs pair step = refl
+
+-- What a step on the bridge keeps
+
+still : (old new : Bridge) → KeepsPromises old new → KeepsPromised old new
+still old new keeps =
+    record {
+      plan = keeps.plan;
+      pages = λ side page had. subst (λ pages. Contains pages page) (sym (keeps.pages side)) had;
+      spare = λ side. no_less (flight_of new side).spare (flight_of old side).spare (keeps.spare side);
+    } where
+      no_less : (n m : ℕ) → n ≡ m → m ≤ n
+      no_less n m e = omega (arith, e)
+
+-- a write that asks for its own room
+posted_keeps : (bridge : Bridge) (side : Side) (write : PostedWrite) → KeepsPromises bridge (with_posted bridge side write)
+posted_keeps bridge A write = record { plan = refl; pages = λ any. refl; spare = at } where
+  at : (any : Side) → (flight_of (with_posted bridge A write) any).spare ≡ (flight_of bridge any).spare
+  at A = refl
+  at B = refl
+posted_keeps bridge B write = record { plan = refl; pages = λ any. refl; spare = at } where
+  at : (any : Side) → (flight_of (with_posted bridge B write) any).spare ≡ (flight_of bridge any).spare
+  at A = refl
+  at B = refl
+
+booked_keeps : (bridge : Bridge) (side : Side) (write : PostedWrite) (book : SideBook) → KeepsPromises bridge (with_book (with_posted bridge side write) side book)
+booked_keeps bridge side write book =
+    keeps_both bridge (with_posted bridge side write) (with_book (with_posted bridge side write) side book) (posted_keeps bridge side write)
+    (own_writes_keep_promises.book (with_posted bridge side write) side book)
+
+offer_keeps : (bridge : Bridge) (side : Side) (answer : OfferAnswer) → KeepsPromises bridge (after_offer_answer bridge side answer)
+offer_keeps bridge side (Offered index) = booked_keeps bridge side (pad_write (pad_index (next_offer bridge side)) (pad_value (next_offer bridge side))) _
+offer_keeps bridge side answer = keeps_all bridge
+
+check_keeps : (bridge : Bridge) (side : Side) (answer : CheckAnswer) → KeepsPromises bridge (after_check_answer bridge side answer)
+check_keeps bridge side Up =
+    keeps_both bridge (with_bytes bridge side (fresh_rings bridge side)) (after_check_answer bridge side Up) (bytes_keep bridge side (fresh_rings bridge side))
+    (own_writes_keep_promises.book (with_bytes bridge side (fresh_rings bridge side)) side _)
+check_keeps bridge side answer = keeps_all bridge
+
+ready_keeps : (bridge : Bridge) (side : Side) (queue : ℕ) (answer : ReadyAnswer) → KeepsPromises bridge (after_ready_answer bridge side queue answer)
+ready_keeps bridge side queue IsReady = booked_keeps bridge side (pad_write links_pad (with_bit (book_of bridge side).ready queue)) _
+ready_keeps bridge side queue answer = keeps_all bridge
+
+join_keeps : (bridge : Bridge) (side : Side) (queue : ℕ) (answer : JoinAnswer) → KeepsPromises bridge (after_join_answer bridge side queue answer)
+join_keeps bridge side queue Joined = own_writes_keep_promises.book bridge side _
+join_keeps bridge side queue answer = keeps_all bridge
+
+aside_keeps : (bridge : Bridge) (side : Side) (write : PostedWrite) → KeepsPromises bridge (posted_aside bridge side write)
+aside_keeps bridge side write = at_test (is_up bridge.link.state) where
+  at_test : (up : Bool) → KeepsPromises bridge (if up then with_posted bridge side write else bridge)
+  at_test true = posted_keeps bridge side write
+  at_test false = keeps_all bridge
+
+turn_keeps : (bridge : Bridge) (step : Step) → KeepsPromises bridge (bridge_turn bridge step).bridge
+turn_keeps bridge (Enable p side) = link_steps_keep_promises.enable bridge side
+turn_keeps bridge (Train p) = link_steps_keep_promises.train bridge
+turn_keeps bridge (Break p) = link_steps_keep_promises.cut bridge
+turn_keeps bridge (DropDone p) = link_steps_keep_promises.drop_done bridge
+turn_keeps bridge (Offer p side) = offer_keeps bridge side (offer_answer bridge side)
+turn_keeps bridge (Check p side) = check_keeps bridge side (check_answer bridge side)
+turn_keeps bridge (Ready p side queue) = ready_keeps bridge side queue (ready_answer bridge side queue)
+turn_keeps bridge (Join p side queue) = join_keeps bridge side queue (join_answer bridge side queue)
+turn_keeps bridge (Land p side place) = landing_keeps_promises bridge side place
+turn_keeps bridge (Irq p side) = own_writes_keep_promises.bells bridge side _
+turn_keeps bridge (Mask p side bits) = own_writes_keep_promises.bells bridge side _
+turn_keeps bridge (Unmask p side bits) = own_writes_keep_promises.bells bridge side _
+turn_keeps bridge (Spad p side i value) = aside_keeps bridge side (pad_write i value)
+turn_keeps bridge (Poke p side window offset bytes) = aside_keeps bridge side (memory_write (Raw window offset (length bytes)) window offset bytes)
+turn_keeps bridge step = keeps_all bridge
+
+-- and further pages may be promised
+
+more_keeps : (old new : Bridge) → HasMorePages old new → KeepsPromised old new
+more_keeps old new more =
+    record {
+      plan = ap (λ (bridge : Bridge). bridge.plan) more.rest;
+      pages = more.stay;
+      spare = λ side. subst (λ (bridge : Bridge). (flight_of old side).spare ≤ (flight_of bridge side).spare) (sym more.rest) (no_less (flight_of old side).spare);
+    } where
+      no_less : (n : ℕ) → n ≤ n
+      no_less n = omega arith
+
+kept_twice : (old mid new : Bridge) → KeepsPromised old mid → KeepsPromised mid new → KeepsPromised old new
+kept_twice old mid new first second =
+    record {
+      plan = second.plan ∙ first.plan;
+      pages = λ side page had. second.pages side page (first.pages side page had);
+      spare = λ side. at_most (flight_of old side).spare (flight_of mid side).spare (flight_of new side).spare (first.spare side) (second.spare side);
+    } where
+      at_most : (n m k : ℕ) → n ≤ m → m ≤ k → n ≤ k
+      at_most n m k few more = omega (arith, few, more)
+
+pub more_plain : (old new : Bridge) → HasMorePages old new → plain_bridge new ≡ plain_bridge old
+more_plain old new more = ap plain_bridge more.rest
+
+pub turn_promised : (old new : Bridge) (step : Step) → HasMorePages (bridge_turn old step).bridge new → KeepsPromised old new
+turn_promised old new step more =
+    kept_twice old (bridge_turn old step).bridge new (still old (bridge_turn old step).bridge (turn_keeps old step)) (more_keeps (bridge_turn old step).bridge new more)
+
+pub more_promised : (old new : Bridge) → HasMorePages old new → KeepsPromised old new
+more_promised old new more = more_keeps old new more

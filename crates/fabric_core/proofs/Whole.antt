@@ -1,0 +1,189 @@
+-- What is so of every pair stays so: through calls of one of its queues, through steps on its bridge, and where a side forgets its session.
+use Rattle.std.proofs.Common.{◌≡◌, ◌∙◌, ℕ, suc, ◌+◌, ◌<◌, ◌≤◌, ◌⊎◌, All, Contains, List, [], ◌∷◌, Option, Some, None, length, get_or, map, set, rules, inl, inr, refl, sym, ap, subst, arith}
+use Rattle.std.proofs.lemmas.Bool.{cases_eq}
+use Rattle.std.proofs.lemmas.List.{get_or-map, get_or-set_other, get_or-set_same, length-map, length-set}
+use Rattle.std.proofs.lemmas.List.Elements.{All-weaker}
+use Rattle.std.proofs.lemmas.List.Sums.{sum_by-cons, sum_by-set}
+use Rattle.step_kinds.specs.Sides.{other_side}
+use Rattle.step_kinds.specs.declared.names.Side.{Side}
+use Rattle.step_kinds.specs.declared.names.Side.TheVariants.{A, B}
+use Rattle.step_kinds.specs.declared.plan.PairPlan.{PairPlan}
+use Rattle.byte_model.specs.RingWrites.{WindowWrite, entry_write}
+use Rattle.plan_model.specs.Plans.{side_plan}
+use Rattle.bridge_pair.specs.Bridge.{Bridge, flight_of, pages_of}
+use Rattle.fabric_rule.specs.Moves.{forgotten_queue}
+use Rattle.fabric_rule.specs.Parts.{PairState, QueuePart, no_queue, queue_of, queues_of, with_bridge}
+use Rattle.frame_ring.specs.Port.{Left, PortState, fresh_port, unused_of, writes_left}
+use Rattle.frame_ring.specs.Seen.{HasPages, HasPagesIn, IsLeftReady, IsReady}
+use Rattle.fabric_core.specs.Parts.{IsInPlace, IsWhole, KeepsPort, all_unused}
+use Rattle.fabric_core.specs.Promised.{KeepsPromised}
+
+-- Pages that were promised stay so
+
+still_ready : (plan : PairPlan) (side : Side) (old new : List ℕ) (write : Option WindowWrite) → ((page : ℕ) → Contains old page → Contains new page) → IsReady plan side old write
+    → IsReady plan side new write
+still_ready plan side old new None stay ready = tt
+still_ready plan side old new (Some write) stay ready = λ reach page touches. stay page (ready reach page touches)
+
+pages_stay : (port : PortState) (own peer own_new peer_new : List ℕ) → ((page : ℕ) → Contains own page → Contains own_new page) → ((page : ℕ) → Contains peer page → Contains peer_new page)
+    → HasPages port own peer → HasPages port own_new peer_new
+pages_stay port own peer own_new peer_new stay peer_stay ready =
+    record {
+      writes =
+          All-weaker (IsLeftReady port.plan port.side peer) (IsLeftReady port.plan port.side peer_new)
+          (λ (left : Left) (h : IsLeftReady port.plan port.side peer left). still_ready port.plan port.side peer peer_new (entry_write port.plan port.side left.entry left.label) peer_stay h) (writes_left port)
+          ready.writes;
+      flags = λ busy page touches. stay page (ready.flags busy page touches);
+      index_word = λ busy reach page touches. peer_stay page (ready.index_word busy reach page touches);
+    }
+
+abbrev PagesStay : Bridge → Bridge → Type 0
+PagesStay old new = (side : Side) (page : ℕ) → Contains (pages_of old side) page → Contains (pages_of new side) page
+
+place_kept : (old new : Bridge) (side : Side) (queue : ℕ) (part : QueuePart) → new.plan ≡ old.plan → PagesStay old new → IsInPlace old side queue part → IsInPlace new side queue part
+place_kept old new side queue part plan stay is =
+    let port = part.queue.port in
+    record {
+      its_plan = is.its_plan ∙ sym plan;
+      its_side = is.its_side;
+      its_queue = is.its_queue;
+      ready =
+          pages_stay port (pages_of old port.side) (pages_of old (other_side port.side)) (pages_of new port.side) (pages_of new (other_side port.side)) (stay port.side) (stay (other_side port.side)) is.ready;
+    }
+
+-- One side of a pair
+
+pub record SideIsWhole (bridge : Bridge) (side : Side) (parts : List QueuePart) : Type 0 where
+  pub all_queues : length parts ≡ (side_plan bridge.plan side).queues
+  pub queues : (queue : ℕ) → queue < (side_plan bridge.plan side).queues → IsInPlace bridge side queue (get_or parts queue no_queue)
+  pub room : all_unused parts ≤ (flight_of bridge side).spare
+
+by_side : (P : Side → Type 0) → P A → P B → (side : Side) → P side
+by_side P a b A = a
+by_side P a b B = b
+
+pub both_whole : (bridge : Bridge) (a b : List QueuePart) → SideIsWhole bridge A a → SideIsWhole bridge B b → IsWhole (record { bridge = bridge; queues = record { a = a; b = b } })
+both_whole bridge a b whole_a whole_b =
+    let state : PairState = record { bridge = bridge; queues = record { a = a; b = b } } in
+    record {
+      all_queues = by_side (λ side. length (queues_of state side) ≡ (side_plan bridge.plan side).queues) whole_a.all_queues whole_b.all_queues;
+      queues = by_side (λ side. (queue : ℕ) → queue < (side_plan bridge.plan side).queues → IsInPlace bridge side queue (queue_of state side queue)) whole_a.queues whole_b.queues;
+      room = by_side (λ side. all_unused (queues_of state side) ≤ (flight_of bridge side).spare) whole_a.room whole_b.room;
+    }
+
+pub side_whole : (state : PairState) (side : Side) → IsWhole state → SideIsWhole state.bridge side (queues_of state side)
+side_whole state side whole = record { all_queues = whole.all_queues side; queues = whole.queues side; room = whole.room side }
+
+-- of numbers alone
+at_most : (n m k : ℕ) → n ≤ m → m ≤ k → n ≤ k
+at_most n m k few more = omega (arith, few, more)
+
+-- A side that has no less room, on a bridge whose pages stay
+
+pub side_kept : (old new : Bridge) (side : Side) (parts : List QueuePart) → new.plan ≡ old.plan → PagesStay old new → (flight_of old side).spare ≤ (flight_of new side).spare
+    → SideIsWhole old side parts → SideIsWhole new side parts
+side_kept old new side parts plan stay more whole =
+    record {
+      all_queues = whole.all_queues ∙ ap (λ (plan : PairPlan). (side_plan plan side).queues) (sym plan);
+      queues = λ queue below.
+          place_kept old new side queue (get_or parts queue no_queue) plan stay (whole.queues queue (subst (λ (plan : PairPlan). queue < (side_plan plan side).queues) plan below));
+      room = at_most (all_unused parts) (flight_of old side).spare (flight_of new side).spare whole.room more;
+    }
+
+pub whole_kept : (state : PairState) (new : Bridge) → IsWhole state → KeepsPromised state.bridge new → IsWhole (with_bridge state new)
+whole_kept state new whole keeps =
+    both_whole new state.queues.a state.queues.b (side_kept state.bridge new A state.queues.a keeps.plan keeps.pages (keeps.spare A) (side_whole state A whole))
+    (side_kept state.bridge new B state.queues.b keeps.plan keeps.pages (keeps.spare B) (side_whole state B whole))
+
+-- A call of one of a side's queues
+
+room_after : (spare spare_after sum sum_after unused unused_after : ℕ) → sum_after + unused ≡ sum + unused_after → sum ≤ spare → spare + unused_after ≤ spare_after + unused
+    → sum_after ≤ spare_after
+room_after spare spare_after sum sum_after unused unused_after sums room keeps = omega (arith, sums, room, keeps)
+
+pub side_turned : (old new : Bridge) (side : Side) (parts : List QueuePart) (queue : ℕ) (part : QueuePart) → queue < length parts
+    → KeepsPort (get_or parts queue no_queue).queue.port part.queue.port old new → SideIsWhole old side parts → SideIsWhole new side (set parts queue part)
+side_turned old new side parts queue part within keeps whole =
+    let before = (get_or parts queue no_queue).queue.port in
+    let is = whole.queues queue (subst (λ n. queue < n) whole.all_queues within) in
+    let room = subst (λ side. (flight_of old side).spare + unused_of part.queue.port ≤ (flight_of new side).spare + unused_of before) is.its_side keeps.room in
+    record {
+      all_queues = length-set parts queue part ∙ whole.all_queues ∙ ap (λ (plan : PairPlan). (side_plan plan side).queues) (sym keeps.plan);
+      queues = λ k below. by_place k (subst (λ (plan : PairPlan). k < (side_plan plan side).queues) keeps.plan below) (cases_eq k queue);
+      room =
+          room_after (flight_of old side).spare (flight_of new side).spare (all_unused parts) (all_unused (set parts queue part)) (unused_of before) (unused_of part.queue.port)
+          (sum_by-set (λ (part : QueuePart). unused_of part.queue.port) parts queue part no_queue within) whole.room room;
+    } where
+      its_place : IsInPlace old side queue (get_or parts queue no_queue) → IsInPlace new side queue part
+      its_place is =
+          record {
+            its_plan = keeps.same_plan ∙ is.its_plan ∙ sym keeps.plan;
+            its_side = keeps.same_side ∙ is.its_side;
+            its_queue = keeps.same_queue ∙ is.its_queue;
+            ready = keeps.ready;
+          }
+      by_place : (k : ℕ) → k < (side_plan old.plan side).queues → (k ≡ queue) ⊎ (k ≡ queue → ⊥) → IsInPlace new side k (get_or (set parts queue part) k no_queue)
+      by_place k below (inl e) =
+          subst (λ k. IsInPlace new side k (get_or (set parts queue part) k no_queue)) (sym e)
+          (subst (λ (part : QueuePart). IsInPlace new side queue part) (sym (get_or-set_same parts queue part no_queue within)) (its_place (whole.queues queue (subst (λ n. queue < n) whole.all_queues within))))
+      by_place k below (inr differs) =
+          subst (λ (part : QueuePart). IsInPlace new side k part) (sym (get_or-set_other parts queue k part no_queue differs))
+          (place_kept old new side k (get_or parts k no_queue) keeps.plan keeps.pages (whole.queues k below))
+
+-- the peer of that side, whose queues stay
+pub peer_kept : (old new : Bridge) (side : Side) (parts peer_parts : List QueuePart) (queue : ℕ) (part : QueuePart) → queue < length parts
+    → KeepsPort (get_or parts queue no_queue).queue.port part.queue.port old new → SideIsWhole old side parts → SideIsWhole old (other_side side) peer_parts
+    → SideIsWhole new (other_side side) peer_parts
+peer_kept old new side parts peer_parts queue part within keeps whole peer =
+    let is = whole.queues queue (subst (λ n. queue < n) whole.all_queues within) in
+    side_kept old new (other_side side) peer_parts keeps.plan keeps.pages
+    (subst (λ side. (flight_of old (other_side side)).spare ≤ (flight_of new (other_side side)).spare) is.its_side keeps.peer_room) peer
+
+-- A side that forgets its session
+
+forgets : (bridge : Bridge) (plan : PairPlan) (side : Side) (queue : ℕ) → HasPagesIn (fresh_port plan side queue) bridge
+forgets bridge plan side queue = record { writes = search rules; flags = λ busy. absurd (cc busy); index_word = λ busy. absurd (cc busy) }
+
+pub none_unused : (parts : List QueuePart) → ((k : ℕ) → k < length parts → unused_of (get_or parts k no_queue).queue.port ≡ 0) → all_unused parts ≡ 0
+none_unused [] none = refl
+none_unused (part ∷ parts) none =
+    let first : unused_of part.queue.port ≡ 0 = none 0 (omega arith) in
+    let others : all_unused parts ≡ 0 = none_unused parts (λ k below. none (suc k) (omega (arith, below))) in
+    sum_by-cons (λ (part : QueuePart). unused_of part.queue.port) part parts ∙ nothing_more (unused_of part.queue.port) (all_unused parts) first others
+  where
+    nothing_more : (n m : ℕ) → n ≡ 0 → m ≡ 0 → n + m ≡ 0
+    nothing_more n m none nor = omega (arith, none, nor)
+
+-- a queue on which nothing was begun or found
+place_fresh : (bridge : Bridge) (side : Side) (queue : ℕ) (part : QueuePart) → part.queue.port ≡ fresh_port bridge.plan side queue → IsInPlace bridge side queue part
+place_fresh bridge side queue part fresh =
+    record {
+      its_plan = ap (λ (port : PortState). port.plan) fresh;
+      its_side = ap (λ (port : PortState). port.side) fresh;
+      its_queue = ap (λ (port : PortState). port.queue) fresh;
+      ready = subst (λ (port : PortState). HasPagesIn port bridge) (sym fresh) (forgets bridge bridge.plan side queue);
+    }
+
+pub side_fresh : (bridge : Bridge) (side : Side) (parts : List QueuePart) → length parts ≡ (side_plan bridge.plan side).queues
+    → ((k : ℕ) → k < length parts → (get_or parts k no_queue).queue.port ≡ fresh_port bridge.plan side k) → SideIsWhole bridge side parts
+side_fresh bridge side parts all fresh =
+    record {
+      all_queues = all;
+      queues = λ queue below. place_fresh bridge side queue (get_or parts queue no_queue) (fresh queue (subst (λ n. queue < n) (sym all) below));
+      room = none_at_all (all_unused parts) (flight_of bridge side).spare (none_unused parts (λ k below. ap unused_of (fresh k below)));
+    } where
+      none_at_all : (n m : ℕ) → n ≡ 0 → n ≤ m
+      none_at_all n m none = omega (arith, none)
+
+pub side_forgotten : (old new : Bridge) (side : Side) (parts : List QueuePart) → new.plan ≡ old.plan → SideIsWhole old side parts → SideIsWhole new side (map forgotten_queue parts)
+side_forgotten old new side parts plan whole =
+    side_fresh new side (map forgotten_queue parts) (length-map parts forgotten_queue ∙ whole.all_queues ∙ ap (λ (plan : PairPlan). (side_plan plan side).queues) (sym plan))
+    (λ k below. at k (subst (λ n. k < n) (length-map parts forgotten_queue) below))
+  where
+    at : (k : ℕ) → k < length parts → (get_or (map forgotten_queue parts) k no_queue).queue.port ≡ fresh_port new.plan side k
+    at k below =
+        let is = whole.queues k (subst (λ n. k < n) whole.all_queues below) in
+        ap (λ (part : QueuePart). part.queue.port) (get_or-map forgotten_queue parts k no_queue no_queue below)
+        ∙ ap (λ plan. fresh_port plan (get_or parts k no_queue).queue.port.side (get_or parts k no_queue).queue.port.queue) (is.its_plan ∙ sym plan)
+        ∙ ap (λ side. fresh_port new.plan side (get_or parts k no_queue).queue.port.queue) is.its_side
+        ∙ ap (λ queue. fresh_port new.plan side queue) is.its_queue
