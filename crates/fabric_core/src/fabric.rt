@@ -10,7 +10,8 @@ ghost use Rattle.step_kinds.specs.Sides.{other_side};
 ghost use Rattle.step_kinds.specs.declared.plan.Plan.{Plan as DeclaredPlan};
 ghost use Rattle.step_kinds.specs.declared.steps.Step.{Step as MadeStep};
 
-use crate::pairs::{PairBox, QueueBox};
+use crate::pairs::PairBox;
+use crate::queues::QueueBox;
 use std::alloc::{AllocError, Global};
 use std::marker::Model;
 use step_kinds::{Answer, Counters, DevPlan, LaneName, Name, Plan, Side, Step};
