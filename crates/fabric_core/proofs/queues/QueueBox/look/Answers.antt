@@ -1,6 +1,6 @@
-use Rattle.std.proofs.Common.{◌≡◌, ◌∙◌, ◌-◌, IsTrue, ap, rules, subst, sym}
+use Rattle.std.proofs.Common.{◌∙◌, ◌-◌, IsTrue, ap, rules, subst, sym}
 use Rattle.step_kinds.specs.Sides.{other_side}
-use Rattle.bridge_pair.specs.Bridge.{Bridge, pages_of}
+use Rattle.bridge_pair.specs.Bridge.{pages_of}
 use Rattle.frame_ring.specs.Calls.{TouchedByFlags, TouchedByLook}
 use Rattle.frame_ring.specs.Port.{unused_of}
 use Rattle.frame_ring.specs.Seen.{HasPagesIn}

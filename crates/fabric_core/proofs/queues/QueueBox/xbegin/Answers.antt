@@ -1,15 +1,13 @@
-use Rattle.std.proofs.Common.{◌≡◌, ◌∙◌, Bool, IsTrue, false, rules, ap, length, refl, subst, sym, true}
-use Rattle.step_kinds.specs.declared.plan.Counters.{Counters}
+use Rattle.std.proofs.Common.{◌≡◌, ◌∙◌, IsTrue, false, rules, ap, length, refl, subst, sym, true}
 use Rattle.step_kinds.specs.declared.steps.Answer.TheVariants.{Stopped}
 use Rattle.plan_model.specs.Device.{count_refused}
 use Rattle.queue_pair.specs.Gates.{refuses_answer}
 use Rattle.fabric_rule.specs.Parts.{QueuePart}
 use Rattle.frame_ring.specs.Calls.{free_answer}
-use Rattle.frame_ring.specs.Port.{PortState}
 use Rattle.queue_pair.specs.Queue.{QueueState}
 use Rattle.fabric_core.specs.Numbers.{HasRoomToSend}
 use Rattle.fabric_core.specs.Parts.{KeepsPort}
-use Rattle.fabric_core.specs.Turns.{begin_turn, counted_begun, frame_turn}
+use Rattle.fabric_core.specs.Turns.{counted_begun}
 use Rattle.fabric_core.proofs.FrameTurns.{FrameTurned, begin_counters, counted_queue, frame_counted, frame_stopped}
 use Rattle.fabric_core.proofs.QueueParts.{part_with, same_part}
 use Rattle.fabric_core.proofs.queues.QueueBox.xbegin.Goals as goal
