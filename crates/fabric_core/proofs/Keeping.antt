@@ -109,16 +109,69 @@ keeps_grown old new before after touched same rest grow ready =
     }
 
 -- where the call answered want of memory, the port is as it was
-pub ready_after : {X E : Type 0} (result : Result X E) (old new : PortState) (before after : Bridge) (touched : ℕ → Type 0)
+pub ready_after : (old new : PortState) (before after : Bridge) (touched : ℕ → Type 0)
     → after ≡ with_room (with_pages before (other_side old.side) (pages_of after (other_side old.side))) old.side (unused_of new - unused_of old)
     → PagesGrow touched (pages_of before (other_side old.side)) (pages_of after (other_side old.side)) → HasPagesIn old before
     → new ≡ old → HasPagesIn new after
-ready_after result old new before after touched rest grow ready same =
+ready_after old new before after touched rest grow ready same =
     let own : pages_of after old.side ≡ pages_of before old.side =
     ap (λ (bridge : Bridge). pages_of bridge old.side) rest ∙ grown_own before old.side (pages_of after (other_side old.side)) (unused_of new - unused_of old) in
     subst (λ (port : PortState). HasPagesIn port after) (sym same)
     (pages_stay old (pages_of before old.side) (pages_of before (other_side old.side)) (pages_of after old.side) (pages_of after (other_side old.side))
     (λ page had. subst (λ pages. Contains pages page) (sym own) had) grow.stay ready)
+
+-- A look, which grows the pages of both sides
+
+both_own : (bridge : Bridge) (side : Side) (peer own : List ℕ) (more : ℕ)
+    → pages_of (with_room (with_pages (with_pages bridge (other_side side) peer) side own) side more) side ≡ own
+both_own bridge A peer own more = refl
+both_own bridge B peer own more = refl
+
+both_peer : (bridge : Bridge) (side : Side) (peer own : List ℕ) (more : ℕ)
+    → (flight_of (with_room (with_pages (with_pages bridge (other_side side) peer) side own) side more) (other_side side)).spare ≡ (flight_of bridge (other_side side)).spare
+both_peer bridge A peer own more = refl
+both_peer bridge B peer own more = refl
+
+both_spare : (bridge : Bridge) (side : Side) (peer own : List ℕ) (more : ℕ)
+    → (flight_of (with_room (with_pages (with_pages bridge (other_side side) peer) side own) side more) side).spare ≡ (flight_of bridge side).spare + more
+both_spare bridge A peer own more = refl
+both_spare bridge B peer own more = refl
+
+pub both_plain : (bridge : Bridge) (side : Side) (peer own : List ℕ) (more : ℕ)
+    → plain_bridge (with_room (with_pages (with_pages bridge (other_side side) peer) side own) side more) ≡ plain_bridge bridge
+both_plain bridge A peer own more = refl
+both_plain bridge B peer own more = refl
+
+pub keeps_both : (old new : PortState) (before after : Bridge) (touched flags : ℕ → Type 0) → SamePlace new old
+    → after ≡ with_room (with_pages (with_pages before (other_side old.side) (pages_of after (other_side old.side))) old.side (pages_of after old.side)) old.side (unused_of new - unused_of old)
+    → PagesGrow touched (pages_of before (other_side old.side)) (pages_of after (other_side old.side)) → PagesGrow flags (pages_of before old.side) (pages_of after old.side)
+    → HasPagesIn new after → KeepsPort old new before after
+keeps_both old new before after touched flags same rest grow own_grow ready =
+    let side = old.side in
+    let peer = pages_of after (other_side side) in
+    let own = pages_of after side in
+    let more = unused_of new - unused_of old in
+    let spare : (flight_of after side).spare ≡ (flight_of before side).spare + more = ap (λ (bridge : Bridge). (flight_of bridge side).spare) rest ∙ both_spare before side peer own more in
+    let peer_spare : (flight_of after (other_side side)).spare ≡ (flight_of before (other_side side)).spare =
+    ap (λ (bridge : Bridge). (flight_of bridge (other_side side)).spare) rest ∙ both_peer before side peer own more in
+    record {
+      same_plan = same.same_plan;
+      same_side = same.same_side;
+      same_queue = same.same_queue;
+      plan = ap (λ (bridge : Bridge). bridge.plan) rest;
+      pages = either_side (λ any. (page : ℕ) → Contains (pages_of before any) page → Contains (pages_of after any) page) side own_grow.stay grow.stay;
+      room = more_room (flight_of before side).spare (flight_of after side).spare (unused_of old) (unused_of new) spare;
+      peer_room = no_less (flight_of after (other_side side)).spare (flight_of before (other_side side)).spare peer_spare;
+      ready = ready;
+    }
+
+-- where the look answered want of memory, the port is as it was
+pub ready_both : (old new : PortState) (before after : Bridge) (touched flags : ℕ → Type 0)
+    → PagesGrow touched (pages_of before (other_side old.side)) (pages_of after (other_side old.side)) → PagesGrow flags (pages_of before old.side) (pages_of after old.side)
+    → HasPagesIn old before → new ≡ old → HasPagesIn new after
+ready_both old new before after touched flags grow own_grow ready same =
+    subst (λ (port : PortState). HasPagesIn port after) (sym same)
+    (pages_stay old (pages_of before old.side) (pages_of before (other_side old.side)) (pages_of after old.side) (pages_of after (other_side old.side)) own_grow.stay grow.stay ready)
 
 -- A call that changed no promise but those that it used
 

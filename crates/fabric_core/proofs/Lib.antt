@@ -1,8 +1,12 @@
 pub mod CleanedPairs
 pub mod Forgetting
 pub mod FreshQueues
+pub mod FrameTurns
 pub mod Keeping
 pub mod MorePages
+pub mod OneFlight
+pub mod Phases
+pub mod QueueParts
 pub mod SessionTallies
 pub mod SteppedPairs
 pub mod Turning

@@ -1,0 +1,123 @@
+-- A bridge that differs in one side's flight alone, as a post and an ack leave it, and one that differs in bytes alone.
+use Rattle.std.proofs.Common.{◌≡◌, ◌∙◌, ℕ, ◌+◌, ◌≤◌, Bool, true, false, Some, None, List, [], ◌∷◌, refl, sym, ap, subst, arith, if◌then◌else◌}
+use Rattle.step_kinds.specs.Sides.{other_side}
+use Rattle.step_kinds.specs.declared.names.Side.{Side}
+use Rattle.step_kinds.specs.declared.names.Side.TheVariants.{A, B}
+use Rattle.step_kinds.specs.declared.steps.Label.{Label}
+use Rattle.step_kinds.specs.declared.steps.Label.TheVariants.{Chunk, Len, Ver, Flag, Down, Bell, Index, Pad, Raw}
+use Rattle.byte_model.specs.RingWrites.{WindowWrite, index_write}
+use Rattle.lane_model.specs.Lane.{Entry}
+use Rattle.lane_model.specs.Tests.{is_cleared, is_copied}
+use Rattle.plan_model.specs.Link.{is_up}
+use Rattle.posted_queue.specs.Flight.{Flight, given_back}
+use Rattle.bridge_pair.specs.Bridge.{Bridge, flight_of, pages_of, with_bytes, with_flight}
+use Rattle.bridge_pair.specs.Ends.{after_posting}
+use Rattle.bridge_pair.specs.Flights.{Flying, flying_of}
+use Rattle.bridge_pair.specs.Writes.{bell_write, memory_write}
+use Rattle.frame_ring.specs.Calls.{acked_by, cleared_by, first_posted, last_got, next_begun, posted_by}
+use Rattle.frame_ring.specs.Port.{PortState, unused_of}
+use Rattle.frame_ring.specs.Seen.{HasPagesIn, flags_cleared, index_posted, reaches, ring_posted, window_posted}
+use Rattle.fabric_core.specs.Parts.{KeepsPort}
+use Rattle.fabric_core.proofs.Keeping.{SamePlace, keeps_exact}
+
+-- One flight
+
+pub record OneFlight (before : Bridge) (side : Side) (after : Bridge) : Type 0 where
+  pub flight : Flight Flying
+  pub rest : after ≡ with_flight before side flight
+
+same_flight : (bridge : Bridge) (side : Side) → bridge ≡ with_flight bridge side (flight_of bridge side)
+same_flight bridge A = refl
+same_flight bridge B = refl
+
+no_flight : (bridge : Bridge) (side : Side) → OneFlight bridge side bridge
+no_flight bridge side = record { flight = flight_of bridge side; rest = same_flight bridge side }
+
+either_flight : (bridge : Bridge) (side : Side) (there : Bool) (one other : Flight Flying)
+    → OneFlight bridge side (if there then with_flight bridge side one else with_flight bridge side other)
+either_flight bridge side true one other = record { flight = one; rest = refl }
+either_flight bridge side false one other = record { flight = other; rest = refl }
+
+window_flight : (bridge : Bridge) (side : Side) (label : Label) (write : WindowWrite) → OneFlight bridge side (window_posted bridge side label write)
+window_flight bridge side label write =
+    either_flight bridge side (reaches bridge.plan side write.window)
+    (after_posting (is_up bridge.link.state) (flight_of bridge side) (flying_of bridge.plan side (memory_write label write.window write.offset write.bytes)))
+    (given_back (flight_of bridge side) 1)
+
+write_flight : (bridge : Bridge) (side : Side) (entry : Entry) (label : Label) → OneFlight bridge side (ring_posted bridge side entry label)
+write_flight bridge side entry (Chunk q n part) = window_flight bridge side _ _
+write_flight bridge side entry (Len q n) = window_flight bridge side _ _
+write_flight bridge side entry (Ver q n) = window_flight bridge side _ _
+write_flight bridge side entry (Flag q n) = window_flight bridge side _ _
+write_flight bridge side entry (Down q n) = window_flight bridge side _ _
+write_flight bridge side entry (Bell q) = record { flight = after_posting (is_up bridge.link.state) (flight_of bridge side) (flying_of bridge.plan side (bell_write q)); rest = refl }
+write_flight bridge side entry (Index q n) = no_flight bridge side
+write_flight bridge side entry (Pad i value) = no_flight bridge side
+write_flight bridge side entry (Raw window offset len) = no_flight bridge side
+
+first_flight : (bridge : Bridge) (side : Side) (entry : Entry) (todo : List Label) → OneFlight bridge side (first_posted bridge side entry todo)
+first_flight bridge side entry [] = no_flight bridge side
+first_flight bridge side entry (label ∷ todo) = write_flight bridge side entry label
+
+pub post_flight : (port : PortState) (bridge : Bridge) → OneFlight bridge port.side (posted_by port bridge)
+post_flight port bridge = first_flight bridge port.side (next_begun port.queue port.sending).entry (next_begun port.queue port.sending).todo
+
+pub ack_flight : (port : PortState) (bridge : Bridge) → OneFlight bridge port.side (acked_by port bridge)
+ack_flight port bridge = at_test (is_cleared port.receiving.phase) where
+  at_test : (cleared : Bool) → OneFlight bridge port.side (if cleared then index_posted bridge port.side port.queue (last_got port.receiving) else bridge)
+  at_test true =
+      window_flight bridge port.side (Index port.queue (last_got port.receiving)) (index_write bridge.plan port.side port.queue (last_got port.receiving))
+  at_test false = no_flight bridge port.side
+
+other_flight : (bridge : Bridge) (side : Side) (flight : Flight Flying) → flight_of (with_flight bridge side flight) (other_side side) ≡ flight_of bridge (other_side side)
+other_flight bridge A flight = refl
+other_flight bridge B flight = refl
+
+-- of numbers alone
+no_more : (before after old new : ℕ) → after + old ≡ before + new → before + new ≤ after + old
+no_more before after old new e = omega (arith, e)
+
+no_less : (n m : ℕ) → n ≡ m → m ≤ n
+no_less n m e = omega (arith, e)
+
+pub keeps_flight : (old new : PortState) (before after : Bridge) → SamePlace new old → OneFlight before old.side after
+    → (flight_of after old.side).spare + unused_of old ≡ (flight_of before old.side).spare + unused_of new → HasPagesIn new after → KeepsPort old new before after
+keeps_flight old new before after same one room ready =
+    let peer : (flight_of after (other_side old.side)).spare ≡ (flight_of before (other_side old.side)).spare =
+    ap (λ (bridge : Bridge). (flight_of bridge (other_side old.side)).spare) one.rest ∙ ap (λ (flight : Flight Flying). flight.spare) (other_flight before old.side one.flight) in
+    keeps_exact old new before after same (ap (λ (bridge : Bridge). bridge.plan) one.rest) (λ any. ap (λ (bridge : Bridge). pages_of bridge any) one.rest)
+    (no_more (flight_of before old.side).spare (flight_of after old.side).spare (unused_of old) (unused_of new) room)
+    (no_less (flight_of after (other_side old.side)).spare (flight_of before (other_side old.side)).spare peer) ready
+
+-- Bytes alone
+
+pub record OtherBytes (before : Bridge) (side : Side) (after : Bridge) : Type 0 where
+  pub bytes : List ℕ
+  pub rest : after ≡ with_bytes before side bytes
+
+same_bytes : (bridge : Bridge) (side : Side) → OtherBytes bridge side bridge
+same_bytes bridge A = record { bytes = bridge.memories.a.bytes; rest = refl }
+same_bytes bridge B = record { bytes = bridge.memories.b.bytes; rest = refl }
+
+pub clear_bytes : (port : PortState) (bridge : Bridge) → OtherBytes bridge port.side (cleared_by port bridge)
+clear_bytes port bridge = at_test (is_copied port.receiving.phase) where
+  at_test : (copied : Bool) → OtherBytes bridge port.side (if copied then flags_cleared bridge port.side port.queue (last_got port.receiving) else bridge)
+  at_test true = record { bytes = _; rest = refl }
+  at_test false = same_bytes bridge port.side
+
+pages_stay : (bridge : Bridge) (side any : Side) (bytes : List ℕ) → pages_of (with_bytes bridge side bytes) any ≡ pages_of bridge any
+pages_stay bridge A A bytes = refl
+pages_stay bridge A B bytes = refl
+pages_stay bridge B A bytes = refl
+pages_stay bridge B B bytes = refl
+
+pub keeps_bytes : (old new : PortState) (before after : Bridge) → SamePlace new old → OtherBytes before old.side after → unused_of new ≡ unused_of old → HasPagesIn new after
+    → KeepsPort old new before after
+keeps_bytes old new before after same other room ready =
+    let flights = λ (any : Side). ap (λ (bridge : Bridge). (flight_of bridge any).spare) other.rest in
+    keeps_exact old new before after same (ap (λ (bridge : Bridge). bridge.plan) other.rest)
+    (λ any. ap (λ (bridge : Bridge). pages_of bridge any) other.rest ∙ pages_stay before old.side any other.bytes)
+    (same_room (flight_of before old.side).spare (flight_of after old.side).spare (unused_of old) (unused_of new) (flights old.side) room)
+    (no_less (flight_of after (other_side old.side)).spare (flight_of before (other_side old.side)).spare (flights (other_side old.side))) ready where
+  same_room : (spare after unused unused_after : ℕ) → after ≡ spare → unused_after ≡ unused → spare + unused_after ≤ after + unused
+  same_room spare after unused unused_after e f = omega (arith, e, f)

@@ -1,0 +1,50 @@
+-- A queue's part of a pair, put together.
+use Rattle.std.proofs.Common.{◌≡◌, ◌∙◌, ℕ, ◌+◌, ◌≤◌, List, refl, sym, ap, subst, arith}
+use Rattle.step_kinds.specs.Sides.{other_side}
+use Rattle.step_kinds.specs.declared.lanes.LaneCopy.{LaneCopy}
+use Rattle.step_kinds.specs.declared.lanes.LaneCopy.TheVariants.{Part, Whole, OutOfTurn as NotCopying}
+use Rattle.step_kinds.specs.declared.plan.Counters.{Counters}
+use Rattle.plan_model.specs.Device.{Flow}
+use Rattle.bridge_pair.specs.Bridge.{Bridge, flight_of}
+use Rattle.frame_ring.specs.Calls.{after_copy}
+use Rattle.frame_ring.specs.Port.{PortState, unused_of}
+use Rattle.frame_ring.specs.Seen.{HasPagesIn}
+use Rattle.queue_pair.specs.Queue.{QueueState}
+use Rattle.queue_pair.specs.declared.BeginAnswer.{BeginAnswer}
+use Rattle.queue_pair.specs.declared.BeginAnswer.TheVariants.{Ok as IsBegun}
+use Rattle.fabric_rule.specs.Answers.{of_begin}
+use Rattle.fabric_rule.specs.Moves.{accepted_where_begun, delivered_where_whole}
+use Rattle.fabric_rule.specs.Parts.{QueuePart, SessionCount}
+use Rattle.fabric_core.specs.Parts.{KeepsPort}
+use Rattle.fabric_core.proofs.Keeping.{keeps_exact}
+use Rattle.fabric_core.proofs.Phases.{copy_place, copy_unused}
+
+abbrev pub part_with : QueueState → Flow → Counters → List SessionCount → List SessionCount → QueuePart
+part_with queue flow counters accepted delivered = record { queue = queue; flow = flow; counters = counters; accepted = accepted; delivered = delivered }
+
+pub same_part : (queue queue' : QueueState) (flow flow' : Flow) (counters counters' : Counters) (accepted accepted' delivered delivered' : List SessionCount)
+    → queue ≡ queue' → flow ≡ flow' → counters ≡ counters' → accepted ≡ accepted' → delivered ≡ delivered'
+    → part_with queue flow counters accepted delivered ≡ part_with queue' flow' counters' accepted' delivered'
+same_part queue queue' flow flow' counters counters' accepted accepted' delivered delivered' q f c a d = λ i. part_with (q i) (f i) (c i) (a i) (d i)
+
+pub not_whole : (copy : LaneCopy) (session : ℕ) (part : QueuePart) → ((number : ℕ) (frame : List ℕ) → copy ≡ Whole number frame → ⊥)
+    → delivered_where_whole copy session part ≡ part
+not_whole (Whole number frame) session part other = absurd (other number frame refl)
+not_whole copy session part other = refl
+
+-- of numbers alone
+same_room : (spare unused unused_after : ℕ) → unused_after ≡ unused → spare + unused_after ≤ spare + unused
+same_room spare unused unused_after e = omega (arith, e)
+
+pub keeps_copy : (port : PortState) (bridge : Bridge) → HasPagesIn (after_copy port bridge) bridge → KeepsPort port (after_copy port bridge) bridge bridge
+keeps_copy port bridge ready =
+    keeps_exact port (after_copy port bridge) bridge bridge (copy_place port bridge) refl (λ any. refl)
+    (same_room (flight_of bridge port.side).spare (unused_of port) (unused_of (after_copy port bridge)) (copy_unused port bridge))
+    (at_most (flight_of bridge (other_side port.side)).spare) ready where
+  at_most : (n : ℕ) → n ≤ n
+  at_most n = omega arith
+
+pub not_begun : (answer : BeginAnswer) (session : ℕ) (part : QueuePart) → ((number : ℕ) → answer ≡ IsBegun number → ⊥)
+    → accepted_where_begun (of_begin answer) session part ≡ part
+not_begun (IsBegun number) session part other = absurd (other number refl)
+not_begun answer session part other = refl

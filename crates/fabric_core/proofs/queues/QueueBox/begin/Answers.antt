@@ -1,0 +1,101 @@
+use Rattle.std.proofs.Common.{◌≡◌, ◌∙◌, ◌-◌, ap, length, refl, subst, sym}
+use Rattle.step_kinds.specs.Sides.{other_side}
+use Rattle.lane_model.specs.Tests.{is_copying}
+use Rattle.plan_model.specs.Link.{Link}
+use Rattle.bridge_pair.specs.Bridge.{Bridge, pages_of}
+use Rattle.frame_ring.specs.Calls.{TouchedByBegin}
+use Rattle.frame_ring.specs.Port.{Receiving, unused_of}
+use Rattle.frame_ring.specs.Seen.{HasPagesIn}
+use Rattle.queue_pair.specs.Gates.{after_begin, begin_answer}
+use Rattle.queue_pair.specs.Queue.{QueueState}
+use Rattle.queue_pair.specs.declared.BeginAnswer.{BeginAnswer}
+use Rattle.fabric_rule.specs.Answers.{of_begin}
+use Rattle.fabric_rule.specs.Moves.{accepted_where_begun}
+use Rattle.fabric_rule.specs.Parts.{QueuePart, one_more, plain_bridge}
+use Rattle.fabric_core.specs.Parts.{KeepsPort}
+use Rattle.fabric_core.specs.Sessions.{Tallied}
+use Rattle.fabric_core.specs.Turns.{begin_turn}
+use Rattle.fabric_core.proofs.Keeping.{SamePlace, begin_place, begin_receives, grown_plain, keeps_grown, ready_after, same_place}
+use Rattle.fabric_core.proofs.QueueParts.{not_begun, part_with, same_part}
+use Rattle.fabric_core.proofs.queues.QueueBox.begin.Goals as goal
+use Rattle.fabric_core.proofs.queues.QueueBox.begin.Goals.{in-Ok, in_default}
+
+pub returns-in_err-begun-clause-keeps : goal.returns-in_err-begun-clause-keeps
+returns-in_err-begun-clause-keeps c =
+    let old = c.self.inside.queue.port in
+    let new = c.begin.new.self.port in
+    let bridge = c.args.pair.now in
+    let after = c.begin.new.pair in
+    let touched = TouchedByBegin old bridge c.args.frame in
+    let err = c.in_err-begun.ensures.err in
+    let had : HasPagesIn old bridge = subst (λ (part : QueuePart). HasPagesIn part.queue.port bridge) (sym c.self.view_is) c.requires.pages in
+    let same : SamePlace new old = subst (λ (queue : QueueState). SamePlace queue.port old) (sym err) (same_place old) in
+    let ready = ready_after old new bridge after touched c.begin.ensures.rest c.begin.ensures.pages had (ap (λ (queue : QueueState). queue.port) err) in
+    subst (λ (part : QueuePart). KeepsPort part.queue.port new bridge after) c.self.view_is
+    (keeps_grown old new bridge after touched same c.begin.ensures.rest c.begin.ensures.pages ready)
+
+pub returns-in_err-begun-clause-plain : goal.returns-in_err-begun-clause-plain
+returns-in_err-begun-clause-plain c =
+    let old = c.self.inside.queue.port in
+    ap plain_bridge c.begin.ensures.rest ∙ grown_plain c.args.pair.now old.side (pages_of c.begin.new.pair (other_side old.side)) (unused_of c.begin.new.self.port - unused_of old)
+
+-- a queue on which a frame is begun receives as before
+pub invariant_of-self-in-Ok : goal.invariant_of-self-in-Ok
+invariant_of-self-in-Ok c =
+    let receives = ap (λ (queue : QueueState). queue.port.receiving) c.in_ok-begun.ensures.after ∙ begin_receives c.self.inside.queue c.args.pair.now c.args.frame in
+    let same = ap (λ (receiving : Receiving). is_copying receiving.phase) receives in
+    record { room = λ later. c.self.invariant.room (sym same ∙ later); numbers = λ later. c.self.invariant.numbers (sym same ∙ later) }
+
+pub invariant_of-self-in_default : goal.invariant_of-self-in_default
+invariant_of-self-in_default c =
+    let receives = ap (λ (queue : QueueState). queue.port.receiving) c.in_ok-begun.ensures.after ∙ begin_receives c.self.inside.queue c.args.pair.now c.args.frame in
+    let same = ap (λ (receiving : Receiving). is_copying receiving.phase) receives in
+    record { room = λ later. c.self.invariant.room (sym same ∙ later); numbers = λ later. c.self.invariant.numbers (sym same ∙ later) }
+
+pub returns-clause-after : goal.returns-clause-after
+returns-clause-after c =
+    let inside = c.self.inside in
+    let bridge = c.args.pair.now in
+    let queue = after_begin inside.queue bridge c.args.frame in
+    let part = part_with queue inside.flow inside.counters inside.accepted.counts inside.delivered.counts in
+    let answer = c.in_ok-begun.ensures.answer in
+    let room : c.make_room.new.self.counts ≡ inside.accepted.counts = ap (λ (tally : Tallied). tally.counts) c.in_ok-make_room.ensures.ok in
+    let link : c.begin.new.pair.link ≡ bridge.link = ap (λ (bridge : Bridge). bridge.link) c.begin.ensures.rest in
+    subst (λ (part : QueuePart). c.match-begun.self ≡ (begin_turn part c.args.pair.now c.args.frame).part) c.self.view_is
+    (elim c.match-begun.branch [
+      | in-Ok w ↦
+          w.self-is
+          ∙ same_part c.begin.new.self queue inside.flow inside.flow inside.counters inside.counters w.one_more.new.self.counts _ inside.delivered.counts inside.delivered.counts
+          c.in_ok-begun.ensures.after refl refl
+          (w.one_more.ensures ∙ ap (λ counts. one_more counts w.session.result) room
+          ∙ ap (one_more inside.accepted.counts) (w.session.ensures.value ∙ ap (λ (link : Link). link.session) (w.link.ensures ∙ link))) refl
+          ∙ ap (λ (answer : BeginAnswer). accepted_where_begun (of_begin answer) bridge.link.session part) (sym w.in-Ok.is ∙ answer)
+      | in_default w ↦
+          w.self-is
+          ∙ same_part c.begin.new.self queue inside.flow inside.flow inside.counters inside.counters c.make_room.new.self.counts inside.accepted.counts inside.delivered.counts inside.delivered.counts
+          c.in_ok-begun.ensures.after refl refl room refl
+          ∙ sym (not_begun c.in_ok-begun.begun bridge.link.session part w.in_default.not-Ok)
+          ∙ ap (λ (answer : BeginAnswer). accepted_where_begun (of_begin answer) bridge.link.session part) answer
+    ])
+
+pub returns-clause-plain : goal.returns-clause-plain
+returns-clause-plain c =
+    let old = c.self.inside.queue.port in
+    ap plain_bridge c.begin.ensures.rest ∙ grown_plain c.args.pair.now old.side (pages_of c.begin.new.pair (other_side old.side)) (unused_of c.begin.new.self.port - unused_of old)
+
+pub returns-clause-keeps : goal.returns-clause-keeps
+returns-clause-keeps c =
+    let old = c.self.inside.queue.port in
+    let new = c.begin.new.self.port in
+    let bridge = c.args.pair.now in
+    let after = c.begin.new.pair in
+    let touched = TouchedByBegin old bridge c.args.frame in
+    let had : HasPagesIn old bridge = subst (λ (part : QueuePart). HasPagesIn part.queue.port bridge) (sym c.self.view_is) c.requires.pages in
+    let same : SamePlace new old = subst (λ (queue : QueueState). SamePlace queue.port old) (sym c.in_ok-begun.ensures.after) (begin_place c.self.inside.queue bridge c.args.frame) in
+    let left : c.match-begun.self.queue ≡ c.begin.new.self = elim c.match-begun.branch [
+      | in-Ok w ↦ ap (λ (part : QueuePart). part.queue) w.self-is
+      | in_default w ↦ ap (λ (part : QueuePart). part.queue) w.self-is
+    ] in
+    subst (λ (part : QueuePart). KeepsPort part.queue.port c.match-begun.self.queue.port bridge after) c.self.view_is
+    (subst (λ (queue : QueueState). KeepsPort old queue.port bridge after) (sym left)
+    (keeps_grown old new bridge after touched same c.begin.ensures.rest c.begin.ensures.pages (c.in_ok-begun.ensures.ready had)))
