@@ -17,25 +17,9 @@ use Rattle.frame_ring.specs.Port.{Left, PortState, fresh_port, unused_of, writes
 use Rattle.frame_ring.specs.Seen.{HasPages, HasPagesIn, IsLeftReady, IsReady}
 use Rattle.fabric_core.specs.Parts.{IsInPlace, IsWhole, KeepsPort, all_unused}
 use Rattle.fabric_core.specs.Promised.{KeepsPromised}
+use Rattle.fabric_core.proofs.Keeping.{pages_stay}
 
 -- Pages that were promised stay so
-
-still_ready : (plan : PairPlan) (side : Side) (old new : List ℕ) (write : Option WindowWrite) → ((page : ℕ) → Contains old page → Contains new page) → IsReady plan side old write
-    → IsReady plan side new write
-still_ready plan side old new None stay ready = tt
-still_ready plan side old new (Some write) stay ready = λ reach page touches. stay page (ready reach page touches)
-
-pages_stay : (port : PortState) (own peer own_new peer_new : List ℕ) → ((page : ℕ) → Contains own page → Contains own_new page) → ((page : ℕ) → Contains peer page → Contains peer_new page)
-    → HasPages port own peer → HasPages port own_new peer_new
-pages_stay port own peer own_new peer_new stay peer_stay ready =
-    record {
-      writes =
-          All-weaker (IsLeftReady port.plan port.side peer) (IsLeftReady port.plan port.side peer_new)
-          (λ (left : Left) (h : IsLeftReady port.plan port.side peer left). still_ready port.plan port.side peer peer_new (entry_write port.plan port.side left.entry left.label) peer_stay h) (writes_left port)
-          ready.writes;
-      flags = λ busy page touches. stay page (ready.flags busy page touches);
-      index_word = λ busy reach page touches. peer_stay page (ready.index_word busy reach page touches);
-    }
 
 abbrev PagesStay : Bridge → Bridge → Type 0
 PagesStay old new = (side : Side) (page : ℕ) → Contains (pages_of old side) page → Contains (pages_of new side) page
