@@ -1,21 +1,17 @@
 -- A pair stays whole through a step on its bridge, or on one of its queues.
-use Rattle.std.proofs.Common.{◌≡◌, ◌∙◌, ℕ, ◌<◌, ◌≤◌, List, Result, Ok, Err, OnErr, OnOk, length, get_or, set, true, ap, subst, sym}
-use Rattle.std.proofs.lemmas.List.Sums.{get_or-le-sum_by}
+use Rattle.std.proofs.Common.{◌≡◌, ℕ, ◌<◌, List, Result, Ok, Err, OnErr, OnOk, length, get_or, set, ap, subst, sym}
 use Rattle.step_kinds.specs.declared.names.Side.{Side}
 use Rattle.step_kinds.specs.declared.names.Side.TheVariants.{A, B}
 use Rattle.step_kinds.specs.declared.steps.Answer.{Answer}
 use Rattle.step_kinds.specs.declared.steps.Step.{Step}
 use Rattle.plan_model.specs.Plans.{side_plan}
-use Rattle.bridge_pair.specs.Bridge.{Bridge, flight_of}
-use Rattle.frame_ring.specs.Port.{unused_of}
-use Rattle.frame_ring.specs.Seen.{FitsRings, HasPagesIn, HasRoomIn}
-use Rattle.queue_pair.specs.Gates.{is_joined}
-use Rattle.fabric_rule.specs.Parts.{PairState, QueuePart, no_queue, plain_bridge, plain_pair, with_bridge}
-use Rattle.fabric_core.specs.Parts.{Agrees, IsWhole, KeepsPort, all_unused}
+use Rattle.bridge_pair.specs.Bridge.{Bridge}
+use Rattle.fabric_rule.specs.Parts.{PairState, QueuePart, no_queue, plain_pair, with_bridge}
+use Rattle.fabric_core.specs.Parts.{IsWhole, KeepsPort}
 use Rattle.fabric_core.specs.Promised.{HasMorePages}
-use Rattle.fabric_core.specs.Turns.{QueueTurn, bridge_turn, turned}
+use Rattle.fabric_core.specs.Turns.{bridge_turn}
 use Rattle.fabric_core.proofs.Turning.{more_plain, more_promised, turn_promised}
-use Rattle.fabric_core.proofs.Whole.{SideIsWhole, at_most, both_whole, peer_kept, side_turned, side_whole, whole_kept}
+use Rattle.fabric_core.proofs.Whole.{SideIsWhole, both_whole, peer_kept, side_turned, side_whole, whole_kept}
 
 abbrev pub state_of : Bridge → List QueuePart → List QueuePart → PairState
 state_of bridge a b = record { bridge = bridge; queues = record { a = a; b = b } }

@@ -1,20 +1,18 @@
 -- What is so of every pair stays so: through calls of one of its queues, through steps on its bridge, and where a side forgets its session.
-use Rattle.std.proofs.Common.{◌≡◌, ◌∙◌, ℕ, suc, ◌+◌, ◌<◌, ◌≤◌, ◌⊎◌, All, Contains, List, [], ◌∷◌, Option, Some, None, length, get_or, map, set, rules, inl, inr, refl, sym, ap, subst, arith}
+use Rattle.std.proofs.Common.{◌≡◌, ◌∙◌, ℕ, suc, ◌+◌, ◌<◌, ◌≤◌, ◌⊎◌, Contains, List, [], ◌∷◌, length, get_or, map, set, rules, inl, inr, refl, sym, ap, subst, arith}
 use Rattle.std.proofs.lemmas.Bool.{cases_eq}
 use Rattle.std.proofs.lemmas.List.{get_or-map, get_or-set_other, get_or-set_same, length-map, length-set}
-use Rattle.std.proofs.lemmas.List.Elements.{All-weaker}
 use Rattle.std.proofs.lemmas.List.Sums.{sum_by-cons, sum_by-set}
 use Rattle.step_kinds.specs.Sides.{other_side}
 use Rattle.step_kinds.specs.declared.names.Side.{Side}
 use Rattle.step_kinds.specs.declared.names.Side.TheVariants.{A, B}
 use Rattle.step_kinds.specs.declared.plan.PairPlan.{PairPlan}
-use Rattle.byte_model.specs.RingWrites.{WindowWrite, entry_write}
 use Rattle.plan_model.specs.Plans.{side_plan}
 use Rattle.bridge_pair.specs.Bridge.{Bridge, flight_of, pages_of}
 use Rattle.fabric_rule.specs.Moves.{forgotten_queue}
 use Rattle.fabric_rule.specs.Parts.{PairState, QueuePart, no_queue, queue_of, queues_of, with_bridge}
-use Rattle.frame_ring.specs.Port.{Left, PortState, fresh_port, unused_of, writes_left}
-use Rattle.frame_ring.specs.Seen.{HasPages, HasPagesIn, IsLeftReady, IsReady}
+use Rattle.frame_ring.specs.Port.{PortState, fresh_port, unused_of}
+use Rattle.frame_ring.specs.Seen.{HasPagesIn}
 use Rattle.fabric_core.specs.Parts.{IsInPlace, IsWhole, KeepsPort, all_unused}
 use Rattle.fabric_core.specs.Promised.{KeepsPromised}
 use Rattle.fabric_core.proofs.Keeping.{pages_stay}
