@@ -53,4 +53,3 @@ called_b old new a b parts queue whole below is keeps =
     let part = get_or parts queue no_queue in
     let within = within_side old B b queue whole_b below in
     both_whole new a parts (peer_kept old new B b a queue part within keeps whole_b whole_a) (subst (λ parts. SideIsWhole new B parts) (sym is) (side_turned old new B b queue part within keeps whole_b))
-

@@ -104,6 +104,7 @@ side_turned old new side parts queue part within keeps whole =
             its_queue = keeps.same_queue ∙ is.its_queue;
             ready = keeps.ready;
           }
+
       by_place : (k : ℕ) → k < (side_plan old.plan side).queues → (k ≡ queue) ⊎ (k ≡ queue → ⊥) → IsInPlace new side k (get_or (set parts queue part) k no_queue)
       by_place k below (inl e) =
           subst (λ k. IsInPlace new side k (get_or (set parts queue part) k no_queue)) (sym e)
