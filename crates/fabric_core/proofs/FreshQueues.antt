@@ -1,5 +1,5 @@
 -- The queues of a side before any step, and the limits of the device on a queue.
-use Rattle.std.proofs.Common.{◌≡◌, ◌∙◌, ℕ, ◌+◌, ◌<◌, ◌≤◌, ◌⊎◌, List, [], ◌∷◌, ◌++◌, length, get_or, inl, inr, refl, sym, ap, subst, below_more, arith}
+use Rattle.std.proofs.Common.{◌≡◌, ◌∙◌, ℕ, ◌+◌, ◌<◌, ◌≤◌, List, [], ◌∷◌, ◌++◌, length, get_or, refl, sym, ap, subst, below_more, arith}
 use Rattle.std.proofs.lemmas.List.{get_or_append_left, get_or_push, length-append}
 use Rattle.step_kinds.specs.declared.names.Side.{Side}
 use Rattle.step_kinds.specs.declared.plan.DevPlan.{DevPlan}
@@ -38,10 +38,10 @@ fresh_more devs plan k side parts queue stop start limits made =
       fresh =
           below_more (λ j. IsFreshQueue devs plan k side j (get_or (parts ++ fresh_part plan side queue stop start ∷ []) j no_queue)) queue
           (λ j below.
-              subst (λ (part : QueuePart). IsFreshQueue devs plan k side j part)
-              (sym (get_or_append_left parts (fresh_part plan side queue stop start ∷ []) no_queue j (subst (λ n. j < n) (sym made.count) below))) (made.fresh j below))
+          subst (λ (part : QueuePart). IsFreshQueue devs plan k side j part)
+          (sym (get_or_append_left parts (fresh_part plan side queue stop start ∷ []) no_queue j (subst (λ n. j < n) (sym made.count) below))) (made.fresh j below))
           (subst (λ (part : QueuePart). IsFreshQueue devs plan k side queue part) (sym (get_or_push parts (fresh_part plan side queue stop start) no_queue queue made.count))
-              (is_fresh devs plan k side queue stop start limits));
+          (is_fresh devs plan k side queue stop start limits));
     }
 
 pub fresh_all : (devs : List DevPlan) (plan : PairPlan) (k : ℕ) (side : Side) (parts : List QueuePart) (queue : ℕ) → queue ≡ (side_plan plan side).queues
@@ -83,6 +83,7 @@ fresh_pair devs plan k bridge pages a b fresh fresh_a fresh_b = record { bridge 
   all : (side : Side) → length (queues_of (record { bridge = bridge; queues = record { a = a; b = b } }) side) ≡ (side_plan plan side).queues
   all A = fresh_a.all_queues
   all B = fresh_b.all_queues
+
   each : (side : Side) (queue : ℕ) → queue < (side_plan plan side).queues → IsFreshQueue devs plan k side queue (queue_of (record { bridge = bridge; queues = record { a = a; b = b } }) side queue)
   each A = fresh_a.queues
   each B = fresh_b.queues

@@ -8,12 +8,12 @@ use Rattle.step_kinds.specs.declared.steps.Answer.{Answer}
 use Rattle.step_kinds.specs.declared.steps.Answer.TheVariants.{OkNumber}
 use Rattle.step_kinds.specs.declared.steps.Label.TheVariants.{Raw}
 use Rattle.step_kinds.specs.declared.steps.Step.{Step}
-use Rattle.step_kinds.specs.declared.steps.Step.TheVariants.{Enable, Train, Break, DropDone, Clean, Offer, Check, Ready, Join, Begin, QpDown, Xbegin, Post, Land, Look, Copy, Clear, Ack, Wake, Irq, Mask, Unmask, Spad, Poke, ShowMem, ShowPad, ShowQueue}
+use Rattle.step_kinds.specs.declared.steps.Step.TheVariants.{Enable, Train, Break, DropDone, Offer, Check, Ready, Join, Begin, Xbegin, Land, Irq, Mask, Unmask, Spad, Poke}
 use Rattle.plan_model.specs.Ethernet.{ethernet_frame}
 use Rattle.plan_model.specs.Link.{is_up}
 use Rattle.plan_model.specs.Pads.{links_pad, pad_index}
 use Rattle.plan_model.specs.Plans.{dev_plan}
-use Rattle.bridge_pair.specs.Bridge.{Bridge, bells_of, book_of, flight_of, pages_of, with_bells, with_book, with_bytes}
+use Rattle.bridge_pair.specs.Bridge.{Bridge, book_of, flight_of, with_book, with_bytes}
 use Rattle.bridge_pair.specs.Laws.{KeepsPromises}
 use Rattle.bridge_pair.specs.Writes.{PostedWrite, memory_write, pad_write}
 use Rattle.bridge_pair.specs.declared.book.SideBook.{SideBook}
@@ -33,7 +33,7 @@ use Rattle.fabric_rule.specs.Moves.{Move, bridge_move, clean_move, posted_aside,
 use Rattle.fabric_rule.specs.Parts.{PairState, QueuePart, plain_bridge, queue_of}
 use Rattle.fabric_rule.specs.Steps.{move_of}
 use Rattle.fabric_core.specs.Promised.{HasMorePages, KeepsPromised}
-use Rattle.fabric_core.specs.Turns.{bare_pair, bridge_turn, place_of, queue_turn, turned, xbegin_turn}
+use Rattle.fabric_core.specs.Turns.{bare_pair, bridge_turn, place_of, queue_turn, turned}
 use Rattle.fabric_core.specs.declared.places.StepPlace.{StepPlace}
 use Rattle.fabric_core.specs.declared.places.StepPlace.TheVariants.{OnQueue, OnSide, OnBridge}
 

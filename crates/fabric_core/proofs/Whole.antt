@@ -1,41 +1,23 @@
 -- What is so of every pair stays so: through calls of one of its queues, through steps on its bridge, and where a side forgets its session.
-use Rattle.std.proofs.Common.{◌≡◌, ◌∙◌, ℕ, suc, ◌+◌, ◌<◌, ◌≤◌, ◌⊎◌, All, Contains, List, [], ◌∷◌, Option, Some, None, length, get_or, map, set, rules, inl, inr, refl, sym, ap, subst, arith}
+use Rattle.std.proofs.Common.{◌≡◌, ◌∙◌, ℕ, suc, ◌+◌, ◌<◌, ◌≤◌, ◌⊎◌, Contains, List, [], ◌∷◌, length, get_or, map, set, rules, inl, inr, refl, sym, ap, subst, arith}
 use Rattle.std.proofs.lemmas.Bool.{cases_eq}
 use Rattle.std.proofs.lemmas.List.{get_or-map, get_or-set_other, get_or-set_same, length-map, length-set}
-use Rattle.std.proofs.lemmas.List.Elements.{All-weaker}
 use Rattle.std.proofs.lemmas.List.Sums.{sum_by-cons, sum_by-set}
 use Rattle.step_kinds.specs.Sides.{other_side}
 use Rattle.step_kinds.specs.declared.names.Side.{Side}
 use Rattle.step_kinds.specs.declared.names.Side.TheVariants.{A, B}
 use Rattle.step_kinds.specs.declared.plan.PairPlan.{PairPlan}
-use Rattle.byte_model.specs.RingWrites.{WindowWrite, entry_write}
 use Rattle.plan_model.specs.Plans.{side_plan}
 use Rattle.bridge_pair.specs.Bridge.{Bridge, flight_of, pages_of}
 use Rattle.fabric_rule.specs.Moves.{forgotten_queue}
 use Rattle.fabric_rule.specs.Parts.{PairState, QueuePart, no_queue, queue_of, queues_of, with_bridge}
-use Rattle.frame_ring.specs.Port.{Left, PortState, fresh_port, unused_of, writes_left}
-use Rattle.frame_ring.specs.Seen.{HasPages, HasPagesIn, IsLeftReady, IsReady}
+use Rattle.frame_ring.specs.Port.{PortState, fresh_port, unused_of}
+use Rattle.frame_ring.specs.Seen.{HasPagesIn}
 use Rattle.fabric_core.specs.Parts.{IsInPlace, IsWhole, KeepsPort, all_unused}
 use Rattle.fabric_core.specs.Promised.{KeepsPromised}
+use Rattle.fabric_core.proofs.Keeping.{pages_stay}
 
 -- Pages that were promised stay so
-
-still_ready : (plan : PairPlan) (side : Side) (old new : List ℕ) (write : Option WindowWrite) → ((page : ℕ) → Contains old page → Contains new page) → IsReady plan side old write
-    → IsReady plan side new write
-still_ready plan side old new None stay ready = tt
-still_ready plan side old new (Some write) stay ready = λ reach page touches. stay page (ready reach page touches)
-
-pages_stay : (port : PortState) (own peer own_new peer_new : List ℕ) → ((page : ℕ) → Contains own page → Contains own_new page) → ((page : ℕ) → Contains peer page → Contains peer_new page)
-    → HasPages port own peer → HasPages port own_new peer_new
-pages_stay port own peer own_new peer_new stay peer_stay ready =
-    record {
-      writes =
-          All-weaker (IsLeftReady port.plan port.side peer) (IsLeftReady port.plan port.side peer_new)
-          (λ (left : Left) (h : IsLeftReady port.plan port.side peer left). still_ready port.plan port.side peer peer_new (entry_write port.plan port.side left.entry left.label) peer_stay h) (writes_left port)
-          ready.writes;
-      flags = λ busy page touches. stay page (ready.flags busy page touches);
-      index_word = λ busy reach page touches. peer_stay page (ready.index_word busy reach page touches);
-    }
 
 abbrev PagesStay : Bridge → Bridge → Type 0
 PagesStay old new = (side : Side) (page : ℕ) → Contains (pages_of old side) page → Contains (pages_of new side) page
@@ -122,6 +104,7 @@ side_turned old new side parts queue part within keeps whole =
             its_queue = keeps.same_queue ∙ is.its_queue;
             ready = keeps.ready;
           }
+
       by_place : (k : ℕ) → k < (side_plan old.plan side).queues → (k ≡ queue) ⊎ (k ≡ queue → ⊥) → IsInPlace new side k (get_or (set parts queue part) k no_queue)
       by_place k below (inl e) =
           subst (λ k. IsInPlace new side k (get_or (set parts queue part) k no_queue)) (sym e)

@@ -1,6 +1,5 @@
-use Rattle.std.proofs.Common.{◌<◌, ◌≡◌, ◌∙◌, ap, arith, length, map, rules, sym}
+use Rattle.std.proofs.Common.{◌<◌, length, rules}
 use Rattle.std.proofs.lemmas.List.{drop_all, take_all}
-use Rattle.fabric_rule.specs.Moves.{forgotten_queue}
 use Rattle.fabric_core.proofs.Forgetting.{items_then, its_turn, one_forgot, plan_then, room_behind, room_then, same_room, side_then}
 use Rattle.fabric_core.proofs.pairs.forget_all.Goals as goal
 

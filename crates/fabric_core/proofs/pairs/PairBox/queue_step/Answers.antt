@@ -1,9 +1,9 @@
-use Rattle.std.proofs.Common.{◌<◌, subst, sym}
+use Rattle.std.proofs.Common.{◌<◌, ◌≡◌, IfOk, subst, sym}
 use Rattle.plan_model.specs.Plans.{side_plan}
 use Rattle.step_kinds.specs.declared.names.Side.{Side}
 use Rattle.step_kinds.specs.declared.names.Side.TheVariants.{A, B}
-use Rattle.fabric_rule.specs.Parts.{PairState}
-use Rattle.fabric_core.specs.PairBoxes.{pair_seen}
+use Rattle.fabric_rule.specs.Parts.{PairState, queue_of}
+use Rattle.fabric_core.specs.Turns.{queue_turn}
 use Rattle.fabric_core.proofs.SteppedPairs.{called_a, called_b}
 use Rattle.fabric_core.proofs.pairs.PairBox.queue_step.Goals as goal
 
@@ -22,3 +22,15 @@ invariant_of-self-in-B c =
     (subst (λ (side : Side). c.args.queue < (side_plan c.args.self.now.bridge.plan side).queues) c.in-B.is c.requires.among) in
     called_b c.self.inside.pair c.make_at-in-B.new.pair c.self.inside.queues_a.items c.self.inside.queues_b.items c.make_at-in-B.new.queues.items c.args.queue c.self.invariant below
     c.make_at-in-B.ensures.queues c.make_at-in-B.ensures.keeps
+
+pub returns-in-A-clause-answer : goal.returns-in-A-clause-answer
+returns-in-A-clause-answer c =
+    subst (λ (side : Side). IfOk c.make_at.result (λ answer. answer ≡ (queue_turn c.args.devs.now (queue_of c.args.self.now side c.args.queue) c.args.self.now.bridge c.args.step.now).answer)) (sym c.in-A.is)
+    (subst (λ (state : PairState). IfOk c.make_at.result (λ answer. answer ≡ (queue_turn c.args.devs.now (queue_of state A c.args.queue) state.bridge c.args.step.now).answer)) c.self.view_is
+    c.make_at.ensures.answer)
+
+pub returns-in-B-clause-answer : goal.returns-in-B-clause-answer
+returns-in-B-clause-answer c =
+    subst (λ (side : Side). IfOk c.make_at-in-B.result (λ answer. answer ≡ (queue_turn c.args.devs.now (queue_of c.args.self.now side c.args.queue) c.args.self.now.bridge c.args.step.now).answer)) (sym c.in-B.is)
+    (subst (λ (state : PairState). IfOk c.make_at-in-B.result (λ answer. answer ≡ (queue_turn c.args.devs.now (queue_of state B c.args.queue) state.bridge c.args.step.now).answer)) c.self.view_is
+    c.make_at-in-B.ensures.answer)
