@@ -1,20 +1,18 @@
 -- A fabric of fresh pairs stands for no steps.
-use Rattle.std.proofs.Common.{◌≡◌, ◌∙◌, ℕ, zero, suc, ◌+◌, ◌<◌, ◌≢◌, ◌⊎◌, List, [], ◌∷◌, ◌++◌, get_or, inl, inr, length, refl, sym, ap, subst, arith}
+use Rattle.std.proofs.Common.{◌≡◌, ℕ, ◌+◌, ◌<◌, ◌≢◌, ◌⊎◌, List, [], ◌∷◌, ◌++◌, get_or, inl, inr, length, refl, sym, subst, arith}
 use Rattle.std.proofs.lemmas.Bool.{cases_eq}
 use Rattle.std.proofs.lemmas.List.{get_or_append_left, get_or_push, length_push}
 use Rattle.step_kinds.specs.declared.names.Side.TheVariants.{A, B}
 use Rattle.step_kinds.specs.declared.plan.DevPlan.{DevPlan}
 use Rattle.step_kinds.specs.declared.plan.PairPlan.{PairPlan}
 use Rattle.step_kinds.specs.declared.plan.Plan.{Plan}
-use Rattle.plan_model.specs.Both.{Both}
-use Rattle.plan_model.specs.DeclaredPlans.{IsDeclared, SameQueue}
-use Rattle.plan_model.specs.Plans.{dev_plan, pair_plan}
-use Rattle.memory_model.specs.Memory.{site_of}
-use Rattle.bridge_pair.specs.Bridge.{Bridge, pages_of}
+use Rattle.plan_model.specs.DeclaredPlans.{IsDeclared}
+use Rattle.plan_model.specs.Plans.{pair_plan}
+use Rattle.bridge_pair.specs.Bridge.{pages_of}
 use Rattle.fabric_rule.specs.Laws.{IsFreshPair}
 use Rattle.fabric_rule.specs.Parts.{PairState}
 use Rattle.fabric_rule.proofs.Facade.{fresh_pair_stands}
-use Rattle.fabric_core.specs.Fabric.{FabricState, StandsFor, bare_plan, no_state, pair_of, plan_kept}
+use Rattle.fabric_core.specs.Fabric.{FabricState, no_state, pair_of, plan_kept}
 use Rattle.fabric_core.specs.Parts.{AreAlone}
 use Rattle.fabric_core.specs.Pinned.{HasMade}
 use Rattle.fabric_core.proofs.Standing.{MadeSome, declared_bare, plan_of_standing}

@@ -1,5 +1,5 @@
 -- What a call of a queue keeps of all that was promised.
-use Rattle.std.proofs.Common.{◌≡◌, ◌∙◌, ℕ, zero, suc, ◌+◌, ◌-◌, ◌<◌, ◌≤◌, All, Bool, true, false, Contains, List, Option, Some, None, Result, Ok, Err, OnErr, OnOk, length, refl, sym, ap, subst, arith, if◌then◌else◌}
+use Rattle.std.proofs.Common.{◌≡◌, ◌∙◌, ℕ, ◌+◌, ◌-◌, ◌≤◌, Contains, List, Option, Some, None, length, refl, sym, ap, subst, arith}
 use Rattle.std.proofs.lemmas.List.Elements.{All-weaker}
 use Rattle.step_kinds.specs.Sides.{other_side}
 use Rattle.step_kinds.specs.declared.lanes.Begun.{Begun}
@@ -8,8 +8,6 @@ use Rattle.step_kinds.specs.declared.names.Side.{Side}
 use Rattle.step_kinds.specs.declared.names.Side.TheVariants.{A, B}
 use Rattle.step_kinds.specs.declared.plan.PairPlan.{PairPlan}
 use Rattle.byte_model.specs.RingWrites.{WindowWrite, entry_write}
-use Rattle.host_memory.specs.Memory.{ArePromised}
-use Rattle.lane_model.specs.Lane.{GoesDown}
 use Rattle.bridge_pair.specs.Bridge.{Bridge, flight_of, pages_of, with_pages}
 use Rattle.bridge_pair.specs.Pages.{PagesGrow}
 use Rattle.fabric_rule.specs.Parts.{plain_bridge}

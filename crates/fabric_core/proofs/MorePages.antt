@@ -1,21 +1,19 @@
 -- Bridges that differ in promised pages alone.
-use Rattle.std.proofs.Common.{◌≡◌, ◌∙◌, ℕ, ◌+◌, ◌≤◌, Bool, true, false, Contains, List, Result, Ok, Err, OnErr, OnOk, refl, sym, ap, subst, arith}
-use Rattle.step_kinds.specs.Sides.{other_side}
+use Rattle.std.proofs.Common.{◌≡◌, ◌∙◌, ℕ, true, Contains, List, Result, Ok, Err, OnErr, refl, sym, ap, subst}
 use Rattle.step_kinds.specs.declared.names.Side.{Side}
 use Rattle.step_kinds.specs.declared.names.Side.TheVariants.{A, B}
 use Rattle.step_kinds.specs.declared.steps.Step.{Step}
 use Rattle.step_kinds.specs.declared.steps.Step.TheVariants.{Enable, Train, Break, DropDone, Offer, Check, Ready, Join}
-use Rattle.bridge_pair.specs.Bridge.{Bridge, pages_of, with_bytes, with_pages}
+use Rattle.bridge_pair.specs.Bridge.{Bridge, pages_of, with_pages}
 use Rattle.bridge_pair.specs.Writes.{PostedWrite}
 use Rattle.fabric_rule.specs.Moves.{posted_aside}
-use Rattle.fabric_rule.specs.Parts.{plain_bridge}
 use Rattle.hand_shake.specs.Checks.{after_answer, after_check, check_answer}
 use Rattle.hand_shake.specs.Offers.{with_posted}
 use Rattle.hand_shake.specs.declared.CheckAnswer.{CheckAnswer}
 use Rattle.hand_shake.specs.declared.CheckAnswer.TheVariants.{Up}
 use Rattle.plan_model.specs.Link.{is_up}
 use Rattle.fabric_core.specs.Promised.{HasMorePages, with_promised}
-use Rattle.fabric_core.specs.Turns.{BridgeTurn, bridge_turn, register_turn}
+use Rattle.fabric_core.specs.Turns.{bridge_turn, register_turn}
 
 pub on_err : {X E : Type 0} {P : Type 0} (result : Result X E) → P → OnErr result P
 on_err (Ok x) p = tt

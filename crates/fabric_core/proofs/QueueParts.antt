@@ -1,8 +1,8 @@
 -- A queue's part of a pair, put together.
-use Rattle.std.proofs.Common.{◌≡◌, ◌∙◌, ℕ, ◌+◌, ◌≤◌, List, refl, sym, ap, subst, arith}
+use Rattle.std.proofs.Common.{◌≡◌, ℕ, ◌+◌, ◌≤◌, List, refl, arith}
 use Rattle.step_kinds.specs.Sides.{other_side}
 use Rattle.step_kinds.specs.declared.lanes.LaneCopy.{LaneCopy}
-use Rattle.step_kinds.specs.declared.lanes.LaneCopy.TheVariants.{Part, Whole, OutOfTurn as NotCopying}
+use Rattle.step_kinds.specs.declared.lanes.LaneCopy.TheVariants.{Whole}
 use Rattle.step_kinds.specs.declared.plan.Counters.{Counters}
 use Rattle.plan_model.specs.Device.{Flow}
 use Rattle.bridge_pair.specs.Bridge.{Bridge, flight_of}

@@ -1,11 +1,10 @@
 -- What a fabric that stands for steps lets its pairs do, and what it stands for after one more.
-use Rattle.std.proofs.Common.{◌≡◌, ◌≢◌, ◌∙◌, ℕ, ◌+◌, ◌<◌, ◌≤◌, Bool, true, false, List, [], ◌∷◌, ◌++◌, map, length, refl, sym, ap, subst, arith, ext_get_or, get_or-set_other, get_or-set_same, length-set, set, slice_index_or, Result, Ok, Err, IfOk, OnOk, OnErr, inl, inr, ⊎_elim, ◌⊎◌}
+use Rattle.std.proofs.Common.{◌≡◌, ◌≢◌, ◌∙◌, ℕ, ◌<◌, Bool, true, false, List, [], ◌∷◌, ◌++◌, map, length, refl, sym, ap, subst, arith, ext_get_or, get_or-set_other, get_or-set_same, length-set, set, slice_index_or, Result, Ok, Err, IfOk, OnOk, OnErr, inl, inr, ⊎_elim, ◌⊎◌}
 use Rattle.std.specs.List.{AllByRecursion}
 use Rattle.std.proofs.lemmas.Bool.{cases_eq, true≢false}
 use Rattle.std.proofs.lemmas.List.{get_or-map, length-map}
 use Rattle.std.proofs.Math.Seq.{map-set_same}
 use Rattle.step_kinds.specs.Bits.{has_bit}
-use Rattle.step_kinds.specs.Sides.{other_side}
 use Rattle.step_kinds.specs.Subject.{subject_of}
 use Rattle.step_kinds.specs.declared.names.Side.{Side}
 use Rattle.step_kinds.specs.declared.names.Side.TheVariants.{A, B}
@@ -21,9 +20,9 @@ use Rattle.plan_model.specs.Both.{Both, at_side}
 use Rattle.plan_model.specs.DeclaredPlans.{Agree, IsDeclared, IsDeviceOn, IsPair, IsPairOf, IsPermitted, IsPoke, IsQueueOf, IsShown, IsSide, SizesFit}
 use Rattle.plan_model.specs.Plans.{no_pair, pair_plan, side_plan}
 use Rattle.ledger_laws.proofs.Facade.{every_frame_comes_once, every_log_is_in_order, joined_means_agreement, lane_part_lands, log_of-last, no_ordinary_ver_differs_or_long, quiet_means_done, up_means_agreement, up_side_agrees}
-use Rattle.ledger_laws.specs.Laws.{Agrees as PadsAgree, HasSides, IsOrdinaryOn, IsSide as IsLawSide}
+use Rattle.ledger_laws.specs.Laws.{HasSides, IsOrdinaryOn, IsSide as IsLawSide}
 use Rattle.ledger_model.specs.Ledger.{PairPart, side_of}
-use Rattle.ledger_model.specs.Log.{answered, ledger_of, log_of}
+use Rattle.ledger_model.specs.Log.{ledger_of}
 use Rattle.ledger_model.specs.Next.{pair_next}
 use Rattle.memory_model.specs.Memory.{Site, bytes_of_site, memory_of, site_of}
 use Rattle.byte_laws.proofs.Facade.{site_of-elsewhere, sites_are_the_ledger, steps_of_log, stored_pairs_are_separate}

@@ -1,14 +1,11 @@
 -- A fabric as contracts see it: its devices and its pairs; when it stands for the steps that were made; and what a step needs.
 use Rattle.std.specs.Prelude.{◌≡◌, ℕ, ◌<◌, Bool, true, false, List, [], length, map, slice_index_or}
-use Rattle.step_kinds.specs.Subject.{subject_of}
 use Rattle.step_kinds.specs.declared.names.LaneName.{LaneName}
-use Rattle.step_kinds.specs.declared.names.Side.TheVariants.{A, B}
 use Rattle.step_kinds.specs.declared.plan.DevPlan.{DevPlan}
 use Rattle.step_kinds.specs.declared.plan.Plan.{Plan}
 use Rattle.step_kinds.specs.declared.steps.Step.{Step}
 use Rattle.step_kinds.specs.declared.steps.Step.TheVariants.{Offer, Check, Ready, Begin, Xbegin, QpDown, Look, Spad, Poke, ShowMem}
 use Rattle.step_kinds.specs.Sides.{other_side}
-use Rattle.plan_model.specs.DeclaredPlans.{IsPermitted}
 use Rattle.plan_model.specs.Plans.{no_pair, pair_plan}
 use Rattle.memory_model.specs.Memory.{site_of}
 use Rattle.bridge_pair.specs.Fresh.{fresh_bridge}

@@ -1,5 +1,5 @@
 -- What a step does to the part of a pair that it touches: to one queue and the bridge, or to the bridge alone.
-use Rattle.std.specs.Prelude.{ℕ, Bool, true, false, List, [], length, if◌then◌else◌}
+use Rattle.std.specs.Prelude.{ℕ, List, [], length, if◌then◌else◌}
 use Rattle.step_kinds.specs.declared.names.Side.{Side}
 use Rattle.step_kinds.specs.declared.plan.DevPlan.{DevPlan}
 use Rattle.step_kinds.specs.declared.steps.Answer.{Answer}
@@ -16,7 +16,7 @@ use Rattle.queue_pair.specs.Gates.{begin_answer, after_begin, qpdown_answer, aft
 use Rattle.queue_pair.specs.Queue.{with_port}
 use Rattle.fabric_rule.specs.Answers.{of_begin, of_xbegin, of_post, of_look, of_copy, of_clear, of_ack}
 use Rattle.fabric_rule.specs.Moves.{Move, accepted_where_begun, break_move, check_move, delivered_where_whole, drop_move, enable_move, irq_move, join_move, land_move, mask_move, offer_move, poke_move, ready_move, show_mem_move, show_pad_move, show_queue_move, spad_move, train_move, unmask_move, xbegun}
-use Rattle.fabric_rule.specs.Parts.{PairState, QueuePart, queue_of, with_bridge, with_queue}
+use Rattle.fabric_rule.specs.Parts.{PairState, QueuePart, with_bridge, with_queue}
 use Rattle.fabric_core.specs.declared.places.StepPlace.{StepPlace}
 use Rattle.fabric_core.specs.declared.places.StepPlace.TheVariants.{OnQueue, OnSide, OnBridge}
 

@@ -1,5 +1,5 @@
-use Rattle.std.proofs.Common.{IfOk, IsErr, OnErr, OnOk, subst, sym, true, ◌≡◌}
-use Rattle.fabric_core.specs.Turns.{BridgeTurn, bridge_turn}
+use Rattle.std.proofs.Common.{IfOk, OnOk, subst, sym, ◌≡◌}
+use Rattle.fabric_core.specs.Turns.{BridgeTurn}
 use Rattle.fabric_core.specs.Promised.{HasMorePages}
 use Rattle.fabric_core.proofs.MorePages.{by_register, checked_more, more_pages, on_err}
 use Rattle.fabric_core.proofs.bridge_steps.bridge_step.Goals as goal

@@ -1,4 +1,4 @@
-use Rattle.std.proofs.Common.{◌≡◌, ◌∙◌, ◌<◌, get_or, ℕ, ◌++◌, [], ◌∷◌, List, sym, ap, subst, length, rules, arith, ◌+◌}
+use Rattle.std.proofs.Common.{◌≡◌, ◌∙◌, ◌<◌, get_or, ℕ, [], List, sym, ap, subst, length, rules, ◌+◌}
 use Rattle.std.proofs.lemmas.List.{get_or_default}
 use Rattle.step_kinds.specs.declared.plan.DevPlan.{DevPlan}
 use Rattle.step_kinds.specs.declared.plan.PairPlan.{PairPlan}
@@ -6,9 +6,7 @@ use Rattle.fabric_rule.specs.Parts.{PairState}
 use Rattle.step_kinds.specs.declared.plan.Plan.{Plan}
 use Rattle.plan_model.specs.DeclaredPlans.{IsDeclared}
 use Rattle.plan_model.specs.Plans.{no_pair, pair_plan}
-use Rattle.fabric_core.specs.Fabric.{FabricState, plan_kept}
-use Rattle.fabric_core.specs.Fabrics.{IsFabric, fabric_seen}
-use Rattle.fabric_core.specs.declared.fabric.Fabric.TheInside.{Inside}
+use Rattle.fabric_core.specs.Fabric.{FabricState}
 use Rattle.fabric_core.specs.Pinned.{HasMade}
 use Rattle.fabric_core.proofs.FreshFabrics.{AreFresh, IsFresh, fresh_itself, fresh_made, one_more_fresh}
 use Rattle.fabric_core.proofs.Standing.{from_some, plan_of_standing}
