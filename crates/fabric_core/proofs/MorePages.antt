@@ -3,7 +3,8 @@ use Rattle.std.proofs.Common.{◌≡◌, ◌∙◌, ℕ, true, Contains, List, R
 use Rattle.step_kinds.specs.declared.names.Side.{Side}
 use Rattle.step_kinds.specs.declared.names.Side.TheVariants.{A, B}
 use Rattle.step_kinds.specs.declared.steps.Step.{Step}
-use Rattle.step_kinds.specs.declared.steps.Step.TheVariants.{Enable, Train, Break, DropDone, Offer, Check, Ready, Join}
+use Rattle.step_kinds.specs.declared.steps.Answer.TheVariants.{Ok as Done}
+use Rattle.step_kinds.specs.declared.steps.Step.TheVariants.{Enable, Train, Break, DropDone, Offer, Check, Ready, Join, Land, Irq, Mask, Unmask, Spad, Poke, ShowMem, ShowPad, ShowQueue}
 use Rattle.bridge_pair.specs.Bridge.{Bridge, pages_of, with_pages}
 use Rattle.bridge_pair.specs.Writes.{PostedWrite}
 use Rattle.fabric_rule.specs.Moves.{posted_aside}
@@ -87,3 +88,21 @@ by_register bridge (Check p side) enable train cut drop offer check ready join =
 by_register bridge (Ready p side queue) enable train cut drop offer check ready join = absurd (ready p side queue refl)
 by_register bridge (Join p side queue) enable train cut drop offer check ready join = absurd (join p side queue refl)
 by_register bridge step enable train cut drop offer check ready join = refl
+
+-- a step that is none of these does nothing here
+pub nothing_turned : (bridge : Bridge) (step : Step) → ((p : ℕ) (side : Side) (place : ℕ) → step ≡ Land p side place → ⊥) → ((p : ℕ) (side : Side) → step ≡ Irq p side → ⊥) → ((p : ℕ) (side : Side) (bits : ℕ) → step ≡ Mask p side bits → ⊥) → ((p : ℕ) (side : Side) (bits : ℕ) → step ≡ Unmask p side bits → ⊥) → ((p : ℕ) (side : Side) (i value : ℕ) → step ≡ Spad p side i value → ⊥) → ((p : ℕ) (side : Side) (window offset : ℕ) (bytes : List ℕ) → step ≡ Poke p side window offset bytes → ⊥) → ((p : ℕ) (side : Side) (at len : ℕ) → step ≡ ShowMem p side at len → ⊥) → ((p : ℕ) (side : Side) (i : ℕ) → step ≡ ShowPad p side i → ⊥) → ((p : ℕ) (side : Side) (place : ℕ) → step ≡ ShowQueue p side place → ⊥)
+    → register_turn bridge step ≡ record { answer = Done; bridge = bridge }
+nothing_turned bridge (Land p side place) land irq mask unmask spad poke mem pad queue = absurd (land p side place refl)
+nothing_turned bridge (Irq p side) land irq mask unmask spad poke mem pad queue = absurd (irq p side refl)
+nothing_turned bridge (Mask p side bits) land irq mask unmask spad poke mem pad queue = absurd (mask p side bits refl)
+nothing_turned bridge (Unmask p side bits) land irq mask unmask spad poke mem pad queue = absurd (unmask p side bits refl)
+nothing_turned bridge (Spad p side i value) land irq mask unmask spad poke mem pad queue = absurd (spad p side i value refl)
+nothing_turned bridge (Poke p side window offset bytes) land irq mask unmask spad poke mem pad queue = absurd (poke p side window offset bytes refl)
+nothing_turned bridge (ShowMem p side at len) land irq mask unmask spad poke mem pad queue = absurd (mem p side at len refl)
+nothing_turned bridge (ShowPad p side i) land irq mask unmask spad poke mem pad queue = absurd (pad p side i refl)
+nothing_turned bridge (ShowQueue p side place) land irq mask unmask spad poke mem pad queue = absurd (queue p side place refl)
+nothing_turned bridge step land irq mask unmask spad poke mem pad queue = refl
+
+-- a bridge has its own pages
+pub same_pages : (bridge : Bridge) → HasMorePages bridge bridge
+same_pages bridge = record { rest = refl; stay = λ any page had. had }
