@@ -1,5 +1,5 @@
 -- What a fabric that stands for steps lets its pairs do, and what it stands for after one more.
-use Rattle.std.proofs.Common.{◌≡◌, ◌≢◌, ◌∙◌, ℕ, ◌<◌, Bool, true, false, List, [], ◌∷◌, ◌++◌, map, length, refl, sym, ap, subst, arith, ext_get_or, get_or-set_other, get_or-set_same, length-set, set, slice_index_or, Result, Ok, Err, IfOk, OnOk, OnErr, inl, inr, ⊎_elim, ◌⊎◌}
+use Rattle.std.proofs.Common.{◌≡◌, ◌≢◌, ◌∙◌, ℕ, ◌<◌, Bool, true, false, List, [], ◌∷◌, ◌++◌, map, length, refl, sym, ap, subst, arith, ext_get_or, get_or-set_other, get_or-set_same, length-set, set, slice_index_or, Result, Ok, Err, IfOk, OnOk, OnErr, IsErr, inl, inr, ⊎_elim, ◌⊎◌}
 use Rattle.std.specs.List.{AllByRecursion}
 use Rattle.std.proofs.lemmas.Bool.{cases_eq, true≢false}
 use Rattle.std.proofs.lemmas.List.{get_or-map, length-map}
@@ -36,11 +36,12 @@ use Rattle.fabric_rule.specs.Parts.{PairState, QueuePart, plain_bridge, plain_pa
 use Rattle.fabric_rule.specs.StandsFor.{PairStands, SideStandsIn, bridge_for}
 use Rattle.fabric_rule.specs.Steps.{move_of}
 use Rattle.fabric_rule.proofs.Facade.{each_step_stands}
-use Rattle.fabric_core.specs.Fabric.{FabricState, StandsFor, bare_plan, no_state, pair_of, plain, plan_kept}
+use Rattle.fabric_core.specs.Fabric.{FabricState, StandsFor, bare_plan, may_want_memory, no_state, pair_of, plain, plan_kept}
 use Rattle.fabric_core.specs.Fabrics.{IsFabric, fabric_seen}
 use Rattle.fabric_core.specs.Parts.{Agrees, CanMake}
 use Rattle.fabric_core.specs.declared.fabric.Fabric.TheInside.{Inside}
 use Rattle.fabric_core.specs.Lawful.{IsLawful, pair_after}
+use Rattle.fabric_core.specs.Stepped.{HasStepped}
 use Rattle.fabric_core.specs.Pinned.{HasMade, IsAnswered, IsLikely, log_after}
 
 -- A pair that differs in promises alone
@@ -413,13 +414,14 @@ pub record PairMoved {E : Type 0} (devs : List DevPlan) (step : Step) (old new :
   pub after : OnOk result (plain_pair new ≡ plain_pair (move_of devs old step).after)
   pub err : OnErr result (plain_pair new ≡ plain_pair old)
 
--- so the fabric made it, or is as it was
-pub record FabricMoved {E : Type 0} (old new : FabricState) (step : Step) (result : Result Answer E) : Type 0 where
-  pub answered : (plan : Plan) (steps : List Step) → HasMade plan steps old → IfOk result (λ answer. IsAnswered plan steps step answer × IsLikely plan step answer)
-  pub stands : (plan : Plan) (steps : List Step) → HasMade plan steps old → OnOk result (HasMade plan (steps ++ step ∷ []) new)
-  pub lawful : (plan : Plan) (steps : List Step) → HasMade plan steps old → OnOk result (IsLawful plan (steps ++ step ∷ []))
-  pub still : (plan : Plan) (steps : List Step) → HasMade plan steps old → OnErr result (HasMade plan steps new)
-  pub err : OnErr result (plain new ≡ plain old)
+-- it stands for some steps still
+
+pub record MadeSome (plan : Plan) (fabric : FabricState) : Type 0 where
+  pub steps : List Step
+  pub made : HasMade plan steps fabric
+
+pub same_plan : (old new : FabricState) → MadeSome (plan_kept old) new → plan_kept new ≡ plan_kept old
+same_plan old new some = plan_of_standing (plan_kept old) some.steps new some.made.stands
 
 module _ (old : FabricState) (step : Step) (pair : PairState) (may : IsPermitted (plan_kept old) step) where
   permitted_by : (plan : Plan) (steps : List Step) → HasMade plan steps old → IsPermitted plan step
@@ -428,8 +430,9 @@ module _ (old : FabricState) (step : Step) (pair : PairState) (may : IsPermitted
   pub among_pairs : subject_of step < length old.pairs
   among_pairs = let below = pair_among (plan_kept old) step may in omega (arith, below, length-map old.pairs (λ (pair : PairState). pair.bridge.plan))
 
-  pub fabric_moved : {E : Type 0} (result : Result Answer E) → PairMoved old.devs step (pair_of old (subject_of step)) pair result → FabricMoved old (with_pair old (subject_of step) pair) step result
-  fabric_moved (Ok answer) moved =
+  pub fabric_moved : {E : Type 0} (result : Result Answer E) → MadeSome (plan_kept old) old → (IsErr result → may_want_memory step ≡ true) → PairMoved old.devs step (pair_of old (subject_of step)) pair result
+      → HasStepped old (with_pair old (subject_of step) pair) step result
+  fabric_moved (Ok answer) some wants moved =
       let moves = set_moved old step pair answer among_pairs moved.answer moved.after in
       let new = with_pair old (subject_of step) pair in
       record {
@@ -438,31 +441,27 @@ module _ (old : FabricState) (step : Step) (pair : PairState) (may : IsPermitted
             (step_answered plan steps step old new made may answer moves, step_likely plan steps step old new made may answer moves);
         stands = λ plan steps made. step_made plan steps step old new made (permitted_by plan steps made) answer moves;
         lawful = λ plan steps made. always_lawful plan (steps ++ step ∷ []) new (step_made plan steps step old new made (permitted_by plan steps made) answer moves);
-        still = λ plan steps made. tt;
+        still_stands = λ plan steps made. tt;
         err = tt;
+        wants = wants;
+        plan = same_plan old new (record { steps = some.steps ++ step ∷ []; made = step_made (plan_kept old) some.steps step old new some.made may answer moves });
       }
-  fabric_moved (Err e) moved =
+  fabric_moved (Err e) some wants moved =
+      let new = with_pair old (subject_of step) pair in
       let same = set_plain old (subject_of step) pair moved.err in
       record {
         answered = λ plan steps made. tt;
         stands = λ plan steps made. tt;
         lawful = λ plan steps made. tt;
-        still = λ plan steps made. still_made plan steps old (with_pair old (subject_of step) pair) same made;
+        still_stands = λ plan steps made. still_made plan steps old new same made;
         err = same;
+        wants = wants;
+        plan = same_plan old new (record { steps = some.steps; made = still_made (plan_kept old) some.steps old new same some.made });
       }
 
--- and it stands for some steps still
-
-pub record MadeSome (plan : Plan) (fabric : FabricState) : Type 0 where
-  pub steps : List Step
-  pub made : HasMade plan steps fabric
-
-pub some_made : {E : Type 0} (old new : FabricState) (step : Step) (result : Result Answer E) (plan : Plan) → MadeSome plan old → FabricMoved old new step result → MadeSome plan new
+pub some_made : {E : Type 0} (old new : FabricState) (step : Step) (result : Result Answer E) (plan : Plan) → MadeSome plan old → HasStepped old new step result → MadeSome plan new
 some_made old new step (Ok answer) plan some moved = record { steps = some.steps ++ step ∷ []; made = moved.stands plan some.steps some.made }
-some_made old new step (Err e) plan some moved = record { steps = some.steps; made = moved.still plan some.steps some.made }
-
-pub same_plan : (old new : FabricState) → MadeSome (plan_kept old) new → plan_kept new ≡ plan_kept old
-same_plan old new some = plan_of_standing (plan_kept old) some.steps new some.made.stands
+some_made old new step (Err e) plan some moved = record { steps = some.steps; made = moved.still_stands plan some.steps some.made }
 
 pub made_itself : (old new : FabricState) → MadeSome (plan_kept old) new → MadeSome (plan_kept new) new
 made_itself old new some = subst (λ plan. MadeSome plan new) (sym (same_plan old new some)) some

@@ -9,4 +9,5 @@ pub mod Pinned
 pub mod Promised
 pub mod QueueBoxes
 pub mod Sessions
+pub mod Stepped
 pub mod Turns

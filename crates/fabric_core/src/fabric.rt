@@ -2,8 +2,8 @@
 
 ghost use Rattle.std.specs.Prelude.{IfOk, IsErr, List, OnErr, OnOk, [], length, true, ◌++◌, ◌<◌, ◌∷◌, ◌≡◌};
 ghost use Rattle.fabric_core.specs.Fabric.{StandsFor, bare_plan, may_want_memory, pair_of, plain, plan_kept};
-ghost use Rattle.fabric_core.specs.Lawful.{IsLawful};
-ghost use Rattle.fabric_core.specs.Pinned.{AreCounters, HasMade, IsAccepted, IsAnswered, IsDelivered, IsLikely, IsSession};
+ghost use Rattle.fabric_core.specs.Pinned.{AreCounters, IsAccepted, IsDelivered, IsSession};
+ghost use Rattle.fabric_core.specs.Stepped.{HasStepped};
 ghost use Rattle.fabric_rule.specs.Parts.{queue_of};
 ghost use Rattle.plan_model.specs.DeclaredPlans.{IsDeclared, IsPairOf, IsPermitted, IsQueueOf};
 ghost use Rattle.step_kinds.specs.Sides.{other_side};
@@ -58,8 +58,7 @@ impl Fabric {
     /// Makes a step, which has to be one that a script of the fabric's plan may make, and answers it. Whatever steps the fabric
     /// stands for, the answer is the log's of those steps and this one, and then it stands for them and this one. On an ordinary
     /// pair, that is, one that isn't declared `raw`, no step is answered `verdiffers` or `long`. What always holds of the steps
-    /// made is [`lawful`](../specs/Lawful.antt): frames in order and once, quiet queues done, sides that are up agreed, pairs
-    /// separate. It costs what it touches: no other pair, queue or device is looked at.
+    /// made: frames come in order and once, a quiet queue is done, sides that are up agree, pairs are separate. It costs what it touches: no other pair, queue or device is looked at.
     ///
     /// # Errors
     ///
@@ -67,13 +66,7 @@ impl Fabric {
     /// same steps as before then, and the step can be made again.
     pub fn step(&mut self, step: &Step) -> Result<Answer, AllocError>
         requires { IsPermitted (plan_kept self.old) step.now }
-        ensures answered { (plan : DeclaredPlan) (steps : List MadeStep) → HasMade plan steps self.old → IfOk result (λ answer. IsAnswered plan steps step.now answer × IsLikely plan step.now answer) }
-        ensures stands { (plan : DeclaredPlan) (steps : List MadeStep) → HasMade plan steps self.old → OnOk result (HasMade plan (steps ++ step.now ∷ []) self.new) }
-        ensures lawful { (plan : DeclaredPlan) (steps : List MadeStep) → HasMade plan steps self.old → OnOk result (IsLawful plan (steps ++ step.now ∷ [])) }
-        ensures still_stands { (plan : DeclaredPlan) (steps : List MadeStep) → HasMade plan steps self.old → OnErr result (HasMade plan steps self.new) }
-        ensures err { OnErr result (plain self.new ≡ plain self.old) }
-        ensures plan { plan_kept self.new ≡ plan_kept self.old }
-        ensures wants { IsErr result → may_want_memory step.now ≡ true }
+        ensures { HasStepped self.old self.new step.now result }
     {
         let k = step.subject() as usize;
         let pair = &mut self.pairs[k];

@@ -1,7 +1,6 @@
 use Rattle.std.proofs.Common.{◌≡◌, refl, subst, sym}
 use Rattle.std.proofs.lemmas.Bool.{false≢true}
 use Rattle.step_kinds.specs.declared.steps.Answer.TheVariants.{Ok as Done}
-use Rattle.bridge_pair.specs.Bridge.{Bridge}
 use Rattle.fabric_core.specs.Promised.{HasMorePages}
 use Rattle.fabric_core.specs.Turns.{BridgeTurn, register_turn}
 use Rattle.fabric_core.proofs.MorePages.{nothing_turned, same_pages}

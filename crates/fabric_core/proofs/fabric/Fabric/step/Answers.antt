@@ -1,4 +1,4 @@
-use Rattle.std.proofs.Common.{◌≡◌, ◌∙◌, ℕ, List, Result, sym, ap, subst, get_or}
+use Rattle.std.proofs.Common.{◌≡◌, ◌∙◌, ℕ, List, Result, IsErr, refl, sym, ap, subst, get_or, true}
 use Rattle.std.proofs.lemmas.List.{get_or_default}
 use Rattle.step_kinds.specs.Subject.{subject_of}
 use Rattle.step_kinds.specs.declared.plan.DevPlan.{DevPlan}
@@ -6,10 +6,12 @@ use Rattle.step_kinds.specs.declared.steps.Answer.{Answer}
 use Rattle.step_kinds.specs.declared.steps.Step.{Step}
 use Rattle.plan_model.specs.DeclaredPlans.{IsPermitted}
 use Rattle.fabric_rule.specs.Parts.{PairState}
-use Rattle.fabric_core.specs.Fabric.{FabricState, no_state, pair_of, plan_kept}
-use Rattle.fabric_core.specs.Fabrics.{fabric_seen}
+use Rattle.fabric_core.specs.Fabric.{FabricState, may_want_memory, no_state, pair_of, plan_kept}
+use Rattle.fabric_core.specs.Fabrics.{IsFabric, fabric_seen}
 use Rattle.fabric_core.specs.Parts.{Agrees, CanMake}
-use Rattle.fabric_core.proofs.Standing.{FabricMoved, PairMoved, among_pairs, fabric_moved, from_some, made_itself, pair_agrees, pair_can, same_plan, some, some_made, with_pair}
+use Rattle.fabric_core.specs.Stepped.{HasStepped}
+use Rattle.fabric_core.specs.declared.fabric.Fabric.TheInside.{Inside}
+use Rattle.fabric_core.proofs.Standing.{PairMoved, among_pairs, fabric_moved, from_some, made_itself, pair_agrees, pair_can, some, some_made, with_pair}
 use Rattle.fabric_core.proofs.fabric.Fabric.step.Goals as goal
 
 -- the pair at the step's place is the fabric's
@@ -17,13 +19,17 @@ found : (fabric : FabricState) (step : Step) (k : ℕ) (pair : PairState) → Is
 found fabric step k pair may is there =
     there ∙ ap (λ k. get_or fabric.pairs k pair) is ∙ get_or_default fabric.pairs (subject_of step) pair no_state (among_pairs fabric step pair may)
 
-outcome : {E : Type 0} (kept : FabricState) (step : Step) (k : ℕ) (devs : List DevPlan) (pair new : PairState) (result : Result Answer E) → IsPermitted (plan_kept kept) step → k ≡ subject_of step → devs ≡ kept.devs
-    → pair ≡ get_or kept.pairs k pair → PairMoved devs step pair new result → FabricMoved kept (with_pair kept k new) step result
-outcome kept step k devs pair new result may is same there moved =
-    subst (λ k. FabricMoved kept (with_pair kept k new) step result) (sym is)
-    (fabric_moved kept step new may result
-    (subst (λ devs. PairMoved devs step (pair_of kept (subject_of step)) new result) same
-    (subst (λ pair. PairMoved devs step pair new result) (found kept step k pair may is there) moved)))
+outcome : {E : Type 0} (kept : Inside) (fabric : FabricState) (step : Step) (k : ℕ) (devs : List DevPlan) (pair new : PairState) (result : Result Answer E) → fabric_seen kept ≡ fabric → IsFabric kept
+    → IsPermitted (plan_kept fabric) step → k ≡ subject_of step → devs ≡ kept.devs.items → pair ≡ get_or kept.pairs.items k pair → (IsErr result → may_want_memory step ≡ true) → PairMoved devs step pair new result
+    → HasStepped fabric (with_pair (fabric_seen kept) k new) step result
+outcome kept fabric step k devs pair new result seen is may at_k same there wants moved =
+    let own = fabric_seen kept in
+    let may_own : IsPermitted (plan_kept own) step = subst (λ fabric. IsPermitted (plan_kept fabric) step) (sym seen) may in
+    subst (λ fabric. HasStepped fabric (with_pair own k new) step result) seen
+    (subst (λ k. HasStepped own (with_pair own k new) step result) (sym at_k)
+    (fabric_moved own step new may_own result (some kept is) wants
+    (subst (λ devs. PairMoved devs step (pair_of own (subject_of step)) new result) same
+    (subst (λ pair. PairMoved devs step pair new result) (found own step k pair may_own at_k there) moved))))
 
 pub make-requires-clause-agrees : goal.make-requires-clause-agrees
 make-requires-clause-agrees c =
@@ -43,61 +49,15 @@ make-requires-clause-can c =
 pub invariant_of-self : goal.invariant_of-self
 invariant_of-self c =
     let kept = fabric_seen c.self.inside in
-    let may : IsPermitted (plan_kept kept) c.args.step.now = subst (λ fabric. IsPermitted (plan_kept fabric) c.args.step.now) (sym c.self.view_is) c.requires in
-    let moved : PairMoved c.deref.result.now c.args.step.now c.index_mut-pair.result.now c.make.new.self c.make.result = record { answer = c.make.ensures.answer; after = c.make.ensures.after; err = c.make.ensures.err } in
     let new = with_pair kept c.subject-k.result c.make.new.self in
     from_some _
     (made_itself kept new
     (some_made kept new c.args.step.now c.make.result (plan_kept kept) (some c.self.inside c.self.invariant)
-    (outcome kept c.args.step.now c.subject-k.result c.deref.result.now c.index_mut-pair.result.now c.make.new.self c.make.result may c.subject-k.ensures c.deref.ensures.value c.index_mut-pair.ensures.value moved)))
+    (outcome c.self.inside kept c.args.step.now c.subject-k.result c.deref.result.now c.index_mut-pair.result.now c.make.new.self c.make.result refl c.self.invariant
+    (subst (λ fabric. IsPermitted (plan_kept fabric) c.args.step.now) (sym c.self.view_is) c.requires) c.subject-k.ensures c.deref.ensures.value c.index_mut-pair.ensures.value c.make.ensures.wants
+    (record { answer = c.make.ensures.answer; after = c.make.ensures.after; err = c.make.ensures.err }))))
 
-pub returns-clause-answered : goal.returns-clause-answered
-returns-clause-answered c =
-    let kept = fabric_seen c.self.inside in
-    let may : IsPermitted (plan_kept kept) c.args.step.now = subst (λ fabric. IsPermitted (plan_kept fabric) c.args.step.now) (sym c.self.view_is) c.requires in
-    let moved : PairMoved c.deref.result.now c.args.step.now c.index_mut-pair.result.now c.make.new.self c.make.result = record { answer = c.make.ensures.answer; after = c.make.ensures.after; err = c.make.ensures.err } in
-    rw (← c.self.view_is)
-    (outcome kept c.args.step.now c.subject-k.result c.deref.result.now c.index_mut-pair.result.now c.make.new.self c.make.result may c.subject-k.ensures c.deref.ensures.value c.index_mut-pair.ensures.value moved).answered
-
-pub returns-clause-stands : goal.returns-clause-stands
-returns-clause-stands c =
-    let kept = fabric_seen c.self.inside in
-    let may : IsPermitted (plan_kept kept) c.args.step.now = subst (λ fabric. IsPermitted (plan_kept fabric) c.args.step.now) (sym c.self.view_is) c.requires in
-    let moved : PairMoved c.deref.result.now c.args.step.now c.index_mut-pair.result.now c.make.new.self c.make.result = record { answer = c.make.ensures.answer; after = c.make.ensures.after; err = c.make.ensures.err } in
-    rw (← c.self.view_is)
-    (outcome kept c.args.step.now c.subject-k.result c.deref.result.now c.index_mut-pair.result.now c.make.new.self c.make.result may c.subject-k.ensures c.deref.ensures.value c.index_mut-pair.ensures.value moved).stands
-
-pub returns-clause-lawful : goal.returns-clause-lawful
-returns-clause-lawful c =
-    let kept = fabric_seen c.self.inside in
-    let may : IsPermitted (plan_kept kept) c.args.step.now = subst (λ fabric. IsPermitted (plan_kept fabric) c.args.step.now) (sym c.self.view_is) c.requires in
-    let moved : PairMoved c.deref.result.now c.args.step.now c.index_mut-pair.result.now c.make.new.self c.make.result = record { answer = c.make.ensures.answer; after = c.make.ensures.after; err = c.make.ensures.err } in
-    rw (← c.self.view_is)
-    (outcome kept c.args.step.now c.subject-k.result c.deref.result.now c.index_mut-pair.result.now c.make.new.self c.make.result may c.subject-k.ensures c.deref.ensures.value c.index_mut-pair.ensures.value moved).lawful
-
-pub returns-clause-still_stands : goal.returns-clause-still_stands
-returns-clause-still_stands c =
-    let kept = fabric_seen c.self.inside in
-    let may : IsPermitted (plan_kept kept) c.args.step.now = subst (λ fabric. IsPermitted (plan_kept fabric) c.args.step.now) (sym c.self.view_is) c.requires in
-    let moved : PairMoved c.deref.result.now c.args.step.now c.index_mut-pair.result.now c.make.new.self c.make.result = record { answer = c.make.ensures.answer; after = c.make.ensures.after; err = c.make.ensures.err } in
-    rw (← c.self.view_is)
-    (outcome kept c.args.step.now c.subject-k.result c.deref.result.now c.index_mut-pair.result.now c.make.new.self c.make.result may c.subject-k.ensures c.deref.ensures.value c.index_mut-pair.ensures.value moved).still
-
-pub returns-clause-err : goal.returns-clause-err
-returns-clause-err c =
-    let kept = fabric_seen c.self.inside in
-    let may : IsPermitted (plan_kept kept) c.args.step.now = subst (λ fabric. IsPermitted (plan_kept fabric) c.args.step.now) (sym c.self.view_is) c.requires in
-    let moved : PairMoved c.deref.result.now c.args.step.now c.index_mut-pair.result.now c.make.new.self c.make.result = record { answer = c.make.ensures.answer; after = c.make.ensures.after; err = c.make.ensures.err } in
-    rw (← c.self.view_is)
-    (outcome kept c.args.step.now c.subject-k.result c.deref.result.now c.index_mut-pair.result.now c.make.new.self c.make.result may c.subject-k.ensures c.deref.ensures.value c.index_mut-pair.ensures.value moved).err
-
-pub returns-clause-plan : goal.returns-clause-plan
-returns-clause-plan c =
-    let kept = fabric_seen c.self.inside in
-    let may : IsPermitted (plan_kept kept) c.args.step.now = subst (λ fabric. IsPermitted (plan_kept fabric) c.args.step.now) (sym c.self.view_is) c.requires in
-    let moved : PairMoved c.deref.result.now c.args.step.now c.index_mut-pair.result.now c.make.new.self c.make.result = record { answer = c.make.ensures.answer; after = c.make.ensures.after; err = c.make.ensures.err } in
-    let new = with_pair kept c.subject-k.result c.make.new.self in
-    rw (← c.self.view_is)
-    (same_plan kept new
-    (some_made kept new c.args.step.now c.make.result (plan_kept kept) (some c.self.inside c.self.invariant)
-    (outcome kept c.args.step.now c.subject-k.result c.deref.result.now c.index_mut-pair.result.now c.make.new.self c.make.result may c.subject-k.ensures c.deref.ensures.value c.index_mut-pair.ensures.value moved)))
+pub returns : goal.returns
+returns c =
+    outcome c.self.inside c.args.self.now c.args.step.now c.subject-k.result c.deref.result.now c.index_mut-pair.result.now c.make.new.self c.make.result c.self.view_is c.self.invariant c.requires c.subject-k.ensures
+    c.deref.ensures.value c.index_mut-pair.ensures.value c.make.ensures.wants (record { answer = c.make.ensures.answer; after = c.make.ensures.after; err = c.make.ensures.err })
