@@ -17,7 +17,7 @@ function more(most, letters) {
 }
 
 function shown(text, most) {
-    text = plain(cut(text, 8, 4))
+    text = plain(cut(text, 12, 4))
     return length(text) > most ? substr(text, 1, most - 2) ".." : text
 }
 
@@ -107,7 +107,7 @@ function lay_out(    row, script, a, b, lane) {
     for (row = 1; row <= rows; row++) {
         row_text[row] = shown(row_text[row], 46)
         if (row_first[row])
-            script = more(script, length(shown(line[row_line[row]], 34)))
+            script = more(script, length(shown(line[row_line[row]], 44)))
         if (row_side[row] == "A")
             a = more(a, length(row_text[row]))
         if (row_side[row] == "B")
@@ -176,7 +176,7 @@ function draw_rows(    row) {
     for (row = 1; row <= rows; row++)
         if (row_first[row]) {
             rule(8, middle(row) - int(high / 2), wide - 8, middle(row) - int(high / 2), "row")
-            put_line(base(row), row_line[row], 34, "script")
+            put_line(base(row), row_line[row], 44, "script")
         }
 }
 

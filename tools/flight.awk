@@ -228,11 +228,13 @@ function offered(side, pad,    size) {
 }
 
 # The bits of a side's ready queues, with one queue more.
-function with_ready(side, queue) {
-    if (!((side, queue) in is_ready)) {
-        is_ready[side, queue] = 1
-        ready[side] += 2 ^ queue
-    }
+function with_ready(side, queue,    bit, i) {
+    bit = 1
+    for (i = 0; i < queue; i++)
+        bit += bit
+    if (!((side, queue) in is_ready))
+        ready[side] += bit
+    is_ready[side, queue] = 1
     return ready[side]
 }
 
