@@ -17,7 +17,7 @@ function more(most, letters) {
 }
 
 function shown(text, most) {
-    text = plain(cut(text, 8, 4))
+    text = plain(cut(text, 12, 4))
     return length(text) > most ? substr(text, 1, most - 2) ".." : text
 }
 
@@ -107,7 +107,7 @@ function lay_out(    row, script, a, b, lane) {
     for (row = 1; row <= rows; row++) {
         row_text[row] = shown(row_text[row], 46)
         if (row_first[row])
-            script = more(script, length(shown(line[row_line[row]], 34)))
+            script = more(script, length(shown(line[row_line[row]], 44)))
         if (row_side[row] == "A")
             a = more(a, length(row_text[row]))
         if (row_side[row] == "B")
@@ -134,11 +134,11 @@ function style() {
     print ".title{font-family:'DejaVu Sans',Verdana,Arial,sans-serif;font-size:13px}"
     print ".note{font-family:'DejaVu Sans',Verdana,Arial,sans-serif;font-size:12px;fill:#444}"
     print ".head{font-weight:bold;text-anchor:middle}.middle{text-anchor:middle}.small{font-size:10px;text-anchor:middle;fill:#555}"
-    print ".script{fill:#555}.right{text-anchor:end}.refused{fill:#c00000}.frame{font-weight:bold}"
+    print ".script{fill:#555}.other{fill:#555}.right{text-anchor:end}.refused{fill:#c00000}.frame{font-weight:bold}"
     print ".life{stroke:#222;stroke-width:2}.row{stroke:#e2e2e2;stroke-width:1}.paper{fill:#fff}.behind{fill:#fff;stroke:#bbb}"
     print ".up{fill:#eaf5ea}.closing{fill:#fff1cc}.down{fill:#e6e6e6}"
     print ".field{stroke:#3f7fbf;stroke-width:1}.flag{stroke:#15233b;stroke-width:3}.bell{stroke:#15233b;stroke-width:1.5;" \
-        "stroke-dasharray:6 4}"
+        "stroke-dasharray:6 4}.raw{stroke:#b5651d;stroke-width:2}"
     print ".index{stroke:#2a8a4a;stroke-width:2}.pad{stroke:#8e44ad;stroke-width:2}.cross{stroke:#c00000;stroke-width:2}"
     print ".open{fill:#fff;stroke:#15233b;stroke-width:1.5}"
     print ".sender{fill:#fff;stroke:#999}.flight{fill:#ffcf8a;stroke:#999}.landed{fill:#8fc1ea;stroke:#999}" \
@@ -153,6 +153,7 @@ function heads() {
     head("bell", "#15233b", 8)
     head("index", "#2a8a4a", 8)
     head("pad", "#8e44ad", 8)
+    head("raw", "#b5651d", 8)
     print "</defs>"
 }
 
@@ -175,7 +176,7 @@ function draw_rows(    row) {
     for (row = 1; row <= rows; row++)
         if (row_first[row]) {
             rule(8, middle(row) - int(high / 2), wide - 8, middle(row) - int(high / 2), "row")
-            put_line(base(row), row_line[row], 34, "script")
+            put_line(base(row), row_line[row], 44, "script")
         }
 }
 
@@ -263,6 +264,8 @@ function draw_legend(    row) {
         legend("line", "index", "index word back")
     if (used["pad"])
         legend("line", "pad", "scratchpad")
+    if (used["raw"])
+        legend("line", "raw", "poked bytes")
     if (how["flying"])
         legend("open", "", "still in flight")
     if (how["lost"] || how["dropped"])
@@ -292,11 +295,16 @@ function draw_legend(    row) {
     legend_y += 22
 }
 
-# The report's counts of the pair, and what the reader has to know of the picture.
+# Whether the picture tells anything of a pair.
+function is_told(pair) {
+    return pair == drawn || chosen == ""
+}
+
+# The report's counts, and what the reader has to know of the picture.
 function draw_counts(    i, words) {
     for (i = at; i <= NR; i++) {
         split(line[i], words, " ")
-        if (words[1] == "lane" && words[2] == drawn || words[1] == "dev" && dev_pair[words[2]] == drawn) {
+        if (words[1] == "lane" && is_told(words[2]) || words[1] == "dev" && is_told(dev_pair[words[2]])) {
             put(8, legend_y, "", line[i])
             legend_y += 18
         }
@@ -304,7 +312,7 @@ function draw_counts(    i, words) {
     if (left_out)
         remark("The picture stops here, after " rows " rows: " left_out " answers are left out.")
     if (pairs > 1)
-        remark("Pair " drawn " of " pairs " is drawn.")
+        remark("Pair " drawn " of " pairs " is drawn" (chosen == "" ? "; the others show the first and last answer of a line." : "."))
     if (strange != "")
         remark("An answer isn't that of the lists kept here: " strange)
     if (line[NR] != "end")

@@ -1,7 +1,8 @@
 # Follows one pair through a script's answers, as the bridge does: the lists in flight of both sides, the link, and the slots of
-# the rings. tools/ntbdraw runs it behind stream.awk. It leaves
+# the rings. A line of another pair is one row with its first and last answer, unless a pair was chosen. tools/ntbdraw runs it
+# behind stream.awk. It leaves
 #   rows, and of each row: row_line (the script's line number), row_first (whether it is the line's first), row_side (A, B or
-#     nothing), row_text, row_look (plain, refused or frame);
+#     nothing), row_text, row_look (plain, refused, frame or other);
 #   arrows, and of each arrow: arrow_from, arrow_kind, arrow_post, arrow_end (their rows), arrow_how (landed, lost, dropped or
 #     flying) and arrow_place, arrow_of (its place among so many that ended there);
 #   bands, and of each band: band_row (the first row that it covers), band_link (up, closing or down), band_session;
@@ -74,15 +75,17 @@ function begin_band(link, session) {
 # Writes
 
 function kind_of(label) {
-    if (label ~ /^(chunk|len|ver|raw) /)
+    if (label ~ /^(chunk|len|ver) /)
         return "field"
+    if (label ~ /^raw /)
+        return "raw"
     if (label ~ /^(flag|down) /)
         return "flag"
     return label ~ /^bell / ? "bell" : label ~ /^index / ? "index" : "pad"
 }
 
 function is_relaxed(label) {
-    return !is_strict && kind_of(label) == "field"
+    return !is_strict && kind_of(label) ~ /^(field|raw)$/
 }
 
 function class_in(side, label,    words) {
@@ -113,7 +116,7 @@ function take_out(side, place, label,    arrow) {
         return
     }
     arrow = flying[side, place]
-    if (arrow_label[arrow] !~ /\?/ && arrow_label[arrow] != label)
+    if (arrow_label[arrow] != label)
         strange = "landed " label
     arrow_how[arrow] = "landed"
     arrow_end[arrow] = rows
@@ -216,6 +219,32 @@ function rest(answer) {
     return answer
 }
 
+# What a side's offer writes into a scratchpad: its version, its queues, its windows, and the halves of its windows' size.
+function offered(side, pad,    size) {
+    size = option("size", side, 65536)
+    if (pad > 3)
+        return pad % 2 ? size % 4294967296 : int(size / 4294967296)
+    return pad == 0 ? option("version", side, 4) : pad == 2 ? option("queues", side, 1) : option("windows", side, 1)
+}
+
+# The bits of a side's ready queues, with one queue more.
+function with_ready(side, queue,    bit, i) {
+    bit = 1
+    for (i = 0; i < queue; i++)
+        bit += bit
+    if (!((side, queue) in is_ready))
+        ready[side] += bit
+    is_ready[side, queue] = 1
+    return ready[side]
+}
+
+# A side that cleaned up has no queue ready.
+function forget_ready(side,    queue) {
+    for (queue = 0; queue < 16; queue++)
+        delete is_ready[side, queue]
+    ready[side] = 0
+}
+
 # The writes that an answer posts, in a list in flight.
 function follow_writes(step, side, queue, words, said, answer) {
     if (said[1] == "posted")
@@ -223,9 +252,11 @@ function follow_writes(step, side, queue, words, said, answer) {
     else if (said[1] == "acked")
         post(side, "index " queue " " said[2])
     else if (step == "offer" && said[1] == "offered")
-        post(side, "pad ? ?")
+        post(side, "pad " said[2] " " offered(side, said[2]))
     else if (step == "ready" && said[1] == "ok")
-        post(side, "pad 1 ?")
+        post(side, "pad 1 " with_ready(side, queue))
+    else if (step == "clean" && said[1] == "ok")
+        forget_ready(side)
     else if (step == "spad")
         post(side, "pad " words[4] " " words[5])
     else if (step == "poke")
@@ -265,31 +296,43 @@ function link_text(step, said, answer,    lost) {
     return "drop: down" (lost ? ", " lost " lost" : "")
 }
 
-# One answer: a row, and what it changes.
-function follow(number, words, step, is_macro, answer,    said, side, queue, place, text) {
-    if (words[1] ~ /^(xmit|xbegin|wake)$/) {
-        if (dev_pair[words[2]] != drawn)
-            return
-        side = dev_side[words[2]]
-        queue = dev_queue[words[2]] + 0
-    } else if (words[2] != drawn)
-        return
-    else {
-        side = step ~ /^(train|break|drop)$/ ? "" : words[3]
-        queue = words[4] + 0
-    }
+function is_of_device(words) {
+    return words[1] ~ /^(xmit|xbegin|wake)$/
+}
+
+function pair_of(words) {
+    return is_of_device(words) ? dev_pair[words[2]] : words[2]
+}
+
+# A new row for an answer, or 0 where the picture is full.
+function new_row(number, side, look) {
     if (rows >= most_rows) {
         left_out++
-        return
+        return 0
     }
-    split(answer, said, " ")
-    place = step == "land" && !is_macro ? words[4] + 0 : 0
     rows++
     row_line[rows] = number
     row_first[rows] = number != last_line
     last_line = number
-    row_side[rows] = step == "land" ? peer(side) : side
-    row_look[rows] = is_refusal(step, said[1]) ? "refused" : said[1] == "frame" ? "frame" : "plain"
+    row_side[rows] = side
+    row_look[rows] = look
+    return 1
+}
+
+# One answer: a row, and what it changes.
+function follow(number, words, step, is_macro, answer,    said, side, queue, place, text) {
+    if (is_of_device(words)) {
+        side = dev_side[words[2]]
+        queue = dev_queue[words[2]] + 0
+    } else {
+        side = step ~ /^(train|break|drop)$/ ? "" : words[3]
+        queue = words[4] + 0
+    }
+    split(answer, said, " ")
+    place = step == "land" && !is_macro ? words[4] + 0 : 0
+    if (!new_row(number, step == "land" ? peer(side) : side, \
+        is_refusal(step, said[1]) ? "refused" : said[1] == "frame" ? "frame" : "plain"))
+        return
     text = answer
     if (side == "")
         text = link_text(step, said, answer)
@@ -305,6 +348,22 @@ function follow(number, words, step, is_macro, answer,    said, side, queue, pla
     note_owners()
 }
 
+# The answers of a line of another pair: one row.
+function follow_other(pair, number, step,    from, answer, said) {
+    from = line[at]
+    while (at <= NR && answers(line[at], number))
+        answer = line[at++]
+    if (answer == "" || chosen != "")
+        return
+    sub(/^[0-9]+ /, "", from)
+    sub(/^[0-9]+ /, "", answer)
+    split(answer, said, " ")
+    if (!new_row(number, "", is_refusal(step, said[1]) ? "refused" : "other"))
+        return
+    row_text[rows] = "pair " pair ": " (from == answer ? "" : cut(from, 8, 4) " .. ") answer
+    note_owners()
+}
+
 function follow_line(number,    words, count, place, step, answer) {
     count = words_of(line[number], words)
     if (part == "declarations") {
@@ -312,6 +371,10 @@ function follow_line(number,    words, count, place, step, answer) {
             part = "steps"
         else
             declare(words, count)
+        return
+    }
+    if (pair_of(words) != drawn) {
+        follow_other(pair_of(words), number, words[1])
         return
     }
     for (place = 1; at <= NR && answers(line[at], number); place++) {
