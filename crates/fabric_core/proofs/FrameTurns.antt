@@ -37,7 +37,7 @@ plain_bytes : (bridge : Bridge) (side : Side) → bytes_of (plain_bridge bridge)
 plain_bytes bridge A = refl
 plain_bytes bridge B = refl
 
-pub free_same : (port : PortState) (before after : Bridge) → plain_bridge after ≡ plain_bridge before → free_answer port after ≡ free_answer port before
+free_same : (port : PortState) (before after : Bridge) → plain_bridge after ≡ plain_bridge before → free_answer port after ≡ free_answer port before
 unfolding free_by
 free_same port before after plain =
     ap (free_by port) (sym (plain_bytes after port.side) ∙ ap (λ (bridge : Bridge). bytes_of bridge port.side) plain ∙ plain_bytes before port.side)
@@ -69,7 +69,7 @@ counted_by (IsBegun number) part bridge frame unbegun = refl
 counted_by answer part bridge frame unbegun = ap (λ (queue : QueueState). record part { queue = queue; counters = count_refused part.counters }) (unbegun refl)
 
 -- the device isn't stopped, or the queue refuses whatever room there is
-pub goes_on : (stopped refuses : Bool) (answer : BeginAnswer) → refuses ≡ is_refusal answer → (stopped ≡ true → refuses ≡ true) → of_xbegin stopped answer ≡ of_begin answer
+goes_on : (stopped refuses : Bool) (answer : BeginAnswer) → refuses ≡ is_refusal answer → (stopped ≡ true → refuses ≡ true) → of_xbegin stopped answer ≡ of_begin answer
 goes_on false refuses answer is may = refl
 goes_on true refuses LinkDown is may = refl
 goes_on true refuses NotReady is may = refl

@@ -190,10 +190,6 @@ keeps_exact old new before after same plan pages room peer ready =
       ready = ready;
     }
 
-pub keeps_still : (port : PortState) (bridge : Bridge) → HasPagesIn port bridge → KeepsPort port port bridge bridge
-keeps_still port bridge ready = keeps_exact port port bridge bridge (same_place port) refl (λ any. refl) (no_less ((flight_of bridge port.side).spare + unused_of port) _ refl)
-    (no_less (flight_of bridge (other_side port.side)).spare _ refl) ready
-
 -- The port after each call is of the same queue, and but for a look and a copy it receives as before
 
 begun_place : (queue : QueueState) (begun_port : PortState) (refusal : Option BeginAnswer) (begun : Begun) → SamePlace begun_port queue.port

@@ -119,5 +119,5 @@ keeps_bytes old new before after same other room ready =
     (λ any. ap (λ (bridge : Bridge). pages_of bridge any) other.rest ∙ pages_stay before old.side any other.bytes)
     (same_room (flight_of before old.side).spare (flight_of after old.side).spare (unused_of old) (unused_of new) (flights old.side) room)
     (no_less (flight_of after (other_side old.side)).spare (flight_of before (other_side old.side)).spare (flights (other_side old.side))) ready where
-  same_room : (spare after unused unused_after : ℕ) → after ≡ spare → unused_after ≡ unused → spare + unused_after ≤ after + unused
-  same_room spare after unused unused_after e f = omega (arith, e, f)
+      same_room : (spare after unused unused_after : ℕ) → after ≡ spare → unused_after ≡ unused → spare + unused_after ≤ after + unused
+      same_room spare after unused unused_after e f = omega (arith, e, f)

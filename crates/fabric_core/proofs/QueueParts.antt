@@ -41,8 +41,8 @@ keeps_copy port bridge ready =
     keeps_exact port (after_copy port bridge) bridge bridge (copy_place port bridge) refl (λ any. refl)
     (same_room (flight_of bridge port.side).spare (unused_of port) (unused_of (after_copy port bridge)) (copy_unused port bridge))
     (at_most (flight_of bridge (other_side port.side)).spare) ready where
-  at_most : (n : ℕ) → n ≤ n
-  at_most n = omega arith
+      at_most : (n : ℕ) → n ≤ n
+      at_most n = omega arith
 
 pub not_begun : (answer : BeginAnswer) (session : ℕ) (part : QueuePart) → ((number : ℕ) → answer ≡ IsBegun number → ⊥)
     → accepted_where_begun (of_begin answer) session part ≡ part

@@ -20,13 +20,13 @@ use Rattle.step_kinds.specs.declared.steps.Step.TheVariants.{Enable, Train, Brea
 use Rattle.plan_model.specs.Both.{Both, at_side}
 use Rattle.plan_model.specs.DeclaredPlans.{Agree, IsDeclared, IsDeviceOn, IsPair, IsPairOf, IsPermitted, IsPoke, IsQueueOf, IsShown, IsSide, SizesFit}
 use Rattle.plan_model.specs.Plans.{no_pair, pair_plan, side_plan}
-use Rattle.ledger_laws.proofs.Facade.{joined_means_agreement, log_of-last, no_ordinary_ver_differs_or_long, up_means_agreement}
+use Rattle.ledger_laws.proofs.Facade.{every_frame_comes_once, every_log_is_in_order, joined_means_agreement, lane_part_lands, log_of-last, no_ordinary_ver_differs_or_long, quiet_means_done, up_means_agreement, up_side_agrees}
 use Rattle.ledger_laws.specs.Laws.{Agrees as PadsAgree, HasSides, IsOrdinaryOn, IsSide as IsLawSide}
 use Rattle.ledger_model.specs.Ledger.{PairPart, side_of}
 use Rattle.ledger_model.specs.Log.{answered, ledger_of, log_of}
 use Rattle.ledger_model.specs.Next.{pair_next}
 use Rattle.memory_model.specs.Memory.{Site, bytes_of_site, memory_of, site_of}
-use Rattle.byte_laws.proofs.Facade.{site_of-elsewhere, sites_are_the_ledger, steps_of_log}
+use Rattle.byte_laws.proofs.Facade.{site_of-elsewhere, sites_are_the_ledger, steps_of_log, stored_pairs_are_separate}
 use Rattle.bridge_pair.specs.Bridge.{Bridge, book_of}
 use Rattle.bridge_pair.specs.Words.{WindowsFit}
 use Rattle.frame_ring.specs.Seen.{FitsRings}
@@ -41,6 +41,7 @@ use Rattle.fabric_core.specs.Fabric.{FabricState, StandsFor, bare_plan, no_state
 use Rattle.fabric_core.specs.Fabrics.{IsFabric, fabric_seen}
 use Rattle.fabric_core.specs.Parts.{Agrees, CanMake}
 use Rattle.fabric_core.specs.declared.fabric.Fabric.TheInside.{Inside}
+use Rattle.fabric_core.specs.Lawful.{IsLawful, pair_after}
 use Rattle.fabric_core.specs.Pinned.{HasMade, IsAnswered, IsLikely, log_after}
 
 -- A pair that differs in promises alone
@@ -135,7 +136,7 @@ is_ordinary plan k no_raw (Spad p side i value) may on =
 is_ordinary plan k no_raw (Poke p side window offset bytes) may on = true≢false (sym may.1.raw ∙ ap (λ j. (pair_plan plan j).raw) on ∙ no_raw)
 is_ordinary plan k no_raw step may on = tt
 
-are_ordinary : (plan : Plan) (k : ℕ) → (pair_plan plan k).raw ≡ false → (steps : List Step) → AllByRecursion (IsPermitted plan) steps → AllByRecursion (IsOrdinaryOn k) steps
+pub are_ordinary : (plan : Plan) (k : ℕ) → (pair_plan plan k).raw ≡ false → (steps : List Step) → AllByRecursion (IsPermitted plan) steps → AllByRecursion (IsOrdinaryOn k) steps
 are_ordinary plan k no_raw [] may = tt
 are_ordinary plan k no_raw (step ∷ steps) may = (is_ordinary plan k no_raw step may.0, are_ordinary plan k no_raw steps may.1)
 
@@ -391,6 +392,20 @@ set_moved old step pair answer below is moved =
 pub set_plain : (old : FabricState) (k : ℕ) (pair : PairState) → plain_pair pair ≡ plain_pair (pair_of old k) → plain (with_pair old k pair) ≡ plain old
 set_plain old k pair same = ap (λ pairs. record { devs = old.devs; pairs = pairs }) (map-set_same plain_pair old.pairs k pair no_state same)
 
+-- The laws of every log
+
+pub always_lawful : (plan : Plan) (steps : List Step) (fabric : FabricState) → HasMade plan steps fabric → IsLawful plan steps
+always_lawful plan steps fabric made =
+    record {
+      in_order = λ lane session ordinary. every_log_is_in_order plan (memory_of plan) steps lane session ordinary;
+      once = λ lane session n ordinary. every_frame_comes_once plan (memory_of plan) steps lane session n ordinary;
+      quiet = λ k side queue ordinary is. quiet_means_done plan (memory_of plan) steps k side queue ordinary is;
+      agreement = λ k side among ordinary up.
+          up_side_agrees plan (memory_of plan) steps k side (made.declared.pairs k among) (are_ordinary plan k ordinary steps made.permitted) up;
+      separate = λ k. stored_pairs_are_separate plan steps k;
+      lane_part = λ k side queue place label there may. lane_part_lands (pair_plan plan k) side queue (side_of (pair_after plan steps k) side).flight place label there may;
+    }
+
 -- What a step leaves of a fabric, by what it leaves of its pair
 
 -- a call on a pair made the step, or left the pair as it was, promises aside
@@ -403,6 +418,7 @@ pub record PairMoved {E : Type 0} (devs : List DevPlan) (step : Step) (old new :
 pub record FabricMoved {E : Type 0} (old new : FabricState) (step : Step) (result : Result Answer E) : Type 0 where
   pub answered : (plan : Plan) (steps : List Step) → HasMade plan steps old → IfOk result (λ answer. IsAnswered plan steps step answer × IsLikely plan step answer)
   pub stands : (plan : Plan) (steps : List Step) → HasMade plan steps old → OnOk result (HasMade plan (steps ++ step ∷ []) new)
+  pub lawful : (plan : Plan) (steps : List Step) → HasMade plan steps old → OnOk result (IsLawful plan (steps ++ step ∷ []))
   pub still : (plan : Plan) (steps : List Step) → HasMade plan steps old → OnErr result (HasMade plan steps new)
   pub err : OnErr result (plain new ≡ plain old)
 
@@ -422,6 +438,7 @@ module _ (old : FabricState) (step : Step) (pair : PairState) (may : IsPermitted
             let may = permitted_by plan steps made in
             (step_answered plan steps step old new made may answer moves, step_likely plan steps step old new made may answer moves);
         stands = λ plan steps made. step_made plan steps step old new made (permitted_by plan steps made) answer moves;
+        lawful = λ plan steps made. always_lawful plan (steps ++ step ∷ []) new (step_made plan steps step old new made (permitted_by plan steps made) answer moves);
         still = λ plan steps made. tt;
         err = tt;
       }
@@ -430,6 +447,7 @@ module _ (old : FabricState) (step : Step) (pair : PairState) (may : IsPermitted
       record {
         answered = λ plan steps made. tt;
         stands = λ plan steps made. tt;
+        lawful = λ plan steps made. tt;
         still = λ plan steps made. still_made plan steps old (with_pair old (subject_of step) pair) same made;
         err = same;
       }

@@ -75,7 +75,7 @@ pub side_whole : (state : PairState) (side : Side) → IsWhole state → SideIsW
 side_whole state side whole = record { all_queues = whole.all_queues side; queues = whole.queues side; room = whole.room side }
 
 -- of numbers alone
-at_most : (n m k : ℕ) → n ≤ m → m ≤ k → n ≤ k
+pub at_most : (n m k : ℕ) → n ≤ m → m ≤ k → n ≤ k
 at_most n m k few more = omega (arith, few, more)
 
 -- A side that has no less room, on a bridge whose pages stay

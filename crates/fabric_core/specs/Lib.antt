@@ -1,6 +1,7 @@
 pub mod Counts
 pub mod Fabric
 pub mod Fabrics
+pub mod Lawful
 pub mod Numbers
 pub mod PairBoxes
 pub mod Parts

@@ -2,6 +2,7 @@
 
 ghost use Rattle.std.specs.Prelude.{IfOk, IsErr, List, OnErr, OnOk, [], length, true, ◌++◌, ◌<◌, ◌∷◌, ◌≡◌};
 ghost use Rattle.fabric_core.specs.Fabric.{StandsFor, bare_plan, may_want_memory, pair_of, plain, plan_kept};
+ghost use Rattle.fabric_core.specs.Lawful.{IsLawful};
 ghost use Rattle.fabric_core.specs.Pinned.{AreCounters, HasMade, IsAccepted, IsAnswered, IsDelivered, IsLikely, IsSession};
 ghost use Rattle.fabric_rule.specs.Parts.{queue_of};
 ghost use Rattle.plan_model.specs.DeclaredPlans.{IsDeclared, IsPairOf, IsPermitted, IsQueueOf};
@@ -9,7 +10,8 @@ ghost use Rattle.step_kinds.specs.Sides.{other_side};
 ghost use Rattle.step_kinds.specs.declared.plan.Plan.{Plan as DeclaredPlan};
 ghost use Rattle.step_kinds.specs.declared.steps.Step.{Step as MadeStep};
 
-use crate::pairs::{PairBox, QueueBox};
+use crate::pairs::PairBox;
+use crate::queues::QueueBox;
 use std::alloc::{AllocError, Global};
 use std::marker::Model;
 use step_kinds::{Answer, Counters, DevPlan, LaneName, Name, Plan, Side, Step};
@@ -55,8 +57,9 @@ impl Fabric {
 
     /// Makes a step, which has to be one that a script of the fabric's plan may make, and answers it. Whatever steps the fabric
     /// stands for, the answer is the log's of those steps and this one, and then it stands for them and this one. On an ordinary
-    /// pair, that is, one that isn't declared `raw`, no step is answered `verdiffers` or `long`. It costs what it touches: no
-    /// other pair, queue or device is looked at.
+    /// pair, that is, one that isn't declared `raw`, no step is answered `verdiffers` or `long`. What always holds of the steps
+    /// made is [`lawful`](../specs/Lawful.antt): frames in order and once, quiet queues done, sides that are up agreed, pairs
+    /// separate. It costs what it touches: no other pair, queue or device is looked at.
     ///
     /// # Errors
     ///
@@ -66,6 +69,7 @@ impl Fabric {
         requires { IsPermitted (plan_kept self.old) step.now }
         ensures answered { (plan : DeclaredPlan) (steps : List MadeStep) → HasMade plan steps self.old → IfOk result (λ answer. IsAnswered plan steps step.now answer × IsLikely plan step.now answer) }
         ensures stands { (plan : DeclaredPlan) (steps : List MadeStep) → HasMade plan steps self.old → OnOk result (HasMade plan (steps ++ step.now ∷ []) self.new) }
+        ensures lawful { (plan : DeclaredPlan) (steps : List MadeStep) → HasMade plan steps self.old → OnOk result (IsLawful plan (steps ++ step.now ∷ [])) }
         ensures still_stands { (plan : DeclaredPlan) (steps : List MadeStep) → HasMade plan steps self.old → OnErr result (HasMade plan steps self.new) }
         ensures err { OnErr result (plain self.new ≡ plain self.old) }
         ensures plan { plan_kept self.new ≡ plan_kept self.old }

@@ -67,6 +67,14 @@ returns-clause-stands c =
     rw (← c.self.view_is)
     (outcome kept c.args.step.now c.subject-k.result c.deref.result.now c.index_mut-pair.result.now c.make.new.self c.make.result may c.subject-k.ensures c.deref.ensures.value c.index_mut-pair.ensures.value moved).stands
 
+pub returns-clause-lawful : goal.returns-clause-lawful
+returns-clause-lawful c =
+    let kept = fabric_seen c.self.inside in
+    let may : IsPermitted (plan_kept kept) c.args.step.now = subst (λ fabric. IsPermitted (plan_kept fabric) c.args.step.now) (sym c.self.view_is) c.requires in
+    let moved : PairMoved c.deref.result.now c.args.step.now c.index_mut-pair.result.now c.make.new.self c.make.result = record { answer = c.make.ensures.answer; after = c.make.ensures.after; err = c.make.ensures.err } in
+    rw (← c.self.view_is)
+    (outcome kept c.args.step.now c.subject-k.result c.deref.result.now c.index_mut-pair.result.now c.make.new.self c.make.result may c.subject-k.ensures c.deref.ensures.value c.index_mut-pair.ensures.value moved).lawful
+
 pub returns-clause-still_stands : goal.returns-clause-still_stands
 returns-clause-still_stands c =
     let kept = fabric_seen c.self.inside in

@@ -1,11 +1,20 @@
-use Rattle.std.proofs.Common.{subst, sym}
+use Rattle.std.proofs.Common.{◌∙◌, ap, subst, sym}
+use Rattle.lane_model.specs.Tests.{is_copying}
 use Rattle.queue_pair.specs.Queue.{QueueState}
 use Rattle.fabric_core.specs.Parts.{KeepsPort}
 use Rattle.fabric_rule.specs.Parts.{QueuePart}
 use Rattle.fabric_core.proofs.Keeping.{SamePlace}
 use Rattle.fabric_core.proofs.OneFlight.{OneFlight, ack_flight, keeps_flight}
-use Rattle.fabric_core.proofs.Phases.{ack_place}
+use Rattle.fabric_core.proofs.Phases.{ack_goes_on, ack_place}
 use Rattle.fabric_core.proofs.queues.QueueBox.ack.Goals as goal
+
+pub invariant_of-self : goal.invariant_of-self
+invariant_of-self c =
+    let same = ap (λ (queue : QueueState). is_copying queue.port.receiving.phase) c.ack.ensures.after in
+    record {
+      room = λ later. c.self.invariant.room (ack_goes_on c.self.inside.queue.port (sym same ∙ later));
+      numbers = λ later. c.self.invariant.numbers (ack_goes_on c.self.inside.queue.port (sym same ∙ later));
+    }
 
 pub returns-clause-keeps : goal.returns-clause-keeps
 returns-clause-keeps c =

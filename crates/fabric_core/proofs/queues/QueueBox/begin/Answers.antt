@@ -1,4 +1,4 @@
-use Rattle.std.proofs.Common.{◌≡◌, ◌∙◌, ◌-◌, ap, length, refl, subst, sym}
+use Rattle.std.proofs.Common.{◌≡◌, ◌∙◌, ◌-◌, ap, refl, subst, sym}
 use Rattle.step_kinds.specs.Sides.{other_side}
 use Rattle.lane_model.specs.Tests.{is_copying}
 use Rattle.plan_model.specs.Link.{Link}
@@ -6,7 +6,7 @@ use Rattle.bridge_pair.specs.Bridge.{Bridge, pages_of}
 use Rattle.frame_ring.specs.Calls.{TouchedByBegin}
 use Rattle.frame_ring.specs.Port.{Receiving, unused_of}
 use Rattle.frame_ring.specs.Seen.{HasPagesIn}
-use Rattle.queue_pair.specs.Gates.{after_begin, begin_answer}
+use Rattle.queue_pair.specs.Gates.{after_begin}
 use Rattle.queue_pair.specs.Queue.{QueueState}
 use Rattle.queue_pair.specs.declared.BeginAnswer.{BeginAnswer}
 use Rattle.fabric_rule.specs.Answers.{of_begin}

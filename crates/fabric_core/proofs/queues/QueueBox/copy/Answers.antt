@@ -1,12 +1,9 @@
 use Rattle.std.proofs.Common.{◌≡◌, ◌∙◌, ap, false, refl, subst, sym}
 use Rattle.step_kinds.specs.declared.lanes.LaneCopy.{LaneCopy}
-use Rattle.step_kinds.specs.declared.lanes.LaneCopy.TheVariants.{Whole}
 use Rattle.lane_model.specs.Tests.{is_copying}
 use Rattle.plan_model.specs.Device.{count_delivered}
 use Rattle.plan_model.specs.Link.{Link}
-use Rattle.bridge_pair.specs.Bridge.{Bridge}
-use Rattle.frame_ring.specs.Calls.{after_copy, copy_answer}
-use Rattle.frame_ring.specs.Port.{PortState}
+use Rattle.frame_ring.specs.Calls.{after_copy}
 use Rattle.frame_ring.specs.Seen.{HasPagesIn}
 use Rattle.queue_pair.specs.Queue.{QueueState, with_port}
 use Rattle.fabric_rule.specs.Moves.{delivered_where_whole}

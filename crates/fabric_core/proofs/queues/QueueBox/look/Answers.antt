@@ -1,12 +1,13 @@
-use Rattle.std.proofs.Common.{◌≡◌, ◌∙◌, ◌-◌, ap, subst, sym}
+use Rattle.std.proofs.Common.{◌∙◌, ◌-◌, IsTrue, ap, rules, subst, sym}
 use Rattle.step_kinds.specs.Sides.{other_side}
-use Rattle.bridge_pair.specs.Bridge.{Bridge, pages_of}
+use Rattle.bridge_pair.specs.Bridge.{pages_of}
 use Rattle.frame_ring.specs.Calls.{TouchedByFlags, TouchedByLook}
 use Rattle.frame_ring.specs.Port.{unused_of}
 use Rattle.frame_ring.specs.Seen.{HasPagesIn}
 use Rattle.queue_pair.specs.Queue.{QueueState}
 use Rattle.fabric_rule.specs.Parts.{QueuePart, plain_bridge}
 use Rattle.fabric_core.specs.Parts.{KeepsPort}
+use Rattle.fabric_core.specs.Sessions.{Tallied}
 use Rattle.fabric_core.proofs.Keeping.{SamePlace, both_plain, keeps_both, ready_both, same_place}
 use Rattle.fabric_core.proofs.Phases.{look_place}
 use Rattle.fabric_core.proofs.queues.QueueBox.look.Goals as goal
@@ -31,6 +32,15 @@ returns-in_err-look-clause-plain c =
     let old = c.self.inside.queue.port in
     ap plain_bridge c.look.ensures.rest
     ∙ both_plain c.args.pair.now old.side (pages_of c.look.new.pair (other_side old.side)) (pages_of c.look.new.pair old.side) (unused_of c.look.new.self.port - unused_of old)
+
+-- room was taken for the frame that the entry may be the last of
+pub invariant_of-self-2 : goal.invariant_of-self-2
+invariant_of-self-2 c =
+    let can : IsTrue c.can_deliver.result = search rules in
+    record {
+      room = λ later. ap (λ (tally : Tallied). tally.has_room) c.in_ok-make_room.ensures.ok;
+      numbers = λ later. c.can_deliver.ensures.0 can;
+    }
 
 pub returns-clause-plain : goal.returns-clause-plain
 returns-clause-plain c =

@@ -1,5 +1,4 @@
-use Rattle.std.proofs.Common.{◌≡◌, ◌∙◌, ap, subst, sym}
-use Rattle.frame_ring.specs.Port.{PortState}
+use Rattle.std.proofs.Common.{subst, sym}
 use Rattle.queue_pair.specs.Queue.{QueueState}
 use Rattle.fabric_core.specs.Parts.{KeepsPort}
 use Rattle.fabric_rule.specs.Parts.{QueuePart}

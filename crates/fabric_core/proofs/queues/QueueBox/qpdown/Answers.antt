@@ -1,7 +1,7 @@
-use Rattle.std.proofs.Common.{◌≡◌, ◌∙◌, ◌-◌, ap, subst, sym}
+use Rattle.std.proofs.Common.{◌∙◌, ◌-◌, ap, subst, sym}
 use Rattle.step_kinds.specs.Sides.{other_side}
 use Rattle.lane_model.specs.Tests.{is_copying}
-use Rattle.bridge_pair.specs.Bridge.{Bridge, pages_of}
+use Rattle.bridge_pair.specs.Bridge.{pages_of}
 use Rattle.frame_ring.specs.Calls.{TouchedByDown}
 use Rattle.frame_ring.specs.Port.{Receiving, unused_of}
 use Rattle.frame_ring.specs.Seen.{HasPagesIn}
