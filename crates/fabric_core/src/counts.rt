@@ -1,7 +1,7 @@
 //! How many frames of a lane there were in each session.
 
 ghost use Rattle.std.specs.Prelude.{◌≡◌, ◌≢◌, ◌<◌, ◌≤◌, All, IfNone, IfSome, OnErr, OnOk, ℕ, length, map, slice_index_or, true};
-ghost use Rattle.fabric_core.specs.Sessions.{AreApart, AreUpTo, IsNowhere, IsPlaceOf, count_seen, nothing_tallied};
+ghost use Rattle.fabric_core.specs.Sessions.{AreApart, AreUpTo, IsNowhere, IsPlaceOf, count_seen, no_count, nothing_tallied};
 ghost use Rattle.fabric_rule.specs.Parts.{count_in, one_more};
 
 use std::alloc::{AllocError, Global};
@@ -99,7 +99,8 @@ impl SessionCounts {
     }
 }
 
-// Where a session is counted: mostly at the end, where it is the last one, or nowhere, where it comes after all.
+// Where a session is counted: mostly at the end, where it is the last one, or nowhere, where it comes after all, or as far behind
+// the first as it comes after it, where each session between them has frames.
 fn place_of(counts: &[OfSession], most: u32, session: u32) -> Option<usize>
     requires apart { AreApart (map count_seen counts.now) }
     requires most { AreUpTo (map count_seen counts.now) most }
@@ -114,10 +115,25 @@ fn place_of(counts: &[OfSession], most: u32, session: u32) -> Option<usize>
     {
         return Some(counts.len() - 1);
     }
+    if let Some(place) = place_by_number(counts, session) {
+        return Some(place);
+    }
     for (place, one) in counts.iter().enumerate() {
         if one.session == session {
             return Some(place);
         }
     }
     None
+}
+
+// Where a session is counted if each one from the first on is, in order.
+fn place_by_number(counts: &[OfSession], session: u32) -> Option<usize>
+    ensures { IfSome result (λ place. (place < length counts.now) × ((slice_index_or (map count_seen counts.now) place no_count).session ≡ session)) }
+{
+    let place = session.checked_sub(counts.first()?.session)? as usize;
+    if counts.get(place)?.session == session {
+        Some(place)
+    } else {
+        None
+    }
 }
