@@ -263,11 +263,18 @@ function follow_writes(step, side, queue, words, said, answer) {
         post(side, "raw " words[4] " " words[5] " " length(words[6]) / 2)
 }
 
+# What a side says in a scratchpad of its peer, in brackets, or nothing where a pad has no meaning of its own.
+function meaning(side, pad) {
+    if (pad > 3)
+        return pad >= 4 + 2 * option("windows", side, 1) ? "" : pad % 2 ? " (size, low)" : " (size, high)"
+    return pad == 0 ? " (version)" : pad == 1 ? " (ready)" : pad == 2 ? " (queues)" : " (windows)"
+}
+
 # A landing's text: what it passed, or what it may not pass.
 function land_text(side, place, said, answer,    label) {
     if (said[1] == "landed") {
         take_out(side, place, rest(answer))
-        return answer (place ? ", past " place " earlier" : "")
+        return answer (said[2] == "pad" ? meaning(side, said[3]) : "") (place ? ", past " place " earlier" : "")
     }
     if (said[1] == "blocked" && place < flights[side]) {
         label = blocker(side, place)
@@ -340,6 +347,8 @@ function follow(number, words, step, is_macro, answer,    said, side, queue, pla
         text = land_text(side, place, said, answer)
     else {
         follow_writes(step, side, queue, words, said, answer)
+        if (said[1] == "offered")
+            text = answer meaning(side, said[2])
         if (is_macro && row_look[rows] == "refused")
             text = step ": " answer
     }
