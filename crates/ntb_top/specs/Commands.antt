@@ -23,8 +23,9 @@ command_of (word ∷ seed ∷ frames ∷ []) = if bytes_eq word (codes "load") t
 command_of words = None
 
 -- whether the words are a command that reads a script
+abbrev pub command_reads : Option Command → Bool
+command_reads (Some Replay) = true
+command_reads command = false
+
 abbrev pub reads_script : List (List ℕ) → Bool
-reads_script words = reads (command_of words) where
-  reads : Option Command → Bool
-  reads (Some Replay) = true
-  reads command = false
+reads_script words = command_reads (command_of words)

@@ -1,5 +1,6 @@
 -- What the program answers to its words and its input where nothing outside fails and there is memory: an exit status and a text.
-use Rattle.std.specs.Prelude.{ℕ, Option, Some, None, Result, Ok, Err, List, ◌∷◌, ◌++◌, codes, length, nat_lt, result_ok, if◌then◌else◌}
+use Rattle.std.specs.Prelude.{ℕ, Option, Some, None, Result, Ok, Err, List, ◌∷◌, ◌++◌, codes, length, nat_lt, if◌then◌else◌}
+use Rattle.std.specs.Result.{result_ok}
 use Rattle.std.specs.Fmt.{decimal}
 use Rattle.step_kinds.specs.Limits.{most_script_bytes}
 use Rattle.step_kinds.specs.declared.plan.Plan.{Plan}

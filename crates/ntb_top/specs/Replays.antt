@@ -74,11 +74,15 @@ abbrev pub is_blocked : Answer → Bool
 is_blocked Blocked = true
 is_blocked answer = false
 
+-- its line, with the frames that were accepted and delivered and the landings that were blocked
+abbrev pub summary_text : ℕ → ℕ → ℕ → ℕ → ℕ → List ℕ
+summary_text seed frames taken given blocked =
+    line_of
+    (codes "load" ++ numbers_text (seed ∷ frames ∷ []) ++ codes " accepted" ++ numbers_text (taken ∷ []) ++ codes " delivered"
+    ++ numbers_text (given ∷ []) ++ codes " blocked" ++ numbers_text (blocked ∷ []))
+
 abbrev pub load_text : ℕ → ℕ → List ℕ
 load_text seed frames =
     let plan = load_of seed frames in
     let log = log_of_plan plan in
-    line_of
-    (codes "load" ++ numbers_text (seed ∷ frames ∷ []) ++ codes " accepted" ++ numbers_text (length (accepted plan log load_lane 1) ∷ [])
-    ++ codes " delivered" ++ numbers_text (length (delivered plan log load_lane 1) ∷ []) ++ codes " blocked"
-    ++ numbers_text (count_by (λ made. is_blocked made.answer) log ∷ []))
+    summary_text seed frames (length (accepted plan log load_lane 1)) (length (delivered plan log load_lane 1)) (count_by (λ made. is_blocked made.answer) log)

@@ -4,7 +4,7 @@ ghost use Rattle.std.specs.Prelude.{◌≡◌, ◌≤◌, [], IfOk, count_by};
 ghost use Rattle.plan_model.specs.TrafficPlans.{IsWhole};
 ghost use Rattle.traffic_plan.specs.Load.{most_load_frames};
 ghost use Rattle.ntb_top.specs.Replayed.{HasReplayed};
-ghost use Rattle.ntb_top.specs.Replays.{is_blocked as is_blocked_answer, load_text as text_of_load, log_of_plan};
+ghost use Rattle.ntb_top.specs.Replays.{is_blocked as is_blocked_answer, load_text as text_of_load, log_of_plan, summary_text};
 
 use fabric_core::Fabric;
 use std::alloc::{AllocError, Global};
@@ -32,6 +32,20 @@ pub fn load_text(alloc: Global, seed: u64, frames: u32) -> Result<Vec<u8>, Alloc
     let mut fabric = Fabric::new(alloc, &plan)?;
     let blocked = count_blocked(&plan, &mut fabric)?;
     let (accepted, delivered) = fabric.ledger(LANE, SESSION);
+    summary(alloc, seed, frames, accepted, delivered, blocked)
+}
+
+// The line that sums a load up.
+fn summary(
+    alloc: Global,
+    seed: u64,
+    frames: u32,
+    accepted: u64,
+    delivered: u64,
+    blocked: u64,
+) -> Result<Vec<u8>, AllocError>
+    ensures { IfOk result (λ text. text.items ≡ summary_text seed frames accepted delivered blocked) }
+{
     let text = format!(in alloc; "load {seed} {frames} accepted {accepted} delivered {delivered} blocked {blocked}\n")?;
     Ok(text.into_bytes())
 }

@@ -4,7 +4,9 @@ ghost use Rattle.std.specs.Prelude.{◌≡◌, ◌≤◌, IfOk, Some, length, ma
 ghost use Rattle.std.specs.String.{string_bytes};
 ghost use Rattle.step_kinds.specs.Limits.{most_script_bytes};
 ghost use Rattle.script_text.specs.Script.{script_of};
+ghost use Rattle.traffic_plan.specs.Load.{most_load_frames};
 ghost use Rattle.ntb_top.specs.Output.{refused, replayed};
+ghost use Rattle.ntb_top.specs.Replays.{load_text as text_of_load};
 ghost use Rattle.ntb_top.specs.Replies.{HasRead, HasReplied, TellsOrWants};
 ghost use Rattle.ntb_top.specs.Runs.{HasRun};
 
@@ -84,11 +86,20 @@ fn reply_to<S: Source>(alloc: Global, words: &[String], source: &mut S) -> Resul
     match command_of(words) {
         None => fixed_reply(alloc, 2, "usage\n"),
         Some(Command::Replay) => reply_to_source(alloc, source),
-        Some(Command::Load { seed, frames }) => Ok(Reply {
-            status: 0,
-            text: load_text(alloc, seed, frames)?,
-        }),
+        Some(Command::Load { seed, frames }) => reply_to_load(alloc, seed, frames),
     }
+}
+
+// The reply to a generated load.
+fn reply_to_load(alloc: Global, seed: u64, frames: u32) -> Result<Reply, Stop>
+    requires some { 1 ≤ frames }
+    requires few { frames ≤ most_load_frames }
+    ensures { TellsOrWants (record { status = 0; text = text_of_load seed frames }) result }
+{
+    Ok(Reply {
+        status: 0,
+        text: load_text(alloc, seed, frames)?,
+    })
 }
 
 // The reply to the script that a source has.
