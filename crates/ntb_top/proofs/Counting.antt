@@ -1,10 +1,10 @@
 -- Counts of lanes, those that count nothing left out, and of devices.
 use Rattle.std.proofs.Common.{◌≡◌, ◌∙◌, ℕ, zero, suc, ◌+◌, ◌<◌, ◌≤◌, Bool, true, false, not, ◌==◌, ◌&&◌, List, [], ◌∷◌, ◌++◌, cond, map, length, get_or, min, take, refl, sym, ap, subst, arith, append_assoc}
-use Rattle.std.specs.List.{All, AllByRecursion, filter, flat_map, range_with_len}
+use Rattle.std.specs.List.{All, AllByRecursion, flat_map, range_with_len}
 use Rattle.std.proofs.lemmas.Grind.{flat_map-append}
 use Rattle.std.proofs.lemmas.List.{append-nil, get_or_read, map-append, take_more}
 use Rattle.std.proofs.lemmas.List.Elements.{All-filter, All-from_recursion, filter-append}
-use Rattle.std.proofs.lemmas.List.FromFn.{get_or-range_with_len, length-range_with_len, map-range_with_len_more}
+use Rattle.std.proofs.lemmas.List.FromFn.{map-range_with_len_more}
 use Rattle.step_kinds.specs.declared.names.LaneName.{LaneName}
 use Rattle.step_kinds.specs.declared.names.Side.{Side}
 use Rattle.step_kinds.specs.declared.names.Side.TheVariants.{A, B}
@@ -91,7 +91,7 @@ pairs_more plan log k =
     let from_a : List LaneName = lanes_from k A (queues_of plan k) in
     let from_b : List LaneName = lanes_from k B (queues_of plan k) in
     let own : flat_map (lanes_of_pair plan) (k ∷ []) ≡ from_a ++ from_b =
-        append-nil (from_a ++ (from_b ++ [])) ∙ ap (λ (lanes : List LaneName). from_a ++ lanes) (append-nil from_b) in
+    append-nil (from_a ++ (from_b ++ [])) ∙ ap (λ (lanes : List LaneName). from_a ++ lanes) (append-nil from_b) in
     ap (λ (ks : List ℕ). flat_map sessions (flat_map (lanes_of_pair plan) ks)) (range_more 0 k k (omega arith))
     ∙ ap (flat_map sessions) (flat_map-append (lanes_of_pair plan) (range_with_len 0 k) (k ∷ []))
     ∙ flat_map-append sessions before (flat_map (lanes_of_pair plan) (k ∷ []))
@@ -121,7 +121,7 @@ lanes_below : (plan : Plan) (most k : ℕ) → k < most → AllByRecursion (λ l
 lanes_below plan most k lt =
     let P : LaneName → Type 0 = λ lane. lane.pair < most in
     let of_side : (from : Side) → AllByRecursion P (lanes_from k from (queues_of plan k)) =
-        λ from. all_map P (λ (queue : ℕ). record { pair = k; from = from; queue = queue }) (range_with_len 0 (queues_of plan k)) (λ queue. lt) in
+    λ from. all_map P (λ (queue : ℕ). record { pair = k; from = from; queue = queue }) (range_with_len 0 (queues_of plan k)) (λ queue. lt) in
     all_append P (lanes_from k A (queues_of plan k)) (lanes_from k B (queues_of plan k) ++ []) (of_side A)
     (all_append P (lanes_from k B (queues_of plan k)) [] (of_side B) tt)
 
@@ -131,10 +131,10 @@ all_known plan log =
     let P : LaneCount → Type 0 = λ count. count.name.pair < most in
     let Q : LaneName → Type 0 = λ lane. lane.pair < most in
     let lanes : AllByRecursion Q (flat_map (lanes_of_pair plan) (range_with_len 0 most)) =
-        all_flat_map (λ (k : ℕ). k < most) Q (lanes_of_pair plan) (range_with_len 0 most) (all_below most 0 most (omega arith)) (lanes_below plan most) in
+    all_flat_map (λ (k : ℕ). k < most) Q (lanes_of_pair plan) (range_with_len 0 most) (all_below most 0 most (omega arith)) (lanes_below plan most) in
     let counts : AllByRecursion P (lane_counts plan log) =
-        all_flat_map Q P (sessions_of_lane plan log) (flat_map (lanes_of_pair plan) (range_with_len 0 most)) lanes
-        (λ lane lt. all_map P (lane_count plan log lane) (range_with_len 1 (last_session plan log lane.pair)) (λ session. lt)) in
+    all_flat_map Q P (sessions_of_lane plan log) (flat_map (lanes_of_pair plan) (range_with_len 0 most)) lanes
+    (λ lane lt. all_map P (lane_count plan log lane) (range_with_len 1 (last_session plan log lane.pair)) (λ session. lt)) in
     All-filter counts_some P (lane_counts plan log) (All-from_recursion P (lane_counts plan log) counts)
 
 -- Devices
@@ -158,11 +158,11 @@ has_queues plan kept k pair queues same lt is least =
     let in_a : queues ≤ pair.a.queues = omega arith in
     let in_b : queues ≤ pair.b.queues = omega arith in
     let of_plan : HasQueues (bare_plan plan) k queues =
-        record {
-          declared = lt;
-          side_a = subst (λ (sides : PairPlan). queues ≤ sides.a.queues) own in_a;
-          side_b = subst (λ (sides : PairPlan). queues ≤ sides.b.queues) own in_b;
-        } in
+    record {
+      declared = lt;
+      side_a = subst (λ (sides : PairPlan). queues ≤ sides.a.queues) own in_a;
+      side_b = subst (λ (sides : PairPlan). queues ≤ sides.b.queues) own in_b;
+    } in
     subst (λ (kept : Plan). HasQueues kept k queues) (sym same) of_plan
 
 -- the counts of one pair more

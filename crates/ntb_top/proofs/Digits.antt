@@ -1,5 +1,5 @@
 -- The number of a seed, read digit by digit.
-use Rattle.std.proofs.Common.{◌≡◌, ◌∙◌, ℕ, suc, ◌+◌, ◌-◌, ◌*◌, ◌^◌, ◌<◌, ◌≤◌, ◌==◌, ◌&&◌, Bool, true, false, not, if◌then◌else◌, Option, Some, None, List, [], ◌∷◌, length, get_or, drop, drop-cons, nat_lt, refl, ap, sym, arith, add-one}
+use Rattle.std.proofs.Common.{◌≡◌, ◌∙◌, ℕ, ◌+◌, ◌-◌, ◌*◌, ◌^◌, ◌<◌, ◌≤◌, ◌&&◌, Bool, true, false, if◌then◌else◌, Option, Some, None, List, [], ◌∷◌, length, get_or, drop, drop-cons, nat_lt, refl, ap, sym, arith, add-one}
 use Rattle.std.specs.List.{list_all}
 use Rattle.std.proofs.lemmas.Bool.Decides.{nat_tests}
 use Rattle.std.proofs.lemmas.Grind.{common_steps}
@@ -34,7 +34,6 @@ pub digits-done : (value : ℕ) (s : List ℕ) (i : ℕ) → length s ≤ i → 
 digits-done value s i h small = let none : drop i s ≡ [] = grind (arith, common_steps) in rw none (grind arith)
 
 -- Plain words
-
 
 not-plain : (all below : Bool) (n : ℕ) → (if all && (false && below) then Some n else None) ≡ None
 not-plain true below n = refl

@@ -1,23 +1,20 @@
 -- One more step of a plan: the fabric that made it, the answers, and the landings that were blocked.
 use Rattle.std.proofs.Common.{◌≡◌, ◌∙◌, ℕ, suc, ◌+◌, ◌<◌, Bool, true, false, List, [], ◌∷◌, ◌++◌, cond, count_by, map, length, get_or, take, refl, sym, ap, subst, arith}
-use Rattle.std.specs.List.{All, AllByRecursion}
 use Rattle.std.proofs.lemmas.List.{length-map, map-append, take_more}
 use Rattle.std.proofs.lemmas.List.Sums.{fold-append}
-use Rattle.byte_model.specs.Headers.{Bytes}
 use Rattle.step_kinds.specs.declared.plan.Line.{Line}
 use Rattle.step_kinds.specs.declared.plan.LineAnswer.{LineAnswer}
 use Rattle.step_kinds.specs.declared.plan.Plan.{Plan}
 use Rattle.step_kinds.specs.declared.steps.Answer.{Answer}
 use Rattle.step_kinds.specs.declared.steps.Step.{Step}
-use Rattle.plan_model.specs.DeclaredPlans.{IsPermitted}
 use Rattle.plan_model.specs.TrafficPlans.{IsWhole}
-use Rattle.ledger_model.specs.Log.{Answered, Memories, answered, log_from, log_of}
+use Rattle.ledger_model.specs.Log.{Answered, Memories, answered, log_from}
 use Rattle.ledger_model.specs.Next.{Ledger, ledger_after, start}
 use Rattle.memory_model.specs.Memory.{memory_of}
 use Rattle.fabric_core.specs.Fabric.{FabricState, StandsFor, bare_plan, plan_kept}
 use Rattle.fabric_core.specs.Pinned.{HasMade, IsAnswered, log_after}
 use Rattle.ntb_top.specs.Replayed.{HasReplayed}
-use Rattle.ntb_top.specs.Replays.{is_blocked, line_answers, log_of_plan, steps_of}
+use Rattle.ntb_top.specs.Replays.{is_blocked, line_answers}
 
 abbrev pub step_in : Line → Step
 step_in line = line.step

@@ -1,5 +1,5 @@
 -- What a run comes to, by what reading, the reply and writing come to.
-use Rattle.std.proofs.Common.{◌≡◌, ◌∙◌, ℕ, ◌+◌, ◌≤◌, ◌<◌, Bool, true, false, Option, Some, None, Result, Ok, Err, List, [], ◌++◌, IfSome, length, take, drop, replicate, nat_lt, cond, inl, inr, refl, sym, ap, subst, arith}
+use Rattle.std.proofs.Common.{◌≡◌, ◌∙◌, ℕ, ◌+◌, ◌≤◌, ◌<◌, Bool, true, false, Option, Some, None, Result, Ok, Err, List, [], IfSome, length, take, drop, replicate, nat_lt, cond, inl, inr, refl, sym, ap, subst, arith}
 use Rattle.std.specs.Prelude.{IsErrOf}
 use Rattle.std.specs.Result.{result_ok}
 use Rattle.std.proofs.lemmas.Bool.{lt-ltb, true≢false}
@@ -44,7 +44,6 @@ past_end after bytes (Ok reply) long = λ few. absurd (omega arith)
 past_end after bytes (Err stop) long = tt
 
 -- Reading
-
 
 short_test : (bytes : List ℕ) → length bytes ≤ most_script_bytes → nat_lt most_script_bytes (length bytes) ≡ false
 short_test bytes few = grind (arith, nat_tests)

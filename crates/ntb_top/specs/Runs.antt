@@ -1,5 +1,5 @@
 -- What a run of the program comes to: what it took from its source, what it wrote to its sink, and its exit status.
-use Rattle.std.specs.Prelude.{◌≡◌, ◌⊎◌, ◌↔◌, ℕ, ◌+◌, ◌≤◌, true, false, Option, Some, None, List, [], length}
+use Rattle.std.specs.Prelude.{◌≡◌, ◌⊎◌, ℕ, ◌+◌, ◌≤◌, true, false, Option, Some, None, List, [], length}
 use Rattle.io_edges.specs.Causes.{Rose}
 use Rattle.io_edges.specs.Whole.{HasGiven, HoldsAll, HoldsPart}
 use Rattle.step_kinds.specs.Limits.{most_script_bytes}

@@ -46,7 +46,9 @@ fn summary(
 ) -> Result<Vec<u8>, AllocError>
     ensures { IfOk result (λ text. text.items ≡ summary_text seed frames accepted delivered blocked) }
 {
-    let text = format!(in alloc; "load {seed} {frames} accepted {accepted} delivered {delivered} blocked {blocked}\n")?;
+    let text = format!(in alloc;
+        "load {seed} {frames} accepted {accepted} delivered {delivered} blocked {blocked}\n"
+    )?;
     Ok(text.into_bytes())
 }
 

@@ -1,4 +1,4 @@
-use Rattle.std.proofs.Common.{◌≡◌, ℕ, ◌≤◌, [], sym, subst, ◌∙◌}
+use Rattle.std.proofs.Common.{◌≡◌, ℕ, ◌≤◌, sym, subst}
 use Rattle.step_kinds.specs.declared.plan.Plan.{Plan}
 use Rattle.plan_model.specs.TrafficPlans.{IsWhole}
 use Rattle.traffic_plan.proofs.Whole.{load_is_whole}
@@ -20,4 +20,3 @@ pub count_blocked-requires-clause-fresh : goal.count_blocked-requires-clause-fre
 count_blocked-requires-clause-fresh c =
     replayed_none c.in_ok-plan.plan _ (made_whole _ c.args.seed c.args.frames c.requires.few c.in_ok-plan.ensures) c.in_ok-fabric.ensures.stands
     c.in_ok-fabric.ensures.plan
-

@@ -1,6 +1,6 @@
 use Rattle.std.proofs.Common.{Some, None, refl, sym, ap, ◌∙◌}
 use Rattle.ntb_top.specs.declared.command.Command.TheVariants.{Load}
-use Rattle.ntb_top.proofs.Replying.{replied_reading, replied_without}
+use Rattle.ntb_top.proofs.Replying.{replied_without}
 use Rattle.ntb_top.proofs.program.reply_to.Goals as goal
 
 pub returns-in-None : goal.returns-in-None

@@ -1,10 +1,6 @@
-use Rattle.std.proofs.Common.{◌≡◌, ℕ, ◌≤◌, ◌++◌, List, [], length, get_or, min, ap, subst, sym, ◌∙◌, arith}
-use Rattle.std.specs.List.{flat_map, range_with_len}
-use Rattle.step_kinds.specs.declared.names.Side.TheVariants.{A, B}
+use Rattle.std.proofs.Common.{List, length, get_or, ap, ◌∙◌, arith}
 use Rattle.step_kinds.specs.declared.plan.PairPlan.{PairPlan}
-use Rattle.report_text.specs.declared.whole.LaneCount.{LaneCount}
-use Rattle.ntb_top.specs.Replayed.{filled, lanes_from}
-use Rattle.ntb_top.specs.Replays.{lanes_of_pair, log_of_plan, sessions_of_lane, steps_of}
+use Rattle.ntb_top.specs.Replays.{log_of_plan, steps_of}
 use Rattle.ntb_top.proofs.Counting.{adds_pair, has_queues}
 use Rattle.ntb_top.proofs.replay.lane_counts.Goals as goal
 

@@ -1,6 +1,4 @@
-use Rattle.std.proofs.Common.{◌≡◌, ℕ, ◌∷◌, [], ◌++◌, List, length, get_or, map, take, ap, subst, ◌∙◌, arith}
-use Rattle.step_kinds.specs.declared.plan.Line.{Line}
-use Rattle.step_kinds.specs.declared.plan.LineAnswer.{LineAnswer}
+use Rattle.std.proofs.Common.{length, map, take, ap, ◌∙◌, arith}
 use Rattle.ntb_top.proofs.Permitted.{permitted_by_kept}
 use Rattle.ntb_top.proofs.Replaying.{answers_more, item_of, replayed_more, step_in}
 use Rattle.ntb_top.proofs.replay.make_steps.Goals as goal
