@@ -1,17 +1,23 @@
 -- The report of a plan, made of what its functions give.
-use Rattle.std.proofs.Common.{◌≡◌, ◌∙◌, ℕ, ◌<◌, List, ◌++◌, Result, Ok, Err, IfOk, length, sym, ap, subst, Global, Vec}
+use Rattle.std.proofs.Common.{◌≡◌, ◌∙◌, ℕ, ◌<◌, List, ◌++◌, Result, Ok, Err, IfOk, length, sym, ap, subst, arith, Global, Vec}
 use Rattle.std.specs.List.{All, flat_map}
 use Rattle.std.proofs.lemmas.List.{length-map}
 use Rattle.step_kinds.specs.declared.plan.Counters.{Counters}
 use Rattle.step_kinds.specs.declared.plan.LineAnswer.{LineAnswer}
 use Rattle.step_kinds.specs.declared.plan.Plan.{Plan}
-use Rattle.ledger_model.specs.Log.{Answered, counters_in}
+use Rattle.step_kinds.specs.declared.names.Side.{Side}
+use Rattle.step_kinds.specs.declared.names.Side.TheVariants.{A, B}
+use Rattle.plan_model.specs.DeclaredPlans.{IsQueueOf}
+use Rattle.traffic_plan.specs.Load.{load_of}
+use Rattle.fabric_core.specs.Fabric.{bare_plan}
+use Rattle.ledger_model.specs.Log.{Answered, accepted, counters_in, delivered}
 use Rattle.fabric_core.specs.Pinned.{lane_of_device}
 use Rattle.report_text.specs.Report.{answer_line, device_lines, end_line, report_of}
 use Rattle.report_text.specs.declared.whole.LaneCount.{LaneCount}
 use Rattle.ntb_top.specs.Replayed.{filled}
-use Rattle.ntb_top.specs.Replays.{device_counts, lane_counts, line_answers, log_of_plan, replay_text}
+use Rattle.ntb_top.specs.Replays.{device_counts, lane_counts, line_answers, load_lane, load_text, log_of_plan, replay_text, summary_text}
 use Rattle.ntb_top.proofs.Counting.{all_known, lines_of_filled}
+use Rattle.ntb_top.proofs.Replaying.{blocked_in}
 
 report_same : (plan : Plan) (answers : List LineAnswer) (lanes : List LaneCount) (devs : List Counters) → answers ≡ line_answers plan.steps (log_of_plan plan) →
     lanes ≡ filled (lane_counts plan (log_of_plan plan)) → devs ≡ device_counts plan (log_of_plan plan) → report_of plan answers lanes devs ≡ replay_text plan
@@ -38,3 +44,30 @@ lanes_known plan lanes same = subst (λ (counts : List LaneCount). All (λ count
 
 pub devices_known : (plan : Plan) (devs : List Counters) → devs ≡ device_counts plan (log_of_plan plan) → length devs ≡ length plan.devs
 devices_known plan devs same = ap length same ∙ length-map plan.devs (λ dev. counters_in plan (log_of_plan plan) (lane_of_device dev))
+
+-- The summary of a load
+
+-- both sides of a load's pair have its one queue
+one_queue : (seed frames : ℕ) (side : Side) → IsQueueOf (bare_plan (load_of seed frames)) 0 side 0
+one_queue seed frames A = record { declared = omega arith; among = omega arith }
+one_queue seed frames B = record { declared = omega arith; among = omega arith }
+
+pub load_lane_known : (plan kept : Plan) (seed frames : ℕ) (side : Side) → kept ≡ bare_plan plan → plan ≡ load_of seed frames → IsQueueOf kept 0 side 0
+load_lane_known plan kept seed frames side same is =
+    let of_load : (side : Side) → IsQueueOf (bare_plan (load_of seed frames)) 0 side 0 = one_queue seed frames in
+    let both : kept ≡ bare_plan (load_of seed frames) = same ∙ ap bare_plan is in
+    subst (λ (given : Plan). IsQueueOf given 0 side 0) (sym both) (of_load side)
+
+pub summary_same : {E : Type 0} (seed frames : ℕ) (plan : Plan) (taken given blocked : ℕ) (result : Result (Vec ℕ Global) E) → plan ≡ load_of seed frames →
+    taken ≡ length (accepted plan (log_of_plan plan) load_lane 1) → given ≡ length (delivered plan (log_of_plan plan) load_lane 1) →
+    blocked ≡ blocked_in (log_of_plan plan) → IfOk result (λ text. text.items ≡ summary_text seed frames taken given blocked) →
+    IfOk result (λ text. text.items ≡ load_text seed frames)
+summary_same seed frames plan taken given blocked (Err error) is all_taken all_given all_blocked h = tt
+summary_same seed frames plan taken given blocked (Ok text) is all_taken all_given all_blocked h =
+    let line : Plan → List ℕ = λ made.
+    summary_text seed frames (length (accepted made (log_of_plan made) load_lane 1)) (length (delivered made (log_of_plan made) load_lane 1)) (blocked_in (log_of_plan made)) in
+    h
+    ∙ ap (λ (n : ℕ). summary_text seed frames n given blocked) all_taken
+    ∙ ap (λ (n : ℕ). summary_text seed frames (length (accepted plan (log_of_plan plan) load_lane 1)) n blocked) all_given
+    ∙ ap (λ (n : ℕ). summary_text seed frames (length (accepted plan (log_of_plan plan) load_lane 1)) (length (delivered plan (log_of_plan plan) load_lane 1)) n) all_blocked
+    ∙ ap line is

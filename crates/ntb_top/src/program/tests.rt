@@ -1,5 +1,5 @@
 use super::*;
-use io_edges::{MemorySink, MemorySource, PlainSource};
+use io_edges::{MemorySink, PlainSource};
 use std::test::Fail;
 
 /// More bytes than any text here has.
@@ -42,28 +42,23 @@ fn words_of(alloc: Global, texts: &[&str]) -> Result<Vec<String>, AllocError> {
     Ok(words)
 }
 
-// The status of the program on these words over a source, and what it wrote.
-fn answer_to<S: Source>(
+// The status of the program on these words over these bytes, and what it wrote.
+fn answer_to(
     alloc: Global,
     texts: &[&str],
-    source: &mut S,
+    bytes: Vec<u8>,
 ) -> Result<(u8, MemorySink), AllocError> {
     let words = words_of(alloc, texts)?;
+    let mut source = PlainSource::new(bytes);
     let mut sink = MemorySink::new(alloc, ROOM, ROOM, Vec::new(alloc))?;
-    let status = run_program(alloc, &words, source, &mut sink);
+    let status = run_program(alloc, &words, &mut source, &mut sink);
     Ok((status, sink))
 }
 
 // The same of `replay` over a script.
 fn replay_of(alloc: Global, script: &str) -> Result<(u8, MemorySink), AllocError> {
-    let mut source = PlainSource::new(String::from_str(alloc, script)?.into_bytes());
-    answer_to(alloc, &["replay"], &mut source)
-}
-
-// The same of words over no bytes.
-fn answer_to_words(alloc: Global, texts: &[&str]) -> Result<(u8, MemorySink), AllocError> {
-    let mut source = PlainSource::new(Vec::new(alloc));
-    answer_to(alloc, texts, &mut source)
+    let bytes = String::from_str(alloc, script)?.into_bytes();
+    answer_to(alloc, &["replay"], bytes)
 }
 
 #[test]
@@ -76,7 +71,7 @@ fn one_frame_there_and_back(rt: HostRuntime) -> Result<(), Fail> {
 
 #[test]
 fn no_such_command(rt: HostRuntime) -> Result<(), Fail> {
-    let (status, sink) = answer_to_words(rt.alloc(), &["reply"])?;
+    let (status, sink) = answer_to(rt.alloc(), &["reply"], Vec::new(rt.alloc()))?;
     assert_eq!(rt; status, 2);
     assert_eq!(rt; sink.held(), "usage\n".as_bytes());
     Ok(())
@@ -84,7 +79,7 @@ fn no_such_command(rt: HostRuntime) -> Result<(), Fail> {
 
 #[test]
 fn more_frames_than_a_load_has(rt: HostRuntime) -> Result<(), Fail> {
-    let (status, sink) = answer_to_words(rt.alloc(), &["load", "1", "30001"])?;
+    let (status, sink) = answer_to(rt.alloc(), &["load", "1", "30001"], Vec::new(rt.alloc()))?;
     assert_eq!(rt; status, 2);
     assert_eq!(rt; sink.held(), "usage\n".as_bytes());
     Ok(())
