@@ -3,29 +3,51 @@
 use std::alloc::{AllocError, Global};
 use std::io;
 
-/// A script, the status that the program has to answer, and parts of the text that it has to write.
+/// A text that the program has to write.
+#[derive(Drop)]
+pub enum Wanted {
+    /// These lines stand in it, one behind the other. They begin with a line feed, so that they are compared from the start of a line.
+    Lines(Vec<u8>),
+    /// It is this.
+    Whole(Vec<u8>),
+}
+
+/// A script, the status that the program has to answer, and what it has to write.
 #[derive(Drop)]
 pub struct Case {
     pub about: String,
     pub status: u8,
     pub script: Vec<u8>,
-    pub parts: Vec<Vec<u8>>,
+    pub wanted: Vec<Wanted>,
 }
 
-/// The cases that standard input has.
-pub fn read_cases<R: Input + AllocGlobal>(rt: &R) -> io::Result<Vec<Case>> {
-    let mut cases = Vec::new(rt.alloc());
+/// The cases of a table, and whether it has its form: nothing stands outside a case, each has a head and what is wanted, and the last
+/// one is closed.
+#[derive(Drop)]
+pub struct Table {
+    pub cases: Vec<Case>,
+    pub is_whole: bool,
+}
+
+/// The table that standard input has.
+pub fn read_table<R: Input + AllocGlobal>(rt: &R) -> io::Result<Table> {
+    let mut table = Table {
+        cases: Vec::new(rt.alloc()),
+        is_whole: true,
+    };
     let mut open = empty_case(rt.alloc());
     for line in rt.lines(rt.alloc()) {
         let line = line?;
         if line.as_str() == "@end" {
-            cases.push(open)?;
+            table.is_whole = table.is_whole && is_complete(&open);
+            table.cases.push(open)?;
             open = empty_case(rt.alloc());
         } else {
-            take_line(rt.alloc(), &mut open, line.as_str())?;
+            table.is_whole = take_line(rt.alloc(), &mut open, line.as_str())? && table.is_whole;
         }
     }
-    Ok(cases)
+    table.is_whole = table.is_whole && open.about.is_empty();
+    Ok(table)
 }
 
 fn empty_case(alloc: Global) -> Case {
@@ -33,26 +55,51 @@ fn empty_case(alloc: Global) -> Case {
         about: String::new(alloc),
         status: 0,
         script: Vec::new(alloc),
-        parts: Vec::new(alloc),
+        wanted: Vec::new(alloc),
     }
 }
 
-// Adds a line to a case.
-fn take_line(alloc: Global, case: &mut Case, line: &str) -> Result<(), AllocError> {
+// Whether a case says what it is about and what is wanted.
+fn is_complete(case: &Case) -> bool {
+    !case.about.is_empty() && !case.wanted.is_empty()
+}
+
+// Adds a line to a case, and says whether it may stand there.
+fn take_line(alloc: Global, case: &mut Case, line: &str) -> Result<bool, AllocError> {
     if let Some(head) = line.strip_prefix("@case ") {
-        if let Some((status, about)) = head.split_once(' ') {
-            case.status = status.parse::<u8>().unwrap_or(255);
-            case.about = String::from_str(alloc, about)?;
-        }
-        return Ok(());
+        return take_head(alloc, case, head);
     }
     if line == "@part" {
-        case.parts.push(Vec::new(alloc))?;
-        return Ok(());
+        let mut lines = Vec::new(alloc);
+        lines.push(b'\n')?;
+        case.wanted.push(Wanted::Lines(lines))?;
+    } else if line == "@whole" {
+        case.wanted.push(Wanted::Whole(Vec::new(alloc)))?;
+    } else {
+        add_line(text_of(case), line)?;
     }
-    match case.parts.last_mut() {
-        Some(part) => add_line(part, line),
-        None => add_line(&mut case.script, line),
+    Ok(!case.about.is_empty() && (!line.starts_with("@") || line == "@part" || line == "@whole"))
+}
+
+// The status and what the case is about. There is one head, and no line before it.
+fn take_head(alloc: Global, case: &mut Case, head: &str) -> Result<bool, AllocError> {
+    let is_first = case.about.is_empty() && case.script.is_empty();
+    match head.split_once(' ') {
+        Some((status, about)) => {
+            case.status = status.parse::<u8>().unwrap_or(255);
+            case.about = String::from_str(alloc, about)?;
+            Ok(is_first && status.parse::<u8>().is_ok())
+        }
+        None => Ok(false),
+    }
+}
+
+// The text that the next line belongs to: what is wanted last, else the script.
+fn text_of(case: &mut Case) -> &mut Vec<u8> {
+    match case.wanted.last_mut() {
+        Some(Wanted::Lines(text)) => text,
+        Some(Wanted::Whole(text)) => text,
+        None => &mut case.script,
     }
 }
 

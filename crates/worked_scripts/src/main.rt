@@ -1,26 +1,58 @@
 //! Runs the program on worked scripts, and says of each whether its status and its text are those that were worked out by hand.
 //!
-//! Standard input has the cases. A line `@case STATUS ABOUT` begins one, the lines after it are its script, `@part` begins a part of the
-//! text that the program has to write, and `@end` ends the case. Each case is run over sources and sinks of several piece sizes.
+//! Standard input has the cases. A line `@case STATUS ABOUT` begins one, the lines after it are its script, `@part` begins lines that
+//! have to stand in the text that the program writes, one behind the other, `@whole` the whole text, and `@end` ends the case. Each case
+//! is run over sources and sinks of several piece sizes. A table that hasn't this form fails.
 #![tactic(auto)]
 
 mod cases;
+mod faults;
 mod runs;
 
-use cases::{Case, read_cases};
-use runs::{faults_are_told, gives_what_is_expected};
+use cases::{Case, read_table};
+use faults::{
+    cuts_are_told, long_input_is_told, other_words_are_told, read_faults_are_told,
+    write_faults_are_told,
+};
+use runs::gives_what_is_expected;
 use std::alloc::Global;
 use std::io;
 
 fn main(rt: HostRuntime) -> io::Result<()> {
-    let cases = read_cases(&rt)?;
-    for case in &cases {
+    let table = read_table(&rt)?;
+    for case in &table.cases {
         let verdict = verdict_of(rt.alloc(), case)?;
         let about = case.about.as_str();
         println!(rt; "{verdict}: {about}")?;
     }
-    let verdict = word_of(faults_are_told(rt.alloc(), &cases)?);
-    println!(rt; "{verdict}: Faults of the outside, other words and long inputs are told.")
+    let form = word_of(table.is_whole);
+    println!(rt; "{form}: The table has its form.")?;
+    tell_faults(&rt, table.cases.as_slice())
+}
+
+// What failing streams, other words, long inputs and cut scripts are answered, by the first case's script.
+fn tell_faults(rt: &HostRuntime, cases: &[Case]) -> io::Result<()> {
+    let alloc = rt.alloc();
+    let first = match cases.first() {
+        Some(first) => first,
+        None => return println!(rt; "FAILED: There is a case."),
+    };
+    let reads = word_of(read_faults_are_told(alloc, first)?);
+    println!(rt;
+        "{reads}: A source that fails, at whichever call, is told, and nothing is written."
+    )?;
+    let writes = word_of(write_faults_are_told(alloc, first)?);
+    println!(rt;
+        "{writes}: A sink that fails, at whichever call, is told, and keeps a front of the text."
+    )?;
+    let cuts = word_of(cuts_are_told(alloc, first)?);
+    println!(rt;
+        "{cuts}: A script that is cut behind a line is a script, and one without its last line feed the same."
+    )?;
+    let words = word_of(other_words_are_told(alloc)?);
+    println!(rt; "{words}: Words that are no command are told.")?;
+    let long = word_of(long_input_is_told(alloc)?);
+    println!(rt; "{long}: An input of a byte too many is told.")
 }
 
 // Whether a case passed, as a word.
