@@ -24,16 +24,33 @@ pub fn read_rows<R: Input + AllocGlobal>(rt: &R) -> io::Result<Vec<Row>> {
     Ok(rows)
 }
 
-// Begins a row, or adds a line to the script of the last one.
+// Begins a row, or adds to the script of the last one.
 fn take_line(alloc: Global, rows: &mut Vec<Row>, line: &str) -> Result<(), AllocError> {
     if let Some(head) = line.strip_prefix("@ ") {
         rows.push(row_of(alloc, head)?)?;
         return Ok(());
     }
     if let Some(row) = rows.last_mut() {
-        row.script.extend_from_slice(line.as_bytes())?;
-        row.script.push(b'\n')?;
+        add_line(&mut row.script, line)?;
     }
+    Ok(())
+}
+
+// Adds a line to a script; or, for a line `+ COUNT TEXT`, that text so many times to the end of the script's last line.
+fn add_line(script: &mut Vec<u8>, line: &str) -> Result<(), AllocError> {
+    let (count, text) = match line.strip_prefix("+ ") {
+        Some(more) => more.split_once(' ').unwrap_or(("0", more)),
+        None => {
+            script.extend_from_slice(line.as_bytes())?;
+            script.push(b'\n')?;
+            return Ok(());
+        }
+    };
+    script.pop();
+    for _ in 0..count.parse::<u32>().unwrap_or(0) {
+        script.extend_from_slice(text.as_bytes())?;
+    }
+    script.push(b'\n')?;
     Ok(())
 }
 
