@@ -1,2 +1,3 @@
 pub mod LookAnswers
+pub mod Needs
 pub mod Refusals

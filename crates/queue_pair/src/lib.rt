@@ -5,6 +5,8 @@
 
 pub mod laws;
 mod queue;
+#[cfg(test)]
+mod tests;
 
 pub use queue::{QueuePair, irq};
 
