@@ -19,6 +19,7 @@ use Rattle.step_kinds.specs.declared.steps.Step.TheVariants.{Enable, Train, Brea
 use Rattle.plan_model.specs.Both.{Both, at_side}
 use Rattle.plan_model.specs.DeclaredPlans.{Agree, IsDeclared, IsDeviceOn, IsPair, IsPairOf, IsPermitted, IsPoke, IsQueueOf, IsShown, IsSide, SizesFit}
 use Rattle.plan_model.specs.Plans.{no_pair, pair_plan, side_plan}
+use Rattle.plan_model.proofs.Permitted.{permitted_by_other, queue_of_other}
 use Rattle.ledger_laws.proofs.Facade.{every_frame_comes_once, every_log_is_in_order, joined_means_agreement, lane_part_lands, log_of-last, no_ordinary_ver_differs_or_long, quiet_means_done, up_means_agreement, up_side_agrees}
 use Rattle.ledger_laws.specs.Laws.{HasSides, IsOrdinaryOn, IsSide as IsLawSide}
 use Rattle.ledger_model.specs.Ledger.{PairPart, side_of}
@@ -81,40 +82,12 @@ plan_of_standing plan steps fabric stands =
 
 -- Steps that a plan permits
 
+-- of the pairs and devices alone, so of the plan
 pub queue_of_bare : (plan : Plan) (k : ℕ) (side : Side) (queue : ℕ) → IsQueueOf (bare_plan plan) k side queue → IsQueueOf plan k side queue
-queue_of_bare plan k side queue may = record { declared = may.declared; among = may.among }
-
-device_of_bare : (plan : Plan) (k : ℕ) (side : Side) (queue dev : ℕ) → IsDeviceOn (bare_plan plan) k side queue dev → IsDeviceOn plan k side queue dev
-device_of_bare plan k side queue dev may = record { declared = may.declared; its_pair = may.its_pair; its_side = may.its_side; its_queue = may.its_queue }
+queue_of_bare plan k side queue may = queue_of_other (bare_plan plan) plan.steps plan.traffic k side queue may
 
 pub permitted_bare : (plan : Plan) (step : Step) → IsPermitted (bare_plan plan) step → IsPermitted plan step
-permitted_bare plan (Enable p side) may = may
-permitted_bare plan (Train p) may = may
-permitted_bare plan (Break p) may = may
-permitted_bare plan (DropDone p) may = may
-permitted_bare plan (Clean p side) may = may
-permitted_bare plan (Offer p side) may = may
-permitted_bare plan (Check p side) may = may
-permitted_bare plan (Ready p side queue) may = queue_of_bare plan p side queue may
-permitted_bare plan (Join p side queue) may = queue_of_bare plan p side queue may
-permitted_bare plan (Begin p side queue frame) may = (queue_of_bare plan p side queue may.0, may.1)
-permitted_bare plan (QpDown p side queue) may = queue_of_bare plan p side queue may
-permitted_bare plan (Xbegin p side queue dev dst kind payload) may = (queue_of_bare plan p side queue may.0, device_of_bare plan p side queue dev may.1, may.2)
-permitted_bare plan (Post p side queue) may = queue_of_bare plan p side queue may
-permitted_bare plan (Land p side place) may = may
-permitted_bare plan (Look p side queue) may = queue_of_bare plan p side queue may
-permitted_bare plan (Copy p side queue) may = queue_of_bare plan p side queue may
-permitted_bare plan (Clear p side queue) may = queue_of_bare plan p side queue may
-permitted_bare plan (Ack p side queue) may = queue_of_bare plan p side queue may
-permitted_bare plan (Wake p side queue dev) may = (queue_of_bare plan p side queue may.0, device_of_bare plan p side queue dev may.1)
-permitted_bare plan (Irq p side) may = may
-permitted_bare plan (Mask p side bits) may = may
-permitted_bare plan (Unmask p side bits) may = may
-permitted_bare plan (Spad p side i value) may = may
-permitted_bare plan (Poke p side window offset bytes) may = may
-permitted_bare plan (ShowMem p side at len) may = may
-permitted_bare plan (ShowPad p side i) may = may
-permitted_bare plan (ShowQueue p side place) may = may
+permitted_bare plan step may = permitted_by_other (bare_plan plan) plan.steps plan.traffic step may
 
 pub declared_bare : (plan : Plan) → IsDeclared plan → IsDeclared (bare_plan plan)
 declared_bare plan declared =

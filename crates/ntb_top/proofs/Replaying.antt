@@ -1,6 +1,7 @@
 -- One more step of a plan: the fabric that made it, the answers, and the landings that were blocked.
 use Rattle.std.proofs.Common.{◌≡◌, ◌∙◌, ℕ, suc, ◌+◌, ◌<◌, Bool, true, false, List, [], ◌∷◌, ◌++◌, cond, count_by, map, length, get_or, take, refl, sym, ap, subst, arith}
-use Rattle.std.proofs.lemmas.List.{length-map, map-append, take_more}
+use Rattle.std.proofs.lemmas.List.{flat_map_more, length-map, map-append, take_more}
+use Rattle.std.specs.List.{flat_map}
 use Rattle.std.proofs.lemmas.List.Sums.{fold-append}
 use Rattle.step_kinds.specs.declared.plan.Line.{Line}
 use Rattle.step_kinds.specs.declared.plan.LineAnswer.{LineAnswer}
@@ -13,8 +14,9 @@ use Rattle.ledger_model.specs.Next.{Ledger, ledger_after, start}
 use Rattle.memory_model.specs.Memory.{memory_of}
 use Rattle.fabric_core.specs.Fabric.{FabricState, StandsFor, bare_plan, plan_kept}
 use Rattle.fabric_core.specs.Pinned.{HasMade, IsAnswered, log_after}
+use Rattle.report_text.specs.Report.{answer_line}
 use Rattle.ntb_top.specs.Replayed.{HasReplayed}
-use Rattle.ntb_top.specs.Replays.{is_blocked, line_answers}
+use Rattle.ntb_top.specs.Replays.{answers_text, is_blocked, line_answers}
 
 abbrev pub step_in : Line → Step
 step_in line = line.step
@@ -66,16 +68,28 @@ log_more : (plan : Plan) (xs : List Line) (i : ℕ) (line : Line) (answer : Answ
 log_more plan xs i line answer lt is answered = ap (log_after plan) (sym (steps_more xs i line lt is)) ∙ answered
 
 -- the answers so far with one more
-pub answers_more : (plan : Plan) (xs : List Line) (i : ℕ) (line : Line) (answer : Answer) (answers : List LineAnswer) → i < length xs → line ≡ get_or xs i line →
-    answers ≡ line_answers (take i xs) (log_after plan (map step_in (take i xs))) → IsAnswered plan (map step_in (take i xs)) line.step answer →
-    answers ++ record { line = line.line; answer = answer } ∷ [] ≡ line_answers (take (i + 1) xs) (log_after plan (map step_in (take (i + 1) xs)))
-answers_more plan xs i line answer answers lt is same answered =
+answers_more : (plan : Plan) (xs : List Line) (i : ℕ) (line : Line) (answer : Answer) → i < length xs → line ≡ get_or xs i line →
+    IsAnswered plan (map step_in (take i xs)) line.step answer →
+    line_answers (take (i + 1) xs) (log_after plan (map step_in (take (i + 1) xs)))
+    ≡ line_answers (take i xs) (log_after plan (map step_in (take i xs))) ++ record { line = line.line; answer = answer } ∷ []
+answers_more plan xs i line answer lt is answered =
     let lines : take i xs ++ line ∷ [] ≡ take (i + 1) xs = ap (λ (own : Line). take i xs ++ own ∷ []) is ∙ sym (take_more xs i line lt) in
-    let grown = line_answers-more (take i xs) (log_after plan (map step_in (take i xs))) line (record { step = line.step; answer = answer }) (length-log_after plan (take i xs)) in
-    ap (λ (before : List LineAnswer). before ++ record { line = line.line; answer = answer } ∷ []) same
-    ∙ sym grown
-    ∙ ap (λ (own : List Line). line_answers own (log_after plan (map step_in (take i xs)) ++ record { step = line.step; answer = answer } ∷ [])) lines
-    ∙ ap (line_answers (take (i + 1) xs)) (sym (log_more plan xs i line answer lt is answered))
+    ap (line_answers (take (i + 1) xs)) (log_more plan xs i line answer lt is answered)
+    ∙ sym (ap (λ (own : List Line). line_answers own (log_after plan (map step_in (take i xs)) ++ record { step = line.step; answer = answer } ∷ [])) lines)
+    ∙ line_answers-more (take i xs) (log_after plan (map step_in (take i xs))) line (record { step = line.step; answer = answer }) (length-log_after plan (take i xs))
+
+-- the lines of the answers so far, behind some text, with one more
+pub lines_more : (plan : Plan) (xs : List Line) (i : ℕ) (line : Line) (answer : Answer) (before text more : List ℕ) → i < length xs → line ≡ get_or xs i line →
+    text ≡ before ++ answers_text (take i xs) (log_after plan (map step_in (take i xs))) → more ≡ text ++ answer_line (record { line = line.line; answer = answer }) →
+    IsAnswered plan (map step_in (take i xs)) line.step answer →
+    more ≡ before ++ answers_text (take (i + 1) xs) (log_after plan (map step_in (take (i + 1) xs)))
+lines_more plan xs i line answer before text more lt is so_far added answered =
+    let answers : List LineAnswer = line_answers (take i xs) (log_after plan (map step_in (take i xs))) in
+    let last : LineAnswer = record { line = line.line; answer = answer } in
+    added
+    ∙ ap (λ (own : List ℕ). own ++ answer_line last) so_far
+    ∙ flat_map_more answer_line before answers last
+    ∙ ap (λ (own : List LineAnswer). before ++ flat_map answer_line own) (sym (answers_more plan xs i line answer lt is answered))
 
 -- how many were blocked, with one more
 abbrev pub blocked_in : List Answered → ℕ

@@ -12,30 +12,29 @@ use Rattle.traffic_plan.specs.Load.{load_of}
 use Rattle.fabric_core.specs.Fabric.{bare_plan}
 use Rattle.ledger_model.specs.Log.{Answered, accepted, counters_in, delivered}
 use Rattle.fabric_core.specs.Pinned.{lane_of_device}
-use Rattle.report_text.specs.Report.{answer_line, device_lines, end_line, report_of}
+use Rattle.report_text.specs.Report.{device_lines, end_line, ending}
 use Rattle.report_text.specs.declared.whole.LaneCount.{LaneCount}
 use Rattle.ntb_top.specs.Replayed.{filled}
-use Rattle.ntb_top.specs.Replays.{device_counts, lane_counts, line_answers, load_lane, load_text, log_of_plan, replay_text, summary_text}
+use Rattle.ntb_top.specs.Replays.{answers_text, device_counts, lane_counts, load_lane, load_text, log_of_plan, replay_text, summary_text}
 use Rattle.ntb_top.proofs.Counting.{all_known, lines_of_filled}
 use Rattle.ntb_top.proofs.Replaying.{blocked_in}
 
-report_same : (plan : Plan) (answers : List LineAnswer) (lanes : List LaneCount) (devs : List Counters) → answers ≡ line_answers plan.steps (log_of_plan plan) →
-    lanes ≡ filled (lane_counts plan (log_of_plan plan)) → devs ≡ device_counts plan (log_of_plan plan) → report_of plan answers lanes devs ≡ replay_text plan
-report_same plan answers lanes devs same_answers same_lanes same_devs =
+report_same : (plan : Plan) (lanes : List LaneCount) (devs : List Counters) → lanes ≡ filled (lane_counts plan (log_of_plan plan)) → devs ≡ device_counts plan (log_of_plan plan) →
+    ending plan lanes devs ≡ ending plan (lane_counts plan (log_of_plan plan)) (device_counts plan (log_of_plan plan))
+report_same plan lanes devs same_lanes same_devs =
     let log : List Answered = log_of_plan plan in
-    let own : List LineAnswer = line_answers plan.steps log in
     let counts : List LaneCount = lane_counts plan log in
-    ap (λ (given : List LineAnswer). report_of plan given lanes devs) same_answers
-    ∙ ap (λ (given : List LaneCount). report_of plan own given devs) same_lanes
-    ∙ ap (λ (given : List Counters). report_of plan own (filled counts) given) same_devs
-    ∙ ap (λ (lines : List ℕ). flat_map answer_line own ++ lines ++ device_lines plan.devs (device_counts plan log) ++ end_line) (lines_of_filled plan.pairs counts)
+    ap (λ (given : List LaneCount). ending plan given devs) same_lanes
+    ∙ ap (λ (given : List Counters). ending plan (filled counts) given) same_devs
+    ∙ ap (λ (lines : List ℕ). lines ++ device_lines plan.devs (device_counts plan log) ++ end_line) (lines_of_filled plan.pairs counts)
 
 -- the text of the report is the definition's
-pub replay_text_is : {E : Type 0} (plan : Plan) (answers : List LineAnswer) (lanes : List LaneCount) (devs : List Counters) (result : Result (Vec ℕ Global) E) →
-    answers ≡ line_answers plan.steps (log_of_plan plan) → lanes ≡ filled (lane_counts plan (log_of_plan plan)) → devs ≡ device_counts plan (log_of_plan plan) →
-    IfOk result (λ text. text.items ≡ report_of plan answers lanes devs) → IfOk result (λ text. text.items ≡ replay_text plan)
-replay_text_is plan answers lanes devs (Ok text) same_answers same_lanes same_devs h = h ∙ report_same plan answers lanes devs same_answers same_lanes same_devs
-replay_text_is plan answers lanes devs (Err error) same_answers same_lanes same_devs h = tt
+pub replay_text_is : (plan : Plan) (lanes : List LaneCount) (devs : List Counters) (answers text : List ℕ) → answers ≡ answers_text plan.steps (log_of_plan plan) →
+    lanes ≡ filled (lane_counts plan (log_of_plan plan)) → devs ≡ device_counts plan (log_of_plan plan) → text ≡ answers ++ ending plan lanes devs → text ≡ replay_text plan
+replay_text_is plan lanes devs answers text same_answers same_lanes same_devs h =
+    h
+    ∙ ap (λ (lines : List ℕ). lines ++ ending plan lanes devs) same_answers
+    ∙ ap (λ (lines : List ℕ). answers_text plan.steps (log_of_plan plan) ++ lines) (report_same plan lanes devs same_lanes same_devs)
 
 -- what the report asks of the counts
 

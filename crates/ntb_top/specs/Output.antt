@@ -8,7 +8,7 @@ use Rattle.report_text.specs.Report.{line_of}
 use Rattle.script_text.specs.Script.{script_of}
 use Rattle.script_words.specs.declared.fault.ScriptFault.{ScriptFault}
 use Rattle.traffic_plan.specs.Load.{load_of}
-use Rattle.ntb_top.specs.Causes.{cause_text}
+use Rattle.script_words.specs.Causes.{cause_text}
 use Rattle.ntb_top.specs.Commands.{command_of}
 use Rattle.ntb_top.specs.Replays.{load_text, replay_text}
 use Rattle.ntb_top.specs.declared.command.Command.{Command}

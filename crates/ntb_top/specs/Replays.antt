@@ -15,7 +15,7 @@ use Rattle.plan_model.specs.Plans.{pair_plan}
 use Rattle.ledger_model.specs.Log.{Answered, accepted, counters_in, delivered, first_session, log_of, trains}
 use Rattle.memory_model.specs.Memory.{memory_of}
 use Rattle.fabric_core.specs.Pinned.{lane_of_device}
-use Rattle.report_text.specs.Report.{line_of, report_of}
+use Rattle.report_text.specs.Report.{answer_line, line_of, report_of}
 use Rattle.report_text.specs.Texts.{numbers_text}
 use Rattle.report_text.specs.declared.whole.LaneCount.{LaneCount}
 use Rattle.traffic_plan.specs.Load.{load_of}
@@ -32,6 +32,10 @@ abbrev pub line_answers : List Line → List Answered → List LineAnswer
 line_answers [] log = []
 line_answers (line ∷ lines) [] = []
 line_answers (line ∷ lines) (made ∷ log) = record { line = line.line; answer = made.answer } ∷ line_answers lines log
+
+-- the lines of all answers
+abbrev pub answers_text : List Line → List Answered → List ℕ
+answers_text lines log = flat_map answer_line (line_answers lines log)
 
 -- what a lane accepted and delivered in a session
 abbrev pub lane_count : Plan → List Answered → LaneName → ℕ → LaneCount

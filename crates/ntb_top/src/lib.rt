@@ -2,7 +2,6 @@
 //! answers the exit status.
 #![tactic(auto)]
 
-mod causes;
 mod command;
 mod load;
 mod program;

@@ -10,7 +10,6 @@ ghost use Rattle.ntb_top.specs.Replays.{load_text as text_of_load};
 ghost use Rattle.ntb_top.specs.Replies.{HasRead, HasReplied, TellsOrWants};
 ghost use Rattle.ntb_top.specs.Runs.{HasRun};
 
-use crate::causes::cause_word;
 use crate::command::{Command, command_of};
 use crate::load::load_text;
 use crate::replay::replay_text;
@@ -135,7 +134,7 @@ fn refusal(alloc: Global, fault: ScriptFault) -> Result<Reply, Stop>
     ensures { TellsOrWants (refused fault) result }
 {
     let line = fault.line;
-    let word = cause_word(fault.cause);
+    let word = fault.cause.word();
     let text = format!(in alloc; "refused line {line} {word}\n")?;
     Ok(Reply {
         status: 3,

@@ -1,22 +1,22 @@
 //! The report of a plan.
 
-ghost use Rattle.std.specs.Prelude.{◌≡◌, ◌≤◌, ◌<◌, ◌∷◌, [], IfOk, OnOk, length};
+ghost use Rattle.std.specs.Prelude.{◌≡◌, ◌≤◌, ◌<◌, ◌∷◌, ◌++◌, [], IfOk, OnOk, length};
 ghost use Rattle.std.specs.List.{flat_map};
 ghost use Rattle.plan_model.specs.TrafficPlans.{IsWhole};
 ghost use Rattle.fabric_core.specs.Fabric.{plan_kept};
 ghost use Rattle.ntb_top.specs.Replayed.{AddsCounts, HasQueues, HasReplayed, IsLaneOf, filled, lanes_from};
 ghost use Rattle.ntb_top.specs.Replays.{
+  answers_text,
   device_counts as counts_of_devices,
   lane_count,
   lane_counts as counts_of_lanes,
-  line_answers,
   log_of_plan,
   replay_text as text_of_plan,
   sessions_of_lane,
 };
 
 use fabric_core::Fabric;
-use report_text::{LaneCount, report};
+use report_text::{LaneCount, push_answer_line, push_ending};
 use std::alloc::{AllocError, Global};
 use step_kinds::{Counters, LaneName, LineAnswer, Plan, Side};
 
@@ -27,32 +27,35 @@ pub fn replay_text(alloc: Global, plan: &Plan) -> Result<Vec<u8>, AllocError>
     ensures { IfOk result (λ text. text.items ≡ text_of_plan plan.now) }
 {
     let mut fabric = Fabric::new(alloc, plan)?;
-    let answers = make_steps(alloc, plan, &mut fabric)?;
+    let mut text = Vec::new(alloc);
+    push_answers(alloc, plan, &mut fabric, &mut text)?;
     let lanes = lane_counts(alloc, plan, &fabric)?;
     let devs = device_counts(alloc, plan, &fabric)?;
-    report(alloc, plan, &answers, &lanes, &devs)
+    push_ending(&mut text, plan, &lanes, &devs)?;
+    Ok(text)
 }
 
-// Makes the steps of a plan on its fresh fabric, and answers them.
-fn make_steps(
+// Makes the steps of a plan on its fresh fabric, and adds the line of each answer as it comes.
+fn push_answers(
     alloc: Global,
     plan: &Plan,
     fabric: &mut Fabric,
-) -> Result<Vec<LineAnswer>, AllocError>
+    text: &mut Vec<u8>,
+) -> Result<(), AllocError>
     requires whole { IsWhole plan.now }
     requires fresh { HasReplayed plan.now [] fabric.old }
-    ensures made { IfOk result (λ _. HasReplayed plan.now plan.now.steps fabric.new) }
-    ensures answers { IfOk result (λ answers. answers.items ≡ line_answers plan.now.steps (log_of_plan plan.now)) }
+    ensures made { OnOk result (HasReplayed plan.now plan.now.steps fabric.new) }
+    ensures answers { OnOk result (text.new.items ≡ text.old.items ++ answers_text plan.now.steps (log_of_plan plan.now)) }
 {
-    let mut answers = Vec::new(alloc);
     for line in plan.steps.as_slice() {
         let answer = fabric.step(&line.step)?;
-        answers.push(LineAnswer {
+        let made = LineAnswer {
             line: line.line,
             answer,
-        })?;
+        };
+        push_answer_line(alloc, text, &made)?;
     }
-    Ok(answers)
+    Ok(())
 }
 
 // What the lanes of all pairs accepted and delivered, in each session where either isn't 0.

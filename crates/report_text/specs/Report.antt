@@ -59,10 +59,13 @@ device_lines devs counters = flat_map (λ both. device_line both.0 both.1) (zip 
 abbrev pub end_line : List ℕ
 end_line = line_of (codes "end")
 
--- The report of a replay: the answers in order, what each lane accepted and delivered in each session, the devices, the end.
+-- what each lane accepted and delivered in each session, the devices, the end
+abbrev pub ending : Plan → List LaneCount → List Counters → List ℕ
+ending plan lanes devs = flat_map (count_lines plan.pairs) lanes ++ device_lines plan.devs devs ++ end_line
+
+-- The report of a replay: the answers in order, and its ending.
 abbrev pub report_of : Plan → List LineAnswer → List LaneCount → List Counters → List ℕ
-report_of plan lines lanes devs =
-    flat_map answer_line lines ++ flat_map (count_lines plan.pairs) lanes ++ device_lines plan.devs devs ++ end_line
+report_of plan lines lanes devs = flat_map answer_line lines ++ ending plan lanes devs
 
 -- The text of a threaded run
 

@@ -11,4 +11,4 @@ mod whole;
 
 pub use answers::{push_answer, text_of};
 pub use run::record_text;
-pub use whole::{LaneCount, report};
+pub use whole::{LaneCount, push_answer_line, push_ending, report};

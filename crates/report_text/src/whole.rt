@@ -2,7 +2,7 @@
 
 ghost use Rattle.std.specs.Prelude.{◌≡◌, ◌++◌, ◌<◌, IfOk, OnOk, All, length, ◌∷◌};
 ghost use Rattle.std.specs.List.{flat_map};
-ghost use Rattle.report_text.specs.Report.{answer_line, count_lines, device_line, device_lines, lane_text, report_of, side_text};
+ghost use Rattle.report_text.specs.Report.{answer_line, count_lines, device_line, device_lines, ending, lane_text, report_of, side_text};
 
 use crate::answers::push_answer;
 use crate::append::{push_numbers, push_word};
@@ -41,10 +41,28 @@ pub fn report(
 {
     let mut text = Vec::new(alloc);
     push_answers(alloc, &mut text, lines)?;
-    push_lanes(&mut text, plan.pairs.as_slice(), lanes)?;
-    push_devices(&mut text, plan.devs.as_slice(), devs)?;
-    push_word(&mut text, "end\n")?;
+    push_ending(&mut text, plan, lanes, devs)?;
     Ok(text)
+}
+
+/// Adds what a report ends with, behind its answers: a line for each lane and session where a frame was accepted or
+/// delivered; a line for each device of the plan; and `end`. The only error is want of memory, and then some part of the
+/// text may have been added.
+///
+/// Each lane names a pair of the plan, and there are as many counters as the plan has devices.
+pub fn push_ending(
+    text: &mut Vec<u8>,
+    plan: &Plan,
+    lanes: &[LaneCount],
+    devs: &[Counters],
+) -> Result<(), AllocError>
+    requires known_pairs { All (λ lane. lane.name.pair < length plan.now.pairs) lanes.now }
+    requires all_devices { length devs.now ≡ length plan.now.devs }
+    ensures { OnOk result (text.new.items ≡ text.old.items ++ ending plan.now lanes.now devs.now) }
+{
+    push_lanes(text, plan.pairs.as_slice(), lanes)?;
+    push_devices(text, plan.devs.as_slice(), devs)?;
+    push_word(text, "end\n")
 }
 
 // Adds the lines of all answers.
@@ -57,8 +75,9 @@ fn push_answers(alloc: Global, text: &mut Vec<u8>, lines: &[LineAnswer]) -> Resu
     Ok(())
 }
 
-// Adds the line of an answer.
-fn push_answer_line(alloc: Global, text: &mut Vec<u8>, made: &LineAnswer) -> Result<(), AllocError>
+/// Adds the line of an answer: the number of its script line, a space, and the answer's text. The only error is want of
+/// memory, and then some part of the line may have been added.
+pub fn push_answer_line(alloc: Global, text: &mut Vec<u8>, made: &LineAnswer) -> Result<(), AllocError>
     ensures { OnOk result (text.new.items ≡ text.old.items ++ answer_line made.now) }
 {
     let mut digits = Buffer::new();

@@ -1,6 +1,6 @@
 //! What a script gives, as a text.
 
-use script_text::{Cause, ParseError, parse};
+use script_text::{ParseError, parse};
 use std::alloc::{AllocError, Global};
 use step_kinds::Plan;
 use step_kinds::limits::MOST_SCRIPT_BYTES;
@@ -14,7 +14,7 @@ pub fn answer_of(alloc: Global, script: &[u8]) -> Result<String, AllocError> {
         Ok(plan) => numbers_of(alloc, &plan),
         Err(ParseError::Fault(fault)) => {
             let line = fault.line;
-            let cause = cause_text(fault.cause);
+            let cause = fault.cause.word();
             format!(in alloc; "line {line} {cause}")
         }
         Err(ParseError::OutOfMemory) => String::from_str(alloc, "out of memory"),
@@ -27,20 +27,4 @@ fn numbers_of(alloc: Global, plan: &Plan) -> Result<String, AllocError> {
     let steps = plan.steps.len();
     let traffic = plan.traffic.len();
     format!(in alloc; "plan {pairs} {devices} {steps} {traffic}")
-}
-
-fn cause_text(cause: Cause) -> &'static str {
-    match cause {
-        Cause::NotText => "nottext",
-        Cause::BadHeader => "badheader",
-        Cause::UnknownWord => "unknownword",
-        Cause::BadNumber => "badnumber",
-        Cause::BadName => "badname",
-        Cause::Repeated => "repeated",
-        Cause::UnknownName => "unknownname",
-        Cause::BadHex => "badhex",
-        Cause::BadGeometry => "badgeometry",
-        Cause::TooMany => "toomany",
-        Cause::BadPair => "badpair",
-    }
 }

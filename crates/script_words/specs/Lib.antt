@@ -1,4 +1,5 @@
 pub mod Before
+pub mod Causes
 pub mod Compact
 pub mod Declarations
 pub mod Laws

@@ -1,6 +1,7 @@
 //! Why a script is refused.
 
 ghost use Rattle.std.specs.Prelude.{◌≡◌};
+ghost use Rattle.script_words.specs.Causes.{cause_text};
 ghost use Rattle.script_words.specs.declared.fault.LineError.TheVariants.{Fault, OutOfMemory};
 
 use std::alloc::AllocError;
@@ -35,6 +36,27 @@ pub enum Cause {
     /// A poke, or a write of a scratchpad that the transport uses, on a pair that isn't raw; or traffic on a pair that may
     /// have none.
     BadPair,
+}
+
+impl Cause {
+    /// The word of the cause, as it stands in the answer to a script that is refused.
+    pub fn word(self) -> &'static str
+        ensures { result.now ≡ cause_text self }
+    {
+        match self {
+            Cause::NotText => "nottext",
+            Cause::BadHeader => "badheader",
+            Cause::UnknownWord => "unknownword",
+            Cause::BadNumber => "badnumber",
+            Cause::BadName => "badname",
+            Cause::Repeated => "repeated",
+            Cause::UnknownName => "unknownname",
+            Cause::BadHex => "badhex",
+            Cause::BadGeometry => "badgeometry",
+            Cause::TooMany => "toomany",
+            Cause::BadPair => "badpair",
+        }
+    }
 }
 
 /// The first line of a script that has a fault, and its first fault.

@@ -1,7 +1,7 @@
 use Rattle.std.proofs.Common.{length, map, take, ap, ◌∙◌, arith}
 use Rattle.ntb_top.proofs.Permitted.{permitted_by_kept}
-use Rattle.ntb_top.proofs.Replaying.{answers_more, item_of, replayed_more, step_in}
-use Rattle.ntb_top.proofs.replay.make_steps.Goals as goal
+use Rattle.ntb_top.proofs.Replaying.{item_of, lines_more, replayed_more, step_in}
+use Rattle.ntb_top.proofs.replay.push_answers.Goals as goal
 
 pub step-requires : goal.step-requires
 step-requires c =
@@ -18,7 +18,6 @@ loop-line-preserved c =
           replayed_more plan plan.steps i line c.loop-line.fabric c.step.new.self (omega (arith, ap length c.as_slice-line-items.ensures)) (item_of _ _ c.line-item.is c.as_slice-line-items.ensures) c.loop-line.invariant.made
           (c.in_ok-answer.ensures.stands plan (map step_in (take i plan.steps)) made) c.in_ok-answer.ensures.plan;
       answers =
-          c.in_ok-push.ensures.items
-          ∙ answers_more plan plan.steps i line c.in_ok-answer.answer c.loop-line.answers.items (omega (arith, ap length c.as_slice-line-items.ensures)) (item_of _ _ c.line-item.is c.as_slice-line-items.ensures) c.loop-line.invariant.answers
-          (c.in_ok-answer.ensures.answered plan (map step_in (take i plan.steps)) made).0;
+          lines_more plan plan.steps i line c.in_ok-answer.answer _ c.loop-line.text.items _ (omega (arith, ap length c.as_slice-line-items.ensures)) (item_of _ _ c.line-item.is c.as_slice-line-items.ensures) c.loop-line.invariant.answers
+          c.in_ok-push_answer_line.ensures (c.in_ok-answer.ensures.answered plan (map step_in (take i plan.steps)) made).0;
     }
