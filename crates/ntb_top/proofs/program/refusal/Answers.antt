@@ -9,6 +9,6 @@ pub returns : goal.returns
 returns c = record {
   status = refl;
   text =
-      ap (λ (bytes : Vec ℕ Global). bytes.items) c.into_bytes.ensures.value ∙ c.in_ok-text.ensures.ok ∙ refused_is c.args.fault.line c.word.result.now
-      ∙ ap (λ (word : List ℕ). line_of (codes "refused line " ++ decimal c.args.fault.line ++ 32 ∷ word)) c.word.ensures;
+      ap (λ (bytes : Vec ℕ Global). bytes.items) c.into_bytes.ensures.value ∙ c.in_ok-text.ensures.ok ∙ refused_is c.args.fault.line c.word-word.result.now
+      ∙ ap (λ (word : List ℕ). line_of (codes "refused line " ++ decimal c.args.fault.line ++ 32 ∷ word)) c.word-word.ensures;
 }

@@ -8,5 +8,5 @@ use Rattle.ntb_top.proofs.replay.push_answers.Given as goal
 abbrev pub invariant-loop-line : goal.invariant-loop-line
 invariant-loop-line l = record {
   made : HasReplayed l.plan (take l.line-index l.plan.steps) l.fabric;
-  answers : l.text.items ≡ l.text-old.items ++ answers_text (take l.line-index l.plan.steps) (log_after l.plan (map step_in (take l.line-index l.plan.steps)));
+  answers : l.text.items ≡ l.fn.text.items ++ answers_text (take l.line-index l.plan.steps) (log_after l.plan (map step_in (take l.line-index l.plan.steps)));
 }

@@ -1,4 +1,5 @@
-use Rattle.std.proofs.Common.{◌∙◌}
+use Rattle.std.proofs.Common.{◌∙◌, ◌++◌, ℕ, List, ap}
+use Rattle.ntb_top.specs.Replays.{answers_text, log_of_plan}
 use Rattle.ntb_top.proofs.Replaying.{replayed_none}
 use Rattle.ntb_top.proofs.Reports.{devices_known, lanes_known, replay_text_is}
 use Rattle.ntb_top.proofs.replay.replay_text.Goals as goal
@@ -14,5 +15,6 @@ push_ending-requires c = record {
 
 pub returns : goal.returns
 returns c =
+    let plan = c.args.plan.now in
     replay_text_is c.args.plan.now c.deref.result.now c.deref-2.result.now _ _
-    c.in_ok-push_answers.ensures.answers (c.deref.ensures.value ∙ c.in_ok-lanes.ensures) (c.deref-2.ensures.value ∙ c.in_ok-devs.ensures) c.in_ok-push_ending.ensures
+    (c.in_ok-push_answers.ensures.answers ∙ ap (λ (own : List ℕ). own ++ answers_text plan.steps (log_of_plan plan)) c.new-text.ensures.items) (c.deref.ensures.value ∙ c.in_ok-lanes.ensures) (c.deref-2.ensures.value ∙ c.in_ok-devs.ensures) c.in_ok-push_ending.ensures
