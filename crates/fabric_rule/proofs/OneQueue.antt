@@ -12,7 +12,10 @@ use Rattle.plan_model.specs.Both.{Both, at_side}
 use Rattle.plan_model.specs.DeclaredPlans.{IsPair}
 use Rattle.plan_model.specs.Plans.{side_plan}
 use Rattle.ledger_model.specs.Ledger.{LanePart, lane_to, side_of, with_lane}
-use Rattle.memory_model.specs.Memory.{Site}
+use Rattle.memory_model.specs.Memory.{Site, bytes_of_site}
+use Rattle.byte_model.specs.Headers.{index_word_in}
+use Rattle.ledger_model.specs.Reading.{Reading, by_bytes}
+use Rattle.frame_ring.specs.Seen.{bytes_seen}
 use Rattle.queue_pair.specs.Queue.{QueueState}
 use Rattle.lane_model.specs.Lane.{Entry}
 use Rattle.fabric_rule.specs.InPlace.{LinkInPlace, SendingEnd, receiver_of, sender_of}
@@ -32,71 +35,62 @@ pub record Standing (devs : List DevPlan) (plan : PairPlan) (k : ℕ) : Type 0 w
   pub sides : AllSides devs plan k site.pair queues
   pub declared : IsPair plan
 
-module _ (devs : List DevPlan) (plan : PairPlan) (k : ℕ) (now : Standing devs plan k) where
-  abbrev site : Site
-  site = now.site
+module _ {devs : List DevPlan} {plan : PairPlan} {k : ℕ} (now : Standing devs plan k) where
+  -- what is kept of the pair, and of a queue
+  abbrev pub kept : PairState
+  kept = state_for plan now.site now.pages now.spare now.queues
 
-  abbrev pages : Both (List ℕ)
-  pages = now.pages
+  abbrev pub part : Side → ℕ → QueuePart
+  part side queue = slice_index_or (at_side now.queues side) queue no_queue
 
-  abbrev spare : Both ℕ
-  spare = now.spare
-
-  abbrev queues : Both (List QueuePart)
-  queues = now.queues
-
-  abbrev link : LinkInPlace now.site.pair.link
-  link = now.link
-
-  abbrev sides : AllSides devs plan k now.site.pair now.queues
-  sides = now.sides
-
-  abbrev pub state : PairState
-  state = state_for plan site pages spare queues
-
-  -- what is kept of a queue, and its queue pair where the side has forgotten its session or has not
-  abbrev pub part_at : Side → ℕ → QueuePart
-  part_at side queue = slice_index_or (at_side queues side) queue no_queue
-
-  abbrev pub queue_at : Side → ℕ → Bool → QueueState
-  queue_at side queue forgotten = record { port = port_for plan side queue forgotten (view_of site.pair side queue) (part_at side queue).queue.port.sending.entry; closed = has_bit (side_of site.pair side).closed queue }
+  -- its queue pair, where the side has forgotten its session or has not
+  abbrev pub port_queue : Side → ℕ → Bool → QueueState
+  port_queue side queue forgotten = record { port = port_for plan side queue forgotten (view_of now.site.pair side queue) (part side queue).queue.port.sending.entry; closed = has_bit (side_of now.site.pair side).closed queue }
 
   -- the part with another queue pair
   abbrev pub part_with : Side → ℕ → QueueState → QueuePart
-  part_with side queue q = record (part_at side queue) { queue = q }
+  part_with side queue q = record (part side queue) { queue = q }
 
-  pub is_queue : (side : Side) (queue : ℕ) (forgotten : Bool) → queue < (side_plan plan side).queues → has_forgotten site.pair.link side ≡ forgotten → (part_at side queue).queue ≡ queue_at side queue forgotten
-  is_queue side queue forgotten among is = queue_is devs plan k side queue (has_forgotten site.pair.link side) forgotten (view_of site.pair side queue) (part_at side queue) is ((sides side).queues queue among)
+  -- what the bytes say
+  abbrev pub reads : Reading
+  reads = by_bytes plan (bytes_of_site now.site) now.site.pair
 
-  pub stands_by : (side : Side) (queue : ℕ) (forgotten : Bool) → queue < (side_plan plan side).queues → has_forgotten site.pair.link side ≡ forgotten → QueueStands devs plan k side queue forgotten (view_of site.pair side queue) (part_at side queue)
-  stands_by side queue forgotten among is = subst (λ f. QueueStands devs plan k side queue f (view_of site.pair side queue) (part_at side queue)) is ((sides side).queues queue among)
+  -- the index word that a port sees
+  abbrev pub seen_word : Side → ℕ → ℕ
+  seen_word side queue = index_word_in plan (bytes_seen kept.bridge) side queue
+
+  pub is_queue : (side : Side) (queue : ℕ) (forgotten : Bool) → queue < (side_plan plan side).queues → has_forgotten now.site.pair.link side ≡ forgotten → (part side queue).queue ≡ port_queue side queue forgotten
+  is_queue side queue forgotten among is = queue_is devs plan k side queue (has_forgotten now.site.pair.link side) forgotten (view_of now.site.pair side queue) (part side queue) is ((now.sides side).queues queue among)
+
+  pub stands_by : (side : Side) (queue : ℕ) (forgotten : Bool) → queue < (side_plan plan side).queues → has_forgotten now.site.pair.link side ≡ forgotten → QueueStands devs plan k side queue forgotten (view_of now.site.pair side queue) (part side queue)
+  stands_by side queue forgotten among is = subst (λ f. QueueStands devs plan k side queue f (view_of now.site.pair side queue) (part side queue)) is ((now.sides side).queues queue among)
 
   -- nothing changed
-  pub unchanged : (side : Side) (queue : ℕ) (q : QueueState) → (part_at side queue).queue ≡ q → PairStands devs plan k site (with_queue state side queue (part_with side queue q))
+  pub unchanged : (side : Side) (queue : ℕ) (q : QueueState) → (part side queue).queue ≡ q → PairStands devs plan k now.site (with_queue kept side queue (part_with side queue q))
   unchanged side queue q is =
-      subst (λ (q : QueueState). PairStands devs plan k site (with_queue state side queue (part_with side queue q))) is
-      (subst (PairStands devs plan k site) (sym (set_again state side queue)) (record { bridge = refl; link = link; sides = sides }))
+      subst (λ (q : QueueState). PairStands devs plan k now.site (with_queue kept side queue (part_with side queue q))) is
+      (subst (PairStands devs plan k now.site) (sym (set_again kept side queue)) (record { bridge = refl; link = now.link; sides = now.sides }))
 
   -- a side on which a queue is joined hasn't forgotten its session
-  pub remembers : (side : Side) (queue : ℕ) → has_bit (side_of site.pair side).joined queue ≡ true → has_forgotten site.pair.link side ≡ false
-  remembers side queue joined = ⊎_elim (λ forgot. absurd (true≢false (sym joined ∙ ap (λ bits. has_bit bits queue) ((sides side).none_joined forgot) ∙ no_bits queue))) (λ no. no) (cases_Bool (has_forgotten site.pair.link side))
+  pub remembers : (side : Side) (queue : ℕ) → has_bit (side_of now.site.pair side).joined queue ≡ true → has_forgotten now.site.pair.link side ≡ false
+  remembers side queue joined = ⊎_elim (λ forgot. absurd (true≢false (sym joined ∙ ap (λ bits. has_bit bits queue) ((now.sides side).none_joined forgot) ∙ no_bits queue))) (λ no. no) (cases_Bool (has_forgotten now.site.pair.link side))
 
-  pub no_joined : (side : Side) (queue : ℕ) → has_forgotten site.pair.link side ≡ true → has_bit (side_of site.pair side).joined queue ≡ false
-  no_joined side queue forgot = ap (λ bits. has_bit bits queue) ((sides side).none_joined forgot) ∙ no_bits queue
+  pub no_joined : (side : Side) (queue : ℕ) → has_forgotten now.site.pair.link side ≡ true → has_bit (side_of now.site.pair side).joined queue ≡ false
+  no_joined side queue forgot = ap (λ bits. has_bit bits queue) ((now.sides side).none_joined forgot) ∙ no_bits queue
 
   -- the receiver of a lane changed it
-  pub receives : (side : Side) (queue : ℕ) (lane : LanePart) (part : QueuePart) → queue < (side_plan plan side).queues → sender_of lane ≡ sender_of (lane_to site.pair side queue)
-      → QueueStands devs plan k side queue (has_forgotten site.pair.link side) (record (view_of site.pair side queue) { receives = receiver_of lane }) part
-      → PairStands devs plan k (record site { pair = with_lane site.pair (other_side side) queue lane }) (with_queue state side queue part)
+  pub receives : (side : Side) (queue : ℕ) (lane : LanePart) (part : QueuePart) → queue < (side_plan plan side).queues → sender_of lane ≡ sender_of (lane_to now.site.pair side queue)
+      → QueueStands devs plan k side queue (has_forgotten now.site.pair.link side) (record (view_of now.site.pair side queue) { receives = receiver_of lane }) part
+      → PairStands devs plan k (record now.site { pair = with_lane now.site.pair (other_side side) queue lane }) (with_queue kept side queue part)
   receives A queue lane part among same own =
       record {
-        bridge = ap (λ (sent : ℕ → List Entry). bridge_with plan site.pair.link site.pair.sides (record { a = sent_of site.pair.lanes.a; b = sent }) site.stores) (sym (sent_kept site.pair.lanes.b queue lane (ap (λ (s : SendingEnd). s.sent) same)));
-        link = link;
-        sides = received_sides devs plan k site.pair queues sides A queue lane part among same own;
+        bridge = ap (λ (sent : ℕ → List Entry). bridge_with plan now.site.pair.link now.site.pair.sides (record { a = sent_of now.site.pair.lanes.a; b = sent }) now.site.stores) (sym (sent_kept now.site.pair.lanes.b queue lane (ap (λ (s : SendingEnd). s.sent) same)));
+        link = now.link;
+        sides = received_sides devs plan k now.site.pair now.queues now.sides A queue lane part among same own;
       }
   receives B queue lane part among same own =
       record {
-        bridge = ap (λ (sent : ℕ → List Entry). bridge_with plan site.pair.link site.pair.sides (record { a = sent; b = sent_of site.pair.lanes.b }) site.stores) (sym (sent_kept site.pair.lanes.a queue lane (ap (λ (s : SendingEnd). s.sent) same)));
-        link = link;
-        sides = received_sides devs plan k site.pair queues sides B queue lane part among same own;
+        bridge = ap (λ (sent : ℕ → List Entry). bridge_with plan now.site.pair.link now.site.pair.sides (record { a = sent; b = sent_of now.site.pair.lanes.b }) now.site.stores) (sym (sent_kept now.site.pair.lanes.a queue lane (ap (λ (s : SendingEnd). s.sent) same)));
+        link = now.link;
+        sides = received_sides devs plan k now.site.pair now.queues now.sides B queue lane part among same own;
       }
