@@ -39,7 +39,7 @@ use Rattle.fabric_rule.proofs.OneQueue.{Standing, is_queue, kept, part, part_wit
 use Rattle.fabric_rule.proofs.Queues.{sent_kept}
 use Rattle.fabric_rule.proofs.WhatIsRead.{own_fits}
 use Rattle.fabric_rule.proofs.RingPlaces.{fields_lie}
-use Rattle.fabric_rule.proofs.RingPosts.{index_posts_A, index_posts_B}
+use Rattle.fabric_rule.proofs.RingPosts.{index_posts}
 use Rattle.fabric_rule.proofs.StoredBytes.{one_stored}
 use Rattle.fabric_rule.proofs.WhatIsRead.{header_inside}
 
@@ -175,7 +175,7 @@ module _ {devs : List DevPlan} {plan : PairPlan} {k : ℕ} (now : Standing devs 
         subst (λ (bridge : Bridge). PairStands devs plan k
             (record now.site { pair = posts_through (reads now) (with_lane now.site.pair B queue (given A queue)) A (Index queue (now.site.pair.lanes.b queue).acked) })
             (record (with_queue (kept now) A queue (with_phase A queue Idle)) { bridge = index_posted bridge A queue (now.site.pair.lanes.b queue).acked }))
-            (sym (ap (λ (bridge : Bridge). with_promises bridge now.pages now.spare) first.bridge)) (index_posts_A changed queue (now.site.pair.lanes.b queue).acked among fits),
+            (sym (ap (λ (bridge : Bridge). with_promises bridge now.pages now.spare) first.bridge)) (index_posts changed A queue (now.site.pair.lanes.b queue).acked among fits),
       )
     where
       counts : ((now.site.pair.lanes.b queue).acked + 1 ≡ (now.site.pair.lanes.b queue).cleared) × ((now.site.pair.lanes.b queue).cleared ≡ (now.site.pair.lanes.b queue).got)
@@ -254,7 +254,7 @@ module _ {devs : List DevPlan} {plan : PairPlan} {k : ℕ} (now : Standing devs 
         subst (λ (bridge : Bridge). PairStands devs plan k
             (record now.site { pair = posts_through (reads now) (with_lane now.site.pair A queue (given B queue)) B (Index queue (now.site.pair.lanes.a queue).acked) })
             (record (with_queue (kept now) B queue (with_phase B queue Idle)) { bridge = index_posted bridge B queue (now.site.pair.lanes.a queue).acked }))
-            (sym (ap (λ (bridge : Bridge). with_promises bridge now.pages now.spare) first.bridge)) (index_posts_B changed queue (now.site.pair.lanes.a queue).acked among fits),
+            (sym (ap (λ (bridge : Bridge). with_promises bridge now.pages now.spare) first.bridge)) (index_posts changed B queue (now.site.pair.lanes.a queue).acked among fits),
       )
     where
       counts : ((now.site.pair.lanes.a queue).acked + 1 ≡ (now.site.pair.lanes.a queue).cleared) × ((now.site.pair.lanes.a queue).cleared ≡ (now.site.pair.lanes.a queue).got)

@@ -37,7 +37,7 @@ use Rattle.fabric_rule.proofs.Follows.{Follows, by_side, two_same, updated_here,
 use Rattle.fabric_rule.proofs.Links.{bridge_same}
 use Rattle.fabric_rule.proofs.OneQueue.{Standing, is_queue, kept, part, part_with, port_queue, reads, stands_by, unchanged}
 use Rattle.fabric_rule.proofs.Queues.{side_at, side_same}
-use Rattle.fabric_rule.proofs.RingPosts.{flight_grows, grows_at, label_posts_A, label_posts_B, writes_grow}
+use Rattle.fabric_rule.proofs.RingPosts.{flight_grows, grows_at, label_posts, writes_grow}
 
 -- an entry has labels to post
 some_labels : (queue n : ℕ) (entry : Entry) → (label : Label) × (rest : List Label) × (labels_of queue n entry ≡ label ∷ rest)
@@ -142,8 +142,8 @@ module _ {devs : List DevPlan} {plan : PairPlan} {k : ℕ} (now : Standing devs 
       (record now.site { pair = posts_through (reads now) (with_lane now.site.pair A queue (lane_as A queue sent waiting rest)) A label })
       (record (with_queue (kept now) A queue (part_as A queue begun entry waiting rest)) { bridge = ring_posted bridge A entry label }))
       (sym (ap (λ (bridge : Bridge). with_promises bridge now.pages now.spare) first.bridge))
-      (label_posts_A changed queue (length sent - 1) entry label among fits (subst (λ (entries : List Entry). length sent - 1 < length entries) (sym here) (let some = in_place.todo.0.0 in omega (arith, some)))
-      (is ∙ ap (λ (entries : List Entry). slice_index_or entries (length sent - 1) GoesDown) (sym here)) (subst (FitsSlot plan A queue) (sym is) in_place.last)
+      (label_posts changed A queue (length sent - 1) entry among fits (subst (λ (entries : List Entry). length sent - 1 < length entries) (sym here) (let some = in_place.todo.0.0 in omega (arith, some)))
+      (is ∙ ap (λ (entries : List Entry). slice_index_or entries (length sent - 1) GoesDown) (sym here)) (subst (FitsSlot plan A queue) (sym is) in_place.last) label
       (subst (λ (entry : Entry). IsWriteOf queue (length sent - 1) entry label) (sym is) in_place.todo.0.1))
     where
       first : PairStands devs plan k (record now.site { pair = with_lane now.site.pair A queue (lane_as A queue sent waiting rest) }) (with_queue (kept now) A queue (part_as A queue begun entry waiting rest))
@@ -270,8 +270,8 @@ module _ {devs : List DevPlan} {plan : PairPlan} {k : ℕ} (now : Standing devs 
       (record now.site { pair = posts_through (reads now) (with_lane now.site.pair B queue (lane_as B queue sent waiting rest)) B label })
       (record (with_queue (kept now) B queue (part_as B queue begun entry waiting rest)) { bridge = ring_posted bridge B entry label }))
       (sym (ap (λ (bridge : Bridge). with_promises bridge now.pages now.spare) first.bridge))
-      (label_posts_B changed queue (length sent - 1) entry label among fits (subst (λ (entries : List Entry). length sent - 1 < length entries) (sym here) (let some = in_place.todo.0.0 in omega (arith, some)))
-      (is ∙ ap (λ (entries : List Entry). slice_index_or entries (length sent - 1) GoesDown) (sym here)) (subst (FitsSlot plan B queue) (sym is) in_place.last)
+      (label_posts changed B queue (length sent - 1) entry among fits (subst (λ (entries : List Entry). length sent - 1 < length entries) (sym here) (let some = in_place.todo.0.0 in omega (arith, some)))
+      (is ∙ ap (λ (entries : List Entry). slice_index_or entries (length sent - 1) GoesDown) (sym here)) (subst (FitsSlot plan B queue) (sym is) in_place.last) label
       (subst (λ (entry : Entry). IsWriteOf queue (length sent - 1) entry label) (sym is) in_place.todo.0.1))
     where
       first : PairStands devs plan k (record now.site { pair = with_lane now.site.pair B queue (lane_as B queue sent waiting rest) }) (with_queue (kept now) B queue (part_as B queue begun entry waiting rest))
