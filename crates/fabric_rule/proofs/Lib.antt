@@ -1,3 +1,4 @@
+pub mod Arrivals
 pub mod Aside
 pub mod Beginning
 pub mod Begun
