@@ -4,6 +4,7 @@ use Rattle.std.specs.Prelude.{if◌then◌else◌, nat_lt, not}
 use Rattle.std.specs.List.{AllByRecursion}
 use Rattle.std.proofs.lemmas.Bool.{true≢false, false≢true, cases_Bool, le-leb}
 use Rattle.step_kinds.specs.Bits.{has_bit, with_bit}
+use Rattle.step_kinds.specs.Sides.{other_side}
 use Rattle.step_kinds.specs.declared.names.Side.{Side}
 use Rattle.step_kinds.specs.declared.names.Side.TheVariants.{A, B}
 use Rattle.step_kinds.specs.declared.plan.Counters.{Counters}
@@ -44,13 +45,13 @@ use Rattle.fabric_rule.specs.Moves.{Move, accepted_where_begun, begin_move, qpdo
 use Rattle.fabric_rule.specs.Parts.{QueuePart, SessionCount, count_in, one_more, with_queue}
 use Rattle.fabric_rule.specs.StandsFor.{IsOn, PairStands, QueueStands, QueueView, SideStands, all_sent, has_forgotten, sent_of, view_of}
 use Rattle.fabric_rule.proofs.Begun.{begun_in_place, free_less, last-begun, length-begun, length-pieces, pieces_fit, some_pieces}
-use Rattle.fabric_rule.proofs.Counts.{count-one_more, has-with_other, has-with_same, one_at, updated-one_more}
+use Rattle.fabric_rule.proofs.Counts.{counts_one_more}
 use Rattle.fabric_rule.proofs.Follows.{Follows, by_side, same_at, three_same, two_same, updated_field, updated_here, updated_other, updated_same}
 use Rattle.fabric_rule.proofs.Gates.{NotOk, Passes, Refuses, gates, not_accepted, port_says, refusal_says, side_says}
 use Rattle.fabric_rule.proofs.Links.{bridge_same, not_down_up}
-use Rattle.fabric_rule.proofs.OneQueue.{Standing, is_queue, kept, part, part_with, port_queue, reads, seen_word, stands_by, unchanged}
+use Rattle.fabric_rule.proofs.OneQueue.{Standing, as_it_was, by_queue, device_changes, is_queue, joined_is, kept, part, part_with, port_queue, reads, seen_word, sender_changes, sent_stands, unchanged}
 use Rattle.fabric_rule.proofs.Queues.{other_dev, side_at, side_same}
-use Rattle.fabric_rule.proofs.RingPosts.{flight_grows, grows_at, writes_grow}
+use Rattle.fabric_rule.proofs.Changes.{changes, none_closes, one_closes, stays}
 use Rattle.fabric_rule.proofs.WhatIsRead.{own_fits, same_word, word_inside}
 
 module _ {devs : List DevPlan} {plan : PairPlan} {k : ℕ} (now : Standing devs plan k) where
@@ -72,26 +73,10 @@ module _ {devs : List DevPlan} {plan : PairPlan} {k : ℕ} (now : Standing devs 
       (record (view_of now.site.pair side queue) { sends = sender_of (lane_with side queue first others told); dev = dev; accepted = seen_accepted; closed = seen_closed })
       (record (part now side queue) { queue = record { port = port_with side queue first others told; closed = closed }; flow = flow; counters = counters; accepted = accepted })
   begins side queue first others told closed seen_closed flow counters accepted dev seen_accepted among fresh fits short all same_closed stopped stop start counted counts =
-      subst (λ f. QueueStands devs plan k side queue f
-      (record (view_of now.site.pair side queue) { sends = sender_of (lane_with side queue first others told); dev = dev; accepted = seen_accepted; closed = seen_closed })
-      (record (part now side queue) { queue = record { port = port_with side queue first others told; closed = closed }; flow = flow; counters = counters; accepted = accepted })) (sym fresh)
-      (let old = stands_by now side queue false among fresh in
-      record {
-        port =
-            ap (λ begun. with_sending (port_queue now side queue false).port
-            (record { begun = begun; told = told; entry = first; todo = labels_of queue (length (lane_of now.site.pair side queue).sent) first; waiting = others })) (sym (length-begun (lane_of now.site.pair side queue).sent first));
-        entry = λ _ _. sym (last-begun queue (sender_of (lane_of now.site.pair side queue)) first others told);
-        closed = same_closed;
-        stopped = stopped;
-        limits = λ d among on. (stop ∙ (old.limits d among on).0, start ∙ (old.limits d among on).1);
-        counters = counted;
-        accepted = counts;
-        delivered = old.delivered;
-        sending = begun_in_place plan side queue (sender_of (lane_of now.site.pair side queue)) first others told fits short all;
-        receiving = old.receiving;
-        forgets = λ forgot. absurd (false≢true forgot);
-        stops = inr fits;
-      })
+      sent_stands now side queue (lane_with side queue first others told) (port_with side queue first others told).sending closed seen_closed flow counters accepted dev seen_accepted among fresh
+      (ap (λ begun. record { begun = begun; told = told; entry = first; todo = labels_of queue (length (lane_of now.site.pair side queue).sent) first; waiting = others }) (sym (length-begun (lane_of now.site.pair side queue).sent first)))
+      (λ _. sym (last-begun queue (sender_of (lane_of now.site.pair side queue)) first others told)) (begun_in_place plan side queue (sender_of (lane_of now.site.pair side queue)) first others told fits short all)
+      same_closed stopped stop start counted counts (inr fits)
 
   -- the part of a queue on which a frame was begun and accepted
   abbrev accepted_part : Side → ℕ → Entry → List Entry → QueuePart
@@ -109,10 +94,11 @@ module _ {devs : List DevPlan} {plan : PairPlan} {k : ℕ} (now : Standing devs 
   more_accepted side queue = updated (tally_of now.site.pair side queue) now.site.pair.link.session (one_accepted side queue)
 
   counts_one : (side : Side) (queue : ℕ) → queue < (side_plan plan side).queues → (session : ℕ) → count_in (one_more (part now side queue).accepted now.site.pair.link.session) session ≡ (more_accepted side queue session).accepted
-  counts_one side queue among session =
-      count-one_more (part now side queue).accepted now.site.pair.link.session session ∙ ap (λ n. n + one_at now.site.pair.link.session session) (((now.sides side).queues queue among).accepted session)
-      ∙ sym (updated_field (λ (tally : Tally). tally.accepted) (tally_of now.site.pair side queue) now.site.pair.link.session (one_accepted side queue) session
-      ∙ updated-one_more (λ session. (tally_of now.site.pair side queue session).accepted) now.site.pair.link.session session)
+  counts_one side queue among =
+      counts_one_more (λ (tally : Tally). tally.accepted) (part now side queue).accepted (tally_of now.site.pair side queue) now.site.pair.link.session (one_accepted side queue) ((now.sides side).queues queue among).accepted refl
+
+  none_delivered : (side : Side) (queue session : ℕ) → (more_accepted side queue session).delivered ≡ (tally_of now.site.pair side queue session).delivered
+  none_delivered side queue = updated_same (λ (tally : Tally). tally.delivered) (tally_of now.site.pair side queue) now.site.pair.link.session (one_accepted side queue) refl
 
   not_up : (side : Side) → has_forgotten now.site.pair.link side ≡ true → is_up now.site.pair.link.state ≡ false
   not_up side forgot =
@@ -189,124 +175,58 @@ module _ {devs : List DevPlan} {plan : PairPlan} {k : ℕ} (now : Standing devs 
   begin_read side queue frame pieces true same at_seen = subst (BeginAt side queue frame pieces true) (same refl) at_seen
   begin_read side queue frame pieces false same at_seen = at_seen
 
-  -- the other side, where a lane of this one has other entries and another tally
-  others_A : (queue : ℕ) (lane : LanePart) → queue < plan.a.queues → receiver_of lane ≡ receiver_of (now.site.pair.lanes.a queue)
-      → SideStands devs plan k B (is_down now.site.pair.link.state) (has_forgotten now.site.pair.link B) now.site.pair.sides.b.joined now.site.pair.sides.b.flight now.site.pair.sides.b.poked
-      (λ other. record (view_of now.site.pair B other) { receives = receiver_of (updated now.site.pair.lanes.a queue lane other); delivered = λ session. (updated now.site.pair.tallies.a queue (more_accepted A queue) other session).delivered }) now.queues.b
-  others_A queue lane among same =
-      side_same devs plan k B _ _ _ _ _ (view_of now.site.pair B) _ now.queues.b
-      (λ other.
-      two_same (λ r d. record (view_of now.site.pair B other) { receives = r; delivered = d }) (updated_same receiver_of now.site.pair.lanes.a queue lane same other)
-      (updated_same (λ (tally : ℕ → Tally). λ session. (tally session).delivered) now.site.pair.tallies.a queue (more_accepted A queue)
-      (same_at (updated_same (λ (tally : Tally). tally.delivered) (now.site.pair.tallies.a queue) now.site.pair.link.session (one_accepted A queue) refl)) other)) (now.sides B)
+  -- the pair once a frame was begun
+  begin_ok : (side : Side) (queue : ℕ) (first : Entry) (others : List Entry) → queue < (side_plan plan side).queues → has_forgotten now.site.pair.link side ≡ false → SizesFit plan → AllByRecursion (FitsSlot plan side queue) (first ∷ others)
+      → PairStands devs plan k (record now.site { pair = counts_accepted (with_lane now.site.pair side queue (lane_with side queue first others ((lane_of now.site.pair side queue).told + 1))) side queue })
+      (with_queue (kept now) side queue (accepted_part side queue first others))
+  begin_ok side queue first others among fresh fits all =
+      let h = (now.sides side).queues queue among in
+      sender_changes now side queue (first ∷ []) (accepted_part side queue first others) among (none_closes now.site.pair.sides side (other_side side) queue)
+      (changes now.site.pair.lanes side queue (lane_with side queue first others ((lane_of now.site.pair side queue).told + 1))) (stays now.site.pair.devs side (other_side side) queue)
+      (changes now.site.pair.tallies side queue (more_accepted side queue)) refl refl (none_delivered side queue)
+      (begins side queue first others ((lane_of now.site.pair side queue).told + 1) (has_bit (side_of now.site.pair side).closed queue) (has_bit (side_of now.site.pair side).closed queue) (part now side queue).flow (part now side queue).counters
+      (one_more (part now side queue).accepted now.site.pair.link.session) (dev_of now.site.pair side queue) (λ session. (more_accepted side queue session).accepted) among fresh fits all.0 all.1 refl h.stopped refl refl h.counters (counts_one side queue among))
 
-  -- the sides once a frame was begun
-  begin_ok_A : (queue : ℕ) (first : Entry) (others : List Entry) → queue < plan.a.queues → has_forgotten now.site.pair.link A ≡ false → SizesFit plan → AllByRecursion (FitsSlot plan A queue) (first ∷ others)
-      → PairStands devs plan k (record now.site { pair = counts_accepted (with_lane now.site.pair A queue (lane_with A queue first others ((now.site.pair.lanes.a queue).told + 1))) A queue })
-      (with_queue (kept now) A queue (accepted_part A queue first others))
-  begin_ok_A queue first others among fresh fits all =
-      let lane = lane_with A queue first others ((now.site.pair.lanes.a queue).told + 1) in
-      record {
-        bridge = bridge_same plan now.site.pair.link now.site.pair.sides (all_sent now.site.pair.lanes) (record { a = sent_of (updated now.site.pair.lanes.a queue lane); b = sent_of now.site.pair.lanes.b }) now.site.stores (sym (writes_grow plan A (sent_of now.site.pair.lanes.a) (sent_of (updated now.site.pair.lanes.a queue lane)) (grows_at now.site.pair.lanes.a queue lane (first ∷ []) refl) now.site.pair.sides.a.flight now.site.pair.sides.a.poked (now.sides A).in_flight.begun)) refl;
-        link = now.link;
-        sides =
-            by_side _ (side_at devs plan k A _ _ _ _ _ _ _ (view_of now.site.pair A) _ now.queues.a queue (accepted_part A queue first others) among
-            (λ other ne. two_same (λ (l : LanePart) (t : ℕ → Tally). record (view_of now.site.pair A other) { sends = sender_of l; accepted = λ session. (t session).accepted }) (updated_other now.site.pair.lanes.a queue lane other ne) (updated_other now.site.pair.tallies.a queue (more_accepted A queue) other ne))
-            (flight_grows plan A (sent_of now.site.pair.lanes.a) (sent_of (updated now.site.pair.lanes.a queue lane)) (grows_at now.site.pair.lanes.a queue lane (first ∷ []) refl) now.site.pair.sides.a.flight now.site.pair.sides.a.poked (is_down now.site.pair.link.state) (now.sides A).in_flight)
-            (subst (λ (v : QueueView). QueueStands devs plan k A queue (has_forgotten now.site.pair.link A) v (accepted_part A queue first others))
-            (sym (two_same (λ (l : LanePart) (t : ℕ → Tally). record (view_of now.site.pair A queue) { sends = sender_of l; accepted = λ session. (t session).accepted }) (updated_here now.site.pair.lanes.a queue lane) (updated_here now.site.pair.tallies.a queue (more_accepted A queue))))
-            (begins A queue first others ((now.site.pair.lanes.a queue).told + 1) (has_bit now.site.pair.sides.a.closed queue) (has_bit now.site.pair.sides.a.closed queue) (part now A queue).flow (part now A queue).counters (one_more (part now A queue).accepted now.site.pair.link.session) (now.site.pair.devs.a queue)
-            (λ session. (more_accepted A queue session).accepted) among fresh fits all.0 all.1 refl ((now.sides A).queues queue among).stopped refl refl ((now.sides A).queues queue among).counters (counts_one A queue among))) (now.sides A)) (others_A queue lane among refl);
-      }
+  begin_fresh : (side : Side) (queue : ℕ) (frame : List ℕ) (pieces : List Entry) (joined : Bool) → queue < (side_plan plan side).queues → has_forgotten now.site.pair.link side ≡ false → (joined ≡ true → SizesFit plan) → pieces_of (sizes_of plan side queue).largest frame ≡ pieces → AllByRecursion (FitsSlot plan side queue) pieces
+      → BeginAt side queue frame pieces joined (seen_word now side queue)
+  begin_fresh side queue frame [] joined among fresh fits is all = absurd (is_some_piece (sizes_of plan side queue).largest frame is)
+  begin_fresh side queue frame (first ∷ others) joined among fresh fits is all =
+      begin_core side queue frame (first ∷ others) _ _ _ joined _ _ (port_queue now side queue false) _ (port_new side queue (first ∷ others)) (is_queue now side queue false among fresh)
+      (λ yes. begin_ok side queue first others among fresh (fits yes) all)
+      (gates (length frame) (sizes_of plan side queue).most (head_in (sizes_of plan side queue) (lane_of now.site.pair side queue)) (seen_word now side queue) (lane_of now.site.pair side queue).told (port_queue now side queue false) (port_new side queue (first ∷ others))
+      (is_up now.site.pair.link.state) joined (has_bit (side_of now.site.pair side).closed queue) (is_long side queue frame) (is_lane_busy (lane_of now.site.pair side queue)) false (is_full side queue (needs side queue frame) (seen_word now side queue)))
 
-  begin_fresh_A : (queue : ℕ) (frame : List ℕ) (pieces : List Entry) (joined : Bool) → queue < plan.a.queues → has_forgotten now.site.pair.link A ≡ false → (joined ≡ true → SizesFit plan) → pieces_of (sizes_of plan A queue).largest frame ≡ pieces → AllByRecursion (FitsSlot plan A queue) pieces
-      → BeginAt A queue frame pieces joined (seen_word now A queue)
-  begin_fresh_A queue frame [] joined among fresh fits is all = absurd (is_some_piece (sizes_of plan A queue).largest frame is)
-  begin_fresh_A queue frame (first ∷ others) joined among fresh fits is all =
-      begin_core A queue frame (first ∷ others) _ _ _ joined _ _ (port_queue now A queue false) _ (port_new A queue (first ∷ others)) (is_queue now A queue false among fresh)
-      (λ yes. begin_ok_A queue first others among fresh (fits yes) all)
-      (gates (length frame) (sizes_of plan A queue).most (head_in (sizes_of plan A queue) (now.site.pair.lanes.a queue)) (seen_word now A queue) (now.site.pair.lanes.a queue).told (port_queue now A queue false) (port_new A queue (first ∷ others))
-      (is_up now.site.pair.link.state) joined (has_bit now.site.pair.sides.a.closed queue) (is_long A queue frame) (is_lane_busy (now.site.pair.lanes.a queue)) false (is_full A queue (needs A queue frame) (seen_word now A queue)))
+  -- the answer by whether the bridge has the queue joined
+  abbrev BeginSeen : Side → ℕ → List ℕ → Bool → Bool → Type 0
+  BeginSeen side queue frame forgotten joined =
+      let q = port_queue now side queue forgotten in
+      let refuses = side_says (is_up now.site.pair.link.state) joined q.closed in
+      Follows devs plan k now.site (Begin k side queue frame) (begin_step (sizes_of plan side queue) (reads now) now.site.pair side queue frame)
+      (begin_says side queue frame (of_begin (answer_unless refuses (port_begin_answer q.port (kept now).bridge (length frame)))) (port_unless refuses q (port_after_begin q.port (kept now).bridge frame)))
 
-  begin_by_A : (queue : ℕ) (frame : List ℕ) (forgotten : Bool) → queue < plan.a.queues → has_forgotten now.site.pair.link A ≡ forgotten → (has_bit now.site.pair.sides.a.joined queue ≡ true → SizesFit plan)
-      → Follows devs plan k now.site (Begin k A queue frame) (begin_step (sizes_of plan A queue) (reads now) now.site.pair A queue frame) (begin_with A queue frame (port_queue now A queue forgotten))
-  begin_by_A queue frame true among forgot fits =
-      subst (λ up. Follows devs plan k now.site (Begin k A queue frame)
-      (begin_made A queue frame (pieces_of (sizes_of plan A queue).largest frame)
-      (refusal_says up (has_bit now.site.pair.sides.a.joined queue) (has_bit now.site.pair.sides.a.closed queue) (is_long A queue frame) (is_lane_busy (now.site.pair.lanes.a queue)) false
-      (is_full A queue (needs A queue frame) ((reads now).index_word A queue)) (length frame) (sizes_of plan A queue).most (head_in (sizes_of plan A queue) (now.site.pair.lanes.a queue)) ((reads now).index_word A queue)))
-      (begin_says A queue frame
-      (of_begin (answer_unless (side_says up (has_bit now.site.pair.sides.a.joined queue) (has_bit now.site.pair.sides.a.closed queue)) (port_begin_answer (port_queue now A queue true).port (kept now).bridge (length frame))))
-      (port_unless (side_says up (has_bit now.site.pair.sides.a.joined queue) (has_bit now.site.pair.sides.a.closed queue)) (port_queue now A queue true) (port_after_begin (port_queue now A queue true).port (kept now).bridge frame))))
-      (sym (not_up A forgot)) (refl, unchanged now A queue (port_queue now A queue true) (is_queue now A queue true among forgot))
-  begin_by_A queue frame false among fresh fits =
-      begin_read A queue frame (pieces_of (sizes_of plan A queue).largest frame) (has_bit now.site.pair.sides.a.joined queue)
-      (λ joined. same_word plan now.site now.pages now.spare A queue now.declared among (own_fits plan (fits joined) A))
-      (begin_fresh_A queue frame (pieces_of (sizes_of plan A queue).largest frame) (has_bit now.site.pair.sides.a.joined queue) among fresh fits refl (pieces_fit (sizes_of plan A queue).largest frame))
-
-  -- the other side, where a lane of this one has other entries and another tally
-  others_B : (queue : ℕ) (lane : LanePart) → queue < plan.b.queues → receiver_of lane ≡ receiver_of (now.site.pair.lanes.b queue)
-      → SideStands devs plan k A (is_down now.site.pair.link.state) (has_forgotten now.site.pair.link A) now.site.pair.sides.a.joined now.site.pair.sides.a.flight now.site.pair.sides.a.poked
-      (λ other. record (view_of now.site.pair A other) { receives = receiver_of (updated now.site.pair.lanes.b queue lane other); delivered = λ session. (updated now.site.pair.tallies.b queue (more_accepted B queue) other session).delivered }) now.queues.a
-  others_B queue lane among same =
-      side_same devs plan k A _ _ _ _ _ (view_of now.site.pair A) _ now.queues.a
-      (λ other.
-      two_same (λ r d. record (view_of now.site.pair A other) { receives = r; delivered = d }) (updated_same receiver_of now.site.pair.lanes.b queue lane same other)
-      (updated_same (λ (tally : ℕ → Tally). λ session. (tally session).delivered) now.site.pair.tallies.b queue (more_accepted B queue)
-      (same_at (updated_same (λ (tally : Tally). tally.delivered) (now.site.pair.tallies.b queue) now.site.pair.link.session (one_accepted B queue) refl)) other)) (now.sides A)
-
-  -- the sides once a frame was begun
-  begin_ok_B : (queue : ℕ) (first : Entry) (others : List Entry) → queue < plan.b.queues → has_forgotten now.site.pair.link B ≡ false → SizesFit plan → AllByRecursion (FitsSlot plan B queue) (first ∷ others)
-      → PairStands devs plan k (record now.site { pair = counts_accepted (with_lane now.site.pair B queue (lane_with B queue first others ((now.site.pair.lanes.b queue).told + 1))) B queue })
-      (with_queue (kept now) B queue (accepted_part B queue first others))
-  begin_ok_B queue first others among fresh fits all =
-      let lane = lane_with B queue first others ((now.site.pair.lanes.b queue).told + 1) in
-      record {
-        bridge = bridge_same plan now.site.pair.link now.site.pair.sides (all_sent now.site.pair.lanes) (record { a = sent_of now.site.pair.lanes.a; b = sent_of (updated now.site.pair.lanes.b queue lane) }) now.site.stores refl (sym (writes_grow plan B (sent_of now.site.pair.lanes.b) (sent_of (updated now.site.pair.lanes.b queue lane)) (grows_at now.site.pair.lanes.b queue lane (first ∷ []) refl) now.site.pair.sides.b.flight now.site.pair.sides.b.poked (now.sides B).in_flight.begun));
-        link = now.link;
-        sides =
-            by_side _ (others_B queue lane among refl) (side_at devs plan k B _ _ _ _ _ _ _ (view_of now.site.pair B) _ now.queues.b queue (accepted_part B queue first others) among
-            (λ other ne. two_same (λ (l : LanePart) (t : ℕ → Tally). record (view_of now.site.pair B other) { sends = sender_of l; accepted = λ session. (t session).accepted }) (updated_other now.site.pair.lanes.b queue lane other ne) (updated_other now.site.pair.tallies.b queue (more_accepted B queue) other ne))
-            (flight_grows plan B (sent_of now.site.pair.lanes.b) (sent_of (updated now.site.pair.lanes.b queue lane)) (grows_at now.site.pair.lanes.b queue lane (first ∷ []) refl) now.site.pair.sides.b.flight now.site.pair.sides.b.poked (is_down now.site.pair.link.state) (now.sides B).in_flight)
-            (subst (λ (v : QueueView). QueueStands devs plan k B queue (has_forgotten now.site.pair.link B) v (accepted_part B queue first others))
-            (sym (two_same (λ (l : LanePart) (t : ℕ → Tally). record (view_of now.site.pair B queue) { sends = sender_of l; accepted = λ session. (t session).accepted }) (updated_here now.site.pair.lanes.b queue lane) (updated_here now.site.pair.tallies.b queue (more_accepted B queue))))
-            (begins B queue first others ((now.site.pair.lanes.b queue).told + 1) (has_bit now.site.pair.sides.b.closed queue) (has_bit now.site.pair.sides.b.closed queue) (part now B queue).flow (part now B queue).counters (one_more (part now B queue).accepted now.site.pair.link.session) (now.site.pair.devs.b queue)
-            (λ session. (more_accepted B queue session).accepted) among fresh fits all.0 all.1 refl ((now.sides B).queues queue among).stopped refl refl ((now.sides B).queues queue among).counters (counts_one B queue among))) (now.sides B));
-      }
-
-  begin_fresh_B : (queue : ℕ) (frame : List ℕ) (pieces : List Entry) (joined : Bool) → queue < plan.b.queues → has_forgotten now.site.pair.link B ≡ false → (joined ≡ true → SizesFit plan) → pieces_of (sizes_of plan B queue).largest frame ≡ pieces → AllByRecursion (FitsSlot plan B queue) pieces
-      → BeginAt B queue frame pieces joined (seen_word now B queue)
-  begin_fresh_B queue frame [] joined among fresh fits is all = absurd (is_some_piece (sizes_of plan B queue).largest frame is)
-  begin_fresh_B queue frame (first ∷ others) joined among fresh fits is all =
-      begin_core B queue frame (first ∷ others) _ _ _ joined _ _ (port_queue now B queue false) _ (port_new B queue (first ∷ others)) (is_queue now B queue false among fresh)
-      (λ yes. begin_ok_B queue first others among fresh (fits yes) all)
-      (gates (length frame) (sizes_of plan B queue).most (head_in (sizes_of plan B queue) (now.site.pair.lanes.b queue)) (seen_word now B queue) (now.site.pair.lanes.b queue).told (port_queue now B queue false) (port_new B queue (first ∷ others))
-      (is_up now.site.pair.link.state) joined (has_bit now.site.pair.sides.b.closed queue) (is_long B queue frame) (is_lane_busy (now.site.pair.lanes.b queue)) false (is_full B queue (needs B queue frame) (seen_word now B queue)))
-
-  begin_by_B : (queue : ℕ) (frame : List ℕ) (forgotten : Bool) → queue < plan.b.queues → has_forgotten now.site.pair.link B ≡ forgotten → (has_bit now.site.pair.sides.b.joined queue ≡ true → SizesFit plan)
-      → Follows devs plan k now.site (Begin k B queue frame) (begin_step (sizes_of plan B queue) (reads now) now.site.pair B queue frame) (begin_with B queue frame (port_queue now B queue forgotten))
-  begin_by_B queue frame true among forgot fits =
-      subst (λ up. Follows devs plan k now.site (Begin k B queue frame)
-      (begin_made B queue frame (pieces_of (sizes_of plan B queue).largest frame)
-      (refusal_says up (has_bit now.site.pair.sides.b.joined queue) (has_bit now.site.pair.sides.b.closed queue) (is_long B queue frame) (is_lane_busy (now.site.pair.lanes.b queue)) false
-      (is_full B queue (needs B queue frame) ((reads now).index_word B queue)) (length frame) (sizes_of plan B queue).most (head_in (sizes_of plan B queue) (now.site.pair.lanes.b queue)) ((reads now).index_word B queue)))
-      (begin_says B queue frame
-      (of_begin (answer_unless (side_says up (has_bit now.site.pair.sides.b.joined queue) (has_bit now.site.pair.sides.b.closed queue)) (port_begin_answer (port_queue now B queue true).port (kept now).bridge (length frame))))
-      (port_unless (side_says up (has_bit now.site.pair.sides.b.joined queue) (has_bit now.site.pair.sides.b.closed queue)) (port_queue now B queue true) (port_after_begin (port_queue now B queue true).port (kept now).bridge frame))))
-      (sym (not_up B forgot)) (refl, unchanged now B queue (port_queue now B queue true) (is_queue now B queue true among forgot))
-  begin_by_B queue frame false among fresh fits =
-      begin_read B queue frame (pieces_of (sizes_of plan B queue).largest frame) (has_bit now.site.pair.sides.b.joined queue)
-      (λ joined. same_word plan now.site now.pages now.spare B queue now.declared among (own_fits plan (fits joined) B))
-      (begin_fresh_B queue frame (pieces_of (sizes_of plan B queue).largest frame) (has_bit now.site.pair.sides.b.joined queue) among fresh fits refl (pieces_fit (sizes_of plan B queue).largest frame))
+  begin_by : (side : Side) (queue : ℕ) (frame : List ℕ) (forgotten : Bool) → queue < (side_plan plan side).queues → has_forgotten now.site.pair.link side ≡ forgotten → (has_bit (side_of now.site.pair side).joined queue ≡ true → SizesFit plan)
+      → Follows devs plan k now.site (Begin k side queue frame) (begin_step (sizes_of plan side queue) (reads now) now.site.pair side queue frame) (begin_with side queue frame (port_queue now side queue forgotten))
+  begin_by side queue frame true among forgot fits =
+      subst (BeginSeen side queue frame true) (sym (joined_is now side queue))
+      (subst (λ up. Follows devs plan k now.site (Begin k side queue frame)
+      (begin_made side queue frame (pieces_of (sizes_of plan side queue).largest frame)
+      (refusal_says up (has_bit (side_of now.site.pair side).joined queue) (has_bit (side_of now.site.pair side).closed queue) (is_long side queue frame) (is_lane_busy (lane_of now.site.pair side queue)) false
+      (is_full side queue (needs side queue frame) ((reads now).index_word side queue)) (length frame) (sizes_of plan side queue).most (head_in (sizes_of plan side queue) (lane_of now.site.pair side queue)) ((reads now).index_word side queue)))
+      (begin_says side queue frame
+      (of_begin (answer_unless (side_says up (has_bit (side_of now.site.pair side).joined queue) (has_bit (side_of now.site.pair side).closed queue)) (port_begin_answer (port_queue now side queue true).port (kept now).bridge (length frame))))
+      (port_unless (side_says up (has_bit (side_of now.site.pair side).joined queue) (has_bit (side_of now.site.pair side).closed queue)) (port_queue now side queue true) (port_after_begin (port_queue now side queue true).port (kept now).bridge frame))))
+      (sym (not_up side forgot)) (refl, as_it_was now side queue true among forgot))
+  begin_by side queue frame false among fresh fits =
+      subst (BeginSeen side queue frame false) (sym (joined_is now side queue))
+      (begin_read side queue frame (pieces_of (sizes_of plan side queue).largest frame) (has_bit (side_of now.site.pair side).joined queue)
+      (λ joined. same_word plan now.site now.pages now.spare side queue now.declared among (own_fits plan (fits joined) side))
+      (begin_fresh side queue frame (pieces_of (sizes_of plan side queue).largest frame) (has_bit (side_of now.site.pair side).joined queue) among fresh fits refl (pieces_fit (sizes_of plan side queue).largest frame)))
 
   pub begin_follows : (side : Side) (queue : ℕ) (frame : List ℕ) → queue < (side_plan plan side).queues → (has_bit (side_of now.site.pair side).joined queue ≡ true → SizesFit plan)
       → Follows devs plan k now.site (Begin k side queue frame) (begin_step (sizes_of plan side queue) (reads now) now.site.pair side queue frame) (begin_move (kept now) side queue frame)
-  begin_follows A queue frame among fits =
-      subst (λ (q : QueueState). Follows devs plan k now.site (Begin k A queue frame) (begin_step (sizes_of plan A queue) (reads now) now.site.pair A queue frame) (begin_with A queue frame q)) (sym (is_queue now A queue (has_forgotten now.site.pair.link A) among refl))
-      (begin_by_A queue frame (has_forgotten now.site.pair.link A) among refl fits)
-  begin_follows B queue frame among fits =
-      subst (λ (q : QueueState). Follows devs plan k now.site (Begin k B queue frame) (begin_step (sizes_of plan B queue) (reads now) now.site.pair B queue frame) (begin_with B queue frame q)) (sym (is_queue now B queue (has_forgotten now.site.pair.link B) among refl))
-      (begin_by_B queue frame (has_forgotten now.site.pair.link B) among refl fits)
+  begin_follows side queue frame among fits =
+      by_queue now side queue (λ (q : QueueState). Follows devs plan k now.site (Begin k side queue frame) (begin_step (sizes_of plan side queue) (reads now) now.site.pair side queue frame) (begin_with side queue frame q)) among
+      (λ forgotten forgot. begin_by side queue frame forgotten among forgot fits)
 
   -- A link-down entry
 
@@ -355,90 +275,50 @@ module _ {devs : List DevPlan} {plan : PairPlan} {k : ℕ} (now : Standing devs 
   no_payload : (side : Side) (queue : ℕ) → FitsSlot plan side queue GoesDown
   no_payload side queue = omega arith
 
-  down_ok_A : (queue : ℕ) → queue < plan.a.queues → has_forgotten now.site.pair.link A ≡ false → SizesFit plan
-      → DownCore A queue None (answer.OkNumber (now.site.pair.lanes.a queue).told) (IsBegun (now.site.pair.lanes.a queue).told) (with_port (port_queue now A queue false) (port_with A queue GoesDown [] (now.site.pair.lanes.a queue).told))
-  down_ok_A queue among fresh fits =
-      let lane = lane_with A queue GoesDown [] (now.site.pair.lanes.a queue).told in (
+  down_ok : (side : Side) (queue : ℕ) → queue < (side_plan plan side).queues → has_forgotten now.site.pair.link side ≡ false → SizesFit plan
+      → DownCore side queue None (answer.OkNumber (lane_of now.site.pair side queue).told) (IsBegun (lane_of now.site.pair side queue).told) (with_port (port_queue now side queue false) (port_with side queue GoesDown [] (lane_of now.site.pair side queue).told))
+  down_ok side queue among fresh fits =
+      let h = (now.sides side).queues queue among in (
         refl,
-        record {
-          bridge = bridge_same plan now.site.pair.link now.site.pair.sides (all_sent now.site.pair.lanes) (record { a = sent_of (updated now.site.pair.lanes.a queue lane); b = sent_of now.site.pair.lanes.b }) now.site.stores (sym (writes_grow plan A (sent_of now.site.pair.lanes.a) (sent_of (updated now.site.pair.lanes.a queue lane)) (grows_at now.site.pair.lanes.a queue lane (GoesDown ∷ []) refl) now.site.pair.sides.a.flight now.site.pair.sides.a.poked (now.sides A).in_flight.begun)) refl;
-          link = now.link;
-          sides =
-              by_side _ (side_at devs plan k A _ _ _ _ _ _ _ (view_of now.site.pair A) _ now.queues.a queue (down_part A queue) among
-              (λ other ne. two_same (λ (l : LanePart) (c : Bool). record (view_of now.site.pair A other) { sends = sender_of l; closed = c }) (updated_other now.site.pair.lanes.a queue lane other ne) (has-with_other now.site.pair.sides.a.closed queue other ne))
-              (flight_grows plan A (sent_of now.site.pair.lanes.a) (sent_of (updated now.site.pair.lanes.a queue lane)) (grows_at now.site.pair.lanes.a queue lane (GoesDown ∷ []) refl) now.site.pair.sides.a.flight now.site.pair.sides.a.poked (is_down now.site.pair.link.state) (now.sides A).in_flight)
-              (subst (λ (v : QueueView). QueueStands devs plan k A queue (has_forgotten now.site.pair.link A) v (down_part A queue))
-              (sym (ap (λ (l : LanePart). record (view_of now.site.pair A queue) { sends = sender_of l; closed = has_bit (with_bit now.site.pair.sides.a.closed queue) queue }) (updated_here now.site.pair.lanes.a queue lane)))
-              (begins A queue GoesDown [] (now.site.pair.lanes.a queue).told true (has_bit (with_bit now.site.pair.sides.a.closed queue) queue) (part now A queue).flow (part now A queue).counters (part now A queue).accepted (now.site.pair.devs.a queue)
-              (λ session. (now.site.pair.tallies.a queue session).accepted) among fresh fits (no_payload A queue) tt (sym (has-with_same now.site.pair.sides.a.closed queue)) ((now.sides A).queues queue among).stopped refl refl ((now.sides A).queues queue among).counters ((now.sides A).queues queue among).accepted)) (now.sides A)) (side_same devs plan k B _ _ _ _ _ (view_of now.site.pair B) _ now.queues.b
-              (λ other. ap (λ r. record (view_of now.site.pair B other) { receives = r }) (updated_same receiver_of now.site.pair.lanes.a queue lane refl other)) (now.sides B));
-        },
+        sender_changes now side queue (GoesDown ∷ []) (down_part side queue) among (one_closes now.site.pair.sides side queue) (changes now.site.pair.lanes side queue (lane_with side queue GoesDown [] (lane_of now.site.pair side queue).told))
+            (stays now.site.pair.devs side (other_side side) queue) (stays now.site.pair.tallies side (other_side side) queue) refl refl (λ session. refl)
+            (begins side queue GoesDown [] (lane_of now.site.pair side queue).told true true (part now side queue).flow (part now side queue).counters (part now side queue).accepted (dev_of now.site.pair side queue)
+            (λ session. (tally_of now.site.pair side queue session).accepted) among fresh fits (no_payload side queue) tt refl h.stopped refl refl h.counters h.accepted),
       )
 
-  down_by_A : (queue : ℕ) (forgotten : Bool) → queue < plan.a.queues → has_forgotten now.site.pair.link A ≡ forgotten → (has_bit now.site.pair.sides.a.joined queue ≡ true → SizesFit plan)
-      → Follows devs plan k now.site (QpDown k A queue) (qpdown_step (sizes_of plan A queue) (reads now) now.site.pair A queue) (down_with A queue (port_queue now A queue forgotten))
-  down_by_A queue true among forgot fits =
-      subst (λ up. Follows devs plan k now.site (QpDown k A queue)
-      (down_made A queue
-      (refusal_says up (has_bit now.site.pair.sides.a.joined queue) (has_bit now.site.pair.sides.a.closed queue) false (is_lane_busy (now.site.pair.lanes.a queue)) false (is_full A queue 1 ((reads now).index_word A queue)) 0 (sizes_of plan A queue).most
-      (head_in (sizes_of plan A queue) (now.site.pair.lanes.a queue)) ((reads now).index_word A queue)))
-      (down_says A queue (of_begin (answer_unless (side_says up (has_bit now.site.pair.sides.a.joined queue) (has_bit now.site.pair.sides.a.closed queue)) (down_answer (port_queue now A queue true).port (kept now).bridge)))
-      (closed_where_begun (answer_unless (side_says up (has_bit now.site.pair.sides.a.joined queue) (has_bit now.site.pair.sides.a.closed queue)) (down_answer (port_queue now A queue true).port (kept now).bridge))
-      (port_unless (side_says up (has_bit now.site.pair.sides.a.joined queue) (has_bit now.site.pair.sides.a.closed queue)) (port_queue now A queue true) (after_down (port_queue now A queue true).port (kept now).bridge)))))
-      (sym (not_up A forgot)) (refl, unchanged now A queue (port_queue now A queue true) (is_queue now A queue true among forgot))
-  down_by_A queue false among fresh fits =
-      down_read A queue (has_bit now.site.pair.sides.a.joined queue) (λ joined. same_word plan now.site now.pages now.spare A queue now.declared among (own_fits plan (fits joined) A))
-      (down_core A queue _ _ _ (has_bit now.site.pair.sides.a.joined queue) _ _ (port_queue now A queue false) _ (port_with A queue GoesDown [] (now.site.pair.lanes.a queue).told) (is_queue now A queue false among fresh)
-      (λ joined. down_ok_A queue among fresh (fits joined))
-      (gates 0 (sizes_of plan A queue).most (head_in (sizes_of plan A queue) (now.site.pair.lanes.a queue)) (seen_word now A queue) (now.site.pair.lanes.a queue).told (port_queue now A queue false) (port_with A queue GoesDown [] (now.site.pair.lanes.a queue).told)
-      (is_up now.site.pair.link.state) (has_bit now.site.pair.sides.a.joined queue) (has_bit now.site.pair.sides.a.closed queue) false (is_lane_busy (now.site.pair.lanes.a queue)) false (is_full A queue 1 (seen_word now A queue))))
+  abbrev DownSeen : Side → ℕ → Bool → Bool → Type 0
+  DownSeen side queue forgotten joined =
+      let q = port_queue now side queue forgotten in
+      let refuses = side_says (is_up now.site.pair.link.state) joined q.closed in
+      let begun = answer_unless refuses (down_answer q.port (kept now).bridge) in
+      Follows devs plan k now.site (QpDown k side queue) (qpdown_step (sizes_of plan side queue) (reads now) now.site.pair side queue)
+      (down_says side queue (of_begin begun) (closed_where_begun begun (port_unless refuses q (after_down q.port (kept now).bridge))))
 
-  down_ok_B : (queue : ℕ) → queue < plan.b.queues → has_forgotten now.site.pair.link B ≡ false → SizesFit plan
-      → DownCore B queue None (answer.OkNumber (now.site.pair.lanes.b queue).told) (IsBegun (now.site.pair.lanes.b queue).told) (with_port (port_queue now B queue false) (port_with B queue GoesDown [] (now.site.pair.lanes.b queue).told))
-  down_ok_B queue among fresh fits =
-      let lane = lane_with B queue GoesDown [] (now.site.pair.lanes.b queue).told in (
-        refl,
-        record {
-          bridge = bridge_same plan now.site.pair.link now.site.pair.sides (all_sent now.site.pair.lanes) (record { a = sent_of now.site.pair.lanes.a; b = sent_of (updated now.site.pair.lanes.b queue lane) }) now.site.stores refl (sym (writes_grow plan B (sent_of now.site.pair.lanes.b) (sent_of (updated now.site.pair.lanes.b queue lane)) (grows_at now.site.pair.lanes.b queue lane (GoesDown ∷ []) refl) now.site.pair.sides.b.flight now.site.pair.sides.b.poked (now.sides B).in_flight.begun));
-          link = now.link;
-          sides =
-              by_side _ (side_same devs plan k A _ _ _ _ _ (view_of now.site.pair A) _ now.queues.a
-              (λ other. ap (λ r. record (view_of now.site.pair A other) { receives = r }) (updated_same receiver_of now.site.pair.lanes.b queue lane refl other)) (now.sides A)) (side_at devs plan k B _ _ _ _ _ _ _ (view_of now.site.pair B) _ now.queues.b queue (down_part B queue) among
-              (λ other ne. two_same (λ (l : LanePart) (c : Bool). record (view_of now.site.pair B other) { sends = sender_of l; closed = c }) (updated_other now.site.pair.lanes.b queue lane other ne) (has-with_other now.site.pair.sides.b.closed queue other ne))
-              (flight_grows plan B (sent_of now.site.pair.lanes.b) (sent_of (updated now.site.pair.lanes.b queue lane)) (grows_at now.site.pair.lanes.b queue lane (GoesDown ∷ []) refl) now.site.pair.sides.b.flight now.site.pair.sides.b.poked (is_down now.site.pair.link.state) (now.sides B).in_flight)
-              (subst (λ (v : QueueView). QueueStands devs plan k B queue (has_forgotten now.site.pair.link B) v (down_part B queue))
-              (sym (ap (λ (l : LanePart). record (view_of now.site.pair B queue) { sends = sender_of l; closed = has_bit (with_bit now.site.pair.sides.b.closed queue) queue }) (updated_here now.site.pair.lanes.b queue lane)))
-              (begins B queue GoesDown [] (now.site.pair.lanes.b queue).told true (has_bit (with_bit now.site.pair.sides.b.closed queue) queue) (part now B queue).flow (part now B queue).counters (part now B queue).accepted (now.site.pair.devs.b queue)
-              (λ session. (now.site.pair.tallies.b queue session).accepted) among fresh fits (no_payload B queue) tt (sym (has-with_same now.site.pair.sides.b.closed queue)) ((now.sides B).queues queue among).stopped refl refl ((now.sides B).queues queue among).counters ((now.sides B).queues queue among).accepted)) (now.sides B));
-        },
-      )
-
-  down_by_B : (queue : ℕ) (forgotten : Bool) → queue < plan.b.queues → has_forgotten now.site.pair.link B ≡ forgotten → (has_bit now.site.pair.sides.b.joined queue ≡ true → SizesFit plan)
-      → Follows devs plan k now.site (QpDown k B queue) (qpdown_step (sizes_of plan B queue) (reads now) now.site.pair B queue) (down_with B queue (port_queue now B queue forgotten))
-  down_by_B queue true among forgot fits =
-      subst (λ up. Follows devs plan k now.site (QpDown k B queue)
-      (down_made B queue
-      (refusal_says up (has_bit now.site.pair.sides.b.joined queue) (has_bit now.site.pair.sides.b.closed queue) false (is_lane_busy (now.site.pair.lanes.b queue)) false (is_full B queue 1 ((reads now).index_word B queue)) 0 (sizes_of plan B queue).most
-      (head_in (sizes_of plan B queue) (now.site.pair.lanes.b queue)) ((reads now).index_word B queue)))
-      (down_says B queue (of_begin (answer_unless (side_says up (has_bit now.site.pair.sides.b.joined queue) (has_bit now.site.pair.sides.b.closed queue)) (down_answer (port_queue now B queue true).port (kept now).bridge)))
-      (closed_where_begun (answer_unless (side_says up (has_bit now.site.pair.sides.b.joined queue) (has_bit now.site.pair.sides.b.closed queue)) (down_answer (port_queue now B queue true).port (kept now).bridge))
-      (port_unless (side_says up (has_bit now.site.pair.sides.b.joined queue) (has_bit now.site.pair.sides.b.closed queue)) (port_queue now B queue true) (after_down (port_queue now B queue true).port (kept now).bridge)))))
-      (sym (not_up B forgot)) (refl, unchanged now B queue (port_queue now B queue true) (is_queue now B queue true among forgot))
-  down_by_B queue false among fresh fits =
-      down_read B queue (has_bit now.site.pair.sides.b.joined queue) (λ joined. same_word plan now.site now.pages now.spare B queue now.declared among (own_fits plan (fits joined) B))
-      (down_core B queue _ _ _ (has_bit now.site.pair.sides.b.joined queue) _ _ (port_queue now B queue false) _ (port_with B queue GoesDown [] (now.site.pair.lanes.b queue).told) (is_queue now B queue false among fresh)
-      (λ joined. down_ok_B queue among fresh (fits joined))
-      (gates 0 (sizes_of plan B queue).most (head_in (sizes_of plan B queue) (now.site.pair.lanes.b queue)) (seen_word now B queue) (now.site.pair.lanes.b queue).told (port_queue now B queue false) (port_with B queue GoesDown [] (now.site.pair.lanes.b queue).told)
-      (is_up now.site.pair.link.state) (has_bit now.site.pair.sides.b.joined queue) (has_bit now.site.pair.sides.b.closed queue) false (is_lane_busy (now.site.pair.lanes.b queue)) false (is_full B queue 1 (seen_word now B queue))))
+  down_by : (side : Side) (queue : ℕ) (forgotten : Bool) → queue < (side_plan plan side).queues → has_forgotten now.site.pair.link side ≡ forgotten → (has_bit (side_of now.site.pair side).joined queue ≡ true → SizesFit plan)
+      → Follows devs plan k now.site (QpDown k side queue) (qpdown_step (sizes_of plan side queue) (reads now) now.site.pair side queue) (down_with side queue (port_queue now side queue forgotten))
+  down_by side queue true among forgot fits =
+      subst (DownSeen side queue true) (sym (joined_is now side queue))
+      (subst (λ up. Follows devs plan k now.site (QpDown k side queue)
+      (down_made side queue
+      (refusal_says up (has_bit (side_of now.site.pair side).joined queue) (has_bit (side_of now.site.pair side).closed queue) false (is_lane_busy (lane_of now.site.pair side queue)) false (is_full side queue 1 ((reads now).index_word side queue)) 0 (sizes_of plan side queue).most
+      (head_in (sizes_of plan side queue) (lane_of now.site.pair side queue)) ((reads now).index_word side queue)))
+      (down_says side queue (of_begin (answer_unless (side_says up (has_bit (side_of now.site.pair side).joined queue) (has_bit (side_of now.site.pair side).closed queue)) (down_answer (port_queue now side queue true).port (kept now).bridge)))
+      (closed_where_begun (answer_unless (side_says up (has_bit (side_of now.site.pair side).joined queue) (has_bit (side_of now.site.pair side).closed queue)) (down_answer (port_queue now side queue true).port (kept now).bridge))
+      (port_unless (side_says up (has_bit (side_of now.site.pair side).joined queue) (has_bit (side_of now.site.pair side).closed queue)) (port_queue now side queue true) (after_down (port_queue now side queue true).port (kept now).bridge)))))
+      (sym (not_up side forgot)) (refl, as_it_was now side queue true among forgot))
+  down_by side queue false among fresh fits =
+      subst (DownSeen side queue false) (sym (joined_is now side queue))
+      (down_read side queue (has_bit (side_of now.site.pair side).joined queue) (λ joined. same_word plan now.site now.pages now.spare side queue now.declared among (own_fits plan (fits joined) side))
+      (down_core side queue _ _ _ (has_bit (side_of now.site.pair side).joined queue) _ _ (port_queue now side queue false) _ (port_with side queue GoesDown [] (lane_of now.site.pair side queue).told) (is_queue now side queue false among fresh)
+      (λ joined. down_ok side queue among fresh (fits joined))
+      (gates 0 (sizes_of plan side queue).most (head_in (sizes_of plan side queue) (lane_of now.site.pair side queue)) (seen_word now side queue) (lane_of now.site.pair side queue).told (port_queue now side queue false) (port_with side queue GoesDown [] (lane_of now.site.pair side queue).told)
+      (is_up now.site.pair.link.state) (has_bit (side_of now.site.pair side).joined queue) (has_bit (side_of now.site.pair side).closed queue) false (is_lane_busy (lane_of now.site.pair side queue)) false (is_full side queue 1 (seen_word now side queue)))))
 
   pub qpdown_follows : (side : Side) (queue : ℕ) → queue < (side_plan plan side).queues → (has_bit (side_of now.site.pair side).joined queue ≡ true → SizesFit plan)
       → Follows devs plan k now.site (QpDown k side queue) (qpdown_step (sizes_of plan side queue) (reads now) now.site.pair side queue) (qpdown_move (kept now) side queue)
-  qpdown_follows A queue among fits =
-      subst (λ (q : QueueState). Follows devs plan k now.site (QpDown k A queue) (qpdown_step (sizes_of plan A queue) (reads now) now.site.pair A queue) (down_with A queue q)) (sym (is_queue now A queue (has_forgotten now.site.pair.link A) among refl))
-      (down_by_A queue (has_forgotten now.site.pair.link A) among refl fits)
-  qpdown_follows B queue among fits =
-      subst (λ (q : QueueState). Follows devs plan k now.site (QpDown k B queue) (qpdown_step (sizes_of plan B queue) (reads now) now.site.pair B queue) (down_with B queue q)) (sym (is_queue now B queue (has_forgotten now.site.pair.link B) among refl))
-      (down_by_B queue (has_forgotten now.site.pair.link B) among refl fits)
+  qpdown_follows side queue among fits =
+      by_queue now side queue (λ (q : QueueState). Follows devs plan k now.site (QpDown k side queue) (qpdown_step (sizes_of plan side queue) (reads now) now.site.pair side queue) (down_with side queue q)) among
+      (λ forgotten forgot. down_by side queue forgotten among forgot fits)
 
   -- A device's frame
 
@@ -480,24 +360,13 @@ module _ {devs : List DevPlan} {plan : PairPlan} {k : ℕ} (now : Standing devs 
   abbrev device_says : Side → ℕ → List ℕ → Answer → QueueState → QueueState → Move
   device_says side queue frame said q after = record { answer = said; after = with_queue (kept now) side queue (device_part side queue frame said q after) }
 
-  refused_stands : (side : Side) (queue : ℕ) → queue < (side_plan plan side).queues
-      → QueueStands devs plan k side queue (has_forgotten now.site.pair.link side) (record (view_of now.site.pair side queue) { dev = refused_dev side queue }) (record (part now side queue) { counters = count_refused (part now side queue).counters })
-  refused_stands side queue among =
+  refused : (side : Side) (queue : ℕ) (forgotten : Bool) → queue < (side_plan plan side).queues → has_forgotten now.site.pair.link side ≡ forgotten
+      → PairStands devs plan k (record now.site { pair = counts_refused now.site.pair side queue }) (with_queue (kept now) side queue (record (part_with now side queue (port_queue now side queue forgotten)) { counters = count_refused (part now side queue).counters }))
+  refused side queue forgotten among is =
       let h = (now.sides side).queues queue among in
-      record {
-        port = h.port ∙ other_dev plan side queue (has_forgotten now.site.pair.link side) (view_of now.site.pair side queue) (refused_dev side queue) (part now side queue).queue.port.sending.entry;
-        entry = h.entry;
-        closed = h.closed;
-        stopped = h.stopped;
-        limits = h.limits;
-        counters = ap count_refused h.counters;
-        accepted = h.accepted;
-        delivered = h.delivered;
-        sending = h.sending;
-        receiving = h.receiving;
-        forgets = h.forgets;
-        stops = h.stops;
-      }
+      subst (λ (q : QueueState). PairStands devs plan k (record now.site { pair = counts_refused now.site.pair side queue }) (with_queue (kept now) side queue (record (part_with now side queue q) { counters = count_refused (part now side queue).counters })))
+      (is_queue now side queue forgotten among is)
+      (device_changes now side queue (part now side queue).flow.stopped (count_refused (part now side queue).counters) (refused_dev side queue) among h.stopped (ap count_refused h.counters) (λ forgot. (h.forgets forgot).goes_on) h.stops)
 
   abbrev stopped_then : Bool → ℕ → ℕ → Bool
   stopped_then stopped free stop = stopped || nat_lt free stop
@@ -539,191 +408,86 @@ module _ {devs : List DevPlan} {plan : PairPlan} {k : ℕ} (now : Standing devs 
     device_with side queue stopped q =
         device_says side queue frame (of_xbegin stopped (begin_answer q (kept now).bridge (length frame))) q (after_begin q (kept now).bridge frame)
 
-    abbrev sent_part_A : ℕ → Entry → List Entry → QueuePart
-    sent_part_A queue first others = device_part A queue frame (answer.OkNumber (now.site.pair.lanes.a queue).told) (port_queue now A queue false) (with_port (port_queue now A queue false) (port_new A queue (first ∷ others)))
-
-    refused_A : (queue : ℕ) (q : QueueState) → queue < plan.a.queues → (part now A queue).queue ≡ q
-        → PairStands devs plan k (record now.site { pair = counts_refused now.site.pair A queue }) (with_queue (kept now) A queue (record (part_with now A queue q) { counters = count_refused (part now A queue).counters }))
-    refused_A queue q among is =
-        subst (λ (q : QueueState). PairStands devs plan k (record now.site { pair = counts_refused now.site.pair A queue }) (with_queue (kept now) A queue (record (part_with now A queue q) { counters = count_refused (part now A queue).counters }))) is
-        (record {
-          bridge = refl;
-          link = now.link;
-          sides =
-              by_side _ (side_at devs plan k A _ _ _ _ _ _ _ (view_of now.site.pair A) _ now.queues.a queue (record (part now A queue) { counters = count_refused (part now A queue).counters }) among
-              (λ other ne. ap (λ (d : DevPart). record (view_of now.site.pair A other) { dev = d }) (updated_other now.site.pair.devs.a queue (refused_dev A queue) other ne)) (now.sides A).in_flight
-              (subst (λ (v : QueueView). QueueStands devs plan k A queue (has_forgotten now.site.pair.link A) v (record (part now A queue) { counters = count_refused (part now A queue).counters }))
-              (sym (ap (λ (d : DevPart). record (view_of now.site.pair A queue) { dev = d }) (updated_here now.site.pair.devs.a queue (refused_dev A queue)))) (refused_stands A queue among)) (now.sides A)) (now.sides B);
-        })
+    abbrev frame_part : Side → ℕ → Entry → List Entry → QueuePart
+    frame_part side queue first others =
+        device_part side queue frame (answer.OkNumber (lane_of now.site.pair side queue).told) (port_queue now side queue false) (with_port (port_queue now side queue false) (port_new side queue (first ∷ others)))
 
     -- what is free then
-    free_then_A : (queue : ℕ) (first : Entry) (others : List Entry) (told : ℕ) → queue < plan.a.queues → SizesFit plan → (now.site.pair.lanes.a queue).waiting ≡ [] → length (first ∷ others) ≡ needs A queue frame → is_full A queue (needs A queue frame) (seen_word now A queue) ≡ false
-        → free_answer (port_with A queue first others told) (kept now).bridge ≡ (reads now).free A queue - needs A queue frame
-    free_then_A queue first others told among fits none count room =
-        ap (λ inside. if inside then free_in_memory (sizes_of plan A queue).entries (head_of (sizes_of plan A queue).entries (length (now.site.pair.lanes.a queue).sent + 1 + length others)) (seen_word now A queue) else 0)
-        (le-leb (own_index_word plan A queue + 4) (memory_size plan A) (word_inside plan now.site now.pages now.spare A queue now.declared among (own_fits plan fits A)))
-        ∙ ap (λ n. free_in_memory (sizes_of plan A queue).entries (head_of (sizes_of plan A queue).entries n) (seen_word now A queue))
-        (let z = ap length none in let same : length (now.site.pair.lanes.a queue).sent + 1 + length others ≡ length (now.site.pair.lanes.a queue).sent + length (now.site.pair.lanes.a queue).waiting + needs A queue frame = omega (arith, z, count) in same)
-        ∙ free_less (sizes_of plan A queue).entries (length (now.site.pair.lanes.a queue).sent + length (now.site.pair.lanes.a queue).waiting) (needs A queue frame) (seen_word now A queue) room (some_pieces (sizes_of plan A queue).largest (length frame))
-        ∙ ap (λ index. free_in_memory (sizes_of plan A queue).entries (head_in (sizes_of plan A queue) (now.site.pair.lanes.a queue)) index - needs A queue frame)
-        (same_word plan now.site now.pages now.spare A queue now.declared among (own_fits plan fits A))
+    free_then : (side : Side) (queue : ℕ) (first : Entry) (others : List Entry) (told : ℕ) → queue < (side_plan plan side).queues → SizesFit plan → (lane_of now.site.pair side queue).waiting ≡ [] → length (first ∷ others) ≡ needs side queue frame → is_full side queue (needs side queue frame) (seen_word now side queue) ≡ false
+        → free_answer (port_with side queue first others told) (kept now).bridge ≡ (reads now).free side queue - needs side queue frame
+    free_then side queue first others told among fits none count room =
+        ap (λ inside. if inside then free_in_memory (sizes_of plan side queue).entries (head_of (sizes_of plan side queue).entries (length (lane_of now.site.pair side queue).sent + 1 + length others)) (seen_word now side queue) else 0)
+        (le-leb (own_index_word plan side queue + 4) (memory_size plan side) (word_inside plan now.site now.pages now.spare side queue now.declared among (own_fits plan fits side)))
+        ∙ ap (λ n. free_in_memory (sizes_of plan side queue).entries (head_of (sizes_of plan side queue).entries n) (seen_word now side queue))
+        (let z = ap length none in let same : length (lane_of now.site.pair side queue).sent + 1 + length others ≡ length (lane_of now.site.pair side queue).sent + length (lane_of now.site.pair side queue).waiting + needs side queue frame = omega (arith, z, count) in same)
+        ∙ free_less (sizes_of plan side queue).entries (length (lane_of now.site.pair side queue).sent + length (lane_of now.site.pair side queue).waiting) (needs side queue frame) (seen_word now side queue) room (some_pieces (sizes_of plan side queue).largest (length frame))
+        ∙ ap (λ index. free_in_memory (sizes_of plan side queue).entries (head_in (sizes_of plan side queue) (lane_of now.site.pair side queue)) index - needs side queue frame)
+        (same_word plan now.site now.pages now.spare side queue now.declared among (own_fits plan fits side))
 
-    device_ok_A : (queue : ℕ) (first : Entry) (others : List Entry) → queue < plan.a.queues → d < length devs → IsOn (dev_plan devs d) k A queue → has_forgotten now.site.pair.link A ≡ false → SizesFit plan → AllByRecursion (FitsSlot plan A queue) (first ∷ others)
-        → length (first ∷ others) ≡ needs A queue frame → is_lane_busy (now.site.pair.lanes.a queue) ≡ false → is_full A queue (needs A queue frame) (seen_word now A queue) ≡ false
-        → DeviceCore A queue (first ∷ others) None (answer.OkNumber (now.site.pair.lanes.a queue).told) (port_queue now A queue false) (with_port (port_queue now A queue false) (port_new A queue (first ∷ others)))
-    device_ok_A queue first others among declared on fresh fits all count idle room =
-        let lane = lane_with A queue first others ((now.site.pair.lanes.a queue).told + 1) in
-        let h = (now.sides A).queues queue among in (
+    device_ok : (side : Side) (queue : ℕ) (first : Entry) (others : List Entry) → queue < (side_plan plan side).queues → d < length devs → IsOn (dev_plan devs d) k side queue → has_forgotten now.site.pair.link side ≡ false → SizesFit plan → AllByRecursion (FitsSlot plan side queue) (first ∷ others)
+        → length (first ∷ others) ≡ needs side queue frame → is_lane_busy (lane_of now.site.pair side queue) ≡ false → is_full side queue (needs side queue frame) (seen_word now side queue) ≡ false
+        → DeviceCore side queue (first ∷ others) None (answer.OkNumber (lane_of now.site.pair side queue).told) (port_queue now side queue false) (with_port (port_queue now side queue false) (port_new side queue (first ∷ others)))
+    device_ok side queue first others among declared on fresh fits all count idle room =
+        let h = (now.sides side).queues queue among in
+        let told = (lane_of now.site.pair side queue).told + 1 in (
           refl,
-          record {
-            bridge = bridge_same plan now.site.pair.link now.site.pair.sides (all_sent now.site.pair.lanes) (record { a = sent_of (updated now.site.pair.lanes.a queue lane); b = sent_of now.site.pair.lanes.b }) now.site.stores (sym (writes_grow plan A (sent_of now.site.pair.lanes.a) (sent_of (updated now.site.pair.lanes.a queue lane)) (grows_at now.site.pair.lanes.a queue lane (first ∷ []) refl) now.site.pair.sides.a.flight now.site.pair.sides.a.poked (now.sides A).in_flight.begun)) refl;
-            link = now.link;
-            sides =
-                by_side _ (side_at devs plan k A _ _ _ _ _ _ _ (view_of now.site.pair A) _ now.queues.a queue (sent_part_A queue first others) among
-                (λ other ne. three_same (λ (l : LanePart) (t : ℕ → Tally) (dev : DevPart). record (view_of now.site.pair A other) { sends = sender_of l; accepted = λ session. (t session).accepted; dev = dev }) (updated_other now.site.pair.lanes.a queue lane other ne)
-                (updated_other now.site.pair.tallies.a queue (more_accepted A queue) other ne) (updated_other now.site.pair.devs.a queue (sent_dev A queue d frame) other ne))
-                (flight_grows plan A (sent_of now.site.pair.lanes.a) (sent_of (updated now.site.pair.lanes.a queue lane)) (grows_at now.site.pair.lanes.a queue lane (first ∷ []) refl) now.site.pair.sides.a.flight now.site.pair.sides.a.poked (is_down now.site.pair.link.state) (now.sides A).in_flight)
-                (subst (λ (v : QueueView). QueueStands devs plan k A queue (has_forgotten now.site.pair.link A) v (sent_part_A queue first others))
-                (sym (three_same (λ (l : LanePart) (t : ℕ → Tally) (dev : DevPart). record (view_of now.site.pair A queue) { sends = sender_of l; accepted = λ session. (t session).accepted; dev = dev }) (updated_here now.site.pair.lanes.a queue lane)
-                (updated_here now.site.pair.tallies.a queue (more_accepted A queue)) (updated_here now.site.pair.devs.a queue (sent_dev A queue d frame))))
-                (begins A queue first others ((now.site.pair.lanes.a queue).told + 1) (has_bit now.site.pair.sides.a.closed queue) (has_bit now.site.pair.sides.a.closed queue) (sent_part_A queue first others).flow (sent_part_A queue first others).counters
-                (one_more (part now A queue).accepted now.site.pair.link.session) (sent_dev A queue d frame) (λ session. (more_accepted A queue session).accepted) among fresh fits all.0 all.1 refl
-                (three_same stopped_then h.stopped (free_then_A queue first others ((now.site.pair.lanes.a queue).told + 1) among fits (idle_waiting (now.site.pair.lanes.a queue).todo (now.site.pair.lanes.a queue).waiting idle) count room) (h.limits d declared on).0)
-                refl refl (ap (λ counters. count_accepted counters (length frame)) h.counters) (counts_one A queue among))) (now.sides A)) (others_A queue lane among refl);
-          },
+          sender_changes now side queue (first ∷ []) (frame_part side queue first others) among (none_closes now.site.pair.sides side (other_side side) queue) (changes now.site.pair.lanes side queue (lane_with side queue first others told))
+              (changes now.site.pair.devs side queue (sent_dev side queue d frame)) (changes now.site.pair.tallies side queue (more_accepted side queue)) refl refl (none_delivered side queue)
+              (begins side queue first others told (has_bit (side_of now.site.pair side).closed queue) (has_bit (side_of now.site.pair side).closed queue) (frame_part side queue first others).flow (frame_part side queue first others).counters
+              (one_more (part now side queue).accepted now.site.pair.link.session) (sent_dev side queue d frame) (λ session. (more_accepted side queue session).accepted) among fresh fits all.0 all.1 refl
+              (three_same stopped_then h.stopped (free_then side queue first others told among fits (idle_waiting (lane_of now.site.pair side queue).todo (lane_of now.site.pair side queue).waiting idle) count room) (h.limits d declared on).0)
+              refl refl (ap (λ counters. count_accepted counters (length frame)) h.counters) (counts_one side queue among)),
         )
 
-    device_fresh_A : (queue : ℕ) (pieces : List Entry) (joined : Bool) → queue < plan.a.queues → d < length devs → IsOn (dev_plan devs d) k A queue → has_forgotten now.site.pair.link A ≡ false → (joined ≡ true → SizesFit plan)
-        → pieces_of (sizes_of plan A queue).largest frame ≡ pieces → AllByRecursion (FitsSlot plan A queue) pieces → DeviceAt A queue pieces (now.site.pair.devs.a queue).stopped joined (seen_word now A queue)
-    device_fresh_A queue [] joined among declared on fresh fits is all = absurd (is_some_piece (sizes_of plan A queue).largest frame is)
-    device_fresh_A queue (first ∷ others) joined among declared on fresh fits is all =
-        device_core A queue (first ∷ others) _ _ _ joined _ (now.site.pair.devs.a queue).stopped _ (port_queue now A queue false) _ (port_new A queue (first ∷ others))
-        (λ yes idle room. device_ok_A queue first others among declared on fresh (fits yes) all (sym (ap length is) ∙ length-pieces (sizes_of plan A queue).largest frame) idle room)
-        (refused_A queue (port_queue now A queue false) among (is_queue now A queue false among fresh))
-        (gates (length frame) (sizes_of plan A queue).most (head_in (sizes_of plan A queue) (now.site.pair.lanes.a queue)) (seen_word now A queue) (now.site.pair.lanes.a queue).told (port_queue now A queue false) (port_new A queue (first ∷ others))
-        (is_up now.site.pair.link.state) joined (has_bit now.site.pair.sides.a.closed queue) (is_long A queue frame) (is_lane_busy (now.site.pair.lanes.a queue)) (now.site.pair.devs.a queue).stopped (is_full A queue (needs A queue frame) (seen_word now A queue)))
+    device_fresh : (side : Side) (queue : ℕ) (pieces : List Entry) (joined : Bool) → queue < (side_plan plan side).queues → d < length devs → IsOn (dev_plan devs d) k side queue → has_forgotten now.site.pair.link side ≡ false → (joined ≡ true → SizesFit plan)
+        → pieces_of (sizes_of plan side queue).largest frame ≡ pieces → AllByRecursion (FitsSlot plan side queue) pieces → DeviceAt side queue pieces (dev_of now.site.pair side queue).stopped joined (seen_word now side queue)
+    device_fresh side queue [] joined among declared on fresh fits is all = absurd (is_some_piece (sizes_of plan side queue).largest frame is)
+    device_fresh side queue (first ∷ others) joined among declared on fresh fits is all =
+        device_core side queue (first ∷ others) _ _ _ joined _ (dev_of now.site.pair side queue).stopped _ (port_queue now side queue false) _ (port_new side queue (first ∷ others))
+        (λ yes idle room. device_ok side queue first others among declared on fresh (fits yes) all (sym (ap length is) ∙ length-pieces (sizes_of plan side queue).largest frame) idle room)
+        (refused side queue false among fresh)
+        (gates (length frame) (sizes_of plan side queue).most (head_in (sizes_of plan side queue) (lane_of now.site.pair side queue)) (seen_word now side queue) (lane_of now.site.pair side queue).told (port_queue now side queue false) (port_new side queue (first ∷ others))
+        (is_up now.site.pair.link.state) joined (has_bit (side_of now.site.pair side).closed queue) (is_long side queue frame) (is_lane_busy (lane_of now.site.pair side queue)) (dev_of now.site.pair side queue).stopped (is_full side queue (needs side queue frame) (seen_word now side queue)))
 
-    device_by_A : (queue : ℕ) (forgotten : Bool) → queue < plan.a.queues → d < length devs → IsOn (dev_plan devs d) k A queue → has_forgotten now.site.pair.link A ≡ forgotten → (has_bit now.site.pair.sides.a.joined queue ≡ true → SizesFit plan)
-        → Follows devs plan k now.site (Xbegin k A queue d dst kind payload)
-        (device_made A queue d frame (pieces_of (sizes_of plan A queue).largest frame) (tests A queue (length frame) (needs A queue frame) (is_long A queue frame) (now.site.pair.devs.a queue).stopped (has_bit now.site.pair.sides.a.joined queue) ((reads now).index_word A queue)))
-        (device_with A queue (now.site.pair.devs.a queue).stopped (port_queue now A queue forgotten))
-    device_by_A queue true among declared on forgot fits =
-        subst (λ up. Follows devs plan k now.site (Xbegin k A queue d dst kind payload)
-        (device_made A queue d frame (pieces_of (sizes_of plan A queue).largest frame)
-        (refusal_says up (has_bit now.site.pair.sides.a.joined queue) (has_bit now.site.pair.sides.a.closed queue) (is_long A queue frame) (is_lane_busy (now.site.pair.lanes.a queue)) (now.site.pair.devs.a queue).stopped
-        (is_full A queue (needs A queue frame) ((reads now).index_word A queue)) (length frame) (sizes_of plan A queue).most (head_in (sizes_of plan A queue) (now.site.pair.lanes.a queue)) ((reads now).index_word A queue)))
-        (device_says A queue frame
-        (of_xbegin (now.site.pair.devs.a queue).stopped (answer_unless (side_says up (has_bit now.site.pair.sides.a.joined queue) (has_bit now.site.pair.sides.a.closed queue)) (port_begin_answer (port_queue now A queue true).port (kept now).bridge (length frame))))
-        (port_queue now A queue true)
-        (port_unless (side_says up (has_bit now.site.pair.sides.a.joined queue) (has_bit now.site.pair.sides.a.closed queue)) (port_queue now A queue true) (port_after_begin (port_queue now A queue true).port (kept now).bridge frame))))
-        (sym (not_up A forgot)) (down (now.site.pair.devs.a queue).stopped)
+    abbrev DeviceSeen : Side → ℕ → Bool → Bool → Type 0
+    DeviceSeen side queue forgotten joined =
+        let q = port_queue now side queue forgotten in
+        let refuses = side_says (is_up now.site.pair.link.state) joined q.closed in
+        Follows devs plan k now.site (Xbegin k side queue d dst kind payload)
+        (device_made side queue d frame (pieces_of (sizes_of plan side queue).largest frame)
+        (tests side queue (length frame) (needs side queue frame) (is_long side queue frame) (dev_of now.site.pair side queue).stopped (has_bit (side_of now.site.pair side).joined queue) ((reads now).index_word side queue)))
+        (device_says side queue frame (of_xbegin (dev_of now.site.pair side queue).stopped (answer_unless refuses (port_begin_answer q.port (kept now).bridge (length frame)))) q (port_unless refuses q (port_after_begin q.port (kept now).bridge frame)))
+
+    device_by : (side : Side) (queue : ℕ) (forgotten : Bool) → queue < (side_plan plan side).queues → d < length devs → IsOn (dev_plan devs d) k side queue → has_forgotten now.site.pair.link side ≡ forgotten → (has_bit (side_of now.site.pair side).joined queue ≡ true → SizesFit plan)
+        → Follows devs plan k now.site (Xbegin k side queue d dst kind payload)
+        (device_made side queue d frame (pieces_of (sizes_of plan side queue).largest frame) (tests side queue (length frame) (needs side queue frame) (is_long side queue frame) (dev_of now.site.pair side queue).stopped (has_bit (side_of now.site.pair side).joined queue) ((reads now).index_word side queue)))
+        (device_with side queue (dev_of now.site.pair side queue).stopped (port_queue now side queue forgotten))
+    device_by side queue true among declared on forgot fits =
+        subst (DeviceSeen side queue true) (sym (joined_is now side queue))
+        (subst (λ up. Follows devs plan k now.site (Xbegin k side queue d dst kind payload)
+        (device_made side queue d frame (pieces_of (sizes_of plan side queue).largest frame)
+        (refusal_says up (has_bit (side_of now.site.pair side).joined queue) (has_bit (side_of now.site.pair side).closed queue) (is_long side queue frame) (is_lane_busy (lane_of now.site.pair side queue)) (dev_of now.site.pair side queue).stopped
+        (is_full side queue (needs side queue frame) ((reads now).index_word side queue)) (length frame) (sizes_of plan side queue).most (head_in (sizes_of plan side queue) (lane_of now.site.pair side queue)) ((reads now).index_word side queue)))
+        (device_says side queue frame
+        (of_xbegin (dev_of now.site.pair side queue).stopped (answer_unless (side_says up (has_bit (side_of now.site.pair side).joined queue) (has_bit (side_of now.site.pair side).closed queue)) (port_begin_answer (port_queue now side queue true).port (kept now).bridge (length frame))))
+        (port_queue now side queue true)
+        (port_unless (side_says up (has_bit (side_of now.site.pair side).joined queue) (has_bit (side_of now.site.pair side).closed queue)) (port_queue now side queue true) (port_after_begin (port_queue now side queue true).port (kept now).bridge frame))))
+        (sym (not_up side forgot)) (down (dev_of now.site.pair side queue).stopped))
       where
-        down : (stopped : Bool) → Follows devs plan k now.site (Xbegin k A queue d dst kind payload) (device_made A queue d frame (pieces_of (sizes_of plan A queue).largest frame) (Some answer.LinkDown))
-            (device_says A queue frame (of_xbegin stopped IsLinkDown) (port_queue now A queue true) (port_queue now A queue true))
-        down true = (refl, refused_A queue (port_queue now A queue true) among (is_queue now A queue true among forgot))
-        down false = (refl, refused_A queue (port_queue now A queue true) among (is_queue now A queue true among forgot))
-    device_by_A queue false among declared on fresh fits =
-        device_read A queue (pieces_of (sizes_of plan A queue).largest frame) (now.site.pair.devs.a queue).stopped (has_bit now.site.pair.sides.a.joined queue)
-        (λ joined. same_word plan now.site now.pages now.spare A queue now.declared among (own_fits plan (fits joined) A))
-        (device_fresh_A queue (pieces_of (sizes_of plan A queue).largest frame) (has_bit now.site.pair.sides.a.joined queue) among declared on fresh fits refl (pieces_fit (sizes_of plan A queue).largest frame))
-
-    abbrev sent_part_B : ℕ → Entry → List Entry → QueuePart
-    sent_part_B queue first others = device_part B queue frame (answer.OkNumber (now.site.pair.lanes.b queue).told) (port_queue now B queue false) (with_port (port_queue now B queue false) (port_new B queue (first ∷ others)))
-
-    refused_B : (queue : ℕ) (q : QueueState) → queue < plan.b.queues → (part now B queue).queue ≡ q
-        → PairStands devs plan k (record now.site { pair = counts_refused now.site.pair B queue }) (with_queue (kept now) B queue (record (part_with now B queue q) { counters = count_refused (part now B queue).counters }))
-    refused_B queue q among is =
-        subst (λ (q : QueueState). PairStands devs plan k (record now.site { pair = counts_refused now.site.pair B queue }) (with_queue (kept now) B queue (record (part_with now B queue q) { counters = count_refused (part now B queue).counters }))) is
-        (record {
-          bridge = refl;
-          link = now.link;
-          sides =
-              by_side _ (now.sides A) (side_at devs plan k B _ _ _ _ _ _ _ (view_of now.site.pair B) _ now.queues.b queue (record (part now B queue) { counters = count_refused (part now B queue).counters }) among
-              (λ other ne. ap (λ (d : DevPart). record (view_of now.site.pair B other) { dev = d }) (updated_other now.site.pair.devs.b queue (refused_dev B queue) other ne)) (now.sides B).in_flight
-              (subst (λ (v : QueueView). QueueStands devs plan k B queue (has_forgotten now.site.pair.link B) v (record (part now B queue) { counters = count_refused (part now B queue).counters }))
-              (sym (ap (λ (d : DevPart). record (view_of now.site.pair B queue) { dev = d }) (updated_here now.site.pair.devs.b queue (refused_dev B queue)))) (refused_stands B queue among)) (now.sides B));
-        })
-
-    -- what is free then
-    free_then_B : (queue : ℕ) (first : Entry) (others : List Entry) (told : ℕ) → queue < plan.b.queues → SizesFit plan → (now.site.pair.lanes.b queue).waiting ≡ [] → length (first ∷ others) ≡ needs B queue frame → is_full B queue (needs B queue frame) (seen_word now B queue) ≡ false
-        → free_answer (port_with B queue first others told) (kept now).bridge ≡ (reads now).free B queue - needs B queue frame
-    free_then_B queue first others told among fits none count room =
-        ap (λ inside. if inside then free_in_memory (sizes_of plan B queue).entries (head_of (sizes_of plan B queue).entries (length (now.site.pair.lanes.b queue).sent + 1 + length others)) (seen_word now B queue) else 0)
-        (le-leb (own_index_word plan B queue + 4) (memory_size plan B) (word_inside plan now.site now.pages now.spare B queue now.declared among (own_fits plan fits B)))
-        ∙ ap (λ n. free_in_memory (sizes_of plan B queue).entries (head_of (sizes_of plan B queue).entries n) (seen_word now B queue))
-        (let z = ap length none in let same : length (now.site.pair.lanes.b queue).sent + 1 + length others ≡ length (now.site.pair.lanes.b queue).sent + length (now.site.pair.lanes.b queue).waiting + needs B queue frame = omega (arith, z, count) in same)
-        ∙ free_less (sizes_of plan B queue).entries (length (now.site.pair.lanes.b queue).sent + length (now.site.pair.lanes.b queue).waiting) (needs B queue frame) (seen_word now B queue) room (some_pieces (sizes_of plan B queue).largest (length frame))
-        ∙ ap (λ index. free_in_memory (sizes_of plan B queue).entries (head_in (sizes_of plan B queue) (now.site.pair.lanes.b queue)) index - needs B queue frame)
-        (same_word plan now.site now.pages now.spare B queue now.declared among (own_fits plan fits B))
-
-    device_ok_B : (queue : ℕ) (first : Entry) (others : List Entry) → queue < plan.b.queues → d < length devs → IsOn (dev_plan devs d) k B queue → has_forgotten now.site.pair.link B ≡ false → SizesFit plan → AllByRecursion (FitsSlot plan B queue) (first ∷ others)
-        → length (first ∷ others) ≡ needs B queue frame → is_lane_busy (now.site.pair.lanes.b queue) ≡ false → is_full B queue (needs B queue frame) (seen_word now B queue) ≡ false
-        → DeviceCore B queue (first ∷ others) None (answer.OkNumber (now.site.pair.lanes.b queue).told) (port_queue now B queue false) (with_port (port_queue now B queue false) (port_new B queue (first ∷ others)))
-    device_ok_B queue first others among declared on fresh fits all count idle room =
-        let lane = lane_with B queue first others ((now.site.pair.lanes.b queue).told + 1) in
-        let h = (now.sides B).queues queue among in (
-          refl,
-          record {
-            bridge = bridge_same plan now.site.pair.link now.site.pair.sides (all_sent now.site.pair.lanes) (record { a = sent_of now.site.pair.lanes.a; b = sent_of (updated now.site.pair.lanes.b queue lane) }) now.site.stores refl (sym (writes_grow plan B (sent_of now.site.pair.lanes.b) (sent_of (updated now.site.pair.lanes.b queue lane)) (grows_at now.site.pair.lanes.b queue lane (first ∷ []) refl) now.site.pair.sides.b.flight now.site.pair.sides.b.poked (now.sides B).in_flight.begun));
-            link = now.link;
-            sides =
-                by_side _ (others_B queue lane among refl) (side_at devs plan k B _ _ _ _ _ _ _ (view_of now.site.pair B) _ now.queues.b queue (sent_part_B queue first others) among
-                (λ other ne. three_same (λ (l : LanePart) (t : ℕ → Tally) (dev : DevPart). record (view_of now.site.pair B other) { sends = sender_of l; accepted = λ session. (t session).accepted; dev = dev }) (updated_other now.site.pair.lanes.b queue lane other ne)
-                (updated_other now.site.pair.tallies.b queue (more_accepted B queue) other ne) (updated_other now.site.pair.devs.b queue (sent_dev B queue d frame) other ne))
-                (flight_grows plan B (sent_of now.site.pair.lanes.b) (sent_of (updated now.site.pair.lanes.b queue lane)) (grows_at now.site.pair.lanes.b queue lane (first ∷ []) refl) now.site.pair.sides.b.flight now.site.pair.sides.b.poked (is_down now.site.pair.link.state) (now.sides B).in_flight)
-                (subst (λ (v : QueueView). QueueStands devs plan k B queue (has_forgotten now.site.pair.link B) v (sent_part_B queue first others))
-                (sym (three_same (λ (l : LanePart) (t : ℕ → Tally) (dev : DevPart). record (view_of now.site.pair B queue) { sends = sender_of l; accepted = λ session. (t session).accepted; dev = dev }) (updated_here now.site.pair.lanes.b queue lane)
-                (updated_here now.site.pair.tallies.b queue (more_accepted B queue)) (updated_here now.site.pair.devs.b queue (sent_dev B queue d frame))))
-                (begins B queue first others ((now.site.pair.lanes.b queue).told + 1) (has_bit now.site.pair.sides.b.closed queue) (has_bit now.site.pair.sides.b.closed queue) (sent_part_B queue first others).flow (sent_part_B queue first others).counters
-                (one_more (part now B queue).accepted now.site.pair.link.session) (sent_dev B queue d frame) (λ session. (more_accepted B queue session).accepted) among fresh fits all.0 all.1 refl
-                (three_same stopped_then h.stopped (free_then_B queue first others ((now.site.pair.lanes.b queue).told + 1) among fits (idle_waiting (now.site.pair.lanes.b queue).todo (now.site.pair.lanes.b queue).waiting idle) count room) (h.limits d declared on).0)
-                refl refl (ap (λ counters. count_accepted counters (length frame)) h.counters) (counts_one B queue among))) (now.sides B));
-          },
-        )
-
-    device_fresh_B : (queue : ℕ) (pieces : List Entry) (joined : Bool) → queue < plan.b.queues → d < length devs → IsOn (dev_plan devs d) k B queue → has_forgotten now.site.pair.link B ≡ false → (joined ≡ true → SizesFit plan)
-        → pieces_of (sizes_of plan B queue).largest frame ≡ pieces → AllByRecursion (FitsSlot plan B queue) pieces → DeviceAt B queue pieces (now.site.pair.devs.b queue).stopped joined (seen_word now B queue)
-    device_fresh_B queue [] joined among declared on fresh fits is all = absurd (is_some_piece (sizes_of plan B queue).largest frame is)
-    device_fresh_B queue (first ∷ others) joined among declared on fresh fits is all =
-        device_core B queue (first ∷ others) _ _ _ joined _ (now.site.pair.devs.b queue).stopped _ (port_queue now B queue false) _ (port_new B queue (first ∷ others))
-        (λ yes idle room. device_ok_B queue first others among declared on fresh (fits yes) all (sym (ap length is) ∙ length-pieces (sizes_of plan B queue).largest frame) idle room)
-        (refused_B queue (port_queue now B queue false) among (is_queue now B queue false among fresh))
-        (gates (length frame) (sizes_of plan B queue).most (head_in (sizes_of plan B queue) (now.site.pair.lanes.b queue)) (seen_word now B queue) (now.site.pair.lanes.b queue).told (port_queue now B queue false) (port_new B queue (first ∷ others))
-        (is_up now.site.pair.link.state) joined (has_bit now.site.pair.sides.b.closed queue) (is_long B queue frame) (is_lane_busy (now.site.pair.lanes.b queue)) (now.site.pair.devs.b queue).stopped (is_full B queue (needs B queue frame) (seen_word now B queue)))
-
-    device_by_B : (queue : ℕ) (forgotten : Bool) → queue < plan.b.queues → d < length devs → IsOn (dev_plan devs d) k B queue → has_forgotten now.site.pair.link B ≡ forgotten → (has_bit now.site.pair.sides.b.joined queue ≡ true → SizesFit plan)
-        → Follows devs plan k now.site (Xbegin k B queue d dst kind payload)
-        (device_made B queue d frame (pieces_of (sizes_of plan B queue).largest frame) (tests B queue (length frame) (needs B queue frame) (is_long B queue frame) (now.site.pair.devs.b queue).stopped (has_bit now.site.pair.sides.b.joined queue) ((reads now).index_word B queue)))
-        (device_with B queue (now.site.pair.devs.b queue).stopped (port_queue now B queue forgotten))
-    device_by_B queue true among declared on forgot fits =
-        subst (λ up. Follows devs plan k now.site (Xbegin k B queue d dst kind payload)
-        (device_made B queue d frame (pieces_of (sizes_of plan B queue).largest frame)
-        (refusal_says up (has_bit now.site.pair.sides.b.joined queue) (has_bit now.site.pair.sides.b.closed queue) (is_long B queue frame) (is_lane_busy (now.site.pair.lanes.b queue)) (now.site.pair.devs.b queue).stopped
-        (is_full B queue (needs B queue frame) ((reads now).index_word B queue)) (length frame) (sizes_of plan B queue).most (head_in (sizes_of plan B queue) (now.site.pair.lanes.b queue)) ((reads now).index_word B queue)))
-        (device_says B queue frame
-        (of_xbegin (now.site.pair.devs.b queue).stopped (answer_unless (side_says up (has_bit now.site.pair.sides.b.joined queue) (has_bit now.site.pair.sides.b.closed queue)) (port_begin_answer (port_queue now B queue true).port (kept now).bridge (length frame))))
-        (port_queue now B queue true)
-        (port_unless (side_says up (has_bit now.site.pair.sides.b.joined queue) (has_bit now.site.pair.sides.b.closed queue)) (port_queue now B queue true) (port_after_begin (port_queue now B queue true).port (kept now).bridge frame))))
-        (sym (not_up B forgot)) (down (now.site.pair.devs.b queue).stopped)
-      where
-        down : (stopped : Bool) → Follows devs plan k now.site (Xbegin k B queue d dst kind payload) (device_made B queue d frame (pieces_of (sizes_of plan B queue).largest frame) (Some answer.LinkDown))
-            (device_says B queue frame (of_xbegin stopped IsLinkDown) (port_queue now B queue true) (port_queue now B queue true))
-        down true = (refl, refused_B queue (port_queue now B queue true) among (is_queue now B queue true among forgot))
-        down false = (refl, refused_B queue (port_queue now B queue true) among (is_queue now B queue true among forgot))
-    device_by_B queue false among declared on fresh fits =
-        device_read B queue (pieces_of (sizes_of plan B queue).largest frame) (now.site.pair.devs.b queue).stopped (has_bit now.site.pair.sides.b.joined queue)
-        (λ joined. same_word plan now.site now.pages now.spare B queue now.declared among (own_fits plan (fits joined) B))
-        (device_fresh_B queue (pieces_of (sizes_of plan B queue).largest frame) (has_bit now.site.pair.sides.b.joined queue) among declared on fresh fits refl (pieces_fit (sizes_of plan B queue).largest frame))
+        down : (stopped : Bool) → Follows devs plan k now.site (Xbegin k side queue d dst kind payload) (device_made side queue d frame (pieces_of (sizes_of plan side queue).largest frame) (Some answer.LinkDown))
+            (device_says side queue frame (of_xbegin stopped IsLinkDown) (port_queue now side queue true) (port_queue now side queue true))
+        down true = (refl, refused side queue true among forgot)
+        down false = (refl, refused side queue true among forgot)
+    device_by side queue false among declared on fresh fits =
+        subst (DeviceSeen side queue false) (sym (joined_is now side queue))
+        (device_read side queue (pieces_of (sizes_of plan side queue).largest frame) (dev_of now.site.pair side queue).stopped (has_bit (side_of now.site.pair side).joined queue)
+        (λ joined. same_word plan now.site now.pages now.spare side queue now.declared among (own_fits plan (fits joined) side))
+        (device_fresh side queue (pieces_of (sizes_of plan side queue).largest frame) (has_bit (side_of now.site.pair side).joined queue) among declared on fresh fits refl (pieces_fit (sizes_of plan side queue).largest frame)))
 
   pub xbegin_follows : (side : Side) (queue d : ℕ) (dst : List ℕ) (kind : ℕ) (payload : List ℕ) → queue < (side_plan plan side).queues → d < length devs → IsOn (dev_plan devs d) k side queue → (has_bit (side_of now.site.pair side).joined queue ≡ true → SizesFit plan)
       → Follows devs plan k now.site (Xbegin k side queue d dst kind payload) (xbegin_step (sizes_of plan side queue) (reads now) (dev_plan devs d) now.site.pair side queue dst kind payload) (xbegin_move (kept now) (dev_plan devs d) side queue dst kind payload)
-  xbegin_follows A queue d dst kind payload among declared on fits =
-      subst (λ (new : QueuePart). Follows devs plan k now.site (Xbegin k A queue d dst kind payload) (xbegin_step (sizes_of plan A queue) (reads now) (dev_plan devs d) now.site.pair A queue dst kind payload) (record { answer = (of_xbegin (part now A queue).flow.stopped (begin_answer (part now A queue).queue (kept now).bridge (length (ethernet_frame dst (dev_plan devs d).address kind payload)))); after = with_queue (kept now) A queue new })) (sym (device_part_is A queue (ethernet_frame dst (dev_plan devs d).address kind payload) (of_xbegin (part now A queue).flow.stopped (begin_answer (part now A queue).queue (kept now).bridge (length (ethernet_frame dst (dev_plan devs d).address kind payload)))) (part now A queue).queue))
-      (subst (λ (q : QueueState). Follows devs plan k now.site (Xbegin k A queue d dst kind payload) (xbegin_step (sizes_of plan A queue) (reads now) (dev_plan devs d) now.site.pair A queue dst kind payload) (device_with d dst kind payload (ethernet_frame dst (dev_plan devs d).address kind payload) A queue (part now A queue).flow.stopped q)) (sym (is_queue now A queue (has_forgotten now.site.pair.link A) among refl))
-      (subst (λ stopped. Follows devs plan k now.site (Xbegin k A queue d dst kind payload) (xbegin_step (sizes_of plan A queue) (reads now) (dev_plan devs d) now.site.pair A queue dst kind payload) (device_with d dst kind payload (ethernet_frame dst (dev_plan devs d).address kind payload) A queue stopped (port_queue now A queue (has_forgotten now.site.pair.link A)))) (sym ((now.sides A).queues queue among).stopped)
-      (device_by_A d dst kind payload (ethernet_frame dst (dev_plan devs d).address kind payload) queue (has_forgotten now.site.pair.link A) among declared on refl fits)))
-  xbegin_follows B queue d dst kind payload among declared on fits =
-      subst (λ (new : QueuePart). Follows devs plan k now.site (Xbegin k B queue d dst kind payload) (xbegin_step (sizes_of plan B queue) (reads now) (dev_plan devs d) now.site.pair B queue dst kind payload) (record { answer = (of_xbegin (part now B queue).flow.stopped (begin_answer (part now B queue).queue (kept now).bridge (length (ethernet_frame dst (dev_plan devs d).address kind payload)))); after = with_queue (kept now) B queue new })) (sym (device_part_is B queue (ethernet_frame dst (dev_plan devs d).address kind payload) (of_xbegin (part now B queue).flow.stopped (begin_answer (part now B queue).queue (kept now).bridge (length (ethernet_frame dst (dev_plan devs d).address kind payload)))) (part now B queue).queue))
-      (subst (λ (q : QueueState). Follows devs plan k now.site (Xbegin k B queue d dst kind payload) (xbegin_step (sizes_of plan B queue) (reads now) (dev_plan devs d) now.site.pair B queue dst kind payload) (device_with d dst kind payload (ethernet_frame dst (dev_plan devs d).address kind payload) B queue (part now B queue).flow.stopped q)) (sym (is_queue now B queue (has_forgotten now.site.pair.link B) among refl))
-      (subst (λ stopped. Follows devs plan k now.site (Xbegin k B queue d dst kind payload) (xbegin_step (sizes_of plan B queue) (reads now) (dev_plan devs d) now.site.pair B queue dst kind payload) (device_with d dst kind payload (ethernet_frame dst (dev_plan devs d).address kind payload) B queue stopped (port_queue now B queue (has_forgotten now.site.pair.link B)))) (sym ((now.sides B).queues queue among).stopped)
-      (device_by_B d dst kind payload (ethernet_frame dst (dev_plan devs d).address kind payload) queue (has_forgotten now.site.pair.link B) among declared on refl fits)))
+  xbegin_follows side queue d dst kind payload among declared on fits =
+      subst (λ (new : QueuePart). Follows devs plan k now.site (Xbegin k side queue d dst kind payload) (xbegin_step (sizes_of plan side queue) (reads now) (dev_plan devs d) now.site.pair side queue dst kind payload) (record { answer = (of_xbegin (part now side queue).flow.stopped (begin_answer (part now side queue).queue (kept now).bridge (length (ethernet_frame dst (dev_plan devs d).address kind payload)))); after = with_queue (kept now) side queue new })) (sym (device_part_is side queue (ethernet_frame dst (dev_plan devs d).address kind payload) (of_xbegin (part now side queue).flow.stopped (begin_answer (part now side queue).queue (kept now).bridge (length (ethernet_frame dst (dev_plan devs d).address kind payload)))) (part now side queue).queue))
+      (subst (λ (q : QueueState). Follows devs plan k now.site (Xbegin k side queue d dst kind payload) (xbegin_step (sizes_of plan side queue) (reads now) (dev_plan devs d) now.site.pair side queue dst kind payload) (device_with d dst kind payload (ethernet_frame dst (dev_plan devs d).address kind payload) side queue (part now side queue).flow.stopped q)) (sym (is_queue now side queue (has_forgotten now.site.pair.link side) among refl))
+      (subst (λ stopped. Follows devs plan k now.site (Xbegin k side queue d dst kind payload) (xbegin_step (sizes_of plan side queue) (reads now) (dev_plan devs d) now.site.pair side queue dst kind payload) (device_with d dst kind payload (ethernet_frame dst (dev_plan devs d).address kind payload) side queue stopped (port_queue now side queue (has_forgotten now.site.pair.link side)))) (sym ((now.sides side).queues queue among).stopped)
+      (device_by d dst kind payload (ethernet_frame dst (dev_plan devs d).address kind payload) side queue (has_forgotten now.site.pair.link side) among declared on refl fits)))

@@ -13,8 +13,10 @@ use Rattle.lane_model.specs.Lane.{Entry, GoesDown}
 use Rattle.plan_model.specs.Orders.{order_of}
 use Rattle.ledger_model.specs.Next.{idle_side}
 use Rattle.ledger_model.specs.Receiving.{poked_without, raws_before}
+use Rattle.step_kinds.specs.Sides.{other_side}
+use Rattle.bridge_pair.specs.Bridge.{memory_size}
 use Rattle.bridge_pair.specs.Flights.{Flying, flying_order, flying_of}
-use Rattle.fabric_rule.specs.InPlace.{HaveBytes, IsBegun}
+use Rattle.fabric_rule.specs.InPlace.{FlightInPlace, HaveBytes, IsBegun, LiesIn}
 use Rattle.fabric_rule.specs.StandsFor.{entry_among, flying_labelled, raw_bytes, raws_behind, write_of, writes_labelled}
 
 -- Lists of which all members hold something
@@ -122,6 +124,19 @@ begun-grows sent sent' grows (Ver q n) begun = length-grows (sent q) (sent' q) (
 begun-grows sent sent' grows (Flag q n) begun = length-grows (sent q) (sent' q) (grows q).0 n (grows q).1 begun
 begun-grows sent sent' grows (Down q n) begun = length-grows (sent q) (sent' q) (grows q).0 n (grows q).1 begun
 begun-grows sent sent' grows label begun = tt
+
+module _ (plan : PairPlan) (side : Side) (sent sent' : ℕ → List Entry) (grows : SentGrows sent sent') (flight : List Label) (poked : List (List ℕ)) where
+  pub writes_grow : AllByRecursion (IsBegun sent) flight → writes_labelled plan side sent' flight poked ≡ writes_labelled plan side sent flight poked
+  writes_grow begun = writes-same plan side sent sent' flight poked (all_weaker (IsBegun sent) (λ label. entry_among sent' label ≡ entry_among sent label) (among-grows sent sent' grows) flight begun)
+
+  pub flight_grows : (down : Bool) → FlightInPlace plan side down sent flight poked (writes_labelled plan side sent flight poked) → FlightInPlace plan side down sent' flight poked (writes_labelled plan side sent' flight poked)
+  flight_grows down h =
+      record {
+        begun = all_weaker (IsBegun sent) (IsBegun sent') (begun-grows sent sent' grows) flight h.begun;
+        raws = h.raws;
+        places = subst (AllByRecursion (λ (flying : Flying). LiesIn (memory_size plan (other_side side)) flying.arrival)) (sym (writes_grow h.begun)) h.places;
+        none = h.none;
+      }
 
 -- Taking a write out
 

@@ -3,6 +3,7 @@ pub mod Aside
 pub mod Beginning
 pub mod Begun
 pub mod BothReadings
+pub mod Changes
 pub mod Copying
 pub mod Counts
 pub mod EachStep

@@ -40,28 +40,6 @@ use Rattle.fabric_rule.proofs.Posting.{one_more_plain, side_posts, with_writes}
 use Rattle.fabric_rule.proofs.RingPlaces.{RingLies, fields_lie, in_window, lies_of}
 use Rattle.fabric_rule.proofs.WhatIsRead.{peer_fits}
 
--- Lanes whose entries grow
-
-pub grows_at : (lanes : ℕ → LanePart) (queue : ℕ) (lane : LanePart) (more : List Entry) → lane.sent ≡ (lanes queue).sent ++ more → SentGrows (sent_of lanes) (sent_of (updated lanes queue lane))
-grows_at lanes queue lane more grows other = elim (cases_eq other queue) [
-  | inl e ↦
-      (more, subst (λ (other : ℕ). sent_of (updated lanes queue lane) other ≡ sent_of lanes other ++ more) (sym e) (ap (λ (lane : LanePart). lane.sent) (updated_here lanes queue lane) ∙ grows))
-  | inr ne ↦ ([], ap (λ (lane : LanePart). lane.sent) (updated_other lanes queue lane other ne) ∙ sym (append-nil (sent_of lanes other)))
-]
-
-module _ (plan : PairPlan) (side : Side) (sent sent' : ℕ → List Entry) (grows : SentGrows sent sent') (flight : List Label) (poked : List (List ℕ)) where
-  pub writes_grow : AllByRecursion (IsBegun sent) flight → writes_labelled plan side sent' flight poked ≡ writes_labelled plan side sent flight poked
-  writes_grow begun = writes-same plan side sent sent' flight poked (all_weaker (IsBegun sent) (λ label. entry_among sent' label ≡ entry_among sent label) (among-grows sent sent' grows) flight begun)
-
-  pub flight_grows : (down : Bool) → FlightInPlace plan side down sent flight poked (writes_labelled plan side sent flight poked) → FlightInPlace plan side down sent' flight poked (writes_labelled plan side sent' flight poked)
-  flight_grows down h =
-      record {
-        begun = all_weaker (IsBegun sent) (IsBegun sent') (begun-grows sent sent' grows) flight h.begun;
-        raws = h.raws;
-        places = subst (AllByRecursion (λ (flying : Flying). LiesIn (memory_size plan (other_side side)) flying.arrival)) (sym (writes_grow h.begun)) h.places;
-        none = h.none;
-      }
-
 -- Places of a ring's writes at the peer
 
 chunk_ends : (part len : ℕ) → part < (len + 128 - 1) / 128 → 128 * part + min 128 (len - 128 * part) ≤ len
