@@ -10,7 +10,7 @@ use Rattle.step_kinds.specs.declared.plan.PairPlan.{PairPlan}
 use Rattle.lane_model.specs.Lane.{Entry}
 use Rattle.plan_model.specs.Both.{Both}
 use Rattle.byte_model.specs.Stores.{Store}
-use Rattle.ledger_model.specs.Ledger.{LanePart, lane_of, side_of, updated, with_lane, with_side_part}
+use Rattle.ledger_model.specs.Ledger.{LanePart, lane_of, side_of, with_lane, with_side_part}
 use Rattle.ledger_model.specs.Log.{same_side}
 use Rattle.memory_model.specs.Memory.{Site}
 use Rattle.bridge_pair.specs.Bridge.{Bridge, bells_of, bytes_of, memory_size, pads_of, with_bells, with_bytes, with_memory, with_pads}

@@ -2,11 +2,10 @@
 use Rattle.std.proofs.Common.{◌≡◌, ℕ, ◌+◌, ◌-◌, ◌<◌, ◌&&◌, ◌||◌, ◌⊎◌, Bool, true, false, Option, Some, None, List, [], ◌∷◌, ◌++◌, length, refl, sym, ap, ◌∙◌, subst, inl, inr, ⊎_elim, arith}
 use Rattle.std.specs.Prelude.{if◌then◌else◌, nat_lt, not}
 use Rattle.std.specs.List.{AllByRecursion}
-use Rattle.std.proofs.lemmas.Bool.{true≢false, false≢true, cases_Bool, le-leb}
+use Rattle.std.proofs.lemmas.Bool.{true≢false, cases_Bool, le-leb}
 use Rattle.step_kinds.specs.Bits.{has_bit, with_bit}
 use Rattle.step_kinds.specs.Sides.{other_side}
 use Rattle.step_kinds.specs.declared.names.Side.{Side}
-use Rattle.step_kinds.specs.declared.names.Side.TheVariants.{A, B}
 use Rattle.step_kinds.specs.declared.plan.Counters.{Counters}
 use Rattle.step_kinds.specs.declared.plan.DevPlan.{DevPlan}
 use Rattle.step_kinds.specs.declared.plan.PairPlan.{PairPlan}
@@ -22,7 +21,7 @@ use Rattle.plan_model.specs.DeclaredPlans.{SizesFit}
 use Rattle.plan_model.specs.Device.{Flow, stopped_after_send, count_accepted, count_refused}
 use Rattle.plan_model.specs.Ethernet.{ethernet_frame}
 use Rattle.plan_model.specs.Labels.{labels_of}
-use Rattle.plan_model.specs.Link.{is_down, is_up}
+use Rattle.plan_model.specs.Link.{is_up}
 use Rattle.plan_model.specs.Pieces.{pieces_of}
 use Rattle.plan_model.specs.Plans.{dev_plan, side_plan}
 use Rattle.plan_model.specs.Sizes.{sizes_of, pieces_in}
@@ -40,17 +39,16 @@ use Rattle.queue_pair.specs.declared.BeginAnswer.{BeginAnswer}
 use Rattle.queue_pair.specs.declared.BeginAnswer.TheVariants.{Ok as IsBegun, LinkDown as IsLinkDown}
 use Rattle.step_kinds.specs.declared.lanes.Begun.{Begun}
 use Rattle.fabric_rule.specs.Answers.{of_begin, of_xbegin}
-use Rattle.fabric_rule.specs.InPlace.{FitsSlot, receiver_of, sender_of}
+use Rattle.fabric_rule.specs.InPlace.{FitsSlot, sender_of}
 use Rattle.fabric_rule.specs.Moves.{Move, accepted_where_begun, begin_move, qpdown_move, xbegin_move, xbegun}
 use Rattle.fabric_rule.specs.Parts.{QueuePart, SessionCount, count_in, one_more, with_queue}
-use Rattle.fabric_rule.specs.StandsFor.{IsOn, PairStands, QueueStands, QueueView, SideStands, all_sent, has_forgotten, sent_of, view_of}
+use Rattle.fabric_rule.specs.StandsFor.{IsOn, PairStands, QueueStands, has_forgotten, view_of}
 use Rattle.fabric_rule.proofs.Begun.{begun_in_place, free_less, last-begun, length-begun, length-pieces, pieces_fit, some_pieces}
 use Rattle.fabric_rule.proofs.Counts.{counts_one_more}
-use Rattle.fabric_rule.proofs.Follows.{Follows, by_side, same_at, three_same, two_same, updated_field, updated_here, updated_other, updated_same}
+use Rattle.fabric_rule.proofs.Follows.{Follows, three_same, updated_same}
 use Rattle.fabric_rule.proofs.Gates.{NotOk, Passes, Refuses, gates, not_accepted, port_says, refusal_says, side_says}
-use Rattle.fabric_rule.proofs.Links.{bridge_same, not_down_up}
+use Rattle.fabric_rule.proofs.Links.{not_down_up}
 use Rattle.fabric_rule.proofs.OneQueue.{Standing, as_it_was, by_queue, device_changes, is_queue, joined_is, kept, part, part_with, port_queue, reads, seen_word, sender_changes, sent_stands, unchanged}
-use Rattle.fabric_rule.proofs.Queues.{other_dev, side_at, side_same}
 use Rattle.fabric_rule.proofs.Changes.{changes, none_closes, one_closes, stays}
 use Rattle.fabric_rule.proofs.WhatIsRead.{own_fits, same_word, word_inside}
 

@@ -4,14 +4,13 @@ use Rattle.std.specs.Prelude.{if◌then◌else◌, not, nat_lt}
 use Rattle.std.proofs.lemmas.Bool.{true≢false, false≢true}
 use Rattle.step_kinds.specs.Sides.{other_side}
 use Rattle.step_kinds.specs.declared.names.Side.{Side}
-use Rattle.step_kinds.specs.declared.names.Side.TheVariants.{A, B}
 use Rattle.step_kinds.specs.declared.plan.DevPlan.{DevPlan}
 use Rattle.step_kinds.specs.declared.plan.PairPlan.{PairPlan}
 use Rattle.step_kinds.specs.declared.lanes.LaneCopy.{LaneCopy}
 use Rattle.step_kinds.specs.declared.lanes.LaneCopy.TheVariants.{Part, Whole, OutOfTurn as NotCopying}
 use Rattle.step_kinds.specs.declared.steps.Answer.TheVariants as answer
 use Rattle.step_kinds.specs.declared.steps.Step.TheVariants.{Copy}
-use Rattle.lane_model.specs.Lane.{Entry, chunks_in}
+use Rattle.lane_model.specs.Lane.{chunks_in}
 use Rattle.lane_model.specs.Tests.{is_copying}
 use Rattle.lane_model.specs.declared.Phase.{Phase}
 use Rattle.lane_model.specs.declared.Phase.TheVariants.{Idle, Copying, Copied, Cleared}
@@ -25,15 +24,14 @@ use Rattle.frame_ring.specs.Port.{PortState, with_receiving}
 use Rattle.frame_ring.specs.Calls.{after_copy, copy_answer, gathered_next}
 use Rattle.queue_pair.specs.Queue.{QueueState, with_port}
 use Rattle.fabric_rule.specs.Answers.{of_copy}
-use Rattle.fabric_rule.specs.InPlace.{CountsOfPhase, ReceivingInPlace, receiver_of, sender_of}
+use Rattle.fabric_rule.specs.InPlace.{CountsOfPhase, ReceivingInPlace, receiver_of}
 use Rattle.fabric_rule.specs.Moves.{Move, copy_move, delivered_where_whole}
-use Rattle.fabric_rule.specs.Parts.{QueuePart, one_more, with_queue}
-use Rattle.fabric_rule.specs.StandsFor.{QueueStands, QueueView, bridge_with, has_forgotten, sent_of, view_of}
+use Rattle.fabric_rule.specs.Parts.{one_more, with_queue}
+use Rattle.fabric_rule.specs.StandsFor.{has_forgotten}
 use Rattle.fabric_rule.proofs.Changes.{changes, peer_changes}
 use Rattle.fabric_rule.proofs.Counts.{counts_one_more}
-use Rattle.fabric_rule.proofs.Follows.{Follows, by_side, updated_field, updated_here, updated_other, updated_same, same_at, three_same, two_same}
-use Rattle.fabric_rule.proofs.OneQueue.{Standing, as_it_was, by_queue, received_stands, receiver_changes, is_queue, kept, part, part_with, port_queue, reads, receives, stands_by, unchanged}
-use Rattle.fabric_rule.proofs.Queues.{sent_kept, side_at, side_same}
+use Rattle.fabric_rule.proofs.Follows.{Follows, updated_same}
+use Rattle.fabric_rule.proofs.OneQueue.{Standing, as_it_was, by_queue, received_stands, receiver_changes, kept, part, part_with, port_queue, reads, receives, stands_by}
 use Rattle.fabric_rule.proofs.WhatIsRead.{own_fits, same_part}
 
 -- of a receiver that copies

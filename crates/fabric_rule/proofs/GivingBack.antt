@@ -1,47 +1,40 @@
 -- Clearing the flags of the entry at hand, and giving it back.
-use Rattle.std.proofs.Common.{◌≡◌, ℕ, ◌+◌, ◌-◌, ◌<◌, ◌≤◌, ◌⊎◌, Bool, true, false, Some, None, List, [], ◌∷◌, refl, sym, ap, ◌∙◌, subst, inl, inr, ⊎_elim, arith}
-use Rattle.std.specs.Prelude.{if◌then◌else◌, not, slice_set}
+use Rattle.std.proofs.Common.{◌≡◌, ℕ, ◌+◌, ◌-◌, ◌<◌, ◌⊎◌, Bool, true, false, Some, None, List, refl, sym, ap, ◌∙◌, subst, inl, inr, ⊎_elim, arith}
+use Rattle.std.specs.Prelude.{if◌then◌else◌, not}
 use Rattle.std.proofs.lemmas.Bool.{true≢false, false≢true}
 use Rattle.step_kinds.specs.Sides.{other_side}
 use Rattle.step_kinds.specs.declared.names.Side.{Side}
-use Rattle.step_kinds.specs.declared.names.Side.TheVariants.{A, B}
 use Rattle.step_kinds.specs.declared.plan.DevPlan.{DevPlan}
 use Rattle.step_kinds.specs.declared.plan.PairPlan.{PairPlan}
 use Rattle.step_kinds.specs.declared.steps.Answer.TheVariants as answer
 use Rattle.step_kinds.specs.declared.steps.Step.TheVariants.{Clear, Ack}
-use Rattle.lane_model.specs.Lane.{Entry}
-use Rattle.lane_model.specs.Tests.{is_copying, is_copied, is_cleared}
+use Rattle.lane_model.specs.Tests.{is_copied, is_cleared}
 use Rattle.lane_model.specs.declared.Phase.{Phase}
 use Rattle.lane_model.specs.declared.Phase.TheVariants.{Idle, Copying, Copied, Cleared}
-use Rattle.plan_model.specs.Both.{with_side}
 use Rattle.plan_model.specs.DeclaredPlans.{SizesFit}
 use Rattle.plan_model.specs.Plans.{side_plan}
 use Rattle.ledger_model.specs.Ledger.{LanePart, lane_to, with_lane}
 use Rattle.ledger_model.specs.Outcome.{Outcome, decided, refuse_if}
 use Rattle.byte_model.specs.FreshRings.{zeroed_flags}
 use Rattle.byte_model.specs.Headers.{flags_offset}
-use Rattle.byte_model.specs.Stores.{Store}
 use Rattle.ledger_model.specs.Sending.{posts_through}
 use Rattle.step_kinds.specs.declared.steps.Label.TheVariants.{Index}
 use Rattle.ledger_model.specs.Receiving.{ack_step, clear_step}
-use Rattle.bridge_pair.specs.Bridge.{Bridge, memory_size, with_memory}
-use Rattle.frame_ring.specs.Port.{with_receiving}
+use Rattle.bridge_pair.specs.Bridge.{Bridge}
 use Rattle.frame_ring.specs.Calls.{ack_answer, acked_by, after_ack, after_clear, clear_answer, cleared_by}
 use Rattle.frame_ring.specs.Seen.{flags_cleared, index_posted}
 use Rattle.queue_pair.specs.Queue.{QueueState, with_port}
 use Rattle.fabric_rule.specs.Answers.{of_ack, of_clear}
-use Rattle.fabric_rule.specs.InPlace.{CountsOfPhase, ReceivingInPlace, ReceivingEnd, receiver_of}
+use Rattle.fabric_rule.specs.InPlace.{CountsOfPhase, ReceivingInPlace, receiver_of}
 use Rattle.fabric_rule.specs.Moves.{Move, ack_move, clear_move}
-use Rattle.fabric_rule.specs.Parts.{QueuePart, with_bridge, with_queue}
-use Rattle.fabric_rule.specs.StandsFor.{PairStands, QueueStands, bridge_for, bridge_with, has_forgotten, sent_of, view_of}
+use Rattle.fabric_rule.specs.Parts.{with_bridge, with_queue}
+use Rattle.fabric_rule.specs.StandsFor.{PairStands, has_forgotten}
 use Rattle.fabric_rule.proofs.Arrivals.{bytes_come}
-use Rattle.fabric_rule.proofs.Follows.{Follows, with_promises}
-use Rattle.fabric_rule.proofs.OneQueue.{Standing, as_it_was, by_bridge, by_queue, received_part, then_standing, is_queue, kept, part, part_with, port_queue, reads, receives, stands_by, unchanged}
-use Rattle.fabric_rule.proofs.Queues.{sent_kept}
+use Rattle.fabric_rule.proofs.Follows.{Follows}
+use Rattle.fabric_rule.proofs.OneQueue.{Standing, as_it_was, by_bridge, by_queue, received_part, then_standing, kept, part_with, port_queue, reads, receives, stands_by}
 use Rattle.fabric_rule.proofs.WhatIsRead.{own_fits}
 use Rattle.fabric_rule.proofs.RingPlaces.{fields_lie}
 use Rattle.fabric_rule.proofs.RingPosts.{index_posts}
-use Rattle.fabric_rule.proofs.StoredBytes.{one_stored}
 use Rattle.fabric_rule.proofs.WhatIsRead.{header_inside}
 
 -- of a receiver that took an entry, and of one that cleared its flags

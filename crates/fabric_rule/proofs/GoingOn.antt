@@ -3,7 +3,6 @@ use Rattle.std.proofs.Common.{◌≡◌, ℕ, ◌+◌, ◌<◌, ◌&&◌, Bool, 
 use Rattle.std.specs.Prelude.{if◌then◌else◌, nat_lt}
 use Rattle.std.proofs.lemmas.Bool.{true≢false, false≢true, cases_Bool, le-leb}
 use Rattle.step_kinds.specs.declared.names.Side.{Side}
-use Rattle.step_kinds.specs.declared.names.Side.TheVariants.{A, B}
 use Rattle.step_kinds.specs.declared.plan.DevPlan.{DevPlan}
 use Rattle.step_kinds.specs.declared.plan.PairPlan.{PairPlan}
 use Rattle.step_kinds.specs.declared.steps.Answer.TheVariants as answer
@@ -22,10 +21,9 @@ use Rattle.frame_ring.specs.Calls.{free_answer}
 use Rattle.queue_pair.specs.Queue.{QueueState}
 use Rattle.fabric_rule.specs.Moves.{Move, wake_move}
 use Rattle.fabric_rule.specs.Parts.{QueuePart, with_queue}
-use Rattle.fabric_rule.specs.StandsFor.{IsOn, PairStands, QueueStands, QueueView, has_forgotten, view_of}
-use Rattle.fabric_rule.proofs.Follows.{Follows, by_side, three_same, updated_here, updated_other}
-use Rattle.fabric_rule.proofs.OneQueue.{Standing, device_changes, is_queue, kept, part, port_queue, reads, seen_word, unchanged}
-use Rattle.fabric_rule.proofs.Queues.{other_dev, set_again, side_at}
+use Rattle.fabric_rule.specs.StandsFor.{IsOn, PairStands, has_forgotten}
+use Rattle.fabric_rule.proofs.Follows.{Follows, three_same}
+use Rattle.fabric_rule.proofs.OneQueue.{Standing, device_changes, is_queue, kept, part, reads, seen_word, unchanged}
 use Rattle.fabric_rule.proofs.WhatIsRead.{own_fits, same_word, word_inside}
 
 module _ {devs : List DevPlan} {plan : PairPlan} {k : ℕ} (now : Standing devs plan k) where

@@ -1,9 +1,8 @@
 -- A write that lands: it is taken out of those in flight, and arrives.
-use Rattle.std.proofs.Common.{◌≡◌, ℕ, ◌+◌, Bool, true, false, Option, Some, None, List, [], ◌∷◌, map, take, refl, sym, ap, ◌∙◌, subst}
-use Rattle.std.specs.Prelude.{if◌then◌else◌, not, option_map, remove, slice_get, slice_set}
+use Rattle.std.proofs.Common.{◌≡◌, ℕ, Bool, true, false, Option, Some, None, List, [], map, take, refl, sym, ap, ◌∙◌, subst}
+use Rattle.std.specs.Prelude.{if◌then◌else◌, not, option_map, remove, slice_get}
 use Rattle.std.specs.List.{AllByRecursion}
 use Rattle.std.proofs.lemmas.Option.{none-some, slice_get-map}
-use Rattle.step_kinds.specs.Bits.{with_bit}
 use Rattle.step_kinds.specs.Sides.{other_side}
 use Rattle.step_kinds.specs.declared.names.Side.{Side}
 use Rattle.step_kinds.specs.declared.names.Side.TheVariants.{A, B}
@@ -14,33 +13,28 @@ use Rattle.step_kinds.specs.declared.steps.Label.{Label}
 use Rattle.step_kinds.specs.declared.steps.Label.TheVariants.{Chunk, Len, Ver, Flag, Down, Bell, Index, Pad, Raw}
 use Rattle.step_kinds.specs.declared.steps.Step.TheVariants.{Land}
 use Rattle.order_rules.specs.Order.{lands_behind, may_land}
-use Rattle.lane_model.specs.Lane.{Entry}
 use Rattle.plan_model.specs.Both.{at_side}
 use Rattle.plan_model.specs.Link.{is_down}
 use Rattle.plan_model.specs.Orders.{order_of}
-use Rattle.byte_model.specs.Stores.{bytes_in, store_at}
 use Rattle.ledger_model.specs.Ledger.{side_of, with_side_part}
 use Rattle.ledger_model.specs.Outcome.{Outcome, decided, refuse_if}
 use Rattle.ledger_model.specs.Receiving.{land_found, land_step, lands_on, taken_out}
 use Rattle.posted_queue.specs.Landing.{answer_for}
-use Rattle.bridge_pair.specs.Bridge.{bytes_of, memory_size, with_bells, with_flight, with_memory, with_pads}
+use Rattle.bridge_pair.specs.Bridge.{memory_size, with_flight}
 use Rattle.bridge_pair.specs.Calls.{after_landed, arrived}
 use Rattle.bridge_pair.specs.Ends.{label_landed}
 use Rattle.bridge_pair.specs.Flights.{Flying, flying_order}
 use Rattle.bridge_pair.specs.declared.flying.Arrival.{Arrival}
 use Rattle.bridge_pair.specs.declared.flying.Arrival.TheVariants.{AtAddress}
-use Rattle.host_memory.specs.Memory.{written}
 use Rattle.fabric_rule.specs.Answers.{of_land}
-use Rattle.fabric_rule.specs.InPlace.{IsBegun, LiesIn, receiver_of, sender_of}
+use Rattle.fabric_rule.specs.InPlace.{IsBegun, LiesIn}
 use Rattle.fabric_rule.specs.Moves.{Move, land_move}
-use Rattle.fabric_rule.specs.StandsFor.{PairStands, SideStands, bridge_for, entry_among, flying_labelled, has_forgotten, sent_in, sent_of, view_of, writes_labelled}
+use Rattle.fabric_rule.specs.StandsFor.{PairStands, SideStands, bridge_for, entry_among, flying_labelled, has_forgotten, sent_in, view_of, writes_labelled}
 use Rattle.fabric_rule.proofs.Arrivals.{bell_comes, bytes_come, pad_comes, unseen}
 use Rattle.fabric_rule.proofs.Flights.{all_get, all_remove, have-remove, label-write, labels-writes, orders-writes, poked_at, poked_left, writes-get, writes-remove}
-use Rattle.fabric_rule.proofs.Follows.{Follows, by_side, site_made, updated_same}
+use Rattle.fabric_rule.proofs.Follows.{Follows, by_side, site_made}
 use Rattle.fabric_rule.proofs.OneQueue.{Standing, kept}
 use Rattle.fabric_rule.proofs.Posting.{with_writes}
-use Rattle.fabric_rule.proofs.Queues.{sent_kept, side_same}
-use Rattle.fabric_rule.proofs.StoredBytes.{one_stored}
 
 no_value : {X Y : Type 0} (f : X → Y) (found : Option X) → option_map f found ≡ None → found ≡ None
 no_value f None none = refl

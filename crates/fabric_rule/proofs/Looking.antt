@@ -1,10 +1,9 @@
 -- Looking for the next entry.
-use Rattle.std.proofs.Common.{◌≡◌, ℕ, ◌<◌, ◌≤◌, Bool, true, false, None, List, length, refl, sym, ap, subst, inr}
+use Rattle.std.proofs.Common.{◌≡◌, ℕ, ◌<◌, ◌≤◌, Bool, true, false, None, List, length, refl, sym, subst, inr}
 use Rattle.std.specs.Prelude.{if◌then◌else◌, not}
 use Rattle.std.proofs.lemmas.Bool.{false≢true}
-use Rattle.step_kinds.specs.Bits.{has_bit, with_bit}
+use Rattle.step_kinds.specs.Bits.{has_bit}
 use Rattle.step_kinds.specs.declared.names.Side.{Side}
-use Rattle.step_kinds.specs.declared.names.Side.TheVariants.{A, B}
 use Rattle.step_kinds.specs.declared.plan.DevPlan.{DevPlan}
 use Rattle.step_kinds.specs.declared.plan.PairPlan.{PairPlan}
 use Rattle.step_kinds.specs.declared.steps.Answer.TheVariants as answer
@@ -25,21 +24,20 @@ use Rattle.frame_ring.specs.Port.{Receiving, fresh_port, with_receiving}
 use Rattle.frame_ring.specs.Calls.{entry_found, found_seen, look_found}
 use Rattle.frame_ring.specs.declared.RingLook.TheVariants.{OutOfTurn as RingOutOfTurn}
 use Rattle.queue_pair.specs.Gates.{after_look_answer, answer_of_look, look_answer, after_look}
-use Rattle.queue_pair.specs.Queue.{QueueState, with_port}
+use Rattle.queue_pair.specs.Queue.{QueueState}
 use Rattle.queue_pair.specs.declared.LookAnswer.{LookAnswer}
 use Rattle.queue_pair.specs.declared.LookAnswer.TheVariants.{NotReady as NotJoined, Closed as QueueClosed}
 use Rattle.fabric_rule.specs.Answers.{of_look}
-use Rattle.fabric_rule.specs.InPlace.{CountsOfPhase, receiver_of}
+use Rattle.fabric_rule.specs.InPlace.{CountsOfPhase}
 use Rattle.fabric_rule.specs.Moves.{Move, look_move}
 use Rattle.fabric_rule.specs.Parts.{with_queue}
-use Rattle.fabric_rule.specs.StandsFor.{QueueStands, has_forgotten, view_of}
+use Rattle.fabric_rule.specs.StandsFor.{has_forgotten}
 use Rattle.std.proofs.Common.{[]}
 use Rattle.std.proofs.lemmas.List.{append-nil}
 use Rattle.step_kinds.specs.Sides.{other_side}
 use Rattle.fabric_rule.proofs.Changes.{one_closes, stays}
-use Rattle.fabric_rule.proofs.Follows.{Follows, by_side}
+use Rattle.fabric_rule.proofs.Follows.{Follows}
 use Rattle.fabric_rule.proofs.OneQueue.{Standing, as_it_was, by_queue, is_queue, joined_is, kept, no_joined, part, part_with, port_queue, reads, receives, sender_changes, sent_part, sent_stands, stands_by, unchanged}
-use Rattle.fabric_rule.proofs.Queues.{side_at}
 use Rattle.fabric_rule.proofs.WhatIsRead.{found_fits, own_fits, same_found}
 
 -- an idle receiver has given back all that it took
@@ -95,8 +93,7 @@ module _ {devs : List DevPlan} {plan : PairPlan} {k : ℕ} (now : Standing devs 
             (λ session. (tally_of now.site.pair side queue session).accepted) among fresh refl (h.entry refl) h.sending refl h.stopped refl refl h.counters h.accepted h.stops),
       )
   look_at_entry side queue false true (AnEntry len left) among fresh is fits short =
-      let lane = lane_to now.site.pair side queue in
-      (
+      let lane = lane_to now.site.pair side queue in (
         refl,
         receives now side queue (record lane { phase = Copying; part = 0; len = len; left = left }) among fresh refl
             (record { counts = λ _. idle_counts lane.phase lane.acked lane.cleared lane.got is ((stands_by now side queue false among fresh).receiving.counts refl); fits = inr fits; len = λ _. short len left refl }),

@@ -24,8 +24,7 @@ use Rattle.fabric_rule.specs.Parts.{PairState, QueuePart, no_queue, with_queue, 
 use Rattle.fabric_rule.specs.StandsFor.{PairStands, QueueStands, bridge_with, has_forgotten, port_for, sent_of, view_of, QueueView, SideStands, all_sent, bridge_for, is_left, receiving_for, sending_for, writes_labelled}
 use Rattle.fabric_rule.proofs.Follows.{with_promises, AllSides, state_for, by_end, by_side, same_at, two_same}
 use Rattle.fabric_rule.proofs.Links.{no_bits, bridge_same}
-use Rattle.fabric_rule.proofs.Queues.{queue_is, received_sides, sent_kept, set_again, other_dev, side_at, side_same}
-
+use Rattle.fabric_rule.proofs.Queues.{queue_is, set_again, other_dev, side_at, side_same}
 use Rattle.std.proofs.lemmas.List.{append-nil}
 use Rattle.step_kinds.specs.declared.plan.Counters.{Counters}
 use Rattle.plan_model.specs.Device.{Flow}
@@ -33,6 +32,7 @@ use Rattle.plan_model.specs.Link.{is_down}
 use Rattle.frame_ring.specs.Port.{Sending, with_receiving, with_sending}
 use Rattle.fabric_rule.proofs.Changes.{OneChanges, OneCloses, changes, grows_at, none_closes, peer_changes, peer_grows, same_read, stays}
 use Rattle.fabric_rule.proofs.Flights.{SentGrows, flight_grows, writes_grow}
+
 -- a site, and what is kept of it
 pub record Standing (devs : List DevPlan) (plan : PairPlan) (k : ℕ) : Type 0 where
   pub site : Site

@@ -1,11 +1,10 @@
 -- Posting the next write of a lane.
 use Rattle.std.proofs.Common.{◌≡◌, ℕ, ◌+◌, ◌-◌, ◌<◌, ◌||◌, Bool, true, false, List, [], ◌∷◌, ◌++◌, length, map, refl, sym, ap, ◌∙◌, subst, inl, inr, ⊎_elim, arith}
-use Rattle.std.specs.Prelude.{if◌then◌else◌, not, slice_index_or, slice_set}
+use Rattle.std.specs.Prelude.{if◌then◌else◌, not, slice_index_or}
 use Rattle.std.specs.List.{AllByRecursion}
 use Rattle.std.proofs.lemmas.Bool.{false≢true}
 use Rattle.std.proofs.lemmas.List.{append-nil, length-append}
 use Rattle.step_kinds.specs.declared.names.Side.{Side}
-use Rattle.step_kinds.specs.declared.names.Side.TheVariants.{A, B}
 use Rattle.step_kinds.specs.declared.plan.DevPlan.{DevPlan}
 use Rattle.step_kinds.specs.declared.plan.PairPlan.{PairPlan}
 use Rattle.step_kinds.specs.declared.steps.Label.{Label}
@@ -14,12 +13,11 @@ use Rattle.lane_model.specs.Lane.{Entry, GoesDown, data_of, writes_of}
 use Rattle.lane_model.specs.declared.Write.TheVariants.{Flag, Bell}
 use Rattle.lane_model.specs.Tests.{is_empty_list}
 use Rattle.lane_model.specs.declared.Write.{Write}
-use Rattle.plan_model.specs.Both.{with_side, at_side}
+use Rattle.plan_model.specs.Both.{at_side}
 use Rattle.plan_model.specs.DeclaredPlans.{SizesFit}
 use Rattle.plan_model.specs.Labels.{label_of, labels_of}
-use Rattle.plan_model.specs.Link.{is_down}
 use Rattle.plan_model.specs.Plans.{side_plan}
-use Rattle.ledger_model.specs.Ledger.{LanePart, lane_of, updated, with_lane, dev_of, side_of, tally_of}
+use Rattle.ledger_model.specs.Ledger.{LanePart, lane_of, with_lane, dev_of, side_of, tally_of}
 use Rattle.ledger_model.specs.Outcome.{Outcome}
 use Rattle.ledger_model.specs.Sending.{next_begun as next_in_ledger, post_first, post_step, posts_through}
 use Rattle.bridge_pair.specs.Bridge.{Bridge}
@@ -28,18 +26,16 @@ use Rattle.frame_ring.specs.Calls.{after_post, first_label, rest_of, let_go, pos
 use Rattle.frame_ring.specs.Seen.{ring_posted}
 use Rattle.queue_pair.specs.Queue.{QueueState, with_port}
 use Rattle.fabric_rule.specs.Answers.{of_post}
-use Rattle.fabric_rule.specs.InPlace.{FitsSlot, IsWriteOf, SendingInPlace, last_entry, receiver_of, sender_of}
+use Rattle.fabric_rule.specs.InPlace.{FitsSlot, IsWriteOf, SendingInPlace, last_entry, sender_of}
 use Rattle.fabric_rule.specs.Moves.{Move, post_move}
 use Rattle.fabric_rule.specs.Parts.{QueuePart, with_bridge, with_queue}
-use Rattle.fabric_rule.specs.StandsFor.{PairStands, QueueStands, QueueView, all_sent, has_forgotten, is_left, sent_of, view_of}
+use Rattle.fabric_rule.specs.StandsFor.{PairStands, QueueStands, has_forgotten, is_left, sent_of, view_of}
 use Rattle.fabric_rule.proofs.Begun.{begun_in_place, last-begun, length-begun}
 use Rattle.step_kinds.specs.Bits.{has_bit}
 use Rattle.step_kinds.specs.Sides.{other_side}
 use Rattle.fabric_rule.proofs.Changes.{changes, none_closes, stays}
-use Rattle.fabric_rule.proofs.Follows.{Follows, by_side, two_same, updated_here, updated_other, updated_same, with_promises}
-use Rattle.fabric_rule.proofs.Links.{bridge_same}
+use Rattle.fabric_rule.proofs.Follows.{Follows, two_same}
 use Rattle.fabric_rule.proofs.OneQueue.{Standing, as_it_was, by_bridge, by_queue, kept, part, part_with, port_queue, reads, sender_changes, sent_part, sent_stands, stands_by, then_standing}
-use Rattle.fabric_rule.proofs.Queues.{side_at, side_same}
 use Rattle.fabric_rule.proofs.RingPosts.{label_posts}
 
 -- an entry has labels to post
@@ -146,12 +142,11 @@ module _ {devs : List DevPlan} {plan : PairPlan} {k : ℕ} (now : Standing devs 
       (in_place : SendingInPlace plan side queue (sender_of (lane_of now.site.pair side queue))) (is : is_left (sender_of (lane_of now.site.pair side queue)) ≡ true → entry ≡ last_entry (sender_of (lane_of now.site.pair side queue))) where
     -- with nothing left the entry is let go
     posts_none : (lane_of now.site.pair side queue).todo ≡ [] → (lane_of now.site.pair side queue).waiting ≡ [] → PostFollows side queue entry [] []
-    posts_none none all =
-        (
-          refl,
-          sender_changes now side queue [] none_part among (none_closes now.site.pair.sides side (other_side side) queue) (stays now.site.pair.lanes side (other_side side) queue) (stays now.site.pair.devs side (other_side side) queue)
-              (stays now.site.pair.tallies side (other_side side) queue) (sym (append-nil (lane_of now.site.pair side queue).sent)) refl (λ session. refl) none_stands,
-        )
+    posts_none none all = (
+      refl,
+      sender_changes now side queue [] none_part among (none_closes now.site.pair.sides side (other_side side) queue) (stays now.site.pair.lanes side (other_side side) queue) (stays now.site.pair.devs side (other_side side) queue)
+          (stays now.site.pair.tallies side (other_side side) queue) (sym (append-nil (lane_of now.site.pair side queue).sent)) refl (λ session. refl) none_stands,
+    )
       where
         none_part : QueuePart
         none_part = part_as side queue (length (lane_of now.site.pair side queue).sent) entry [] []

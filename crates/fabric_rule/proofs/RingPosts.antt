@@ -1,10 +1,9 @@
 -- A write of a ring that a side posts, through a window that the peer has or lacks.
-use Rattle.std.proofs.Common.{◌≡◌, ℕ, ◌+◌, ◌-◌, ◌*◌, ◌/◌, ◌%◌, ◌<◌, ◌≤◌, Bool, true, false, List, [], ◌∷◌, ◌++◌, length, min, drop, refl, sym, ap, ◌∙◌, subst, inl, inr, arith}
+use Rattle.std.proofs.Common.{◌≡◌, ℕ, ◌+◌, ◌-◌, ◌*◌, ◌/◌, ◌%◌, ◌<◌, ◌≤◌, Bool, true, false, List, [], ◌∷◌, ◌++◌, length, min, drop, refl, sym, ap, ◌∙◌, subst, arith}
 use Rattle.std.specs.Prelude.{if◌then◌else◌, nat_lt, slice_index_or}
-use Rattle.std.specs.List.{AllByRecursion}
-use Rattle.std.proofs.lemmas.Bool.{cases_eq, ltb-true}
+use Rattle.std.proofs.lemmas.Bool.{ltb-true}
 use Rattle.std.proofs.lemmas.Bool.Decides.{nat_tests}
-use Rattle.std.proofs.lemmas.List.{append-nil, length-take, length-drop}
+use Rattle.std.proofs.lemmas.List.{length-take, length-drop}
 use Rattle.step_kinds.specs.Sides.{other_side}
 use Rattle.step_kinds.specs.declared.names.Side.{Side}
 use Rattle.step_kinds.specs.declared.names.Side.TheVariants.{A, B}
@@ -21,19 +20,17 @@ use Rattle.plan_model.specs.Sizes.{header_bytes, layout_of, layout_to}
 use Rattle.ring_geometry.specs.Geometry.{entries_of, header_of, index_of, max_payload_of, slot_of, window_of}
 use Rattle.byte_model.specs.Addresses.{peer_address}
 use Rattle.byte_model.specs.Headers.{flags_offset, len_offset, version_bytes, word_bytes}
-use Rattle.byte_model.specs.RingWrites.{entry_write}
 use Rattle.byte_model.proofs.Facade.{length-word_bytes}
-use Rattle.ledger_model.specs.Ledger.{PairPart, LanePart, side_of, updated, posts, with_side_part}
+use Rattle.ledger_model.specs.Ledger.{PairPart, side_of, posts, with_side_part}
 use Rattle.ledger_model.specs.Reading.{has_window}
 use Rattle.bridge_pair.specs.Bridge.{Bridge, flight_of, memory_size, with_flight}
 use Rattle.bridge_pair.specs.Flights.{Flying, flying_of}
 use Rattle.bridge_pair.specs.Writes.{PostedWrite, bell_write, memory_write}
 use Rattle.frame_ring.specs.Seen.{ring_posted, index_posted}
 use Rattle.posted_queue.specs.Flight.{given_back, posted}
-use Rattle.fabric_rule.specs.InPlace.{FlightInPlace, HaveBytes, IsBegun, IsWriteOf, LiesIn}
-use Rattle.fabric_rule.specs.StandsFor.{PairStands, SideStands, has_forgotten, view_of, write_of, bridge_for, entry_among, flying_labelled, raw_bytes, sent_of, write_through, writes_labelled}
-use Rattle.fabric_rule.proofs.Flights.{SentGrows, all_weaker, among-grows, begun-grows, writes-same}
-use Rattle.fabric_rule.proofs.Follows.{by_side, two_same, updated_here, updated_other}
+use Rattle.fabric_rule.specs.InPlace.{HaveBytes, IsBegun, IsWriteOf, LiesIn}
+use Rattle.fabric_rule.specs.StandsFor.{PairStands, SideStands, has_forgotten, view_of, write_of, bridge_for, flying_labelled, raw_bytes, sent_of, writes_labelled}
+use Rattle.fabric_rule.proofs.Follows.{by_side, two_same}
 use Rattle.fabric_rule.proofs.Links.{not_down_up}
 use Rattle.fabric_rule.proofs.OneQueue.{Standing, kept}
 use Rattle.fabric_rule.proofs.Posting.{one_more_plain, side_posts, with_writes}
