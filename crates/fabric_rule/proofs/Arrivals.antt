@@ -1,6 +1,6 @@
 -- What comes to a side of a pair that stands: bytes into its memory, a bit of its doorbell, a value into a scratchpad, and what
 -- neither end of a lane sees.
-use Rattle.std.proofs.Common.{◌≡◌, ℕ, List, [], ◌∷◌, ◌++◌, sym, ap, ◌∙◌}
+use Rattle.std.proofs.Common.{◌≡◌, ℕ, refl, List, [], ◌∷◌, ◌++◌, sym, ap, ◌∙◌}
 use Rattle.std.specs.Prelude.{if◌then◌else◌, slice_set}
 use Rattle.step_kinds.specs.Bits.{with_bit}
 use Rattle.step_kinds.specs.declared.names.Side.{Side}
@@ -8,8 +8,8 @@ use Rattle.step_kinds.specs.declared.names.Side.TheVariants.{A, B}
 use Rattle.step_kinds.specs.declared.plan.DevPlan.{DevPlan}
 use Rattle.step_kinds.specs.declared.plan.PairPlan.{PairPlan}
 use Rattle.lane_model.specs.Lane.{Entry}
-use Rattle.plan_model.specs.Both.{Both}
-use Rattle.byte_model.specs.Stores.{Store}
+use Rattle.plan_model.specs.Both.{Both, at_side}
+use Rattle.byte_model.specs.Stores.{Store, bytes_in}
 use Rattle.ledger_model.specs.Ledger.{LanePart, lane_of, side_of, with_lane, with_side_part}
 use Rattle.ledger_model.specs.Log.{same_side}
 use Rattle.memory_model.specs.Memory.{Site}
@@ -17,7 +17,7 @@ use Rattle.bridge_pair.specs.Bridge.{Bridge, bells_of, bytes_of, memory_size, pa
 use Rattle.bridge_regs.specs.Doorbell.{with_pending}
 use Rattle.host_memory.specs.Memory.{written}
 use Rattle.fabric_rule.specs.InPlace.{SendingEnd, receiver_of, sender_of}
-use Rattle.fabric_rule.specs.Parts.{PairState, queues_of, with_bridge}
+use Rattle.fabric_rule.specs.Parts.{PairState, plain_bridge, queues_of, with_bridge}
 use Rattle.fabric_rule.specs.StandsFor.{PairStands, SideStandsIn, bridge_for, bridge_with, sent_of, view_of}
 use Rattle.fabric_rule.proofs.Follows.{by_side, updated_same}
 use Rattle.fabric_rule.proofs.Queues.{sent_kept, side_same}
@@ -28,24 +28,20 @@ module _ {devs : List DevPlan} {plan : PairPlan} {k : ℕ} {site : Site} {state 
   abbrev stores_with : Side → List Store → Both (List Store)
   stores_with side stores = record { a = (if same_side A side then stores else []) ++ site.stores.a; b = (if same_side B side then stores else []) ++ site.stores.b }
 
+  -- the bridge with other bytes in a side's memory
+  abbrev filled : Bridge → Side → List ℕ → Bridge
+  filled bridge side bytes = with_memory bridge side (record { bytes = bytes; promised = [] })
+
+  bridge_filled : (side : Side) (store : Store) → bytes_of (bridge_for plan site) side ≡ bytes_in (at_side site.stores side) 0 (memory_size plan side) → IsInside (memory_size plan side) store
+      → filled (plain_bridge state.bridge) side (written store.at store.bytes (bytes_of (plain_bridge state.bridge) side)) ≡ filled (bridge_for plan site) side (bytes_in (store ∷ at_side site.stores side) 0 (memory_size plan side))
+  bridge_filled side store same inside =
+      ap (λ (bridge : Bridge). filled bridge side (written store.at store.bytes (bytes_of bridge side))) stands.bridge
+      ∙ ap (filled (bridge_for plan site) side) (ap (written store.at store.bytes) same ∙ sym (one_stored store (at_side site.stores side) (memory_size plan side) inside))
+
   pub bytes_come : (side : Side) (store : Store) → IsInside (memory_size plan side) store
       → PairStands devs plan k (record site { stores = stores_with side (store ∷ []) }) (with_bridge state (with_bytes state.bridge side (written store.at store.bytes (bytes_of state.bridge side))))
-  bytes_come A store inside =
-      record {
-        bridge =
-            ap (λ (bridge : Bridge). with_memory bridge A (record { bytes = written store.at store.bytes (bytes_of bridge A); promised = [] })) stands.bridge
-            ∙ ap (λ bytes. with_memory (bridge_for plan site) A (record { bytes = bytes; promised = [] })) (sym (one_stored store site.stores.a (memory_size plan A) inside));
-        link = stands.link;
-        sides = stands.sides;
-      }
-  bytes_come B store inside =
-      record {
-        bridge =
-            ap (λ (bridge : Bridge). with_memory bridge B (record { bytes = written store.at store.bytes (bytes_of bridge B); promised = [] })) stands.bridge
-            ∙ ap (λ bytes. with_memory (bridge_for plan site) B (record { bytes = bytes; promised = [] })) (sym (one_stored store site.stores.b (memory_size plan B) inside));
-        link = stands.link;
-        sides = stands.sides;
-      }
+  bytes_come A store inside = record { bridge = bridge_filled A store refl inside; link = stands.link; sides = stands.sides }
+  bytes_come B store inside = record { bridge = bridge_filled B store refl inside; link = stands.link; sides = stands.sides }
 
   -- a doorbell and a scratchpad store nothing
   abbrev rung : Bridge → Side → ℕ → Bridge

@@ -6,6 +6,7 @@ use Rattle.step_kinds.specs.Sides.{other_side}
 use Rattle.step_kinds.specs.declared.names.Side.{Side}
 use Rattle.step_kinds.specs.declared.plan.DevPlan.{DevPlan}
 use Rattle.step_kinds.specs.declared.plan.PairPlan.{PairPlan}
+use Rattle.step_kinds.specs.declared.steps.Answer.{Answer}
 use Rattle.step_kinds.specs.declared.steps.Answer.TheVariants as answer
 use Rattle.step_kinds.specs.declared.steps.Step.TheVariants.{Clear, Ack}
 use Rattle.lane_model.specs.Tests.{is_copied, is_cleared}
@@ -72,14 +73,18 @@ module _ {devs : List DevPlan} {plan : PairPlan} {k : ℕ} (now : Standing devs 
   abbrev clear_made : Side → ℕ → Bool → Outcome
   clear_made side queue copied = decided now.site.pair (refuse_if (not copied) answer.OutOfTurn None) (answer.Cleared (lane_to now.site.pair side queue).cleared) (with_lane now.site.pair (other_side side) queue (flags_gone side queue))
 
-  abbrev clears : Side → ℕ → Bool → ℕ → Move
-  clears side queue copied n =
+  -- where the receiver is in turn it comes to another place, and the bridge is another
+  abbrev moves : Side → ℕ → LanePart → Bool → Answer → Bridge → Move
+  moves side queue lane in_turn said bridge =
       record {
-        answer = of_clear (if copied then Some n else None);
+        answer = said;
         after =
-            with_bridge (with_queue (kept now) side queue (part_with now side queue (with_port (port_queue now side queue false) (if copied then (received_part now side queue (flags_gone side queue)).queue.port else (port_queue now side queue false).port))))
-            (if copied then flags_cleared (kept now).bridge side queue n else (kept now).bridge);
+            with_bridge (with_queue (kept now) side queue (part_with now side queue (with_port (port_queue now side queue false) (if in_turn then (received_part now side queue lane).queue.port else (port_queue now side queue false).port))))
+            (if in_turn then bridge else (kept now).bridge);
       }
+
+  abbrev clears : Side → ℕ → Bool → ℕ → Move
+  clears side queue copied n = moves side queue (flags_gone side queue) copied (of_clear (if copied then Some n else None)) (flags_cleared (kept now).bridge side queue n)
 
   abbrev ack_made : Side → ℕ → Bool → Outcome
   ack_made side queue cleared =
@@ -87,13 +92,7 @@ module _ {devs : List DevPlan} {plan : PairPlan} {k : ℕ} (now : Standing devs 
       (posts_through (reads now) (with_lane now.site.pair (other_side side) queue (given side queue)) side (Index queue (lane_to now.site.pair side queue).acked))
 
   abbrev acks : Side → ℕ → Bool → ℕ → Move
-  acks side queue cleared n =
-      record {
-        answer = of_ack (if cleared then Some n else None);
-        after =
-            with_bridge (with_queue (kept now) side queue (part_with now side queue (with_port (port_queue now side queue false) (if cleared then (received_part now side queue (given side queue)).queue.port else (port_queue now side queue false).port))))
-            (if cleared then index_posted (kept now).bridge side queue n else (kept now).bridge);
-      }
+  acks side queue cleared n = moves side queue (given side queue) cleared (of_ack (if cleared then Some n else None)) (index_posted (kept now).bridge side queue n)
 
   clear_at : (side : Side) (queue : ℕ) (copied : Bool) → queue < (side_plan plan side).queues → has_forgotten now.site.pair.link side ≡ false → is_copied (lane_to now.site.pair side queue).phase ≡ copied
       → Follows devs plan k now.site (Clear k side queue) (clear_made side queue copied) (clears side queue copied ((lane_to now.site.pair side queue).got - 1))

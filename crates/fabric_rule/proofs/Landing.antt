@@ -40,15 +40,6 @@ no_value : {X Y : Type 0} (f : X → Y) (found : Option X) → option_map f foun
 no_value f None none = refl
 no_value f (Some x) none = absurd (none-some (f x) (sym none))
 
--- where bytes arrive, and which
-abbrev arrival_at : Arrival → ℕ
-arrival_at (AtAddress at bytes) = at
-arrival_at arrival = 0
-
-abbrev arrival_bytes : Arrival → List ℕ
-arrival_bytes (AtAddress at bytes) = bytes
-arrival_bytes arrival = []
-
 module _ {devs : List DevPlan} {plan : PairPlan} {k : ℕ} (now : Standing devs plan k) (place : ℕ) where
   -- a side without the write at a place
   taken_side : (side : Side) (label : Label) → slice_get (side_of now.site.pair side).flight place ≡ Some label
