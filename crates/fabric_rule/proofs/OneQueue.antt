@@ -78,11 +78,15 @@ module _ {devs : List DevPlan} {plan : PairPlan} {k : ℕ} (now : Standing devs 
   joined_is A queue = refl
   joined_is B queue = refl
 
+  -- it stands
+  pub stands_now : PairStands devs plan k now.site kept
+  stands_now = record { bridge = refl; link = now.link; sides = now.sides }
+
   -- nothing changed
   pub unchanged : (side : Side) (queue : ℕ) (q : QueueState) → (part side queue).queue ≡ q → PairStands devs plan k now.site (with_queue kept side queue (part_with side queue q))
   unchanged side queue q is =
       subst (λ (q : QueueState). PairStands devs plan k now.site (with_queue kept side queue (part_with side queue q))) is
-      (subst (PairStands devs plan k now.site) (sym (set_again kept side queue)) (record { bridge = refl; link = now.link; sides = now.sides }))
+      (subst (PairStands devs plan k now.site) (sym (set_again kept side queue)) stands_now)
 
   pub as_it_was : (side : Side) (queue : ℕ) (forgotten : Bool) → queue < (side_plan plan side).queues → has_forgotten now.site.pair.link side ≡ forgotten → PairStands devs plan k now.site (with_queue kept side queue (part_with side queue (port_queue side queue forgotten)))
   as_it_was side queue forgotten among is = unchanged side queue (port_queue side queue forgotten) (is_queue side queue forgotten among is)

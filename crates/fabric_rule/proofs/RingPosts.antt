@@ -32,8 +32,8 @@ use Rattle.fabric_rule.specs.InPlace.{HaveBytes, IsBegun, IsWriteOf, LiesIn}
 use Rattle.fabric_rule.specs.StandsFor.{PairStands, SideStands, has_forgotten, view_of, write_of, bridge_for, flying_labelled, raw_bytes, sent_of, writes_labelled}
 use Rattle.fabric_rule.proofs.Follows.{by_side, two_same}
 use Rattle.fabric_rule.proofs.Links.{not_down_up}
-use Rattle.fabric_rule.proofs.OneQueue.{Standing, kept}
-use Rattle.fabric_rule.proofs.Posting.{one_more_plain, side_posts, with_writes}
+use Rattle.fabric_rule.proofs.OneQueue.{stands_now, Standing, kept}
+use Rattle.fabric_rule.proofs.Posting.{posts_one}
 use Rattle.fabric_rule.proofs.RingPlaces.{RingLies, fields_lie, in_window, lies_of}
 use Rattle.fabric_rule.proofs.WhatIsRead.{peer_fits}
 
@@ -114,30 +114,11 @@ module _ {devs : List DevPlan} {plan : PairPlan} {k : ℕ} (now : Standing devs 
   lost A = record { bridge = refl; link = now.link; sides = now.sides }
   lost B = record { bridge = refl; link = now.link; sides = now.sides }
 
-  -- one that isn't is in flight behind the others
-  bridge_then : (side : Side) (label : Label) (write : PostedWrite) → flying_labelled plan side (sent_by side) (raw_bytes label []) label ≡ flying_of plan side write
-      → with_writes (bridge_for plan now.site) side (writes_labelled plan side (sent_by side) (side_of now.site.pair side).flight (side_of now.site.pair side).poked ++ flying_of plan side write ∷ [])
-      ≡ with_writes (bridge_for plan now.site) side (writes_labelled plan side (sent_by side) ((side_of now.site.pair side).flight ++ label ∷ []) (side_of now.site.pair side).poked)
-  bridge_then side label write same =
-      ap (λ flying. with_writes (bridge_for plan now.site) side (writes_labelled plan side (sent_by side) (side_of now.site.pair side).flight (side_of now.site.pair side).poked ++ flying ∷ [])) (sym same)
-      ∙ ap (with_writes (bridge_for plan now.site) side) (one_more_plain plan side (sent_by side) (side_of now.site.pair side).flight (side_of now.site.pair side).poked label (now.sides side).in_flight.raws)
-
-  side_then : (side : Side) (label : Label) (write : PostedWrite) → flying_labelled plan side (sent_by side) (raw_bytes label []) label ≡ flying_of plan side write → IsBegun (sent_by side) label → HaveBytes (label ∷ []) []
-      → LiesIn (memory_size plan (other_side side)) (flying_of plan side write).arrival → is_up now.site.pair.link.state ≡ true
-      → SideStands devs plan k side (is_down now.site.pair.link.state) (has_forgotten now.site.pair.link side) (side_of now.site.pair side).joined ((side_of now.site.pair side).flight ++ label ∷ []) (side_of now.site.pair side).poked (view_of now.site.pair side) (at_side now.queues side)
-  side_then side label write same begun ring place up =
-      side_posts devs plan k side _ _ _ _ _ _ _ label (now.sides side) (not_down_up now.site.pair.link.state up) begun (subst (λ (flying : Flying). LiesIn (memory_size plan (other_side side)) flying.arrival) (sym same) place) ring
-
-  goes_out : (side : Side) (label : Label) (write : PostedWrite) → flying_labelled plan side (sent_by side) (raw_bytes label []) label ≡ flying_of plan side write → IsBegun (sent_by side) label → HaveBytes (label ∷ []) []
-      → LiesIn (memory_size plan (other_side side)) (flying_of plan side write).arrival → is_up now.site.pair.link.state ≡ true → Posts side label write true true
-  goes_out A label write same begun ring place up = record { bridge = bridge_then A label write same; link = now.link; sides = by_side _ (side_then A label write same begun ring place up) (now.sides B) }
-  goes_out B label write same begun ring place up = record { bridge = bridge_then B label write same; link = now.link; sides = by_side _ (now.sides A) (side_then B label write same begun ring place up) }
-
   posts_out : (side : Side) (label : Label) (write : PostedWrite) (reached up : Bool) → flying_labelled plan side (sent_by side) (raw_bytes label []) label ≡ flying_of plan side write → IsBegun (sent_by side) label → HaveBytes (label ∷ []) []
       → (reached ≡ true → LiesIn (memory_size plan (other_side side)) (flying_of plan side write).arrival) → is_up now.site.pair.link.state ≡ up → Posts side label write reached up
   posts_out side label write false up same begun ring place is = lost side
   posts_out side label write true false same begun ring place is = lost side
-  posts_out side label write true true same begun ring place is = goes_out side label write same begun ring (place refl) is
+  posts_out side label write true true same begun ring place is = posts_one (stands_now now) is side label (flying_of plan side write) _ same begun (place refl) ring
 
   pub index_posts : (side : Side) (queue n : ℕ) → queue < (side_plan plan side).queues → SizesFit plan
       → PairStands devs plan k (record now.site { pair = if has_window plan side (Index queue n) then posts now.site.pair side (Index queue n) else now.site.pair }) (record (kept now) { bridge = index_posted (kept now).bridge side queue n })
