@@ -26,10 +26,9 @@ use Rattle.hand_shake.specs.Offers.{with_posted}
 use Rattle.fabric_rule.specs.InPlace.{LinkInPlace}
 use Rattle.fabric_rule.specs.Moves.{poke_move, show_mem_move, show_queue_move, spad_move}
 use Rattle.fabric_rule.specs.Parts.{PairState, QueuePart}
-use Rattle.fabric_rule.specs.StandsFor.{bridge_for, sent_of, writes_labelled}
+use Rattle.fabric_rule.specs.StandsFor.{sent_of, writes_labelled}
 use Rattle.fabric_rule.proofs.Flights.{labels-writes, length-writes}
-use Rattle.fabric_rule.proofs.Follows.{AllSides, Follows, by_side, state_for}
-use Rattle.fabric_rule.proofs.Links.{not_down_up}
+use Rattle.fabric_rule.proofs.Follows.{AllSides, Follows, state_for}
 use Rattle.fabric_rule.proofs.Posting.{posts_one, posts_with}
 use Rattle.fabric_rule.proofs.RingPlaces.{in_window}
 use Rattle.fabric_rule.proofs.StoredBytes.{read_inside}
@@ -69,12 +68,11 @@ module _ (devs : List DevPlan) (plan : PairPlan) (k : ℕ) (site : Site) (pages 
       })
       (record { answer = Done; after = record state { bridge = if up then with_posted state.bridge side (memory_write (Raw window offset (length bytes)) window offset bytes) else state.bridge } })
   poke_at side window offset bytes false fits is = (refl, record { bridge = refl; link = link; sides = sides })
-  poke_at side window offset bytes true fits is =
-      (
-        refl,
-        posts_with (record { bridge = refl; link = link; sides = sides }) is side (Raw window offset (length bytes)) (bytes ∷ []) (flying_of plan side (memory_write (Raw window offset (length bytes)) window offset bytes)) _ refl tt
-            (poke_place side window offset bytes fits) tt,
-      )
+  poke_at side window offset bytes true fits is = (
+    refl,
+    posts_with (record { bridge = refl; link = link; sides = sides }) is side (Raw window offset (length bytes)) (bytes ∷ []) (flying_of plan side (memory_write (Raw window offset (length bytes)) window offset bytes)) _ refl tt
+        (poke_place side window offset bytes fits) tt,
+  )
 
   pub poke_follows : (side : Side) (window offset : ℕ) (bytes : List ℕ) → IsPoke plan side window offset bytes
       → Follows devs plan k site (Poke k side window offset bytes) (poke_step site.pair side window offset bytes) (poke_move state side window offset bytes)

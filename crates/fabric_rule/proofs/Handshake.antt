@@ -39,7 +39,7 @@ use Rattle.fabric_rule.specs.Answers.{of_check, of_join, of_offer, of_ready}
 use Rattle.fabric_rule.specs.InPlace.{LinkInPlace}
 use Rattle.fabric_rule.specs.Moves.{bridge_move, check_move, join_move, offer_move, ready_move}
 use Rattle.fabric_rule.specs.Parts.{PairState, QueuePart, with_bridge}
-use Rattle.fabric_rule.specs.StandsFor.{SideStands, book_for, bridge_for, has_forgotten, sent_of, view_of, writes_labelled, PairStands}
+use Rattle.fabric_rule.specs.StandsFor.{SideStands, book_for, bridge_for, has_forgotten, view_of, PairStands}
 use Rattle.bridge_pair.specs.declared.book.SideBook.{SideBook}
 use Rattle.bridge_pair.specs.Flights.{flying_of}
 use Rattle.bridge_pair.specs.Writes.{pad_write}

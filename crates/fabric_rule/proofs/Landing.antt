@@ -1,5 +1,5 @@
 -- A write that lands: it is taken out of those in flight, and arrives.
-use Rattle.std.proofs.Common.{◌≡◌, ℕ, Bool, true, false, Option, Some, None, List, [], map, take, refl, sym, ap, ◌∙◌, subst}
+use Rattle.std.proofs.Common.{◌≡◌, ℕ, Bool, true, false, Option, Some, None, List, map, take, refl, sym, ap, ◌∙◌, subst}
 use Rattle.std.specs.Prelude.{if◌then◌else◌, not, option_map, remove, slice_get}
 use Rattle.std.specs.List.{AllByRecursion}
 use Rattle.std.proofs.lemmas.Option.{none-some, slice_get-map}
@@ -24,8 +24,6 @@ use Rattle.bridge_pair.specs.Bridge.{memory_size, with_flight}
 use Rattle.bridge_pair.specs.Calls.{after_landed, arrived}
 use Rattle.bridge_pair.specs.Ends.{label_landed}
 use Rattle.bridge_pair.specs.Flights.{Flying, flying_order}
-use Rattle.bridge_pair.specs.declared.flying.Arrival.{Arrival}
-use Rattle.bridge_pair.specs.declared.flying.Arrival.TheVariants.{AtAddress}
 use Rattle.fabric_rule.specs.Answers.{of_land}
 use Rattle.fabric_rule.specs.InPlace.{IsBegun, LiesIn}
 use Rattle.fabric_rule.specs.Moves.{Move, land_move}

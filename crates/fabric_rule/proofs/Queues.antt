@@ -3,20 +3,18 @@ use Rattle.std.proofs.Common.{◌≡◌, ℕ, ◌<◌, Bool, true, false, List, 
 use Rattle.std.specs.Prelude.{slice_index_or, slice_set}
 use Rattle.std.proofs.lemmas.Bool.{cases_eq}
 use Rattle.std.proofs.lemmas.List.{set-get_or, get_or-set_same, get_or-set_other, length-set}
-use Rattle.step_kinds.specs.Sides.{other_side}
 use Rattle.step_kinds.specs.declared.names.Side.{Side}
 use Rattle.step_kinds.specs.declared.names.Side.TheVariants.{A, B}
 use Rattle.step_kinds.specs.declared.plan.DevPlan.{DevPlan}
 use Rattle.step_kinds.specs.declared.plan.PairPlan.{PairPlan}
 use Rattle.step_kinds.specs.declared.steps.Label.{Label}
 use Rattle.lane_model.specs.Lane.{Entry}
-use Rattle.plan_model.specs.Both.{Both, at_side, with_side}
 use Rattle.plan_model.specs.Plans.{side_plan}
-use Rattle.ledger_model.specs.Ledger.{DevPart, LanePart, PairPart, lane_to, updated, with_lane}
-use Rattle.fabric_rule.specs.InPlace.{FlightInPlace, receiver_of, sender_of}
+use Rattle.ledger_model.specs.Ledger.{DevPart, LanePart, updated}
+use Rattle.fabric_rule.specs.InPlace.{FlightInPlace}
 use Rattle.fabric_rule.specs.Parts.{PairState, QueuePart, no_queue, queue_of, with_queue}
-use Rattle.fabric_rule.specs.StandsFor.{QueueStands, QueueView, SideStands, has_forgotten, port_for, sent_in, sent_of, view_of, writes_labelled}
-use Rattle.fabric_rule.proofs.Follows.{AllSides, by_side, same_at, updated_here, updated_other, updated_same}
+use Rattle.fabric_rule.specs.StandsFor.{QueueStands, QueueView, SideStands, port_for, sent_in, sent_of, writes_labelled}
+use Rattle.fabric_rule.proofs.Follows.{same_at, updated_same}
 
 module _ (devs : List DevPlan) (plan : PairPlan) (k : ℕ) (side : Side) (down forgotten : Bool) (joined : ℕ) where
   -- the same side by views that are the same

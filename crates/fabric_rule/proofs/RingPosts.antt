@@ -14,7 +14,7 @@ use Rattle.step_kinds.specs.declared.steps.Label.TheVariants.{Chunk, Len, Ver, F
 use Rattle.lane_model.specs.Lane.{Entry, GoesDown, bytes_of, chunk_of, chunk_size, chunks_in, done, left_of}
 use Rattle.plan_model.specs.DeclaredPlans.{IsPair, SizesFit}
 use Rattle.plan_model.specs.Both.{at_side}
-use Rattle.plan_model.specs.Link.{is_down, is_up}
+use Rattle.plan_model.specs.Link.{is_up}
 use Rattle.plan_model.specs.Plans.{side_plan}
 use Rattle.plan_model.specs.Sizes.{header_bytes, layout_of, layout_to}
 use Rattle.ring_geometry.specs.Geometry.{entries_of, header_of, index_of, max_payload_of, slot_of, window_of}
@@ -24,14 +24,13 @@ use Rattle.byte_model.proofs.Facade.{length-word_bytes}
 use Rattle.ledger_model.specs.Ledger.{PairPart, side_of, posts, with_side_part}
 use Rattle.ledger_model.specs.Reading.{has_window}
 use Rattle.bridge_pair.specs.Bridge.{Bridge, flight_of, memory_size, with_flight}
-use Rattle.bridge_pair.specs.Flights.{Flying, flying_of}
+use Rattle.bridge_pair.specs.Flights.{flying_of}
 use Rattle.bridge_pair.specs.Writes.{PostedWrite, bell_write, memory_write}
 use Rattle.frame_ring.specs.Seen.{ring_posted, index_posted}
 use Rattle.posted_queue.specs.Flight.{given_back, posted}
 use Rattle.fabric_rule.specs.InPlace.{HaveBytes, IsBegun, IsWriteOf, LiesIn}
-use Rattle.fabric_rule.specs.StandsFor.{PairStands, SideStands, has_forgotten, view_of, write_of, bridge_for, flying_labelled, raw_bytes, sent_of, writes_labelled}
-use Rattle.fabric_rule.proofs.Follows.{by_side, two_same}
-use Rattle.fabric_rule.proofs.Links.{not_down_up}
+use Rattle.fabric_rule.specs.StandsFor.{PairStands, write_of, flying_labelled, raw_bytes, sent_of}
+use Rattle.fabric_rule.proofs.Follows.{two_same}
 use Rattle.fabric_rule.proofs.OneQueue.{stands_now, Standing, kept}
 use Rattle.fabric_rule.proofs.Posting.{posts_one}
 use Rattle.fabric_rule.proofs.RingPlaces.{RingLies, fields_lie, in_window, lies_of}
