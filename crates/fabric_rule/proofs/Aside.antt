@@ -20,17 +20,16 @@ use Rattle.ledger_model.specs.Ledger.{side_of, with_side_part}
 use Rattle.ledger_model.specs.Registers.{poke_step, show_mem_step, show_queue_step, spad_step}
 use Rattle.memory_model.specs.Memory.{Site, bytes_of_site}
 use Rattle.bridge_pair.specs.Bridge.{memory_size}
-use Rattle.bridge_pair.specs.Flights.{Flying}
+use Rattle.bridge_pair.specs.Flights.{Flying, flying_of}
 use Rattle.bridge_pair.specs.Writes.{memory_write, pad_write}
 use Rattle.hand_shake.specs.Offers.{with_posted}
 use Rattle.fabric_rule.specs.InPlace.{LinkInPlace}
 use Rattle.fabric_rule.specs.Moves.{poke_move, show_mem_move, show_queue_move, spad_move}
 use Rattle.fabric_rule.specs.Parts.{PairState, QueuePart}
-use Rattle.fabric_rule.specs.StandsFor.{bridge_for, sent_of, writes_labelled}
+use Rattle.fabric_rule.specs.StandsFor.{sent_of, writes_labelled}
 use Rattle.fabric_rule.proofs.Flights.{labels-writes, length-writes}
-use Rattle.fabric_rule.proofs.Follows.{AllSides, Follows, by_side, state_for}
-use Rattle.fabric_rule.proofs.Links.{not_down_up}
-use Rattle.fabric_rule.proofs.Posting.{one_more_plain, one_more_write, side_posts, side_posts_raw, with_writes}
+use Rattle.fabric_rule.proofs.Follows.{AllSides, Follows, state_for}
+use Rattle.fabric_rule.proofs.Posting.{posts_one, posts_with}
 use Rattle.fabric_rule.proofs.RingPlaces.{in_window}
 use Rattle.fabric_rule.proofs.StoredBytes.{read_inside}
 
@@ -46,22 +45,7 @@ module _ (devs : List DevPlan) (plan : PairPlan) (k : ℕ) (site : Site) (pages 
       (record { answer = Done; after = if up then with_side_part site.pair side (record (side_of site.pair side) { flight = (side_of site.pair side).flight ++ Pad i value ∷ [] }) else site.pair })
       (record { answer = Done; after = record state { bridge = if up then with_posted state.bridge side (pad_write i value) else state.bridge } })
   spad_at side i value false is = (refl, record { bridge = refl; link = link; sides = sides })
-  spad_at A i value true is = (
-    refl,
-    record {
-      bridge = ap (with_writes (bridge_for plan site) A) (one_more_plain plan A (sent_of site.pair.lanes.a) site.pair.sides.a.flight site.pair.sides.a.poked (Pad i value) (sides A).in_flight.raws);
-      link = link;
-      sides = by_side _ (side_posts devs plan k A _ _ _ _ _ _ _ (Pad i value) (sides A) (not_down_up site.pair.link.state is) tt tt tt) (sides B);
-    },
-  )
-  spad_at B i value true is = (
-    refl,
-    record {
-      bridge = ap (with_writes (bridge_for plan site) B) (one_more_plain plan B (sent_of site.pair.lanes.b) site.pair.sides.b.flight site.pair.sides.b.poked (Pad i value) (sides B).in_flight.raws);
-      link = link;
-      sides = by_side _ (sides A) (side_posts devs plan k B _ _ _ _ _ _ _ (Pad i value) (sides B) (not_down_up site.pair.link.state is) tt tt tt);
-    },
-  )
+  spad_at side i value true is = (refl, posts_one (record { bridge = refl; link = link; sides = sides }) is side (Pad i value) (flying_of plan side (pad_write i value)) _ refl tt tt tt)
 
   pub spad_follows : (side : Side) (i value : ℕ) → Follows devs plan k site (Spad k side i value) (spad_step site.pair side i value) (spad_move state side i value)
   spad_follows side i value = spad_at side i value (is_up site.pair.link.state) refl
@@ -84,21 +68,10 @@ module _ (devs : List DevPlan) (plan : PairPlan) (k : ℕ) (site : Site) (pages 
       })
       (record { answer = Done; after = record state { bridge = if up then with_posted state.bridge side (memory_write (Raw window offset (length bytes)) window offset bytes) else state.bridge } })
   poke_at side window offset bytes false fits is = (refl, record { bridge = refl; link = link; sides = sides })
-  poke_at A window offset bytes true fits is = (
+  poke_at side window offset bytes true fits is = (
     refl,
-    record {
-      bridge = ap (with_writes (bridge_for plan site) A) (one_more_write plan A (sent_of site.pair.lanes.a) site.pair.sides.a.flight site.pair.sides.a.poked (Raw window offset (length bytes)) (bytes ∷ []) (sides A).in_flight.raws);
-      link = link;
-      sides = by_side _ (side_posts_raw devs plan k A _ _ _ _ _ _ _ (Raw window offset (length bytes)) (bytes ∷ []) (sides A) (not_down_up site.pair.link.state is) tt (poke_place A window offset bytes fits) tt) (sides B);
-    },
-  )
-  poke_at B window offset bytes true fits is = (
-    refl,
-    record {
-      bridge = ap (with_writes (bridge_for plan site) B) (one_more_write plan B (sent_of site.pair.lanes.b) site.pair.sides.b.flight site.pair.sides.b.poked (Raw window offset (length bytes)) (bytes ∷ []) (sides B).in_flight.raws);
-      link = link;
-      sides = by_side _ (sides A) (side_posts_raw devs plan k B _ _ _ _ _ _ _ (Raw window offset (length bytes)) (bytes ∷ []) (sides B) (not_down_up site.pair.link.state is) tt (poke_place B window offset bytes fits) tt);
-    },
+    posts_with (record { bridge = refl; link = link; sides = sides }) is side (Raw window offset (length bytes)) (bytes ∷ []) (flying_of plan side (memory_write (Raw window offset (length bytes)) window offset bytes)) _ refl tt
+        (poke_place side window offset bytes fits) tt,
   )
 
   pub poke_follows : (side : Side) (window offset : ℕ) (bytes : List ℕ) → IsPoke plan side window offset bytes

@@ -2,10 +2,10 @@
 use Rattle.std.proofs.Common.{◌≡◌, ℕ, ◌+◌, ◌-◌, ◌<◌, ◌&&◌, ◌||◌, ◌⊎◌, Bool, true, false, Option, Some, None, List, [], ◌∷◌, ◌++◌, length, refl, sym, ap, ◌∙◌, subst, inl, inr, ⊎_elim, arith}
 use Rattle.std.specs.Prelude.{if◌then◌else◌, nat_lt, not}
 use Rattle.std.specs.List.{AllByRecursion}
-use Rattle.std.proofs.lemmas.Bool.{true≢false, false≢true, cases_Bool, le-leb}
+use Rattle.std.proofs.lemmas.Bool.{true≢false, cases_Bool, le-leb}
 use Rattle.step_kinds.specs.Bits.{has_bit, with_bit}
+use Rattle.step_kinds.specs.Sides.{other_side}
 use Rattle.step_kinds.specs.declared.names.Side.{Side}
-use Rattle.step_kinds.specs.declared.names.Side.TheVariants.{A, B}
 use Rattle.step_kinds.specs.declared.plan.Counters.{Counters}
 use Rattle.step_kinds.specs.declared.plan.DevPlan.{DevPlan}
 use Rattle.step_kinds.specs.declared.plan.PairPlan.{PairPlan}
@@ -21,17 +21,15 @@ use Rattle.plan_model.specs.DeclaredPlans.{SizesFit}
 use Rattle.plan_model.specs.Device.{Flow, stopped_after_send, count_accepted, count_refused}
 use Rattle.plan_model.specs.Ethernet.{ethernet_frame}
 use Rattle.plan_model.specs.Labels.{labels_of}
-use Rattle.plan_model.specs.Link.{is_down, is_up}
+use Rattle.plan_model.specs.Link.{is_up}
 use Rattle.plan_model.specs.Pieces.{pieces_of}
 use Rattle.plan_model.specs.Plans.{dev_plan, side_plan}
 use Rattle.plan_model.specs.Sizes.{sizes_of, pieces_in}
 use Rattle.byte_model.specs.Addresses.{own_index_word}
-use Rattle.byte_model.specs.Headers.{free_in_memory, index_word_in}
+use Rattle.byte_model.specs.Headers.{free_in_memory}
 use Rattle.ledger_model.specs.Ledger.{DevPart, LanePart, Tally, dev_of, head_in, lane_of, side_of, tally_of, updated, with_lane, with_side_part}
 use Rattle.ledger_model.specs.Outcome.{Outcome, decided}
-use Rattle.ledger_model.specs.Reading.{Reading, by_bytes}
 use Rattle.ledger_model.specs.Sending.{begin_step, counts_accepted, counts_refused, counts_sent, frame_begun as lane_begun, begun_lane, flow_of, is_busy as is_lane_busy, qpdown_step, xbegin_step}
-use Rattle.memory_model.specs.Memory.{Site, bytes_of_site}
 use Rattle.bridge_pair.specs.Bridge.{memory_size}
 use Rattle.frame_ring.specs.Port.{PortState, with_sending}
 use Rattle.frame_ring.specs.Calls.{begin_answer as port_begin_answer, after_begin as port_after_begin, down_answer, after_down, entries_begun, free_answer, where_begun}
@@ -40,38 +38,21 @@ use Rattle.queue_pair.specs.Queue.{QueueState, with_port}
 use Rattle.queue_pair.specs.declared.BeginAnswer.{BeginAnswer}
 use Rattle.queue_pair.specs.declared.BeginAnswer.TheVariants.{Ok as IsBegun, LinkDown as IsLinkDown}
 use Rattle.step_kinds.specs.declared.lanes.Begun.{Begun}
-use Rattle.frame_ring.specs.Seen.{bytes_seen}
 use Rattle.fabric_rule.specs.Answers.{of_begin, of_xbegin}
-use Rattle.fabric_rule.specs.InPlace.{FitsSlot, receiver_of, sender_of}
+use Rattle.fabric_rule.specs.InPlace.{FitsSlot, sender_of}
 use Rattle.fabric_rule.specs.Moves.{Move, accepted_where_begun, begin_move, qpdown_move, xbegin_move, xbegun}
-use Rattle.fabric_rule.specs.Parts.{PairState, QueuePart, SessionCount, count_in, one_more, with_queue}
-use Rattle.fabric_rule.specs.StandsFor.{IsOn, PairStands, QueueStands, QueueView, SideStands, all_sent, has_forgotten, sent_of, view_of}
+use Rattle.fabric_rule.specs.Parts.{QueuePart, SessionCount, count_in, one_more, with_queue}
+use Rattle.fabric_rule.specs.StandsFor.{IsOn, PairStands, QueueStands, has_forgotten, view_of}
 use Rattle.fabric_rule.proofs.Begun.{begun_in_place, free_less, last-begun, length-begun, length-pieces, pieces_fit, some_pieces}
-use Rattle.fabric_rule.proofs.Counts.{count-one_more, has-with_other, has-with_same, one_at, updated-one_more}
-use Rattle.fabric_rule.proofs.Follows.{Follows, by_side, same_at, three_same, two_same, updated_field, updated_here, updated_other, updated_same}
+use Rattle.fabric_rule.proofs.Counts.{counts_one_more}
+use Rattle.fabric_rule.proofs.Follows.{Follows, three_same, updated_same}
 use Rattle.fabric_rule.proofs.Gates.{NotOk, Passes, Refuses, gates, not_accepted, port_says, refusal_says, side_says}
-use Rattle.fabric_rule.proofs.Links.{bridge_same, not_down_up}
-use Rattle.fabric_rule.proofs.OneQueue.{Standing, is_queue, part_at, part_with, queue_at, stands_by, state, unchanged}
-use Rattle.fabric_rule.proofs.Queues.{other_dev, side_at, side_same}
-use Rattle.fabric_rule.proofs.RingPosts.{flight_grows, grows_at, writes_grow}
+use Rattle.fabric_rule.proofs.Links.{not_down_up}
+use Rattle.fabric_rule.proofs.OneQueue.{Standing, as_it_was, by_queue, device_changes, is_queue, joined_is, kept, part, part_with, port_queue, reads, seen_word, sender_changes, sent_stands, unchanged}
+use Rattle.fabric_rule.proofs.Changes.{changes, none_closes, one_closes, stays}
 use Rattle.fabric_rule.proofs.WhatIsRead.{own_fits, same_word, word_inside}
 
-module _ (devs : List DevPlan) (plan : PairPlan) (k : ℕ) (now : Standing devs plan k) where
-  abbrev site : Site
-  site = now.site
-
-  abbrev kept : PairState
-  kept = state devs plan k now
-
-  abbrev part : Side → ℕ → QueuePart
-  part side queue = part_at devs plan k now side queue
-
-  abbrev port_queue : Side → ℕ → Bool → QueueState
-  port_queue side queue forgotten = queue_at devs plan k now side queue forgotten
-
-  abbrev reads : Reading
-  reads = by_bytes plan (bytes_of_site now.site) now.site.pair
-
+module _ {devs : List DevPlan} {plan : PairPlan} {k : ℕ} (now : Standing devs plan k) where
   -- a lane with its first entry begun, and the port's end of it
   abbrev lane_with : Side → ℕ → Entry → List Entry → ℕ → LanePart
   lane_with side queue first others told =
@@ -79,44 +60,28 @@ module _ (devs : List DevPlan) (plan : PairPlan) (k : ℕ) (now : Standing devs 
 
   abbrev port_with : Side → ℕ → Entry → List Entry → ℕ → PortState
   port_with side queue first others told =
-      with_sending (port_queue side queue false).port
+      with_sending (port_queue now side queue false).port
       (record { begun = length (lane_of now.site.pair side queue).sent + 1; told = told; entry = first; todo = labels_of queue (length (lane_of now.site.pair side queue).sent) first; waiting = others })
 
   -- the queue then
   begins : (side : Side) (queue : ℕ) (first : Entry) (others : List Entry) (told : ℕ) (closed seen_closed : Bool) (flow : Flow) (counters : Counters) (accepted : List SessionCount) (dev : DevPart) (seen_accepted : ℕ → ℕ)
       → queue < (side_plan plan side).queues → has_forgotten now.site.pair.link side ≡ false → SizesFit plan → FitsSlot plan side queue first → AllByRecursion (FitsSlot plan side queue) others
-      → closed ≡ seen_closed → flow.stopped ≡ dev.stopped → flow.stop ≡ (part side queue).flow.stop → flow.start ≡ (part side queue).flow.start → counters ≡ dev.counters → ((session : ℕ) → count_in accepted session ≡ seen_accepted session)
+      → closed ≡ seen_closed → flow.stopped ≡ dev.stopped → flow.stop ≡ (part now side queue).flow.stop → flow.start ≡ (part now side queue).flow.start → counters ≡ dev.counters → ((session : ℕ) → count_in accepted session ≡ seen_accepted session)
       → QueueStands devs plan k side queue (has_forgotten now.site.pair.link side)
       (record (view_of now.site.pair side queue) { sends = sender_of (lane_with side queue first others told); dev = dev; accepted = seen_accepted; closed = seen_closed })
-      (record (part side queue) { queue = record { port = port_with side queue first others told; closed = closed }; flow = flow; counters = counters; accepted = accepted })
+      (record (part now side queue) { queue = record { port = port_with side queue first others told; closed = closed }; flow = flow; counters = counters; accepted = accepted })
   begins side queue first others told closed seen_closed flow counters accepted dev seen_accepted among fresh fits short all same_closed stopped stop start counted counts =
-      subst (λ f. QueueStands devs plan k side queue f
-      (record (view_of now.site.pair side queue) { sends = sender_of (lane_with side queue first others told); dev = dev; accepted = seen_accepted; closed = seen_closed })
-      (record (part side queue) { queue = record { port = port_with side queue first others told; closed = closed }; flow = flow; counters = counters; accepted = accepted })) (sym fresh)
-      (let old = stands_by devs plan k now side queue false among fresh in
-      record {
-        port =
-            ap (λ begun. with_sending (port_queue side queue false).port
-            (record { begun = begun; told = told; entry = first; todo = labels_of queue (length (lane_of now.site.pair side queue).sent) first; waiting = others })) (sym (length-begun (lane_of now.site.pair side queue).sent first));
-        entry = λ _ _. sym (last-begun queue (sender_of (lane_of now.site.pair side queue)) first others told);
-        closed = same_closed;
-        stopped = stopped;
-        limits = λ d among on. (stop ∙ (old.limits d among on).0, start ∙ (old.limits d among on).1);
-        counters = counted;
-        accepted = counts;
-        delivered = old.delivered;
-        sending = begun_in_place plan side queue (sender_of (lane_of now.site.pair side queue)) first others told fits short all;
-        receiving = old.receiving;
-        forgets = λ forgot. absurd (false≢true forgot);
-        stops = inr fits;
-      })
+      sent_stands now side queue (lane_with side queue first others told) (port_with side queue first others told).sending closed seen_closed flow counters accepted dev seen_accepted among fresh
+      (ap (λ begun. record { begun = begun; told = told; entry = first; todo = labels_of queue (length (lane_of now.site.pair side queue).sent) first; waiting = others }) (sym (length-begun (lane_of now.site.pair side queue).sent first)))
+      (λ _. sym (last-begun queue (sender_of (lane_of now.site.pair side queue)) first others told)) (begun_in_place plan side queue (sender_of (lane_of now.site.pair side queue)) first others told fits short all)
+      same_closed stopped stop start counted counts (inr fits)
 
   -- the part of a queue on which a frame was begun and accepted
   abbrev accepted_part : Side → ℕ → Entry → List Entry → QueuePart
   accepted_part side queue first others =
-      record (part side queue) {
+      record (part now side queue) {
         queue = record { port = port_with side queue first others ((lane_of now.site.pair side queue).told + 1); closed = has_bit (side_of now.site.pair side).closed queue };
-        accepted = one_more (part side queue).accepted now.site.pair.link.session;
+        accepted = one_more (part now side queue).accepted now.site.pair.link.session;
       }
 
   -- the frames accepted, with one more in the session
@@ -126,11 +91,12 @@ module _ (devs : List DevPlan) (plan : PairPlan) (k : ℕ) (now : Standing devs 
   abbrev more_accepted : Side → ℕ → ℕ → Tally
   more_accepted side queue = updated (tally_of now.site.pair side queue) now.site.pair.link.session (one_accepted side queue)
 
-  counts_one : (side : Side) (queue : ℕ) → queue < (side_plan plan side).queues → (session : ℕ) → count_in (one_more (part side queue).accepted now.site.pair.link.session) session ≡ (more_accepted side queue session).accepted
-  counts_one side queue among session =
-      count-one_more (part side queue).accepted now.site.pair.link.session session ∙ ap (λ n. n + one_at now.site.pair.link.session session) (((now.sides side).queues queue among).accepted session)
-      ∙ sym (updated_field (λ (tally : Tally). tally.accepted) (tally_of now.site.pair side queue) now.site.pair.link.session (one_accepted side queue) session
-      ∙ updated-one_more (λ session. (tally_of now.site.pair side queue session).accepted) now.site.pair.link.session session)
+  counts_one : (side : Side) (queue : ℕ) → queue < (side_plan plan side).queues → (session : ℕ) → count_in (one_more (part now side queue).accepted now.site.pair.link.session) session ≡ (more_accepted side queue session).accepted
+  counts_one side queue among =
+      counts_one_more (λ (tally : Tally). tally.accepted) (part now side queue).accepted (tally_of now.site.pair side queue) now.site.pair.link.session (one_accepted side queue) ((now.sides side).queues queue among).accepted refl
+
+  none_delivered : (side : Side) (queue session : ℕ) → (more_accepted side queue session).delivered ≡ (tally_of now.site.pair side queue session).delivered
+  none_delivered side queue = updated_same (λ (tally : Tally). tally.delivered) (tally_of now.site.pair side queue) now.site.pair.link.session (one_accepted side queue) refl
 
   not_up : (side : Side) → has_forgotten now.site.pair.link side ≡ true → is_up now.site.pair.link.state ≡ false
   not_up side forgot =
@@ -146,7 +112,7 @@ module _ (devs : List DevPlan) (plan : PairPlan) (k : ℕ) (now : Standing devs 
       decided now.site.pair refusal (answer.OkNumber (lane_of now.site.pair side queue).told) (counts_accepted (with_lane now.site.pair side queue (lane_begun queue (lane_of now.site.pair side queue) pieces)) side queue)
 
   abbrev begin_says : Side → ℕ → List ℕ → Answer → QueueState → Move
-  begin_says side queue frame said after = record { answer = said; after = with_queue kept side queue (accepted_where_begun said now.site.pair.link.session (part_with devs plan k now side queue after)) }
+  begin_says side queue frame said after = record { answer = said; after = with_queue (kept now) side queue (accepted_where_begun said now.site.pair.link.session (part_with now side queue after)) }
 
   -- the tests of a queue's lane, by an index word
   abbrev is_full : Side → ℕ → ℕ → ℕ → Bool
@@ -157,28 +123,25 @@ module _ (devs : List DevPlan) (plan : PairPlan) (k : ℕ) (now : Standing devs 
       refusal_says (is_up now.site.pair.link.state) joined (has_bit (side_of now.site.pair side).closed queue) long (is_lane_busy (lane_of now.site.pair side queue)) stopped (is_full side queue needed index) len
       (sizes_of plan side queue).most (head_in (sizes_of plan side queue) (lane_of now.site.pair side queue)) index
 
-  begin_core : (side : Side) (queue : ℕ) (frame : List ℕ) (pieces : List Entry) (refusal : Option Answer) (said : Answer) (begun : BeginAnswer) (joined busy full : Bool) (q after : QueueState) (new : PortState) → (part side queue).queue ≡ q
-      → (joined ≡ true → PairStands devs plan k (record site { pair = counts_accepted (with_lane now.site.pair side queue (lane_begun queue (lane_of now.site.pair side queue) pieces)) side queue }) (begin_says side queue frame (answer.OkNumber (lane_of now.site.pair side queue).told) (with_port q new)).after)
+  begin_core : (side : Side) (queue : ℕ) (frame : List ℕ) (pieces : List Entry) (refusal : Option Answer) (said : Answer) (begun : BeginAnswer) (joined busy full : Bool) (q after : QueueState) (new : PortState) → (part now side queue).queue ≡ q
+      → (joined ≡ true → PairStands devs plan k (record now.site { pair = counts_accepted (with_lane now.site.pair side queue (lane_begun queue (lane_of now.site.pair side queue) pieces)) side queue }) (begin_says side queue frame (answer.OkNumber (lane_of now.site.pair side queue).told) (with_port q new)).after)
       → Passes joined busy full said begun refusal (lane_of now.site.pair side queue).told q new after ⊎ Refuses false said begun refusal q after
-      → Follows devs plan k site (Begin k side queue frame) (begin_made side queue frame pieces refusal) (begin_says side queue frame said after)
+      → Follows devs plan k now.site (Begin k side queue frame) (begin_made side queue frame pieces refusal) (begin_says side queue frame said after)
   begin_core side queue frame pieces refusal said begun joined busy full q after new is ok (inl passes) =
-      subst (λ refusal. Follows devs plan k site (Begin k side queue frame) (begin_made side queue frame pieces refusal) (begin_says side queue frame said after)) (sym passes.none)
-      (subst (λ said. Follows devs plan k site (Begin k side queue frame) (begin_made side queue frame pieces None) (begin_says side queue frame said after)) (sym passes.said_is)
-      (subst (λ (after : QueueState). Follows devs plan k site (Begin k side queue frame) (begin_made side queue frame pieces None) (begin_says side queue frame (answer.OkNumber (lane_of now.site.pair side queue).told) after)) (sym passes.after_is) (refl, ok passes.is_joined)))
+      subst (λ refusal. Follows devs plan k now.site (Begin k side queue frame) (begin_made side queue frame pieces refusal) (begin_says side queue frame said after)) (sym passes.none)
+      (subst (λ said. Follows devs plan k now.site (Begin k side queue frame) (begin_made side queue frame pieces None) (begin_says side queue frame said after)) (sym passes.said_is)
+      (subst (λ (after : QueueState). Follows devs plan k now.site (Begin k side queue frame) (begin_made side queue frame pieces None) (begin_says side queue frame (answer.OkNumber (lane_of now.site.pair side queue).told) after)) (sym passes.after_is) (refl, ok passes.is_joined)))
   begin_core side queue frame pieces refusal said begun joined busy full q after new is ok (inr refuses) =
-      subst (λ refusal. Follows devs plan k site (Begin k side queue frame) (begin_made side queue frame pieces refusal) (begin_says side queue frame said after)) (sym refuses.refusal_is) (
+      subst (λ refusal. Follows devs plan k now.site (Begin k side queue frame) (begin_made side queue frame pieces refusal) (begin_says side queue frame said after)) (sym refuses.refusal_is) (
         refl,
-        subst (λ (part : QueuePart). PairStands devs plan k site (with_queue kept side queue part))
-            (sym (ap (λ (after : QueueState). accepted_where_begun said now.site.pair.link.session (part_with devs plan k now side queue after)) (refuses.after_is refl) ∙ not_accepted said now.site.pair.link.session (part_with devs plan k now side queue q) refuses.not_ok))
-            (unchanged devs plan k now side queue q is),
+        subst (λ (part : QueuePart). PairStands devs plan k now.site (with_queue (kept now) side queue part))
+            (sym (ap (λ (after : QueueState). accepted_where_begun said now.site.pair.link.session (part_with now side queue after)) (refuses.after_is refl) ∙ not_accepted said now.site.pair.link.session (part_with now side queue q) refuses.not_ok))
+            (unchanged now side queue q is),
       )
 
   -- the move of a begin by its queue pair
   abbrev begin_with : Side → ℕ → List ℕ → QueueState → Move
-  begin_with side queue frame q = begin_says side queue frame (of_begin (begin_answer q kept.bridge (length frame))) (after_begin q kept.bridge frame)
-
-  abbrev seen_word : Side → ℕ → ℕ
-  seen_word side queue = index_word_in plan (bytes_seen kept.bridge) side queue
+  begin_with side queue frame q = begin_says side queue frame (of_begin (begin_answer q (kept now).bridge (length frame))) (after_begin q (kept now).bridge frame)
 
   abbrev needs : Side → ℕ → List ℕ → ℕ
   needs side queue frame = pieces_in (sizes_of plan side queue).largest (length frame)
@@ -188,146 +151,80 @@ module _ (devs : List DevPlan) (plan : PairPlan) (k : ℕ) (now : Standing devs 
 
   abbrev port_new : Side → ℕ → List Entry → PortState
   port_new side queue pieces =
-      with_sending (port_queue side queue false).port (record (entries_begun queue (port_queue side queue false).port.sending pieces) { told = (lane_of now.site.pair side queue).told + 1 })
+      with_sending (port_queue now side queue false).port (record (entries_begun queue (port_queue now side queue false).port.sending pieces) { told = (lane_of now.site.pair side queue).told + 1 })
 
   abbrev says : Side → ℕ → Bool → Bool → Bool → ℕ → ℕ → ℕ → Begun
   says side queue long busy full len index told = port_says long busy full len (sizes_of plan side queue).most (head_in (sizes_of plan side queue) (lane_of now.site.pair side queue)) index told
 
   abbrev says_frame : Side → ℕ → List ℕ → Begun
-  says_frame side queue frame = says side queue (is_long side queue frame) (is_lane_busy (lane_of now.site.pair side queue)) (is_full side queue (needs side queue frame) (seen_word side queue)) (length frame) (seen_word side queue) (lane_of now.site.pair side queue).told
+  says_frame side queue frame = says side queue (is_long side queue frame) (is_lane_busy (lane_of now.site.pair side queue)) (is_full side queue (needs side queue frame) (seen_word now side queue)) (length frame) (seen_word now side queue) (lane_of now.site.pair side queue).told
 
   abbrev side_refuses : Side → ℕ → Bool → Option BeginAnswer
   side_refuses side queue joined = side_says (is_up now.site.pair.link.state) joined (has_bit (side_of now.site.pair side).closed queue)
 
-  -- the tests of a frame by the index word that the ledger reads, and by the one that the port sees
+  -- the tests of a frame by the index word that the ledger (reads now), and by the one that the port sees
   abbrev BeginAt : Side → ℕ → List ℕ → List Entry → Bool → ℕ → Type 0
   BeginAt side queue frame pieces joined index =
-      Follows devs plan k site (Begin k side queue frame) (begin_made side queue frame pieces (tests side queue (length frame) (needs side queue frame) (is_long side queue frame) false joined index))
+      Follows devs plan k now.site (Begin k side queue frame) (begin_made side queue frame pieces (tests side queue (length frame) (needs side queue frame) (is_long side queue frame) false joined index))
       (begin_says side queue frame (of_begin (answer_unless (side_refuses side queue joined) (says_frame side queue frame)))
-      (port_unless (side_refuses side queue joined) (port_queue side queue false) (where_begun (port_queue side queue false).port (port_new side queue pieces) (says_frame side queue frame))))
+      (port_unless (side_refuses side queue joined) (port_queue now side queue false) (where_begun (port_queue now side queue false).port (port_new side queue pieces) (says_frame side queue frame))))
 
-  begin_read : (side : Side) (queue : ℕ) (frame : List ℕ) (pieces : List Entry) (joined : Bool) → (joined ≡ true → seen_word side queue ≡ reads.index_word side queue) → BeginAt side queue frame pieces joined (seen_word side queue) → BeginAt side queue frame pieces joined (reads.index_word side queue)
+  begin_read : (side : Side) (queue : ℕ) (frame : List ℕ) (pieces : List Entry) (joined : Bool) → (joined ≡ true → seen_word now side queue ≡ (reads now).index_word side queue) → BeginAt side queue frame pieces joined (seen_word now side queue) → BeginAt side queue frame pieces joined ((reads now).index_word side queue)
   begin_read side queue frame pieces true same at_seen = subst (BeginAt side queue frame pieces true) (same refl) at_seen
   begin_read side queue frame pieces false same at_seen = at_seen
 
-  -- the other side, where a lane of this one has other entries and another tally
-  others_A : (queue : ℕ) (lane : LanePart) → queue < plan.a.queues → receiver_of lane ≡ receiver_of (site.pair.lanes.a queue)
-      → SideStands devs plan k B (is_down site.pair.link.state) (has_forgotten site.pair.link B) site.pair.sides.b.joined site.pair.sides.b.flight site.pair.sides.b.poked
-      (λ other. record (view_of site.pair B other) { receives = receiver_of (updated site.pair.lanes.a queue lane other); delivered = λ session. (updated site.pair.tallies.a queue (more_accepted A queue) other session).delivered }) now.queues.b
-  others_A queue lane among same =
-      side_same devs plan k B _ _ _ _ _ (view_of site.pair B) _ now.queues.b
-      (λ other.
-      two_same (λ r d. record (view_of site.pair B other) { receives = r; delivered = d }) (updated_same receiver_of site.pair.lanes.a queue lane same other)
-      (updated_same (λ (tally : ℕ → Tally). λ session. (tally session).delivered) site.pair.tallies.a queue (more_accepted A queue)
-      (same_at (updated_same (λ (tally : Tally). tally.delivered) (site.pair.tallies.a queue) site.pair.link.session (one_accepted A queue) refl)) other)) (now.sides B)
+  -- the pair once a frame was begun
+  begin_ok : (side : Side) (queue : ℕ) (first : Entry) (others : List Entry) → queue < (side_plan plan side).queues → has_forgotten now.site.pair.link side ≡ false → SizesFit plan → AllByRecursion (FitsSlot plan side queue) (first ∷ others)
+      → PairStands devs plan k (record now.site { pair = counts_accepted (with_lane now.site.pair side queue (lane_with side queue first others ((lane_of now.site.pair side queue).told + 1))) side queue })
+      (with_queue (kept now) side queue (accepted_part side queue first others))
+  begin_ok side queue first others among fresh fits all =
+      let h = (now.sides side).queues queue among in
+      sender_changes now side queue (first ∷ []) (accepted_part side queue first others) among (none_closes now.site.pair.sides side (other_side side) queue)
+      (changes now.site.pair.lanes side queue (lane_with side queue first others ((lane_of now.site.pair side queue).told + 1))) (stays now.site.pair.devs side (other_side side) queue)
+      (changes now.site.pair.tallies side queue (more_accepted side queue)) refl refl (none_delivered side queue)
+      (begins side queue first others ((lane_of now.site.pair side queue).told + 1) (has_bit (side_of now.site.pair side).closed queue) (has_bit (side_of now.site.pair side).closed queue) (part now side queue).flow (part now side queue).counters
+      (one_more (part now side queue).accepted now.site.pair.link.session) (dev_of now.site.pair side queue) (λ session. (more_accepted side queue session).accepted) among fresh fits all.0 all.1 refl h.stopped refl refl h.counters (counts_one side queue among))
 
-  -- the sides once a frame was begun
-  begin_ok_A : (queue : ℕ) (first : Entry) (others : List Entry) → queue < plan.a.queues → has_forgotten site.pair.link A ≡ false → SizesFit plan → AllByRecursion (FitsSlot plan A queue) (first ∷ others)
-      → PairStands devs plan k (record site { pair = counts_accepted (with_lane site.pair A queue (lane_with A queue first others ((site.pair.lanes.a queue).told + 1))) A queue })
-      (with_queue kept A queue (accepted_part A queue first others))
-  begin_ok_A queue first others among fresh fits all =
-      let lane = lane_with A queue first others ((site.pair.lanes.a queue).told + 1) in
-      record {
-        bridge = bridge_same plan site.pair.link site.pair.sides (all_sent site.pair.lanes) (record { a = sent_of (updated site.pair.lanes.a queue lane); b = sent_of site.pair.lanes.b }) site.stores (sym (writes_grow plan A (sent_of site.pair.lanes.a) (sent_of (updated site.pair.lanes.a queue lane)) (grows_at site.pair.lanes.a queue lane (first ∷ []) refl) site.pair.sides.a.flight site.pair.sides.a.poked (now.sides A).in_flight.begun)) refl;
-        link = now.link;
-        sides =
-            by_side _ (side_at devs plan k A _ _ _ _ _ _ _ (view_of site.pair A) _ now.queues.a queue (accepted_part A queue first others) among
-            (λ other ne. two_same (λ (l : LanePart) (t : ℕ → Tally). record (view_of site.pair A other) { sends = sender_of l; accepted = λ session. (t session).accepted }) (updated_other site.pair.lanes.a queue lane other ne) (updated_other site.pair.tallies.a queue (more_accepted A queue) other ne))
-            (flight_grows plan A (sent_of site.pair.lanes.a) (sent_of (updated site.pair.lanes.a queue lane)) (grows_at site.pair.lanes.a queue lane (first ∷ []) refl) site.pair.sides.a.flight site.pair.sides.a.poked (is_down site.pair.link.state) (now.sides A).in_flight)
-            (subst (λ (v : QueueView). QueueStands devs plan k A queue (has_forgotten site.pair.link A) v (accepted_part A queue first others))
-            (sym (two_same (λ (l : LanePart) (t : ℕ → Tally). record (view_of site.pair A queue) { sends = sender_of l; accepted = λ session. (t session).accepted }) (updated_here site.pair.lanes.a queue lane) (updated_here site.pair.tallies.a queue (more_accepted A queue))))
-            (begins A queue first others ((site.pair.lanes.a queue).told + 1) (has_bit site.pair.sides.a.closed queue) (has_bit site.pair.sides.a.closed queue) (part A queue).flow (part A queue).counters (one_more (part A queue).accepted site.pair.link.session) (site.pair.devs.a queue)
-            (λ session. (more_accepted A queue session).accepted) among fresh fits all.0 all.1 refl ((now.sides A).queues queue among).stopped refl refl ((now.sides A).queues queue among).counters (counts_one A queue among))) (now.sides A)) (others_A queue lane among refl);
-      }
+  begin_fresh : (side : Side) (queue : ℕ) (frame : List ℕ) (pieces : List Entry) (joined : Bool) → queue < (side_plan plan side).queues → has_forgotten now.site.pair.link side ≡ false → (joined ≡ true → SizesFit plan) → pieces_of (sizes_of plan side queue).largest frame ≡ pieces → AllByRecursion (FitsSlot plan side queue) pieces
+      → BeginAt side queue frame pieces joined (seen_word now side queue)
+  begin_fresh side queue frame [] joined among fresh fits is all = absurd (is_some_piece (sizes_of plan side queue).largest frame is)
+  begin_fresh side queue frame (first ∷ others) joined among fresh fits is all =
+      begin_core side queue frame (first ∷ others) _ _ _ joined _ _ (port_queue now side queue false) _ (port_new side queue (first ∷ others)) (is_queue now side queue false among fresh)
+      (λ yes. begin_ok side queue first others among fresh (fits yes) all)
+      (gates (length frame) (sizes_of plan side queue).most (head_in (sizes_of plan side queue) (lane_of now.site.pair side queue)) (seen_word now side queue) (lane_of now.site.pair side queue).told (port_queue now side queue false) (port_new side queue (first ∷ others))
+      (is_up now.site.pair.link.state) joined (has_bit (side_of now.site.pair side).closed queue) (is_long side queue frame) (is_lane_busy (lane_of now.site.pair side queue)) false (is_full side queue (needs side queue frame) (seen_word now side queue)))
 
-  begin_fresh_A : (queue : ℕ) (frame : List ℕ) (pieces : List Entry) (joined : Bool) → queue < plan.a.queues → has_forgotten site.pair.link A ≡ false → (joined ≡ true → SizesFit plan) → pieces_of (sizes_of plan A queue).largest frame ≡ pieces → AllByRecursion (FitsSlot plan A queue) pieces
-      → BeginAt A queue frame pieces joined (seen_word A queue)
-  begin_fresh_A queue frame [] joined among fresh fits is all = absurd (is_some_piece (sizes_of plan A queue).largest frame is)
-  begin_fresh_A queue frame (first ∷ others) joined among fresh fits is all =
-      begin_core A queue frame (first ∷ others) _ _ _ joined _ _ (port_queue A queue false) _ (port_new A queue (first ∷ others)) (is_queue devs plan k now A queue false among fresh)
-      (λ yes. begin_ok_A queue first others among fresh (fits yes) all)
-      (gates (length frame) (sizes_of plan A queue).most (head_in (sizes_of plan A queue) (site.pair.lanes.a queue)) (seen_word A queue) (site.pair.lanes.a queue).told (port_queue A queue false) (port_new A queue (first ∷ others))
-      (is_up site.pair.link.state) joined (has_bit site.pair.sides.a.closed queue) (is_long A queue frame) (is_lane_busy (site.pair.lanes.a queue)) false (is_full A queue (needs A queue frame) (seen_word A queue)))
+  -- the answer by whether the bridge has the queue joined
+  abbrev BeginSeen : Side → ℕ → List ℕ → Bool → Bool → Type 0
+  BeginSeen side queue frame forgotten joined =
+      let q = port_queue now side queue forgotten in
+      let refuses = side_says (is_up now.site.pair.link.state) joined q.closed in
+      Follows devs plan k now.site (Begin k side queue frame) (begin_step (sizes_of plan side queue) (reads now) now.site.pair side queue frame)
+      (begin_says side queue frame (of_begin (answer_unless refuses (port_begin_answer q.port (kept now).bridge (length frame)))) (port_unless refuses q (port_after_begin q.port (kept now).bridge frame)))
 
-  begin_by_A : (queue : ℕ) (frame : List ℕ) (forgotten : Bool) → queue < plan.a.queues → has_forgotten site.pair.link A ≡ forgotten → (has_bit site.pair.sides.a.joined queue ≡ true → SizesFit plan)
-      → Follows devs plan k site (Begin k A queue frame) (begin_step (sizes_of plan A queue) reads site.pair A queue frame) (begin_with A queue frame (port_queue A queue forgotten))
-  begin_by_A queue frame true among forgot fits =
-      subst (λ up. Follows devs plan k site (Begin k A queue frame)
-      (begin_made A queue frame (pieces_of (sizes_of plan A queue).largest frame)
-      (refusal_says up (has_bit site.pair.sides.a.joined queue) (has_bit site.pair.sides.a.closed queue) (is_long A queue frame) (is_lane_busy (site.pair.lanes.a queue)) false
-      (is_full A queue (needs A queue frame) (reads.index_word A queue)) (length frame) (sizes_of plan A queue).most (head_in (sizes_of plan A queue) (site.pair.lanes.a queue)) (reads.index_word A queue)))
-      (begin_says A queue frame
-      (of_begin (answer_unless (side_says up (has_bit site.pair.sides.a.joined queue) (has_bit site.pair.sides.a.closed queue)) (port_begin_answer (port_queue A queue true).port kept.bridge (length frame))))
-      (port_unless (side_says up (has_bit site.pair.sides.a.joined queue) (has_bit site.pair.sides.a.closed queue)) (port_queue A queue true) (port_after_begin (port_queue A queue true).port kept.bridge frame))))
-      (sym (not_up A forgot)) (refl, unchanged devs plan k now A queue (port_queue A queue true) (is_queue devs plan k now A queue true among forgot))
-  begin_by_A queue frame false among fresh fits =
-      begin_read A queue frame (pieces_of (sizes_of plan A queue).largest frame) (has_bit site.pair.sides.a.joined queue)
-      (λ joined. same_word plan site now.pages now.spare A queue now.declared among (own_fits plan (fits joined) A))
-      (begin_fresh_A queue frame (pieces_of (sizes_of plan A queue).largest frame) (has_bit site.pair.sides.a.joined queue) among fresh fits refl (pieces_fit (sizes_of plan A queue).largest frame))
+  begin_by : (side : Side) (queue : ℕ) (frame : List ℕ) (forgotten : Bool) → queue < (side_plan plan side).queues → has_forgotten now.site.pair.link side ≡ forgotten → (has_bit (side_of now.site.pair side).joined queue ≡ true → SizesFit plan)
+      → Follows devs plan k now.site (Begin k side queue frame) (begin_step (sizes_of plan side queue) (reads now) now.site.pair side queue frame) (begin_with side queue frame (port_queue now side queue forgotten))
+  begin_by side queue frame true among forgot fits =
+      subst (BeginSeen side queue frame true) (sym (joined_is now side queue))
+      (subst (λ up. Follows devs plan k now.site (Begin k side queue frame)
+      (begin_made side queue frame (pieces_of (sizes_of plan side queue).largest frame)
+      (refusal_says up (has_bit (side_of now.site.pair side).joined queue) (has_bit (side_of now.site.pair side).closed queue) (is_long side queue frame) (is_lane_busy (lane_of now.site.pair side queue)) false
+      (is_full side queue (needs side queue frame) ((reads now).index_word side queue)) (length frame) (sizes_of plan side queue).most (head_in (sizes_of plan side queue) (lane_of now.site.pair side queue)) ((reads now).index_word side queue)))
+      (begin_says side queue frame
+      (of_begin (answer_unless (side_says up (has_bit (side_of now.site.pair side).joined queue) (has_bit (side_of now.site.pair side).closed queue)) (port_begin_answer (port_queue now side queue true).port (kept now).bridge (length frame))))
+      (port_unless (side_says up (has_bit (side_of now.site.pair side).joined queue) (has_bit (side_of now.site.pair side).closed queue)) (port_queue now side queue true) (port_after_begin (port_queue now side queue true).port (kept now).bridge frame))))
+      (sym (not_up side forgot)) (refl, as_it_was now side queue true among forgot))
+  begin_by side queue frame false among fresh fits =
+      subst (BeginSeen side queue frame false) (sym (joined_is now side queue))
+      (begin_read side queue frame (pieces_of (sizes_of plan side queue).largest frame) (has_bit (side_of now.site.pair side).joined queue)
+      (λ joined. same_word plan now.site now.pages now.spare side queue now.declared among (own_fits plan (fits joined) side))
+      (begin_fresh side queue frame (pieces_of (sizes_of plan side queue).largest frame) (has_bit (side_of now.site.pair side).joined queue) among fresh fits refl (pieces_fit (sizes_of plan side queue).largest frame)))
 
-  -- the other side, where a lane of this one has other entries and another tally
-  others_B : (queue : ℕ) (lane : LanePart) → queue < plan.b.queues → receiver_of lane ≡ receiver_of (site.pair.lanes.b queue)
-      → SideStands devs plan k A (is_down site.pair.link.state) (has_forgotten site.pair.link A) site.pair.sides.a.joined site.pair.sides.a.flight site.pair.sides.a.poked
-      (λ other. record (view_of site.pair A other) { receives = receiver_of (updated site.pair.lanes.b queue lane other); delivered = λ session. (updated site.pair.tallies.b queue (more_accepted B queue) other session).delivered }) now.queues.a
-  others_B queue lane among same =
-      side_same devs plan k A _ _ _ _ _ (view_of site.pair A) _ now.queues.a
-      (λ other.
-      two_same (λ r d. record (view_of site.pair A other) { receives = r; delivered = d }) (updated_same receiver_of site.pair.lanes.b queue lane same other)
-      (updated_same (λ (tally : ℕ → Tally). λ session. (tally session).delivered) site.pair.tallies.b queue (more_accepted B queue)
-      (same_at (updated_same (λ (tally : Tally). tally.delivered) (site.pair.tallies.b queue) site.pair.link.session (one_accepted B queue) refl)) other)) (now.sides A)
-
-  -- the sides once a frame was begun
-  begin_ok_B : (queue : ℕ) (first : Entry) (others : List Entry) → queue < plan.b.queues → has_forgotten site.pair.link B ≡ false → SizesFit plan → AllByRecursion (FitsSlot plan B queue) (first ∷ others)
-      → PairStands devs plan k (record site { pair = counts_accepted (with_lane site.pair B queue (lane_with B queue first others ((site.pair.lanes.b queue).told + 1))) B queue })
-      (with_queue kept B queue (accepted_part B queue first others))
-  begin_ok_B queue first others among fresh fits all =
-      let lane = lane_with B queue first others ((site.pair.lanes.b queue).told + 1) in
-      record {
-        bridge = bridge_same plan site.pair.link site.pair.sides (all_sent site.pair.lanes) (record { a = sent_of site.pair.lanes.a; b = sent_of (updated site.pair.lanes.b queue lane) }) site.stores refl (sym (writes_grow plan B (sent_of site.pair.lanes.b) (sent_of (updated site.pair.lanes.b queue lane)) (grows_at site.pair.lanes.b queue lane (first ∷ []) refl) site.pair.sides.b.flight site.pair.sides.b.poked (now.sides B).in_flight.begun));
-        link = now.link;
-        sides =
-            by_side _ (others_B queue lane among refl) (side_at devs plan k B _ _ _ _ _ _ _ (view_of site.pair B) _ now.queues.b queue (accepted_part B queue first others) among
-            (λ other ne. two_same (λ (l : LanePart) (t : ℕ → Tally). record (view_of site.pair B other) { sends = sender_of l; accepted = λ session. (t session).accepted }) (updated_other site.pair.lanes.b queue lane other ne) (updated_other site.pair.tallies.b queue (more_accepted B queue) other ne))
-            (flight_grows plan B (sent_of site.pair.lanes.b) (sent_of (updated site.pair.lanes.b queue lane)) (grows_at site.pair.lanes.b queue lane (first ∷ []) refl) site.pair.sides.b.flight site.pair.sides.b.poked (is_down site.pair.link.state) (now.sides B).in_flight)
-            (subst (λ (v : QueueView). QueueStands devs plan k B queue (has_forgotten site.pair.link B) v (accepted_part B queue first others))
-            (sym (two_same (λ (l : LanePart) (t : ℕ → Tally). record (view_of site.pair B queue) { sends = sender_of l; accepted = λ session. (t session).accepted }) (updated_here site.pair.lanes.b queue lane) (updated_here site.pair.tallies.b queue (more_accepted B queue))))
-            (begins B queue first others ((site.pair.lanes.b queue).told + 1) (has_bit site.pair.sides.b.closed queue) (has_bit site.pair.sides.b.closed queue) (part B queue).flow (part B queue).counters (one_more (part B queue).accepted site.pair.link.session) (site.pair.devs.b queue)
-            (λ session. (more_accepted B queue session).accepted) among fresh fits all.0 all.1 refl ((now.sides B).queues queue among).stopped refl refl ((now.sides B).queues queue among).counters (counts_one B queue among))) (now.sides B));
-      }
-
-  begin_fresh_B : (queue : ℕ) (frame : List ℕ) (pieces : List Entry) (joined : Bool) → queue < plan.b.queues → has_forgotten site.pair.link B ≡ false → (joined ≡ true → SizesFit plan) → pieces_of (sizes_of plan B queue).largest frame ≡ pieces → AllByRecursion (FitsSlot plan B queue) pieces
-      → BeginAt B queue frame pieces joined (seen_word B queue)
-  begin_fresh_B queue frame [] joined among fresh fits is all = absurd (is_some_piece (sizes_of plan B queue).largest frame is)
-  begin_fresh_B queue frame (first ∷ others) joined among fresh fits is all =
-      begin_core B queue frame (first ∷ others) _ _ _ joined _ _ (port_queue B queue false) _ (port_new B queue (first ∷ others)) (is_queue devs plan k now B queue false among fresh)
-      (λ yes. begin_ok_B queue first others among fresh (fits yes) all)
-      (gates (length frame) (sizes_of plan B queue).most (head_in (sizes_of plan B queue) (site.pair.lanes.b queue)) (seen_word B queue) (site.pair.lanes.b queue).told (port_queue B queue false) (port_new B queue (first ∷ others))
-      (is_up site.pair.link.state) joined (has_bit site.pair.sides.b.closed queue) (is_long B queue frame) (is_lane_busy (site.pair.lanes.b queue)) false (is_full B queue (needs B queue frame) (seen_word B queue)))
-
-  begin_by_B : (queue : ℕ) (frame : List ℕ) (forgotten : Bool) → queue < plan.b.queues → has_forgotten site.pair.link B ≡ forgotten → (has_bit site.pair.sides.b.joined queue ≡ true → SizesFit plan)
-      → Follows devs plan k site (Begin k B queue frame) (begin_step (sizes_of plan B queue) reads site.pair B queue frame) (begin_with B queue frame (port_queue B queue forgotten))
-  begin_by_B queue frame true among forgot fits =
-      subst (λ up. Follows devs plan k site (Begin k B queue frame)
-      (begin_made B queue frame (pieces_of (sizes_of plan B queue).largest frame)
-      (refusal_says up (has_bit site.pair.sides.b.joined queue) (has_bit site.pair.sides.b.closed queue) (is_long B queue frame) (is_lane_busy (site.pair.lanes.b queue)) false
-      (is_full B queue (needs B queue frame) (reads.index_word B queue)) (length frame) (sizes_of plan B queue).most (head_in (sizes_of plan B queue) (site.pair.lanes.b queue)) (reads.index_word B queue)))
-      (begin_says B queue frame
-      (of_begin (answer_unless (side_says up (has_bit site.pair.sides.b.joined queue) (has_bit site.pair.sides.b.closed queue)) (port_begin_answer (port_queue B queue true).port kept.bridge (length frame))))
-      (port_unless (side_says up (has_bit site.pair.sides.b.joined queue) (has_bit site.pair.sides.b.closed queue)) (port_queue B queue true) (port_after_begin (port_queue B queue true).port kept.bridge frame))))
-      (sym (not_up B forgot)) (refl, unchanged devs plan k now B queue (port_queue B queue true) (is_queue devs plan k now B queue true among forgot))
-  begin_by_B queue frame false among fresh fits =
-      begin_read B queue frame (pieces_of (sizes_of plan B queue).largest frame) (has_bit site.pair.sides.b.joined queue)
-      (λ joined. same_word plan site now.pages now.spare B queue now.declared among (own_fits plan (fits joined) B))
-      (begin_fresh_B queue frame (pieces_of (sizes_of plan B queue).largest frame) (has_bit site.pair.sides.b.joined queue) among fresh fits refl (pieces_fit (sizes_of plan B queue).largest frame))
-
-  pub begin_follows : (side : Side) (queue : ℕ) (frame : List ℕ) → queue < (side_plan plan side).queues → (has_bit (side_of site.pair side).joined queue ≡ true → SizesFit plan)
-      → Follows devs plan k site (Begin k side queue frame) (begin_step (sizes_of plan side queue) reads site.pair side queue frame) (begin_move kept side queue frame)
-  begin_follows A queue frame among fits =
-      subst (λ (q : QueueState). Follows devs plan k site (Begin k A queue frame) (begin_step (sizes_of plan A queue) reads site.pair A queue frame) (begin_with A queue frame q)) (sym (is_queue devs plan k now A queue (has_forgotten site.pair.link A) among refl))
-      (begin_by_A queue frame (has_forgotten site.pair.link A) among refl fits)
-  begin_follows B queue frame among fits =
-      subst (λ (q : QueueState). Follows devs plan k site (Begin k B queue frame) (begin_step (sizes_of plan B queue) reads site.pair B queue frame) (begin_with B queue frame q)) (sym (is_queue devs plan k now B queue (has_forgotten site.pair.link B) among refl))
-      (begin_by_B queue frame (has_forgotten site.pair.link B) among refl fits)
+  pub begin_follows : (side : Side) (queue : ℕ) (frame : List ℕ) → queue < (side_plan plan side).queues → (has_bit (side_of now.site.pair side).joined queue ≡ true → SizesFit plan)
+      → Follows devs plan k now.site (Begin k side queue frame) (begin_step (sizes_of plan side queue) (reads now) now.site.pair side queue frame) (begin_move (kept now) side queue frame)
+  begin_follows side queue frame among fits =
+      by_queue now side queue (λ (q : QueueState). Follows devs plan k now.site (Begin k side queue frame) (begin_step (sizes_of plan side queue) (reads now) now.site.pair side queue frame) (begin_with side queue frame q)) among
+      (λ forgotten forgot. begin_by side queue frame forgotten among forgot fits)
 
   -- A link-down entry
 
@@ -337,12 +234,12 @@ module _ (devs : List DevPlan) (plan : PairPlan) (k : ℕ) (now : Standing devs 
       (with_side_part (with_lane now.site.pair side queue (begun_lane queue (lane_of now.site.pair side queue) (GoesDown ∷ []))) side (record (side_of now.site.pair side) { closed = with_bit (side_of now.site.pair side).closed queue }))
 
   abbrev down_says : Side → ℕ → Answer → QueueState → Move
-  down_says side queue said after = record { answer = said; after = with_queue kept side queue (part_with devs plan k now side queue after) }
+  down_says side queue said after = record { answer = said; after = with_queue (kept now) side queue (part_with now side queue after) }
 
   abbrev DownCore : Side → ℕ → Option Answer → Answer → BeginAnswer → QueueState → Type 0
-  DownCore side queue refusal said begun after = Follows devs plan k site (QpDown k side queue) (down_made side queue refusal) (down_says side queue said (closed_where_begun begun after))
+  DownCore side queue refusal said begun after = Follows devs plan k now.site (QpDown k side queue) (down_made side queue refusal) (down_says side queue said (closed_where_begun begun after))
 
-  down_core : (side : Side) (queue : ℕ) (refusal : Option Answer) (said : Answer) (begun : BeginAnswer) (joined busy full : Bool) (q after : QueueState) (new : PortState) → (part side queue).queue ≡ q
+  down_core : (side : Side) (queue : ℕ) (refusal : Option Answer) (said : Answer) (begun : BeginAnswer) (joined busy full : Bool) (q after : QueueState) (new : PortState) → (part now side queue).queue ≡ q
       → (joined ≡ true → DownCore side queue None (answer.OkNumber (lane_of now.site.pair side queue).told) (IsBegun (lane_of now.site.pair side queue).told) (with_port q new))
       → Passes joined busy full said begun refusal (lane_of now.site.pair side queue).told q new after ⊎ Refuses false said begun refusal q after
       → DownCore side queue refusal said begun after
@@ -353,113 +250,73 @@ module _ (devs : List DevPlan) (plan : PairPlan) (k : ℕ) (now : Standing devs 
       (subst (DownCore side queue None (answer.OkNumber (lane_of now.site.pair side queue).told) (IsBegun (lane_of now.site.pair side queue).told)) (sym passes.after_is) (ok passes.is_joined))))
   down_core side queue refusal said begun joined busy full q after new is ok (inr refuses) =
       subst (λ refusal. DownCore side queue refusal said begun after) (sym refuses.refusal_is)
-      (refl, subst (λ (after : QueueState). PairStands devs plan k site (with_queue kept side queue (part_with devs plan k now side queue after))) (sym (refuses.stays_open refl after ∙ refuses.after_is refl)) (unchanged devs plan k now side queue q is))
+      (refl, subst (λ (after : QueueState). PairStands devs plan k now.site (with_queue (kept now) side queue (part_with now side queue after))) (sym (refuses.stays_open refl after ∙ refuses.after_is refl)) (unchanged now side queue q is))
 
   abbrev says_down : Side → ℕ → Begun
-  says_down side queue = says side queue false (is_lane_busy (lane_of now.site.pair side queue)) (is_full side queue 1 (seen_word side queue)) 0 (seen_word side queue) (lane_of now.site.pair side queue).told
+  says_down side queue = says side queue false (is_lane_busy (lane_of now.site.pair side queue)) (is_full side queue 1 (seen_word now side queue)) 0 (seen_word now side queue) (lane_of now.site.pair side queue).told
 
   abbrev DownAt : Side → ℕ → Bool → ℕ → Type 0
   DownAt side queue joined index =
       DownCore side queue (tests side queue 0 1 false false joined index) (of_begin (answer_unless (side_refuses side queue joined) (says_down side queue))) (answer_unless (side_refuses side queue joined) (says_down side queue))
-      (port_unless (side_refuses side queue joined) (port_queue side queue false) (where_begun (port_queue side queue false).port (port_with side queue GoesDown [] (lane_of now.site.pair side queue).told) (says_down side queue)))
+      (port_unless (side_refuses side queue joined) (port_queue now side queue false) (where_begun (port_queue now side queue false).port (port_with side queue GoesDown [] (lane_of now.site.pair side queue).told) (says_down side queue)))
 
-  down_read : (side : Side) (queue : ℕ) (joined : Bool) → (joined ≡ true → seen_word side queue ≡ reads.index_word side queue) → DownAt side queue joined (seen_word side queue) → DownAt side queue joined (reads.index_word side queue)
+  down_read : (side : Side) (queue : ℕ) (joined : Bool) → (joined ≡ true → seen_word now side queue ≡ (reads now).index_word side queue) → DownAt side queue joined (seen_word now side queue) → DownAt side queue joined ((reads now).index_word side queue)
   down_read side queue true same at_seen = subst (DownAt side queue true) (same refl) at_seen
   down_read side queue false same at_seen = at_seen
 
   abbrev down_with : Side → ℕ → QueueState → Move
-  down_with side queue q = down_says side queue (of_begin (qpdown_answer q kept.bridge)) (after_qpdown q kept.bridge)
+  down_with side queue q = down_says side queue (of_begin (qpdown_answer q (kept now).bridge)) (after_qpdown q (kept now).bridge)
 
   abbrev down_part : Side → ℕ → QueuePart
-  down_part side queue = part_with devs plan k now side queue (record { port = port_with side queue GoesDown [] (lane_of now.site.pair side queue).told; closed = true })
+  down_part side queue = part_with now side queue (record { port = port_with side queue GoesDown [] (lane_of now.site.pair side queue).told; closed = true })
 
   no_payload : (side : Side) (queue : ℕ) → FitsSlot plan side queue GoesDown
   no_payload side queue = omega arith
 
-  down_ok_A : (queue : ℕ) → queue < plan.a.queues → has_forgotten site.pair.link A ≡ false → SizesFit plan
-      → DownCore A queue None (answer.OkNumber (site.pair.lanes.a queue).told) (IsBegun (site.pair.lanes.a queue).told) (with_port (port_queue A queue false) (port_with A queue GoesDown [] (site.pair.lanes.a queue).told))
-  down_ok_A queue among fresh fits =
-      let lane = lane_with A queue GoesDown [] (site.pair.lanes.a queue).told in (
+  down_ok : (side : Side) (queue : ℕ) → queue < (side_plan plan side).queues → has_forgotten now.site.pair.link side ≡ false → SizesFit plan
+      → DownCore side queue None (answer.OkNumber (lane_of now.site.pair side queue).told) (IsBegun (lane_of now.site.pair side queue).told) (with_port (port_queue now side queue false) (port_with side queue GoesDown [] (lane_of now.site.pair side queue).told))
+  down_ok side queue among fresh fits =
+      let h = (now.sides side).queues queue among in (
         refl,
-        record {
-          bridge = bridge_same plan site.pair.link site.pair.sides (all_sent site.pair.lanes) (record { a = sent_of (updated site.pair.lanes.a queue lane); b = sent_of site.pair.lanes.b }) site.stores (sym (writes_grow plan A (sent_of site.pair.lanes.a) (sent_of (updated site.pair.lanes.a queue lane)) (grows_at site.pair.lanes.a queue lane (GoesDown ∷ []) refl) site.pair.sides.a.flight site.pair.sides.a.poked (now.sides A).in_flight.begun)) refl;
-          link = now.link;
-          sides =
-              by_side _ (side_at devs plan k A _ _ _ _ _ _ _ (view_of site.pair A) _ now.queues.a queue (down_part A queue) among
-              (λ other ne. two_same (λ (l : LanePart) (c : Bool). record (view_of site.pair A other) { sends = sender_of l; closed = c }) (updated_other site.pair.lanes.a queue lane other ne) (has-with_other site.pair.sides.a.closed queue other ne))
-              (flight_grows plan A (sent_of site.pair.lanes.a) (sent_of (updated site.pair.lanes.a queue lane)) (grows_at site.pair.lanes.a queue lane (GoesDown ∷ []) refl) site.pair.sides.a.flight site.pair.sides.a.poked (is_down site.pair.link.state) (now.sides A).in_flight)
-              (subst (λ (v : QueueView). QueueStands devs plan k A queue (has_forgotten site.pair.link A) v (down_part A queue))
-              (sym (ap (λ (l : LanePart). record (view_of site.pair A queue) { sends = sender_of l; closed = has_bit (with_bit site.pair.sides.a.closed queue) queue }) (updated_here site.pair.lanes.a queue lane)))
-              (begins A queue GoesDown [] (site.pair.lanes.a queue).told true (has_bit (with_bit site.pair.sides.a.closed queue) queue) (part A queue).flow (part A queue).counters (part A queue).accepted (site.pair.devs.a queue)
-              (λ session. (site.pair.tallies.a queue session).accepted) among fresh fits (no_payload A queue) tt (sym (has-with_same site.pair.sides.a.closed queue)) ((now.sides A).queues queue among).stopped refl refl ((now.sides A).queues queue among).counters ((now.sides A).queues queue among).accepted)) (now.sides A)) (side_same devs plan k B _ _ _ _ _ (view_of site.pair B) _ now.queues.b
-              (λ other. ap (λ r. record (view_of site.pair B other) { receives = r }) (updated_same receiver_of site.pair.lanes.a queue lane refl other)) (now.sides B));
-        },
+        sender_changes now side queue (GoesDown ∷ []) (down_part side queue) among (one_closes now.site.pair.sides side queue) (changes now.site.pair.lanes side queue (lane_with side queue GoesDown [] (lane_of now.site.pair side queue).told))
+            (stays now.site.pair.devs side (other_side side) queue) (stays now.site.pair.tallies side (other_side side) queue) refl refl (λ session. refl)
+            (begins side queue GoesDown [] (lane_of now.site.pair side queue).told true true (part now side queue).flow (part now side queue).counters (part now side queue).accepted (dev_of now.site.pair side queue)
+            (λ session. (tally_of now.site.pair side queue session).accepted) among fresh fits (no_payload side queue) tt refl h.stopped refl refl h.counters h.accepted),
       )
 
-  down_by_A : (queue : ℕ) (forgotten : Bool) → queue < plan.a.queues → has_forgotten site.pair.link A ≡ forgotten → (has_bit site.pair.sides.a.joined queue ≡ true → SizesFit plan)
-      → Follows devs plan k site (QpDown k A queue) (qpdown_step (sizes_of plan A queue) reads site.pair A queue) (down_with A queue (port_queue A queue forgotten))
-  down_by_A queue true among forgot fits =
-      subst (λ up. Follows devs plan k site (QpDown k A queue)
-      (down_made A queue
-      (refusal_says up (has_bit site.pair.sides.a.joined queue) (has_bit site.pair.sides.a.closed queue) false (is_lane_busy (site.pair.lanes.a queue)) false (is_full A queue 1 (reads.index_word A queue)) 0 (sizes_of plan A queue).most
-      (head_in (sizes_of plan A queue) (site.pair.lanes.a queue)) (reads.index_word A queue)))
-      (down_says A queue (of_begin (answer_unless (side_says up (has_bit site.pair.sides.a.joined queue) (has_bit site.pair.sides.a.closed queue)) (down_answer (port_queue A queue true).port kept.bridge)))
-      (closed_where_begun (answer_unless (side_says up (has_bit site.pair.sides.a.joined queue) (has_bit site.pair.sides.a.closed queue)) (down_answer (port_queue A queue true).port kept.bridge))
-      (port_unless (side_says up (has_bit site.pair.sides.a.joined queue) (has_bit site.pair.sides.a.closed queue)) (port_queue A queue true) (after_down (port_queue A queue true).port kept.bridge)))))
-      (sym (not_up A forgot)) (refl, unchanged devs plan k now A queue (port_queue A queue true) (is_queue devs plan k now A queue true among forgot))
-  down_by_A queue false among fresh fits =
-      down_read A queue (has_bit site.pair.sides.a.joined queue) (λ joined. same_word plan site now.pages now.spare A queue now.declared among (own_fits plan (fits joined) A))
-      (down_core A queue _ _ _ (has_bit site.pair.sides.a.joined queue) _ _ (port_queue A queue false) _ (port_with A queue GoesDown [] (site.pair.lanes.a queue).told) (is_queue devs plan k now A queue false among fresh)
-      (λ joined. down_ok_A queue among fresh (fits joined))
-      (gates 0 (sizes_of plan A queue).most (head_in (sizes_of plan A queue) (site.pair.lanes.a queue)) (seen_word A queue) (site.pair.lanes.a queue).told (port_queue A queue false) (port_with A queue GoesDown [] (site.pair.lanes.a queue).told)
-      (is_up site.pair.link.state) (has_bit site.pair.sides.a.joined queue) (has_bit site.pair.sides.a.closed queue) false (is_lane_busy (site.pair.lanes.a queue)) false (is_full A queue 1 (seen_word A queue))))
+  abbrev DownSeen : Side → ℕ → Bool → Bool → Type 0
+  DownSeen side queue forgotten joined =
+      let q = port_queue now side queue forgotten in
+      let refuses = side_says (is_up now.site.pair.link.state) joined q.closed in
+      let begun = answer_unless refuses (down_answer q.port (kept now).bridge) in
+      Follows devs plan k now.site (QpDown k side queue) (qpdown_step (sizes_of plan side queue) (reads now) now.site.pair side queue)
+      (down_says side queue (of_begin begun) (closed_where_begun begun (port_unless refuses q (after_down q.port (kept now).bridge))))
 
-  down_ok_B : (queue : ℕ) → queue < plan.b.queues → has_forgotten site.pair.link B ≡ false → SizesFit plan
-      → DownCore B queue None (answer.OkNumber (site.pair.lanes.b queue).told) (IsBegun (site.pair.lanes.b queue).told) (with_port (port_queue B queue false) (port_with B queue GoesDown [] (site.pair.lanes.b queue).told))
-  down_ok_B queue among fresh fits =
-      let lane = lane_with B queue GoesDown [] (site.pair.lanes.b queue).told in (
-        refl,
-        record {
-          bridge = bridge_same plan site.pair.link site.pair.sides (all_sent site.pair.lanes) (record { a = sent_of site.pair.lanes.a; b = sent_of (updated site.pair.lanes.b queue lane) }) site.stores refl (sym (writes_grow plan B (sent_of site.pair.lanes.b) (sent_of (updated site.pair.lanes.b queue lane)) (grows_at site.pair.lanes.b queue lane (GoesDown ∷ []) refl) site.pair.sides.b.flight site.pair.sides.b.poked (now.sides B).in_flight.begun));
-          link = now.link;
-          sides =
-              by_side _ (side_same devs plan k A _ _ _ _ _ (view_of site.pair A) _ now.queues.a
-              (λ other. ap (λ r. record (view_of site.pair A other) { receives = r }) (updated_same receiver_of site.pair.lanes.b queue lane refl other)) (now.sides A)) (side_at devs plan k B _ _ _ _ _ _ _ (view_of site.pair B) _ now.queues.b queue (down_part B queue) among
-              (λ other ne. two_same (λ (l : LanePart) (c : Bool). record (view_of site.pair B other) { sends = sender_of l; closed = c }) (updated_other site.pair.lanes.b queue lane other ne) (has-with_other site.pair.sides.b.closed queue other ne))
-              (flight_grows plan B (sent_of site.pair.lanes.b) (sent_of (updated site.pair.lanes.b queue lane)) (grows_at site.pair.lanes.b queue lane (GoesDown ∷ []) refl) site.pair.sides.b.flight site.pair.sides.b.poked (is_down site.pair.link.state) (now.sides B).in_flight)
-              (subst (λ (v : QueueView). QueueStands devs plan k B queue (has_forgotten site.pair.link B) v (down_part B queue))
-              (sym (ap (λ (l : LanePart). record (view_of site.pair B queue) { sends = sender_of l; closed = has_bit (with_bit site.pair.sides.b.closed queue) queue }) (updated_here site.pair.lanes.b queue lane)))
-              (begins B queue GoesDown [] (site.pair.lanes.b queue).told true (has_bit (with_bit site.pair.sides.b.closed queue) queue) (part B queue).flow (part B queue).counters (part B queue).accepted (site.pair.devs.b queue)
-              (λ session. (site.pair.tallies.b queue session).accepted) among fresh fits (no_payload B queue) tt (sym (has-with_same site.pair.sides.b.closed queue)) ((now.sides B).queues queue among).stopped refl refl ((now.sides B).queues queue among).counters ((now.sides B).queues queue among).accepted)) (now.sides B));
-        },
-      )
+  down_by : (side : Side) (queue : ℕ) (forgotten : Bool) → queue < (side_plan plan side).queues → has_forgotten now.site.pair.link side ≡ forgotten → (has_bit (side_of now.site.pair side).joined queue ≡ true → SizesFit plan)
+      → Follows devs plan k now.site (QpDown k side queue) (qpdown_step (sizes_of plan side queue) (reads now) now.site.pair side queue) (down_with side queue (port_queue now side queue forgotten))
+  down_by side queue true among forgot fits =
+      subst (DownSeen side queue true) (sym (joined_is now side queue))
+      (subst (λ up. Follows devs plan k now.site (QpDown k side queue)
+      (down_made side queue
+      (refusal_says up (has_bit (side_of now.site.pair side).joined queue) (has_bit (side_of now.site.pair side).closed queue) false (is_lane_busy (lane_of now.site.pair side queue)) false (is_full side queue 1 ((reads now).index_word side queue)) 0 (sizes_of plan side queue).most
+      (head_in (sizes_of plan side queue) (lane_of now.site.pair side queue)) ((reads now).index_word side queue)))
+      (down_says side queue (of_begin (answer_unless (side_says up (has_bit (side_of now.site.pair side).joined queue) (has_bit (side_of now.site.pair side).closed queue)) (down_answer (port_queue now side queue true).port (kept now).bridge)))
+      (closed_where_begun (answer_unless (side_says up (has_bit (side_of now.site.pair side).joined queue) (has_bit (side_of now.site.pair side).closed queue)) (down_answer (port_queue now side queue true).port (kept now).bridge))
+      (port_unless (side_says up (has_bit (side_of now.site.pair side).joined queue) (has_bit (side_of now.site.pair side).closed queue)) (port_queue now side queue true) (after_down (port_queue now side queue true).port (kept now).bridge)))))
+      (sym (not_up side forgot)) (refl, as_it_was now side queue true among forgot))
+  down_by side queue false among fresh fits =
+      subst (DownSeen side queue false) (sym (joined_is now side queue))
+      (down_read side queue (has_bit (side_of now.site.pair side).joined queue) (λ joined. same_word plan now.site now.pages now.spare side queue now.declared among (own_fits plan (fits joined) side))
+      (down_core side queue _ _ _ (has_bit (side_of now.site.pair side).joined queue) _ _ (port_queue now side queue false) _ (port_with side queue GoesDown [] (lane_of now.site.pair side queue).told) (is_queue now side queue false among fresh)
+      (λ joined. down_ok side queue among fresh (fits joined))
+      (gates 0 (sizes_of plan side queue).most (head_in (sizes_of plan side queue) (lane_of now.site.pair side queue)) (seen_word now side queue) (lane_of now.site.pair side queue).told (port_queue now side queue false) (port_with side queue GoesDown [] (lane_of now.site.pair side queue).told)
+      (is_up now.site.pair.link.state) (has_bit (side_of now.site.pair side).joined queue) (has_bit (side_of now.site.pair side).closed queue) false (is_lane_busy (lane_of now.site.pair side queue)) false (is_full side queue 1 (seen_word now side queue)))))
 
-  down_by_B : (queue : ℕ) (forgotten : Bool) → queue < plan.b.queues → has_forgotten site.pair.link B ≡ forgotten → (has_bit site.pair.sides.b.joined queue ≡ true → SizesFit plan)
-      → Follows devs plan k site (QpDown k B queue) (qpdown_step (sizes_of plan B queue) reads site.pair B queue) (down_with B queue (port_queue B queue forgotten))
-  down_by_B queue true among forgot fits =
-      subst (λ up. Follows devs plan k site (QpDown k B queue)
-      (down_made B queue
-      (refusal_says up (has_bit site.pair.sides.b.joined queue) (has_bit site.pair.sides.b.closed queue) false (is_lane_busy (site.pair.lanes.b queue)) false (is_full B queue 1 (reads.index_word B queue)) 0 (sizes_of plan B queue).most
-      (head_in (sizes_of plan B queue) (site.pair.lanes.b queue)) (reads.index_word B queue)))
-      (down_says B queue (of_begin (answer_unless (side_says up (has_bit site.pair.sides.b.joined queue) (has_bit site.pair.sides.b.closed queue)) (down_answer (port_queue B queue true).port kept.bridge)))
-      (closed_where_begun (answer_unless (side_says up (has_bit site.pair.sides.b.joined queue) (has_bit site.pair.sides.b.closed queue)) (down_answer (port_queue B queue true).port kept.bridge))
-      (port_unless (side_says up (has_bit site.pair.sides.b.joined queue) (has_bit site.pair.sides.b.closed queue)) (port_queue B queue true) (after_down (port_queue B queue true).port kept.bridge)))))
-      (sym (not_up B forgot)) (refl, unchanged devs plan k now B queue (port_queue B queue true) (is_queue devs plan k now B queue true among forgot))
-  down_by_B queue false among fresh fits =
-      down_read B queue (has_bit site.pair.sides.b.joined queue) (λ joined. same_word plan site now.pages now.spare B queue now.declared among (own_fits plan (fits joined) B))
-      (down_core B queue _ _ _ (has_bit site.pair.sides.b.joined queue) _ _ (port_queue B queue false) _ (port_with B queue GoesDown [] (site.pair.lanes.b queue).told) (is_queue devs plan k now B queue false among fresh)
-      (λ joined. down_ok_B queue among fresh (fits joined))
-      (gates 0 (sizes_of plan B queue).most (head_in (sizes_of plan B queue) (site.pair.lanes.b queue)) (seen_word B queue) (site.pair.lanes.b queue).told (port_queue B queue false) (port_with B queue GoesDown [] (site.pair.lanes.b queue).told)
-      (is_up site.pair.link.state) (has_bit site.pair.sides.b.joined queue) (has_bit site.pair.sides.b.closed queue) false (is_lane_busy (site.pair.lanes.b queue)) false (is_full B queue 1 (seen_word B queue))))
-
-  pub qpdown_follows : (side : Side) (queue : ℕ) → queue < (side_plan plan side).queues → (has_bit (side_of site.pair side).joined queue ≡ true → SizesFit plan)
-      → Follows devs plan k site (QpDown k side queue) (qpdown_step (sizes_of plan side queue) reads site.pair side queue) (qpdown_move kept side queue)
-  qpdown_follows A queue among fits =
-      subst (λ (q : QueueState). Follows devs plan k site (QpDown k A queue) (qpdown_step (sizes_of plan A queue) reads site.pair A queue) (down_with A queue q)) (sym (is_queue devs plan k now A queue (has_forgotten site.pair.link A) among refl))
-      (down_by_A queue (has_forgotten site.pair.link A) among refl fits)
-  qpdown_follows B queue among fits =
-      subst (λ (q : QueueState). Follows devs plan k site (QpDown k B queue) (qpdown_step (sizes_of plan B queue) reads site.pair B queue) (down_with B queue q)) (sym (is_queue devs plan k now B queue (has_forgotten site.pair.link B) among refl))
-      (down_by_B queue (has_forgotten site.pair.link B) among refl fits)
+  pub qpdown_follows : (side : Side) (queue : ℕ) → queue < (side_plan plan side).queues → (has_bit (side_of now.site.pair side).joined queue ≡ true → SizesFit plan)
+      → Follows devs plan k now.site (QpDown k side queue) (qpdown_step (sizes_of plan side queue) (reads now) now.site.pair side queue) (qpdown_move (kept now) side queue)
+  qpdown_follows side queue among fits =
+      by_queue now side queue (λ (q : QueueState). Follows devs plan k now.site (QpDown k side queue) (qpdown_step (sizes_of plan side queue) (reads now) now.site.pair side queue) (down_with side queue q)) among
+      (λ forgotten forgot. down_by side queue forgotten among forgot fits)
 
   -- A device's frame
 
@@ -468,25 +325,25 @@ module _ (devs : List DevPlan) (plan : PairPlan) (k : ℕ) (now : Standing devs 
   device_part side queue frame (answer.OkNumber number) q after =
       record {
         queue = after;
-        flow = record (part side queue).flow { stopped = stopped_after_send (part side queue).flow (free_answer after.port kept.bridge) };
-        counters = count_accepted (part side queue).counters (length frame);
-        accepted = one_more (part side queue).accepted now.site.pair.link.session;
-        delivered = (part side queue).delivered;
+        flow = record (part now side queue).flow { stopped = stopped_after_send (part now side queue).flow (free_answer after.port (kept now).bridge) };
+        counters = count_accepted (part now side queue).counters (length frame);
+        accepted = one_more (part now side queue).accepted now.site.pair.link.session;
+        delivered = (part now side queue).delivered;
       }
-  device_part side queue frame said q after = record (part_with devs plan k now side queue q) { counters = count_refused (part side queue).counters }
+  device_part side queue frame said q after = record (part_with now side queue q) { counters = count_refused (part now side queue).counters }
 
-  device_part_is : (side : Side) (queue : ℕ) (frame : List ℕ) (said : Answer) (q : QueueState) → xbegun said kept (part_with devs plan k now side queue q) frame ≡ device_part side queue frame said q (after_begin q kept.bridge frame)
+  device_part_is : (side : Side) (queue : ℕ) (frame : List ℕ) (said : Answer) (q : QueueState) → xbegun said (kept now) (part_with now side queue q) frame ≡ device_part side queue frame said q (after_begin q (kept now).bridge frame)
   device_part_is side queue frame (answer.OkNumber number) q = refl
   device_part_is side queue frame said q = refl
 
-  device_refused : (side : Side) (queue : ℕ) (frame : List ℕ) (said : Answer) (q after : QueueState) → NotOk said → device_part side queue frame said q after ≡ record (part_with devs plan k now side queue q) { counters = count_refused (part side queue).counters }
+  device_refused : (side : Side) (queue : ℕ) (frame : List ℕ) (said : Answer) (q after : QueueState) → NotOk said → device_part side queue frame said q after ≡ record (part_with now side queue q) { counters = count_refused (part now side queue).counters }
   device_refused side queue frame (answer.OkNumber number) q after not_ok = absurd not_ok
   device_refused side queue frame said q after not_ok = refl
 
   abbrev sent_dev : Side → ℕ → ℕ → List ℕ → DevPart
   sent_dev side queue d frame =
       record {
-        stopped = stopped_after_send (flow_of (dev_plan devs d) (dev_of now.site.pair side queue)) (reads.free side queue - needs side queue frame);
+        stopped = stopped_after_send (flow_of (dev_plan devs d) (dev_of now.site.pair side queue)) ((reads now).free side queue - needs side queue frame);
         counters = count_accepted (dev_of now.site.pair side queue).counters (length frame);
       }
 
@@ -496,29 +353,18 @@ module _ (devs : List DevPlan) (plan : PairPlan) (k : ℕ) (now : Standing devs 
   abbrev device_made : Side → ℕ → ℕ → List ℕ → List Entry → Option Answer → Outcome
   device_made side queue d frame pieces refusal =
       decided (counts_refused now.site.pair side queue) refusal (answer.OkNumber (lane_of now.site.pair side queue).told)
-      (counts_sent (dev_plan devs d) (counts_accepted (with_lane now.site.pair side queue (lane_begun queue (lane_of now.site.pair side queue) pieces)) side queue) side queue (length frame) (reads.free side queue - needs side queue frame))
+      (counts_sent (dev_plan devs d) (counts_accepted (with_lane now.site.pair side queue (lane_begun queue (lane_of now.site.pair side queue) pieces)) side queue) side queue (length frame) ((reads now).free side queue - needs side queue frame))
 
   abbrev device_says : Side → ℕ → List ℕ → Answer → QueueState → QueueState → Move
-  device_says side queue frame said q after = record { answer = said; after = with_queue kept side queue (device_part side queue frame said q after) }
+  device_says side queue frame said q after = record { answer = said; after = with_queue (kept now) side queue (device_part side queue frame said q after) }
 
-  refused_stands : (side : Side) (queue : ℕ) → queue < (side_plan plan side).queues
-      → QueueStands devs plan k side queue (has_forgotten now.site.pair.link side) (record (view_of now.site.pair side queue) { dev = refused_dev side queue }) (record (part side queue) { counters = count_refused (part side queue).counters })
-  refused_stands side queue among =
+  refused : (side : Side) (queue : ℕ) (forgotten : Bool) → queue < (side_plan plan side).queues → has_forgotten now.site.pair.link side ≡ forgotten
+      → PairStands devs plan k (record now.site { pair = counts_refused now.site.pair side queue }) (with_queue (kept now) side queue (record (part_with now side queue (port_queue now side queue forgotten)) { counters = count_refused (part now side queue).counters }))
+  refused side queue forgotten among is =
       let h = (now.sides side).queues queue among in
-      record {
-        port = h.port ∙ other_dev plan side queue (has_forgotten now.site.pair.link side) (view_of now.site.pair side queue) (refused_dev side queue) (part side queue).queue.port.sending.entry;
-        entry = h.entry;
-        closed = h.closed;
-        stopped = h.stopped;
-        limits = h.limits;
-        counters = ap count_refused h.counters;
-        accepted = h.accepted;
-        delivered = h.delivered;
-        sending = h.sending;
-        receiving = h.receiving;
-        forgets = h.forgets;
-        stops = h.stops;
-      }
+      subst (λ (q : QueueState). PairStands devs plan k (record now.site { pair = counts_refused now.site.pair side queue }) (with_queue (kept now) side queue (record (part_with now side queue q) { counters = count_refused (part now side queue).counters })))
+      (is_queue now side queue forgotten among is)
+      (device_changes now side queue (part now side queue).flow.stopped (count_refused (part now side queue).counters) (refused_dev side queue) among h.stopped (ap count_refused h.counters) (λ forgot. (h.forgets forgot).goes_on) h.stops)
 
   abbrev stopped_then : Bool → ℕ → ℕ → Bool
   stopped_then stopped free stop = stopped || nat_lt free stop
@@ -530,11 +376,11 @@ module _ (devs : List DevPlan) (plan : PairPlan) (k : ℕ) (now : Standing devs 
 
   module _ (d : ℕ) (dst : List ℕ) (kind : ℕ) (payload frame : List ℕ) where
     abbrev DeviceCore : Side → ℕ → List Entry → Option Answer → Answer → QueueState → QueueState → Type 0
-    DeviceCore side queue pieces refusal said q after = Follows devs plan k site (Xbegin k side queue d dst kind payload) (device_made side queue d frame pieces refusal) (device_says side queue frame said q after)
+    DeviceCore side queue pieces refusal said q after = Follows devs plan k now.site (Xbegin k side queue d dst kind payload) (device_made side queue d frame pieces refusal) (device_says side queue frame said q after)
 
     device_core : (side : Side) (queue : ℕ) (pieces : List Entry) (refusal : Option Answer) (said : Answer) (begun : BeginAnswer) (joined busy stopped full : Bool) (q after : QueueState) (new : PortState)
         → (joined ≡ true → busy ≡ false → full ≡ false → DeviceCore side queue pieces None (answer.OkNumber (lane_of now.site.pair side queue).told) q (with_port q new))
-        → PairStands devs plan k (record site { pair = counts_refused now.site.pair side queue }) (with_queue kept side queue (record (part_with devs plan k now side queue q) { counters = count_refused (part side queue).counters }))
+        → PairStands devs plan k (record now.site { pair = counts_refused now.site.pair side queue }) (with_queue (kept now) side queue (record (part_with now side queue q) { counters = count_refused (part now side queue).counters }))
         → Passes joined busy full said begun refusal (lane_of now.site.pair side queue).told q new after ⊎ Refuses stopped said begun refusal q after
         → DeviceCore side queue pieces refusal said q after
     device_core side queue pieces refusal said begun joined busy stopped full q after new ok refused (inl passes) =
@@ -543,208 +389,103 @@ module _ (devs : List DevPlan) (plan : PairPlan) (k : ℕ) (now : Standing devs 
         (subst (DeviceCore side queue pieces None (answer.OkNumber (lane_of now.site.pair side queue).told) q) (sym passes.after_is) (ok passes.is_joined passes.not_busy passes.has_room)))
     device_core side queue pieces refusal said begun joined busy stopped full q after new ok refused (inr refuses) =
         subst (λ refusal. DeviceCore side queue pieces refusal said q after) (sym refuses.refusal_is)
-        (refl, subst (λ (part : QueuePart). PairStands devs plan k (record site { pair = counts_refused now.site.pair side queue }) (with_queue kept side queue part)) (sym (device_refused side queue frame said q after refuses.not_ok)) refused)
+        (refl, subst (λ (part : QueuePart). PairStands devs plan k (record now.site { pair = counts_refused now.site.pair side queue }) (with_queue (kept now) side queue part)) (sym (device_refused side queue frame said q after refuses.not_ok)) refused)
 
     abbrev DeviceAt : Side → ℕ → List Entry → Bool → Bool → ℕ → Type 0
     DeviceAt side queue pieces stopped joined index =
         DeviceCore side queue pieces (tests side queue (length frame) (needs side queue frame) (is_long side queue frame) (dev_of now.site.pair side queue).stopped joined index)
-        (of_xbegin stopped (answer_unless (side_refuses side queue joined) (says_frame side queue frame))) (port_queue side queue false)
-        (port_unless (side_refuses side queue joined) (port_queue side queue false) (where_begun (port_queue side queue false).port (port_new side queue pieces) (says_frame side queue frame)))
+        (of_xbegin stopped (answer_unless (side_refuses side queue joined) (says_frame side queue frame))) (port_queue now side queue false)
+        (port_unless (side_refuses side queue joined) (port_queue now side queue false) (where_begun (port_queue now side queue false).port (port_new side queue pieces) (says_frame side queue frame)))
 
-    device_read : (side : Side) (queue : ℕ) (pieces : List Entry) (stopped joined : Bool) → (joined ≡ true → seen_word side queue ≡ reads.index_word side queue) → DeviceAt side queue pieces stopped joined (seen_word side queue)
-        → DeviceAt side queue pieces stopped joined (reads.index_word side queue)
+    device_read : (side : Side) (queue : ℕ) (pieces : List Entry) (stopped joined : Bool) → (joined ≡ true → seen_word now side queue ≡ (reads now).index_word side queue) → DeviceAt side queue pieces stopped joined (seen_word now side queue)
+        → DeviceAt side queue pieces stopped joined ((reads now).index_word side queue)
     device_read side queue pieces stopped true same at_seen = subst (DeviceAt side queue pieces stopped true) (same refl) at_seen
     device_read side queue pieces stopped false same at_seen = at_seen
 
     abbrev device_with : Side → ℕ → Bool → QueueState → Move
     device_with side queue stopped q =
-        device_says side queue frame (of_xbegin stopped (begin_answer q kept.bridge (length frame))) q (after_begin q kept.bridge frame)
+        device_says side queue frame (of_xbegin stopped (begin_answer q (kept now).bridge (length frame))) q (after_begin q (kept now).bridge frame)
 
-    abbrev sent_part_A : ℕ → Entry → List Entry → QueuePart
-    sent_part_A queue first others = device_part A queue frame (answer.OkNumber (site.pair.lanes.a queue).told) (port_queue A queue false) (with_port (port_queue A queue false) (port_new A queue (first ∷ others)))
-
-    refused_A : (queue : ℕ) (q : QueueState) → queue < plan.a.queues → (part A queue).queue ≡ q
-        → PairStands devs plan k (record site { pair = counts_refused site.pair A queue }) (with_queue kept A queue (record (part_with devs plan k now A queue q) { counters = count_refused (part A queue).counters }))
-    refused_A queue q among is =
-        subst (λ (q : QueueState). PairStands devs plan k (record site { pair = counts_refused site.pair A queue }) (with_queue kept A queue (record (part_with devs plan k now A queue q) { counters = count_refused (part A queue).counters }))) is
-        (record {
-          bridge = refl;
-          link = now.link;
-          sides =
-              by_side _ (side_at devs plan k A _ _ _ _ _ _ _ (view_of site.pair A) _ now.queues.a queue (record (part A queue) { counters = count_refused (part A queue).counters }) among
-              (λ other ne. ap (λ (d : DevPart). record (view_of site.pair A other) { dev = d }) (updated_other site.pair.devs.a queue (refused_dev A queue) other ne)) (now.sides A).in_flight
-              (subst (λ (v : QueueView). QueueStands devs plan k A queue (has_forgotten site.pair.link A) v (record (part A queue) { counters = count_refused (part A queue).counters }))
-              (sym (ap (λ (d : DevPart). record (view_of site.pair A queue) { dev = d }) (updated_here site.pair.devs.a queue (refused_dev A queue)))) (refused_stands A queue among)) (now.sides A)) (now.sides B);
-        })
+    abbrev frame_part : Side → ℕ → Entry → List Entry → QueuePart
+    frame_part side queue first others =
+        device_part side queue frame (answer.OkNumber (lane_of now.site.pair side queue).told) (port_queue now side queue false) (with_port (port_queue now side queue false) (port_new side queue (first ∷ others)))
 
     -- what is free then
-    free_then_A : (queue : ℕ) (first : Entry) (others : List Entry) (told : ℕ) → queue < plan.a.queues → SizesFit plan → (site.pair.lanes.a queue).waiting ≡ [] → length (first ∷ others) ≡ needs A queue frame → is_full A queue (needs A queue frame) (seen_word A queue) ≡ false
-        → free_answer (port_with A queue first others told) kept.bridge ≡ reads.free A queue - needs A queue frame
-    free_then_A queue first others told among fits none count room =
-        ap (λ inside. if inside then free_in_memory (sizes_of plan A queue).entries (head_of (sizes_of plan A queue).entries (length (site.pair.lanes.a queue).sent + 1 + length others)) (seen_word A queue) else 0)
-        (le-leb (own_index_word plan A queue + 4) (memory_size plan A) (word_inside plan site now.pages now.spare A queue now.declared among (own_fits plan fits A)))
-        ∙ ap (λ n. free_in_memory (sizes_of plan A queue).entries (head_of (sizes_of plan A queue).entries n) (seen_word A queue))
-        (let z = ap length none in let same : length (site.pair.lanes.a queue).sent + 1 + length others ≡ length (site.pair.lanes.a queue).sent + length (site.pair.lanes.a queue).waiting + needs A queue frame = omega (arith, z, count) in same)
-        ∙ free_less (sizes_of plan A queue).entries (length (site.pair.lanes.a queue).sent + length (site.pair.lanes.a queue).waiting) (needs A queue frame) (seen_word A queue) room (some_pieces (sizes_of plan A queue).largest (length frame))
-        ∙ ap (λ index. free_in_memory (sizes_of plan A queue).entries (head_in (sizes_of plan A queue) (site.pair.lanes.a queue)) index - needs A queue frame)
-        (same_word plan site now.pages now.spare A queue now.declared among (own_fits plan fits A))
+    free_then : (side : Side) (queue : ℕ) (first : Entry) (others : List Entry) (told : ℕ) → queue < (side_plan plan side).queues → SizesFit plan → (lane_of now.site.pair side queue).waiting ≡ [] → length (first ∷ others) ≡ needs side queue frame → is_full side queue (needs side queue frame) (seen_word now side queue) ≡ false
+        → free_answer (port_with side queue first others told) (kept now).bridge ≡ (reads now).free side queue - needs side queue frame
+    free_then side queue first others told among fits none count room =
+        ap (λ inside. if inside then free_in_memory (sizes_of plan side queue).entries (head_of (sizes_of plan side queue).entries (length (lane_of now.site.pair side queue).sent + 1 + length others)) (seen_word now side queue) else 0)
+        (le-leb (own_index_word plan side queue + 4) (memory_size plan side) (word_inside plan now.site now.pages now.spare side queue now.declared among (own_fits plan fits side)))
+        ∙ ap (λ n. free_in_memory (sizes_of plan side queue).entries (head_of (sizes_of plan side queue).entries n) (seen_word now side queue))
+        (let z = ap length none in let same : length (lane_of now.site.pair side queue).sent + 1 + length others ≡ length (lane_of now.site.pair side queue).sent + length (lane_of now.site.pair side queue).waiting + needs side queue frame = omega (arith, z, count) in same)
+        ∙ free_less (sizes_of plan side queue).entries (length (lane_of now.site.pair side queue).sent + length (lane_of now.site.pair side queue).waiting) (needs side queue frame) (seen_word now side queue) room (some_pieces (sizes_of plan side queue).largest (length frame))
+        ∙ ap (λ index. free_in_memory (sizes_of plan side queue).entries (head_in (sizes_of plan side queue) (lane_of now.site.pair side queue)) index - needs side queue frame)
+        (same_word plan now.site now.pages now.spare side queue now.declared among (own_fits plan fits side))
 
-    device_ok_A : (queue : ℕ) (first : Entry) (others : List Entry) → queue < plan.a.queues → d < length devs → IsOn (dev_plan devs d) k A queue → has_forgotten site.pair.link A ≡ false → SizesFit plan → AllByRecursion (FitsSlot plan A queue) (first ∷ others)
-        → length (first ∷ others) ≡ needs A queue frame → is_lane_busy (site.pair.lanes.a queue) ≡ false → is_full A queue (needs A queue frame) (seen_word A queue) ≡ false
-        → DeviceCore A queue (first ∷ others) None (answer.OkNumber (site.pair.lanes.a queue).told) (port_queue A queue false) (with_port (port_queue A queue false) (port_new A queue (first ∷ others)))
-    device_ok_A queue first others among declared on fresh fits all count idle room =
-        let lane = lane_with A queue first others ((site.pair.lanes.a queue).told + 1) in
-        let h = (now.sides A).queues queue among in (
+    device_ok : (side : Side) (queue : ℕ) (first : Entry) (others : List Entry) → queue < (side_plan plan side).queues → d < length devs → IsOn (dev_plan devs d) k side queue → has_forgotten now.site.pair.link side ≡ false → SizesFit plan → AllByRecursion (FitsSlot plan side queue) (first ∷ others)
+        → length (first ∷ others) ≡ needs side queue frame → is_lane_busy (lane_of now.site.pair side queue) ≡ false → is_full side queue (needs side queue frame) (seen_word now side queue) ≡ false
+        → DeviceCore side queue (first ∷ others) None (answer.OkNumber (lane_of now.site.pair side queue).told) (port_queue now side queue false) (with_port (port_queue now side queue false) (port_new side queue (first ∷ others)))
+    device_ok side queue first others among declared on fresh fits all count idle room =
+        let h = (now.sides side).queues queue among in
+        let told = (lane_of now.site.pair side queue).told + 1 in (
           refl,
-          record {
-            bridge = bridge_same plan site.pair.link site.pair.sides (all_sent site.pair.lanes) (record { a = sent_of (updated site.pair.lanes.a queue lane); b = sent_of site.pair.lanes.b }) site.stores (sym (writes_grow plan A (sent_of site.pair.lanes.a) (sent_of (updated site.pair.lanes.a queue lane)) (grows_at site.pair.lanes.a queue lane (first ∷ []) refl) site.pair.sides.a.flight site.pair.sides.a.poked (now.sides A).in_flight.begun)) refl;
-            link = now.link;
-            sides =
-                by_side _ (side_at devs plan k A _ _ _ _ _ _ _ (view_of site.pair A) _ now.queues.a queue (sent_part_A queue first others) among
-                (λ other ne. three_same (λ (l : LanePart) (t : ℕ → Tally) (dev : DevPart). record (view_of site.pair A other) { sends = sender_of l; accepted = λ session. (t session).accepted; dev = dev }) (updated_other site.pair.lanes.a queue lane other ne)
-                (updated_other site.pair.tallies.a queue (more_accepted A queue) other ne) (updated_other site.pair.devs.a queue (sent_dev A queue d frame) other ne))
-                (flight_grows plan A (sent_of site.pair.lanes.a) (sent_of (updated site.pair.lanes.a queue lane)) (grows_at site.pair.lanes.a queue lane (first ∷ []) refl) site.pair.sides.a.flight site.pair.sides.a.poked (is_down site.pair.link.state) (now.sides A).in_flight)
-                (subst (λ (v : QueueView). QueueStands devs plan k A queue (has_forgotten site.pair.link A) v (sent_part_A queue first others))
-                (sym (three_same (λ (l : LanePart) (t : ℕ → Tally) (dev : DevPart). record (view_of site.pair A queue) { sends = sender_of l; accepted = λ session. (t session).accepted; dev = dev }) (updated_here site.pair.lanes.a queue lane)
-                (updated_here site.pair.tallies.a queue (more_accepted A queue)) (updated_here site.pair.devs.a queue (sent_dev A queue d frame))))
-                (begins A queue first others ((site.pair.lanes.a queue).told + 1) (has_bit site.pair.sides.a.closed queue) (has_bit site.pair.sides.a.closed queue) (sent_part_A queue first others).flow (sent_part_A queue first others).counters
-                (one_more (part A queue).accepted site.pair.link.session) (sent_dev A queue d frame) (λ session. (more_accepted A queue session).accepted) among fresh fits all.0 all.1 refl
-                (three_same stopped_then h.stopped (free_then_A queue first others ((site.pair.lanes.a queue).told + 1) among fits (idle_waiting (site.pair.lanes.a queue).todo (site.pair.lanes.a queue).waiting idle) count room) (h.limits d declared on).0)
-                refl refl (ap (λ counters. count_accepted counters (length frame)) h.counters) (counts_one A queue among))) (now.sides A)) (others_A queue lane among refl);
-          },
+          sender_changes now side queue (first ∷ []) (frame_part side queue first others) among (none_closes now.site.pair.sides side (other_side side) queue) (changes now.site.pair.lanes side queue (lane_with side queue first others told))
+              (changes now.site.pair.devs side queue (sent_dev side queue d frame)) (changes now.site.pair.tallies side queue (more_accepted side queue)) refl refl (none_delivered side queue)
+              (begins side queue first others told (has_bit (side_of now.site.pair side).closed queue) (has_bit (side_of now.site.pair side).closed queue) (frame_part side queue first others).flow (frame_part side queue first others).counters
+              (one_more (part now side queue).accepted now.site.pair.link.session) (sent_dev side queue d frame) (λ session. (more_accepted side queue session).accepted) among fresh fits all.0 all.1 refl
+              (three_same stopped_then h.stopped (free_then side queue first others told among fits (idle_waiting (lane_of now.site.pair side queue).todo (lane_of now.site.pair side queue).waiting idle) count room) (h.limits d declared on).0)
+              refl refl (ap (λ counters. count_accepted counters (length frame)) h.counters) (counts_one side queue among)),
         )
 
-    device_fresh_A : (queue : ℕ) (pieces : List Entry) (joined : Bool) → queue < plan.a.queues → d < length devs → IsOn (dev_plan devs d) k A queue → has_forgotten site.pair.link A ≡ false → (joined ≡ true → SizesFit plan)
-        → pieces_of (sizes_of plan A queue).largest frame ≡ pieces → AllByRecursion (FitsSlot plan A queue) pieces → DeviceAt A queue pieces (site.pair.devs.a queue).stopped joined (seen_word A queue)
-    device_fresh_A queue [] joined among declared on fresh fits is all = absurd (is_some_piece (sizes_of plan A queue).largest frame is)
-    device_fresh_A queue (first ∷ others) joined among declared on fresh fits is all =
-        device_core A queue (first ∷ others) _ _ _ joined _ (site.pair.devs.a queue).stopped _ (port_queue A queue false) _ (port_new A queue (first ∷ others))
-        (λ yes idle room. device_ok_A queue first others among declared on fresh (fits yes) all (sym (ap length is) ∙ length-pieces (sizes_of plan A queue).largest frame) idle room)
-        (refused_A queue (port_queue A queue false) among (is_queue devs plan k now A queue false among fresh))
-        (gates (length frame) (sizes_of plan A queue).most (head_in (sizes_of plan A queue) (site.pair.lanes.a queue)) (seen_word A queue) (site.pair.lanes.a queue).told (port_queue A queue false) (port_new A queue (first ∷ others))
-        (is_up site.pair.link.state) joined (has_bit site.pair.sides.a.closed queue) (is_long A queue frame) (is_lane_busy (site.pair.lanes.a queue)) (site.pair.devs.a queue).stopped (is_full A queue (needs A queue frame) (seen_word A queue)))
+    device_fresh : (side : Side) (queue : ℕ) (pieces : List Entry) (joined : Bool) → queue < (side_plan plan side).queues → d < length devs → IsOn (dev_plan devs d) k side queue → has_forgotten now.site.pair.link side ≡ false → (joined ≡ true → SizesFit plan)
+        → pieces_of (sizes_of plan side queue).largest frame ≡ pieces → AllByRecursion (FitsSlot plan side queue) pieces → DeviceAt side queue pieces (dev_of now.site.pair side queue).stopped joined (seen_word now side queue)
+    device_fresh side queue [] joined among declared on fresh fits is all = absurd (is_some_piece (sizes_of plan side queue).largest frame is)
+    device_fresh side queue (first ∷ others) joined among declared on fresh fits is all =
+        device_core side queue (first ∷ others) _ _ _ joined _ (dev_of now.site.pair side queue).stopped _ (port_queue now side queue false) _ (port_new side queue (first ∷ others))
+        (λ yes idle room. device_ok side queue first others among declared on fresh (fits yes) all (sym (ap length is) ∙ length-pieces (sizes_of plan side queue).largest frame) idle room)
+        (refused side queue false among fresh)
+        (gates (length frame) (sizes_of plan side queue).most (head_in (sizes_of plan side queue) (lane_of now.site.pair side queue)) (seen_word now side queue) (lane_of now.site.pair side queue).told (port_queue now side queue false) (port_new side queue (first ∷ others))
+        (is_up now.site.pair.link.state) joined (has_bit (side_of now.site.pair side).closed queue) (is_long side queue frame) (is_lane_busy (lane_of now.site.pair side queue)) (dev_of now.site.pair side queue).stopped (is_full side queue (needs side queue frame) (seen_word now side queue)))
 
-    device_by_A : (queue : ℕ) (forgotten : Bool) → queue < plan.a.queues → d < length devs → IsOn (dev_plan devs d) k A queue → has_forgotten site.pair.link A ≡ forgotten → (has_bit site.pair.sides.a.joined queue ≡ true → SizesFit plan)
-        → Follows devs plan k site (Xbegin k A queue d dst kind payload)
-        (device_made A queue d frame (pieces_of (sizes_of plan A queue).largest frame) (tests A queue (length frame) (needs A queue frame) (is_long A queue frame) (site.pair.devs.a queue).stopped (has_bit site.pair.sides.a.joined queue) (reads.index_word A queue)))
-        (device_with A queue (site.pair.devs.a queue).stopped (port_queue A queue forgotten))
-    device_by_A queue true among declared on forgot fits =
-        subst (λ up. Follows devs plan k site (Xbegin k A queue d dst kind payload)
-        (device_made A queue d frame (pieces_of (sizes_of plan A queue).largest frame)
-        (refusal_says up (has_bit site.pair.sides.a.joined queue) (has_bit site.pair.sides.a.closed queue) (is_long A queue frame) (is_lane_busy (site.pair.lanes.a queue)) (site.pair.devs.a queue).stopped
-        (is_full A queue (needs A queue frame) (reads.index_word A queue)) (length frame) (sizes_of plan A queue).most (head_in (sizes_of plan A queue) (site.pair.lanes.a queue)) (reads.index_word A queue)))
-        (device_says A queue frame
-        (of_xbegin (site.pair.devs.a queue).stopped (answer_unless (side_says up (has_bit site.pair.sides.a.joined queue) (has_bit site.pair.sides.a.closed queue)) (port_begin_answer (port_queue A queue true).port kept.bridge (length frame))))
-        (port_queue A queue true)
-        (port_unless (side_says up (has_bit site.pair.sides.a.joined queue) (has_bit site.pair.sides.a.closed queue)) (port_queue A queue true) (port_after_begin (port_queue A queue true).port kept.bridge frame))))
-        (sym (not_up A forgot)) (down (site.pair.devs.a queue).stopped)
+    abbrev DeviceSeen : Side → ℕ → Bool → Bool → Type 0
+    DeviceSeen side queue forgotten joined =
+        let q = port_queue now side queue forgotten in
+        let refuses = side_says (is_up now.site.pair.link.state) joined q.closed in
+        Follows devs plan k now.site (Xbegin k side queue d dst kind payload)
+        (device_made side queue d frame (pieces_of (sizes_of plan side queue).largest frame)
+        (tests side queue (length frame) (needs side queue frame) (is_long side queue frame) (dev_of now.site.pair side queue).stopped (has_bit (side_of now.site.pair side).joined queue) ((reads now).index_word side queue)))
+        (device_says side queue frame (of_xbegin (dev_of now.site.pair side queue).stopped (answer_unless refuses (port_begin_answer q.port (kept now).bridge (length frame)))) q (port_unless refuses q (port_after_begin q.port (kept now).bridge frame)))
+
+    device_by : (side : Side) (queue : ℕ) (forgotten : Bool) → queue < (side_plan plan side).queues → d < length devs → IsOn (dev_plan devs d) k side queue → has_forgotten now.site.pair.link side ≡ forgotten → (has_bit (side_of now.site.pair side).joined queue ≡ true → SizesFit plan)
+        → Follows devs plan k now.site (Xbegin k side queue d dst kind payload)
+        (device_made side queue d frame (pieces_of (sizes_of plan side queue).largest frame) (tests side queue (length frame) (needs side queue frame) (is_long side queue frame) (dev_of now.site.pair side queue).stopped (has_bit (side_of now.site.pair side).joined queue) ((reads now).index_word side queue)))
+        (device_with side queue (dev_of now.site.pair side queue).stopped (port_queue now side queue forgotten))
+    device_by side queue true among declared on forgot fits =
+        subst (DeviceSeen side queue true) (sym (joined_is now side queue))
+        (subst (λ up. Follows devs plan k now.site (Xbegin k side queue d dst kind payload)
+        (device_made side queue d frame (pieces_of (sizes_of plan side queue).largest frame)
+        (refusal_says up (has_bit (side_of now.site.pair side).joined queue) (has_bit (side_of now.site.pair side).closed queue) (is_long side queue frame) (is_lane_busy (lane_of now.site.pair side queue)) (dev_of now.site.pair side queue).stopped
+        (is_full side queue (needs side queue frame) ((reads now).index_word side queue)) (length frame) (sizes_of plan side queue).most (head_in (sizes_of plan side queue) (lane_of now.site.pair side queue)) ((reads now).index_word side queue)))
+        (device_says side queue frame
+        (of_xbegin (dev_of now.site.pair side queue).stopped (answer_unless (side_says up (has_bit (side_of now.site.pair side).joined queue) (has_bit (side_of now.site.pair side).closed queue)) (port_begin_answer (port_queue now side queue true).port (kept now).bridge (length frame))))
+        (port_queue now side queue true)
+        (port_unless (side_says up (has_bit (side_of now.site.pair side).joined queue) (has_bit (side_of now.site.pair side).closed queue)) (port_queue now side queue true) (port_after_begin (port_queue now side queue true).port (kept now).bridge frame))))
+        (sym (not_up side forgot)) (down (dev_of now.site.pair side queue).stopped))
       where
-        down : (stopped : Bool) → Follows devs plan k site (Xbegin k A queue d dst kind payload) (device_made A queue d frame (pieces_of (sizes_of plan A queue).largest frame) (Some answer.LinkDown))
-            (device_says A queue frame (of_xbegin stopped IsLinkDown) (port_queue A queue true) (port_queue A queue true))
-        down true = (refl, refused_A queue (port_queue A queue true) among (is_queue devs plan k now A queue true among forgot))
-        down false = (refl, refused_A queue (port_queue A queue true) among (is_queue devs plan k now A queue true among forgot))
-    device_by_A queue false among declared on fresh fits =
-        device_read A queue (pieces_of (sizes_of plan A queue).largest frame) (site.pair.devs.a queue).stopped (has_bit site.pair.sides.a.joined queue)
-        (λ joined. same_word plan site now.pages now.spare A queue now.declared among (own_fits plan (fits joined) A))
-        (device_fresh_A queue (pieces_of (sizes_of plan A queue).largest frame) (has_bit site.pair.sides.a.joined queue) among declared on fresh fits refl (pieces_fit (sizes_of plan A queue).largest frame))
+        down : (stopped : Bool) → Follows devs plan k now.site (Xbegin k side queue d dst kind payload) (device_made side queue d frame (pieces_of (sizes_of plan side queue).largest frame) (Some answer.LinkDown))
+            (device_says side queue frame (of_xbegin stopped IsLinkDown) (port_queue now side queue true) (port_queue now side queue true))
+        down true = (refl, refused side queue true among forgot)
+        down false = (refl, refused side queue true among forgot)
+    device_by side queue false among declared on fresh fits =
+        subst (DeviceSeen side queue false) (sym (joined_is now side queue))
+        (device_read side queue (pieces_of (sizes_of plan side queue).largest frame) (dev_of now.site.pair side queue).stopped (has_bit (side_of now.site.pair side).joined queue)
+        (λ joined. same_word plan now.site now.pages now.spare side queue now.declared among (own_fits plan (fits joined) side))
+        (device_fresh side queue (pieces_of (sizes_of plan side queue).largest frame) (has_bit (side_of now.site.pair side).joined queue) among declared on fresh fits refl (pieces_fit (sizes_of plan side queue).largest frame)))
 
-    abbrev sent_part_B : ℕ → Entry → List Entry → QueuePart
-    sent_part_B queue first others = device_part B queue frame (answer.OkNumber (site.pair.lanes.b queue).told) (port_queue B queue false) (with_port (port_queue B queue false) (port_new B queue (first ∷ others)))
-
-    refused_B : (queue : ℕ) (q : QueueState) → queue < plan.b.queues → (part B queue).queue ≡ q
-        → PairStands devs plan k (record site { pair = counts_refused site.pair B queue }) (with_queue kept B queue (record (part_with devs plan k now B queue q) { counters = count_refused (part B queue).counters }))
-    refused_B queue q among is =
-        subst (λ (q : QueueState). PairStands devs plan k (record site { pair = counts_refused site.pair B queue }) (with_queue kept B queue (record (part_with devs plan k now B queue q) { counters = count_refused (part B queue).counters }))) is
-        (record {
-          bridge = refl;
-          link = now.link;
-          sides =
-              by_side _ (now.sides A) (side_at devs plan k B _ _ _ _ _ _ _ (view_of site.pair B) _ now.queues.b queue (record (part B queue) { counters = count_refused (part B queue).counters }) among
-              (λ other ne. ap (λ (d : DevPart). record (view_of site.pair B other) { dev = d }) (updated_other site.pair.devs.b queue (refused_dev B queue) other ne)) (now.sides B).in_flight
-              (subst (λ (v : QueueView). QueueStands devs plan k B queue (has_forgotten site.pair.link B) v (record (part B queue) { counters = count_refused (part B queue).counters }))
-              (sym (ap (λ (d : DevPart). record (view_of site.pair B queue) { dev = d }) (updated_here site.pair.devs.b queue (refused_dev B queue)))) (refused_stands B queue among)) (now.sides B));
-        })
-
-    -- what is free then
-    free_then_B : (queue : ℕ) (first : Entry) (others : List Entry) (told : ℕ) → queue < plan.b.queues → SizesFit plan → (site.pair.lanes.b queue).waiting ≡ [] → length (first ∷ others) ≡ needs B queue frame → is_full B queue (needs B queue frame) (seen_word B queue) ≡ false
-        → free_answer (port_with B queue first others told) kept.bridge ≡ reads.free B queue - needs B queue frame
-    free_then_B queue first others told among fits none count room =
-        ap (λ inside. if inside then free_in_memory (sizes_of plan B queue).entries (head_of (sizes_of plan B queue).entries (length (site.pair.lanes.b queue).sent + 1 + length others)) (seen_word B queue) else 0)
-        (le-leb (own_index_word plan B queue + 4) (memory_size plan B) (word_inside plan site now.pages now.spare B queue now.declared among (own_fits plan fits B)))
-        ∙ ap (λ n. free_in_memory (sizes_of plan B queue).entries (head_of (sizes_of plan B queue).entries n) (seen_word B queue))
-        (let z = ap length none in let same : length (site.pair.lanes.b queue).sent + 1 + length others ≡ length (site.pair.lanes.b queue).sent + length (site.pair.lanes.b queue).waiting + needs B queue frame = omega (arith, z, count) in same)
-        ∙ free_less (sizes_of plan B queue).entries (length (site.pair.lanes.b queue).sent + length (site.pair.lanes.b queue).waiting) (needs B queue frame) (seen_word B queue) room (some_pieces (sizes_of plan B queue).largest (length frame))
-        ∙ ap (λ index. free_in_memory (sizes_of plan B queue).entries (head_in (sizes_of plan B queue) (site.pair.lanes.b queue)) index - needs B queue frame)
-        (same_word plan site now.pages now.spare B queue now.declared among (own_fits plan fits B))
-
-    device_ok_B : (queue : ℕ) (first : Entry) (others : List Entry) → queue < plan.b.queues → d < length devs → IsOn (dev_plan devs d) k B queue → has_forgotten site.pair.link B ≡ false → SizesFit plan → AllByRecursion (FitsSlot plan B queue) (first ∷ others)
-        → length (first ∷ others) ≡ needs B queue frame → is_lane_busy (site.pair.lanes.b queue) ≡ false → is_full B queue (needs B queue frame) (seen_word B queue) ≡ false
-        → DeviceCore B queue (first ∷ others) None (answer.OkNumber (site.pair.lanes.b queue).told) (port_queue B queue false) (with_port (port_queue B queue false) (port_new B queue (first ∷ others)))
-    device_ok_B queue first others among declared on fresh fits all count idle room =
-        let lane = lane_with B queue first others ((site.pair.lanes.b queue).told + 1) in
-        let h = (now.sides B).queues queue among in (
-          refl,
-          record {
-            bridge = bridge_same plan site.pair.link site.pair.sides (all_sent site.pair.lanes) (record { a = sent_of site.pair.lanes.a; b = sent_of (updated site.pair.lanes.b queue lane) }) site.stores refl (sym (writes_grow plan B (sent_of site.pair.lanes.b) (sent_of (updated site.pair.lanes.b queue lane)) (grows_at site.pair.lanes.b queue lane (first ∷ []) refl) site.pair.sides.b.flight site.pair.sides.b.poked (now.sides B).in_flight.begun));
-            link = now.link;
-            sides =
-                by_side _ (others_B queue lane among refl) (side_at devs plan k B _ _ _ _ _ _ _ (view_of site.pair B) _ now.queues.b queue (sent_part_B queue first others) among
-                (λ other ne. three_same (λ (l : LanePart) (t : ℕ → Tally) (dev : DevPart). record (view_of site.pair B other) { sends = sender_of l; accepted = λ session. (t session).accepted; dev = dev }) (updated_other site.pair.lanes.b queue lane other ne)
-                (updated_other site.pair.tallies.b queue (more_accepted B queue) other ne) (updated_other site.pair.devs.b queue (sent_dev B queue d frame) other ne))
-                (flight_grows plan B (sent_of site.pair.lanes.b) (sent_of (updated site.pair.lanes.b queue lane)) (grows_at site.pair.lanes.b queue lane (first ∷ []) refl) site.pair.sides.b.flight site.pair.sides.b.poked (is_down site.pair.link.state) (now.sides B).in_flight)
-                (subst (λ (v : QueueView). QueueStands devs plan k B queue (has_forgotten site.pair.link B) v (sent_part_B queue first others))
-                (sym (three_same (λ (l : LanePart) (t : ℕ → Tally) (dev : DevPart). record (view_of site.pair B queue) { sends = sender_of l; accepted = λ session. (t session).accepted; dev = dev }) (updated_here site.pair.lanes.b queue lane)
-                (updated_here site.pair.tallies.b queue (more_accepted B queue)) (updated_here site.pair.devs.b queue (sent_dev B queue d frame))))
-                (begins B queue first others ((site.pair.lanes.b queue).told + 1) (has_bit site.pair.sides.b.closed queue) (has_bit site.pair.sides.b.closed queue) (sent_part_B queue first others).flow (sent_part_B queue first others).counters
-                (one_more (part B queue).accepted site.pair.link.session) (sent_dev B queue d frame) (λ session. (more_accepted B queue session).accepted) among fresh fits all.0 all.1 refl
-                (three_same stopped_then h.stopped (free_then_B queue first others ((site.pair.lanes.b queue).told + 1) among fits (idle_waiting (site.pair.lanes.b queue).todo (site.pair.lanes.b queue).waiting idle) count room) (h.limits d declared on).0)
-                refl refl (ap (λ counters. count_accepted counters (length frame)) h.counters) (counts_one B queue among))) (now.sides B));
-          },
-        )
-
-    device_fresh_B : (queue : ℕ) (pieces : List Entry) (joined : Bool) → queue < plan.b.queues → d < length devs → IsOn (dev_plan devs d) k B queue → has_forgotten site.pair.link B ≡ false → (joined ≡ true → SizesFit plan)
-        → pieces_of (sizes_of plan B queue).largest frame ≡ pieces → AllByRecursion (FitsSlot plan B queue) pieces → DeviceAt B queue pieces (site.pair.devs.b queue).stopped joined (seen_word B queue)
-    device_fresh_B queue [] joined among declared on fresh fits is all = absurd (is_some_piece (sizes_of plan B queue).largest frame is)
-    device_fresh_B queue (first ∷ others) joined among declared on fresh fits is all =
-        device_core B queue (first ∷ others) _ _ _ joined _ (site.pair.devs.b queue).stopped _ (port_queue B queue false) _ (port_new B queue (first ∷ others))
-        (λ yes idle room. device_ok_B queue first others among declared on fresh (fits yes) all (sym (ap length is) ∙ length-pieces (sizes_of plan B queue).largest frame) idle room)
-        (refused_B queue (port_queue B queue false) among (is_queue devs plan k now B queue false among fresh))
-        (gates (length frame) (sizes_of plan B queue).most (head_in (sizes_of plan B queue) (site.pair.lanes.b queue)) (seen_word B queue) (site.pair.lanes.b queue).told (port_queue B queue false) (port_new B queue (first ∷ others))
-        (is_up site.pair.link.state) joined (has_bit site.pair.sides.b.closed queue) (is_long B queue frame) (is_lane_busy (site.pair.lanes.b queue)) (site.pair.devs.b queue).stopped (is_full B queue (needs B queue frame) (seen_word B queue)))
-
-    device_by_B : (queue : ℕ) (forgotten : Bool) → queue < plan.b.queues → d < length devs → IsOn (dev_plan devs d) k B queue → has_forgotten site.pair.link B ≡ forgotten → (has_bit site.pair.sides.b.joined queue ≡ true → SizesFit plan)
-        → Follows devs plan k site (Xbegin k B queue d dst kind payload)
-        (device_made B queue d frame (pieces_of (sizes_of plan B queue).largest frame) (tests B queue (length frame) (needs B queue frame) (is_long B queue frame) (site.pair.devs.b queue).stopped (has_bit site.pair.sides.b.joined queue) (reads.index_word B queue)))
-        (device_with B queue (site.pair.devs.b queue).stopped (port_queue B queue forgotten))
-    device_by_B queue true among declared on forgot fits =
-        subst (λ up. Follows devs plan k site (Xbegin k B queue d dst kind payload)
-        (device_made B queue d frame (pieces_of (sizes_of plan B queue).largest frame)
-        (refusal_says up (has_bit site.pair.sides.b.joined queue) (has_bit site.pair.sides.b.closed queue) (is_long B queue frame) (is_lane_busy (site.pair.lanes.b queue)) (site.pair.devs.b queue).stopped
-        (is_full B queue (needs B queue frame) (reads.index_word B queue)) (length frame) (sizes_of plan B queue).most (head_in (sizes_of plan B queue) (site.pair.lanes.b queue)) (reads.index_word B queue)))
-        (device_says B queue frame
-        (of_xbegin (site.pair.devs.b queue).stopped (answer_unless (side_says up (has_bit site.pair.sides.b.joined queue) (has_bit site.pair.sides.b.closed queue)) (port_begin_answer (port_queue B queue true).port kept.bridge (length frame))))
-        (port_queue B queue true)
-        (port_unless (side_says up (has_bit site.pair.sides.b.joined queue) (has_bit site.pair.sides.b.closed queue)) (port_queue B queue true) (port_after_begin (port_queue B queue true).port kept.bridge frame))))
-        (sym (not_up B forgot)) (down (site.pair.devs.b queue).stopped)
-      where
-        down : (stopped : Bool) → Follows devs plan k site (Xbegin k B queue d dst kind payload) (device_made B queue d frame (pieces_of (sizes_of plan B queue).largest frame) (Some answer.LinkDown))
-            (device_says B queue frame (of_xbegin stopped IsLinkDown) (port_queue B queue true) (port_queue B queue true))
-        down true = (refl, refused_B queue (port_queue B queue true) among (is_queue devs plan k now B queue true among forgot))
-        down false = (refl, refused_B queue (port_queue B queue true) among (is_queue devs plan k now B queue true among forgot))
-    device_by_B queue false among declared on fresh fits =
-        device_read B queue (pieces_of (sizes_of plan B queue).largest frame) (site.pair.devs.b queue).stopped (has_bit site.pair.sides.b.joined queue)
-        (λ joined. same_word plan site now.pages now.spare B queue now.declared among (own_fits plan (fits joined) B))
-        (device_fresh_B queue (pieces_of (sizes_of plan B queue).largest frame) (has_bit site.pair.sides.b.joined queue) among declared on fresh fits refl (pieces_fit (sizes_of plan B queue).largest frame))
-
-  pub xbegin_follows : (side : Side) (queue d : ℕ) (dst : List ℕ) (kind : ℕ) (payload : List ℕ) → queue < (side_plan plan side).queues → d < length devs → IsOn (dev_plan devs d) k side queue → (has_bit (side_of site.pair side).joined queue ≡ true → SizesFit plan)
-      → Follows devs plan k site (Xbegin k side queue d dst kind payload) (xbegin_step (sizes_of plan side queue) reads (dev_plan devs d) site.pair side queue dst kind payload) (xbegin_move kept (dev_plan devs d) side queue dst kind payload)
-  xbegin_follows A queue d dst kind payload among declared on fits =
-      subst (λ (new : QueuePart). Follows devs plan k site (Xbegin k A queue d dst kind payload) (xbegin_step (sizes_of plan A queue) reads (dev_plan devs d) site.pair A queue dst kind payload) (record { answer = (of_xbegin (part A queue).flow.stopped (begin_answer (part A queue).queue kept.bridge (length (ethernet_frame dst (dev_plan devs d).address kind payload)))); after = with_queue kept A queue new })) (sym (device_part_is A queue (ethernet_frame dst (dev_plan devs d).address kind payload) (of_xbegin (part A queue).flow.stopped (begin_answer (part A queue).queue kept.bridge (length (ethernet_frame dst (dev_plan devs d).address kind payload)))) (part A queue).queue))
-      (subst (λ (q : QueueState). Follows devs plan k site (Xbegin k A queue d dst kind payload) (xbegin_step (sizes_of plan A queue) reads (dev_plan devs d) site.pair A queue dst kind payload) (device_with d dst kind payload (ethernet_frame dst (dev_plan devs d).address kind payload) A queue (part A queue).flow.stopped q)) (sym (is_queue devs plan k now A queue (has_forgotten site.pair.link A) among refl))
-      (subst (λ stopped. Follows devs plan k site (Xbegin k A queue d dst kind payload) (xbegin_step (sizes_of plan A queue) reads (dev_plan devs d) site.pair A queue dst kind payload) (device_with d dst kind payload (ethernet_frame dst (dev_plan devs d).address kind payload) A queue stopped (port_queue A queue (has_forgotten site.pair.link A)))) (sym ((now.sides A).queues queue among).stopped)
-      (device_by_A d dst kind payload (ethernet_frame dst (dev_plan devs d).address kind payload) queue (has_forgotten site.pair.link A) among declared on refl fits)))
-  xbegin_follows B queue d dst kind payload among declared on fits =
-      subst (λ (new : QueuePart). Follows devs plan k site (Xbegin k B queue d dst kind payload) (xbegin_step (sizes_of plan B queue) reads (dev_plan devs d) site.pair B queue dst kind payload) (record { answer = (of_xbegin (part B queue).flow.stopped (begin_answer (part B queue).queue kept.bridge (length (ethernet_frame dst (dev_plan devs d).address kind payload)))); after = with_queue kept B queue new })) (sym (device_part_is B queue (ethernet_frame dst (dev_plan devs d).address kind payload) (of_xbegin (part B queue).flow.stopped (begin_answer (part B queue).queue kept.bridge (length (ethernet_frame dst (dev_plan devs d).address kind payload)))) (part B queue).queue))
-      (subst (λ (q : QueueState). Follows devs plan k site (Xbegin k B queue d dst kind payload) (xbegin_step (sizes_of plan B queue) reads (dev_plan devs d) site.pair B queue dst kind payload) (device_with d dst kind payload (ethernet_frame dst (dev_plan devs d).address kind payload) B queue (part B queue).flow.stopped q)) (sym (is_queue devs plan k now B queue (has_forgotten site.pair.link B) among refl))
-      (subst (λ stopped. Follows devs plan k site (Xbegin k B queue d dst kind payload) (xbegin_step (sizes_of plan B queue) reads (dev_plan devs d) site.pair B queue dst kind payload) (device_with d dst kind payload (ethernet_frame dst (dev_plan devs d).address kind payload) B queue stopped (port_queue B queue (has_forgotten site.pair.link B)))) (sym ((now.sides B).queues queue among).stopped)
-      (device_by_B d dst kind payload (ethernet_frame dst (dev_plan devs d).address kind payload) queue (has_forgotten site.pair.link B) among declared on refl fits)))
+  pub xbegin_follows : (side : Side) (queue d : ℕ) (dst : List ℕ) (kind : ℕ) (payload : List ℕ) → queue < (side_plan plan side).queues → d < length devs → IsOn (dev_plan devs d) k side queue → (has_bit (side_of now.site.pair side).joined queue ≡ true → SizesFit plan)
+      → Follows devs plan k now.site (Xbegin k side queue d dst kind payload) (xbegin_step (sizes_of plan side queue) (reads now) (dev_plan devs d) now.site.pair side queue dst kind payload) (xbegin_move (kept now) (dev_plan devs d) side queue dst kind payload)
+  xbegin_follows side queue d dst kind payload among declared on fits =
+      subst (λ (new : QueuePart). Follows devs plan k now.site (Xbegin k side queue d dst kind payload) (xbegin_step (sizes_of plan side queue) (reads now) (dev_plan devs d) now.site.pair side queue dst kind payload) (record { answer = (of_xbegin (part now side queue).flow.stopped (begin_answer (part now side queue).queue (kept now).bridge (length (ethernet_frame dst (dev_plan devs d).address kind payload)))); after = with_queue (kept now) side queue new })) (sym (device_part_is side queue (ethernet_frame dst (dev_plan devs d).address kind payload) (of_xbegin (part now side queue).flow.stopped (begin_answer (part now side queue).queue (kept now).bridge (length (ethernet_frame dst (dev_plan devs d).address kind payload)))) (part now side queue).queue))
+      (subst (λ (q : QueueState). Follows devs plan k now.site (Xbegin k side queue d dst kind payload) (xbegin_step (sizes_of plan side queue) (reads now) (dev_plan devs d) now.site.pair side queue dst kind payload) (device_with d dst kind payload (ethernet_frame dst (dev_plan devs d).address kind payload) side queue (part now side queue).flow.stopped q)) (sym (is_queue now side queue (has_forgotten now.site.pair.link side) among refl))
+      (subst (λ stopped. Follows devs plan k now.site (Xbegin k side queue d dst kind payload) (xbegin_step (sizes_of plan side queue) (reads now) (dev_plan devs d) now.site.pair side queue dst kind payload) (device_with d dst kind payload (ethernet_frame dst (dev_plan devs d).address kind payload) side queue stopped (port_queue now side queue (has_forgotten now.site.pair.link side)))) (sym ((now.sides side).queues queue among).stopped)
+      (device_by d dst kind payload (ethernet_frame dst (dev_plan devs d).address kind payload) side queue (has_forgotten now.site.pair.link side) among declared on refl fits)))

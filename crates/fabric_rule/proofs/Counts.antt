@@ -6,6 +6,7 @@ use Rattle.std.proofs.lemmas.Bool.{cases_eq, eq-eqb, ne_eqb, eqb-true}
 use Rattle.std.proofs.lemmas.Nat.Bits.{bit_at-lt, bit_at_or, bit_at-pow_other, bit_at-pow_same}
 use Rattle.step_kinds.specs.Bits.{has_bit, with_bit}
 use Rattle.ledger_model.specs.Ledger.{updated}
+use Rattle.fabric_rule.proofs.Follows.{updated_field}
 use Rattle.fabric_rule.specs.Parts.{SessionCount, count_in, one_more}
 
 abbrev pub one_at : ℕ → ℕ → ℕ
@@ -42,6 +43,13 @@ updated-one_more f session other = elim (cases_eq other session) [
       ap (λ b. if b then f session + 1 else f other) (ne_eqb other session ne)
       ∙ (let same : f other ≡ f other + 0 = omega arith in same) ∙ ap (λ b. f other + (if b then 1 else 0)) (sym (ne_eqb session other (λ e. ne (sym e))))
 ]
+
+-- a session's count that stands for what is read of tallies, with one more of both
+pub counts_one_more : {X : Type 0} (g : X → ℕ) (counts : List SessionCount) (tallies : ℕ → X) (session : ℕ) (tally : X) → ((other : ℕ) → count_in counts other ≡ g (tallies other)) → g tally ≡ g (tallies session) + 1
+    → (other : ℕ) → count_in (one_more counts session) other ≡ g (updated tallies session tally other)
+counts_one_more g counts tallies session tally same more other =
+    count-one_more counts session other ∙ ap (λ n. n + one_at session other) (same other)
+    ∙ sym (updated_field g tallies session tally other ∙ ap (λ n. updated (λ s. g (tallies s)) session n other) more ∙ updated-one_more (λ s. g (tallies s)) session other)
 
 -- one queue more
 

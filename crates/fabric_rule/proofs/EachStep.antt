@@ -38,7 +38,7 @@ use Rattle.fabric_rule.proofs.Handshake.{check_follows, join_follows, offer_foll
 use Rattle.fabric_rule.proofs.Landing.{land_follows}
 use Rattle.fabric_rule.proofs.Links.{break_follows, clean_follows, drop_follows, enable_follows, train_follows}
 use Rattle.fabric_rule.proofs.Looking.{look_follows}
-use Rattle.fabric_rule.proofs.OneQueue.{Standing, state}
+use Rattle.fabric_rule.proofs.OneQueue.{Standing, kept}
 use Rattle.fabric_rule.proofs.PostingNext.{post_follows}
 use Rattle.fabric_rule.proofs.Registers.{irq_follows, mask_follows, show_pad_follows, unmask_follows}
 
@@ -52,7 +52,7 @@ module _ (plan : Plan) where
   Follow step =
       (now : Standing plan.devs (pair_plan plan (subject_of step)) (subject_of step)) → SizesKnown (pair_plan plan (subject_of step)) now.site → IsPermitted plan step
       → Follows plan.devs (pair_plan plan (subject_of step)) (subject_of step) now.site step (made_by_bytes plan.devs (pair_plan plan (subject_of step)) now.site step)
-      (move_of plan.devs (state plan.devs (pair_plan plan (subject_of step)) (subject_of step) now) step)
+      (move_of plan.devs (kept now) step)
 
   by_bytes_follows : (step : Step) → Follow step
   by_bytes_follows (Enable k side) now sizes may = enable_follows plan.devs (pair_plan plan k) k now.site now.pages now.spare now.queues now.link now.sides side
@@ -64,17 +64,17 @@ module _ (plan : Plan) where
   by_bytes_follows (Check k side) now sizes may = check_follows plan.devs (pair_plan plan k) k now.site now.pages now.spare now.queues now.link now.sides side now.declared (sizes.checked side)
   by_bytes_follows (Ready k side queue) now sizes may = ready_follows plan.devs (pair_plan plan k) k now.site now.pages now.spare now.queues now.link now.sides side queue
   by_bytes_follows (Join k side queue) now sizes may = join_follows plan.devs (pair_plan plan k) k now.site now.pages now.spare now.queues now.link now.sides side queue
-  by_bytes_follows (Begin k side queue frame) now sizes may = begin_follows plan.devs (pair_plan plan k) k now side queue frame may.0.among (sizes.joined side queue)
-  by_bytes_follows (QpDown k side queue) now sizes may = qpdown_follows plan.devs (pair_plan plan k) k now side queue may.among (sizes.joined side queue)
+  by_bytes_follows (Begin k side queue frame) now sizes may = begin_follows now side queue frame may.0.among (sizes.joined side queue)
+  by_bytes_follows (QpDown k side queue) now sizes may = qpdown_follows now side queue may.among (sizes.joined side queue)
   by_bytes_follows (Xbegin k side queue dev dst kind payload) now sizes may =
-      xbegin_follows plan.devs (pair_plan plan k) k now side queue dev dst kind payload may.0.among may.1.declared (record { its_pair = may.1.its_pair; its_side = may.1.its_side; its_queue = may.1.its_queue }) (sizes.joined side queue)
-  by_bytes_follows (Post k side queue) now sizes may = post_follows plan.devs (pair_plan plan k) k now side queue may.among
-  by_bytes_follows (Land k side place) now sizes may = land_follows plan.devs (pair_plan plan k) k now place side
-  by_bytes_follows (Look k side queue) now sizes may = look_follows plan.devs (pair_plan plan k) k now side queue may.among (sizes.joined side queue)
-  by_bytes_follows (Copy k side queue) now sizes may = copy_follows plan.devs (pair_plan plan k) k now side queue may.among
-  by_bytes_follows (Clear k side queue) now sizes may = clear_follows plan.devs (pair_plan plan k) k now side queue may.among
-  by_bytes_follows (Ack k side queue) now sizes may = ack_follows plan.devs (pair_plan plan k) k now side queue may.among
-  by_bytes_follows (Wake k side queue dev) now sizes may = wake_follows plan.devs (pair_plan plan k) k now side queue dev may.0.among may.1.declared (record { its_pair = may.1.its_pair; its_side = may.1.its_side; its_queue = may.1.its_queue })
+      xbegin_follows now side queue dev dst kind payload may.0.among may.1.declared (record { its_pair = may.1.its_pair; its_side = may.1.its_side; its_queue = may.1.its_queue }) (sizes.joined side queue)
+  by_bytes_follows (Post k side queue) now sizes may = post_follows now side queue may.among
+  by_bytes_follows (Land k side place) now sizes may = land_follows now place side
+  by_bytes_follows (Look k side queue) now sizes may = look_follows now side queue may.among (sizes.joined side queue)
+  by_bytes_follows (Copy k side queue) now sizes may = copy_follows now side queue may.among
+  by_bytes_follows (Clear k side queue) now sizes may = clear_follows now side queue may.among
+  by_bytes_follows (Ack k side queue) now sizes may = ack_follows now side queue may.among
+  by_bytes_follows (Wake k side queue dev) now sizes may = wake_follows now side queue dev may.0.among may.1.declared (record { its_pair = may.1.its_pair; its_side = may.1.its_side; its_queue = may.1.its_queue })
   by_bytes_follows (Irq k side) now sizes may = irq_follows plan.devs (pair_plan plan k) k now.site now.pages now.spare now.queues now.link now.sides k side
   by_bytes_follows (Mask k side bits) now sizes may = mask_follows plan.devs (pair_plan plan k) k now.site now.pages now.spare now.queues now.link now.sides k side bits
   by_bytes_follows (Unmask k side bits) now sizes may = unmask_follows plan.devs (pair_plan plan k) k now.site now.pages now.spare now.queues now.link now.sides k side bits

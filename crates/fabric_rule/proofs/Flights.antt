@@ -13,8 +13,10 @@ use Rattle.lane_model.specs.Lane.{Entry, GoesDown}
 use Rattle.plan_model.specs.Orders.{order_of}
 use Rattle.ledger_model.specs.Next.{idle_side}
 use Rattle.ledger_model.specs.Receiving.{poked_without, raws_before}
+use Rattle.step_kinds.specs.Sides.{other_side}
+use Rattle.bridge_pair.specs.Bridge.{memory_size}
 use Rattle.bridge_pair.specs.Flights.{Flying, flying_order, flying_of}
-use Rattle.fabric_rule.specs.InPlace.{HaveBytes, IsBegun}
+use Rattle.fabric_rule.specs.InPlace.{FlightInPlace, HaveBytes, IsBegun, LiesIn}
 use Rattle.fabric_rule.specs.StandsFor.{entry_among, flying_labelled, raw_bytes, raws_behind, write_of, writes_labelled}
 
 -- Lists of which all members hold something
@@ -101,27 +103,33 @@ have-push (label ∷ labels) poked more bytes have own = have-push labels poked 
 abbrev pub SentGrows : (ℕ → List Entry) → (ℕ → List Entry) → Type 0
 SentGrows sent sent' = (queue : ℕ) → (more : List Entry) × (sent' queue ≡ sent queue ++ more)
 
-entry-grows : (old new more : List Entry) (n : ℕ) → new ≡ old ++ more → n < length old → slice_index_or new n GoesDown ≡ slice_index_or old n GoesDown
-entry-grows old new more n grows within = ap (λ entries. slice_index_or entries n GoesDown) grows ∙ get_or_append_left old more GoesDown n within
+-- a label's entry, and that it was begun
+abbrev StaysBegun : (ℕ → List Entry) → (ℕ → List Entry) → Label → Type 0
+StaysBegun sent sent' label = (entry_among sent' label ≡ entry_among sent label) × IsBegun sent' label
 
-length-grows : (old new more : List Entry) (n : ℕ) → new ≡ old ++ more → n < length old → n < length new
-length-grows old new more n grows within = rw grows (rw length-append (omega arith))
+entry-grows : (old new more : List Entry) (n : ℕ) → new ≡ old ++ more → n < length old → (slice_index_or new n GoesDown ≡ slice_index_or old n GoesDown) × (n < length new)
+entry-grows old new more n grows within = (ap (λ entries. slice_index_or entries n GoesDown) grows ∙ get_or_append_left old more GoesDown n within, rw grows (rw length-append (omega arith)))
 
-pub among-grows : (sent sent' : ℕ → List Entry) → SentGrows sent sent' → (label : Label) → IsBegun sent label → entry_among sent' label ≡ entry_among sent label
-among-grows sent sent' grows (Chunk q n part) begun = entry-grows (sent q) (sent' q) (grows q).0 n (grows q).1 begun
-among-grows sent sent' grows (Len q n) begun = entry-grows (sent q) (sent' q) (grows q).0 n (grows q).1 begun
-among-grows sent sent' grows (Ver q n) begun = entry-grows (sent q) (sent' q) (grows q).0 n (grows q).1 begun
-among-grows sent sent' grows (Flag q n) begun = entry-grows (sent q) (sent' q) (grows q).0 n (grows q).1 begun
-among-grows sent sent' grows (Down q n) begun = entry-grows (sent q) (sent' q) (grows q).0 n (grows q).1 begun
-among-grows sent sent' grows label begun = refl
+label-grows : (sent sent' : ℕ → List Entry) → SentGrows sent sent' → (label : Label) → IsBegun sent label → StaysBegun sent sent' label
+label-grows sent sent' grows (Chunk q n part) begun = entry-grows (sent q) (sent' q) (grows q).0 n (grows q).1 begun
+label-grows sent sent' grows (Len q n) begun = entry-grows (sent q) (sent' q) (grows q).0 n (grows q).1 begun
+label-grows sent sent' grows (Ver q n) begun = entry-grows (sent q) (sent' q) (grows q).0 n (grows q).1 begun
+label-grows sent sent' grows (Flag q n) begun = entry-grows (sent q) (sent' q) (grows q).0 n (grows q).1 begun
+label-grows sent sent' grows (Down q n) begun = entry-grows (sent q) (sent' q) (grows q).0 n (grows q).1 begun
+label-grows sent sent' grows label begun = (refl, tt)
 
-pub begun-grows : (sent sent' : ℕ → List Entry) → SentGrows sent sent' → (label : Label) → IsBegun sent label → IsBegun sent' label
-begun-grows sent sent' grows (Chunk q n part) begun = length-grows (sent q) (sent' q) (grows q).0 n (grows q).1 begun
-begun-grows sent sent' grows (Len q n) begun = length-grows (sent q) (sent' q) (grows q).0 n (grows q).1 begun
-begun-grows sent sent' grows (Ver q n) begun = length-grows (sent q) (sent' q) (grows q).0 n (grows q).1 begun
-begun-grows sent sent' grows (Flag q n) begun = length-grows (sent q) (sent' q) (grows q).0 n (grows q).1 begun
-begun-grows sent sent' grows (Down q n) begun = length-grows (sent q) (sent' q) (grows q).0 n (grows q).1 begun
-begun-grows sent sent' grows label begun = tt
+module _ (plan : PairPlan) (side : Side) (sent sent' : ℕ → List Entry) (grows : SentGrows sent sent') (flight : List Label) (poked : List (List ℕ)) where
+  pub writes_grow : AllByRecursion (IsBegun sent) flight → writes_labelled plan side sent' flight poked ≡ writes_labelled plan side sent flight poked
+  writes_grow begun = writes-same plan side sent sent' flight poked (all_weaker (IsBegun sent) (λ label. entry_among sent' label ≡ entry_among sent label) (λ label begun. (label-grows sent sent' grows label begun).0) flight begun)
+
+  pub flight_grows : (down : Bool) → FlightInPlace plan side down sent flight poked (writes_labelled plan side sent flight poked) → FlightInPlace plan side down sent' flight poked (writes_labelled plan side sent' flight poked)
+  flight_grows down h =
+      record {
+        begun = all_weaker (IsBegun sent) (IsBegun sent') (λ label begun. (label-grows sent sent' grows label begun).1) flight h.begun;
+        raws = h.raws;
+        places = subst (AllByRecursion (λ (flying : Flying). LiesIn (memory_size plan (other_side side)) flying.arrival)) (sym (writes_grow h.begun)) h.places;
+        none = h.none;
+      }
 
 -- Taking a write out
 

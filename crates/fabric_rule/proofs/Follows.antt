@@ -2,6 +2,7 @@
 use Rattle.std.proofs.Common.{◌≡◌, ℕ, ◌==◌, true, false, List, ◌++◌, refl, sym, ap, ◌∙◌, subst, inl, inr}
 use Rattle.std.specs.Prelude.{if◌then◌else◌}
 use Rattle.std.proofs.lemmas.Bool.{eq-eqb, ne_eqb, cases_eq}
+use Rattle.step_kinds.specs.Sides.{other_side}
 use Rattle.step_kinds.specs.declared.names.Side.{Side}
 use Rattle.step_kinds.specs.declared.names.Side.TheVariants.{A, B}
 use Rattle.step_kinds.specs.declared.plan.DevPlan.{DevPlan}
@@ -24,6 +25,11 @@ use Rattle.fabric_rule.specs.Steps.{move_of}
 pub by_side : (P : Side → Type 0) → P A → P B → (side : Side) → P side
 by_side P a b A = a
 by_side P a b B = b
+
+-- of a side and its peer
+pub by_end : (P : Side → Type 0) (side : Side) → P side → P (other_side side) → (s : Side) → P s
+by_end P A own peer = by_side P own peer
+by_end P B own peer = by_side P peer own
 
 -- a bridge with these promises
 abbrev pub with_promises : Bridge → Both (List ℕ) → Both ℕ → Bridge

@@ -1,5 +1,5 @@
 -- The tests that a frame or a link-down entry passes, in their order.
-use Rattle.std.proofs.Common.{◌≡◌, ℕ, ◌⊎◌, Bool, true, false, Option, Some, None, refl, inl, inr}
+use Rattle.std.proofs.Common.{◌≡◌, ℕ, ◌⊎◌, Bool, true, false, Option, Some, None, refl, sym, ap, subst, inl, inr}
 use Rattle.std.specs.Prelude.{if◌then◌else◌, not}
 use Rattle.step_kinds.specs.declared.lanes.Begun.{Begun}
 use Rattle.step_kinds.specs.declared.lanes.Begun.TheVariants.{Ok as BegunOk, TooLong as FrameTooLong, Busy as PortBusy, NoRoom}
@@ -12,7 +12,7 @@ use Rattle.queue_pair.specs.Gates.{answer_unless, closed_where_begun, port_unles
 use Rattle.queue_pair.specs.Queue.{QueueState, with_port}
 use Rattle.queue_pair.specs.declared.BeginAnswer.{BeginAnswer}
 use Rattle.queue_pair.specs.declared.BeginAnswer.TheVariants as begin
-use Rattle.fabric_rule.specs.Answers.{of_xbegin}
+use Rattle.fabric_rule.specs.Answers.{of_begin, of_xbegin}
 use Rattle.fabric_rule.specs.Moves.{accepted_where_begun}
 use Rattle.fabric_rule.specs.Parts.{QueuePart}
 
@@ -61,17 +61,17 @@ module _ (len most head index told : ℕ) (q : QueueState) (new : PortState) whe
       ⊎ Refuses stopped (of_xbegin stopped (answer_unless (side_says up joined closed) (port_says long busy full len most head index told))) (answer_unless (side_says up joined closed) (port_says long busy full len most head index told))
       (refusal_says up joined closed long busy stopped full len most head index) q (port_unless (side_says up joined closed) q (where_begun q.port new (port_says long busy full len most head index told)))
 
+  -- a refusal before the test of a stopped device
+  refused_by : (stopped : Bool) (said : BeginAnswer) → of_xbegin true said ≡ of_begin said → NotOk (of_begin said) → ((x : QueueState) → closed_where_begun said x ≡ x) → Refuses stopped (of_xbegin stopped said) said (Some (of_begin said)) q q
+  refused_by true said same not_ok open_still = record { not_ok = subst NotOk (sym same) not_ok; refusal_is = ap Some (sym same); after_is = λ _. refl; stays_open = λ _. open_still }
+  refused_by false said same not_ok open_still = record { not_ok = not_ok; refusal_is = refl; after_is = λ _. refl; stays_open = λ _. open_still }
+
   pub gates : (up joined closed long busy stopped full : Bool) → Gates up joined closed long busy stopped full
-  gates false joined closed long busy true full = inr (record { not_ok = tt; refusal_is = refl; after_is = λ _. refl; stays_open = λ _ x. refl })
-  gates false joined closed long busy false full = inr (record { not_ok = tt; refusal_is = refl; after_is = λ _. refl; stays_open = λ _ x. refl })
-  gates true false closed long busy true full = inr (record { not_ok = tt; refusal_is = refl; after_is = λ _. refl; stays_open = λ _ x. refl })
-  gates true false closed long busy false full = inr (record { not_ok = tt; refusal_is = refl; after_is = λ _. refl; stays_open = λ _ x. refl })
-  gates true true true long busy true full = inr (record { not_ok = tt; refusal_is = refl; after_is = λ _. refl; stays_open = λ _ x. refl })
-  gates true true true long busy false full = inr (record { not_ok = tt; refusal_is = refl; after_is = λ _. refl; stays_open = λ _ x. refl })
-  gates true true false true busy true full = inr (record { not_ok = tt; refusal_is = refl; after_is = λ _. refl; stays_open = λ _ x. refl })
-  gates true true false true busy false full = inr (record { not_ok = tt; refusal_is = refl; after_is = λ _. refl; stays_open = λ _ x. refl })
-  gates true true false false true true full = inr (record { not_ok = tt; refusal_is = refl; after_is = λ _. refl; stays_open = λ _ x. refl })
-  gates true true false false true false full = inr (record { not_ok = tt; refusal_is = refl; after_is = λ _. refl; stays_open = λ _ x. refl })
+  gates false joined closed long busy stopped full = inr (refused_by stopped begin.LinkDown refl tt (λ x. refl))
+  gates true false closed long busy stopped full = inr (refused_by stopped begin.NotReady refl tt (λ x. refl))
+  gates true true true long busy stopped full = inr (refused_by stopped begin.Closed refl tt (λ x. refl))
+  gates true true false true busy stopped full = inr (refused_by stopped (begin.TooLong len most) refl tt (λ x. refl))
+  gates true true false false true stopped full = inr (refused_by stopped begin.Busy refl tt (λ x. refl))
   gates true true false false false true true = inr (record { not_ok = tt; refusal_is = refl; after_is = λ e. cc; stays_open = λ e x. cc })
   gates true true false false false true false = inr (record { not_ok = tt; refusal_is = refl; after_is = λ e. cc; stays_open = λ e x. cc })
   gates true true false false false false true = inr (record { not_ok = tt; refusal_is = refl; after_is = λ _. refl; stays_open = λ _ x. refl })

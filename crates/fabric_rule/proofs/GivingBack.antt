@@ -1,48 +1,41 @@
 -- Clearing the flags of the entry at hand, and giving it back.
-use Rattle.std.proofs.Common.{◌≡◌, ℕ, zero, ◌+◌, ◌-◌, ◌<◌, ◌≤◌, ◌⊎◌, Bool, true, false, Some, None, List, [], ◌∷◌, refl, sym, ap, ◌∙◌, subst, inl, inr, ⊎_elim, arith}
-use Rattle.std.specs.Prelude.{if◌then◌else◌, not, slice_set}
+use Rattle.std.proofs.Common.{◌≡◌, ℕ, ◌+◌, ◌-◌, ◌<◌, ◌⊎◌, Bool, true, false, Some, None, List, refl, sym, ap, ◌∙◌, subst, inl, inr, ⊎_elim, arith}
+use Rattle.std.specs.Prelude.{if◌then◌else◌, not}
 use Rattle.std.proofs.lemmas.Bool.{true≢false, false≢true}
 use Rattle.step_kinds.specs.Sides.{other_side}
 use Rattle.step_kinds.specs.declared.names.Side.{Side}
-use Rattle.step_kinds.specs.declared.names.Side.TheVariants.{A, B}
 use Rattle.step_kinds.specs.declared.plan.DevPlan.{DevPlan}
 use Rattle.step_kinds.specs.declared.plan.PairPlan.{PairPlan}
+use Rattle.step_kinds.specs.declared.steps.Answer.{Answer}
 use Rattle.step_kinds.specs.declared.steps.Answer.TheVariants as answer
 use Rattle.step_kinds.specs.declared.steps.Step.TheVariants.{Clear, Ack}
-use Rattle.lane_model.specs.Lane.{Entry}
-use Rattle.lane_model.specs.Tests.{is_copying, is_copied, is_cleared}
+use Rattle.lane_model.specs.Tests.{is_copied, is_cleared}
 use Rattle.lane_model.specs.declared.Phase.{Phase}
 use Rattle.lane_model.specs.declared.Phase.TheVariants.{Idle, Copying, Copied, Cleared}
-use Rattle.plan_model.specs.Both.{with_side}
 use Rattle.plan_model.specs.DeclaredPlans.{SizesFit}
 use Rattle.plan_model.specs.Plans.{side_plan}
 use Rattle.ledger_model.specs.Ledger.{LanePart, lane_to, with_lane}
 use Rattle.ledger_model.specs.Outcome.{Outcome, decided, refuse_if}
-use Rattle.ledger_model.specs.Reading.{Reading, by_bytes}
 use Rattle.byte_model.specs.FreshRings.{zeroed_flags}
 use Rattle.byte_model.specs.Headers.{flags_offset}
-use Rattle.byte_model.specs.Stores.{Store}
 use Rattle.ledger_model.specs.Sending.{posts_through}
 use Rattle.step_kinds.specs.declared.steps.Label.TheVariants.{Index}
 use Rattle.ledger_model.specs.Receiving.{ack_step, clear_step}
-use Rattle.memory_model.specs.Memory.{Site, bytes_of_site}
-use Rattle.bridge_pair.specs.Bridge.{Bridge, memory_size, with_memory}
-use Rattle.frame_ring.specs.Port.{with_receiving}
+use Rattle.bridge_pair.specs.Bridge.{Bridge}
 use Rattle.frame_ring.specs.Calls.{ack_answer, acked_by, after_ack, after_clear, clear_answer, cleared_by}
 use Rattle.frame_ring.specs.Seen.{flags_cleared, index_posted}
 use Rattle.queue_pair.specs.Queue.{QueueState, with_port}
 use Rattle.fabric_rule.specs.Answers.{of_ack, of_clear}
-use Rattle.fabric_rule.specs.InPlace.{CountsOfPhase, ReceivingEnd, receiver_of}
+use Rattle.fabric_rule.specs.InPlace.{CountsOfPhase, ReceivingInPlace, receiver_of}
 use Rattle.fabric_rule.specs.Moves.{Move, ack_move, clear_move}
-use Rattle.fabric_rule.specs.Parts.{PairState, QueuePart, with_bridge, with_queue}
-use Rattle.fabric_rule.specs.StandsFor.{PairStands, QueueStands, bridge_for, bridge_with, has_forgotten, sent_of, view_of}
-use Rattle.fabric_rule.proofs.Follows.{Follows, with_promises}
-use Rattle.fabric_rule.proofs.OneQueue.{Standing, is_queue, part_at, part_with, queue_at, receives, stands_by, state, unchanged}
-use Rattle.fabric_rule.proofs.Queues.{sent_kept}
+use Rattle.fabric_rule.specs.Parts.{with_bridge, with_queue}
+use Rattle.fabric_rule.specs.StandsFor.{PairStands, has_forgotten}
+use Rattle.fabric_rule.proofs.Arrivals.{bytes_come}
+use Rattle.fabric_rule.proofs.Follows.{Follows}
+use Rattle.fabric_rule.proofs.OneQueue.{Standing, as_it_was, by_bridge, by_queue, received_part, then_standing, kept, part_with, port_queue, reads, receives, stands_by}
 use Rattle.fabric_rule.proofs.WhatIsRead.{own_fits}
 use Rattle.fabric_rule.proofs.RingPlaces.{fields_lie}
-use Rattle.fabric_rule.proofs.RingPosts.{index_posts_A, index_posts_B}
-use Rattle.fabric_rule.proofs.StoredBytes.{one_stored}
+use Rattle.fabric_rule.proofs.RingPosts.{index_posts}
 use Rattle.fabric_rule.proofs.WhatIsRead.{header_inside}
 
 -- of a receiver that took an entry, and of one that cleared its flags
@@ -61,261 +54,112 @@ after_cleared Copied acked cleared got is counts = absurd (false≢true is)
 fits_where : (plan : PairPlan) (test : Phase → Bool) (phase : Phase) → test Idle ≡ false → test phase ≡ true → (phase ≡ Idle) ⊎ SizesFit plan → SizesFit plan
 fits_where plan test phase at_idle holds fits = ⊎_elim (λ idle. absurd (true≢false (sym holds ∙ ap test idle ∙ at_idle))) (λ fits. fits) fits
 
-module _ (devs : List DevPlan) (plan : PairPlan) (k : ℕ) (now : Standing devs plan k) where
-  abbrev site : Site
-  site = now.site
-
-  abbrev kept : PairState
-  kept = state devs plan k now
-
-  abbrev part : Side → ℕ → QueuePart
-  part side queue = part_at devs plan k now side queue
-
-  abbrev port_queue : Side → ℕ → Bool → QueueState
-  port_queue side queue forgotten = queue_at devs plan k now side queue forgotten
-
-  abbrev reads : Reading
-  reads = by_bytes plan (bytes_of_site now.site) now.site.pair
-
+module _ {devs : List DevPlan} {plan : PairPlan} {k : ℕ} (now : Standing devs plan k) where
   abbrev flags_gone : Side → ℕ → LanePart
-  flags_gone side queue = record (lane_to site.pair side queue) { cleared = (lane_to site.pair side queue).cleared + 1; phase = Cleared }
+  flags_gone side queue = record (lane_to now.site.pair side queue) { cleared = (lane_to now.site.pair side queue).cleared + 1; phase = Cleared }
 
   abbrev given : Side → ℕ → LanePart
-  given side queue = record (lane_to site.pair side queue) { acked = (lane_to site.pair side queue).acked + 1; phase = Idle }
-
-  abbrev with_phase : Side → ℕ → Phase → QueuePart
-  with_phase side queue phase = part_with devs plan k now side queue (with_port (port_queue side queue false) (with_receiving (port_queue side queue false).port (record (port_queue side queue false).port.receiving { phase = phase })))
-
-  module _ (side : Side) (queue : ℕ) (among : queue < (side_plan plan side).queues) (fresh : has_forgotten site.pair.link side ≡ false) where
-    old : QueueStands devs plan k side queue false (view_of site.pair side queue) (part side queue)
-    old = stands_by devs plan k now side queue false among fresh
-
-    in_phase : (lane : LanePart) (phase : Phase) → receiver_of lane ≡ record (receiver_of (lane_to site.pair side queue)) { cleared = lane.cleared; acked = lane.acked; phase = phase }
-        → CountsOfPhase phase lane.acked lane.cleared (lane_to site.pair side queue).got → (phase ≡ Idle) ⊎ SizesFit plan → is_copying phase ≡ false
-        → QueueStands devs plan k side queue (has_forgotten site.pair.link side) (record (view_of site.pair side queue) { receives = receiver_of lane }) (with_phase side queue phase)
-    in_phase lane phase same counts fits other =
-        subst (λ f. QueueStands devs plan k side queue f (record (view_of site.pair side queue) { receives = receiver_of lane }) (with_phase side queue phase)) (sym fresh)
-        (subst (λ (receives : ReceivingEnd). QueueStands devs plan k side queue false (record (view_of site.pair side queue) { receives = receives }) (with_phase side queue phase)) (sym same)
-        (record {
-          port = refl;
-          entry = old.entry;
-          closed = refl;
-          stopped = old.stopped;
-          limits = old.limits;
-          counters = old.counters;
-          accepted = old.accepted;
-          delivered = old.delivered;
-          sending = old.sending;
-          receiving = record { counts = λ _. counts; fits = fits; len = λ copying. absurd (true≢false (sym copying ∙ other)) };
-          forgets = λ forgot. absurd (false≢true forgot);
-          stops = old.stops;
-        }))
+  given side queue = record (lane_to now.site.pair side queue) { acked = (lane_to now.site.pair side queue).acked + 1; phase = Idle }
 
   -- the moves by a queue pair
   abbrev cleared_with : Side → ℕ → QueueState → Move
   cleared_with side queue q =
-      record { answer = of_clear (clear_answer q.port); after = with_bridge (with_queue kept side queue (part_with devs plan k now side queue (with_port q (after_clear q.port)))) (cleared_by q.port kept.bridge) }
+      record { answer = of_clear (clear_answer q.port); after = with_bridge (with_queue (kept now) side queue (part_with now side queue (with_port q (after_clear q.port)))) (cleared_by q.port (kept now).bridge) }
 
   abbrev acked_with : Side → ℕ → QueueState → Move
   acked_with side queue q =
-      record { answer = of_ack (ack_answer q.port); after = with_bridge (with_queue kept side queue (part_with devs plan k now side queue (with_port q (after_ack q.port)))) (acked_by q.port kept.bridge) }
+      record { answer = of_ack (ack_answer q.port); after = with_bridge (with_queue (kept now) side queue (part_with now side queue (with_port q (after_ack q.port)))) (acked_by q.port (kept now).bridge) }
 
   abbrev clear_made : Side → ℕ → Bool → Outcome
-  clear_made side queue copied = decided site.pair (refuse_if (not copied) answer.OutOfTurn None) (answer.Cleared (lane_to site.pair side queue).cleared) (with_lane site.pair (other_side side) queue (flags_gone side queue))
+  clear_made side queue copied = decided now.site.pair (refuse_if (not copied) answer.OutOfTurn None) (answer.Cleared (lane_to now.site.pair side queue).cleared) (with_lane now.site.pair (other_side side) queue (flags_gone side queue))
+
+  -- where the receiver is in turn it comes to another place, and the bridge is another
+  abbrev moves : Side → ℕ → LanePart → Bool → Answer → Bridge → Move
+  moves side queue lane in_turn said bridge =
+      record {
+        answer = said;
+        after =
+            with_bridge (with_queue (kept now) side queue (part_with now side queue (with_port (port_queue now side queue false) (if in_turn then (received_part now side queue lane).queue.port else (port_queue now side queue false).port))))
+            (if in_turn then bridge else (kept now).bridge);
+      }
 
   abbrev clears : Side → ℕ → Bool → ℕ → Move
-  clears side queue copied n =
-      record {
-        answer = of_clear (if copied then Some n else None);
-        after =
-            with_bridge (with_queue kept side queue (part_with devs plan k now side queue (with_port (port_queue side queue false) (if copied then (with_phase side queue Cleared).queue.port else (port_queue side queue false).port))))
-            (if copied then flags_cleared kept.bridge side queue n else kept.bridge);
-      }
+  clears side queue copied n = moves side queue (flags_gone side queue) copied (of_clear (if copied then Some n else None)) (flags_cleared (kept now).bridge side queue n)
 
   abbrev ack_made : Side → ℕ → Bool → Outcome
   ack_made side queue cleared =
-      decided site.pair (refuse_if (not cleared) answer.OutOfTurn None) (answer.Acked (lane_to site.pair side queue).acked)
-      (posts_through reads (with_lane site.pair (other_side side) queue (given side queue)) side (Index queue (lane_to site.pair side queue).acked))
+      decided now.site.pair (refuse_if (not cleared) answer.OutOfTurn None) (answer.Acked (lane_to now.site.pair side queue).acked)
+      (posts_through (reads now) (with_lane now.site.pair (other_side side) queue (given side queue)) side (Index queue (lane_to now.site.pair side queue).acked))
 
   abbrev acks : Side → ℕ → Bool → ℕ → Move
-  acks side queue cleared n =
-      record {
-        answer = of_ack (if cleared then Some n else None);
-        after =
-            with_bridge (with_queue kept side queue (part_with devs plan k now side queue (with_port (port_queue side queue false) (if cleared then (with_phase side queue Idle).queue.port else (port_queue side queue false).port))))
-            (if cleared then index_posted kept.bridge side queue n else kept.bridge);
-      }
+  acks side queue cleared n = moves side queue (given side queue) cleared (of_ack (if cleared then Some n else None)) (index_posted (kept now).bridge side queue n)
 
-  clear_A : (queue : ℕ) (copied : Bool) → queue < plan.a.queues → has_forgotten site.pair.link A ≡ false → is_copied (site.pair.lanes.b queue).phase ≡ copied
-      → Follows devs plan k site (Clear k A queue) (clear_made A queue copied) (clears A queue copied ((site.pair.lanes.b queue).got - 1))
-  clear_A queue false among fresh is = (refl, unchanged devs plan k now A queue (port_queue A queue false) (is_queue devs plan k now A queue false among fresh))
-  clear_A queue true among fresh is =
-      subst (λ n. Follows devs plan k site (Clear k A queue) (clear_made A queue true) (clears A queue true n)) (sym last) (
+  clear_at : (side : Side) (queue : ℕ) (copied : Bool) → queue < (side_plan plan side).queues → has_forgotten now.site.pair.link side ≡ false → is_copied (lane_to now.site.pair side queue).phase ≡ copied
+      → Follows devs plan k now.site (Clear k side queue) (clear_made side queue copied) (clears side queue copied ((lane_to now.site.pair side queue).got - 1))
+  clear_at side queue false among fresh is = (refl, as_it_was now side queue false among fresh)
+  clear_at side queue true among fresh is =
+      subst (λ n. Follows devs plan k now.site (Clear k side queue) (clear_made side queue true) (clears side queue true n)) (sym last) (
         refl,
-        record {
-          bridge =
-              ap (λ bytes. with_memory (bridge_for plan site) A (record { bytes = bytes; promised = [] })) (sym (one_stored store site.stores.a (memory_size plan A) inside))
-              ∙ ap (λ (sent : ℕ → List Entry). bridge_with plan site.pair.link site.pair.sides (record { a = sent_of site.pair.lanes.a; b = sent }) (record { a = store ∷ site.stores.a; b = site.stores.b }))
-              (sym (sent_kept site.pair.lanes.b queue (flags_gone A queue) refl));
-          link = now.link;
-          sides = (receives devs plan k now A queue (flags_gone A queue) (with_phase A queue Cleared) among refl (in_phase A queue among fresh (flags_gone A queue) Cleared refl counts (inr fits) refl)).sides;
-        },
+        bytes_come (receives now side queue (flags_gone side queue) among fresh refl (record { counts = λ _. counts; fits = inr fits; len = λ copying. absurd (false≢true copying) })) side (zeroed_flags plan side queue (lane_to now.site.pair side queue).cleared)
+            (header_inside plan now.site now.pages now.spare side queue now.declared among (own_fits plan fits side) (lane_to now.site.pair side queue).cleared (flags_offset plan) 4 (fields_lie plan).flags),
       )
     where
-      counts : ((site.pair.lanes.b queue).acked + 1 ≡ (site.pair.lanes.b queue).cleared + 1) × ((site.pair.lanes.b queue).cleared + 1 ≡ (site.pair.lanes.b queue).got)
-      counts = after_copied (site.pair.lanes.b queue).phase (site.pair.lanes.b queue).acked (site.pair.lanes.b queue).cleared (site.pair.lanes.b queue).got is ((old A queue among fresh).receiving.counts refl)
+      old : ReceivingInPlace plan side queue false (receiver_of (lane_to now.site.pair side queue))
+      old = (stands_by now side queue false among fresh).receiving
 
-      last : (site.pair.lanes.b queue).got - 1 ≡ (site.pair.lanes.b queue).cleared
+      counts : ((lane_to now.site.pair side queue).acked + 1 ≡ (lane_to now.site.pair side queue).cleared + 1) × ((lane_to now.site.pair side queue).cleared + 1 ≡ (lane_to now.site.pair side queue).got)
+      counts = after_copied (lane_to now.site.pair side queue).phase (lane_to now.site.pair side queue).acked (lane_to now.site.pair side queue).cleared (lane_to now.site.pair side queue).got is (old.counts refl)
+
+      last : (lane_to now.site.pair side queue).got - 1 ≡ (lane_to now.site.pair side queue).cleared
       last = let c = counts.1 in omega (arith, c)
 
       fits : SizesFit plan
-      fits = fits_where plan is_copied (site.pair.lanes.b queue).phase refl is (old A queue among fresh).receiving.fits
+      fits = fits_where plan is_copied (lane_to now.site.pair side queue).phase refl is old.fits
 
-      store : Store
-      store = zeroed_flags plan A queue (site.pair.lanes.b queue).cleared
+  clear_by : (side : Side) (queue : ℕ) (forgotten : Bool) → queue < (side_plan plan side).queues → has_forgotten now.site.pair.link side ≡ forgotten
+      → Follows devs plan k now.site (Clear k side queue) (clear_step now.site.pair side queue) (cleared_with side queue (port_queue now side queue forgotten))
+  clear_by side queue true among forgot =
+      subst (λ copied. Follows devs plan k now.site (Clear k side queue) (clear_made side queue copied) (cleared_with side queue (port_queue now side queue true))) (sym (ap is_copied ((stands_by now side queue true among forgot).forgets refl).phase))
+      (refl, as_it_was now side queue true among forgot)
+  clear_by side queue false among fresh = clear_at side queue (is_copied (lane_to now.site.pair side queue).phase) among fresh refl
 
-      inside : (zeroed_flags plan A queue (site.pair.lanes.b queue).cleared).at + 4 ≤ memory_size plan A
-      inside = header_inside plan site now.pages now.spare A queue now.declared among (own_fits plan fits A) (site.pair.lanes.b queue).cleared (flags_offset plan) 4 (fields_lie plan).flags
+  pub clear_follows : (side : Side) (queue : ℕ) → queue < (side_plan plan side).queues → Follows devs plan k now.site (Clear k side queue) (clear_step now.site.pair side queue) (clear_move (kept now) side queue)
+  clear_follows side queue among = by_queue now side queue (λ (q : QueueState). Follows devs plan k now.site (Clear k side queue) (clear_step now.site.pair side queue) (cleared_with side queue q)) among (λ forgotten. clear_by side queue forgotten among)
 
-  clear_by_A : (queue : ℕ) (forgotten : Bool) → queue < plan.a.queues → has_forgotten site.pair.link A ≡ forgotten → Follows devs plan k site (Clear k A queue) (clear_step site.pair A queue) (cleared_with A queue (port_queue A queue forgotten))
-  clear_by_A queue true among forgot =
-      subst (λ copied. Follows devs plan k site (Clear k A queue) (clear_made A queue copied) (cleared_with A queue (port_queue A queue true))) (sym (ap is_copied ((stands_by devs plan k now A queue true among forgot).forgets refl).phase))
-      (refl, unchanged devs plan k now A queue (port_queue A queue true) (is_queue devs plan k now A queue true among forgot))
-  clear_by_A queue false among fresh = clear_A queue (is_copied (site.pair.lanes.b queue).phase) among fresh refl
-
-  ack_A : (queue : ℕ) (cleared : Bool) → queue < plan.a.queues → has_forgotten site.pair.link A ≡ false → is_cleared (site.pair.lanes.b queue).phase ≡ cleared
-      → Follows devs plan k site (Ack k A queue) (ack_made A queue cleared) (acks A queue cleared ((site.pair.lanes.b queue).got - 1))
-  ack_A queue false among fresh is = (refl, unchanged devs plan k now A queue (port_queue A queue false) (is_queue devs plan k now A queue false among fresh))
-  ack_A queue true among fresh is =
-      subst (λ n. Follows devs plan k site (Ack k A queue) (ack_made A queue true) (acks A queue true n)) (sym last) (
+  ack_at : (side : Side) (queue : ℕ) (cleared : Bool) → queue < (side_plan plan side).queues → has_forgotten now.site.pair.link side ≡ false → is_cleared (lane_to now.site.pair side queue).phase ≡ cleared
+      → Follows devs plan k now.site (Ack k side queue) (ack_made side queue cleared) (acks side queue cleared ((lane_to now.site.pair side queue).got - 1))
+  ack_at side queue false among fresh is = (refl, as_it_was now side queue false among fresh)
+  ack_at side queue true among fresh is =
+      subst (λ n. Follows devs plan k now.site (Ack k side queue) (ack_made side queue true) (acks side queue true n)) (sym last) (
         refl,
-        subst (λ (bridge : Bridge). PairStands devs plan k
-            (record site { pair = posts_through reads (with_lane site.pair B queue (given A queue)) A (Index queue (site.pair.lanes.b queue).acked) })
-            (record (with_queue kept A queue (with_phase A queue Idle)) { bridge = index_posted bridge A queue (site.pair.lanes.b queue).acked }))
-            (sym (ap (λ (bridge : Bridge). with_promises bridge now.pages now.spare) first.bridge)) (index_posts_A devs plan k changed queue (site.pair.lanes.b queue).acked among fits),
+        by_bridge now (with_lane now.site.pair (other_side side) queue (given side queue)) (with_queue (kept now) side queue (received_part now side queue (given side queue))).queues
+            (λ (bridge : Bridge). PairStands devs plan k
+            (record now.site { pair = posts_through (reads now) (with_lane now.site.pair (other_side side) queue (given side queue)) side (Index queue (lane_to now.site.pair side queue).acked) })
+            (record (with_queue (kept now) side queue (received_part now side queue (given side queue))) { bridge = index_posted bridge side queue (lane_to now.site.pair side queue).acked })) first
+            (index_posts (then_standing now _ _ first) side queue (lane_to now.site.pair side queue).acked among fits),
       )
     where
-      counts : ((site.pair.lanes.b queue).acked + 1 ≡ (site.pair.lanes.b queue).cleared) × ((site.pair.lanes.b queue).cleared ≡ (site.pair.lanes.b queue).got)
-      counts = after_cleared (site.pair.lanes.b queue).phase (site.pair.lanes.b queue).acked (site.pair.lanes.b queue).cleared (site.pair.lanes.b queue).got is ((old A queue among fresh).receiving.counts refl)
+      old : ReceivingInPlace plan side queue false (receiver_of (lane_to now.site.pair side queue))
+      old = (stands_by now side queue false among fresh).receiving
 
-      last : (site.pair.lanes.b queue).got - 1 ≡ (site.pair.lanes.b queue).acked
+      counts : ((lane_to now.site.pair side queue).acked + 1 ≡ (lane_to now.site.pair side queue).cleared) × ((lane_to now.site.pair side queue).cleared ≡ (lane_to now.site.pair side queue).got)
+      counts = after_cleared (lane_to now.site.pair side queue).phase (lane_to now.site.pair side queue).acked (lane_to now.site.pair side queue).cleared (lane_to now.site.pair side queue).got is (old.counts refl)
+
+      last : (lane_to now.site.pair side queue).got - 1 ≡ (lane_to now.site.pair side queue).acked
       last = let b = counts.0 in let c = counts.1 in omega (arith, b, c)
 
       fits : SizesFit plan
-      fits = fits_where plan is_cleared (site.pair.lanes.b queue).phase refl is (old A queue among fresh).receiving.fits
+      fits = fits_where plan is_cleared (lane_to now.site.pair side queue).phase refl is old.fits
 
-      first : PairStands devs plan k (record site { pair = with_lane site.pair B queue (given A queue) }) (with_queue kept A queue (with_phase A queue Idle))
-      first = receives devs plan k now A queue (given A queue) (with_phase A queue Idle) among refl (in_phase A queue among fresh (given A queue) Idle refl counts (inl refl) refl)
+      first : PairStands devs plan k (record now.site { pair = with_lane now.site.pair (other_side side) queue (given side queue) }) (with_queue (kept now) side queue (received_part now side queue (given side queue)))
+      first = receives now side queue (given side queue) among fresh refl (record { counts = λ _. counts; fits = inl refl; len = λ copying. absurd (false≢true copying) })
 
-      changed : Standing devs plan k
-      changed =
-          record {
-            site = record now.site { pair = with_lane now.site.pair B queue (given A queue) };
-            pages = now.pages;
-            spare = now.spare;
-            queues = with_side now.queues A (slice_set now.queues.a queue (with_phase A queue Idle));
-            link = first.link;
-            sides = first.sides;
-            declared = now.declared;
-          }
+  ack_by : (side : Side) (queue : ℕ) (forgotten : Bool) → queue < (side_plan plan side).queues → has_forgotten now.site.pair.link side ≡ forgotten
+      → Follows devs plan k now.site (Ack k side queue) (ack_step (reads now) now.site.pair side queue) (acked_with side queue (port_queue now side queue forgotten))
+  ack_by side queue true among forgot =
+      subst (λ cleared. Follows devs plan k now.site (Ack k side queue) (ack_made side queue cleared) (acked_with side queue (port_queue now side queue true))) (sym (ap is_cleared ((stands_by now side queue true among forgot).forgets refl).phase))
+      (refl, as_it_was now side queue true among forgot)
+  ack_by side queue false among fresh = ack_at side queue (is_cleared (lane_to now.site.pair side queue).phase) among fresh refl
 
-  ack_by_A : (queue : ℕ) (forgotten : Bool) → queue < plan.a.queues → has_forgotten site.pair.link A ≡ forgotten → Follows devs plan k site (Ack k A queue) (ack_step reads site.pair A queue) (acked_with A queue (port_queue A queue forgotten))
-  ack_by_A queue true among forgot =
-      subst (λ cleared. Follows devs plan k site (Ack k A queue) (ack_made A queue cleared) (acked_with A queue (port_queue A queue true))) (sym (ap is_cleared ((stands_by devs plan k now A queue true among forgot).forgets refl).phase))
-      (refl, unchanged devs plan k now A queue (port_queue A queue true) (is_queue devs plan k now A queue true among forgot))
-  ack_by_A queue false among fresh = ack_A queue (is_cleared (site.pair.lanes.b queue).phase) among fresh refl
-
-  clear_B : (queue : ℕ) (copied : Bool) → queue < plan.b.queues → has_forgotten site.pair.link B ≡ false → is_copied (site.pair.lanes.a queue).phase ≡ copied
-      → Follows devs plan k site (Clear k B queue) (clear_made B queue copied) (clears B queue copied ((site.pair.lanes.a queue).got - 1))
-  clear_B queue false among fresh is = (refl, unchanged devs plan k now B queue (port_queue B queue false) (is_queue devs plan k now B queue false among fresh))
-  clear_B queue true among fresh is =
-      subst (λ n. Follows devs plan k site (Clear k B queue) (clear_made B queue true) (clears B queue true n)) (sym last) (
-        refl,
-        record {
-          bridge =
-              ap (λ bytes. with_memory (bridge_for plan site) B (record { bytes = bytes; promised = [] })) (sym (one_stored store site.stores.b (memory_size plan B) inside))
-              ∙ ap (λ (sent : ℕ → List Entry). bridge_with plan site.pair.link site.pair.sides (record { b = sent_of site.pair.lanes.b; a = sent }) (record { b = store ∷ site.stores.b; a = site.stores.a }))
-              (sym (sent_kept site.pair.lanes.a queue (flags_gone B queue) refl));
-          link = now.link;
-          sides = (receives devs plan k now B queue (flags_gone B queue) (with_phase B queue Cleared) among refl (in_phase B queue among fresh (flags_gone B queue) Cleared refl counts (inr fits) refl)).sides;
-        },
-      )
-    where
-      counts : ((site.pair.lanes.a queue).acked + 1 ≡ (site.pair.lanes.a queue).cleared + 1) × ((site.pair.lanes.a queue).cleared + 1 ≡ (site.pair.lanes.a queue).got)
-      counts = after_copied (site.pair.lanes.a queue).phase (site.pair.lanes.a queue).acked (site.pair.lanes.a queue).cleared (site.pair.lanes.a queue).got is ((old B queue among fresh).receiving.counts refl)
-
-      last : (site.pair.lanes.a queue).got - 1 ≡ (site.pair.lanes.a queue).cleared
-      last = let c = counts.1 in omega (arith, c)
-
-      fits : SizesFit plan
-      fits = fits_where plan is_copied (site.pair.lanes.a queue).phase refl is (old B queue among fresh).receiving.fits
-
-      store : Store
-      store = zeroed_flags plan B queue (site.pair.lanes.a queue).cleared
-
-      inside : (zeroed_flags plan B queue (site.pair.lanes.a queue).cleared).at + 4 ≤ memory_size plan B
-      inside = header_inside plan site now.pages now.spare B queue now.declared among (own_fits plan fits B) (site.pair.lanes.a queue).cleared (flags_offset plan) 4 (fields_lie plan).flags
-
-  clear_by_B : (queue : ℕ) (forgotten : Bool) → queue < plan.b.queues → has_forgotten site.pair.link B ≡ forgotten → Follows devs plan k site (Clear k B queue) (clear_step site.pair B queue) (cleared_with B queue (port_queue B queue forgotten))
-  clear_by_B queue true among forgot =
-      subst (λ copied. Follows devs plan k site (Clear k B queue) (clear_made B queue copied) (cleared_with B queue (port_queue B queue true))) (sym (ap is_copied ((stands_by devs plan k now B queue true among forgot).forgets refl).phase))
-      (refl, unchanged devs plan k now B queue (port_queue B queue true) (is_queue devs plan k now B queue true among forgot))
-  clear_by_B queue false among fresh = clear_B queue (is_copied (site.pair.lanes.a queue).phase) among fresh refl
-
-  ack_B : (queue : ℕ) (cleared : Bool) → queue < plan.b.queues → has_forgotten site.pair.link B ≡ false → is_cleared (site.pair.lanes.a queue).phase ≡ cleared
-      → Follows devs plan k site (Ack k B queue) (ack_made B queue cleared) (acks B queue cleared ((site.pair.lanes.a queue).got - 1))
-  ack_B queue false among fresh is = (refl, unchanged devs plan k now B queue (port_queue B queue false) (is_queue devs plan k now B queue false among fresh))
-  ack_B queue true among fresh is =
-      subst (λ n. Follows devs plan k site (Ack k B queue) (ack_made B queue true) (acks B queue true n)) (sym last) (
-        refl,
-        subst (λ (bridge : Bridge). PairStands devs plan k
-            (record site { pair = posts_through reads (with_lane site.pair A queue (given B queue)) B (Index queue (site.pair.lanes.a queue).acked) })
-            (record (with_queue kept B queue (with_phase B queue Idle)) { bridge = index_posted bridge B queue (site.pair.lanes.a queue).acked }))
-            (sym (ap (λ (bridge : Bridge). with_promises bridge now.pages now.spare) first.bridge)) (index_posts_B devs plan k changed queue (site.pair.lanes.a queue).acked among fits),
-      )
-    where
-      counts : ((site.pair.lanes.a queue).acked + 1 ≡ (site.pair.lanes.a queue).cleared) × ((site.pair.lanes.a queue).cleared ≡ (site.pair.lanes.a queue).got)
-      counts = after_cleared (site.pair.lanes.a queue).phase (site.pair.lanes.a queue).acked (site.pair.lanes.a queue).cleared (site.pair.lanes.a queue).got is ((old B queue among fresh).receiving.counts refl)
-
-      last : (site.pair.lanes.a queue).got - 1 ≡ (site.pair.lanes.a queue).acked
-      last = let b = counts.0 in let c = counts.1 in omega (arith, b, c)
-
-      fits : SizesFit plan
-      fits = fits_where plan is_cleared (site.pair.lanes.a queue).phase refl is (old B queue among fresh).receiving.fits
-
-      first : PairStands devs plan k (record site { pair = with_lane site.pair A queue (given B queue) }) (with_queue kept B queue (with_phase B queue Idle))
-      first = receives devs plan k now B queue (given B queue) (with_phase B queue Idle) among refl (in_phase B queue among fresh (given B queue) Idle refl counts (inl refl) refl)
-
-      changed : Standing devs plan k
-      changed =
-          record {
-            site = record now.site { pair = with_lane now.site.pair A queue (given B queue) };
-            pages = now.pages;
-            spare = now.spare;
-            queues = with_side now.queues B (slice_set now.queues.b queue (with_phase B queue Idle));
-            link = first.link;
-            sides = first.sides;
-            declared = now.declared;
-          }
-
-  ack_by_B : (queue : ℕ) (forgotten : Bool) → queue < plan.b.queues → has_forgotten site.pair.link B ≡ forgotten → Follows devs plan k site (Ack k B queue) (ack_step reads site.pair B queue) (acked_with B queue (port_queue B queue forgotten))
-  ack_by_B queue true among forgot =
-      subst (λ cleared. Follows devs plan k site (Ack k B queue) (ack_made B queue cleared) (acked_with B queue (port_queue B queue true))) (sym (ap is_cleared ((stands_by devs plan k now B queue true among forgot).forgets refl).phase))
-      (refl, unchanged devs plan k now B queue (port_queue B queue true) (is_queue devs plan k now B queue true among forgot))
-  ack_by_B queue false among fresh = ack_B queue (is_cleared (site.pair.lanes.a queue).phase) among fresh refl
-
-  pub clear_follows : (side : Side) (queue : ℕ) → queue < (side_plan plan side).queues → Follows devs plan k site (Clear k side queue) (clear_step site.pair side queue) (clear_move kept side queue)
-  clear_follows A queue among =
-      subst (λ (q : QueueState). Follows devs plan k site (Clear k A queue) (clear_step site.pair A queue) (cleared_with A queue q)) (sym (is_queue devs plan k now A queue (has_forgotten site.pair.link A) among refl))
-      (clear_by_A queue (has_forgotten site.pair.link A) among refl)
-  clear_follows B queue among =
-      subst (λ (q : QueueState). Follows devs plan k site (Clear k B queue) (clear_step site.pair B queue) (cleared_with B queue q)) (sym (is_queue devs plan k now B queue (has_forgotten site.pair.link B) among refl))
-      (clear_by_B queue (has_forgotten site.pair.link B) among refl)
-
-  pub ack_follows : (side : Side) (queue : ℕ) → queue < (side_plan plan side).queues → Follows devs plan k site (Ack k side queue) (ack_step reads site.pair side queue) (ack_move kept side queue)
-  ack_follows A queue among =
-      subst (λ (q : QueueState). Follows devs plan k site (Ack k A queue) (ack_step reads site.pair A queue) (acked_with A queue q)) (sym (is_queue devs plan k now A queue (has_forgotten site.pair.link A) among refl))
-      (ack_by_A queue (has_forgotten site.pair.link A) among refl)
-  ack_follows B queue among =
-      subst (λ (q : QueueState). Follows devs plan k site (Ack k B queue) (ack_step reads site.pair B queue) (acked_with B queue q)) (sym (is_queue devs plan k now B queue (has_forgotten site.pair.link B) among refl))
-      (ack_by_B queue (has_forgotten site.pair.link B) among refl)
+  pub ack_follows : (side : Side) (queue : ℕ) → queue < (side_plan plan side).queues → Follows devs plan k now.site (Ack k side queue) (ack_step (reads now) now.site.pair side queue) (ack_move (kept now) side queue)
+  ack_follows side queue among = by_queue now side queue (λ (q : QueueState). Follows devs plan k now.site (Ack k side queue) (ack_step (reads now) now.site.pair side queue) (acked_with side queue q)) among (λ forgotten. ack_by side queue forgotten among)

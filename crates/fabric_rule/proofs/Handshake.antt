@@ -28,7 +28,7 @@ use Rattle.ledger_model.specs.Outcome.{decided, refuse_if}
 use Rattle.memory_model.specs.Memory.{Site}
 use Rattle.bridge_pair.specs.Bridge.{Bridge, memory_size, with_book, with_memory}
 use Rattle.hand_shake.specs.Checks.{after_answer as after_check_answer, check_answer}
-use Rattle.hand_shake.specs.Offers.{after_answer as after_offer_answer, pad_value}
+use Rattle.hand_shake.specs.Offers.{after_answer as after_offer_answer, pad_value, offered}
 use Rattle.hand_shake.specs.Queues.{after_join_answer, after_ready_answer}
 use Rattle.hand_shake.specs.declared.CheckAnswer.{CheckAnswer}
 use Rattle.hand_shake.specs.declared.CheckAnswer.TheVariants as check
@@ -38,11 +38,14 @@ use Rattle.hand_shake.specs.declared.JoinAnswer.TheVariants as join
 use Rattle.fabric_rule.specs.Answers.{of_check, of_join, of_offer, of_ready}
 use Rattle.fabric_rule.specs.InPlace.{LinkInPlace}
 use Rattle.fabric_rule.specs.Moves.{bridge_move, check_move, join_move, offer_move, ready_move}
-use Rattle.fabric_rule.specs.Parts.{PairState, QueuePart}
-use Rattle.fabric_rule.specs.StandsFor.{SideStands, book_for, bridge_for, has_forgotten, sent_of, view_of, writes_labelled}
+use Rattle.fabric_rule.specs.Parts.{PairState, QueuePart, with_bridge}
+use Rattle.fabric_rule.specs.StandsFor.{SideStands, book_for, bridge_for, has_forgotten, view_of, PairStands}
+use Rattle.bridge_pair.specs.declared.book.SideBook.{SideBook}
+use Rattle.bridge_pair.specs.Flights.{flying_of}
+use Rattle.bridge_pair.specs.Writes.{pad_write}
 use Rattle.fabric_rule.proofs.Follows.{AllSides, Follows, by_side, state_for}
 use Rattle.fabric_rule.proofs.Links.{not_down_up}
-use Rattle.fabric_rule.proofs.Posting.{one_more_plain, side_posts, with_writes}
+use Rattle.fabric_rule.proofs.Posting.{posts_one}
 use Rattle.fabric_rule.proofs.RingPlaces.{rings_inside}
 use Rattle.fabric_rule.proofs.StoredBytes.{all_stored}
 
@@ -120,11 +123,26 @@ module _ (devs : List DevPlan) (plan : PairPlan) (k : ℕ) (site : Site) (pages 
   abbrev next : Side → Label
   next side = slice_index_or (offers (side_plan plan side)) (side_of site.pair side).offered (Pad 0 0)
 
-  -- a side with a write more in flight
-  abbrev posts_one : Side → Label → Type 0
-  posts_one side label =
-      SideStands devs plan k side (is_down site.pair.link.state) (has_forgotten site.pair.link side) (side_of site.pair side).joined ((side_of site.pair side).flight ++ label ∷ []) (side_of site.pair side).poked
-      (view_of site.pair side) (at_side queues side)
+  -- it stands, and with another book of a side
+  stands : PairStands devs plan k site state
+  stands = record { bridge = refl; link = link; sides = sides }
+
+  abbrev book_as : Side → Bool → ℕ → ℕ → SideBook
+  book_as side up ready offered = record { up = up; ready = ready; joined = (side_of site.pair side).joined; offered = offered }
+
+  book_changes : (side : Side) (up : Bool) (ready offered : ℕ)
+      → PairStands devs plan k (record site { pair = with_side_part site.pair side (record (side_of site.pair side) { up = up; ready = ready; offered = offered }) }) (with_bridge state (with_book state.bridge side (book_as side up ready offered)))
+  book_changes A up ready offered = record { bridge = refl; link = link; sides = by_side _ (sides A) (sides B) }
+  book_changes B up ready offered = record { bridge = refl; link = link; sides = by_side _ (sides A) (sides B) }
+
+  -- the next write of an offer is a scratchpad's
+  next_is : (side : Side) → next side ≡ Pad (pad_index (next side)) (pad_value (next side))
+  next_is side = offer_is (side_plan plan side) (side_of site.pair side).offered
+
+  abbrev OfferStands : Side → Label → Type 0
+  OfferStands side label =
+      PairStands devs plan k (record site { pair = with_side_part site.pair side (record (side_of site.pair side) { offered = (side_of site.pair side).offered + 1; flight = (side_of site.pair side).flight ++ label ∷ [] }) })
+      (with_bridge state (offered state.bridge side))
 
   offer_at : (side : Side) (up spent : Bool) → is_up site.pair.link.state ≡ up
       → Follows devs plan k site (Offer k side)
@@ -133,30 +151,16 @@ module _ (devs : List DevPlan) (plan : PairPlan) (k : ℕ) (site : Site) (pages 
       else with_side_part site.pair side (record (side_of site.pair side) { offered = (side_of site.pair side).offered + 1 })))
       (bridge_move state (of_offer (if not up then offer.LinkDown else if spent then offer.Already else offer.Offered (pad_index (next side))))
       (after_offer_answer state.bridge side (if not up then offer.LinkDown else if spent then offer.Already else offer.Offered (pad_index (next side)))))
-  offer_at side false spent is = (refl, record { bridge = refl; link = link; sides = sides })
-  offer_at side true true is = (refl, record { bridge = refl; link = link; sides = sides })
-  offer_at A true false is = (
-    refl,
-    record {
-      bridge =
-          ap (with_writes (with_book (bridge_for plan site) A (record (book_for site.pair.sides.a) { offered = site.pair.sides.a.offered + 1 })) A)
-          (one_more_plain plan A (sent_of site.pair.lanes.a) site.pair.sides.a.flight site.pair.sides.a.poked (Pad (pad_index (next A)) (pad_value (next A))) (sides A).in_flight.raws
-          ∙ ap (λ label. writes_labelled plan A (sent_of site.pair.lanes.a) (site.pair.sides.a.flight ++ label ∷ []) site.pair.sides.a.poked) (sym (offer_is plan.a site.pair.sides.a.offered)));
-      link = link;
-      sides = by_side _ (subst (posts_one A) (sym (offer_is plan.a site.pair.sides.a.offered)) (side_posts devs plan k A _ _ _ _ _ _ _ (Pad (pad_index (next A)) (pad_value (next A))) (sides A) (not_down_up site.pair.link.state is) tt tt tt)) (sides B);
-    },
-  )
-  offer_at B true false is = (
-    refl,
-    record {
-      bridge =
-          ap (with_writes (with_book (bridge_for plan site) B (record (book_for site.pair.sides.b) { offered = site.pair.sides.b.offered + 1 })) B)
-          (one_more_plain plan B (sent_of site.pair.lanes.b) site.pair.sides.b.flight site.pair.sides.b.poked (Pad (pad_index (next B)) (pad_value (next B))) (sides B).in_flight.raws
-          ∙ ap (λ label. writes_labelled plan B (sent_of site.pair.lanes.b) (site.pair.sides.b.flight ++ label ∷ []) site.pair.sides.b.poked) (sym (offer_is plan.b site.pair.sides.b.offered)));
-      link = link;
-      sides = by_side _ (sides A) (subst (posts_one B) (sym (offer_is plan.b site.pair.sides.b.offered)) (side_posts devs plan k B _ _ _ _ _ _ _ (Pad (pad_index (next B)) (pad_value (next B))) (sides B) (not_down_up site.pair.link.state is) tt tt tt));
-    },
-  )
+  offer_at side false spent is = (refl, stands)
+  offer_at side true true is = (refl, stands)
+  offer_at A true false is =
+      let own = site.pair.sides.a in
+      let posted = posts_one (book_changes A own.up own.ready (own.offered + 1)) is A (Pad (pad_index (next A)) (pad_value (next A))) (flying_of plan A (pad_write (pad_index (next A)) (pad_value (next A)))) spare.a refl tt tt tt in
+      (refl, subst (OfferStands A) (sym (next_is A)) posted)
+  offer_at B true false is =
+      let own = site.pair.sides.b in
+      let posted = posts_one (book_changes B own.up own.ready (own.offered + 1)) is B (Pad (pad_index (next B)) (pad_value (next B))) (flying_of plan B (pad_write (pad_index (next B)) (pad_value (next B)))) spare.b refl tt tt tt in
+      (refl, subst (OfferStands B) (sym (next_is B)) posted)
 
   pub offer_follows : (side : Side) → Follows devs plan k site (Offer k side) (offer_step plan site.pair side) (offer_move state side)
   offer_follows A = offer_at A (is_up site.pair.link.state) (site.pair.sides.a.offered == length (offers plan.a)) refl
@@ -171,29 +175,17 @@ module _ (devs : List DevPlan) (plan : PairPlan) (k : ℕ) (site : Site) (pages 
       else with_side_part site.pair side (record (side_of site.pair side) { ready = with_bit (side_of site.pair side).ready queue })))
       (bridge_move state (of_ready (if not up then ready.LinkDown else if not checked then ready.NotChecked else if done then ready.Already else ready.Ok))
       (after_ready_answer state.bridge side queue (if not up then ready.LinkDown else if not checked then ready.NotChecked else if done then ready.Already else ready.Ok)))
-  ready_at side queue false checked done is = (refl, record { bridge = refl; link = link; sides = sides })
-  ready_at side queue true false done is = (refl, record { bridge = refl; link = link; sides = sides })
-  ready_at side queue true true true is = (refl, record { bridge = refl; link = link; sides = sides })
-  ready_at A queue true true false is = (
-    refl,
-    record {
-      bridge =
-          ap (with_writes (with_book (bridge_for plan site) A (record (book_for site.pair.sides.a) { ready = with_bit site.pair.sides.a.ready queue })) A)
-          (one_more_plain plan A (sent_of site.pair.lanes.a) site.pair.sides.a.flight site.pair.sides.a.poked (Pad links_pad (with_bit site.pair.sides.a.ready queue)) (sides A).in_flight.raws);
-      link = link;
-      sides = by_side _ (side_posts devs plan k A _ _ _ _ _ _ _ (Pad links_pad (with_bit site.pair.sides.a.ready queue)) (sides A) (not_down_up site.pair.link.state is) tt tt tt) (sides B);
-    },
-  )
-  ready_at B queue true true false is = (
-    refl,
-    record {
-      bridge =
-          ap (with_writes (with_book (bridge_for plan site) B (record (book_for site.pair.sides.b) { ready = with_bit site.pair.sides.b.ready queue })) B)
-          (one_more_plain plan B (sent_of site.pair.lanes.b) site.pair.sides.b.flight site.pair.sides.b.poked (Pad links_pad (with_bit site.pair.sides.b.ready queue)) (sides B).in_flight.raws);
-      link = link;
-      sides = by_side _ (sides A) (side_posts devs plan k B _ _ _ _ _ _ _ (Pad links_pad (with_bit site.pair.sides.b.ready queue)) (sides B) (not_down_up site.pair.link.state is) tt tt tt);
-    },
-  )
+  ready_at side queue false checked done is = (refl, stands)
+  ready_at side queue true false done is = (refl, stands)
+  ready_at side queue true true true is = (refl, stands)
+  ready_at A queue true true false is =
+      let own = site.pair.sides.a in
+      let bits = with_bit own.ready queue in
+      (refl, posts_one (book_changes A own.up bits own.offered) is A (Pad links_pad bits) (flying_of plan A (pad_write links_pad bits)) spare.a refl tt tt tt)
+  ready_at B queue true true false is =
+      let own = site.pair.sides.b in
+      let bits = with_bit own.ready queue in
+      (refl, posts_one (book_changes B own.up bits own.offered) is B (Pad links_pad bits) (flying_of plan B (pad_write links_pad bits)) spare.b refl tt tt tt)
 
   pub ready_follows : (side : Side) (queue : ℕ) → Follows devs plan k site (Ready k side queue) (ready_step site.pair side queue) (ready_move state side queue)
   ready_follows A queue = ready_at A queue (is_up site.pair.link.state) site.pair.sides.a.up (has_bit site.pair.sides.a.ready queue) refl
@@ -218,10 +210,10 @@ module _ (devs : List DevPlan) (plan : PairPlan) (k : ℕ) (site : Site) (pages 
       (with_side_part site.pair side (record (side_of site.pair side) { joined = with_bit (side_of site.pair side).joined queue })))
       (bridge_move state (of_join (if not up then join.LinkDown else if not is_ready then join.NotReady else if done then join.Already else if not agreed then join.NotYet else join.Joined))
       (after_join_answer state.bridge side queue (if not up then join.LinkDown else if not is_ready then join.NotReady else if done then join.Already else if not agreed then join.NotYet else join.Joined)))
-  join_at side queue false is_ready done agreed is = (refl, record { bridge = refl; link = link; sides = sides })
-  join_at side queue true false done agreed is = (refl, record { bridge = refl; link = link; sides = sides })
-  join_at side queue true true true agreed is = (refl, record { bridge = refl; link = link; sides = sides })
-  join_at side queue true true false false is = (refl, record { bridge = refl; link = link; sides = sides })
+  join_at side queue false is_ready done agreed is = (refl, stands)
+  join_at side queue true false done agreed is = (refl, stands)
+  join_at side queue true true true agreed is = (refl, stands)
+  join_at side queue true true false false is = (refl, stands)
   join_at A queue true true false true is = (refl, record { bridge = refl; link = link; sides = by_side _ (joins A queue is) (sides B) })
   join_at B queue true true false true is = (refl, record { bridge = refl; link = link; sides = by_side _ (sides A) (joins B queue is) })
 
@@ -237,13 +229,13 @@ module _ (devs : List DevPlan) (plan : PairPlan) (k : ℕ) (site : Site) (pages 
 
   refused_check : (side : Side) (found : CheckAnswer) → (found ≡ check.Up → ⊥) → checks_as side found (Some (of_check found))
   refused_check side check.Up other = absurd (other refl)
-  refused_check side check.Already other = (refl, record { bridge = refl; link = link; sides = sides })
-  refused_check side check.LinkDown other = (refl, record { bridge = refl; link = link; sides = sides })
-  refused_check side check.NotYet other = (refl, record { bridge = refl; link = link; sides = sides })
-  refused_check side (check.Version seen own) other = (refl, record { bridge = refl; link = link; sides = sides })
-  refused_check side (check.Queues seen own) other = (refl, record { bridge = refl; link = link; sides = sides })
-  refused_check side (check.Windows seen own) other = (refl, record { bridge = refl; link = link; sides = sides })
-  refused_check side (check.Size seen cap) other = (refl, record { bridge = refl; link = link; sides = sides })
+  refused_check side check.Already other = (refl, stands)
+  refused_check side check.LinkDown other = (refl, stands)
+  refused_check side check.NotYet other = (refl, stands)
+  refused_check side (check.Version seen own) other = (refl, stands)
+  refused_check side (check.Queues seen own) other = (refl, stands)
+  refused_check side (check.Windows seen own) other = (refl, stands)
+  refused_check side (check.Size seen cap) other = (refl, stands)
 
   -- the bridge with other bytes in a side's memory
   abbrev came_up_with : Side → List ℕ → Bridge

@@ -1,9 +1,8 @@
 -- A write that lands: it is taken out of those in flight, and arrives.
-use Rattle.std.proofs.Common.{◌≡◌, ℕ, ◌+◌, ◌-◌, Bool, true, false, Option, Some, None, List, [], ◌∷◌, map, take, refl, sym, ap, ◌∙◌, subst}
-use Rattle.std.specs.Prelude.{if◌then◌else◌, not, option_map, remove, slice_get, slice_set}
+use Rattle.std.proofs.Common.{◌≡◌, ℕ, Bool, true, false, Option, Some, None, List, map, take, refl, sym, ap, ◌∙◌, subst}
+use Rattle.std.specs.Prelude.{if◌then◌else◌, not, option_map, remove, slice_get}
 use Rattle.std.specs.List.{AllByRecursion}
 use Rattle.std.proofs.lemmas.Option.{none-some, slice_get-map}
-use Rattle.step_kinds.specs.Bits.{with_bit}
 use Rattle.step_kinds.specs.Sides.{other_side}
 use Rattle.step_kinds.specs.declared.names.Side.{Side}
 use Rattle.step_kinds.specs.declared.names.Side.TheVariants.{A, B}
@@ -14,55 +13,32 @@ use Rattle.step_kinds.specs.declared.steps.Label.{Label}
 use Rattle.step_kinds.specs.declared.steps.Label.TheVariants.{Chunk, Len, Ver, Flag, Down, Bell, Index, Pad, Raw}
 use Rattle.step_kinds.specs.declared.steps.Step.TheVariants.{Land}
 use Rattle.order_rules.specs.Order.{lands_behind, may_land}
-use Rattle.lane_model.specs.Lane.{Entry}
 use Rattle.plan_model.specs.Both.{at_side}
 use Rattle.plan_model.specs.Link.{is_down}
 use Rattle.plan_model.specs.Orders.{order_of}
-use Rattle.byte_model.specs.Stores.{bytes_in, store_at}
-use Rattle.ledger_model.specs.Ledger.{side_of}
+use Rattle.ledger_model.specs.Ledger.{side_of, with_side_part}
 use Rattle.ledger_model.specs.Outcome.{Outcome, decided, refuse_if}
 use Rattle.ledger_model.specs.Receiving.{land_found, land_step, lands_on, taken_out}
-use Rattle.memory_model.specs.Memory.{Site}
 use Rattle.posted_queue.specs.Landing.{answer_for}
-use Rattle.bridge_pair.specs.Bridge.{bytes_of, memory_size, with_bells, with_flight, with_memory, with_pads}
+use Rattle.bridge_pair.specs.Bridge.{memory_size, with_flight}
 use Rattle.bridge_pair.specs.Calls.{after_landed, arrived}
 use Rattle.bridge_pair.specs.Ends.{label_landed}
 use Rattle.bridge_pair.specs.Flights.{Flying, flying_order}
-use Rattle.bridge_pair.specs.declared.flying.Arrival.{Arrival}
-use Rattle.bridge_pair.specs.declared.flying.Arrival.TheVariants.{AtAddress}
-use Rattle.host_memory.specs.Memory.{written}
 use Rattle.fabric_rule.specs.Answers.{of_land}
-use Rattle.fabric_rule.specs.InPlace.{IsBegun, LiesIn, receiver_of, sender_of}
+use Rattle.fabric_rule.specs.InPlace.{IsBegun, LiesIn}
 use Rattle.fabric_rule.specs.Moves.{Move, land_move}
-use Rattle.fabric_rule.specs.Parts.{PairState}
-use Rattle.fabric_rule.specs.StandsFor.{PairStands, SideStands, bridge_for, entry_among, flying_labelled, has_forgotten, sent_in, sent_of, view_of, writes_labelled}
+use Rattle.fabric_rule.specs.StandsFor.{PairStands, SideStands, bridge_for, entry_among, flying_labelled, has_forgotten, sent_in, view_of, writes_labelled}
+use Rattle.fabric_rule.proofs.Arrivals.{bell_comes, bytes_come, pad_comes, unseen}
 use Rattle.fabric_rule.proofs.Flights.{all_get, all_remove, have-remove, label-write, labels-writes, orders-writes, poked_at, poked_left, writes-get, writes-remove}
-use Rattle.fabric_rule.proofs.Follows.{Follows, by_side, site_made, updated_same}
-use Rattle.fabric_rule.proofs.OneQueue.{Standing, state}
+use Rattle.fabric_rule.proofs.Follows.{Follows, by_side, site_made}
+use Rattle.fabric_rule.proofs.OneQueue.{Standing, kept}
 use Rattle.fabric_rule.proofs.Posting.{with_writes}
-use Rattle.fabric_rule.proofs.Queues.{sent_kept, side_same}
-use Rattle.fabric_rule.proofs.StoredBytes.{one_stored}
 
 no_value : {X Y : Type 0} (f : X → Y) (found : Option X) → option_map f found ≡ None → found ≡ None
 no_value f None none = refl
 no_value f (Some x) none = absurd (none-some (f x) (sym none))
 
--- where bytes arrive, and which
-abbrev arrival_at : Arrival → ℕ
-arrival_at (AtAddress at bytes) = at
-arrival_at arrival = 0
-
-abbrev arrival_bytes : Arrival → List ℕ
-arrival_bytes (AtAddress at bytes) = bytes
-arrival_bytes arrival = []
-
-module _ (devs : List DevPlan) (plan : PairPlan) (k : ℕ) (now : Standing devs plan k) (place : ℕ) where
-  abbrev site : Site
-  site = now.site
-
-  abbrev kept : PairState
-  kept = state devs plan k now
-
+module _ {devs : List DevPlan} {plan : PairPlan} {k : ℕ} (now : Standing devs plan k) (place : ℕ) where
   -- a side without the write at a place
   taken_side : (side : Side) (label : Label) → slice_get (side_of now.site.pair side).flight place ≡ Some label
       → SideStands devs plan k side (is_down now.site.pair.link.state) (has_forgotten now.site.pair.link side) (side_of now.site.pair side).joined (remove (side_of now.site.pair side).flight place)
@@ -105,7 +81,7 @@ module _ (devs : List DevPlan) (plan : PairPlan) (k : ℕ) (now : Standing devs 
   abbrev Lands : Side → Label → Type 0
   Lands side label =
       PairStands devs plan k (site_made plan now.site (Land k side place) (record { answer = answer.Landed label; after = lands_on (taken_out now.site.pair side place label) side label }))
-      (record kept { bridge = arrived (with_flight kept.bridge side (record { writes = remove (all_writes side) place; spare = at_side now.spare side })) (other_side side) (flying_at side label).arrival })
+      (record (kept now) { bridge = arrived (with_flight (kept now).bridge side (record { writes = remove (all_writes side) place; spare = at_side now.spare side })) (other_side side) (flying_at side label).arrival })
 
   -- the move by the write that is found, and whether it may land
   abbrev landed : Side → Option Flying → Bool → Move
@@ -113,10 +89,10 @@ module _ (devs : List DevPlan) (plan : PairPlan) (k : ℕ) (now : Standing devs 
       record {
         answer = of_land (label_landed (answer_for found may));
         after =
-            record kept {
+            record (kept now) {
               bridge =
                   after_landed
-                  (with_flight kept.bridge side (if may then record { writes = remove (all_writes side) place; spare = at_side now.spare side } else record { writes = all_writes side; spare = at_side now.spare side }))
+                  (with_flight (kept now).bridge side (if may then record { writes = remove (all_writes side) place; spare = at_side now.spare side } else record { writes = all_writes side; spare = at_side now.spare side }))
                   (other_side side) (answer_for found may);
             };
       }
@@ -133,188 +109,44 @@ module _ (devs : List DevPlan) (plan : PairPlan) (k : ℕ) (now : Standing devs 
   may_not : (side : Side) → slice_get (all_writes side) place ≡ None → may_land (map flying_order (all_writes side)) place ≡ false
   may_not side none = ap (λ found. lands_behind found (take place (map flying_order (all_writes side)))) (slice_get-map flying_order (all_writes side) place ∙ ap (option_map flying_order) none)
 
-  abbrev left_A : Label → List Flying
-  left_A label = writes_labelled plan A (sent_of site.pair.lanes.a) (remove site.pair.sides.a.flight place) (poked_left site.pair.sides.a.flight site.pair.sides.a.poked place label)
+  -- the pair without the write
+  still_there : (side : Side) → PairStands devs plan k now.site (record (kept now) { bridge = with_flight (kept now).bridge side (record { writes = all_writes side; spare = at_side now.spare side }) })
+  still_there A = record { bridge = refl; link = now.link; sides = now.sides }
+  still_there B = record { bridge = refl; link = now.link; sides = now.sides }
 
-  lands_A : (label : Label) → slice_get site.pair.sides.a.flight place ≡ Some label → Lands A label
-  lands_A (Chunk q n part) at =
-      record {
-        bridge =
-            ap (with_writes (with_memory (bridge_for plan site) B (record { bytes = written (arrival_at (flying_at A (Chunk q n part)).arrival) (arrival_bytes (flying_at A (Chunk q n part)).arrival) (bytes_of (bridge_for plan site) B); promised = [] })) A) (gone A (Chunk q n part) at)
-            ∙ ap (λ bytes. with_writes (with_memory (bridge_for plan site) B (record { bytes = bytes; promised = [] })) A (left_A (Chunk q n part))) (sym (one_stored (store_at (arrival_at (flying_at A (Chunk q n part)).arrival) (arrival_bytes (flying_at A (Chunk q n part)).arrival)) site.stores.b (memory_size plan B) (fit A (Chunk q n part) at)));
-        link = now.link;
-        sides = by_side _ (taken_side A (Chunk q n part) at) (now.sides B);
-      }
-  lands_A (Len q n) at =
-      record {
-        bridge =
-            ap (with_writes (with_memory (bridge_for plan site) B (record { bytes = written (arrival_at (flying_at A (Len q n)).arrival) (arrival_bytes (flying_at A (Len q n)).arrival) (bytes_of (bridge_for plan site) B); promised = [] })) A) (gone A (Len q n) at)
-            ∙ ap (λ bytes. with_writes (with_memory (bridge_for plan site) B (record { bytes = bytes; promised = [] })) A (left_A (Len q n))) (sym (one_stored (store_at (arrival_at (flying_at A (Len q n)).arrival) (arrival_bytes (flying_at A (Len q n)).arrival)) site.stores.b (memory_size plan B) (fit A (Len q n) at)));
-        link = now.link;
-        sides = by_side _ (taken_side A (Len q n) at) (now.sides B);
-      }
-  lands_A (Ver q n) at =
-      record {
-        bridge =
-            ap (with_writes (with_memory (bridge_for plan site) B (record { bytes = written (arrival_at (flying_at A (Ver q n)).arrival) (arrival_bytes (flying_at A (Ver q n)).arrival) (bytes_of (bridge_for plan site) B); promised = [] })) A) (gone A (Ver q n) at)
-            ∙ ap (λ bytes. with_writes (with_memory (bridge_for plan site) B (record { bytes = bytes; promised = [] })) A (left_A (Ver q n))) (sym (one_stored (store_at (arrival_at (flying_at A (Ver q n)).arrival) (arrival_bytes (flying_at A (Ver q n)).arrival)) site.stores.b (memory_size plan B) (fit A (Ver q n) at)));
-        link = now.link;
-        sides = by_side _ (taken_side A (Ver q n) at) (now.sides B);
-      }
-  lands_A (Raw window offset len) at =
-      record {
-        bridge =
-            ap (with_writes (with_memory (bridge_for plan site) B (record { bytes = written (arrival_at (flying_at A (Raw window offset len)).arrival) (arrival_bytes (flying_at A (Raw window offset len)).arrival) (bytes_of (bridge_for plan site) B); promised = [] })) A) (gone A (Raw window offset len) at)
-            ∙ ap (λ bytes. with_writes (with_memory (bridge_for plan site) B (record { bytes = bytes; promised = [] })) A (left_A (Raw window offset len))) (sym (one_stored (store_at (arrival_at (flying_at A (Raw window offset len)).arrival) (arrival_bytes (flying_at A (Raw window offset len)).arrival)) site.stores.b (memory_size plan B) (fit A (Raw window offset len) at)));
-        link = now.link;
-        sides = by_side _ (taken_side A (Raw window offset len) at) (now.sides B);
-      }
-  lands_A (Flag q n) at =
-      record {
-        bridge =
-            ap (with_writes (with_memory (bridge_for plan site) B (record { bytes = written (arrival_at (flying_at A (Flag q n)).arrival) (arrival_bytes (flying_at A (Flag q n)).arrival) (bytes_of (bridge_for plan site) B); promised = [] })) A) (gone A (Flag q n) at)
-            ∙ ap (λ bytes. with_writes (with_memory (bridge_for plan site) B (record { bytes = bytes; promised = [] })) A (left_A (Flag q n))) (sym (one_stored (store_at (arrival_at (flying_at A (Flag q n)).arrival) (arrival_bytes (flying_at A (Flag q n)).arrival)) site.stores.b (memory_size plan B) (fit A (Flag q n) at)))
-            ∙ ap (λ (sent : ℕ → List Entry). with_writes (with_memory (bridge_for plan site) B (record { bytes = bytes_in (store_at (arrival_at (flying_at A (Flag q n)).arrival) (arrival_bytes (flying_at A (Flag q n)).arrival) ∷ site.stores.b) 0 (memory_size plan B); promised = [] })) A (writes_labelled plan A sent (remove site.pair.sides.a.flight place) (poked_left site.pair.sides.a.flight site.pair.sides.a.poked place (Flag q n)))) (sym (sent_kept site.pair.lanes.a q (record (site.pair.lanes.a q) { flagged = (site.pair.lanes.a q).flagged + 1 }) refl));
-        link = now.link;
-        sides = by_side _ (side_same devs plan k A _ _ _ _ _ (view_of site.pair A) _ now.queues.a (λ other. ap (λ s. record (view_of site.pair A other) { sends = s }) (updated_same sender_of site.pair.lanes.a q (record (site.pair.lanes.a q) { flagged = (site.pair.lanes.a q).flagged + 1 }) refl other)) (taken_side A (Flag q n) at)) (side_same devs plan k B _ _ _ _ _ (view_of site.pair B) _ now.queues.b (λ other. ap (λ r. record (view_of site.pair B other) { receives = r }) (updated_same receiver_of site.pair.lanes.a q (record (site.pair.lanes.a q) { flagged = (site.pair.lanes.a q).flagged + 1 }) refl other)) (now.sides B));
-      }
-  lands_A (Down q n) at =
-      record {
-        bridge =
-            ap (with_writes (with_memory (bridge_for plan site) B (record { bytes = written (arrival_at (flying_at A (Down q n)).arrival) (arrival_bytes (flying_at A (Down q n)).arrival) (bytes_of (bridge_for plan site) B); promised = [] })) A) (gone A (Down q n) at)
-            ∙ ap (λ bytes. with_writes (with_memory (bridge_for plan site) B (record { bytes = bytes; promised = [] })) A (left_A (Down q n))) (sym (one_stored (store_at (arrival_at (flying_at A (Down q n)).arrival) (arrival_bytes (flying_at A (Down q n)).arrival)) site.stores.b (memory_size plan B) (fit A (Down q n) at)))
-            ∙ ap (λ (sent : ℕ → List Entry). with_writes (with_memory (bridge_for plan site) B (record { bytes = bytes_in (store_at (arrival_at (flying_at A (Down q n)).arrival) (arrival_bytes (flying_at A (Down q n)).arrival) ∷ site.stores.b) 0 (memory_size plan B); promised = [] })) A (writes_labelled plan A sent (remove site.pair.sides.a.flight place) (poked_left site.pair.sides.a.flight site.pair.sides.a.poked place (Down q n)))) (sym (sent_kept site.pair.lanes.a q (record (site.pair.lanes.a q) { flagged = (site.pair.lanes.a q).flagged + 1 }) refl));
-        link = now.link;
-        sides = by_side _ (side_same devs plan k A _ _ _ _ _ (view_of site.pair A) _ now.queues.a (λ other. ap (λ s. record (view_of site.pair A other) { sends = s }) (updated_same sender_of site.pair.lanes.a q (record (site.pair.lanes.a q) { flagged = (site.pair.lanes.a q).flagged + 1 }) refl other)) (taken_side A (Down q n) at)) (side_same devs plan k B _ _ _ _ _ (view_of site.pair B) _ now.queues.b (λ other. ap (λ r. record (view_of site.pair B other) { receives = r }) (updated_same receiver_of site.pair.lanes.a q (record (site.pair.lanes.a q) { flagged = (site.pair.lanes.a q).flagged + 1 }) refl other)) (now.sides B));
-      }
-  lands_A (Bell q) at =
-      record {
-        bridge = ap (with_writes (with_bells (bridge_for plan site) B (record { pending = with_bit site.pair.sides.b.pending q; masked = site.pair.sides.b.masked })) A) (gone A (Bell q) at);
-        link = now.link;
-        sides = by_side _ (taken_side A (Bell q) at) (now.sides B);
-      }
-  lands_A (Pad i value) at =
-      record {
-        bridge = ap (with_writes (with_pads (bridge_for plan site) B (slice_set site.pair.sides.b.pads i value)) A) (gone A (Pad i value) at);
-        link = now.link;
-        sides = by_side _ (taken_side A (Pad i value) at) (now.sides B);
-      }
-  lands_A (Index q n) at =
-      record {
-        bridge =
-            ap (λ writes. with_writes (with_memory (bridge_for plan site) B (record { bytes = written (arrival_at (flying_at A (Index q n)).arrival) (arrival_bytes (flying_at A (Index q n)).arrival) (bytes_of (bridge_for plan site) B); promised = [] })) A writes) (gone A (Index q n) at)
-            ∙ ap (λ bytes. with_writes (with_memory (bridge_for plan site) B (record { bytes = bytes; promised = [] })) A (left_A (Index q n)))
-            (sym (one_stored (store_at (arrival_at (flying_at A (Index q n)).arrival) (arrival_bytes (flying_at A (Index q n)).arrival)) site.stores.b (memory_size plan B) (fit A (Index q n) at)))
-            ∙ ap (λ (sent : ℕ → List Entry). with_writes (with_writes (with_memory (bridge_for plan site) B (record { bytes = bytes_in (store_at (arrival_at (flying_at A (Index q n)).arrival) (arrival_bytes (flying_at A (Index q n)).arrival) ∷ site.stores.b) 0 (memory_size plan B); promised = [] })) A (left_A (Index q n))) B (writes_labelled plan B sent site.pair.sides.b.flight site.pair.sides.b.poked))
-            (sym (sent_kept site.pair.lanes.b q (record (site.pair.lanes.b q) { freed = n + 1 }) refl));
-        link = now.link;
-        sides = by_side _ (side_same devs plan k A _ _ _ _ _ (view_of site.pair A) _ now.queues.a (λ other. ap (λ r. record (view_of site.pair A other) { receives = r }) (updated_same receiver_of site.pair.lanes.b q (record (site.pair.lanes.b q) { freed = n + 1 }) refl other)) (taken_side A (Index q n) at)) (side_same devs plan k B _ _ _ _ _ (view_of site.pair B) _ now.queues.b (λ other. ap (λ s. record (view_of site.pair B other) { sends = s }) (updated_same sender_of site.pair.lanes.b q (record (site.pair.lanes.b q) { freed = n + 1 }) refl other)) (now.sides B));
-      }
+  taken : (side : Side) (label : Label) → slice_get (side_of now.site.pair side).flight place ≡ Some label
+      → PairStands devs plan k (record now.site { pair = with_side_part now.site.pair side (record (side_of now.site.pair side) { flight = remove (side_of now.site.pair side).flight place; poked = poked_left (side_of now.site.pair side).flight (side_of now.site.pair side).poked place label }) })
+      (record (kept now) { bridge = with_flight (kept now).bridge side (record { writes = remove (all_writes side) place; spare = at_side now.spare side }) })
+  taken A label at = record { bridge = ap (with_writes (bridge_for plan now.site) A) (gone A label at); link = now.link; sides = by_side _ (taken_side A label at) (now.sides B) }
+  taken B label at = record { bridge = ap (with_writes (bridge_for plan now.site) B) (gone B label at); link = now.link; sides = by_side _ (now.sides A) (taken_side B label at) }
 
-  land_may_A : (label : Label) (may : Bool) → slice_get site.pair.sides.a.flight place ≡ Some label → Follows devs plan k site (Land k A place) (land_made A label may) (landed A (Some (flying_at A label)) may)
-  land_may_A label false at = (refl, record { bridge = refl; link = now.link; sides = by_side _ (now.sides A) (now.sides B) })
-  land_may_A label true at = (ap answer.Landed (label-write plan A (entry_among (sent_in (view_of now.site.pair A)) label) (poked_at site.pair.sides.a.flight site.pair.sides.a.poked place) label), lands_A label at)
+  lands : (side : Side) (label : Label) → slice_get (side_of now.site.pair side).flight place ≡ Some label → Lands side label
+  lands side (Chunk q n part) at = bytes_come (taken side (Chunk q n part) at) (other_side side) _ (fit side (Chunk q n part) at)
+  lands side (Len q n) at = bytes_come (taken side (Len q n) at) (other_side side) _ (fit side (Len q n) at)
+  lands side (Ver q n) at = bytes_come (taken side (Ver q n) at) (other_side side) _ (fit side (Ver q n) at)
+  lands side (Raw window offset len) at = bytes_come (taken side (Raw window offset len) at) (other_side side) _ (fit side (Raw window offset len) at)
+  lands side (Flag q n) at = bytes_come (unseen (taken side (Flag q n) at) side q _ refl refl) (other_side side) _ (fit side (Flag q n) at)
+  lands side (Down q n) at = bytes_come (unseen (taken side (Down q n) at) side q _ refl refl) (other_side side) _ (fit side (Down q n) at)
+  lands side (Index q n) at = bytes_come (unseen (taken side (Index q n) at) (other_side side) q _ refl refl) (other_side side) _ (fit side (Index q n) at)
+  lands side (Bell q) at = bell_comes (taken side (Bell q) at) (other_side side) q
+  lands side (Pad i value) at = pad_comes (taken side (Pad i value) at) (other_side side) i value
 
-  land_found_A : (found : Option Label) → slice_get site.pair.sides.a.flight place ≡ found → Follows devs plan k site (Land k A place) (land_found plan site.pair A place found) (landed A (slice_get (all_writes A) place) (may_land (map flying_order (all_writes A)) place))
-  land_found_A None at =
-      subst (λ may. Follows devs plan k site (Land k A place) (land_found plan site.pair A place None) (landed A (slice_get (all_writes A) place) may)) (sym (may_not A (none_at A at)))
-      (subst (λ found. Follows devs plan k site (Land k A place) (land_found plan site.pair A place None) (landed A found false)) (sym (none_at A at)) (refl, record { bridge = refl; link = now.link; sides = by_side _ (now.sides A) (now.sides B) }))
-  land_found_A (Some label) at =
-      subst (λ found. Follows devs plan k site (Land k A place) (land_found plan site.pair A place (Some label)) (landed A found (may_land (map flying_order (all_writes A)) place))) (sym (get A label at))
-      (subst (λ orders. Follows devs plan k site (Land k A place) (land_found plan site.pair A place (Some label)) (landed A (Some (flying_at A label)) (may_land orders place))) (sym (orders-writes plan A (sent_of site.pair.lanes.a) site.pair.sides.a.flight site.pair.sides.a.poked))
-      (land_may_A label (may_land (map (order_of plan A) site.pair.sides.a.flight) place) at))
+  land_may : (side : Side) (label : Label) (may : Bool) → slice_get (side_of now.site.pair side).flight place ≡ Some label → Follows devs plan k now.site (Land k side place) (land_made side label may) (landed side (Some (flying_at side label)) may)
+  land_may side label false at = (refl, still_there side)
+  land_may side label true at =
+      (ap answer.Landed (label-write plan side (entry_among (sent_in (view_of now.site.pair side)) label) (poked_at (side_of now.site.pair side).flight (side_of now.site.pair side).poked place) label), lands side label at)
 
-  abbrev left_B : Label → List Flying
-  left_B label = writes_labelled plan B (sent_of site.pair.lanes.b) (remove site.pair.sides.b.flight place) (poked_left site.pair.sides.b.flight site.pair.sides.b.poked place label)
+  land_by : (side : Side) (found : Option Label) → slice_get (side_of now.site.pair side).flight place ≡ found
+      → Follows devs plan k now.site (Land k side place) (land_found plan now.site.pair side place found) (landed side (slice_get (all_writes side) place) (may_land (map flying_order (all_writes side)) place))
+  land_by side None at =
+      subst (λ may. Follows devs plan k now.site (Land k side place) (land_found plan now.site.pair side place None) (landed side (slice_get (all_writes side) place) may)) (sym (may_not side (none_at side at)))
+      (subst (λ found. Follows devs plan k now.site (Land k side place) (land_found plan now.site.pair side place None) (landed side found false)) (sym (none_at side at)) (refl, still_there side))
+  land_by side (Some label) at =
+      subst (λ found. Follows devs plan k now.site (Land k side place) (land_found plan now.site.pair side place (Some label)) (landed side found (may_land (map flying_order (all_writes side)) place))) (sym (get side label at))
+      (subst (λ orders. Follows devs plan k now.site (Land k side place) (land_found plan now.site.pair side place (Some label)) (landed side (Some (flying_at side label)) (may_land orders place)))
+      (sym (orders-writes plan side (sent_in (view_of now.site.pair side)) (side_of now.site.pair side).flight (side_of now.site.pair side).poked))
+      (land_may side label (may_land (map (order_of plan side) (side_of now.site.pair side).flight) place) at))
 
-  lands_B : (label : Label) → slice_get site.pair.sides.b.flight place ≡ Some label → Lands B label
-  lands_B (Chunk q n part) at =
-      record {
-        bridge =
-            ap (with_writes (with_memory (bridge_for plan site) A (record { bytes = written (arrival_at (flying_at B (Chunk q n part)).arrival) (arrival_bytes (flying_at B (Chunk q n part)).arrival) (bytes_of (bridge_for plan site) A); promised = [] })) B) (gone B (Chunk q n part) at)
-            ∙ ap (λ bytes. with_writes (with_memory (bridge_for plan site) A (record { bytes = bytes; promised = [] })) B (left_B (Chunk q n part))) (sym (one_stored (store_at (arrival_at (flying_at B (Chunk q n part)).arrival) (arrival_bytes (flying_at B (Chunk q n part)).arrival)) site.stores.a (memory_size plan A) (fit B (Chunk q n part) at)));
-        link = now.link;
-        sides = by_side _ (now.sides A) (taken_side B (Chunk q n part) at);
-      }
-  lands_B (Len q n) at =
-      record {
-        bridge =
-            ap (with_writes (with_memory (bridge_for plan site) A (record { bytes = written (arrival_at (flying_at B (Len q n)).arrival) (arrival_bytes (flying_at B (Len q n)).arrival) (bytes_of (bridge_for plan site) A); promised = [] })) B) (gone B (Len q n) at)
-            ∙ ap (λ bytes. with_writes (with_memory (bridge_for plan site) A (record { bytes = bytes; promised = [] })) B (left_B (Len q n))) (sym (one_stored (store_at (arrival_at (flying_at B (Len q n)).arrival) (arrival_bytes (flying_at B (Len q n)).arrival)) site.stores.a (memory_size plan A) (fit B (Len q n) at)));
-        link = now.link;
-        sides = by_side _ (now.sides A) (taken_side B (Len q n) at);
-      }
-  lands_B (Ver q n) at =
-      record {
-        bridge =
-            ap (with_writes (with_memory (bridge_for plan site) A (record { bytes = written (arrival_at (flying_at B (Ver q n)).arrival) (arrival_bytes (flying_at B (Ver q n)).arrival) (bytes_of (bridge_for plan site) A); promised = [] })) B) (gone B (Ver q n) at)
-            ∙ ap (λ bytes. with_writes (with_memory (bridge_for plan site) A (record { bytes = bytes; promised = [] })) B (left_B (Ver q n))) (sym (one_stored (store_at (arrival_at (flying_at B (Ver q n)).arrival) (arrival_bytes (flying_at B (Ver q n)).arrival)) site.stores.a (memory_size plan A) (fit B (Ver q n) at)));
-        link = now.link;
-        sides = by_side _ (now.sides A) (taken_side B (Ver q n) at);
-      }
-  lands_B (Raw window offset len) at =
-      record {
-        bridge =
-            ap (with_writes (with_memory (bridge_for plan site) A (record { bytes = written (arrival_at (flying_at B (Raw window offset len)).arrival) (arrival_bytes (flying_at B (Raw window offset len)).arrival) (bytes_of (bridge_for plan site) A); promised = [] })) B) (gone B (Raw window offset len) at)
-            ∙ ap (λ bytes. with_writes (with_memory (bridge_for plan site) A (record { bytes = bytes; promised = [] })) B (left_B (Raw window offset len))) (sym (one_stored (store_at (arrival_at (flying_at B (Raw window offset len)).arrival) (arrival_bytes (flying_at B (Raw window offset len)).arrival)) site.stores.a (memory_size plan A) (fit B (Raw window offset len) at)));
-        link = now.link;
-        sides = by_side _ (now.sides A) (taken_side B (Raw window offset len) at);
-      }
-  lands_B (Flag q n) at =
-      record {
-        bridge =
-            ap (with_writes (with_memory (bridge_for plan site) A (record { bytes = written (arrival_at (flying_at B (Flag q n)).arrival) (arrival_bytes (flying_at B (Flag q n)).arrival) (bytes_of (bridge_for plan site) A); promised = [] })) B) (gone B (Flag q n) at)
-            ∙ ap (λ bytes. with_writes (with_memory (bridge_for plan site) A (record { bytes = bytes; promised = [] })) B (left_B (Flag q n))) (sym (one_stored (store_at (arrival_at (flying_at B (Flag q n)).arrival) (arrival_bytes (flying_at B (Flag q n)).arrival)) site.stores.a (memory_size plan A) (fit B (Flag q n) at)))
-            ∙ ap (λ (sent : ℕ → List Entry). with_writes (with_memory (bridge_for plan site) A (record { bytes = bytes_in (store_at (arrival_at (flying_at B (Flag q n)).arrival) (arrival_bytes (flying_at B (Flag q n)).arrival) ∷ site.stores.a) 0 (memory_size plan A); promised = [] })) B (writes_labelled plan B sent (remove site.pair.sides.b.flight place) (poked_left site.pair.sides.b.flight site.pair.sides.b.poked place (Flag q n)))) (sym (sent_kept site.pair.lanes.b q (record (site.pair.lanes.b q) { flagged = (site.pair.lanes.b q).flagged + 1 }) refl));
-        link = now.link;
-        sides = by_side _ (side_same devs plan k A _ _ _ _ _ (view_of site.pair A) _ now.queues.a (λ other. ap (λ r. record (view_of site.pair A other) { receives = r }) (updated_same receiver_of site.pair.lanes.b q (record (site.pair.lanes.b q) { flagged = (site.pair.lanes.b q).flagged + 1 }) refl other)) (now.sides A)) (side_same devs plan k B _ _ _ _ _ (view_of site.pair B) _ now.queues.b (λ other. ap (λ s. record (view_of site.pair B other) { sends = s }) (updated_same sender_of site.pair.lanes.b q (record (site.pair.lanes.b q) { flagged = (site.pair.lanes.b q).flagged + 1 }) refl other)) (taken_side B (Flag q n) at));
-      }
-  lands_B (Down q n) at =
-      record {
-        bridge =
-            ap (with_writes (with_memory (bridge_for plan site) A (record { bytes = written (arrival_at (flying_at B (Down q n)).arrival) (arrival_bytes (flying_at B (Down q n)).arrival) (bytes_of (bridge_for plan site) A); promised = [] })) B) (gone B (Down q n) at)
-            ∙ ap (λ bytes. with_writes (with_memory (bridge_for plan site) A (record { bytes = bytes; promised = [] })) B (left_B (Down q n))) (sym (one_stored (store_at (arrival_at (flying_at B (Down q n)).arrival) (arrival_bytes (flying_at B (Down q n)).arrival)) site.stores.a (memory_size plan A) (fit B (Down q n) at)))
-            ∙ ap (λ (sent : ℕ → List Entry). with_writes (with_memory (bridge_for plan site) A (record { bytes = bytes_in (store_at (arrival_at (flying_at B (Down q n)).arrival) (arrival_bytes (flying_at B (Down q n)).arrival) ∷ site.stores.a) 0 (memory_size plan A); promised = [] })) B (writes_labelled plan B sent (remove site.pair.sides.b.flight place) (poked_left site.pair.sides.b.flight site.pair.sides.b.poked place (Down q n)))) (sym (sent_kept site.pair.lanes.b q (record (site.pair.lanes.b q) { flagged = (site.pair.lanes.b q).flagged + 1 }) refl));
-        link = now.link;
-        sides = by_side _ (side_same devs plan k A _ _ _ _ _ (view_of site.pair A) _ now.queues.a (λ other. ap (λ r. record (view_of site.pair A other) { receives = r }) (updated_same receiver_of site.pair.lanes.b q (record (site.pair.lanes.b q) { flagged = (site.pair.lanes.b q).flagged + 1 }) refl other)) (now.sides A)) (side_same devs plan k B _ _ _ _ _ (view_of site.pair B) _ now.queues.b (λ other. ap (λ s. record (view_of site.pair B other) { sends = s }) (updated_same sender_of site.pair.lanes.b q (record (site.pair.lanes.b q) { flagged = (site.pair.lanes.b q).flagged + 1 }) refl other)) (taken_side B (Down q n) at));
-      }
-  lands_B (Bell q) at =
-      record {
-        bridge = ap (with_writes (with_bells (bridge_for plan site) A (record { pending = with_bit site.pair.sides.a.pending q; masked = site.pair.sides.a.masked })) B) (gone B (Bell q) at);
-        link = now.link;
-        sides = by_side _ (now.sides A) (taken_side B (Bell q) at);
-      }
-  lands_B (Pad i value) at =
-      record {
-        bridge = ap (with_writes (with_pads (bridge_for plan site) A (slice_set site.pair.sides.a.pads i value)) B) (gone B (Pad i value) at);
-        link = now.link;
-        sides = by_side _ (now.sides A) (taken_side B (Pad i value) at);
-      }
-  lands_B (Index q n) at =
-      record {
-        bridge =
-            ap (λ writes. with_writes (with_memory (bridge_for plan site) A (record { bytes = written (arrival_at (flying_at B (Index q n)).arrival) (arrival_bytes (flying_at B (Index q n)).arrival) (bytes_of (bridge_for plan site) A); promised = [] })) B writes) (gone B (Index q n) at)
-            ∙ ap (λ bytes. with_writes (with_memory (bridge_for plan site) A (record { bytes = bytes; promised = [] })) B (left_B (Index q n)))
-            (sym (one_stored (store_at (arrival_at (flying_at B (Index q n)).arrival) (arrival_bytes (flying_at B (Index q n)).arrival)) site.stores.a (memory_size plan A) (fit B (Index q n) at)))
-            ∙ ap (λ (sent : ℕ → List Entry). with_writes (with_writes (with_memory (bridge_for plan site) A (record { bytes = bytes_in (store_at (arrival_at (flying_at B (Index q n)).arrival) (arrival_bytes (flying_at B (Index q n)).arrival) ∷ site.stores.a) 0 (memory_size plan A); promised = [] })) B (left_B (Index q n))) A (writes_labelled plan A sent site.pair.sides.a.flight site.pair.sides.a.poked))
-            (sym (sent_kept site.pair.lanes.a q (record (site.pair.lanes.a q) { freed = n + 1 }) refl));
-        link = now.link;
-        sides = by_side _ (side_same devs plan k A _ _ _ _ _ (view_of site.pair A) _ now.queues.a (λ other. ap (λ s. record (view_of site.pair A other) { sends = s }) (updated_same sender_of site.pair.lanes.a q (record (site.pair.lanes.a q) { freed = n + 1 }) refl other)) (now.sides A)) (side_same devs plan k B _ _ _ _ _ (view_of site.pair B) _ now.queues.b (λ other. ap (λ r. record (view_of site.pair B other) { receives = r }) (updated_same receiver_of site.pair.lanes.a q (record (site.pair.lanes.a q) { freed = n + 1 }) refl other)) (taken_side B (Index q n) at));
-      }
-
-  land_may_B : (label : Label) (may : Bool) → slice_get site.pair.sides.b.flight place ≡ Some label → Follows devs plan k site (Land k B place) (land_made B label may) (landed B (Some (flying_at B label)) may)
-  land_may_B label false at = (refl, record { bridge = refl; link = now.link; sides = by_side _ (now.sides A) (now.sides B) })
-  land_may_B label true at = (ap answer.Landed (label-write plan B (entry_among (sent_in (view_of now.site.pair B)) label) (poked_at site.pair.sides.b.flight site.pair.sides.b.poked place) label), lands_B label at)
-
-  land_found_B : (found : Option Label) → slice_get site.pair.sides.b.flight place ≡ found → Follows devs plan k site (Land k B place) (land_found plan site.pair B place found) (landed B (slice_get (all_writes B) place) (may_land (map flying_order (all_writes B)) place))
-  land_found_B None at =
-      subst (λ may. Follows devs plan k site (Land k B place) (land_found plan site.pair B place None) (landed B (slice_get (all_writes B) place) may)) (sym (may_not B (none_at B at)))
-      (subst (λ found. Follows devs plan k site (Land k B place) (land_found plan site.pair B place None) (landed B found false)) (sym (none_at B at)) (refl, record { bridge = refl; link = now.link; sides = by_side _ (now.sides A) (now.sides B) }))
-  land_found_B (Some label) at =
-      subst (λ found. Follows devs plan k site (Land k B place) (land_found plan site.pair B place (Some label)) (landed B found (may_land (map flying_order (all_writes B)) place))) (sym (get B label at))
-      (subst (λ orders. Follows devs plan k site (Land k B place) (land_found plan site.pair B place (Some label)) (landed B (Some (flying_at B label)) (may_land orders place))) (sym (orders-writes plan B (sent_of site.pair.lanes.b) site.pair.sides.b.flight site.pair.sides.b.poked))
-      (land_may_B label (may_land (map (order_of plan B) site.pair.sides.b.flight) place) at))
-
-  pub land_follows : (side : Side) → Follows devs plan k site (Land k side place) (land_step plan site.pair side place) (land_move kept side place)
-  land_follows A = land_found_A (slice_get site.pair.sides.a.flight place) refl
-  land_follows B = land_found_B (slice_get site.pair.sides.b.flight place) refl
+  pub land_follows : (side : Side) → Follows devs plan k now.site (Land k side place) (land_step plan now.site.pair side place) (land_move (kept now) side place)
+  land_follows A = land_by A (slice_get now.site.pair.sides.a.flight place) refl
+  land_follows B = land_by B (slice_get now.site.pair.sides.b.flight place) refl

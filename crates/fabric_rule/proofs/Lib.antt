@@ -1,7 +1,9 @@
+pub mod Arrivals
 pub mod Aside
 pub mod Beginning
 pub mod Begun
 pub mod BothReadings
+pub mod Changes
 pub mod Copying
 pub mod Counts
 pub mod EachStep

@@ -247,15 +247,16 @@ module _ (devs : List DevPlan) (plan : PairPlan) (k : ℕ) (site : Site) (pages 
   not_forgotten : (side : Side) → is_down site.pair.link.state ≡ false → has_forgotten site.pair.link side ≡ false
   not_forgotten side down = ap (λ b. b && at_side site.pair.link.clean side) down
 
+  not_forgetting : (side : Side) → is_down site.pair.link.state ≡ false
+      → SideStands devs plan k side false false (side_of site.pair side).joined (side_of site.pair side).flight (side_of site.pair side).poked (view_of site.pair side) (at_side queues side)
+  not_forgetting side down = side_by devs plan k side _ false _ false _ _ _ _ _ down (not_forgotten side down) (sides side)
+
   broken : (refusal : Option LinkRefusal) → cut_refusal site.pair.link ≡ refusal
       → Follows devs plan k site (Break k) (decided site.pair (answer_of_refusal refusal) Done (record site.pair { link = cut_link site.pair.link })) (moved refusal Done (with_link state.bridge (cut_link site.pair.link)))
-  broken None passed = (refl, record { bridge = refl; link = λ side down. absurd (false≢true down); sides = by_side _ (kept A) (kept B) })
+  broken None passed = (refl, record { bridge = refl; link = λ side down. absurd (false≢true down); sides = by_side _ (not_forgetting A up) (not_forgetting B up) })
     where
       up : is_down site.pair.link.state ≡ false
       up = not_down_up site.pair.link.state (passed_where (is_up site.pair.link.state) NotUp passed)
-
-      kept : (side : Side) → SideStands devs plan k side false false (side_of site.pair side).joined (side_of site.pair side).flight (side_of site.pair side).poked (view_of site.pair side) (at_side queues side)
-      kept side = side_by devs plan k side _ false _ false _ _ _ _ _ up (not_forgotten side up) (sides side)
   broken (Some refusal) passed = (same_refusal refusal, record { bridge = refl; link = link; sides = sides })
 
   pub break_follows : Follows devs plan k site (Break k) (break_step site.pair) (break_move state)
@@ -271,13 +272,10 @@ module _ (devs : List DevPlan) (plan : PairPlan) (k : ℕ) (site : Site) (pages 
       → Follows devs plan k site (DropDone k)
       (decided site.pair (answer_of_refusal refusal) Done (record site.pair { link = dropped_link site.pair.link; sides = record { a = emptied_side site.pair.sides.a; b = emptied_side site.pair.sides.b } }))
       (moved refusal Done (dropped state.bridge))
-  all_dropped None passed = (refl, record { bridge = refl; link = by_side _ (λ down no. absurd (false≢true no)) (λ down no. absurd (false≢true no)); sides = by_side _ (emptied A (view_of site.pair A) (kept A)) (emptied B (view_of site.pair B) (kept B)) })
+  all_dropped None passed = (refl, record { bridge = refl; link = by_side _ (λ down no. absurd (false≢true no)) (λ down no. absurd (false≢true no)); sides = by_side _ (emptied A (view_of site.pair A) (not_forgetting A closing)) (emptied B (view_of site.pair B) (not_forgetting B closing)) })
     where
       closing : is_down site.pair.link.state ≡ false
       closing = not_down_closing site.pair.link.state (passed_where (is_closing site.pair.link.state) NotClosing passed)
-
-      kept : (side : Side) → SideStands devs plan k side false false (side_of site.pair side).joined (side_of site.pair side).flight (side_of site.pair side).poked (view_of site.pair side) (at_side queues side)
-      kept side = side_by devs plan k side _ false _ false _ _ _ _ _ closing (not_forgotten side closing) (sides side)
   all_dropped (Some refusal) passed = (same_refusal refusal, record { bridge = refl; link = link; sides = sides })
 
   pub drop_follows : Follows devs plan k site (DropDone k) (drop_step site.pair) (drop_move state)

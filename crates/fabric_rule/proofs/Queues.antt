@@ -1,22 +1,20 @@
 -- A step on one queue of one side: the other queues, and the other side, stand as they did.
 use Rattle.std.proofs.Common.{◌≡◌, ℕ, ◌<◌, Bool, true, false, List, refl, sym, ap, ◌∙◌, subst, inl, inr}
-use Rattle.std.specs.Prelude.{slice_index_or, slice_set, set}
+use Rattle.std.specs.Prelude.{slice_index_or, slice_set}
 use Rattle.std.proofs.lemmas.Bool.{cases_eq}
 use Rattle.std.proofs.lemmas.List.{set-get_or, get_or-set_same, get_or-set_other, length-set}
-use Rattle.step_kinds.specs.Sides.{other_side}
 use Rattle.step_kinds.specs.declared.names.Side.{Side}
 use Rattle.step_kinds.specs.declared.names.Side.TheVariants.{A, B}
 use Rattle.step_kinds.specs.declared.plan.DevPlan.{DevPlan}
 use Rattle.step_kinds.specs.declared.plan.PairPlan.{PairPlan}
 use Rattle.step_kinds.specs.declared.steps.Label.{Label}
 use Rattle.lane_model.specs.Lane.{Entry}
-use Rattle.plan_model.specs.Both.{Both, at_side, with_side}
 use Rattle.plan_model.specs.Plans.{side_plan}
-use Rattle.ledger_model.specs.Ledger.{DevPart, LanePart, PairPart, lane_to, updated, with_lane}
-use Rattle.fabric_rule.specs.InPlace.{FlightInPlace, receiver_of, sender_of}
+use Rattle.ledger_model.specs.Ledger.{DevPart, LanePart, updated}
+use Rattle.fabric_rule.specs.InPlace.{FlightInPlace}
 use Rattle.fabric_rule.specs.Parts.{PairState, QueuePart, no_queue, queue_of, with_queue}
-use Rattle.fabric_rule.specs.StandsFor.{QueueStands, QueueView, SideStands, has_forgotten, port_for, sent_in, sent_of, view_of, writes_labelled}
-use Rattle.fabric_rule.proofs.Follows.{AllSides, by_side, same_at, updated_here, updated_other, updated_same}
+use Rattle.fabric_rule.specs.StandsFor.{QueueStands, QueueView, SideStands, port_for, sent_in, sent_of, writes_labelled}
+use Rattle.fabric_rule.proofs.Follows.{same_at, updated_same}
 
 module _ (devs : List DevPlan) (plan : PairPlan) (k : ℕ) (side : Side) (down forgotten : Bool) (joined : ℕ) where
   -- the same side by views that are the same
@@ -50,10 +48,6 @@ module _ (devs : List DevPlan) (plan : PairPlan) (k : ℕ) (side : Side) (down f
 pub sent_kept : (lanes : ℕ → LanePart) (queue : ℕ) (lane : LanePart) → lane.sent ≡ (lanes queue).sent → sent_of (updated lanes queue lane) ≡ sent_of lanes
 sent_kept lanes queue lane same = same_at (updated_same (λ (lane : LanePart). lane.sent) lanes queue lane same)
 
-pub flight_kept : (plan : PairPlan) (side : Side) (down : Bool) (sent sent' : ℕ → List Entry) (flight : List Label) (poked : List (List ℕ)) → sent' ≡ sent
-    → FlightInPlace plan side down sent flight poked (writes_labelled plan side sent flight poked) → FlightInPlace plan side down sent' flight poked (writes_labelled plan side sent' flight poked)
-flight_kept plan side down sent sent' flight poked same h = subst (λ (sent : ℕ → List Entry). FlightInPlace plan side down sent flight poked (writes_labelled plan side sent flight poked)) (sym same) h
-
 -- the same queue, set again
 pub set_again : (state : PairState) (side : Side) (queue : ℕ) → with_queue state side queue (queue_of state side queue) ≡ state
 set_again state A queue = ap (λ parts. record state { queues = record { a = parts; b = state.queues.b } }) (set-get_or state.queues.a queue no_queue)
@@ -70,29 +64,3 @@ queue_is devs plan k side queue forgotten remembered view part same h =
 pub other_dev : (plan : PairPlan) (side : Side) (queue : ℕ) (forgotten : Bool) (view : QueueView) (dev : DevPart) (entry : Entry) → port_for plan side queue forgotten view entry ≡ port_for plan side queue forgotten (record view { dev = dev }) entry
 other_dev plan side queue true view dev entry = refl
 other_dev plan side queue false view dev entry = refl
-
--- A lane as its receiver changes it
-
-module _ (devs : List DevPlan) (plan : PairPlan) (k : ℕ) (pair : PairPart) (queues : Both (List QueuePart)) (sides : AllSides devs plan k pair queues) where
-  abbrev received : Side → ℕ → LanePart → PairPart
-  received side queue lane = with_lane pair (other_side side) queue lane
-
-  pub received_sides : (side : Side) (queue : ℕ) (lane : LanePart) (part : QueuePart) → queue < (side_plan plan side).queues → sender_of lane ≡ sender_of (lane_to pair side queue)
-      → QueueStands devs plan k side queue (has_forgotten pair.link side) (record (view_of pair side queue) { receives = receiver_of lane }) part
-      → AllSides devs plan k (received side queue lane) (with_side queues side (slice_set (at_side queues side) queue part))
-  received_sides A queue lane part among same own =
-      by_side _
-      (side_at devs plan k A _ _ _ _ _ _ _ (view_of pair A) _ queues.a queue part among
-      (λ other ne. ap (λ (l : LanePart). record (view_of pair A other) { receives = receiver_of l }) (updated_other pair.lanes.b queue lane other ne)) (sides A).in_flight
-      (subst (λ (v : QueueView). QueueStands devs plan k A queue (has_forgotten pair.link A) v part)
-      (sym (ap (λ (l : LanePart). record (view_of pair A queue) { receives = receiver_of l }) (updated_here pair.lanes.b queue lane))) own) (sides A))
-      (side_same devs plan k B _ _ _ _ _ (view_of pair B) _ queues.b
-      (λ other. ap (λ s. record (view_of pair B other) { sends = s }) (updated_same sender_of pair.lanes.b queue lane same other)) (sides B))
-  received_sides B queue lane part among same own =
-      by_side _
-      (side_same devs plan k A _ _ _ _ _ (view_of pair A) _ queues.a
-      (λ other. ap (λ s. record (view_of pair A other) { sends = s }) (updated_same sender_of pair.lanes.a queue lane same other)) (sides A))
-      (side_at devs plan k B _ _ _ _ _ _ _ (view_of pair B) _ queues.b queue part among
-      (λ other ne. ap (λ (l : LanePart). record (view_of pair B other) { receives = receiver_of l }) (updated_other pair.lanes.a queue lane other ne)) (sides B).in_flight
-      (subst (λ (v : QueueView). QueueStands devs plan k B queue (has_forgotten pair.link B) v part)
-      (sym (ap (λ (l : LanePart). record (view_of pair B queue) { receives = receiver_of l }) (updated_here pair.lanes.a queue lane))) own) (sides B))

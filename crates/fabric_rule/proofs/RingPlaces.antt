@@ -7,7 +7,6 @@ use Rattle.std.proofs.lemmas.Nat.{le-div}
 use Rattle.std.proofs.lemmas.List.{length-append, length-replicate}
 use Rattle.step_kinds.specs.Sides.{other_side}
 use Rattle.step_kinds.specs.declared.names.Side.{Side}
-use Rattle.step_kinds.specs.declared.names.Side.TheVariants.{A}
 use Rattle.step_kinds.specs.declared.plan.PairPlan.{PairPlan}
 use Rattle.lane_model.specs.Lane.{count_from, version_of}
 use Rattle.ring_geometry.specs.Geometry.{Layout, HasRing, IsPlaced, entries_of, frame_size, header_of, index_of, max_payload_of, ring_bytes, slot_of, window_of}

@@ -1,10 +1,9 @@
 -- A write of a ring that a side posts, through a window that the peer has or lacks.
-use Rattle.std.proofs.Common.{◌≡◌, ℕ, ◌+◌, ◌-◌, ◌*◌, ◌/◌, ◌%◌, ◌<◌, ◌≤◌, Bool, true, false, List, [], ◌∷◌, ◌++◌, length, min, drop, refl, sym, ap, ◌∙◌, subst, inl, inr, arith}
+use Rattle.std.proofs.Common.{◌≡◌, ℕ, ◌+◌, ◌-◌, ◌*◌, ◌/◌, ◌%◌, ◌<◌, ◌≤◌, Bool, true, false, List, [], ◌∷◌, ◌++◌, length, min, drop, refl, sym, ap, ◌∙◌, subst, arith}
 use Rattle.std.specs.Prelude.{if◌then◌else◌, nat_lt, slice_index_or}
-use Rattle.std.specs.List.{AllByRecursion}
-use Rattle.std.proofs.lemmas.Bool.{cases_eq, ltb-true}
+use Rattle.std.proofs.lemmas.Bool.{ltb-true}
 use Rattle.std.proofs.lemmas.Bool.Decides.{nat_tests}
-use Rattle.std.proofs.lemmas.List.{append-nil, length-take, length-drop}
+use Rattle.std.proofs.lemmas.List.{length-take, length-drop}
 use Rattle.step_kinds.specs.Sides.{other_side}
 use Rattle.step_kinds.specs.declared.names.Side.{Side}
 use Rattle.step_kinds.specs.declared.names.Side.TheVariants.{A, B}
@@ -14,54 +13,28 @@ use Rattle.step_kinds.specs.declared.steps.Label.{Label}
 use Rattle.step_kinds.specs.declared.steps.Label.TheVariants.{Chunk, Len, Ver, Flag, Down, Bell, Index, Pad, Raw}
 use Rattle.lane_model.specs.Lane.{Entry, GoesDown, bytes_of, chunk_of, chunk_size, chunks_in, done, left_of}
 use Rattle.plan_model.specs.DeclaredPlans.{IsPair, SizesFit}
+use Rattle.plan_model.specs.Both.{at_side}
 use Rattle.plan_model.specs.Link.{is_up}
 use Rattle.plan_model.specs.Plans.{side_plan}
 use Rattle.plan_model.specs.Sizes.{header_bytes, layout_of, layout_to}
 use Rattle.ring_geometry.specs.Geometry.{entries_of, header_of, index_of, max_payload_of, slot_of, window_of}
 use Rattle.byte_model.specs.Addresses.{peer_address}
 use Rattle.byte_model.specs.Headers.{flags_offset, len_offset, version_bytes, word_bytes}
-use Rattle.byte_model.specs.RingWrites.{entry_write}
 use Rattle.byte_model.proofs.Facade.{length-word_bytes}
-use Rattle.ledger_model.specs.Ledger.{PairPart, LanePart, side_of, updated, posts, with_side_part}
+use Rattle.ledger_model.specs.Ledger.{PairPart, side_of, posts, with_side_part}
 use Rattle.ledger_model.specs.Reading.{has_window}
-use Rattle.memory_model.specs.Memory.{Site}
 use Rattle.bridge_pair.specs.Bridge.{Bridge, flight_of, memory_size, with_flight}
-use Rattle.bridge_pair.specs.Flights.{Flying, flying_of}
+use Rattle.bridge_pair.specs.Flights.{flying_of}
 use Rattle.bridge_pair.specs.Writes.{PostedWrite, bell_write, memory_write}
 use Rattle.frame_ring.specs.Seen.{ring_posted, index_posted}
 use Rattle.posted_queue.specs.Flight.{given_back, posted}
-use Rattle.fabric_rule.specs.InPlace.{FlightInPlace, HaveBytes, IsBegun, IsWriteOf, LiesIn}
-use Rattle.fabric_rule.specs.Parts.{PairState}
-use Rattle.fabric_rule.specs.StandsFor.{PairStands, bridge_for, entry_among, flying_labelled, raw_bytes, sent_of, write_through, writes_labelled}
-use Rattle.fabric_rule.proofs.Flights.{SentGrows, all_weaker, among-grows, begun-grows, writes-same}
-use Rattle.fabric_rule.proofs.Follows.{by_side, updated_here, updated_other}
-use Rattle.fabric_rule.proofs.Links.{not_down_up}
-use Rattle.fabric_rule.proofs.OneQueue.{Standing, state}
-use Rattle.fabric_rule.proofs.Posting.{one_more_plain, side_posts, with_writes}
+use Rattle.fabric_rule.specs.InPlace.{HaveBytes, IsBegun, IsWriteOf, LiesIn}
+use Rattle.fabric_rule.specs.StandsFor.{PairStands, write_of, flying_labelled, raw_bytes, sent_of}
+use Rattle.fabric_rule.proofs.Follows.{two_same}
+use Rattle.fabric_rule.proofs.OneQueue.{stands_now, Standing, kept}
+use Rattle.fabric_rule.proofs.Posting.{posts_one}
 use Rattle.fabric_rule.proofs.RingPlaces.{RingLies, fields_lie, in_window, lies_of}
 use Rattle.fabric_rule.proofs.WhatIsRead.{peer_fits}
-
--- Lanes whose entries grow
-
-pub grows_at : (lanes : ℕ → LanePart) (queue : ℕ) (lane : LanePart) (more : List Entry) → lane.sent ≡ (lanes queue).sent ++ more → SentGrows (sent_of lanes) (sent_of (updated lanes queue lane))
-grows_at lanes queue lane more grows other = elim (cases_eq other queue) [
-  | inl e ↦
-      (more, subst (λ (other : ℕ). sent_of (updated lanes queue lane) other ≡ sent_of lanes other ++ more) (sym e) (ap (λ (lane : LanePart). lane.sent) (updated_here lanes queue lane) ∙ grows))
-  | inr ne ↦ ([], ap (λ (lane : LanePart). lane.sent) (updated_other lanes queue lane other ne) ∙ sym (append-nil (sent_of lanes other)))
-]
-
-module _ (plan : PairPlan) (side : Side) (sent sent' : ℕ → List Entry) (grows : SentGrows sent sent') (flight : List Label) (poked : List (List ℕ)) where
-  pub writes_grow : AllByRecursion (IsBegun sent) flight → writes_labelled plan side sent' flight poked ≡ writes_labelled plan side sent flight poked
-  writes_grow begun = writes-same plan side sent sent' flight poked (all_weaker (IsBegun sent) (λ label. entry_among sent' label ≡ entry_among sent label) (among-grows sent sent' grows) flight begun)
-
-  pub flight_grows : (down : Bool) → FlightInPlace plan side down sent flight poked (writes_labelled plan side sent flight poked) → FlightInPlace plan side down sent' flight poked (writes_labelled plan side sent' flight poked)
-  flight_grows down h =
-      record {
-        begun = all_weaker (IsBegun sent) (IsBegun sent') (begun-grows sent sent' grows) flight h.begun;
-        raws = h.raws;
-        places = subst (AllByRecursion (λ (flying : Flying). LiesIn (memory_size plan (other_side side)) flying.arrival)) (sym (writes_grow h.begun)) h.places;
-        none = h.none;
-      }
 
 -- Places of a ring's writes at the peer
 
@@ -118,12 +91,9 @@ some_window windows some = grind (arith, nat_tests)
 
 -- The write goes out
 
-module _ (devs : List DevPlan) (plan : PairPlan) (k : ℕ) (now : Standing devs plan k) where
-  abbrev site : Site
-  site = now.site
-
-  abbrev kept : PairState
-  kept = state devs plan k now
+module _ {devs : List DevPlan} {plan : PairPlan} {k : ℕ} (now : Standing devs plan k) where
+  abbrev sent_by : Side → ℕ → List Entry
+  sent_by side = sent_of (at_side now.site.pair.lanes side)
 
   abbrev pair_posts : Side → Label → Bool → Bool → PairPart
   pair_posts side label reached up =
@@ -132,166 +102,60 @@ module _ (devs : List DevPlan) (plan : PairPlan) (k : ℕ) (now : Standing devs 
   abbrev bridge_posts : Side → PostedWrite → Bool → Bool → Bridge
   bridge_posts side write reached up =
       if reached
-      then with_flight kept.bridge side (if up then posted (flight_of kept.bridge side) (flying_of plan side write) else given_back (flight_of kept.bridge side) 1)
-      else with_flight kept.bridge side (given_back (flight_of kept.bridge side) 1)
+      then with_flight (kept now).bridge side (if up then posted (flight_of (kept now).bridge side) (flying_of plan side write) else given_back (flight_of (kept now).bridge side) 1)
+      else with_flight (kept now).bridge side (given_back (flight_of (kept now).bridge side) 1)
 
   abbrev Posts : Side → Label → PostedWrite → Bool → Bool → Type 0
-  Posts side label write reached up = PairStands devs plan k (record now.site { pair = pair_posts side label reached up }) (record kept { bridge = bridge_posts side write reached up })
+  Posts side label write reached up = PairStands devs plan k (record now.site { pair = pair_posts side label reached up }) (record (kept now) { bridge = bridge_posts side write reached up })
 
-  posts_A : (label : Label) (write : PostedWrite) (reached up : Bool) → flying_labelled plan A (sent_of site.pair.lanes.a) (raw_bytes label []) label ≡ flying_of plan A write → IsBegun (sent_of site.pair.lanes.a) label → HaveBytes (label ∷ []) []
-      → (reached ≡ true → LiesIn (memory_size plan B) (flying_of plan A write).arrival) → is_up site.pair.link.state ≡ up → Posts A label write reached up
-  posts_A label write false up same begun ring place is = record { bridge = refl; link = now.link; sides = by_side _ (now.sides A) (now.sides B) }
-  posts_A label write true false same begun ring place is = record { bridge = refl; link = now.link; sides = by_side _ (now.sides A) (now.sides B) }
-  posts_A label write true true same begun ring place is =
-      record {
-        bridge =
-            ap (λ flying. with_writes (bridge_for plan site) A (writes_labelled plan A (sent_of site.pair.lanes.a) site.pair.sides.a.flight site.pair.sides.a.poked ++ flying ∷ [])) (sym same)
-            ∙ ap (with_writes (bridge_for plan site) A) (one_more_plain plan A (sent_of site.pair.lanes.a) site.pair.sides.a.flight site.pair.sides.a.poked label (now.sides A).in_flight.raws);
-        link = now.link;
-        sides = by_side _ (side_posts devs plan k A _ _ _ _ _ _ _ label (now.sides A) (not_down_up site.pair.link.state is) begun (subst (λ (flying : Flying). LiesIn (memory_size plan B) flying.arrival) (sym same) (place refl)) ring) (now.sides B);
-      }
+  -- a write that is lost gives its promise back
+  lost : (side : Side) → PairStands devs plan k now.site (record (kept now) { bridge = with_flight (kept now).bridge side (given_back (flight_of (kept now).bridge side) 1) })
+  lost A = record { bridge = refl; link = now.link; sides = now.sides }
+  lost B = record { bridge = refl; link = now.link; sides = now.sides }
 
-  pub index_posts_A : (queue n : ℕ) → queue < plan.a.queues → SizesFit plan
-      → PairStands devs plan k (record now.site { pair = if has_window plan A (Index queue n) then posts now.site.pair A (Index queue n) else now.site.pair }) (record kept { bridge = index_posted kept.bridge A queue n })
-  index_posts_A queue n among fits =
-      posts_A (Index queue n) (memory_write (Index queue n) (window_of (layout_of plan A queue)) (index_of (layout_of plan A queue)) (word_bytes (n % entries_of (layout_to plan A queue)))) (has_window plan A (Index queue n)) (is_up site.pair.link.state) refl tt tt
-      (λ reached. index_place plan A queue now.declared among fits reached (n % entries_of (layout_to plan A queue))) refl
+  posts_out : (side : Side) (label : Label) (write : PostedWrite) (reached up : Bool) → flying_labelled plan side (sent_by side) (raw_bytes label []) label ≡ flying_of plan side write → IsBegun (sent_by side) label → HaveBytes (label ∷ []) []
+      → (reached ≡ true → LiesIn (memory_size plan (other_side side)) (flying_of plan side write).arrival) → is_up now.site.pair.link.state ≡ up → Posts side label write reached up
+  posts_out side label write false up same begun ring place is = lost side
+  posts_out side label write true false same begun ring place is = lost side
+  posts_out side label write true true same begun ring place is = posts_one (stands_now now) is side label (flying_of plan side write) _ same begun (place refl) ring
 
-  pub label_posts_A : (queue n : ℕ) (entry : Entry) (label : Label) → queue < plan.a.queues → SizesFit plan → n < length (sent_of site.pair.lanes.a queue) → entry ≡ slice_index_or (sent_of site.pair.lanes.a queue) n GoesDown
-      → length (bytes_of entry) ≤ max_payload_of (layout_of plan A queue) → IsWriteOf queue n entry label
-      → PairStands devs plan k (record now.site { pair = if has_window plan A label then posts now.site.pair A label else now.site.pair }) (record kept { bridge = ring_posted kept.bridge A entry label })
-  label_posts_A queue n entry (Chunk q m part) among fits begun is short own =
-      posts_A (Chunk q m part) (write_through (Chunk q m part) (entry_write plan A entry (Chunk q m part))) (has_window plan A (Chunk q m part)) (is_up site.pair.link.state)
-      (ap (λ entry. flying_of plan A (write_through (Chunk q m part) (entry_write plan A entry (Chunk q m part)))) (among_is m own.0 own.1))
-      (begun_is m own.0 own.1) tt (λ reached. chunk_place plan A q now.declared (subst (λ q. q < plan.a.queues) (sym own.0) among) fits reached m part (bytes_of entry) own.2 (subst (λ q. length (bytes_of entry) ≤ max_payload_of (layout_of plan A q)) (sym own.0) short)) refl
-    where
-      among_is : (m : ℕ) → q ≡ queue → m ≡ n → slice_index_or (sent_of site.pair.lanes.a q) m GoesDown ≡ entry
-      among_is m on at = ap (λ q. slice_index_or (sent_of site.pair.lanes.a q) m GoesDown) on ∙ ap (λ m. slice_index_or (sent_of site.pair.lanes.a queue) m GoesDown) at ∙ sym is
+  pub index_posts : (side : Side) (queue n : ℕ) → queue < (side_plan plan side).queues → SizesFit plan
+      → PairStands devs plan k (record now.site { pair = if has_window plan side (Index queue n) then posts now.site.pair side (Index queue n) else now.site.pair }) (record (kept now) { bridge = index_posted (kept now).bridge side queue n })
+  index_posts side queue n among fits =
+      posts_out side (Index queue n) (memory_write (Index queue n) (window_of (layout_of plan side queue)) (index_of (layout_of plan side queue)) (word_bytes (n % entries_of (layout_to plan side queue)))) (has_window plan side (Index queue n)) (is_up now.site.pair.link.state) refl tt tt
+      (λ reached. index_place plan side queue now.declared among fits reached (n % entries_of (layout_to plan side queue))) refl
 
-      begun_is : (m : ℕ) → q ≡ queue → m ≡ n → m < length (sent_of site.pair.lanes.a q)
-      begun_is m on at = subst (λ q. m < length (sent_of site.pair.lanes.a q)) (sym on) (subst (λ m. m < length (sent_of site.pair.lanes.a queue)) (sym at) begun)
-  label_posts_A queue n entry (Len q m) among fits begun is short own =
-      posts_A (Len q m) (write_through (Len q m) (entry_write plan A entry (Len q m))) (has_window plan A (Len q m)) (is_up site.pair.link.state)
-      (ap (λ entry. flying_of plan A (write_through (Len q m) (entry_write plan A entry (Len q m)))) (among_is m own.0 own.1))
-      (begun_is m own.0 own.1) tt (λ reached. len_place plan A q now.declared (subst (λ q. q < plan.a.queues) (sym own.0) among) fits reached m (length (bytes_of entry))) refl
-    where
-      among_is : (m : ℕ) → q ≡ queue → m ≡ n → slice_index_or (sent_of site.pair.lanes.a q) m GoesDown ≡ entry
-      among_is m on at = ap (λ q. slice_index_or (sent_of site.pair.lanes.a q) m GoesDown) on ∙ ap (λ m. slice_index_or (sent_of site.pair.lanes.a queue) m GoesDown) at ∙ sym is
+  peer_windows : (side : Side) → 0 < (side_plan plan (other_side side)).windows
+  peer_windows A = now.declared.side_b.windows.0
+  peer_windows B = now.declared.side_a.windows.0
 
-      begun_is : (m : ℕ) → q ≡ queue → m ≡ n → m < length (sent_of site.pair.lanes.a q)
-      begun_is m on at = subst (λ q. m < length (sent_of site.pair.lanes.a q)) (sym on) (subst (λ m. m < length (sent_of site.pair.lanes.a queue)) (sym at) begun)
-  label_posts_A queue n entry (Ver q m) among fits begun is short own =
-      posts_A (Ver q m) (write_through (Ver q m) (entry_write plan A entry (Ver q m))) (has_window plan A (Ver q m)) (is_up site.pair.link.state)
-      (ap (λ entry. flying_of plan A (write_through (Ver q m) (entry_write plan A entry (Ver q m)))) (among_is m own.0 own.1))
-      (begun_is m own.0 own.1) tt (λ reached. version_place plan A q now.declared (subst (λ q. q < plan.a.queues) (sym own.0) among) fits reached m (left_of entry)) refl
-    where
-      among_is : (m : ℕ) → q ≡ queue → m ≡ n → slice_index_or (sent_of site.pair.lanes.a q) m GoesDown ≡ entry
-      among_is m on at = ap (λ q. slice_index_or (sent_of site.pair.lanes.a q) m GoesDown) on ∙ ap (λ m. slice_index_or (sent_of site.pair.lanes.a queue) m GoesDown) at ∙ sym is
+  -- a label of entry n of a queue
+  module _ (side : Side) (queue n : ℕ) (entry : Entry) (among : queue < (side_plan plan side).queues) (fits : SizesFit plan) (begun : n < length (sent_by side queue)) (is : entry ≡ slice_index_or (sent_by side queue) n GoesDown)
+      (short : length (bytes_of entry) ≤ max_payload_of (layout_of plan side queue)) where
+    among_at : (q : ℕ) → q ≡ queue → q < (side_plan plan side).queues
+    among_at q on = subst (λ q. q < (side_plan plan side).queues) (sym on) among
 
-      begun_is : (m : ℕ) → q ≡ queue → m ≡ n → m < length (sent_of site.pair.lanes.a q)
-      begun_is m on at = subst (λ q. m < length (sent_of site.pair.lanes.a q)) (sym on) (subst (λ m. m < length (sent_of site.pair.lanes.a queue)) (sym at) begun)
-  label_posts_A queue n entry (Flag q m) among fits begun is short own =
-      posts_A (Flag q m) (write_through (Flag q m) (entry_write plan A entry (Flag q m))) (has_window plan A (Flag q m)) (is_up site.pair.link.state)
-      (ap (λ entry. flying_of plan A (write_through (Flag q m) (entry_write plan A entry (Flag q m)))) (among_is m own.0 own.1))
-      (begun_is m own.0 own.1) tt (λ reached. flags_place plan A q now.declared (subst (λ q. q < plan.a.queues) (sym own.0) among) fits reached m done) refl
-    where
-      among_is : (m : ℕ) → q ≡ queue → m ≡ n → slice_index_or (sent_of site.pair.lanes.a q) m GoesDown ≡ entry
-      among_is m on at = ap (λ q. slice_index_or (sent_of site.pair.lanes.a q) m GoesDown) on ∙ ap (λ m. slice_index_or (sent_of site.pair.lanes.a queue) m GoesDown) at ∙ sym is
+    -- its write is the entry's
+    field_posts : (label : Label) (q m : ℕ) → q ≡ queue → m ≡ n → flying_labelled plan side (sent_by side) (raw_bytes label []) label ≡ flying_of plan side (write_of plan side (slice_index_or (sent_by side q) m GoesDown) [] label)
+        → (m < length (sent_by side q) → IsBegun (sent_by side) label) → HaveBytes (label ∷ []) [] → (has_window plan side label ≡ true → LiesIn (memory_size plan (other_side side)) (flying_of plan side (write_of plan side entry [] label)).arrival)
+        → Posts side label (write_of plan side entry [] label) (has_window plan side label) (is_up now.site.pair.link.state)
+    field_posts label q m on at same begun_is ring place =
+        posts_out side label (write_of plan side entry [] label) (has_window plan side label) (is_up now.site.pair.link.state)
+        (same ∙ ap (λ entry. flying_of plan side (write_of plan side entry [] label)) (two_same (λ q m. slice_index_or (sent_by side q) m GoesDown) on at ∙ sym is))
+        (begun_is (subst (λ q. m < length (sent_by side q)) (sym on) (subst (λ m. m < length (sent_by side queue)) (sym at) begun))) ring place refl
 
-      begun_is : (m : ℕ) → q ≡ queue → m ≡ n → m < length (sent_of site.pair.lanes.a q)
-      begun_is m on at = subst (λ q. m < length (sent_of site.pair.lanes.a q)) (sym on) (subst (λ m. m < length (sent_of site.pair.lanes.a queue)) (sym at) begun)
-  label_posts_A queue n entry (Down q m) among fits begun is short own =
-      posts_A (Down q m) (write_through (Down q m) (entry_write plan A entry (Down q m))) (has_window plan A (Down q m)) (is_up site.pair.link.state)
-      (ap (λ entry. flying_of plan A (write_through (Down q m) (entry_write plan A entry (Down q m)))) (among_is m own.0 own.1))
-      (begun_is m own.0 own.1) tt (λ reached. flags_place plan A q now.declared (subst (λ q. q < plan.a.queues) (sym own.0) among) fits reached m (done + 2)) refl
-    where
-      among_is : (m : ℕ) → q ≡ queue → m ≡ n → slice_index_or (sent_of site.pair.lanes.a q) m GoesDown ≡ entry
-      among_is m on at = ap (λ q. slice_index_or (sent_of site.pair.lanes.a q) m GoesDown) on ∙ ap (λ m. slice_index_or (sent_of site.pair.lanes.a queue) m GoesDown) at ∙ sym is
-
-      begun_is : (m : ℕ) → q ≡ queue → m ≡ n → m < length (sent_of site.pair.lanes.a q)
-      begun_is m on at = subst (λ q. m < length (sent_of site.pair.lanes.a q)) (sym on) (subst (λ m. m < length (sent_of site.pair.lanes.a queue)) (sym at) begun)
-  label_posts_A queue n entry (Bell q) among fits begun is short own =
-      subst (λ reached. PairStands devs plan k (record now.site { pair = if reached then posts now.site.pair A (Bell q) else now.site.pair }) (record kept { bridge = ring_posted kept.bridge A entry (Bell q) }))
-      (sym (some_window plan.b.windows now.declared.side_b.windows.0)) (posts_A (Bell q) (bell_write q) true (is_up site.pair.link.state) refl tt tt (λ _. tt) refl)
-  label_posts_A queue n entry (Index q m) among fits begun is short own = absurd own
-  label_posts_A queue n entry (Pad i value) among fits begun is short own = absurd own
-  label_posts_A queue n entry (Raw window offset len) among fits begun is short own = absurd own
-
-  posts_B : (label : Label) (write : PostedWrite) (reached up : Bool) → flying_labelled plan B (sent_of site.pair.lanes.b) (raw_bytes label []) label ≡ flying_of plan B write → IsBegun (sent_of site.pair.lanes.b) label → HaveBytes (label ∷ []) []
-      → (reached ≡ true → LiesIn (memory_size plan A) (flying_of plan B write).arrival) → is_up site.pair.link.state ≡ up → Posts B label write reached up
-  posts_B label write false up same begun ring place is = record { bridge = refl; link = now.link; sides = by_side _ (now.sides A) (now.sides B) }
-  posts_B label write true false same begun ring place is = record { bridge = refl; link = now.link; sides = by_side _ (now.sides A) (now.sides B) }
-  posts_B label write true true same begun ring place is =
-      record {
-        bridge =
-            ap (λ flying. with_writes (bridge_for plan site) B (writes_labelled plan B (sent_of site.pair.lanes.b) site.pair.sides.b.flight site.pair.sides.b.poked ++ flying ∷ [])) (sym same)
-            ∙ ap (with_writes (bridge_for plan site) B) (one_more_plain plan B (sent_of site.pair.lanes.b) site.pair.sides.b.flight site.pair.sides.b.poked label (now.sides B).in_flight.raws);
-        link = now.link;
-        sides = by_side _ (now.sides A) (side_posts devs plan k B _ _ _ _ _ _ _ label (now.sides B) (not_down_up site.pair.link.state is) begun (subst (λ (flying : Flying). LiesIn (memory_size plan A) flying.arrival) (sym same) (place refl)) ring);
-      }
-
-  pub index_posts_B : (queue n : ℕ) → queue < plan.b.queues → SizesFit plan
-      → PairStands devs plan k (record now.site { pair = if has_window plan B (Index queue n) then posts now.site.pair B (Index queue n) else now.site.pair }) (record kept { bridge = index_posted kept.bridge B queue n })
-  index_posts_B queue n among fits =
-      posts_B (Index queue n) (memory_write (Index queue n) (window_of (layout_of plan B queue)) (index_of (layout_of plan B queue)) (word_bytes (n % entries_of (layout_to plan B queue)))) (has_window plan B (Index queue n)) (is_up site.pair.link.state) refl tt tt
-      (λ reached. index_place plan B queue now.declared among fits reached (n % entries_of (layout_to plan B queue))) refl
-
-  pub label_posts_B : (queue n : ℕ) (entry : Entry) (label : Label) → queue < plan.b.queues → SizesFit plan → n < length (sent_of site.pair.lanes.b queue) → entry ≡ slice_index_or (sent_of site.pair.lanes.b queue) n GoesDown
-      → length (bytes_of entry) ≤ max_payload_of (layout_of plan B queue) → IsWriteOf queue n entry label
-      → PairStands devs plan k (record now.site { pair = if has_window plan B label then posts now.site.pair B label else now.site.pair }) (record kept { bridge = ring_posted kept.bridge B entry label })
-  label_posts_B queue n entry (Chunk q m part) among fits begun is short own =
-      posts_B (Chunk q m part) (write_through (Chunk q m part) (entry_write plan B entry (Chunk q m part))) (has_window plan B (Chunk q m part)) (is_up site.pair.link.state)
-      (ap (λ entry. flying_of plan B (write_through (Chunk q m part) (entry_write plan B entry (Chunk q m part)))) (among_is m own.0 own.1))
-      (begun_is m own.0 own.1) tt (λ reached. chunk_place plan B q now.declared (subst (λ q. q < plan.b.queues) (sym own.0) among) fits reached m part (bytes_of entry) own.2 (subst (λ q. length (bytes_of entry) ≤ max_payload_of (layout_of plan B q)) (sym own.0) short)) refl
-    where
-      among_is : (m : ℕ) → q ≡ queue → m ≡ n → slice_index_or (sent_of site.pair.lanes.b q) m GoesDown ≡ entry
-      among_is m on at = ap (λ q. slice_index_or (sent_of site.pair.lanes.b q) m GoesDown) on ∙ ap (λ m. slice_index_or (sent_of site.pair.lanes.b queue) m GoesDown) at ∙ sym is
-
-      begun_is : (m : ℕ) → q ≡ queue → m ≡ n → m < length (sent_of site.pair.lanes.b q)
-      begun_is m on at = subst (λ q. m < length (sent_of site.pair.lanes.b q)) (sym on) (subst (λ m. m < length (sent_of site.pair.lanes.b queue)) (sym at) begun)
-  label_posts_B queue n entry (Len q m) among fits begun is short own =
-      posts_B (Len q m) (write_through (Len q m) (entry_write plan B entry (Len q m))) (has_window plan B (Len q m)) (is_up site.pair.link.state)
-      (ap (λ entry. flying_of plan B (write_through (Len q m) (entry_write plan B entry (Len q m)))) (among_is m own.0 own.1))
-      (begun_is m own.0 own.1) tt (λ reached. len_place plan B q now.declared (subst (λ q. q < plan.b.queues) (sym own.0) among) fits reached m (length (bytes_of entry))) refl
-    where
-      among_is : (m : ℕ) → q ≡ queue → m ≡ n → slice_index_or (sent_of site.pair.lanes.b q) m GoesDown ≡ entry
-      among_is m on at = ap (λ q. slice_index_or (sent_of site.pair.lanes.b q) m GoesDown) on ∙ ap (λ m. slice_index_or (sent_of site.pair.lanes.b queue) m GoesDown) at ∙ sym is
-
-      begun_is : (m : ℕ) → q ≡ queue → m ≡ n → m < length (sent_of site.pair.lanes.b q)
-      begun_is m on at = subst (λ q. m < length (sent_of site.pair.lanes.b q)) (sym on) (subst (λ m. m < length (sent_of site.pair.lanes.b queue)) (sym at) begun)
-  label_posts_B queue n entry (Ver q m) among fits begun is short own =
-      posts_B (Ver q m) (write_through (Ver q m) (entry_write plan B entry (Ver q m))) (has_window plan B (Ver q m)) (is_up site.pair.link.state)
-      (ap (λ entry. flying_of plan B (write_through (Ver q m) (entry_write plan B entry (Ver q m)))) (among_is m own.0 own.1))
-      (begun_is m own.0 own.1) tt (λ reached. version_place plan B q now.declared (subst (λ q. q < plan.b.queues) (sym own.0) among) fits reached m (left_of entry)) refl
-    where
-      among_is : (m : ℕ) → q ≡ queue → m ≡ n → slice_index_or (sent_of site.pair.lanes.b q) m GoesDown ≡ entry
-      among_is m on at = ap (λ q. slice_index_or (sent_of site.pair.lanes.b q) m GoesDown) on ∙ ap (λ m. slice_index_or (sent_of site.pair.lanes.b queue) m GoesDown) at ∙ sym is
-
-      begun_is : (m : ℕ) → q ≡ queue → m ≡ n → m < length (sent_of site.pair.lanes.b q)
-      begun_is m on at = subst (λ q. m < length (sent_of site.pair.lanes.b q)) (sym on) (subst (λ m. m < length (sent_of site.pair.lanes.b queue)) (sym at) begun)
-  label_posts_B queue n entry (Flag q m) among fits begun is short own =
-      posts_B (Flag q m) (write_through (Flag q m) (entry_write plan B entry (Flag q m))) (has_window plan B (Flag q m)) (is_up site.pair.link.state)
-      (ap (λ entry. flying_of plan B (write_through (Flag q m) (entry_write plan B entry (Flag q m)))) (among_is m own.0 own.1))
-      (begun_is m own.0 own.1) tt (λ reached. flags_place plan B q now.declared (subst (λ q. q < plan.b.queues) (sym own.0) among) fits reached m done) refl
-    where
-      among_is : (m : ℕ) → q ≡ queue → m ≡ n → slice_index_or (sent_of site.pair.lanes.b q) m GoesDown ≡ entry
-      among_is m on at = ap (λ q. slice_index_or (sent_of site.pair.lanes.b q) m GoesDown) on ∙ ap (λ m. slice_index_or (sent_of site.pair.lanes.b queue) m GoesDown) at ∙ sym is
-
-      begun_is : (m : ℕ) → q ≡ queue → m ≡ n → m < length (sent_of site.pair.lanes.b q)
-      begun_is m on at = subst (λ q. m < length (sent_of site.pair.lanes.b q)) (sym on) (subst (λ m. m < length (sent_of site.pair.lanes.b queue)) (sym at) begun)
-  label_posts_B queue n entry (Down q m) among fits begun is short own =
-      posts_B (Down q m) (write_through (Down q m) (entry_write plan B entry (Down q m))) (has_window plan B (Down q m)) (is_up site.pair.link.state)
-      (ap (λ entry. flying_of plan B (write_through (Down q m) (entry_write plan B entry (Down q m)))) (among_is m own.0 own.1))
-      (begun_is m own.0 own.1) tt (λ reached. flags_place plan B q now.declared (subst (λ q. q < plan.b.queues) (sym own.0) among) fits reached m (done + 2)) refl
-    where
-      among_is : (m : ℕ) → q ≡ queue → m ≡ n → slice_index_or (sent_of site.pair.lanes.b q) m GoesDown ≡ entry
-      among_is m on at = ap (λ q. slice_index_or (sent_of site.pair.lanes.b q) m GoesDown) on ∙ ap (λ m. slice_index_or (sent_of site.pair.lanes.b queue) m GoesDown) at ∙ sym is
-
-      begun_is : (m : ℕ) → q ≡ queue → m ≡ n → m < length (sent_of site.pair.lanes.b q)
-      begun_is m on at = subst (λ q. m < length (sent_of site.pair.lanes.b q)) (sym on) (subst (λ m. m < length (sent_of site.pair.lanes.b queue)) (sym at) begun)
-  label_posts_B queue n entry (Bell q) among fits begun is short own =
-      subst (λ reached. PairStands devs plan k (record now.site { pair = if reached then posts now.site.pair B (Bell q) else now.site.pair }) (record kept { bridge = ring_posted kept.bridge B entry (Bell q) }))
-      (sym (some_window plan.a.windows now.declared.side_a.windows.0)) (posts_B (Bell q) (bell_write q) true (is_up site.pair.link.state) refl tt tt (λ _. tt) refl)
-  label_posts_B queue n entry (Index q m) among fits begun is short own = absurd own
-  label_posts_B queue n entry (Pad i value) among fits begun is short own = absurd own
-  label_posts_B queue n entry (Raw window offset len) among fits begun is short own = absurd own
+    pub label_posts : (label : Label) → IsWriteOf queue n entry label
+        → PairStands devs plan k (record now.site { pair = if has_window plan side label then posts now.site.pair side label else now.site.pair }) (record (kept now) { bridge = ring_posted (kept now).bridge side entry label })
+    label_posts (Chunk q m part) own =
+        field_posts (Chunk q m part) q m own.0 own.1 refl (λ begun. begun) tt
+        (λ reached. chunk_place plan side q now.declared (among_at q own.0) fits reached m part (bytes_of entry) own.2 (subst (λ q. length (bytes_of entry) ≤ max_payload_of (layout_of plan side q)) (sym own.0) short))
+    label_posts (Len q m) own = field_posts (Len q m) q m own.0 own.1 refl (λ begun. begun) tt (λ reached. len_place plan side q now.declared (among_at q own.0) fits reached m (length (bytes_of entry)))
+    label_posts (Ver q m) own = field_posts (Ver q m) q m own.0 own.1 refl (λ begun. begun) tt (λ reached. version_place plan side q now.declared (among_at q own.0) fits reached m (left_of entry))
+    label_posts (Flag q m) own = field_posts (Flag q m) q m own.0 own.1 refl (λ begun. begun) tt (λ reached. flags_place plan side q now.declared (among_at q own.0) fits reached m done)
+    label_posts (Down q m) own = field_posts (Down q m) q m own.0 own.1 refl (λ begun. begun) tt (λ reached. flags_place plan side q now.declared (among_at q own.0) fits reached m (done + 2))
+    label_posts (Bell q) own =
+        subst (λ reached. PairStands devs plan k (record now.site { pair = if reached then posts now.site.pair side (Bell q) else now.site.pair }) (record (kept now) { bridge = ring_posted (kept now).bridge side entry (Bell q) }))
+        (sym (some_window (side_plan plan (other_side side)).windows (peer_windows side))) (posts_out side (Bell q) (bell_write q) true (is_up now.site.pair.link.state) refl tt tt (λ _. tt) refl)
+    label_posts (Index q m) own = absurd own
+    label_posts (Pad i value) own = absurd own
+    label_posts (Raw window offset len) own = absurd own

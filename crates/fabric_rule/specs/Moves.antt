@@ -28,7 +28,7 @@ use Rattle.frame_ring.specs.Calls.{post_answer, after_post, posted_by, copy_answ
 use Rattle.queue_pair.specs.Gates.{begin_answer, after_begin, qpdown_answer, after_qpdown, look_answer, after_look, irq_bits, after_irq}
 use Rattle.queue_pair.specs.Queue.{fresh_queue, with_port}
 use Rattle.fabric_rule.specs.Answers.{of_link, of_offer, of_check, of_ready, of_join, of_begin, of_xbegin, of_post, of_land, of_look, of_copy, of_clear, of_ack}
-use Rattle.fabric_rule.specs.Parts.{PairState, QueuePart, one_more, queues_of, queue_of, with_bridge, with_queues, with_queue, plain_pair}
+use Rattle.fabric_rule.specs.Parts.{PairState, QueuePart, one_more, queues_of, queue_of, with_bridge, with_queues, with_queue}
 
 pub record Move : Type 0 where
   pub answer : Answer

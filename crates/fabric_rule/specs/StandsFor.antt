@@ -1,7 +1,7 @@
 -- When what a fabric keeps of a pair stands for the ledger of the steps that were made: link, registers, books, counts and lists
 -- in flight are the ledger's, each byte of its memories is the last one that was stored there, and what a port keeps of the entry
 -- at hand is that entry.
-use Rattle.std.specs.Prelude.{◌≡◌, ℕ, ◌-◌, ◌<◌, ◌&&◌, ◌⊎◌, Bool, true, false, Option, Some, None, List, [], ◌∷◌, length, slice_index_or, if◌then◌else◌}
+use Rattle.std.specs.Prelude.{◌≡◌, ℕ, ◌<◌, ◌&&◌, ◌⊎◌, Bool, true, false, Option, Some, None, List, [], ◌∷◌, length, slice_index_or, if◌then◌else◌}
 use Rattle.step_kinds.specs.Bits.{has_bit}
 use Rattle.step_kinds.specs.Sides.{other_side}
 use Rattle.step_kinds.specs.declared.names.Side.{Side}
