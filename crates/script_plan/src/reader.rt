@@ -171,7 +171,9 @@ impl Reader {
         requires class { IsClass class }
         ensures { IfOk result (λ more. more ≡ with_given 0 self (AClass name class)) }
     {
-        let pairs = self.pairs.with_class(name.pair, name.side, name.queue, class);
+        let pairs = self
+            .pairs
+            .with_class(name.pair, name.side, name.queue, class);
         let mut classed = self.classed;
         classed.push(name)?;
         Ok(Reader {
