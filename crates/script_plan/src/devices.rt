@@ -52,11 +52,11 @@ impl Devices {
         self.devs.len()
     }
 
-    /// Whether a device has the name.
-    pub fn contains(&self, name: &[u8]) -> bool
-        ensures { result ≡ has_name (names_of_devices self.now) name.now }
+    /// Their names, in order.
+    pub fn names(&self) -> &Names
+        ensures { result.now ≡ names_of_devices self.now }
     {
-        self.names.contains(name)
+        &self.names
     }
 
     /// The number of the device with the name, from 0.

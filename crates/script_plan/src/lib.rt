@@ -7,7 +7,7 @@ mod names;
 mod pairs;
 mod reader;
 pub mod rings;
-mod steps;
+pub mod steps;
 mod traffic;
 
 pub use devices::Devices;

@@ -49,11 +49,11 @@ impl Pairs {
         self.pairs.len()
     }
 
-    /// Whether a pair has the name.
-    pub fn contains(&self, name: &[u8]) -> bool
-        ensures { result ≡ has_name (names_of_pairs self.now) name.now }
+    /// Their names, in order.
+    pub fn names(&self) -> &Names
+        ensures { result.now ≡ names_of_pairs self.now }
     {
-        self.names.contains(name)
+        &self.names
     }
 
     /// The number of the pair with the name, from 0.

@@ -138,25 +138,9 @@ impl Reader {
         requires few { length self.hosts < most_hosts }
         ensures { IfOk result (λ more. more ≡ with_given 0 self (Host name)) }
     {
-        let Reader {
-            part,
-            mut hosts,
-            pairs,
-            devs,
-            steps,
-            traffic,
-            classed,
-        } = self;
+        let mut hosts = self.hosts;
         hosts.push(alloc, name.bytes())?;
-        Ok(Reader {
-            part,
-            hosts,
-            pairs,
-            devs,
-            steps,
-            traffic,
-            classed,
-        })
+        Ok(Reader { hosts, ..self })
     }
 
     /// The lines so far with one more pair.
@@ -166,25 +150,8 @@ impl Reader {
         requires fits { IsPair pair }
         ensures { IfOk result (λ more. more ≡ with_given 0 self (APair pair)) }
     {
-        let Reader {
-            part,
-            hosts,
-            pairs,
-            devs,
-            steps,
-            traffic,
-            classed,
-        } = self;
-        let pairs = pairs.with(alloc, pair)?;
-        Ok(Reader {
-            part,
-            hosts,
-            pairs,
-            devs,
-            steps,
-            traffic,
-            classed,
-        })
+        let pairs = self.pairs.with(alloc, pair)?;
+        Ok(Reader { pairs, ..self })
     }
 
     /// The lines so far with one more device.
@@ -194,25 +161,8 @@ impl Reader {
         requires fits { IsDevice self.plan dev }
         ensures { IfOk result (λ more. more ≡ with_given 0 self (ADevice dev)) }
     {
-        let Reader {
-            part,
-            hosts,
-            pairs,
-            devs,
-            steps,
-            traffic,
-            classed,
-        } = self;
-        let devs = devs.with(alloc, dev)?;
-        Ok(Reader {
-            part,
-            hosts,
-            pairs,
-            devs,
-            steps,
-            traffic,
-            classed,
-        })
+        let devs = self.devs.with(alloc, dev)?;
+        Ok(Reader { devs, ..self })
     }
 
     /// The lines so far with the class of one more queue.
@@ -221,25 +171,15 @@ impl Reader {
         requires class { IsClass class }
         ensures { IfOk result (λ more. more ≡ with_given 0 self (AClass name class)) }
     {
-        let Reader {
-            part,
-            hosts,
-            pairs,
-            devs,
-            steps,
-            traffic,
-            mut classed,
-        } = self;
-        let pairs = pairs.with_class(name.pair, name.side, name.queue, class);
+        let pairs = self
+            .pairs
+            .with_class(name.pair, name.side, name.queue, class);
+        let mut classed = self.classed;
         classed.push(name)?;
         Ok(Reader {
-            part,
-            hosts,
             pairs,
-            devs,
-            steps,
-            traffic,
             classed,
+            ..self
         })
     }
 
@@ -247,24 +187,7 @@ impl Reader {
     fn with_part(self, part: Part) -> Reader
         ensures { result ≡ record self { part = part } }
     {
-        let Reader {
-            part: _,
-            hosts,
-            pairs,
-            devs,
-            steps,
-            traffic,
-            classed,
-        } = self;
-        Reader {
-            part,
-            hosts,
-            pairs,
-            devs,
-            steps,
-            traffic,
-            classed,
-        }
+        Reader { part, ..self }
     }
 
     /// The lines so far with the steps of line `line`.
@@ -272,25 +195,9 @@ impl Reader {
         requires { length self.plan.steps + length (steps_of more) ≤ most_steps }
         ensures { IfOk result (λ after. after ≡ with_given line self (MoreSteps (steps_of more))) }
     {
-        let Reader {
-            part,
-            hosts,
-            pairs,
-            devs,
-            mut steps,
-            traffic,
-            classed,
-        } = self;
+        let mut steps = self.steps;
         push_steps(&mut steps, line, more)?;
-        Ok(Reader {
-            part,
-            hosts,
-            pairs,
-            devs,
-            steps,
-            traffic,
-            classed,
-        })
+        Ok(Reader { steps, ..self })
     }
 
     /// The lines so far with one more frame of the traffic.
@@ -299,25 +206,8 @@ impl Reader {
         requires bytes { sum (map bytes_in self.plan.traffic) + length frame ≤ most_traffic_bytes }
         ensures { IfOk result (λ after. after ≡ with_given 0 self (MoreTraffic (Send lane frame ∷ []))) }
     {
-        let Reader {
-            part,
-            hosts,
-            pairs,
-            devs,
-            steps,
-            traffic,
-            classed,
-        } = self;
-        let traffic = traffic.with_frame(lane, frame)?;
-        Ok(Reader {
-            part,
-            hosts,
-            pairs,
-            devs,
-            steps,
-            traffic,
-            classed,
-        })
+        let traffic = self.traffic.with_frame(lane, frame)?;
+        Ok(Reader { traffic, ..self })
     }
 
     /// The lines so far with so many frames of the traffic, of so many bytes each.
@@ -333,25 +223,8 @@ impl Reader {
         requires bytes { sum (map bytes_in self.plan.traffic) + count * len ≤ most_traffic_bytes }
         ensures { IfOk result (λ after. after ≡ with_given 0 self (MoreTraffic (flood_of lane count len))) }
     {
-        let Reader {
-            part,
-            hosts,
-            pairs,
-            devs,
-            steps,
-            traffic,
-            classed,
-        } = self;
-        let traffic = traffic.with_flood(alloc, lane, count, len)?;
-        Ok(Reader {
-            part,
-            hosts,
-            pairs,
-            devs,
-            steps,
-            traffic,
-            classed,
-        })
+        let traffic = self.traffic.with_flood(alloc, lane, count, len)?;
+        Ok(Reader { traffic, ..self })
     }
 
     /// The lines so far with one more link loss of a pair.
@@ -360,25 +233,8 @@ impl Reader {
         requires few { count_by (is_break_of pair) self.plan.traffic < most_breaks }
         ensures { IfOk result (λ after. after ≡ with_given 0 self (MoreTraffic (Break pair ∷ []))) }
     {
-        let Reader {
-            part,
-            hosts,
-            pairs,
-            devs,
-            steps,
-            traffic,
-            classed,
-        } = self;
-        let traffic = traffic.with_break(pair)?;
-        Ok(Reader {
-            part,
-            hosts,
-            pairs,
-            devs,
-            steps,
-            traffic,
-            classed,
-        })
+        let traffic = self.traffic.with_break(pair)?;
+        Ok(Reader { traffic, ..self })
     }
 
     /// The lines so far with one more, whose number is `line`. The only error is want of memory.
@@ -405,20 +261,11 @@ impl Reader {
     pub fn into_plan(self) -> Plan
         ensures { result ≡ self.plan }
     {
-        let Reader {
-            part: _,
-            hosts: _,
-            pairs,
-            devs,
-            steps,
-            traffic,
-            classed: _,
-        } = self;
         Plan {
-            pairs: pairs.into_items(),
-            devs: devs.into_items(),
-            steps: Items::of_vec(steps),
-            traffic: traffic.into_items(),
+            pairs: self.pairs.into_items(),
+            devs: self.devs.into_items(),
+            steps: Items::of_vec(self.steps),
+            traffic: self.traffic.into_items(),
         }
     }
 }

@@ -8,14 +8,14 @@ use Rattle.script_words.specs.Before.{Before, Given, Host, APair, ADevice, AClas
 use Rattle.script_words.specs.Declarations.{host_line, pair_line, dev_line, class_line, host_words, pair_words, dev_words, class_words, lone_word, declaration_line, host_word, threshold_word, sits_on, is_queue}
 use Rattle.script_words.specs.Settings.{settings_from, with_setting, setting_word, same_setting, in_range, goes_together, pair_with}
 use Rattle.script_words.specs.Tests.{found_or}
-use Rattle.script_words.specs.Words.{side_word, number_word, behind}
+use Rattle.script_words.specs.Words.{number_word, behind}
 use Rattle.script_words.specs.declared.fault.Cause.TheVariants.{UnknownWord, Repeated, BadGeometry, TooMany}
 use Rattle.script_words.specs.declared.parts.Part.TheVariants.{Declarations}
 use Rattle.script_words.specs.declared.settings.Setting.{Setting}
 use Rattle.script_text.proofs.Fits.{Fits}
 use Rattle.script_text.proofs.Gives.{Gives, gives_ok, gives_fault, gives_then, gives_passed, gives_any, gives_if}
 use Rattle.script_text.proofs.PairFits.{pair_fits}
-use Rattle.script_text.proofs.WordFacts.{below, pair_declared, queue_among, name_is_new, number_within, bytes_counted}
+use Rattle.script_text.proofs.WordFacts.{below, queue_declared, name_is_new, number_within, bytes_counted}
 
 -- The options of a pair are in their ranges
 
@@ -72,35 +72,27 @@ module _ (before : Before) (part : before.part ≡ Declarations) where
       → Gives (Fits before) (dev_line before name_text pair_text side_text queue_text address_text stop_text start_text)
   dev_line_fits name_text pair_text side_text queue_text address_text stop_text start_text =
       gives_then _ _ _ (name_is_new (dev_names before) name_text) (λ name is_new.
-      gives_then _ _ _ (pair_declared before pair_text) (λ pair declared.
-      gives_then _ _ _ (gives_any (side_word side_text)) (λ side _.
-      gives_then _ _ _ (queue_among before pair side queue_text) (λ queue among.
+      gives_then _ _ _ (queue_declared before pair_text side_text queue_text) (λ on queue.
       gives_then _ _ _ (bytes_counted 6 address_text) (λ address six.
       gives_then _ _ _ (threshold_within (codes "stop=") stop_text) (λ stop _.
       gives_then _ _ _ (threshold_within (codes "start=") start_text) (λ start small.
-      gives_then _ _ _ (gives_passed (list_any (sits_on pair side queue) before.plan.devs) Repeated) (λ _ free.
+      gives_then _ _ _ (gives_passed (list_any (sits_on on.pair on.side on.queue) before.plan.devs) Repeated) (λ _ free.
       gives_then _ _ _ (gives_passed (nat_lt start stop) BadGeometry) (λ _ order.
       gives_then _ _ _ (gives_passed (not (nat_lt (length before.plan.devs) most_devices)) TooMany) (λ _ e.
-      gives_ok (Fits before) (ADevice (record { name = name; pair = pair; side = side; queue = queue; address = address; stop = stop; start = start })) (record {
+      gives_ok (Fits before) (ADevice (record { name = name; pair = on.pair; side = on.side; queue = on.queue; address = address; stop = stop; start = start })) (record {
         is_new = is_new;
         few = below (length before.plan.devs) most_devices e;
-        fits = record { queue = record { declared = declared; among = among }; address = six; thresholds = (ltb-false start stop order, small) };
+        fits = record { queue = queue; address = six; thresholds = (ltb-false start stop order, small) };
         free = free;
         part = part;
-      })))))))))))
+      })))))))))
 
   class_line_fits : (pair_text side_text queue_text class_text : List ℕ) → Gives (Fits before) (class_line before pair_text side_text queue_text class_text)
   class_line_fits pair_text side_text queue_text class_text =
-      gives_then _ _ _ (pair_declared before pair_text) (λ pair declared.
-      gives_then _ _ _ (gives_any (side_word side_text)) (λ side _.
-      gives_then _ _ _ (queue_among before pair side queue_text) (λ queue among.
+      gives_then _ _ _ (queue_declared before pair_text side_text queue_text) (λ name queue.
       gives_then _ _ _ (number_within 0 7 class_text) (λ class range.
-      gives_then _ _ _ (gives_passed (list_any (is_queue pair side queue) before.classed) Repeated) (λ _ _.
-      gives_ok (Fits before) (AClass (record { pair = pair; side = side; queue = queue }) class) (record {
-        part = part;
-        queue = record { declared = declared; among = among };
-        small = let most = range.1 in omega arith;
-      }))))))
+      gives_then _ _ _ (gives_passed (list_any (is_queue name.pair name.side name.queue) before.classed) Repeated) (λ _ _.
+      gives_ok (Fits before) (AClass name class) (record { part = part; queue = queue; small = let most = range.1 in omega arith }))))
 
   lone_word_fits : (words : List (List ℕ)) (given : Given) → Fits before given → Gives (Fits before) (lone_word words given)
   lone_word_fits [] given h = gives_ok (Fits before) given h

@@ -18,12 +18,12 @@ use Rattle.plan_model.specs.Plans.{side_plan, pair_plan, dev_plan, no_dev}
 use Rattle.script_words.specs.Before.{Before, MoreSteps, TrafficBegins}
 use Rattle.script_words.specs.StepLines as rules
 use Rattle.script_words.specs.StepLines.{NumberedSteps, largest_number, reach, ethernet_steps}
-use Rattle.script_words.specs.Words.{side_word, number_word}
+use Rattle.script_words.specs.Words.{number_word}
 use Rattle.script_words.specs.declared.fault.Cause.TheVariants.{UnknownWord, BadNumber, UnknownName, BadPair, TooMany}
 use Rattle.script_words.specs.declared.parts.Part.TheVariants.{Declarations}
 use Rattle.script_text.proofs.Fits.{Fits}
 use Rattle.script_text.proofs.Gives.{Gives, gives_ok, gives_fault, gives_then, gives_passed, gives_any, gives_if, gives_known, if_some, none_some}
-use Rattle.script_text.proofs.WordFacts.{Filled, pair_declared, dev_declared, queue_among, number_within, bytes_spelled, bytes_counted, kind_is_small}
+use Rattle.script_text.proofs.WordFacts.{Filled, pair_declared, dev_declared, side_declared, queue_declared, number_within, bytes_spelled, bytes_counted, kind_is_small}
 
 -- Lists of steps
 
@@ -121,96 +121,86 @@ module _ (before : Before) (part : before.part ≡ Declarations → ⊥) (device
   side_line_fits : (steps : PairPlan → ℕ → Side → List Step) → ((pair : ℕ) (side : Side) → pair < length before.plan.pairs → All (IsPermitted before.plan) (steps (pair_plan before.plan pair) pair side))
       → (pair_text side_text : List ℕ) → Gives (Fits before) (rules.side_line before steps pair_text side_text)
   side_line_fits steps ok pair_text side_text =
-      gives_then _ _ _ (pair_declared before pair_text) (λ pair lt.
-      gives_then _ _ _ (gives_any (side_word side_text)) (λ side _. steps_fit (steps (pair_plan before.plan pair) pair side) (ok pair side lt)))
+      gives_then _ _ _ (side_declared before pair_text side_text) (λ name lt.
+      steps_fit (steps (pair_plan before.plan name.pair) name.pair name.side) (ok name.pair name.side lt))
 
   queue_line_fits : (steps : ℕ → Side → ℕ → List Step) → ((pair : ℕ) (side : Side) (queue : ℕ) → IsQueueOf before.plan pair side queue → All (IsPermitted before.plan) (steps pair side queue))
       → (pair_text side_text queue_text : List ℕ) → Gives (Fits before) (rules.queue_line before steps pair_text side_text queue_text)
   queue_line_fits steps ok pair_text side_text queue_text =
-      gives_then _ _ _ (pair_declared before pair_text) (λ pair lt.
-      gives_then _ _ _ (gives_any (side_word side_text)) (λ side _.
-      gives_then _ _ _ (queue_among before pair side queue_text) (λ queue among.
-      steps_fit (steps pair side queue) (ok pair side queue (record { declared = lt; among = among })))))
+      gives_then _ _ _ (queue_declared before pair_text side_text queue_text) (λ name queue.
+      steps_fit (steps name.pair name.side name.queue) (ok name.pair name.side name.queue queue))
 
   receive_line_fits : (pair_text side_text queue_text copies_text : List ℕ) → Gives (Fits before) (rules.receive_line before pair_text side_text queue_text copies_text)
   receive_line_fits pair_text side_text queue_text copies_text =
-      gives_then _ _ _ (pair_declared before pair_text) (λ pair lt.
-      gives_then _ _ _ (gives_any (side_word side_text)) (λ side _.
-      gives_then _ _ _ (queue_among before pair side queue_text) (λ queue among.
+      gives_then _ _ _ (queue_declared before pair_text side_text queue_text) (λ name queue.
       gives_then _ _ _ (number_within 1 512 copies_text) (λ copies _.
-      steps_fit (receive pair side queue copies) (received before.plan pair side queue copies (record { declared = lt; among = among }))))))
+      steps_fit (receive name.pair name.side name.queue copies) (received before.plan name.pair name.side name.queue copies queue)))
 
   frame_line_fits : (steps : PairPlan → ℕ → Side → ℕ → List ℕ → List Step)
       → ((pair : ℕ) (side : Side) (queue : ℕ) (frame : List ℕ) → IsQueueOf before.plan pair side queue → IsFrame frame → All (IsPermitted before.plan) (steps (pair_plan before.plan pair) pair side queue frame))
       → (pair_text side_text queue_text frame_text : List ℕ) → 0 < length frame_text → Gives (Fits before) (rules.frame_line before steps pair_text side_text queue_text frame_text)
   frame_line_fits steps ok pair_text side_text queue_text frame_text some =
-      gives_then _ _ _ (pair_declared before pair_text) (λ pair lt.
-      gives_then _ _ _ (gives_any (side_word side_text)) (λ side _.
-      gives_then _ _ _ (queue_among before pair side queue_text) (λ queue among.
+      gives_then _ _ _ (queue_declared before pair_text side_text queue_text) (λ name queue.
       gives_then _ _ _ (bytes_spelled frame_text some) (λ frame filled.
       gives_then _ _ _ (gives_passed (nat_lt most_frame_bytes (length frame)) TooMany) (λ _ e.
-      steps_fit (steps (pair_plan before.plan pair) pair side queue frame)
-      (ok pair side queue frame (record { declared = lt; among = among }) (filled, ltb-false most_frame_bytes (length frame) e)))))))
+      steps_fit (steps (pair_plan before.plan name.pair) name.pair name.side name.queue frame)
+      (ok name.pair name.side name.queue frame queue (filled, ltb-false most_frame_bytes (length frame) e)))))
 
   numbered_line_fits : (numbered : NumberedSteps)
       → ((pair : ℕ) (side : Side) (n : ℕ) → pair < length before.plan.pairs → (numbered.least ≤ n) × (n ≤ numbered.most) → All (IsPermitted before.plan) (numbered.steps pair side n))
       → (pair_text side_text number_text : List ℕ) → Gives (Fits before) (rules.numbered_line before numbered pair_text side_text number_text)
   numbered_line_fits numbered ok pair_text side_text number_text =
-      gives_then _ _ _ (pair_declared before pair_text) (λ pair lt.
-      gives_then _ _ _ (gives_any (side_word side_text)) (λ side _.
-      gives_then _ _ _ (number_within numbered.least numbered.most number_text) (λ n range. steps_fit (numbered.steps pair side n) (ok pair side n lt range))))
+      gives_then _ _ _ (side_declared before pair_text side_text) (λ name lt.
+      gives_then _ _ _ (number_within numbered.least numbered.most number_text) (λ n range. steps_fit (numbered.steps name.pair name.side n) (ok name.pair name.side n lt range)))
 
   spad_line_fits : (pair_text side_text index_text value_text : List ℕ) → Gives (Fits before) (rules.spad_line before pair_text side_text index_text value_text)
   spad_line_fits pair_text side_text index_text value_text =
-      gives_then _ _ _ (pair_declared before pair_text) (λ pair lt.
-      gives_then _ _ _ (gives_any (side_word side_text)) (λ side _.
+      gives_then _ _ _ (side_declared before pair_text side_text) (λ name lt.
       gives_then _ _ _ (number_within 0 15 index_text) (λ i range.
       gives_then _ _ _ (gives_any (number_word value_text)) (λ value _.
-      gives_then _ _ _ (gives_passed (nat_lt i 12 && not (pair_plan before.plan pair).raw) BadPair) (λ _ e.
-      steps_fit (Spad pair side i value ∷ [])
-      (one before.plan (Spad pair side i value) (lt, record { among = let most = range.1 in omega arith; free = pad_is_free i (pair_plan before.plan pair).raw e })))))))
+      gives_then _ _ _ (gives_passed (nat_lt i 12 && not (pair_plan before.plan name.pair).raw) BadPair) (λ _ e.
+      steps_fit (Spad name.pair name.side i value ∷ [])
+      (one before.plan (Spad name.pair name.side i value) (lt, record { among = let most = range.1 in omega arith; free = pad_is_free i (pair_plan before.plan name.pair).raw e }))))))
 
   show_memory_fits : (pair_text side_text at_text len_text : List ℕ) → Gives (Fits before) (rules.show_memory_line before pair_text side_text at_text len_text)
   show_memory_fits pair_text side_text at_text len_text =
-      gives_then _ _ _ (pair_declared before pair_text) (λ pair lt.
-      gives_then _ _ _ (gives_any (side_word side_text)) (λ side _.
+      gives_then _ _ _ (side_declared before pair_text side_text) (λ name lt.
       gives_then _ _ _ (gives_any (number_word at_text)) (λ at _.
       gives_then _ _ _ (number_within 1 64 len_text) (λ len range.
       gives_then _ _ _
-      (gives_passed (nat_lt ((side_plan (pair_plan before.plan pair) side).windows * (side_plan (pair_plan before.plan pair) side).cap) (at + len)) BadNumber) (λ _ e.
-      steps_fit (ShowMem pair side at len ∷ []) (one before.plan (ShowMem pair side at len) (
+      (gives_passed (nat_lt ((side_plan (pair_plan before.plan name.pair) name.side).windows * (side_plan (pair_plan before.plan name.pair) name.side).cap) (at + len)) BadNumber) (λ _ e.
+      steps_fit (ShowMem name.pair name.side at len ∷ []) (one before.plan (ShowMem name.pair name.side at len) (
         lt,
         record {
           some = range.0;
           few = range.1;
-          within = ltb-false ((side_plan (pair_plan before.plan pair) side).windows * (side_plan (pair_plan before.plan pair) side).cap) (at + len) e;
+          within = ltb-false ((side_plan (pair_plan before.plan name.pair) name.side).windows * (side_plan (pair_plan before.plan name.pair) name.side).cap) (at + len) e;
         },
-      )))))))
+      ))))))
 
   poke_line_fits : (pair_text side_text window_text offset_text bytes_text : List ℕ) → 0 < length bytes_text
       → Gives (Fits before) (rules.poke_line before pair_text side_text window_text offset_text bytes_text)
   poke_line_fits pair_text side_text window_text offset_text bytes_text some =
-      gives_then _ _ _ (pair_declared before pair_text) (λ pair lt.
-      gives_then _ _ _ (gives_any (side_word side_text)) (λ side _.
+      gives_then _ _ _ (side_declared before pair_text side_text) (λ name lt.
       gives_then _ _ _ (gives_any (number_word window_text)) (λ window _.
-      gives_then _ _ _ (gives_passed (not (nat_lt window (pair_plan before.plan pair).a.windows && nat_lt window (pair_plan before.plan pair).b.windows)) UnknownName) (λ _ known.
+      gives_then _ _ _ (gives_passed (not (nat_lt window (pair_plan before.plan name.pair).a.windows && nat_lt window (pair_plan before.plan name.pair).b.windows)) UnknownName) (λ _ known.
       gives_then _ _ _ (gives_any (number_word offset_text)) (λ offset _.
       gives_then _ _ _ (bytes_spelled bytes_text some) (λ bytes filled.
-      gives_then _ _ _ (gives_passed (nat_lt (reach (pair_plan before.plan pair) side) (offset + length bytes)) BadNumber) (λ _ within.
-      gives_then _ _ _ (gives_passed (not (pair_plan before.plan pair).raw) BadPair) (λ _ raw.
+      gives_then _ _ _ (gives_passed (nat_lt (reach (pair_plan before.plan name.pair) name.side) (offset + length bytes)) BadNumber) (λ _ within.
+      gives_then _ _ _ (gives_passed (not (pair_plan before.plan name.pair).raw) BadPair) (λ _ raw.
       gives_then _ _ _ (gives_passed (nat_lt 128 (length bytes)) TooMany) (λ _ few.
-      let both = and_parts (nat_lt window (pair_plan before.plan pair).a.windows) (nat_lt window (pair_plan before.plan pair).b.windows)
-      (not-false (nat_lt window (pair_plan before.plan pair).a.windows && nat_lt window (pair_plan before.plan pair).b.windows) known) in
-      steps_fit (Poke pair side window offset bytes ∷ []) (one before.plan (Poke pair side window offset bytes) (
+      let both = and_parts (nat_lt window (pair_plan before.plan name.pair).a.windows) (nat_lt window (pair_plan before.plan name.pair).b.windows)
+      (not-false (nat_lt window (pair_plan before.plan name.pair).a.windows && nat_lt window (pair_plan before.plan name.pair).b.windows) known) in
+      steps_fit (Poke name.pair name.side window offset bytes ∷ []) (one before.plan (Poke name.pair name.side window offset bytes) (
         lt,
         record {
-          raw = not-false (pair_plan before.plan pair).raw raw;
-          windows = (ltb-true window (pair_plan before.plan pair).a.windows both.0, ltb-true window (pair_plan before.plan pair).b.windows both.1);
+          raw = not-false (pair_plan before.plan name.pair).raw raw;
+          windows = (ltb-true window (pair_plan before.plan name.pair).a.windows both.0, ltb-true window (pair_plan before.plan name.pair).b.windows both.1);
           some = filled;
           few = ltb-false 128 (length bytes) few;
-          within = ltb-false (reach (pair_plan before.plan pair) side) (offset + length bytes) within;
+          within = ltb-false (reach (pair_plan before.plan name.pair) name.side) (offset + length bytes) within;
         },
-      )))))))))))
+      ))))))))))
 
   its_queue : (dev : ℕ) → dev < length before.plan.devs → IsQueueOf before.plan (dev_plan before.plan.devs dev).pair (dev_plan before.plan.devs dev).side (dev_plan before.plan.devs dev).queue
   its_queue dev lt = (devices dev no_dev lt).queue

@@ -19,15 +19,14 @@ use Rattle.plan_model.specs.Sizes.{sizes_of}
 use Rattle.plan_model.specs.TrafficPlans.{frames_in, bytes_in, is_break_of, MayHaveTraffic, IsTrafficLane, IsTraffic}
 use Rattle.script_words.specs.Before.{Before, MoreTraffic}
 use Rattle.script_words.specs.Settings.{agrees}
-use Rattle.script_words.specs.TrafficLines.{may_have_traffic, is_little, traffic_within, traffic_frame_line, flood_frame, flood_line, break_line, traffic_line}
-use Rattle.script_words.specs.Words.{side_word}
+use Rattle.script_words.specs.TrafficLines.{may_have_traffic, is_little, traffic_within, lane_of, traffic_frame_line, flood_frame, flood_line, break_line, traffic_line}
 use Rattle.script_words.specs.declared.fault.Cause.TheVariants.{UnknownWord, BadGeometry, BadPair, TooMany}
 use Rattle.script_words.specs.declared.parts.Part.TheVariants.{Declarations}
 use Rattle.script_plan.proofs.Floods.{length_flood_frame}
 use Rattle.script_text.proofs.Fits.{Fits}
-use Rattle.script_text.proofs.Gives.{Gives, gives_ok, gives_fault, gives_then, gives_passed, gives_any, gives_if}
+use Rattle.script_text.proofs.Gives.{Gives, gives_ok, gives_fault, gives_then, gives_passed, gives_if}
 use Rattle.script_text.proofs.PairFits.{sides_agree}
-use Rattle.script_text.proofs.WordFacts.{below, Filled, pair_declared, queue_among, number_within, bytes_spelled}
+use Rattle.script_text.proofs.WordFacts.{below, Filled, pair_declared, queue_declared, number_within, bytes_spelled}
 
 may_have : (pair : PairPlan) → may_have_traffic pair ≡ true → MayHaveTraffic pair
 may_have pair h = let parts = and_parts (not pair.raw) (agrees pair) h in record { ordinary = not-true pair.raw parts.0; agree = sides_agree pair parts.1 }
@@ -94,13 +93,11 @@ module _ (before : Before) (part : before.part ≡ Declarations → ⊥) (few : 
 
   frame_fits : (pair_text side_text queue_text frame_text : List ℕ) → 0 < length frame_text → Gives (Fits before) (traffic_frame_line before pair_text side_text queue_text frame_text)
   frame_fits pair_text side_text queue_text frame_text some =
-      gives_then _ _ _ (pair_declared before pair_text) (λ pair lt.
-      gives_then _ _ _ (gives_any (side_word side_text)) (λ side _.
-      gives_then _ _ _ (queue_among before pair side queue_text) (λ queue among.
+      gives_then _ _ _ (queue_declared before pair_text side_text queue_text) (λ name queue.
       gives_then _ _ _ (bytes_spelled frame_text some) (λ frame filled.
-      within_fits (record { pair = pair; from = side; queue = queue }) (length frame) (Send (record { pair = pair; from = side; queue = queue }) frame ∷ []) lt among
-      (λ lane short. All-cons (IsTraffic before.plan) (Send (record { pair = pair; from = side; queue = queue }) frame) [] (lane, filled, short) (All-nil (IsTraffic before.plan)))
-      (λ other. refl)))))
+      within_fits (lane_of name) (length frame) (Send (lane_of name) frame ∷ []) queue.declared queue.among
+      (λ lane short. All-cons (IsTraffic before.plan) (Send (lane_of name) frame) [] (lane, filled, short) (All-nil (IsTraffic before.plan)))
+      (λ other. refl)))
 
   flooded : (lane : LaneName) (len : ℕ) → IsTrafficLane before.plan lane → len ≤ (sizes_of (pair_plan before.plan lane.pair) lane.from lane.queue).largest → 1 ≤ len → (i : ℕ)
       → IsTraffic before.plan (Send lane (flood_frame len i))
@@ -108,16 +105,14 @@ module _ (before : Before) (part : before.part ≡ Declarations → ⊥) (few : 
 
   flood_fits : (pair_text side_text queue_text count_text len_text : List ℕ) → Gives (Fits before) (flood_line before pair_text side_text queue_text count_text len_text)
   flood_fits pair_text side_text queue_text count_text len_text =
-      gives_then _ _ _ (pair_declared before pair_text) (λ pair lt.
-      gives_then _ _ _ (gives_any (side_word side_text)) (λ side _.
-      gives_then _ _ _ (queue_among before pair side queue_text) (λ queue among.
+      gives_then _ _ _ (queue_declared before pair_text side_text queue_text) (λ name queue.
       gives_then _ _ _ (number_within 1 100000 count_text) (λ count _.
       gives_then _ _ _ (number_within 1 65536 len_text) (λ len range.
-      within_fits (record { pair = pair; from = side; queue = queue }) len
-      (map (λ i. Send (record { pair = pair; from = side; queue = queue }) (flood_frame len i)) (count_from 0 count)) lt among
-      (λ lane short. All-map (IsTraffic before.plan) (λ i. Send (record { pair = pair; from = side; queue = queue }) (flood_frame len i)) (count_from 0 count)
-      (λ k d _. flooded (record { pair = pair; from = side; queue = queue }) len lane short range.0 (get_or (count_from 0 count) k d)))
-      (λ other. no_breaks other (λ i. Send (record { pair = pair; from = side; queue = queue }) (flood_frame len i)) (λ i. refl) 0 count))))))
+      within_fits (lane_of name) len
+      (map (λ i. Send (lane_of name) (flood_frame len i)) (count_from 0 count)) queue.declared queue.among
+      (λ lane short. All-map (IsTraffic before.plan) (λ i. Send (lane_of name) (flood_frame len i)) (count_from 0 count)
+      (λ k d _. flooded (lane_of name) len lane short range.0 (get_or (count_from 0 count) k d)))
+      (λ other. no_breaks other (λ i. Send (lane_of name) (flood_frame len i)) (λ i. refl) 0 count))))
 
   break_fits : (pair_text : List ℕ) → Gives (Fits before) (break_line before pair_text)
   break_fits pair_text =

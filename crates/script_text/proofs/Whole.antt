@@ -104,30 +104,40 @@ no_steps plan steps e = let P : List Line → Type 0 = All (λ line. IsPermitted
 no_traffic : (plan : Plan) (traffic : List Traffic) → traffic ≡ [] → All (IsTraffic plan) traffic
 no_traffic plan traffic e = let P : List Traffic → Type 0 = All (IsTraffic plan) in subst P (sym e) (All-nil (IsTraffic plan))
 
+-- Declarations beside the lines so far, none of which is a step or traffic
+
+abbrev with_declared : Plan → List PairPlan → List DevPlan → Plan
+with_declared plan pairs devs = record plan { pairs = pairs; devs = devs }
+
+declared_more : (before : Before) (pairs : List PairPlan) (devs : List DevPlan) → Held before → before.part ≡ Declarations → IsDeclared (with_declared before.plan pairs devs)
+    → IsWhole (with_declared before.plan pairs devs)
+declared_more before pairs devs held part declared =
+    let none = held.declarations_first part in
+    record {
+      declared = declared;
+      steps = no_steps (with_declared before.plan pairs devs) before.plan.steps none.0;
+      few_steps = held.whole.few_steps;
+      traffic = no_traffic (with_declared before.plan pairs devs) before.plan.traffic none.1;
+      few_frames = held.whole.few_frames;
+      few_bytes = held.whole.few_bytes;
+      few_breaks = held.whole.few_breaks;
+    }
+
 pair_kept : (n : ℕ) (before : Before) (pair : PairPlan) → Held before → AddsPair before pair → Held (with_given n before (APair pair))
 pair_kept n before pair held fits =
     let plan : Plan = before.plan in
     let next : Plan = record before.plan { pairs = before.plan.pairs ++ pair ∷ [] } in
     let whole : IsWhole before.plan = held.whole in
-    let none = held.declarations_first fits.part in
     let all : All IsPair (before.plan.pairs ++ pair ∷ []) =
     All-push IsPair before.plan.pairs pair (All-from_get_or IsPair before.plan.pairs no_pair whole.declared.pairs) fits.fits in
     record {
-      whole = record {
-        declared = record {
-          few_pairs = let long = length-append before.plan.pairs (pair ∷ []) in let room = fits.few in omega arith;
-          pairs = λ k lt. all k no_pair lt;
-          few_devices = whole.declared.few_devices;
-          devices = λ k lt. device_stays plan next (queue_stays plan pair) (dev_plan plan.devs k) (whole.declared.devices k lt);
-          one_on_a_queue = whole.declared.one_on_a_queue;
-        };
-        steps = no_steps next before.plan.steps none.0;
-        few_steps = whole.few_steps;
-        traffic = no_traffic next before.plan.traffic none.1;
-        few_frames = whole.few_frames;
-        few_bytes = whole.few_bytes;
-        few_breaks = whole.few_breaks;
-      };
+      whole = declared_more before (before.plan.pairs ++ pair ∷ []) before.plan.devs held fits.part (record {
+        few_pairs = let long = length-append before.plan.pairs (pair ∷ []) in let room = fits.few in omega arith;
+        pairs = λ k lt. all k no_pair lt;
+        few_devices = whole.declared.few_devices;
+        devices = λ k lt. device_stays plan next (queue_stays plan pair) (dev_plan plan.devs k) (whole.declared.devices k lt);
+        one_on_a_queue = whole.declared.one_on_a_queue;
+      });
       declarations_first = held.declarations_first;
     }
 
@@ -184,26 +194,17 @@ device_kept n before dev held fits =
     let plan : Plan = before.plan in
     let next : Plan = record before.plan { devs = before.plan.devs ++ dev ∷ [] } in
     let whole : IsWhole before.plan = held.whole in
-    let none = held.declarations_first fits.part in
     let stays : (d : DevPlan) → IsDevice plan d → IsDevice next d = device_stays plan next (λ k side queue h. record { declared = h.declared; among = h.among }) in
     let all : All (IsDevice next) (before.plan.devs ++ dev ∷ []) =
     All-push (IsDevice next) before.plan.devs dev (All-weaker (IsDevice plan) (IsDevice next) stays before.plan.devs (All-from_get_or (IsDevice plan) before.plan.devs no_dev whole.declared.devices)) (stays dev fits.fits) in
     record {
-      whole = record {
-        declared = record {
-          few_pairs = whole.declared.few_pairs;
-          pairs = whole.declared.pairs;
-          few_devices = let long = length-append before.plan.devs (dev ∷ []) in let room = fits.few in omega arith;
-          devices = λ k lt. all k no_dev lt;
-          one_on_a_queue = one_each before.plan.devs dev whole.declared.one_on_a_queue fits.free;
-        };
-        steps = no_steps next before.plan.steps none.0;
-        few_steps = whole.few_steps;
-        traffic = no_traffic next before.plan.traffic none.1;
-        few_frames = whole.few_frames;
-        few_bytes = whole.few_bytes;
-        few_breaks = whole.few_breaks;
-      };
+      whole = declared_more before before.plan.pairs (before.plan.devs ++ dev ∷ []) held fits.part (record {
+        few_pairs = whole.declared.few_pairs;
+        pairs = whole.declared.pairs;
+        few_devices = let long = length-append before.plan.devs (dev ∷ []) in let room = fits.few in omega arith;
+        devices = λ k lt. all k no_dev lt;
+        one_on_a_queue = one_each before.plan.devs dev whole.declared.one_on_a_queue fits.free;
+      });
       declarations_first = held.declarations_first;
     }
 
@@ -213,27 +214,18 @@ class_kept n before name class held fits =
     let now : PairPlan = with_class (pair_plan before.plan name.pair) name.side name.queue class in
     let next : Plan = record before.plan { pairs = slice_set before.plan.pairs name.pair now } in
     let whole : IsWhole before.plan = held.whole in
-    let none = held.declarations_first fits.part in
     let same = length-set_pairs before.plan.pairs name.pair now in
     let all : All IsPair (slice_set before.plan.pairs name.pair now) =
     All-set IsPair before.plan.pairs name.pair now (class_fits (pair_plan before.plan name.pair) name.side name.queue class (whole.declared.pairs name.pair fits.queue.declared) fits.small)
     (All-from_get_or IsPair before.plan.pairs no_pair whole.declared.pairs) in
     record {
-      whole = record {
-        declared = record {
-          few_pairs = let few = whole.declared.few_pairs in omega arith;
-          pairs = λ k lt. all k no_pair lt;
-          few_devices = whole.declared.few_devices;
-          devices = λ k lt. device_stays plan next (queue_classed plan name.pair name.side name.queue class) (dev_plan plan.devs k) (whole.declared.devices k lt);
-          one_on_a_queue = whole.declared.one_on_a_queue;
-        };
-        steps = no_steps next before.plan.steps none.0;
-        few_steps = whole.few_steps;
-        traffic = no_traffic next before.plan.traffic none.1;
-        few_frames = whole.few_frames;
-        few_bytes = whole.few_bytes;
-        few_breaks = whole.few_breaks;
-      };
+      whole = declared_more before (slice_set before.plan.pairs name.pair now) before.plan.devs held fits.part (record {
+        few_pairs = let few = whole.declared.few_pairs in omega arith;
+        pairs = λ k lt. all k no_pair lt;
+        few_devices = whole.declared.few_devices;
+        devices = λ k lt. device_stays plan next (queue_classed plan name.pair name.side name.queue class) (dev_plan plan.devs k) (whole.declared.devices k lt);
+        one_on_a_queue = whole.declared.one_on_a_queue;
+      });
       declarations_first = held.declarations_first;
     }
 

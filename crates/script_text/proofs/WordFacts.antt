@@ -9,11 +9,12 @@ use Rattle.hex.specs.Hex.{IsBytes, decode_of}
 use Rattle.hex.specs.declared.error.FromHexError.{FromHexError}
 use Rattle.hex.proofs.HexLemmas.{decode_of-ok}
 use Rattle.step_kinds.specs.declared.names.Side.{Side}
+use Rattle.plan_model.specs.DeclaredPlans.{IsQueueOf}
 use Rattle.plan_model.specs.Plans.{side_plan, pair_plan}
-use Rattle.script_words.specs.Before.{Before, number_named, has_name, pair_names, dev_names, pair_word, dev_word, queue_word}
+use Rattle.script_words.specs.Before.{Before, number_named, has_name, pair_names, dev_names, pair_word, dev_word, queue_word, named_side, named_queue}
 use Rattle.script_words.specs.Declarations.{new_name}
 use Rattle.script_words.specs.Tests.{found_or}
-use Rattle.script_words.specs.Words.{name_word, number_word, number_between, hex_word, hex_of, kind_word, high_low, is_filled}
+use Rattle.script_words.specs.Words.{name_word, side_word, number_word, number_between, hex_word, hex_of, kind_word, high_low, is_filled}
 use Rattle.script_words.specs.declared.fault.Cause.TheVariants.{BadNumber, BadHex, Repeated, UnknownName}
 use Rattle.script_text.proofs.Gives.{Gives, gives_ok, gives_then, gives_passed, gives_found, gives_any}
 
@@ -61,11 +62,21 @@ dev_declared before word =
       holds = λ n e. let lt : n < length (dev_names before) = found_below (dev_names before) name n e in let same = length-map before.plan.devs (λ dev. dev.name) in omega arith;
     })
 
-pub queue_among : (before : Before) (pair : ℕ) (side : Side) (word : List ℕ) → Gives (λ queue. queue < (side_plan (pair_plan before.plan pair) side).queues) (queue_word before pair side word)
+queue_among : (before : Before) (pair : ℕ) (side : Side) (word : List ℕ) → Gives (λ queue. queue < (side_plan (pair_plan before.plan pair) side).queues) (queue_word before pair side word)
 queue_among before pair side word =
     gives_then _ _ _ (gives_any (number_word word)) (λ queue _.
     gives_then _ _ _ (gives_passed (not (nat_lt queue (side_plan (pair_plan before.plan pair) side).queues)) UnknownName) (λ _ e.
     gives_ok _ queue (below queue (side_plan (pair_plan before.plan pair) side).queues e)))
+
+pub side_declared : (before : Before) (pair_text side_text : List ℕ) → Gives (λ name. name.pair < length before.plan.pairs) (named_side before pair_text side_text)
+side_declared before pair_text side_text =
+    gives_then _ _ _ (pair_declared before pair_text) (λ pair lt. gives_then _ _ _ (gives_any (side_word side_text)) (λ side _. gives_ok _ (record { pair = pair; side = side }) lt))
+
+pub queue_declared : (before : Before) (pair_text side_text queue_text : List ℕ) → Gives (λ name. IsQueueOf before.plan name.pair name.side name.queue) (named_queue before pair_text side_text queue_text)
+queue_declared before pair_text side_text queue_text =
+    gives_then _ _ _ (side_declared before pair_text side_text) (λ name lt.
+    gives_then _ _ _ (queue_among before name.pair name.side queue_text) (λ queue among.
+    gives_ok _ (record { pair = name.pair; side = name.side; queue = queue }) (record { declared = lt; among = among })))
 
 pub name_is_new : (names : List (List ℕ)) (word : List ℕ) → Gives (λ name. has_name names name ≡ false) (new_name names word)
 name_is_new names word =

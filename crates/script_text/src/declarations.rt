@@ -7,12 +7,12 @@ ghost use Rattle.script_words.specs.Declarations as rules;
 ghost use Rattle.script_words.specs.Reads.{Reads, result_map};
 ghost use Rattle.script_words.specs.Words.{hex_of};
 
-use crate::lookups::{new_device, new_host, new_pair, read_host, read_pair, read_queue};
+use crate::lookups::{QueueWords, new_device, new_host, new_pair, read_host, read_queue_name};
 use script_plan::Reader;
 use script_words::options::{goes_together, pair_with, read_settings};
 use script_words::settings::behind_key;
-use script_words::words::{read_array, read_number, read_number_between, read_side};
-use script_words::{Cause, Given, LineError, QueueName};
+use script_words::words::{read_array, read_number, read_number_between};
+use script_words::{Cause, Given, LineError};
 use std::alloc::Global;
 use step_kinds::DevPlan;
 use step_kinds::limits::{MOST_DEVICES, MOST_HOSTS, MOST_PAIRS};
@@ -70,16 +70,14 @@ fn read_threshold(key: &[u8], word: &[u8]) -> Result<u32, Cause>
 
 /// `dev NAME PAIR SIDE QUEUE ADDRESS stop=K start=K`
 fn dev_line(before: &Reader, words: DevWords<'_>) -> Result<Given, Cause>
-    ensures { result_map given_of result ≡ rules.dev_line before.now words.entry.name.now words.entry.pair.now words.entry.side.now words.entry.queue.now words.entry.address.now words.entry.stop.now words.entry.start.now }
+    ensures { result_map given_of result ≡ rules.dev_line before.now words.entry.name.now words.entry.on.pair.now words.entry.on.side.now words.entry.on.queue.now words.entry.address.now words.entry.stop.now words.entry.start.now }
 {
     let name = new_device(before, words.name)?;
-    let pair = read_pair(before, words.pair)?;
-    let side = read_side(words.side)?;
-    let queue = read_queue(before, pair, side, words.queue)?;
+    let on = read_queue_name(before, words.on)?;
     let address = read_array(words.address)?;
     let stop = read_threshold(b"stop=", words.stop)?;
     let start = read_threshold(b"start=", words.start)?;
-    if before.devs().any_on(QueueName { pair, side, queue }) {
+    if before.devs().any_on(on) {
         return Err(Cause::Repeated);
     }
     if start < stop {
@@ -91,9 +89,9 @@ fn dev_line(before: &Reader, words: DevWords<'_>) -> Result<Given, Cause>
     Ok(Given::Device {
         dev: DevPlan {
             name,
-            pair,
-            side,
-            queue,
+            pair: on.pair,
+            side: on.side,
+            queue: on.queue,
             address,
             stop,
             start,
@@ -105,29 +103,18 @@ fn dev_line(before: &Reader, words: DevWords<'_>) -> Result<Given, Cause>
 #[derive(Clone, Copy)]
 struct DevWords<'a> {
     name: &'a [u8],
-    pair: &'a [u8],
-    side: &'a [u8],
-    queue: &'a [u8],
+    on: QueueWords<'a>,
     address: &'a [u8],
     stop: &'a [u8],
     start: &'a [u8],
 }
 
 /// `class PAIR SIDE QUEUE CLASS`
-fn class_line(
-    before: &Reader,
-    pair: &[u8],
-    side: &[u8],
-    queue: &[u8],
-    class: &[u8],
-) -> Result<Given, Cause>
-    ensures { result_map given_of result ≡ rules.class_line before.now pair.now side.now queue.now class.now }
+fn class_line(before: &Reader, on: QueueWords<'_>, class: &[u8]) -> Result<Given, Cause>
+    ensures { result_map given_of result ≡ rules.class_line before.now on.entry.pair.now on.entry.side.now on.entry.queue.now class.now }
 {
-    let pair = read_pair(before, pair)?;
-    let side = read_side(side)?;
-    let queue = read_queue(before, pair, side, queue)?;
+    let queue = read_queue_name(before, on)?;
     let class = read_number_between(0, 7, class)?;
-    let queue = QueueName { pair, side, queue };
     if before.is_classed(queue) {
         return Err(Cause::Repeated);
     }
@@ -165,9 +152,7 @@ fn dev_words(before: &Reader, words: &[&[u8]]) -> Result<Given, Cause>
             before,
             DevWords {
                 name,
-                pair,
-                side,
-                queue,
+                on: QueueWords { pair, side, queue },
                 address,
                 stop,
                 start,
@@ -182,7 +167,7 @@ fn class_words(before: &Reader, words: &[&[u8]]) -> Result<Given, Cause>
     ensures { result_map given_of result ≡ rules.class_words before.now (map (λ word. word.now) words.now) }
 {
     match words {
-        [pair, side, queue, class] => class_line(before, pair, side, queue, class),
+        [pair, side, queue, class] => class_line(before, QueueWords { pair, side, queue }, class),
         _ => Err(Cause::UnknownWord),
     }
 }

@@ -1,48 +1,62 @@
 //! Words that name what is declared.
 #![tactic(auto, unfolding(script_words::specs::Tests::and_then))]
 
-ghost use Rattle.std.specs.Prelude.{◌≡◌, ◌<◌, length, false, IfOk};
+ghost use Rattle.std.specs.Prelude.{◌≡◌, ◌<◌, length, IfOk};
 ghost use Rattle.plan_model.specs.Plans.{side_plan, pair_plan, dev_plan};
-ghost use Rattle.script_words.specs.Before.{pair_word, dev_word, queue_word, has_name, pair_names, dev_names};
+ghost use Rattle.script_words.specs.Before.{pair_word, dev_word, queue_word, named_side, named_queue, pair_names, dev_names};
 ghost use Rattle.script_words.specs.Declarations.{host_word, new_name};
 
-use script_plan::Reader;
 use script_plan::rings::side_of;
-use script_words::Cause;
-use script_words::words::{read_name, read_number};
+use script_plan::{Names, Reader};
+use script_words::words::{read_name, read_number, read_side};
+use script_words::{Cause, QueueName, SideName};
 use step_kinds::{Name, Side};
+
+/// The words that name a side of a pair.
+#[derive(Clone, Copy)]
+pub struct SideWords<'a> {
+    pub pair: &'a [u8],
+    pub side: &'a [u8],
+}
+
+/// The words that name a queue of a side of a pair.
+#[derive(Clone, Copy)]
+pub struct QueueWords<'a> {
+    pub pair: &'a [u8],
+    pub side: &'a [u8],
+    pub queue: &'a [u8],
+}
+
+/// A name that isn't among these yet.
+fn new_among(names: &Names, word: &[u8]) -> Result<Name, Cause>
+    ensures { result ≡ new_name names.now word.now }
+{
+    let name = read_name(word)?;
+    if names.contains(name.bytes()) {
+        return Err(Cause::Repeated);
+    }
+    Ok(name)
+}
 
 /// A host that isn't declared yet.
 pub fn new_host(before: &Reader, word: &[u8]) -> Result<Name, Cause>
     ensures { result ≡ new_name before.now.hosts word.now }
 {
-    let name = read_name(word)?;
-    if before.hosts().contains(name.bytes()) {
-        return Err(Cause::Repeated);
-    }
-    Ok(name)
+    new_among(before.hosts(), word)
 }
 
 /// A pair that isn't declared yet.
 pub fn new_pair(before: &Reader, word: &[u8]) -> Result<Name, Cause>
     ensures { result ≡ new_name (pair_names before.now) word.now }
 {
-    let name = read_name(word)?;
-    if before.pairs().contains(name.bytes()) {
-        return Err(Cause::Repeated);
-    }
-    Ok(name)
+    new_among(before.pairs().names(), word)
 }
 
 /// A device that isn't declared yet.
 pub fn new_device(before: &Reader, word: &[u8]) -> Result<Name, Cause>
     ensures { result ≡ new_name (dev_names before.now) word.now }
 {
-    let name = read_name(word)?;
-    if before.devs().contains(name.bytes()) {
-        return Err(Cause::Repeated);
-    }
-    Ok(name)
+    new_among(before.devs().names(), word)
 }
 
 /// A host that is declared.
@@ -78,8 +92,18 @@ pub fn read_device(before: &Reader, word: &[u8]) -> Result<u32, Cause>
     before.devs().number(name.bytes()).ok_or(Cause::UnknownName)
 }
 
+/// The side of a pair that two words name.
+pub fn read_side_name(before: &Reader, words: SideWords<'_>) -> Result<SideName, Cause>
+    ensures value { result ≡ named_side before.now words.entry.pair.now words.entry.side.now }
+    ensures declared { IfOk result (λ name. name.pair < length before.now.plan.pairs) }
+{
+    let pair = read_pair(before, words.pair)?;
+    let side = read_side(words.side)?;
+    Ok(SideName { pair, side })
+}
+
 /// The queue of a side that a word names.
-pub fn read_queue(before: &Reader, pair: u32, side: Side, word: &[u8]) -> Result<u32, Cause>
+fn read_queue(before: &Reader, pair: u32, side: Side, word: &[u8]) -> Result<u32, Cause>
     requires { pair < length before.now.plan.pairs }
     ensures value { result ≡ queue_word before.now pair side word.now }
     ensures below { IfOk result (λ queue. queue < (side_plan (pair_plan before.now.plan pair) side).queues) }
@@ -89,4 +113,16 @@ pub fn read_queue(before: &Reader, pair: u32, side: Side, word: &[u8]) -> Result
         return Err(Cause::UnknownName);
     }
     Ok(queue)
+}
+
+/// The queue of a side of a pair that three words name.
+pub fn read_queue_name(before: &Reader, words: QueueWords<'_>) -> Result<QueueName, Cause>
+    ensures value { result ≡ named_queue before.now words.entry.pair.now words.entry.side.now words.entry.queue.now }
+    ensures declared { IfOk result (λ name. name.pair < length before.now.plan.pairs) }
+    ensures among { IfOk result (λ name. name.queue < (side_plan (pair_plan before.now.plan name.pair) name.side).queues) }
+{
+    let QueueWords { pair, side, queue } = words;
+    let SideName { pair, side } = read_side_name(before, SideWords { pair, side })?;
+    let queue = read_queue(before, pair, side, queue)?;
+    Ok(QueueName { pair, side, queue })
 }

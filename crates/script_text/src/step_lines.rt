@@ -10,17 +10,17 @@ ghost use Rattle.script_words.specs.Reads.{Reads, result_map};
 ghost use Rattle.script_words.specs.StepLines as rules;
 ghost use Rattle.script_words.specs.StepWords.{pair_step_of, side_steps_of, queue_steps_of, numbered_of, frame_steps_of};
 
-use crate::lookups::{read_device, read_pair, read_queue};
+use crate::lookups::{
+    QueueWords, SideWords, read_device, read_pair, read_queue_name, read_side_name,
+};
 use script_plan::Reader;
 use script_plan::rings::{posts_in, side_of};
 use script_words::step_words::{
     FrameWord, NumberWord, PairWord, QueueWord, SideWord, frame_word_of, number_word_of,
     pair_word_of, queue_word_of, side_word_of,
 };
-use script_words::words::{
-    read_array, read_bytes, read_kind, read_number, read_number_between, read_side,
-};
-use script_words::{Cause, Given, LineError, Macro, Repeated};
+use script_words::words::{read_array, read_bytes, read_kind, read_number, read_number_between};
+use script_words::{Cause, Given, LineError, Macro, QueueName, Repeated, SideName};
 use std::alloc::Global;
 use step_kinds::limits::{MOST_FRAME_BYTES, MOST_STEPS};
 use step_kinds::{Frame, PairPlan, Side, Step};
@@ -51,44 +51,27 @@ fn pair_step_line(before: &Reader, word: PairWord, pair: &[u8]) -> Result<Given,
 }
 
 /// P S
-fn side_line(before: &Reader, word: SideWord, pair: &[u8], side: &[u8]) -> Result<Given, Cause>
-    ensures { result_map given_of result ≡ rules.side_line before.now (side_steps_of word) pair.now side.now }
+fn side_line(before: &Reader, word: SideWord, of: SideWords<'_>) -> Result<Given, Cause>
+    ensures { result_map given_of result ≡ rules.side_line before.now (side_steps_of word) of.entry.pair.now of.entry.side.now }
 {
-    let pair = read_pair(before, pair)?;
-    let side = read_side(side)?;
+    let SideName { pair, side } = read_side_name(before, of)?;
     let windows = side_of(before.pair(pair), side).windows;
     steps_within(before, word.steps(windows, pair, side))
 }
 
 /// P S Q
-fn queue_line(
-    before: &Reader,
-    word: QueueWord,
-    pair: &[u8],
-    side: &[u8],
-    queue: &[u8],
-) -> Result<Given, Cause>
-    ensures { result_map given_of result ≡ rules.queue_line before.now (queue_steps_of word) pair.now side.now queue.now }
+fn queue_line(before: &Reader, word: QueueWord, on: QueueWords<'_>) -> Result<Given, Cause>
+    ensures { result_map given_of result ≡ rules.queue_line before.now (queue_steps_of word) on.entry.pair.now on.entry.side.now on.entry.queue.now }
 {
-    let pair = read_pair(before, pair)?;
-    let side = read_side(side)?;
-    let queue = read_queue(before, pair, side, queue)?;
+    let QueueName { pair, side, queue } = read_queue_name(before, on)?;
     steps_within(before, word.steps(pair, side, queue))
 }
 
 /// `recv P S Q COPIES`
-fn receive_line(
-    before: &Reader,
-    pair: &[u8],
-    side: &[u8],
-    queue: &[u8],
-    copies: &[u8],
-) -> Result<Given, Cause>
-    ensures { result_map given_of result ≡ rules.receive_line before.now pair.now side.now queue.now copies.now }
+fn receive_line(before: &Reader, on: QueueWords<'_>, copies: &[u8]) -> Result<Given, Cause>
+    ensures { result_map given_of result ≡ rules.receive_line before.now on.entry.pair.now on.entry.side.now on.entry.queue.now copies.now }
 {
-    let pair = read_pair(before, pair)?;
-    let side = read_side(side)?;
-    let queue = read_queue(before, pair, side, queue)?;
+    let QueueName { pair, side, queue } = read_queue_name(before, on)?;
     let copies = read_number_between(1, 512, copies)?;
     steps_within(
         before,
@@ -105,30 +88,21 @@ fn receive_line(
 fn numbered_line(
     before: &Reader,
     word: NumberWord,
-    pair: &[u8],
-    side: &[u8],
+    of: SideWords<'_>,
     number: &[u8],
 ) -> Result<Given, Cause>
-    ensures { result_map given_of result ≡ rules.numbered_line before.now (numbered_of word) pair.now side.now number.now }
+    ensures { result_map given_of result ≡ rules.numbered_line before.now (numbered_of word) of.entry.pair.now of.entry.side.now number.now }
 {
-    let pair = read_pair(before, pair)?;
-    let side = read_side(side)?;
+    let SideName { pair, side } = read_side_name(before, of)?;
     let number = read_number_between(word.least(), word.most(), number)?;
     steps_within(before, word.steps(pair, side, number))
 }
 
 /// `spad P S INDEX VALUE`
-fn spad_line(
-    before: &Reader,
-    pair: &[u8],
-    side: &[u8],
-    index: &[u8],
-    value: &[u8],
-) -> Result<Given, Cause>
-    ensures { result_map given_of result ≡ rules.spad_line before.now pair.now side.now index.now value.now }
+fn spad_line(before: &Reader, of: SideWords<'_>, index: &[u8], value: &[u8]) -> Result<Given, Cause>
+    ensures { result_map given_of result ≡ rules.spad_line before.now of.entry.pair.now of.entry.side.now index.now value.now }
 {
-    let pair = read_pair(before, pair)?;
-    let side = read_side(side)?;
+    let SideName { pair, side } = read_side_name(before, of)?;
     let index = read_number_between(0, 15, index)?;
     let value = read_number(value)?;
     if index < 12 && !before.pair(pair).raw {
@@ -148,15 +122,13 @@ fn spad_line(
 /// `showmem P S AT LEN`
 fn show_memory_line(
     before: &Reader,
-    pair: &[u8],
-    side: &[u8],
+    of: SideWords<'_>,
     at: &[u8],
     len: &[u8],
 ) -> Result<Given, Cause>
-    ensures { result_map given_of result ≡ rules.show_memory_line before.now pair.now side.now at.now len.now }
+    ensures { result_map given_of result ≡ rules.show_memory_line before.now of.entry.pair.now of.entry.side.now at.now len.now }
 {
-    let pair = read_pair(before, pair)?;
-    let side = read_side(side)?;
+    let SideName { pair, side } = read_side_name(before, of)?;
     let at = read_number(at)? as u64;
     let len = read_number_between(1, 64, len)?;
     let own = side_of(before.pair(pair), side);
@@ -204,16 +176,14 @@ fn reach(pair: &PairPlan, side: Side) -> u64
 fn poke_line(
     alloc: Global,
     before: &Reader,
-    pair: &[u8],
-    side: &[u8],
+    of: SideWords<'_>,
     window: &[u8],
     offset: &[u8],
     bytes: &[u8],
 ) -> Result<Given, LineError>
-    ensures { Reads (result_map given_of result) (rules.poke_line before.now pair.now side.now window.now offset.now bytes.now) }
+    ensures { Reads (result_map given_of result) (rules.poke_line before.now of.entry.pair.now of.entry.side.now window.now offset.now bytes.now) }
 {
-    let pair = read_pair(before, pair)?;
-    let side = read_side(side)?;
+    let SideName { pair, side } = read_side_name(before, of)?;
     let window = read_number(window)?;
     let plan = before.pair(pair);
     if window >= plan.a.windows || window >= plan.b.windows {
@@ -278,16 +248,12 @@ fn frame_line(
     alloc: Global,
     before: &Reader,
     word: FrameWord,
-    pair: &[u8],
-    side: &[u8],
-    queue: &[u8],
+    on: QueueWords<'_>,
     frame: &[u8],
 ) -> Result<Given, LineError>
-    ensures { Reads (result_map given_of result) (rules.frame_line before.now (frame_steps_of word) pair.now side.now queue.now frame.now) }
+    ensures { Reads (result_map given_of result) (rules.frame_line before.now (frame_steps_of word) on.entry.pair.now on.entry.side.now on.entry.queue.now frame.now) }
 {
-    let pair = read_pair(before, pair)?;
-    let side = read_side(side)?;
-    let queue = read_queue(before, pair, side, queue)?;
+    let QueueName { pair, side, queue } = read_queue_name(before, on)?;
     let bytes = read_bytes(alloc, frame)?;
     if bytes.len() > MOST_FRAME_BYTES as usize {
         return Err(LineError::Fault(Cause::TooMany));
@@ -376,7 +342,7 @@ fn line_of_two(before: &Reader, word: &[u8], a: &[u8], b: &[u8]) -> Result<Given
     ensures { result_map given_of result ≡ rules.line_of_two before.now word.now a.now b.now }
 {
     match side_word_of(word) {
-        Some(steps) => side_line(before, steps, a, b),
+        Some(steps) => side_line(before, steps, SideWords { pair: a, side: b }),
         None => Err(Cause::UnknownWord),
     }
 }
@@ -385,11 +351,12 @@ fn line_of_two(before: &Reader, word: &[u8], a: &[u8], b: &[u8]) -> Result<Given
 fn line_of_three(before: &Reader, word: &[u8], a: &[u8], b: &[u8], c: &[u8]) -> Result<Given, Cause>
     ensures { result_map given_of result ≡ rules.line_of_three before.now word.now a.now b.now c.now }
 {
+    let (pair, side, queue) = (a, b, c);
     if let Some(numbered) = number_word_of(word) {
-        return numbered_line(before, numbered, a, b, c);
+        return numbered_line(before, numbered, SideWords { pair, side }, c);
     }
     match queue_word_of(word) {
-        Some(steps) => queue_line(before, steps, a, b, c),
+        Some(steps) => queue_line(before, steps, QueueWords { pair, side, queue }),
         None => Err(Cause::UnknownWord),
     }
 }
@@ -406,19 +373,20 @@ fn line_of_four(
 ) -> Result<Given, LineError>
     ensures { Reads (result_map given_of result) (rules.line_of_four before.now word.now a.now b.now c.now d.now) }
 {
+    let (pair, side, queue) = (a, b, c);
     if word == b"recv".as_slice() {
-        Ok(receive_line(before, a, b, c, d)?)
+        Ok(receive_line(before, QueueWords { pair, side, queue }, d)?)
     } else if word == b"spad".as_slice() {
-        Ok(spad_line(before, a, b, c, d)?)
+        Ok(spad_line(before, SideWords { pair, side }, c, d)?)
     } else if word == b"showmem".as_slice() {
-        Ok(show_memory_line(before, a, b, c, d)?)
+        Ok(show_memory_line(before, SideWords { pair, side }, c, d)?)
     } else if word == b"xbegin".as_slice() {
         ethernet_line(alloc, before, false, a, b, c, d)
     } else if word == b"xmit".as_slice() {
         ethernet_line(alloc, before, true, a, b, c, d)
     } else {
         let frame = frame_word_of(word).ok_or(Cause::UnknownWord)?;
-        frame_line(alloc, before, frame, a, b, c, d)
+        frame_line(alloc, before, frame, QueueWords { pair, side, queue }, d)
     }
 }
 
@@ -436,7 +404,7 @@ fn line_of_five(
     ensures { Reads (result_map given_of result) (rules.line_of_five before.now word.now a.now b.now c.now d.now e.now) }
 {
     if word == b"poke".as_slice() {
-        poke_line(alloc, before, a, b, c, d, e)
+        poke_line(alloc, before, SideWords { pair: a, side: b }, c, d, e)
     } else {
         Err(LineError::Fault(Cause::UnknownWord))
     }

@@ -10,12 +10,12 @@ ghost use Rattle.script_words.specs.Compact.{given_of};
 ghost use Rattle.script_words.specs.Reads.{Reads, result_map};
 ghost use Rattle.script_words.specs.TrafficLines as rules;
 
-use crate::lookups::{read_pair, read_queue};
+use crate::lookups::{QueueWords, read_pair, read_queue_name};
 use script_plan::Reader;
 use script_plan::rings::ring_of;
 use script_words::options::agrees;
-use script_words::words::{read_bytes, read_number_between, read_side};
-use script_words::{Cause, Given, LineError};
+use script_words::words::{read_bytes, read_number_between};
+use script_words::{Cause, Given, LineError, QueueName};
 use std::alloc::Global;
 use step_kinds::limits::{MOST_BREAKS, MOST_TRAFFIC_ENTRIES};
 use step_kinds::{Frame, LaneName, PairPlan};
@@ -67,40 +67,35 @@ fn break_line(before: &Reader, pair: &[u8]) -> Result<Given, Cause>
 fn frame_line(
     alloc: Global,
     before: &Reader,
-    pair: &[u8],
-    side: &[u8],
-    queue: &[u8],
+    on: QueueWords<'_>,
     frame: &[u8],
 ) -> Result<Given, LineError>
-    ensures { Reads (result_map given_of result) (rules.traffic_frame_line before.now pair.now side.now queue.now frame.now) }
+    ensures { Reads (result_map given_of result) (rules.traffic_frame_line before.now on.entry.pair.now on.entry.side.now on.entry.queue.now frame.now) }
 {
-    let pair = read_pair(before, pair)?;
-    let from = read_side(side)?;
-    let queue = read_queue(before, pair, from, queue)?;
-    let bytes = read_bytes(alloc, frame)?;
+    let QueueName {
+        pair,
+        side: from,
+        queue,
+    } = read_queue_name(before, on)?;
     let lane = LaneName { pair, from, queue };
+    let bytes = read_bytes(alloc, frame)?;
     test_lane(before, lane, bytes.len() as u64, 1)?;
     let frame = Frame::of_vec(bytes.into_vec());
     Ok(Given::Frame { lane, frame })
 }
 
 /// `flood PAIR SIDE QUEUE COUNT LEN`
-fn flood_line(
-    before: &Reader,
-    pair: &[u8],
-    side: &[u8],
-    queue: &[u8],
-    count: &[u8],
-    len: &[u8],
-) -> Result<Given, Cause>
-    ensures { result_map given_of result ≡ rules.flood_line before.now pair.now side.now queue.now count.now len.now }
+fn flood_line(before: &Reader, on: QueueWords<'_>, count: &[u8], len: &[u8]) -> Result<Given, Cause>
+    ensures { result_map given_of result ≡ rules.flood_line before.now on.entry.pair.now on.entry.side.now on.entry.queue.now count.now len.now }
 {
-    let pair = read_pair(before, pair)?;
-    let from = read_side(side)?;
-    let queue = read_queue(before, pair, from, queue)?;
+    let QueueName {
+        pair,
+        side: from,
+        queue,
+    } = read_queue_name(before, on)?;
+    let lane = LaneName { pair, from, queue };
     let count = read_number_between(1, 100_000, count)?;
     let len = read_number_between(1, 65_536, len)?;
-    let lane = LaneName { pair, from, queue };
     test_lane(before, lane, len as u64, count as u64)?;
     Ok(Given::Flood { lane, count, len })
 }
@@ -127,14 +122,14 @@ pub fn traffic_line(
         [_, _, _] => Err(LineError::Fault(Cause::UnknownWord)),
         [pair, side, queue, frame] => {
             if word == b"frame".as_slice() {
-                frame_line(alloc, before, pair, side, queue, frame)
+                frame_line(alloc, before, QueueWords { pair, side, queue }, frame)
             } else {
                 Err(LineError::Fault(Cause::UnknownWord))
             }
         }
         [pair, side, queue, count, len] => {
             if word == b"flood".as_slice() {
-                Ok(flood_line(before, pair, side, queue, count, len)?)
+                Ok(flood_line(before, QueueWords { pair, side, queue }, count, len)?)
             } else {
                 Err(LineError::Fault(Cause::UnknownWord))
             }

@@ -11,25 +11,29 @@ use Rattle.hex.proofs.HexLemmas.{decode_of-even, decode_of-ok, decode_of-encode_
 use Rattle.script_words.specs.Laws.{BytesAreHex}
 use Rattle.script_words.specs.Words.{bytes_of}
 
+-- A letter in small letters
+
+small_below : (c : ℕ) → c < 65 → to_ascii_lowercase c ≡ c
+small_below c h = cond-true (nat_lt c 65) c (cond (nat_lt c 91) (c + 32) c) (lt-ltb c 65 h)
+
+small_of_capital : (c : ℕ) → 65 ≤ c → c < 91 → to_ascii_lowercase c ≡ c + 32
+small_of_capital c low high =
+    cond-false (nat_lt c 65) c (cond (nat_lt c 91) (c + 32) c) (le-ltb c 65 low) ∙ cond-true (nat_lt c 91) (c + 32) c (lt-ltb c 91 high)
+
+small_past : (c : ℕ) → 91 ≤ c → to_ascii_lowercase c ≡ c
+small_past c h =
+    cond-false (nat_lt c 65) c (cond (nat_lt c 91) (c + 32) c) (le-ltb c 65 (omega arith)) ∙ cond-false (nat_lt c 91) (c + 32) c (le-ltb c 91 h)
+
 -- A digit in small letters is the digit of its value
 
-upper_letter : (d : ℕ) → d < 6 → to_ascii_lowercase (65 + d) ≡ slice_index lower_digits (10 + d)
-upper_letter zero h = refl
-upper_letter (suc zero) h = refl
-upper_letter (suc (suc zero)) h = refl
-upper_letter (suc (suc (suc zero))) h = refl
-upper_letter (suc (suc (suc (suc zero)))) h = refl
-upper_letter (suc (suc (suc (suc (suc zero))))) h = refl
-upper_letter (suc (suc (suc (suc (suc (suc d)))))) h = absurd (omega arith)
-
-small_letter : (d : ℕ) → d < 6 → to_ascii_lowercase (97 + d) ≡ slice_index lower_digits (10 + d)
-small_letter zero h = refl
-small_letter (suc zero) h = refl
-small_letter (suc (suc zero)) h = refl
-small_letter (suc (suc (suc zero))) h = refl
-small_letter (suc (suc (suc (suc zero)))) h = refl
-small_letter (suc (suc (suc (suc (suc zero))))) h = refl
-small_letter (suc (suc (suc (suc (suc (suc d)))))) h = absurd (omega arith)
+letter_digit : (d : ℕ) → d < 6 → 97 + d ≡ slice_index lower_digits (10 + d)
+letter_digit zero h = refl
+letter_digit (suc zero) h = refl
+letter_digit (suc (suc zero)) h = refl
+letter_digit (suc (suc (suc zero))) h = refl
+letter_digit (suc (suc (suc (suc zero)))) h = refl
+letter_digit (suc (suc (suc (suc (suc zero))))) h = refl
+letter_digit (suc (suc (suc (suc (suc (suc d)))))) h = absurd (omega arith)
 
 decimal_digit : (d : ℕ) → d < 10 → to_ascii_lowercase (48 + d) ≡ slice_index lower_digits d
 decimal_digit zero h = refl
@@ -47,17 +51,16 @@ decimal_digit (suc (suc (suc (suc (suc (suc (suc (suc (suc (suc d)))))))))) h = 
 abbrev IsDigitOf : ℕ → ℕ → Type 0
 IsDigitOf c v = (v < 16) × (to_ascii_lowercase c ≡ slice_index lower_digits v)
 
+at_letter : (c v : ℕ) → to_ascii_lowercase c ≡ 97 + (v - 10) → 10 ≤ v → v < 16 → IsDigitOf c v
+at_letter c v e low high =
+    let value : 10 + (v - 10) ≡ v = omega arith in
+    (high, e ∙ (letter_digit (v - 10) (omega arith) ∙ ap (slice_index lower_digits) value))
+
 at_upper : (c v : ℕ) → 65 ≤ c → c ≤ 70 → c - 55 ≡ v → IsDigitOf c v
-at_upper c v low high e =
-    let here : 65 + (c - 65) ≡ c = omega arith in
-    let value : 10 + (c - 65) ≡ v = omega arith in
-    (omega arith, ap to_ascii_lowercase (sym here) ∙ (upper_letter (c - 65) (omega arith) ∙ ap (slice_index lower_digits) value))
+at_upper c v low high e = let here : c + 32 ≡ 97 + (v - 10) = omega arith in at_letter c v (small_of_capital c low (omega arith) ∙ here) (omega arith) (omega arith)
 
 at_small : (c v : ℕ) → 97 ≤ c → c ≤ 102 → c - 87 ≡ v → IsDigitOf c v
-at_small c v low high e =
-    let here : 97 + (c - 97) ≡ c = omega arith in
-    let value : 10 + (c - 97) ≡ v = omega arith in
-    (omega arith, ap to_ascii_lowercase (sym here) ∙ (small_letter (c - 97) (omega arith) ∙ ap (slice_index lower_digits) value))
+at_small c v low high e = let here : c ≡ 97 + (v - 10) = omega arith in at_letter c v (small_past c (omega arith) ∙ here) (omega arith) (omega arith)
 
 at_decimal : (c v : ℕ) → 48 ≤ c → c ≤ 57 → c - 48 ≡ v → IsDigitOf c v
 at_decimal c v low high e =
@@ -91,10 +94,7 @@ step a b i va vb r =
 
 one_pair : (a b i : ℕ) (rest bytes : List ℕ) (va vb : Option ℕ) (r : Result (List ℕ) FromHexError) → hex_digit_value a ≡ va → hex_digit_value b ≡ vb
     → ((more : List ℕ) → r ≡ Ok more → str_to_ascii_lowercase rest ≡ encode_lower more)
-    → ((do
-      h ← digit_or_error a i va
-      l ← digit_or_error b (i + 1) vb
-      Ok (h * 16 + l)) >>= (λ byte. r >>= (λ more. Ok (byte ∷ more)))) ≡ Ok bytes
+    → step a b i va vb r ≡ Ok bytes
     → str_to_ascii_lowercase (a ∷ b ∷ rest) ≡ encode_lower bytes
 unfolding encode_with
 one_pair a b i rest bytes (Some h) (Some l) (Ok more) ea eb later e =
@@ -160,10 +160,10 @@ capital c low high = elim (cases_lt 70 c) [
 
 same_value : (c : ℕ) → hex_digit_value (to_ascii_lowercase c) ≡ hex_digit_value c
 same_value c = elim (cases_lt c 65) [
-  | inl below ↦ ap hex_digit_value (cond-true (nat_lt c 65) c (cond (nat_lt c 91) (c + 32) c) (lt-ltb c 65 below))
+  | inl below ↦ ap hex_digit_value (small_below c below)
   | inr above ↦ elim (cases_lt c 91) [
-    | inl letter ↦ ap hex_digit_value (cond-false (nat_lt c 65) c (cond (nat_lt c 91) (c + 32) c) (le-ltb c 65 above) ∙ cond-true (nat_lt c 91) (c + 32) c (lt-ltb c 91 letter)) ∙ capital c above letter
-    | inr past ↦ ap hex_digit_value (cond-false (nat_lt c 65) c (cond (nat_lt c 91) (c + 32) c) (le-ltb c 65 above) ∙ cond-false (nat_lt c 91) (c + 32) c (le-ltb c 91 past))
+    | inl letter ↦ ap hex_digit_value (small_of_capital c above letter) ∙ capital c above letter
+    | inr past ↦ ap hex_digit_value (small_past c past)
   ]
 ]
 

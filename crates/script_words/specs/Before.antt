@@ -12,9 +12,10 @@ use Rattle.step_kinds.specs.declared.plan.Traffic.{Traffic}
 use Rattle.step_kinds.specs.declared.steps.Step.{Step}
 use Rattle.plan_model.specs.Plans.{side_plan, pair_plan}
 use Rattle.script_words.specs.Tests.{◌>>=◌, fault_if, found_or}
-use Rattle.script_words.specs.Words.{name_word, number_word}
+use Rattle.script_words.specs.Words.{name_word, side_word, number_word}
 use Rattle.script_words.specs.declared.parts.Part.{Part}
 use Rattle.script_words.specs.declared.parts.Part.TheVariants.{Declarations, Steps, Traffic as TrafficPart}
+use Rattle.script_words.specs.declared.parts.SideName.{SideName}
 use Rattle.script_words.specs.declared.parts.QueueName.{QueueName}
 use Rattle.script_words.specs.declared.fault.Cause.{Cause}
 use Rattle.script_words.specs.declared.fault.Cause.TheVariants.{UnknownName}
@@ -100,3 +101,17 @@ queue_word before pair side word = do
   queue ← number_word word
   _ ← fault_if (not (nat_lt queue (side_plan (pair_plan before.plan pair) side).queues)) UnknownName
   Ok queue
+
+-- the side of a pair that two words name
+abbrev pub named_side : Before → List ℕ → List ℕ → Result SideName Cause
+named_side before pair_text side_text = do
+  pair ← pair_word before pair_text
+  side ← side_word side_text
+  Ok (record { pair = pair; side = side })
+
+-- the queue of a side of a pair that three words name
+abbrev pub named_queue : Before → List ℕ → List ℕ → List ℕ → Result QueueName Cause
+named_queue before pair_text side_text queue_text = do
+  name ← named_side before pair_text side_text
+  queue ← queue_word before name.pair name.side queue_text
+  Ok (record { pair = name.pair; side = name.side; queue = queue })

@@ -7,10 +7,10 @@ use Rattle.step_kinds.specs.Limits.{most_hosts, most_pairs, most_devices}
 use Rattle.step_kinds.specs.declared.names.Side.{Side}
 use Rattle.step_kinds.specs.declared.names.Side.TheVariants.{A, B}
 use Rattle.step_kinds.specs.declared.plan.DevPlan.{DevPlan}
-use Rattle.script_words.specs.Before.{Before, Given, Host, APair, ADevice, AClass, StepsBegin, TrafficBegins, has_name, pair_names, dev_names, pair_word, queue_word}
+use Rattle.script_words.specs.Before.{Before, Given, Host, APair, ADevice, AClass, StepsBegin, TrafficBegins, has_name, pair_names, dev_names, named_queue}
 use Rattle.script_words.specs.Settings.{settings_from, pair_with, goes_together}
 use Rattle.script_words.specs.Tests.{◌>>=◌, fault_if, found_or}
-use Rattle.script_words.specs.Words.{name_word, side_word, number_word, number_between, hex_of, behind}
+use Rattle.script_words.specs.Words.{name_word, number_word, number_between, hex_of, behind}
 use Rattle.script_words.specs.declared.parts.QueueName.{QueueName}
 use Rattle.script_words.specs.declared.fault.Cause.{Cause}
 use Rattle.script_words.specs.declared.fault.Cause.TheVariants.{UnknownWord, Repeated, UnknownName, BadGeometry, TooMany}
@@ -69,16 +69,14 @@ sits_on pair side queue dev = (dev.pair == pair) && (same_side dev.side side && 
 abbrev pub dev_line : Before → List ℕ → List ℕ → List ℕ → List ℕ → List ℕ → List ℕ → List ℕ → Result Given Cause
 dev_line before name_text pair_text side_text queue_text address_text stop_text start_text = do
   name ← new_name (dev_names before) name_text
-  pair ← pair_word before pair_text
-  side ← side_word side_text
-  queue ← queue_word before pair side queue_text
+  on ← named_queue before pair_text side_text queue_text
   address ← hex_of 6 address_text
   stop ← threshold_word (codes "stop=") stop_text
   start ← threshold_word (codes "start=") start_text
-  _ ← fault_if (list_any (sits_on pair side queue) before.plan.devs) Repeated
+  _ ← fault_if (list_any (sits_on on.pair on.side on.queue) before.plan.devs) Repeated
   _ ← fault_if (nat_lt start stop) BadGeometry
   _ ← fault_if (not (nat_lt (length before.plan.devs) most_devices)) TooMany
-  Ok (ADevice (record { name = name; pair = pair; side = side; queue = queue; address = address; stop = stop; start = start }))
+  Ok (ADevice (record { name = name; pair = on.pair; side = on.side; queue = on.queue; address = address; stop = stop; start = start }))
 
 -- whether this is the same queue
 abbrev pub is_queue : ℕ → Side → ℕ → QueueName → Bool
@@ -87,12 +85,10 @@ is_queue pair side queue name = (name.pair == pair) && (same_side name.side side
 -- `class PAIR SIDE QUEUE CLASS`
 abbrev pub class_line : Before → List ℕ → List ℕ → List ℕ → List ℕ → Result Given Cause
 class_line before pair_text side_text queue_text class_text = do
-  pair ← pair_word before pair_text
-  side ← side_word side_text
-  queue ← queue_word before pair side queue_text
+  name ← named_queue before pair_text side_text queue_text
   class ← number_between 0 7 class_text
-  _ ← fault_if (list_any (is_queue pair side queue) before.classed) Repeated
-  Ok (AClass (record { pair = pair; side = side; queue = queue }) class)
+  _ ← fault_if (list_any (is_queue name.pair name.side name.queue) before.classed) Repeated
+  Ok (AClass name class)
 
 -- A line among the declarations: its first word says what it is, and then the number of its words has to be one that it takes.
 abbrev pub lone_word : List (List ℕ) → Given → Result Given Cause

@@ -11,9 +11,9 @@ use Rattle.step_kinds.specs.declared.steps.Step.TheVariants.{Enable, Train, Brea
 use Rattle.plan_model.specs.Ethernet.{ethernet_header}
 use Rattle.plan_model.specs.Macros.{send, xmit, land_all, receive, offer_all}
 use Rattle.plan_model.specs.Plans.{side_plan, pair_plan, dev_plan}
-use Rattle.script_words.specs.Before.{Before, Given, MoreSteps, TrafficBegins, pair_word, dev_word, queue_word}
+use Rattle.script_words.specs.Before.{Before, Given, MoreSteps, TrafficBegins, pair_word, dev_word, named_side, named_queue}
 use Rattle.script_words.specs.Tests.{◌>>=◌, fault_if}
-use Rattle.script_words.specs.Words.{side_word, number_word, number_between, hex_word, hex_of, kind_word}
+use Rattle.script_words.specs.Words.{number_word, number_between, hex_word, hex_of, kind_word}
 use Rattle.script_words.specs.declared.fault.Cause.{Cause}
 use Rattle.script_words.specs.declared.fault.Cause.TheVariants.{UnknownWord, BadNumber, UnknownName, BadPair, TooMany}
 
@@ -51,9 +51,8 @@ side_steps word =
 
 abbrev pub side_line : Before → (PairPlan → ℕ → Side → List Step) → List ℕ → List ℕ → Result Given Cause
 side_line before steps pair_text side_text = do
-  pair ← pair_word before pair_text
-  side ← side_word side_text
-  steps_within before (steps (pair_plan before.plan pair) pair side)
+  name ← named_side before pair_text side_text
+  steps_within before (steps (pair_plan before.plan name.pair) name.pair name.side)
 
 -- P S Q
 abbrev pub queue_steps : List ℕ → Option (ℕ → Side → ℕ → List Step)
@@ -71,19 +70,15 @@ queue_steps word =
 
 abbrev pub queue_line : Before → (ℕ → Side → ℕ → List Step) → List ℕ → List ℕ → List ℕ → Result Given Cause
 queue_line before steps pair_text side_text queue_text = do
-  pair ← pair_word before pair_text
-  side ← side_word side_text
-  queue ← queue_word before pair side queue_text
-  steps_within before (steps pair side queue)
+  name ← named_queue before pair_text side_text queue_text
+  steps_within before (steps name.pair name.side name.queue)
 
 -- `recv P S Q COPIES`
 abbrev pub receive_line : Before → List ℕ → List ℕ → List ℕ → List ℕ → Result Given Cause
 receive_line before pair_text side_text queue_text copies_text = do
-  pair ← pair_word before pair_text
-  side ← side_word side_text
-  queue ← queue_word before pair side queue_text
+  name ← named_queue before pair_text side_text queue_text
   copies ← number_between 1 512 copies_text
-  steps_within before (receive pair side queue copies)
+  steps_within before (receive name.pair name.side name.queue copies)
 
 -- P S Q HEX
 abbrev pub frame_steps : List ℕ → Option (PairPlan → ℕ → Side → ℕ → List ℕ → List Step)
@@ -94,12 +89,10 @@ frame_steps word =
 
 abbrev pub frame_line : Before → (PairPlan → ℕ → Side → ℕ → List ℕ → List Step) → List ℕ → List ℕ → List ℕ → List ℕ → Result Given Cause
 frame_line before steps pair_text side_text queue_text frame_text = do
-  pair ← pair_word before pair_text
-  side ← side_word side_text
-  queue ← queue_word before pair side queue_text
+  name ← named_queue before pair_text side_text queue_text
   frame ← hex_word frame_text
   _ ← fault_if (nat_lt most_frame_bytes (length frame)) TooMany
-  steps_within before (steps (pair_plan before.plan pair) pair side queue frame)
+  steps_within before (steps (pair_plan before.plan name.pair) name.pair name.side name.queue frame)
 
 -- P S and a number: which numbers it takes, and what its steps are
 pub record NumberedSteps : Type 0 where
@@ -123,30 +116,27 @@ numbered_steps word =
 
 abbrev pub numbered_line : Before → NumberedSteps → List ℕ → List ℕ → List ℕ → Result Given Cause
 numbered_line before numbered pair_text side_text number_text = do
-  pair ← pair_word before pair_text
-  side ← side_word side_text
+  name ← named_side before pair_text side_text
   number ← number_between numbered.least numbered.most number_text
-  steps_within before (numbered.steps pair side number)
+  steps_within before (numbered.steps name.pair name.side number)
 
 -- `spad P S INDEX VALUE`: the scratchpads below 12 are the transport's own
 abbrev pub spad_line : Before → List ℕ → List ℕ → List ℕ → List ℕ → Result Given Cause
 spad_line before pair_text side_text index_text value_text = do
-  pair ← pair_word before pair_text
-  side ← side_word side_text
+  name ← named_side before pair_text side_text
   i ← number_between 0 15 index_text
   value ← number_word value_text
-  _ ← fault_if (nat_lt i 12 && not (pair_plan before.plan pair).raw) BadPair
-  steps_within before (Spad pair side i value ∷ [])
+  _ ← fault_if (nat_lt i 12 && not (pair_plan before.plan name.pair).raw) BadPair
+  steps_within before (Spad name.pair name.side i value ∷ [])
 
 -- `showmem P S AT LEN`: within the side's memory
 abbrev pub show_memory_line : Before → List ℕ → List ℕ → List ℕ → List ℕ → Result Given Cause
 show_memory_line before pair_text side_text at_text len_text = do
-  pair ← pair_word before pair_text
-  side ← side_word side_text
+  name ← named_side before pair_text side_text
   at ← number_word at_text
   len ← number_between 1 64 len_text
-  _ ← fault_if (nat_lt ((side_plan (pair_plan before.plan pair) side).windows * (side_plan (pair_plan before.plan pair) side).cap) (at + len)) BadNumber
-  steps_within before (ShowMem pair side at len ∷ [])
+  _ ← fault_if (nat_lt ((side_plan (pair_plan before.plan name.pair) name.side).windows * (side_plan (pair_plan before.plan name.pair) name.side).cap) (at + len)) BadNumber
+  steps_within before (ShowMem name.pair name.side at len ∷ [])
 
 -- the bytes of a window that reach the peer's memory
 abbrev pub reach : PairPlan → Side → ℕ
@@ -156,16 +146,15 @@ reach pair side = min (side_plan pair side).size (side_plan pair (other_side sid
 -- bytes
 abbrev pub poke_line : Before → List ℕ → List ℕ → List ℕ → List ℕ → List ℕ → Result Given Cause
 poke_line before pair_text side_text window_text offset_text bytes_text = do
-  pair ← pair_word before pair_text
-  side ← side_word side_text
+  name ← named_side before pair_text side_text
   window ← number_word window_text
-  _ ← fault_if (not (nat_lt window (pair_plan before.plan pair).a.windows && nat_lt window (pair_plan before.plan pair).b.windows)) UnknownName
+  _ ← fault_if (not (nat_lt window (pair_plan before.plan name.pair).a.windows && nat_lt window (pair_plan before.plan name.pair).b.windows)) UnknownName
   offset ← number_word offset_text
   bytes ← hex_word bytes_text
-  _ ← fault_if (nat_lt (reach (pair_plan before.plan pair) side) (offset + length bytes)) BadNumber
-  _ ← fault_if (not (pair_plan before.plan pair).raw) BadPair
+  _ ← fault_if (nat_lt (reach (pair_plan before.plan name.pair) name.side) (offset + length bytes)) BadNumber
+  _ ← fault_if (not (pair_plan before.plan name.pair).raw) BadPair
   _ ← fault_if (nat_lt 128 (length bytes)) TooMany
-  steps_within before (Poke pair side window offset bytes ∷ [])
+  steps_within before (Poke name.pair name.side window offset bytes ∷ [])
 
 -- `wake DEV`
 abbrev pub wake_line : Before → List ℕ → Result Given Cause

@@ -10,10 +10,11 @@ use Rattle.lane_model.specs.Lane.{count_from}
 use Rattle.plan_model.specs.Plans.{pair_plan}
 use Rattle.plan_model.specs.Sizes.{sizes_of}
 use Rattle.plan_model.specs.TrafficPlans.{frames_in, bytes_in, is_break_of}
-use Rattle.script_words.specs.Before.{Before, Given, MoreTraffic, pair_word, queue_word}
+use Rattle.script_words.specs.Before.{Before, Given, MoreTraffic, pair_word, named_queue}
 use Rattle.script_words.specs.Settings.{agrees}
 use Rattle.script_words.specs.Tests.{◌>>=◌, fault_if}
-use Rattle.script_words.specs.Words.{side_word, number_between, hex_word}
+use Rattle.script_words.specs.Words.{number_between, hex_word}
+use Rattle.script_words.specs.declared.parts.QueueName.{QueueName}
 use Rattle.script_words.specs.declared.fault.Cause.{Cause}
 use Rattle.script_words.specs.declared.fault.Cause.TheVariants.{UnknownWord, BadGeometry, BadPair, TooMany}
 
@@ -36,14 +37,16 @@ traffic_within before lane len more = do
   _ ← fault_if (not (is_little before.plan.traffic more)) TooMany
   Ok (MoreTraffic more)
 
+-- the lane that begins at a queue of a side
+abbrev pub lane_of : QueueName → LaneName
+lane_of name = record { pair = name.pair; from = name.side; queue = name.queue }
+
 -- `frame PAIR SIDE QUEUE HEX`
 abbrev pub traffic_frame_line : Before → List ℕ → List ℕ → List ℕ → List ℕ → Result Given Cause
 traffic_frame_line before pair_text side_text queue_text frame_text = do
-  pair ← pair_word before pair_text
-  side ← side_word side_text
-  queue ← queue_word before pair side queue_text
+  name ← named_queue before pair_text side_text queue_text
   frame ← hex_word frame_text
-  traffic_within before (record { pair = pair; from = side; queue = queue }) (length frame) (Send (record { pair = pair; from = side; queue = queue }) frame ∷ [])
+  traffic_within before (lane_of name) (length frame) (Send (lane_of name) frame ∷ [])
 
 -- frame i of a flood: byte j is the sum of both, in a byte
 abbrev pub flood_frame : ℕ → ℕ → List ℕ
@@ -52,13 +55,11 @@ flood_frame len i = map (λ j. (i + j) % 256) (count_from 0 len)
 -- `flood PAIR SIDE QUEUE COUNT LEN`
 abbrev pub flood_line : Before → List ℕ → List ℕ → List ℕ → List ℕ → List ℕ → Result Given Cause
 flood_line before pair_text side_text queue_text count_text len_text = do
-  pair ← pair_word before pair_text
-  side ← side_word side_text
-  queue ← queue_word before pair side queue_text
+  name ← named_queue before pair_text side_text queue_text
   count ← number_between 1 100000 count_text
   len ← number_between 1 65536 len_text
-  traffic_within before (record { pair = pair; from = side; queue = queue }) len
-      (map (λ i. Send (record { pair = pair; from = side; queue = queue }) (flood_frame len i)) (count_from 0 count))
+  traffic_within before (lane_of name) len
+      (map (λ i. Send (lane_of name) (flood_frame len i)) (count_from 0 count))
 
 -- `break PAIR`
 abbrev pub break_line : Before → List ℕ → Result Given Cause

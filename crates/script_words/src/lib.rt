@@ -15,7 +15,7 @@ pub mod words;
 pub use fault::{Cause, LineError, ScriptFault};
 pub use given::Given;
 pub use macros::{Macro, Repeated};
-pub use parts::{Part, QueueName};
+pub use parts::{Part, QueueName, SideName};
 
 #[cfg(test)]
 mod tests;

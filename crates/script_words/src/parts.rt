@@ -1,4 +1,4 @@
-//! The parts of a script, and the queues that its lines name.
+//! The parts of a script, and the sides and queues that its lines name.
 
 use step_kinds::Side;
 
@@ -11,6 +11,15 @@ pub enum Part {
     Steps,
     /// The traffic of a threaded run.
     Traffic,
+}
+
+/// A side of a pair.
+#[derive(Clone, Copy, Debug, PartialEq, Eq)]
+pub struct SideName {
+    /// The number of the pair.
+    pub pair: u32,
+    /// The side.
+    pub side: Side,
 }
 
 /// A queue of one side of a pair.

@@ -10,7 +10,8 @@ use Rattle.step_kinds.specs.declared.steps.Step.{Step}
 use Rattle.step_kinds.specs.declared.steps.Step.TheVariants.{Post, Land, Copy, Clear, Ack}
 use Rattle.lane_model.specs.Lane.{chunks_in}
 use Rattle.plan_model.specs.Macros.{send, receive}
-use Rattle.traffic_plan.specs.Load.{word_at, state_past, state_after, word_of, load_pair, length_of, payload_of, landings_of, frame_steps, lines_of, frame_lines, lines_of_frame}
+use Rattle.script_words.specs.Compact.{lines_with}
+use Rattle.traffic_plan.specs.Load.{word_at, state_past, state_after, word_of, load_pair, length_of, payload_of, landings_of, frame_steps, frame_lines, lines_of_frame}
 
 -- the two words of a frame, and the state after it
 pub words_of_frame : (seed k state : ℕ) → state ≡ state_after seed (2 * k)
@@ -40,13 +41,13 @@ frame_more seed k word landings old new first second was is =
     ∙ (ap (λ w. before ++ frame_lines (k + 1) (word_of seed (2 * k)) w) second ∙ sym (frames_more (lines_of_frame seed) k))))
 
 -- one step more of those that a number says
-pub appended : (line : ℕ) (f : ℕ → Step) (i : ℕ) (before old new : List Line) → old ≡ before ++ lines_of line (map f (range_with_len 0 i)) → new ≡ old ++ lines_of line (f i ∷ [])
-    → new ≡ before ++ lines_of line (map f (range_with_len 0 (i + 1)))
+pub appended : (line : ℕ) (f : ℕ → Step) (i : ℕ) (before old new : List Line) → old ≡ before ++ lines_with line (map f (range_with_len 0 i)) → new ≡ old ++ lines_with line (f i ∷ [])
+    → new ≡ before ++ lines_with line (map f (range_with_len 0 (i + 1)))
 appended line f i before old new was is =
     let made : Step → Line = λ step. record { line = line; step = step } in
     let one = f i ∷ [] in
     let more : map f (range_with_len 0 (i + 1)) ≡ map f (range_with_len 0 i) ++ one = map-range_with_len_more f 0 i i (omega arith) in
-    is ∙ (ap (λ lines. lines ++ lines_of line one) was ∙ (append_assoc before (lines_of line (map f (range_with_len 0 i))) (lines_of line one)
+    is ∙ (ap (λ lines. lines ++ lines_with line one) was ∙ (append_assoc before (lines_with line (map f (range_with_len 0 i))) (lines_with line one)
     ∙ ap (λ lines. before ++ lines) (sym (ap (map made) more ∙ map-append made (map f (range_with_len 0 i)) one))))
 
 -- a frame has 1 to 300 bytes

@@ -1,4 +1,3 @@
 pub mod Frames
-pub mod Repeats
 pub mod Sends
 pub mod Whole

@@ -1,4 +1,3 @@
 pub mod Lanes
 pub mod Laws
 pub mod Load
-pub mod Repeats

@@ -11,6 +11,7 @@ use Rattle.step_kinds.specs.declared.steps.Step.{Step}
 use Rattle.step_kinds.specs.declared.steps.Step.TheVariants.{Land}
 use Rattle.lane_model.specs.Lane.{chunks_in}
 use Rattle.plan_model.specs.Macros.{send, land_all, receive}
+use Rattle.script_words.specs.Compact.{lines_with}
 
 -- the word that SplitMix64 gives at a state, and the state after it
 unfoldable pub word_at : ℕ → ℕ
@@ -68,12 +69,8 @@ frame_steps word landings =
     let chunks = chunks_in (length_of word) in
     send load_pair 0 A 0 (payload_of word) ++ landings_of landings ++ land_all 0 A (chunks + 4) ++ receive 0 B 0 chunks ++ Land 0 B 0 ∷ []
 
--- steps of one line
-abbrev pub lines_of : ℕ → List Step → List Line
-lines_of line steps = map (λ step. record { line = line; step = step }) steps
-
 abbrev pub frame_lines : ℕ → ℕ → ℕ → List Line
-frame_lines line word landings = lines_of line (frame_steps word landings)
+frame_lines line word landings = lines_with line (frame_steps word landings)
 
 -- frame k, from 0: its line, counted from 1, and its two words
 abbrev pub lines_of_frame : ℕ → ℕ → List Line

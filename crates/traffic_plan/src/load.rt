@@ -4,10 +4,12 @@ ghost use Rattle.std.specs.Prelude.{◌≡◌, ◌∷◌, [], ◌++◌, ◌^◌,
 ghost use Rattle.lane_model.specs.Lane.{chunks_in};
 ghost use Rattle.traffic_plan.specs.Load.{word_at, state_past, load_side, load_pair, most_load_frames, length_of, payload_of, frame_lines, load_of};
 
-use crate::steps::{Repeated, push_again, push_landings, push_received, push_step};
+use crate::steps::{land_all, push_landings, receive, send};
 use rand_xoshiro::SplitMix64;
 use rand_xoshiro::rand_core::SeedableRng;
 use rand_xoshiro::rand_core::utils::NextWord;
+use script_plan::steps::push_steps;
+use script_words::Macro;
 use std::alloc::{AllocError, Global};
 use step_kinds::{Frame, Items, Line, Name, PairPlan, Plan, Side, SidePlan, Step};
 
@@ -74,23 +76,16 @@ fn push_frame(
 {
     let frame = payload(alloc, word)?;
     let chunks = frame.len().div_ceil(128);
-    let begin = Step::Begin {
-        pair: 0,
-        side: Side::A,
-        queue: 0,
-        frame,
-    };
-    push_step(lines, line, begin)?;
-    push_again(lines, line, Repeated::Post, chunks + 4)?;
+    push_steps(lines, line, send(frame))?;
     push_landings(lines, line, landings)?;
-    push_again(lines, line, Repeated::Land, chunks + 4)?;
-    push_received(lines, line, chunks)?;
-    let land = Step::Land {
+    push_steps(lines, line, land_all(chunks + 4))?;
+    push_steps(lines, line, receive(chunks))?;
+    let step = Step::Land {
         pair: 0,
         side: Side::B,
         place: 0,
     };
-    push_step(lines, line, land)
+    push_steps(lines, line, Macro::One { step })
 }
 
 /// The steps of all frames.

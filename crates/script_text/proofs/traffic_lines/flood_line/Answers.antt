@@ -2,13 +2,14 @@ use Rattle.std.proofs.Common.{rules}
 use Rattle.step_kinds.specs.declared.names.LaneName.{LaneName}
 use Rattle.script_words.specs.Compact.{flood_of}
 use Rattle.script_words.specs.Tests.{and_then}
+use Rattle.script_words.specs.TrafficLines.{lane_of}
 use Rattle.script_plan.proofs.Floods.{flood_frames, flood_bytes}
 use Rattle.script_text.proofs.traffic_lines.flood_line.Goals as goal
 
 pub returns-in_err-test_lane : goal.returns-in_err-test_lane
 unfolding and_then
 returns-in_err-test_lane c =
-    let lane : LaneName = record { pair = c.in_ok-pair.pair; from = c.in_ok-from.from; queue = c.in_ok-queue.queue } in
+    let lane : LaneName = lane_of c.in_ok-pair.field-0 in
     let count = c.in_ok-count.count in
     let len = c.in_ok-len.len in
     let e = c.in_err-test_lane.ensures.value (flood_of lane count len) (flood_frames lane count len) (flood_bytes lane count len) in
@@ -17,8 +18,8 @@ returns-in_err-test_lane c =
 pub returns : goal.returns
 unfolding and_then
 returns c =
-    let lane : LaneName = record { pair = c.in_ok-pair.pair; from = c.in_ok-from.from; queue = c.in_ok-queue.queue } in
+    let lane : LaneName = lane_of c.in_ok-pair.field-0 in
     let count = c.in_ok-count.count in
     let len = c.in_ok-len.len in
     let e = c.in_ok-test_lane.ensures.value (flood_of lane count len) (flood_frames lane count len) (flood_bytes lane count len) in
-    rw (← c.in_ok-pair.ensures.value, ← c.in_ok-from.ensures, ← c.in_ok-queue.ensures.value, ← c.in_ok-count.ensures, ← c.in_ok-len.ensures) e
+    rw (← c.in_ok-pair.ensures.value, ← c.in_ok-count.ensures, ← c.in_ok-len.ensures) e

@@ -6,5 +6,5 @@ use Rattle.traffic_plan.proofs.steps.push_landings.Goals as goal
 
 pub loop-i-preserved : goal.loop-i-preserved
 loop-i-preserved c =
-    appended c.args.line (λ i. Land 0 A (c.args.word / 2 ^ (8 * i) % 4)) c.loop-i.i c.args.lines.now.items c.loop-i.lines.items c.push_step.new.lines.items c.loop-i.invariant
-    c.in_ok-push_step.ensures
+    appended c.args.line (λ i. Land 0 A (c.args.word / 2 ^ (8 * i) % 4)) c.loop-i.i c.args.lines.now.items c.loop-i.lines.items c.push_steps.new.steps.items c.loop-i.invariant
+    c.in_ok-push_steps.ensures
