@@ -127,3 +127,113 @@ fn window_translates_what_lies_in_it(rt: HostRuntime) {
     assert_eq!(rt; window.translate(1025, 0), None);
     assert_eq!(rt; window.translate(u64::MAX, u64::MAX), None);
 }
+
+#[test]
+fn a_written_byte_is_the_new_one(rt: HostRuntime) -> Result<(), Fail> {
+    laws::written_inside();
+    let mut memory = fresh(rt.alloc(), 16)?;
+    put(&mut memory, 3, &[1, 2, 3])?;
+    let mut out = [9u8];
+    memory.read(4, &mut out);
+    assert_eq!(rt; out, [2]);
+    Ok(())
+}
+
+#[test]
+fn the_bytes_around_a_write_stay(rt: HostRuntime) -> Result<(), Fail> {
+    laws::old_outside();
+    let mut memory = fresh(rt.alloc(), 16)?;
+    put(&mut memory, 3, &[4, 5, 6, 7])?;
+    put(&mut memory, 4, &[1, 2])?;
+    let mut out = [9u8; 4];
+    memory.read(3, &mut out);
+    assert_eq!(rt; out, [4, 1, 2, 7]);
+    Ok(())
+}
+
+#[test]
+fn a_write_at_the_end_leaves_the_length(rt: HostRuntime) -> Result<(), Fail> {
+    laws::length_stays();
+    let mut memory = fresh(rt.alloc(), 16)?;
+    put(&mut memory, 13, &[1, 2, 3])?;
+    assert_eq!(rt; memory.len(), 16);
+    Ok(())
+}
+
+#[test]
+fn a_write_over_a_page_border_is_read_back(rt: HostRuntime) -> Result<(), Fail> {
+    laws::reads_back();
+    let mut memory = fresh(rt.alloc(), 8192)?;
+    put(&mut memory, 4095, &[5, 6, 7])?;
+    let mut out = [9u8; 3];
+    memory.read(4095, &mut out);
+    assert_eq!(rt; out, [5, 6, 7]);
+    Ok(())
+}
+
+#[test]
+fn a_read_before_a_write_is_as_it_was(rt: HostRuntime) -> Result<(), Fail> {
+    laws::reads_elsewhere();
+    let mut memory = fresh(rt.alloc(), 16)?;
+    put(&mut memory, 0, &[1, 2])?;
+    put(&mut memory, 2, &[3, 4])?;
+    let mut out = [9u8; 2];
+    memory.read(0, &mut out);
+    assert_eq!(rt; out, [1, 2]);
+    Ok(())
+}
+
+#[test]
+fn a_word_is_read_back(rt: HostRuntime) -> Result<(), Fail> {
+    laws::word_reads_back();
+    let mut memory = fresh(rt.alloc(), 8)?;
+    memory.promise(1, 4)?;
+    memory.set_u32(1, 0xa1b2_c3d4);
+    assert_eq!(rt; memory.u32_at(1), 0xa1b2_c3d4);
+    Ok(())
+}
+
+#[test]
+fn a_word_beside_a_write_is_as_it_was(rt: HostRuntime) -> Result<(), Fail> {
+    laws::word_elsewhere();
+    let mut memory = fresh(rt.alloc(), 8)?;
+    memory.promise(0, 4)?;
+    memory.set_u32(0, 0x0102_0304);
+    put(&mut memory, 4, &[9])?;
+    assert_eq!(rt; memory.u32_at(0), 0x0102_0304);
+    Ok(())
+}
+
+// The range lies on two pages, and its part too.
+#[test]
+fn a_part_of_a_promised_range_makes_no_page(rt: HostRuntime) -> Result<(), Fail> {
+    laws::part_promised();
+    let mut memory = fresh(rt.alloc(), 16_384)?;
+    memory.promise(4000, 200)?;
+    memory.promise(4090, 10)?;
+    assert_eq!(rt; memory.page_count(), 2);
+    Ok(())
+}
+
+#[test]
+fn two_promised_ranges_are_one(rt: HostRuntime) -> Result<(), Fail> {
+    laws::both_promised();
+    let mut memory = fresh(rt.alloc(), 16_384)?;
+    memory.promise(0, 4096)?;
+    memory.promise(4096, 4097)?;
+    assert_eq!(rt; memory.page_count(), 3);
+    memory.promise(0, 8193)?;
+    assert_eq!(rt; memory.page_count(), 3);
+    Ok(())
+}
+
+#[test]
+fn a_promise_stays_behind_another(rt: HostRuntime) -> Result<(), Fail> {
+    laws::stays_promised();
+    let mut memory = fresh(rt.alloc(), 16_384)?;
+    memory.promise(0, 1)?;
+    memory.promise(8192, 1)?;
+    memory.promise(0, 1)?;
+    assert_eq!(rt; memory.page_count(), 2);
+    Ok(())
+}

@@ -4,9 +4,8 @@ use Rattle.std.specs.List.{remove}
 use Rattle.std.proofs.lemmas.List.{get_or_default, drop-set-lt, drop-append-le, nil_from_length, length_push, drop_all, take-append-le}
 use Rattle.std.proofs.lemmas.List.Edits.{length-remove, remove-append_left, remove-append_right}
 use Rattle.order_rules.specs.Order.{Order}
-use Rattle.posted_queue.specs.Flight.{Flight, nothing_in_flight}
 use Rattle.posted_queue.specs.declared.row.Spot.{Spot}
-use Rattle.posted_queue.specs.Rows.{is_held_back, writes_in, room_in, part_at, IsSpot, TakesOut, MovesLast}
+use Rattle.posted_queue.specs.Rows.{PartState, no_part, is_held_back, writes_in, room_in, part_at, IsSpot, TakesOut, MovesLast}
 use Rattle.posted_queue.specs.Levels.{IsLevel}
 use Rattle.posted_queue.proofs.RowLemmas.{writes_in-append, writes_in-drop_push, writes_in-at, writes_in-set, is_held_back-append, take-append_far, room_in-append}
 
@@ -22,11 +21,11 @@ slice_get-append_near (x ∷ xs) ys zero near = refl
 slice_get-append_near (x ∷ xs) ys (suc k) near = slice_get-append_near xs ys k (omega arith)
 
 -- the part that a spot names
-spot-part : {W : Type 0} (row : List (Flight W)) (place : ℕ) (spot : Spot) (part : Flight W) → IsSpot row place spot → part ≡ get_or row spot.part part → part_at row spot.part ≡ part
-spot-part row place spot part is read = get_or_default row spot.part nothing_in_flight part is.part_there ∙ sym read
+spot-part : {W : Type 0} (row : List (PartState W)) (place : ℕ) (spot : Spot) (part : PartState W) → IsSpot row place spot → part ≡ get_or row spot.part part → part_at row spot.part ≡ part
+spot-part row place spot part is read = get_or_default row spot.part no_part part is.part_there ∙ sym read
 
 -- the write at a place of a row is the one at its spot
-pub spot-slice_get : {W : Type 0} (row : List (Flight W)) (place : ℕ) (spot : Spot) (part : Flight W) → IsSpot row place spot → part ≡ get_or row spot.part part → slice_get (writes_in row) place ≡ slice_get part.writes spot.place
+pub spot-slice_get : {W : Type 0} (row : List (PartState W)) (place : ℕ) (spot : Spot) (part : PartState W) → IsSpot row place spot → part ≡ get_or row spot.part part → slice_get (writes_in row) place ≡ slice_get part.writes spot.place
 spot-slice_get row place spot part is read =
     let at : part_at row spot.part ≡ part = spot-part row place spot part is read in
     let behind = writes_in (drop (suc spot.part) row) in
@@ -37,7 +36,7 @@ spot-slice_get row place spot part is read =
     ∙ slice_get-append_near part.writes behind spot.place within
 
 -- a taking at the spot is a taking at the place
-pub spot-remove : {W : Type 0} (row : List (Flight W)) (place : ℕ) (spot : Spot) (old new : Flight W) → IsSpot row place spot → old ≡ get_or row spot.part old → new.writes ≡ remove old.writes spot.place → writes_in (set row spot.part new) ≡ remove (writes_in row) place
+pub spot-remove : {W : Type 0} (row : List (PartState W)) (place : ℕ) (spot : Spot) (old new : PartState W) → IsSpot row place spot → old ≡ get_or row spot.part old → new.writes ≡ remove old.writes spot.place → writes_in (set row spot.part new) ≡ remove (writes_in row) place
 spot-remove row place spot old new is read taken =
     let at : part_at row spot.part ≡ old = spot-part row place spot old is read in
     let before = writes_in (take spot.part row) in
@@ -53,7 +52,7 @@ spot-remove row place spot old new is read taken =
     ∙ ap (λ writes. remove writes place) (sym whole)
 
 -- where no part before holds a write back, the writes before it in its own part decide
-pub spot-is_held_back : {W : Type 0} (order : W → Order) (waits_for : Option ℕ) (row : List (Flight W)) (place : ℕ) (spot : Spot) (part : Flight W) → IsSpot row place spot → part ≡ get_or row spot.part part → is_held_back order waits_for (writes_in (take spot.part row)) ≡ false → is_held_back order waits_for (take place (writes_in row)) ≡ is_held_back order waits_for (take spot.place part.writes)
+pub spot-is_held_back : {W : Type 0} (order : W → Order) (waits_for : Option ℕ) (row : List (PartState W)) (place : ℕ) (spot : Spot) (part : PartState W) → IsSpot row place spot → part ≡ get_or row spot.part part → is_held_back order waits_for (writes_in (take spot.part row)) ≡ false → is_held_back order waits_for (take place (writes_in row)) ≡ is_held_back order waits_for (take spot.place part.writes)
 spot-is_held_back order waits_for row place spot part is read free =
     let at : part_at row spot.part ≡ part = spot-part row place spot part is read in
     let before = writes_in (take spot.part row) in
@@ -69,7 +68,7 @@ spot-is_held_back order waits_for row place spot part is read free =
     ∙ ap (λ b. b || is_held_back order waits_for (take spot.place part.writes)) free
 
 -- no part behind the last one in use has a write
-pub behind-later : {W : Type 0} (row : List (Flight W)) (n m : ℕ) → n ≤ m → writes_in (drop n row) ≡ [] → writes_in (drop m row) ≡ []
+pub behind-later : {W : Type 0} (row : List (PartState W)) (n m : ℕ) → n ≤ m → writes_in (drop n row) ≡ [] → writes_in (drop m row) ≡ []
 behind-later [] n m low none = ap writes_in (drop_all m [] (omega arith))
 behind-later (x ∷ xs) zero zero low none = none
 behind-later (x ∷ xs) zero (suc m) low none = behind-later xs zero m (omega arith) (no_rest x.writes (writes_in xs) none)
@@ -81,7 +80,7 @@ behind-later (x ∷ xs) (suc n) zero low none = absurd (omega arith)
 behind-later (x ∷ xs) (suc n) (suc m) low none = behind-later xs n m (omega arith) none
 
 -- a level after a push into the first part with room
-pub level-push : {W : Type 0} (row : List (Flight W)) (last room number : ℕ) (new : List (Flight W)) → IsLevel row last room → last ≤ number → number < length row → 0 < room → room_in (drop number row) ≡ room_in (drop last row) → length new ≡ length row → writes_in (drop (suc number) new) ≡ [] → room_in (drop number new) + 1 ≡ room_in (drop number row) → IsLevel new number (room - 1)
+pub level-push : {W : Type 0} (row : List (PartState W)) (last room number : ℕ) (new : List (PartState W)) → IsLevel row last room → last ≤ number → number < length row → 0 < room → room_in (drop number row) ≡ room_in (drop last row) → length new ≡ length row → writes_in (drop (suc number) new) ≡ [] → room_in (drop number new) + 1 ≡ room_in (drop number row) → IsLevel new number (room - 1)
 level-push row last room number new level low high some same_room same_length none less = record {
   in_row = omega arith;
   behind = none;
@@ -89,7 +88,7 @@ level-push row last room number new level low high some same_room same_length no
 }
 
 -- the room of the parts from one on, where a part is another
-room_in-drop_set : {W : Type 0} (row : List (Flight W)) (from n : ℕ) (new : Flight W) → from ≤ n → n < length row → room_in (drop from (set row n new)) + (part_at row n).spare ≡ room_in (drop from row) + new.spare
+room_in-drop_set : {W : Type 0} (row : List (PartState W)) (from n : ℕ) (new : PartState W) → from ≤ n → n < length row → room_in (drop from (set row n new)) + (part_at row n).spare ≡ room_in (drop from row) + new.spare
 room_in-drop_set [] from n new low within = absurd (omega arith)
 room_in-drop_set (x ∷ xs) zero zero new low within = omega arith
 room_in-drop_set (x ∷ xs) zero (suc n) new low within = let rest = room_in-drop_set xs zero n new (omega arith) (omega arith) in omega arith
@@ -97,7 +96,7 @@ room_in-drop_set (x ∷ xs) (suc from) zero new low within = absurd (omega arith
 room_in-drop_set (x ∷ xs) (suc from) (suc n) new low within = room_in-drop_set xs from n new (omega arith) (omega arith)
 
 -- no more writes stand from a part on, where one part has no more
-length-writes_in-drop_set : {W : Type 0} (row : List (Flight W)) (from n : ℕ) (new : Flight W) → n < length row → length new.writes ≤ length (part_at row n).writes → length (writes_in (drop from (set row n new))) ≤ length (writes_in (drop from row))
+length-writes_in-drop_set : {W : Type 0} (row : List (PartState W)) (from n : ℕ) (new : PartState W) → n < length row → length new.writes ≤ length (part_at row n).writes → length (writes_in (drop from (set row n new))) ≤ length (writes_in (drop from row))
 length-writes_in-drop_set [] from n new within fewer = absurd (omega arith)
 length-writes_in-drop_set (x ∷ xs) zero zero new within fewer = simp length-append (omega arith)
 length-writes_in-drop_set (x ∷ xs) zero (suc n) new within fewer = let rest = length-writes_in-drop_set xs zero n new (omega arith) fewer in simp length-append (omega arith)
@@ -105,9 +104,9 @@ length-writes_in-drop_set (x ∷ xs) (suc from) zero new within fewer = omega ar
 length-writes_in-drop_set (x ∷ xs) (suc from) (suc n) new within fewer = length-writes_in-drop_set xs from n new (omega arith) fewer
 
 -- no write stands behind the last part in use after a taking
-behind-taken : {W : Type 0} (row : List (Flight W)) (from n place : ℕ) (old new : Flight W) → n < length row → old ≡ get_or row n old → place < length old.writes → new.writes ≡ remove old.writes place → writes_in (drop from row) ≡ [] → writes_in (drop from (set row n new)) ≡ []
+behind-taken : {W : Type 0} (row : List (PartState W)) (from n place : ℕ) (old new : PartState W) → n < length row → old ≡ get_or row n old → place < length old.writes → new.writes ≡ remove old.writes place → writes_in (drop from row) ≡ [] → writes_in (drop from (set row n new)) ≡ []
 behind-taken row from n place old new within read there taken none =
-    let at : part_at row n ≡ old = get_or_default row n nothing_in_flight old within ∙ sym read in
+    let at : part_at row n ≡ old = get_or_default row n no_part old within ∙ sym read in
     let less : length new.writes + 1 ≡ length old.writes = subst (λ writes. length writes + 1 ≡ length old.writes) (sym taken) (length-remove old.writes place there) in
     let fewer : length new.writes ≤ length (part_at row n).writes = subst (λ part. length new.writes ≤ length part.writes) (sym at) (omega arith) in
     let bound = length-writes_in-drop_set row from n new within fewer in
@@ -122,9 +121,9 @@ drop-remove (x ∷ xs) zero (suc i) low within = absurd (omega arith)
 drop-remove (x ∷ xs) (suc n) (suc i) low within = drop-remove xs n i (omega arith) (omega arith)
 
 -- the writes of a row stay where an empty part is moved behind all others
-pub writes_in-moved : {W : Type 0} (row : List (Flight W)) (n : ℕ) (part : Flight W) → n < length row → part ≡ get_or row n part → part.writes ≡ [] → writes_in (remove row n ++ part ∷ []) ≡ writes_in row
+pub writes_in-moved : {W : Type 0} (row : List (PartState W)) (n : ℕ) (part : PartState W) → n < length row → part ≡ get_or row n part → part.writes ≡ [] → writes_in (remove row n ++ part ∷ []) ≡ writes_in row
 writes_in-moved row n part within read none =
-    let at : part_at row n ≡ part = get_or_default row n nothing_in_flight part within ∙ sym read in
+    let at : part_at row n ≡ part = get_or_default row n no_part part within ∙ sym read in
     let before = writes_in (take n row) in
     let behind = writes_in (drop (suc n) row) in
     let whole : writes_in row ≡ before ++ behind =
@@ -136,7 +135,7 @@ writes_in-moved row n part within read none =
     ∙ sym whole
 
 -- what a part with no write leaves behind when it is moved behind all others
-pub moves_last : {W : Type 0} (row : List (Flight W)) (n : ℕ) (part : Flight W) → n < length row → part ≡ get_or row n part → (part_at row n).writes ≡ [] → MovesLast row (remove row n ++ part ∷ []) n part.spare
+pub moves_last : {W : Type 0} (row : List (PartState W)) (n : ℕ) (part : PartState W) → n < length row → part ≡ get_or row n part → (part_at row n).writes ≡ [] → MovesLast row (remove row n ++ part ∷ []) n part.spare
 moves_last row n part within read none = record {
   writes = writes_in-moved row n part within read empty;
   len = length_push (remove row n) part ∙ length-remove row n within;
@@ -151,13 +150,13 @@ moves_last row n part within read none = record {
 }
   where
     at : part_at row n ≡ part
-    at = get_or_default row n nothing_in_flight part within ∙ sym read
+    at = get_or_default row n no_part part within ∙ sym read
 
     empty : part.writes ≡ []
     empty = ap (λ p. p.writes) (sym at) ∙ none
 
 -- a write that is taken out at its spot is taken out of the row
-pub spot-takes_out : {W : Type 0} (row : List (Flight W)) (place : ℕ) (spot : Spot) (part new : Flight W) → IsSpot row place spot → part ≡ get_or row spot.part part → new.writes ≡ remove part.writes spot.place → part.spare ≤ new.spare → TakesOut row (set row spot.part new) place spot.part (new.spare - part.spare)
+pub spot-takes_out : {W : Type 0} (row : List (PartState W)) (place : ℕ) (spot : Spot) (part new : PartState W) → IsSpot row place spot → part ≡ get_or row spot.part part → new.writes ≡ remove part.writes spot.place → part.spare ≤ new.spare → TakesOut row (set row spot.part new) place spot.part (new.spare - part.spare)
 spot-takes_out row place spot part new is read taken more = record {
   writes = spot-remove row place spot part new is read taken;
   len = length-set row spot.part new;
@@ -177,7 +176,7 @@ spot-takes_out row place spot part new is read taken more = record {
     there = subst (λ p. spot.place < length p.writes) at is.place_there
 
 -- a level after a taking out of the last part in use
-pub level-taken_last : {W : Type 0} (row new : List (Flight W)) (last room place part gained grown : ℕ) → IsLevel row last room → TakesOut row new place part gained → last ≤ part → grown ≤ room + gained → IsLevel new last grown
+pub level-taken_last : {W : Type 0} (row new : List (PartState W)) (last room place part gained grown : ℕ) → IsLevel row last room → TakesOut row new place part gained → last ≤ part → grown ≤ room + gained → IsLevel new last grown
 level-taken_last row new last room place part gained grown level taken low bound = record {
   in_row = (let i = level.in_row in let e = taken.len in omega arith);
   behind = taken.behind (suc last) level.behind;
@@ -185,7 +184,7 @@ level-taken_last row new last room place part gained grown level taken low bound
 }
 
 -- a level after a taking out of a part before
-pub level-taken_before : {W : Type 0} (row new : List (Flight W)) (last room place part gained : ℕ) → IsLevel row last room → TakesOut row new place part gained → part < last → IsLevel new last room
+pub level-taken_before : {W : Type 0} (row new : List (PartState W)) (last room place part gained : ℕ) → IsLevel row last room → TakesOut row new place part gained → part < last → IsLevel new last room
 level-taken_before row new last room place part gained level taken before = record {
   in_row = (let i = level.in_row in let e = taken.len in omega arith);
   behind = taken.behind (suc last) level.behind;
@@ -193,7 +192,7 @@ level-taken_before row new last room place part gained level taken before = reco
 }
 
 -- a level where a part before the last one in use was emptied and moved behind all others
-pub level-moved : {W : Type 0} (row new : List (Flight W)) (last room part more grown : ℕ) → IsLevel row last room → MovesLast row new part more → part < last → grown ≤ room + more → IsLevel new (last - 1) grown
+pub level-moved : {W : Type 0} (row new : List (PartState W)) (last room part more grown : ℕ) → IsLevel row last room → MovesLast row new part more → part < last → grown ≤ room + more → IsLevel new (last - 1) grown
 level-moved row new last room part more grown level moved before bound = record {
   in_row = (let i = level.in_row in let e = moved.len in omega arith);
   behind = ap (λ number. writes_in (drop number new)) same_last ∙ moved.behind last before ∙ level.behind;

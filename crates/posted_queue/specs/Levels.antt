@@ -1,10 +1,9 @@
 -- How the parts of a level stand in its row.
 use Rattle.std.specs.Prelude.{◌≡◌, ℕ, ◌≤◌, suc, List, [], length, drop}
-use Rattle.posted_queue.specs.Flight.{Flight}
-use Rattle.posted_queue.specs.Rows.{writes_in, room_in}
+use Rattle.posted_queue.specs.Rows.{PartState, writes_in, room_in}
 
 -- the last part in use is of the row or the row is empty, no write stands behind it, and the room is there from it on
-pub record IsLevel {W : Type 0} (row : List (Flight W)) (last : ℕ) (room : ℕ) : Type 0 where
+pub record IsLevel {W : Type 0} (row : List (PartState W)) (last : ℕ) (room : ℕ) : Type 0 where
   pub in_row : last ≤ length row
   pub behind : writes_in (drop (suc last) row) ≡ []
   pub room_there : room ≤ room_in (drop last row)

@@ -1,9 +1,19 @@
 -- Rows of parts of a queue: the writes that stand in them, the room behind, and what holds a write back.
-use Rattle.std.specs.Prelude.{◌≡◌, ℕ, ◌<◌, ◌≤◌, ◌==◌, ◌+◌, Bool, false, List, [], ◌∷◌, Option, Some, None, suc, length, take, drop, remove, slice_index_or}
+use Rattle.std.specs.Prelude.{◌≡◌, ℕ, ◌<◌, ◌≤◌, ◌==◌, ◌+◌, Bool, false, List, [], ◌∷◌, Option, Some, None, zero, suc, length, take, drop, remove, slice_index_or}
 use Rattle.std.specs.List.{list_any, flat_map}
 use Rattle.order_rules.specs.Order.{Order}
-use Rattle.posted_queue.specs.Flight.{Flight, nothing_in_flight}
 use Rattle.posted_queue.specs.declared.row.Spot.{Spot}
+
+-- a part of a queue: its writes, how many more can be pushed with no further memory, and how many more it can take in
+-- all as it stands, with further memory where need be
+pub record PartState (W : Type 0) : Type 0 where
+  pub writes : List W
+  pub spare : ℕ
+  pub left : ℕ
+
+-- a part where none stands
+abbrev pub no_part : {W : Type 0} → PartState W
+no_part = record { writes = []; spare = 0; left = 0 }
 
 -- whether one of these writes has the class that a later one waits for
 abbrev pub is_held_back : {W : Type 0} → (W → Order) → Option ℕ → List W → Bool
@@ -11,32 +21,40 @@ is_held_back order None before = false
 is_held_back order (Some class) before = list_any (λ write. (order write).class == class) before
 
 -- the writes of a row of parts, one part behind the other
-abbrev pub writes_in : {W : Type 0} → List (Flight W) → List W
+abbrev pub writes_in : {W : Type 0} → List (PartState W) → List W
 writes_in row = flat_map (λ part. part.writes) row
 
 -- the room of all parts of a row
-abbrev pub room_in : {W : Type 0} → List (Flight W) → ℕ
+abbrev pub room_in : {W : Type 0} → List (PartState W) → ℕ
 room_in [] = 0
 room_in (part ∷ rest) = part.spare + room_in rest
 
+-- how many more writes so many places of a row can take in all: a place where no part stands yet takes what an empty
+-- part does, which is `most`
+abbrev pub left_in : {W : Type 0} → ℕ → ℕ → List (PartState W) → ℕ
+left_in most zero row = 0
+left_in {W} most (suc places) [] = most + left_in {W = W} most places []
+left_in most (suc places) (part ∷ rest) = part.left + left_in most places rest
+
 -- the part of this number in a row
-abbrev pub part_at : {W : Type 0} → List (Flight W) → ℕ → Flight W
-part_at row number = slice_index_or row number nothing_in_flight
+abbrev pub part_at : {W : Type 0} → List (PartState W) → ℕ → PartState W
+part_at row number = slice_index_or row number no_part
 
 -- the spot is where the write at a place stands in a row
-pub record IsSpot {W : Type 0} (row : List (Flight W)) (place : ℕ) (spot : Spot) : Type 0 where
+pub record IsSpot {W : Type 0} (row : List (PartState W)) (place : ℕ) (spot : Spot) : Type 0 where
   pub part_there : spot.part < length row
   pub place_there : spot.place < length (part_at row spot.part).writes
   pub adds_up : place ≡ length (writes_in (take spot.part row)) + spot.place
 
--- a row keeps its writes, from each part on, and its room grows
-pub record KeepsWrites {W : Type 0} (old new : List (Flight W)) : Type 0 where
+-- a row keeps its writes and what it can take, from each part on, and its room grows in each stretch of parts
+pub record KeepsWrites {W : Type 0} (most : ℕ) (old new : List (PartState W)) : Type 0 where
   pub writes : (number : ℕ) → writes_in (drop number new) ≡ writes_in (drop number old)
-  pub room : (number : ℕ) → room_in (drop number old) ≤ room_in (drop number new)
+  pub room : (from to : ℕ) → room_in (drop from (take to old)) ≤ room_in (drop from (take to new))
+  pub left : (places number : ℕ) → left_in most places (drop number new) ≡ left_in most places (drop number old)
   pub len : length old ≤ length new
 
 -- the write at a place is taken out of a part, which gains so much room; the other parts stay
-pub record TakesOut {W : Type 0} (old new : List (Flight W)) (place part gained : ℕ) : Type 0 where
+pub record TakesOut {W : Type 0} (old new : List (PartState W)) (place part gained : ℕ) : Type 0 where
   pub writes : writes_in new ≡ remove (writes_in old) place
   pub len : length new ≡ length old
   pub there : part < length old
@@ -45,7 +63,7 @@ pub record TakesOut {W : Type 0} (old new : List (Flight W)) (place part gained 
   pub others : (number : ℕ) → part < number → room_in (drop number new) ≡ room_in (drop number old)
 
 -- a part with no write, but with so much room, is moved behind all others
-pub record MovesLast {W : Type 0} (old new : List (Flight W)) (part room : ℕ) : Type 0 where
+pub record MovesLast {W : Type 0} (old new : List (PartState W)) (part room : ℕ) : Type 0 where
   pub writes : writes_in new ≡ writes_in old
   pub len : length new ≡ length old
   pub behind : (number : ℕ) → part < number → writes_in (drop number new) ≡ writes_in (drop (suc number) old)

@@ -21,15 +21,21 @@ pub struct Block<W: Ordered> {
 impl<W: Ordered> Model for Block<W> {
     ghost use Rattle.std.specs.Prelude.{◌-◌, min};
     ghost use Rattle.std.specs.VecDeque.{deque_len, deque_capacity};
-    ghost use Rattle.posted_queue.specs.Flight.{Flight};
+    ghost use Rattle.posted_queue.specs.Rows.{PartState};
 
-    ghost Value = { Flight W };
+    ghost Value = { PartState W };
 
-    ghost view = { λ block. record { writes = block.writes.items; spare = min 256 (deque_capacity block.writes) - deque_len block.writes } };
+    ghost view = { λ block. record {
+      writes = block.writes.items;
+      spare = min 256 (deque_capacity block.writes) - deque_len block.writes;
+      left = 256 - deque_len block.writes;
+    } };
 }
 
 impl<W: Ordered> Part<W> for Block<W> {
-    ghost flight = { λ block. block };
+    ghost state = { λ block. block };
+
+    ghost most = { 256 };
 
     fn empty(alloc: Global) -> Self {
         Block {

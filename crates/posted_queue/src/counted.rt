@@ -1,8 +1,7 @@
 //! A part of a queue that knows how many writes it has, in all and of each class.
 
-ghost use Rattle.std.specs.Prelude.{◌≡◌, [], ◌+◌, ◌<◌, ◌≤◌, ◌^◌, length, take, remove, slice_get, IfNone, IfSome, OnSome, is_none, option_copied};
+ghost use Rattle.std.specs.Prelude.{◌≡◌, [], ◌∷◌, ◌++◌, ◌+◌, ◌<◌, ◌≤◌, ◌^◌, length, take, remove, slice_get, min, OnOk, IfNone, IfSome, OnSome, is_none, option_copied};
 ghost use Rattle.std.specs.Option.{ForSome};
-ghost use Rattle.posted_queue.specs.Flight.{Flight, posted};
 ghost use Rattle.posted_queue.specs.Rows.{is_held_back};
 
 use crate::Ordered;
@@ -20,20 +19,21 @@ pub struct Counted<W: Ordered, P: Part<W>> {
 }
 
 impl<W: Ordered, P: Part<W>> Model for Counted<W, P> {
-    ghost use Rattle.posted_queue.specs.Flight.{Flight};
+    ghost use Rattle.posted_queue.specs.Rows.{PartState};
     ghost use Rattle.posted_queue.specs.Counts.{IsCounted};
 
-    ghost Value = { Flight W };
+    ghost Value = { PartState W };
 
-    ghost view = { λ counted. P.flight counted.part };
+    ghost view = { λ counted. P.state counted.part };
 
-    ghost invariant = { λ counted. IsCounted W.order (P.flight counted.part).writes counted.len counted.tally };
+    ghost invariant = { λ counted. IsCounted W.order (P.state counted.part).writes counted.len counted.tally };
 }
 
 impl<W: Ordered, P: Part<W>> Counted<W, P> {
     /// A part with no write. It takes no memory yet.
     pub fn empty(alloc: Global) -> Self
-        ensures { result.writes ≡ [] }
+        ensures writes { result.writes ≡ [] }
+        ensures left { result.left ≡ P.most }
     {
         Counted {
             part: P::empty(alloc),
@@ -84,7 +84,8 @@ impl<W: Ordered, P: Part<W>> Counted<W, P> {
     pub fn push(&mut self, write: W)
         requires room { 0 < self.old.spare }
         requires countable { length self.old.writes + 1 < 2 ^ 64 }
-        ensures { self.new ≡ posted self.old write }
+        ensures writes { self.new.writes ≡ self.old.writes ++ write ∷ [] }
+        ensures room { self.new.spare + 1 ≡ self.old.spare }
     {
         self.len += 1;
         let class = write.class() as usize;
@@ -110,10 +111,13 @@ impl<W: Ordered, P: Part<W>> Counted<W, P> {
         Some(write)
     }
 
-    /// Makes room for `more` writes, or for as many as fit into this part where they are fewer.
+    /// Makes room for `more` writes, or for as many as the part can take where they are fewer. The only error is want
+    /// of memory.
     pub fn reserve(&mut self, more: usize) -> Result<(), AllocError>
         ensures writes { self.new.writes ≡ self.old.writes }
         ensures room { self.old.spare ≤ self.new.spare }
+        ensures left { self.new.left ≡ self.old.left }
+        ensures ok { OnOk result (min more self.new.left ≤ self.new.spare) }
     {
         self.part.reserve(more)
     }

@@ -18,19 +18,28 @@ pub struct Level<W: Ordered, P: Part<W>> {
 }
 
 impl<W: Ordered, P: Part<W>> Model for Level<W, P> {
-    ghost use Rattle.posted_queue.specs.Flight.{Flight};
-    ghost use Rattle.posted_queue.specs.Rows.{writes_in};
+    ghost use Rattle.std.specs.Prelude.{◌-◌, drop};
+    ghost use Rattle.posted_queue.specs.Rows.{PartState, writes_in, left_in};
     ghost use Rattle.posted_queue.specs.Levels.{IsLevel};
 
-    ghost Value = { Flight W };
+    ghost Value = { PartState W };
 
-    ghost view = { λ level. record { writes = writes_in level.row.items; spare = level.room } };
+    ghost view = { λ level. record {
+      writes = writes_in level.row.items;
+      spare = level.room;
+      left = left_in P.most (64 - level.last) (drop level.last level.row.items);
+    } };
 
     ghost invariant = { λ level. IsLevel level.row.items level.last level.room };
 }
 
 impl<W: Ordered, P: Part<W>> Part<W> for Level<W, P> {
-    ghost flight = { λ level. level };
+    ghost use Rattle.std.specs.Prelude.{[]};
+    ghost use Rattle.posted_queue.specs.Rows.{left_in};
+
+    ghost state = { λ level. level };
+
+    ghost most = { left_in {W = W} P.most 64 [] };
 
     fn empty(alloc: Global) -> Self {
         Level {

@@ -113,9 +113,9 @@ impl<W: Ordered> Queue<W> {
 
     /// Promises room for `more` writes, on top of those that are promised already.
     ///
-    /// An `Err` comes only from want of memory, never to a promise of 0 writes, and leaves the queue as it was. A queue
-    /// has memory for 67,108,864 writes at most, and for fewer where landings out of order left most of each block
-    /// empty.
+    /// An `Err` comes only from want of memory, never to a promise of 0 writes, and leaves the queue as it was. It comes
+    /// also where the queue's blocks can't take so many: they take 67,108,864 writes at most, and fewer where landings
+    /// out of order left most of each block empty. Where they can, and the machine gives the memory, it never comes.
     pub fn promise(&mut self, more: usize) -> Result<(), AllocError>
         ensures ok { OnOk result (self.new ≡ promised self.old more) }
         ensures err { OnErr result (self.new ≡ self.old) }

@@ -1,47 +1,54 @@
 //! What a queue is made of: writes that stand in a row, and room behind them for more.
 
-ghost use Rattle.std.specs.Prelude.{◌≡◌, [], ◌+◌, ◌<◌, ◌≤◌, ◌^◌, length, take, remove, slice_get, IfNone, IfSome, OnSome, is_none, option_copied};
+ghost use Rattle.std.specs.Prelude.{◌≡◌, ℕ, [], ◌∷◌, ◌++◌, ◌+◌, ◌<◌, ◌≤◌, ◌^◌, length, take, remove, slice_get, min, OnOk, IfNone, IfSome, OnSome, is_none, option_copied};
 ghost use Rattle.std.specs.Option.{ForSome};
-ghost use Rattle.posted_queue.specs.Flight.{Flight, posted};
-ghost use Rattle.posted_queue.specs.Rows.{is_held_back};
+ghost use Rattle.posted_queue.specs.Rows.{PartState, is_held_back};
 
 use crate::Ordered;
 use std::alloc::{AllocError, Global};
 
 /// Writes that stand in a row, and the room behind them for more.
 pub trait Part<W: Ordered>: Sized {
-    ghost flight: { Self → Flight W };
+    ghost state: { Self → PartState W };
+
+    // How many writes an empty part can take.
+    ghost most: { ℕ };
 
     /// A part with no write. It takes no memory yet.
     fn empty(alloc: Global) -> Self
-        ensures { (flight result).writes ≡ [] };
+        ensures writes { (state result).writes ≡ [] }
+        ensures left { (state result).left ≡ most };
 
     /// How many writes can be pushed with no further memory.
     fn room(&self) -> usize
-        ensures { result ≡ (flight self.now).spare };
+        ensures { result ≡ (state self.now).spare };
 
     /// The write at this place, or `None` past the last.
     fn get(&self, place: usize) -> Option<&W>
-        ensures { option_copied result ≡ slice_get (flight self.now).writes place };
+        ensures { option_copied result ≡ slice_get (state self.now).writes place };
 
     /// Puts a write behind all others, into the room that there is.
     fn push(&mut self, write: W)
-        requires room { 0 < (flight self.old).spare }
-        requires countable { length (flight self.old).writes + 1 < 2 ^ 64 }
-        ensures { flight self.new ≡ posted (flight self.old) write };
+        requires room { 0 < (state self.old).spare }
+        requires countable { length (state self.old).writes + 1 < 2 ^ 64 }
+        ensures writes { (state self.new).writes ≡ (state self.old).writes ++ write ∷ [] }
+        ensures room { (state self.new).spare + 1 ≡ (state self.old).spare };
 
     /// Takes out the write at this place, unless it waits for a class and a write of that class stands before it.
     fn take(&mut self, place: usize, waits_for: Option<usize>) -> Option<W>
-        requires there { place < length (flight self.old).writes }
+        requires there { place < length (state self.old).writes }
         requires class { ForSome waits_for (λ class. class < 8) }
-        ensures held_back { is_none result ≡ is_held_back W.order waits_for (take place (flight self.old).writes) }
-        ensures rests { IfNone result (flight self.new ≡ flight self.old) }
-        ensures write { IfSome result (λ write. slice_get (flight self.old).writes place ≡ Some write) }
-        ensures writes { OnSome result ((flight self.new).writes ≡ remove (flight self.old).writes place) }
-        ensures room { (flight self.old).spare ≤ (flight self.new).spare };
+        ensures held_back { is_none result ≡ is_held_back W.order waits_for (take place (state self.old).writes) }
+        ensures rests { IfNone result (state self.new ≡ state self.old) }
+        ensures write { IfSome result (λ write. slice_get (state self.old).writes place ≡ Some write) }
+        ensures writes { OnSome result ((state self.new).writes ≡ remove (state self.old).writes place) }
+        ensures room { (state self.old).spare ≤ (state self.new).spare };
 
-    /// Makes room for `more` writes, or for as many as fit into this part where they are fewer.
+    /// Makes room for `more` writes, or for as many as the part can take where they are fewer. The only error is want
+    /// of memory.
     fn reserve(&mut self, more: usize) -> Result<(), AllocError>
-        ensures writes { (flight self.new).writes ≡ (flight self.old).writes }
-        ensures room { (flight self.old).spare ≤ (flight self.new).spare };
+        ensures writes { (state self.new).writes ≡ (state self.old).writes }
+        ensures room { (state self.old).spare ≤ (state self.new).spare }
+        ensures left { (state self.new).left ≡ (state self.old).left }
+        ensures ok { OnOk result (min more (state self.new).left ≤ (state self.new).spare) };
 }

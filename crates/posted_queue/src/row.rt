@@ -1,9 +1,8 @@
 //! A row of counted parts: those in use, and behind them emptied ones that are kept for later.
 
-ghost use Rattle.std.specs.Prelude.{◌≡◌, ◌+◌, ◌<◌, ◌≤◌, ◌^◌, ◌⊎◌, suc, true, false, [], ◌∷◌, ◌++◌, length, min, take, drop, remove, slice_get, slice_index_or, IfNone, IfSome, OnSome, MatchOption, is_none, vec_len, vec_capacity, OnOk};
+ghost use Rattle.std.specs.Prelude.{◌≡◌, ◌+◌, ◌-◌, ◌<◌, ◌≤◌, ◌^◌, ◌⊎◌, suc, true, false, [], ◌∷◌, ◌++◌, length, min, take, drop, remove, slice_get, slice_index_or, IfNone, IfSome, OnSome, MatchOption, is_none, vec_len, vec_capacity, OnOk, IfOk};
 ghost use Rattle.std.specs.Option.{ForSome};
-ghost use Rattle.posted_queue.specs.Flight.{Flight};
-ghost use Rattle.posted_queue.specs.Rows.{is_held_back, writes_in, room_in, part_at, IsSpot, KeepsWrites, TakesOut, MovesLast};
+ghost use Rattle.posted_queue.specs.Rows.{is_held_back, writes_in, room_in, left_in, part_at, IsSpot, KeepsWrites, TakesOut, MovesLast};
 
 use crate::Ordered;
 use crate::block::BLOCK_MOST;
@@ -127,14 +126,15 @@ pub fn take_from<W: Ordered, P: Part<W>>(
 }
 
 /// Makes room for `more` writes in the parts from this one on, by parts that are added where need be, or for as many
-/// as fit where they are fewer.
+/// as the row can take there where they are fewer. The only error is want of memory.
 pub fn reserve_from<W: Ordered, P: Part<W>>(
     row: &mut Vec<Counted<W, P>>,
     from: usize,
     more: usize,
 ) -> Result<(), AllocError>
     requires { from ≤ length row.old.items }
-    ensures { KeepsWrites row.old.items row.new.items }
+    ensures kept { KeepsWrites P.most row.old.items row.new.items }
+    ensures ok { OnOk result (min more (left_in P.most (64 - from) (drop from row.new.items)) ≤ room_in (drop from row.new.items)) }
 {
     let mut room: usize = 0;
     for number in from..ROW_MOST {
@@ -146,7 +146,7 @@ pub fn reserve_from<W: Ordered, P: Part<W>>(
     Ok(())
 }
 
-// Makes room for `more` writes in this part, or for as many as fit, and says how much room it has. The part is added
+// Makes room for `more` writes in this part, or for as many as it can take, and says how much room it has. It is added
 // where it isn't there. Behind the first part, no block is made smaller than it can be.
 fn reserve_at<W: Ordered, P: Part<W>>(
     row: &mut Vec<Counted<W, P>>,
@@ -154,8 +154,10 @@ fn reserve_at<W: Ordered, P: Part<W>>(
     more: usize,
 ) -> Result<usize, AllocError>
     requires { number ≤ length row.old.items }
-    ensures kept { KeepsWrites row.old.items row.new.items }
+    ensures kept { KeepsWrites P.most row.old.items row.new.items }
     ensures there { OnOk result (number < length row.new.items) }
+    ensures room { IfOk result (λ room. room ≡ (part_at row.new.items number).spare) }
+    ensures enough { IfOk result (λ room. min more (part_at row.new.items number).left ≤ room) }
 {
     add_missing_part(row, number)?;
     let wanted = if number == 0 {
@@ -174,7 +176,7 @@ fn add_missing_part<W: Ordered, P: Part<W>>(
     number: usize,
 ) -> Result<(), AllocError>
     requires { number ≤ length row.old.items }
-    ensures kept { KeepsWrites row.old.items row.new.items }
+    ensures kept { KeepsWrites P.most row.old.items row.new.items }
     ensures there { OnOk result (number < length row.new.items) }
 {
     if number < row.len() {

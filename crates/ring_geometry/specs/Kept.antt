@@ -1,19 +1,12 @@
 -- What a `Geometry` keeps beside its six numbers.
 use Rattle.std.specs.Prelude.{◌≡◌, ℕ}
 use Rattle.std.proofs.Common.{sym}
-use Rattle.ring_geometry.specs.Geometry.{Layout, IsPlaced, area, area_start, frame_size, entries_of}
+use Rattle.ring_geometry.specs.Geometry.{Layout, layout_with, IsPlaced, area, area_start, frame_size, entries_of}
 use Rattle.ring_geometry.specs.declared.Geometry.TheInside.{Inside}
 
 -- the layout whose places the numbers say
 abbrev pub layout_of : Inside → Layout
-layout_of g = record {
-  window = g.window;
-  windows = g.windows;
-  queues = g.queues;
-  queue = g.queue;
-  mtu = g.mtu;
-  header = g.header;
-}
+layout_of g = layout_with g.window g.windows g.queues g.queue g.mtu g.header
 
 -- the layout is one that a `Geometry` places, and the kept places are the layout's
 pub record IsKept (g : Inside) : Type 0 where

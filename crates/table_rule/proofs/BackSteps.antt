@@ -1,6 +1,5 @@
 -- The atomic steps of the way back and of the cut keep the rule and tell what they are to tell.
 use Rattle.std.proofs.Common.{◌≡◌, ◌≢◌, ℕ, ◌+◌, ◌<◌, ◌≤◌, length, set, get_or, refl, sym, subst, ap, ◌∙◌, arith}
-use Rattle.std.proofs.lemmas.List.{set-get_or}
 use Rattle.atomic_table.specs.Table.{Allows, keeps}
 use Rattle.table_rule.specs.LaneNames.{tail_of}
 use Rattle.table_rule.specs.Words.{index_out_word, index_word, link_word, cut_word}
@@ -10,7 +9,7 @@ use Rattle.table_rule.specs.Moment.{Moment, ShowsLane}
 use Rattle.table_rule.specs.Rule.{Board, Sitter, IsMoment, ShowsALane}
 use Rattle.table_rule.specs.Knowledge.{index_out_loaded, index_stored, link_cut}
 use Rattle.table_rule.specs.Plays.{sees_index_out, stores_index, cuts_link}
-use Rattle.table_rule.proofs.SeatChanges.{back_seats, cut_seats}
+use Rattle.table_rule.proofs.SeatChanges.{load_shows, back_seats, cut_seats}
 use Rattle.table_rule.proofs.WordLists.{index_out_at, set_index, set_link}
 use Rattle.table_rule.proofs.Order.{in_order}
 use Rattle.table_rule.proofs.WayBackShows as returning
@@ -40,16 +39,7 @@ sees_index_out_allowed N slots id me i is has board h counted at fits =
       with_back me.0 after,
       keeps,
       tt,
-      (
-        record m { back = after },
-        record {
-          words = set-get_or board.words i 0 ∙ now.words;
-          sized = now.sized;
-          seats = seats.1 after;
-          knows = now.knows;
-          shows = subst (λ (index : ℕ). ShowsLane N (record m { back = record part { index = index } }) board.homes) (sym word) loaded;
-        },
-      ),
+      load_shows N board (record m { back = after }) i _ _ now.words now.sized (seats.1 after) now.knows (subst (λ (index : ℕ). ShowsLane N (record m { back = record part { index = index } }) board.homes) (sym word) loaded),
       (refl, omega arith, omega arith),
     )
 

@@ -1,4 +1,5 @@
 pub mod BackSteps
+pub mod ClaimsAndLoads
 pub mod Flights
 pub mod LaneLaws
 pub mod LaneRuns

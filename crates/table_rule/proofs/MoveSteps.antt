@@ -1,6 +1,5 @@
 -- The mover's atomic steps keep the rule and tell what they are to tell.
-use Rattle.std.proofs.Common.{◌≡◌, ℕ, ◌+◌, ◌-◌, ◌%◌, ◌<◌, ◌≤◌, Bool, true, false, List, [], ◌∷◌, length, drop, set, get_or, refl, sym, subst, ap, ◌∙◌, inl, inr, arith, mod-lt, length-set, eq-eqb, ne_eqb, Option, Some, None, eqb}
-use Rattle.std.proofs.lemmas.List.{set-get_or}
+use Rattle.std.proofs.Common.{◌≡◌, ℕ, ◌+◌, ◌-◌, ◌%◌, ◌<◌, ◌≤◌, Bool, true, false, List, [], ◌∷◌, length, drop, set, get_or, refl, sym, subst, ap, ◌∙◌, inl, inr, arith, mod-lt, length-set, eq-eqb, ne_eqb, Some, eqb}
 use Rattle.std.proofs.lemmas.Bool.{cases_eq}
 use Rattle.std.specs.Prelude.{IfSome}
 use mathlib.Core.Option.{some, none}
@@ -8,15 +7,15 @@ use lib.ListN.{get_elem?}
 use Rattle.atomic_table.specs.Table.{Allows, keeps, takes, gives}
 use Rattle.table_rule.specs.LaneNames.{done}
 use Rattle.table_rule.specs.Words.{posted_word, header_word, flag_word, header_of}
-use Rattle.table_rule.specs.Views.{Bytes, SendPart, MovePart, RecvPart, LaneView, the_move, HasMove, with_move}
+use Rattle.table_rule.specs.Views.{Bytes, MovePart, the_move, HasMove, with_move}
 use Rattle.table_rule.specs.ShownLane.{number_at}
 use Rattle.table_rule.specs.Moment.{Moment, ShowsLane}
 use Rattle.table_rule.specs.Rule.{Content, Board, Sitter, IsMoment, ShowsALane}
 use Rattle.table_rule.specs.Knowledge.{taken, posted_loaded, frame_taken, header_stored, flag_stored}
 use Rattle.table_rule.specs.Plays.{KnowsSent, sees_posted, stores_header, stores_flag}
 use Rattle.table_rule.proofs.LaneLaws.{number_is}
-use Rattle.table_rule.proofs.SeatChanges.{mover_seats}
-use Rattle.table_rule.proofs.Seats.{part_changes}
+use Rattle.table_rule.proofs.SeatChanges.{load_shows, mover_seats}
+use Rattle.table_rule.proofs.Seats.{part_too}
 use Rattle.table_rule.proofs.WordLists.{posted_at, set_header, set_flag}
 use Rattle.table_rule.proofs.Order.{in_order}
 use Rattle.table_rule.proofs.MoverShows as moving
@@ -24,22 +23,6 @@ use Rattle.table_rule.proofs.MoverShows as moving
 -- the moment with the mover's part that the seat has
 with_the_move : (N : ℕ) (board : Board) (m : Moment) (part : MovePart) → part ≡ m.mover → IsMoment N m board → IsMoment N (record m { mover = part }) board
 with_the_move N board m part same now = subst (λ (p : MovePart). IsMoment N (record m { mover = p }) board) (sym same) now
-
--- a seat that has the sender's part too has that of the moment
-pub sender_too : (N : ℕ) (board : Board) (m : Moment) (id : ℕ) (view : LaneView) (P : SendPart → Type 0) → get_elem? board.views id ≡ some view → IsMoment N m board → P m.send → IfSome view.send P
-sender_too N board m id view P at now holds = by_cases view.send refl
-  where
-    by_cases : (o : Option SendPart) → view.send ≡ o → IfSome o P
-    by_cases None is = tt
-    by_cases (Some p) is = subst P (sym (part_changes (λ v. v.send) board.views id view p m.send at is now.seats.send).0) holds
-
--- the same of the receiver's part
-recv_too : (N : ℕ) (board : Board) (m : Moment) (id : ℕ) (view : LaneView) (P : RecvPart → Type 0) → get_elem? board.views id ≡ some view → IsMoment N m board → P m.recv → IfSome view.recv P
-recv_too N board m id view P at now holds = by_cases view.recv refl
-  where
-    by_cases : (o : Option RecvPart) → view.recv ≡ o → IfSome o P
-    by_cases None is = tt
-    by_cases (Some p) is = subst P (sym (part_changes (λ v. v.recv) board.views id view p m.recv at is now.seats.recv).0) holds
 
 pub sees_posted_allowed : (N slots id : ℕ) (me : Sitter) (i : ℕ) → i ≡ posted_word N (taken (the_move me.0)) → HasMove me.0 → Allows (ShowsALane N) slots id me i (λ n. n) (sees_posted me)
 sees_posted_allowed N slots id me i is has board h counted at fits =
@@ -57,10 +40,10 @@ sees_posted_allowed N slots id me i is has board h counted at fits =
     let counted_sent = now.shows.room.counted in
     let room : length m.send.sent + 1 ≤ length m.recv.got + part.entries = omega (arith, o.freed, o.acked, o.cleared, o.sent, o.claimed) in
     let surely : IfSome me.0.send (KnowsSent part found me.0.recv) =
-    sender_too N board m id me.0 (KnowsSent part found me.0.recv) at now (
+    part_too (λ v. v.send) board.views id me.0 m.send (KnowsSent part found me.0.recv) at now.seats.send (
       (λ below. word ∙ now.shows.posted.newest n below (omega (arith, o.claimed))),
       (λ new. (moving.takes N m board.homes n refl (sym word ∙ new) now.shows).0),
-      recv_too N board m id me.0 (λ r. length m.send.sent + 1 ≤ length r.got + part.entries) at now room,
+      part_too (λ v. v.recv) board.views id me.0 m.recv (λ r. length m.send.sent + 1 ≤ length r.got + part.entries) at now.seats.recv room,
     ) in
     elim (cases_eq found (header_of n)) [
       | inl new ↦
@@ -72,16 +55,7 @@ sees_posted_allowed N slots id me i is has board h counted at fits =
             with_move me.0 after,
             takes (n % part.entries) (Some frame),
             ap (get_elem? board.homes) (sym at_place) ∙ take.1,
-            (
-              record m { mover = after },
-              record {
-                words = set-get_or board.words i 0 ∙ now.words;
-                sized = now.sized;
-                seats = seats.1 after;
-                knows = now.knows;
-                shows = subst (λ (k : ℕ). ShowsLane N (record m { mover = frame_taken part frame }) (set board.homes k none)) at_place take.2;
-              },
-            ),
+            load_shows N board (record m { mover = after }) i _ _ now.words now.sized (seats.1 after) now.knows (subst (λ (k : ℕ). ShowsLane N (record m { mover = frame_taken part frame }) (set board.homes k none)) at_place take.2),
             (let hit : eqb found (header_of n) ≡ true = eq-eqb found (header_of n) new in rw hit (frame, refl, omega arith, omega (arith, o.claimed, o.sent)), surely),
           )
       | inr old ↦
@@ -89,7 +63,7 @@ sees_posted_allowed N slots id me i is has board h counted at fits =
             with_move me.0 after,
             keeps,
             tt,
-            (record m { mover = after }, record { words = set-get_or board.words i 0 ∙ now.words; sized = now.sized; seats = seats.1 after; knows = now.knows; shows = now.shows }),
+            load_shows N board (record m { mover = after }) i _ _ now.words now.sized (seats.1 after) now.knows now.shows,
             (let miss : eqb found (header_of n) ≡ false = ne_eqb found (header_of n) old in rw miss refl, surely),
           )
     ]

@@ -1,6 +1,5 @@
 -- The receiver's atomic steps keep the rule and tell what they are to tell.
-use Rattle.std.proofs.Common.{◌≡◌, ℕ, ◌+◌, ◌%◌, ◌^◌, ◌<◌, true, false, List, [], ◌∷◌, ◌++◌, length, take, set, get_or, refl, sym, subst, ap, ◌∙◌, inl, inr, arith, mod-lt, length-set, eq-eqb, ne_eqb, append-nil, Option, Some, None, eqb}
-use Rattle.std.proofs.lemmas.List.{set-get_or}
+use Rattle.std.proofs.Common.{◌≡◌, ℕ, ◌+◌, ◌%◌, ◌^◌, ◌<◌, true, false, List, [], ◌∷◌, ◌++◌, length, take, set, get_or, refl, sym, subst, ap, ◌∙◌, inl, inr, arith, mod-lt, length-set, eq-eqb, ne_eqb, append-nil, Some, None, eqb}
 use Rattle.std.proofs.lemmas.Bool.{cases_eq}
 use Rattle.std.specs.Prelude.{IfSome}
 use mathlib.Core.Option.{some, none}
@@ -8,31 +7,22 @@ use lib.ListN.{get_elem?}
 use Rattle.atomic_table.specs.Table.{Allows, keeps, takes, gives}
 use Rattle.table_rule.specs.LaneNames.{done, Idle, Copying, Copied, Cleared}
 use Rattle.table_rule.specs.Words.{header_word, flag_word, index_out_word}
-use Rattle.table_rule.specs.Views.{Bytes, MovePart, RecvPart, LaneView, the_recv, HasRecv, with_recv}
+use Rattle.table_rule.specs.Views.{Bytes, RecvPart, the_recv, HasRecv, with_recv}
 use Rattle.table_rule.specs.ShownLane.{hand_in}
 use Rattle.table_rule.specs.Moment.{Moment, ShowsLane}
 use Rattle.table_rule.specs.Rule.{Content, Board, Sitter, IsMoment, ShowsALane}
 use Rattle.table_rule.specs.Knowledge.{flag_loaded, frame_found, frame_copied, flag_cleared, acknowledged}
 use Rattle.table_rule.specs.Plays.{sees_flag, copies_frame, clears_flag, stores_index_out}
-use Rattle.table_rule.proofs.SeatChanges.{recv_seats}
-use Rattle.table_rule.proofs.Seats.{part_changes}
+use Rattle.table_rule.proofs.SeatChanges.{load_shows, recv_seats}
+use Rattle.table_rule.proofs.Seats.{part_too}
 use Rattle.table_rule.proofs.WordLists.{header_at, flag_at, set_flag, set_index_out}
 use Rattle.table_rule.proofs.Order.{in_order}
-use Rattle.table_rule.proofs.MoveSteps.{sender_too}
 use Rattle.table_rule.proofs.ReceiverShows.{none_long}
 use Rattle.table_rule.proofs.ReceiverShows as receiving
 
 -- the moment with the receiver's part that the seat has
 with_the_recv : (N : ℕ) (board : Board) (m : Moment) (part : RecvPart) → part ≡ m.recv → IsMoment N m board → IsMoment N (record m { recv = part }) board
 with_the_recv N board m part same now = subst (λ (p : RecvPart). IsMoment N (record m { recv = p }) board) (sym same) now
-
--- a seat that has the mover's part too has that of the moment
-mover_too : (N : ℕ) (board : Board) (m : Moment) (id : ℕ) (view : LaneView) (P : MovePart → Type 0) → get_elem? board.views id ≡ some view → IsMoment N m board → P m.mover → IfSome view.mover P
-mover_too N board m id view P at now holds = by_cases view.mover refl
-  where
-    by_cases : (o : Option MovePart) → view.mover ≡ o → IfSome o P
-    by_cases None is = tt
-    by_cases (Some p) is = subst P (sym (part_changes (λ v. v.mover) board.views id view p m.mover at is now.seats.mover).0) holds
 
 pub sees_flag_allowed : (N slots id : ℕ) (me : Sitter) (i : ℕ) → i ≡ flag_word N (length (the_recv me.0).got) → HasRecv me.0 → (the_recv me.0).phase ≡ Idle → Allows (ShowsALane N) slots id me i (λ n. n) (sees_flag me)
 sees_flag_allowed N slots id me i is has idle board h counted at fits =
@@ -48,12 +38,12 @@ sees_flag_allowed N slots id me i is has idle board h counted at fits =
     let knows : part.entries ≡ N = now.knows.recv in
     let counted_sent = now.shows.room.counted in
     let surely : IfSome me.0.mover (λ mover. n < mover.flagged → found ≡ done) =
-    mover_too N board m id me.0 (λ mover. n < mover.flagged → found ≡ done) at now (λ below. word ∙ receiving.raised N m board.homes n refl idle below now.shows) in
+    part_too (λ v. v.mover) board.views id me.0 m.mover (λ mover. n < mover.flagged → found ≡ done) at now.seats.mover (λ below. word ∙ receiving.raised N m board.homes n refl idle below now.shows) in
     let no_hand : length part.hand ≡ 0 = now.shows.receiving.in_hand ∙ ap hand_in idle in
     let prefix : part.got ≡ take (length part.got) m.send.sent =
     sym (append-nil part.got) ∙ ap (λ (w : List Bytes). part.got ++ w) (sym (none_long part.hand no_hand)) ∙ now.shows.receiving.prefix
     ∙ ap (λ (j : ℕ). take j m.send.sent) (let e : length part.got + length part.hand ≡ length part.got = omega arith in e) in
-    let begins = sender_too N board m id me.0 (λ send. part.got ≡ take (length part.got) send.sent) at now prefix in
+    let begins = part_too (λ v. v.send) board.views id me.0 m.send (λ send. part.got ≡ take (length part.got) send.sent) at now.seats.send prefix in
     elim (cases_eq found done) [
       | inl up ↦
           let look = receiving.looks N m board.homes n refl idle (sym word ∙ up) now.shows in
@@ -65,16 +55,7 @@ sees_flag_allowed N slots id me i is has idle board h counted at fits =
             with_recv me.0 after,
             takes (n % part.entries) (Some frame),
             ap (get_elem? board.homes) (sym at_place) ∙ look.0,
-            (
-              record m { lane = look.2.0; recv = after },
-              record {
-                words = set-get_or board.words i 0 ∙ now.words;
-                sized = now.sized;
-                seats = seats.1 after;
-                knows = now.knows;
-                shows = subst (λ (k : ℕ). ShowsLane N (record m { lane = look.2.0; recv = frame_found part frame }) (set board.homes k none)) at_place look.2.2;
-              },
-            ),
+            load_shows N board (record m { lane = look.2.0; recv = after }) i _ _ now.words now.sized (seats.1 after) now.knows (subst (λ (k : ℕ). ShowsLane N (record m { lane = look.2.0; recv = frame_found part frame }) (set board.homes k none)) at_place look.2.2),
             (rw hit (frame, refl, below), surely, begins),
           )
       | inr down ↦
@@ -83,7 +64,7 @@ sees_flag_allowed N slots id me i is has idle board h counted at fits =
             with_recv me.0 after,
             keeps,
             tt,
-            (record m { recv = after }, record { words = set-get_or board.words i 0 ∙ now.words; sized = now.sized; seats = seats.1 after; knows = now.knows; shows = now.shows }),
+            load_shows N board (record m { recv = after }) i _ _ now.words now.sized (seats.1 after) now.knows now.shows,
             (rw miss refl, surely, begins),
           )
     ]
@@ -105,8 +86,8 @@ copies_frame_allowed N slots id me i is has copying board h counted at fits =
       with_recv me.0 after,
       keeps,
       tt,
-      (record m { lane = copy.1; recv = after }, record { words = set-get_or board.words i 0 ∙ now.words; sized = now.sized; seats = seats.1 after; knows = now.knows; shows = copy.3 }),
-      (refl, ap (λ (header : ℕ). header % 2 ^ 32) word ∙ receiving.version_stands N m board.homes n refl copying now.shows, sender_too N board m id me.0 (λ send. after.got ≡ take (length after.got) send.sent) at now prefix),
+      load_shows N board (record m { lane = copy.1; recv = after }) i _ _ now.words now.sized (seats.1 after) now.knows copy.3,
+      (refl, ap (λ (header : ℕ). header % 2 ^ 32) word ∙ receiving.version_stands N m board.homes n refl copying now.shows, part_too (λ v. v.send) board.views id me.0 m.send (λ send. after.got ≡ take (length after.got) send.sent) at now.seats.send prefix),
     )
 
 pub clears_flag_allowed : (N slots id : ℕ) (me : Sitter) (i n : ℕ) (k : ℕ) (others : List (ℕ × Content)) → i ≡ flag_word N n → n + 1 ≡ length (the_recv me.0).got → me.1 ≡ (k, None) ∷ others → k ≡ n % N

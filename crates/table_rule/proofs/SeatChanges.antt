@@ -1,10 +1,19 @@
 -- One seat changes its part: the parts of all seats after it.
-use Rattle.std.proofs.Common.{◌≡◌, ℕ, List, set, refl, ◌∙◌}
+use Rattle.std.proofs.Common.{◌≡◌, ℕ, List, set, get_or, refl, ◌∙◌}
+use Rattle.std.proofs.lemmas.List.{set-get_or}
 use mathlib.Core.Option.{some}
 use lib.ListN.{get_elem?}
 use Rattle.table_rule.specs.Views.{SendPart, MovePart, RecvPart, BackPart, CutPart, LaneView, the_send, the_move, the_recv, the_back, the_cut, HasSend, HasMove, HasRecv, HasBack, HasCut, with_send, with_move, with_recv, with_back, with_cut}
-use Rattle.table_rule.specs.Moment.{EachHasOneSeat}
+use Rattle.table_rule.specs.Words.{AreSized, words_of}
+use Rattle.table_rule.specs.Borders.{Slots}
+use Rattle.table_rule.specs.Moment.{Moment, EachHasOneSeat, EachKnows, ShowsLane}
+use Rattle.table_rule.specs.Rule.{Board, ShowsALane}
 use Rattle.table_rule.proofs.Seats.{part_stays, part_changes}
+
+-- a word is loaded, and a moment with the same words is shown after it
+pub load_shows : (N : ℕ) (board : Board) (m : Moment) (i : ℕ) (views : List LaneView) (homes : Slots) → board.words ≡ words_of m.words → AreSized N m.words → EachHasOneSeat views m.send m.mover m.recv m.back m.cut
+    → EachKnows N m.send.entries m.mover.entries m.recv.entries m.back.entries m.cut.entries → ShowsLane N m homes → ShowsALane N (record { words = set board.words i (get_or board.words i 0); homes = homes; views = views })
+load_shows N board m i views homes words sized seats knows shows = (m, record { words = set-get_or board.words i 0 ∙ words; sized = sized; seats = seats; knows = knows; shows = shows })
 
 module _ (views : List LaneView) (id : ℕ) (view : LaneView) (s : SendPart) (m : MovePart) (r : RecvPart) (b : BackPart) (c : CutPart) (at : get_elem? views id ≡ some view) (h : EachHasOneSeat views s m r b c) where
   pub send_seats : HasSend view → (the_send view ≡ s) × ((p : SendPart) → EachHasOneSeat (set views id (with_send view p)) p m r b c)

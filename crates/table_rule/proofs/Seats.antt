@@ -1,5 +1,6 @@
 -- The parts that seats have, after the view of one seat changed.
-use Rattle.std.proofs.Common.{◌≡◌, ◌≢◌, ℕ, zero, suc, List, [], ◌∷◌, ◌++◌, set, refl, sym, ap, ◌∙◌, append-nil, append_assoc, Option, Some, None, inl, inr, ◌⊎◌}
+use Rattle.std.proofs.Common.{◌≡◌, ◌≢◌, ℕ, zero, suc, List, [], ◌∷◌, ◌++◌, set, refl, sym, ap, subst, ◌∙◌, append-nil, append_assoc, Option, Some, None, inl, inr, ◌⊎◌}
+use Rattle.std.specs.Prelude.{IfSome}
 use Rattle.std.specs.Option.{option_to_list}
 use mathlib.Core.Option.{some, some-injective, some-ne-none}
 use lib.ListN.{get_elem?}
@@ -23,6 +24,10 @@ set_commutes (x ∷ xs) zero zero a b ne = absurd (ne refl)
 set_commutes (x ∷ xs) zero (suc j) a b ne = refl
 set_commutes (x ∷ xs) (suc i) zero a b ne = refl
 set_commutes (x ∷ xs) (suc i) (suc j) a b ne = ap (λ ys. x ∷ ys) (set_commutes xs i j a b (λ e. ne (ap suc e)))
+
+-- a part of a seat goes to one of the two that the seat is cut into
+abbrev pub GoesToOne : {P : Type 0} → (LaneView → Option P) → LaneView → LaneView → LaneView → Type 0
+GoesToOne part view left right = ((part left ≡ part view) × (part right ≡ None)) ⊎ ((part left ≡ None) × (part right ≡ part view))
 
 module _ {P : Type 0} (part : LaneView → Option P) where
   -- the list of the parts around that of one seat
@@ -50,6 +55,14 @@ module _ {P : Type 0} (part : LaneView → Option P) where
       let l = lone a.0 a.1 p q here in
       (l.2, λ new. a.3 new ∙ ap (λ b. b ++ (option_to_list (part new) ++ a.1)) l.0 ∙ ap (λ b. option_to_list (part new) ++ b) l.1 ∙ append-nil (option_to_list (part new)))
 
+  -- a seat that has this part too has the one part
+  pub part_too : (views : List LaneView) (id : ℕ) (view : LaneView) (q : P) (H : P → Type 0) → get_elem? views id ≡ some view → parts_of part views ≡ q ∷ [] → H q → IfSome (part view) H
+  part_too views id view q H at all holds = by_cases (part view) refl
+    where
+      by_cases : (o : Option P) → part view ≡ o → IfSome o H
+      by_cases None is = tt
+      by_cases (Some p) is = subst H (sym (part_changes views id view p q at is all).0) holds
+
   -- where no seat has it, the seat whose view changes has what it has
   part_comes : (views : List LaneView) (id : ℕ) (view new : LaneView) → get_elem? views id ≡ some view → parts_of part views ≡ [] → parts_of part (set views id new) ≡ option_to_list (part new)
   part_comes views id view new at none =
@@ -69,7 +82,7 @@ module _ {P : Type 0} (part : LaneView → Option P) where
 
   -- a seat is cut in two: the part goes to one of both
   pub part_splits : (views : List LaneView) (id : ℕ) (view left right : LaneView) (q : P) → get_elem? views id ≡ some view → parts_of part views ≡ q ∷ []
-      → ((part left ≡ part view) × (part right ≡ None)) ⊎ ((part left ≡ None) × (part right ≡ part view)) → parts_of part (set views id left ++ right ∷ []) ≡ q ∷ []
+      → GoesToOne part view left right → parts_of part (set views id left ++ right ∷ []) ≡ q ∷ []
   part_splits views id view left right q at all goes = elim goes [
     | inl stays ↦ parts_of-push (set views id left) right ∙ ap (λ o. parts_of part (set views id left) ++ option_to_list o) stays.1 ∙ append-nil (parts_of part (set views id left)) ∙ part_stays views id view left at stays.0 ∙ all
     | inr leaves ↦ parts_of-push (set views id left) right ∙ ap (λ o. parts_of part (set views id left) ++ option_to_list o) leaves.1 ∙ left_behind (part view) refl leaves.0

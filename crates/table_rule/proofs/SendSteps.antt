@@ -1,6 +1,5 @@
 -- The sender's atomic steps keep the rule and tell what they are to tell.
 use Rattle.std.proofs.Common.{◌≡◌, ℕ, ◌+◌, ◌-◌, ◌%◌, ◌^◌, ◌<◌, ◌≤◌, true, false, List, ◌∷◌, length, set, get_or, refl, sym, subst, ap, ◌∙◌, inl, inr, arith, mod-lt, length-set, Some, None, nat_lt}
-use Rattle.std.proofs.lemmas.List.{set-get_or}
 use Rattle.std.proofs.lemmas.Bool.{cases_Bool, ltb-true}
 use mathlib.Core.Option.{some, none}
 use lib.ListN.{get_elem?}
@@ -12,7 +11,7 @@ use Rattle.table_rule.specs.Moment.{Moment, ShowsLane}
 use Rattle.table_rule.specs.Rule.{Content, Board, Sitter, IsMoment, ShowsALane}
 use Rattle.table_rule.specs.Knowledge.{link_loaded, index_loaded, head, free_by, slot_claimed, frame_sent}
 use Rattle.table_rule.specs.Plays.{sees_link, sees_index, stores_posted}
-use Rattle.table_rule.proofs.SeatChanges.{send_seats}
+use Rattle.table_rule.proofs.SeatChanges.{load_shows, send_seats}
 use Rattle.table_rule.proofs.WordLists.{index_at, set_posted}
 use Rattle.table_rule.proofs.Order.{in_order}
 use Rattle.table_rule.proofs.SenderShows as sending
@@ -31,7 +30,7 @@ sees_link_allowed N slots id me i has board h counted at fits =
       with_send me.0 new,
       keeps,
       tt,
-      (record m { send = new }, record { words = set-get_or board.words i 0 ∙ now.words; sized = now.sized; seats = seats.1 new; knows = now.knows; shows = now.shows }),
+      load_shows N board (record m { send = new }) i _ _ now.words now.sized (seats.1 new) now.knows now.shows,
       refl,
     )
 
@@ -58,16 +57,7 @@ sees_index_allowed N slots id me i is has no_claim board h counted at fits =
             with_send me.0 new,
             takes (head part) None,
             ap (get_elem? board.homes) (sym at_head) ∙ claim.0,
-            (
-              record m { send = new },
-              record {
-                words = set-get_or board.words i 0 ∙ now.words;
-                sized = now.sized;
-                seats = seats.1 new;
-                knows = now.knows;
-                shows = subst (λ (k : ℕ). ShowsLane N (record m { send = slot_claimed part }) (set board.homes k none)) at_head claim.1;
-              },
-            ),
+            load_shows N board (record m { send = new }) i _ _ now.words now.sized (seats.1 new) now.knows (subst (λ (k : ℕ). ShowsLane N (record m { send = slot_claimed part }) (set board.homes k none)) at_head claim.1),
             (small, rw room refl),
           )
       | inr none_free ↦
@@ -75,7 +65,7 @@ sees_index_allowed N slots id me i is has no_claim board h counted at fits =
             with_send me.0 new,
             keeps,
             tt,
-            (record m { send = new }, record { words = set-get_or board.words i 0 ∙ now.words; sized = now.sized; seats = seats.1 new; knows = now.knows; shows = now.shows }),
+            load_shows N board (record m { send = new }) i _ _ now.words now.sized (seats.1 new) now.knows now.shows,
             (small, rw none_free refl),
           )
     ]

@@ -1,5 +1,5 @@
 -- The sender's steps: the slot of the next entry goes to the sender, and comes back with a frame.
-use Rattle.std.proofs.Common.{◌≡◌, ◌≢◌, ℕ, zero, suc, ◌+◌, ◌-◌, ◌%◌, ◌<◌, ◌≤◌, false, List, [], ◌∷◌, ◌++◌, length, map, drop, set, get_or, refl, sym, subst, ap, ◌∙◌, inl, inr, arith, mod-lt, mod-eq_of_lt, length-drop, get_or-set_same, get_or-set_other, Some, nat_lt}
+use Rattle.std.proofs.Common.{◌≡◌, ◌≢◌, ℕ, zero, suc, ◌+◌, ◌-◌, ◌%◌, ◌<◌, ◌≤◌, true, false, List, [], ◌∷◌, ◌++◌, length, map, drop, set, get_or, refl, sym, subst, ap, ◌∙◌, inl, inr, arith, mod-lt, mod-eq_of_lt, length-drop, get_or-set_same, get_or-set_other, Some, nat_lt}
 use Rattle.std.proofs.lemmas.Bool.{lt-ltb, le-ltb, cases_eq, cases_lt}
 use Rattle.std.proofs.lemmas.List.{map-append, length_push, get_or_push, get_or_append_left, take-append-le, length-map, drop-append-le}
 use mathlib.Core.Option.{some}
@@ -14,6 +14,7 @@ use Rattle.table_rule.specs.Moment.{Moment, ShowsLane}
 use Rattle.table_rule.proofs.LaneLaws.{free_is_room, other_number}
 use Rattle.table_rule.proofs.LaneRuns.{runs_keep, post_all}
 use Rattle.table_rule.proofs.Flights.{in_flight-send}
+use Rattle.table_rule.proofs.ClaimsAndLoads.{shows_still}
 use Rattle.table_rule.proofs.Slots.{slot_by, slot_is, moves_past, slot_changes}
 use Rattle.table_rule.proofs.Order.{in_order}
 
@@ -54,22 +55,11 @@ claims N m slots free_hand free h =
     let l4 : nat_lt n k.sent ≡ false = le-ltb n k.sent (omega arith) in
     let next : Borders = record k { claimed = n + 1 } in (
       h.places.at n low (omega arith) ∙ ap some (slot_is k m.send.sent n l0 l1 l2 l3 l4 (le-ltb n k.claimed (omega arith))),
-      record {
-        law = h.law;
-        of = h.of;
-        parts = h.parts;
-        posted = h.posted;
-        ring = h.ring;
-        index = h.index;
-        link = h.link;
-        holding = h.holding;
-        receiving = h.receiving;
-        room = record { one_free = omega arith; counted = h.room.counted };
-        places = slot_changes N k next m.send.sent m.send.sent slots n out (omega (arith, o.two)) h.places refl low (omega arith)
-            (λ j other. ap (λ b. slot_by (nat_lt j k.cleared) (nat_lt j k.looked) (nat_lt j k.flagged) (nat_lt j k.taken) (nat_lt j k.sent) b (full m.send.sent j))
-            (moves_past j n other ∙ ap (nat_lt j) (sym none_claimed)))
-            (slot_is next m.send.sent n l0 l1 l2 l3 l4 (lt-ltb n (n + 1) (omega arith)));
-      },
+      shows_still N m slots _ true m.back.index m.words.link m.cut.cut h h.index h.link (record { one_free = omega arith; counted = h.room.counted })
+          (slot_changes N k next m.send.sent m.send.sent slots n out (omega (arith, o.two)) h.places refl low (omega arith)
+          (λ j other. ap (λ b. slot_by (nat_lt j k.cleared) (nat_lt j k.looked) (nat_lt j k.flagged) (nat_lt j k.taken) (nat_lt j k.sent) b (full m.send.sent j))
+          (moves_past j n other ∙ ap (nat_lt j) (sym none_claimed)))
+          (slot_is next m.send.sent n l0 l1 l2 l3 l4 (lt-ltb n (n + 1) (omega arith)))),
     )
 
 -- one more posted header

@@ -10,101 +10,51 @@ use Rattle.table_rule.specs.LaneNames.{Lane, Slot, blank_slot, Idle, tail_of}
 use Rattle.table_rule.specs.Words.{words_of, first_words}
 use Rattle.table_rule.specs.Views.{LaneView, joined, no_parts, without_mover, mover_alone, without_recv, recv_alone, without_back, back_alone, without_cut, cut_alone, all_parts, new_send, new_move, new_recv, new_back, new_cut}
 use Rattle.table_rule.specs.ShownLane.{borders_of}
-use Rattle.table_rule.specs.Moment.{Moment, ShowsLane}
-use Rattle.table_rule.specs.Rule.{Content, ShowsALane}
+use Rattle.table_rule.specs.Moment.{Moment, EachHasOneSeat, ShowsLane}
+use Rattle.table_rule.specs.Rule.{Content, Board, IsMoment, ShowsALane}
 use Rattle.table_rule.proofs.LaneLaws.{IsFresh, fresh_holds}
-use Rattle.table_rule.proofs.Seats.{part_splits, part_joins}
+use Rattle.table_rule.proofs.Seats.{GoesToOne, part_splits, part_joins}
 use Rattle.table_rule.proofs.Slots.{slot_is}
 
+-- the same moment, where seats have its parts otherwise
+seats_change : (N : ℕ) (board : Board) (m : Moment) (views : List LaneView) → IsMoment N m board → EachHasOneSeat views m.send m.mover m.recv m.back m.cut → ShowsALane N (record board { views = views })
+seats_change N board m views now seats = (m, record { words = now.words; sized = now.sized; seats = seats; knows = now.knows; shows = now.shows })
+
+-- a seat is cut into two, to one of which each of its parts goes
+seats_split : (N id : ℕ) (view left right : LaneView) → GoesToOne (λ v. v.send) view left right → GoesToOne (λ v. v.mover) view left right → GoesToOne (λ v. v.recv) view left right → GoesToOne (λ v. v.back) view left right → GoesToOne (λ v. v.cut) view left right
+    → Splits (ShowsALane N) id view left right
+seats_split N id view left right send mover recv back cut board h at =
+    seats_change N board h.0 _ h.1 (
+    record {
+      send = part_splits (λ v. v.send) board.views id view left right h.0.send at h.1.seats.send send;
+      mover = part_splits (λ v. v.mover) board.views id view left right h.0.mover at h.1.seats.mover mover;
+      recv = part_splits (λ v. v.recv) board.views id view left right h.0.recv at h.1.seats.recv recv;
+      back = part_splits (λ v. v.back) board.views id view left right h.0.back at h.1.seats.back back;
+      cut = part_splits (λ v. v.cut) board.views id view left right h.0.cut at h.1.seats.cut cut;
+    })
+
 pub mover_splits : (N id : ℕ) (view : LaneView) → Splits (ShowsALane N) id view (without_mover view) (mover_alone view)
-mover_splits N id view board h at = (
-  h.0,
-  record {
-    words = h.1.words;
-    sized = h.1.sized;
-    seats = record {
-      send = part_splits (λ v. v.send) board.views id view (without_mover view) (mover_alone view) h.0.send at h.1.seats.send (inl (refl, refl));
-      mover = part_splits (λ v. v.mover) board.views id view (without_mover view) (mover_alone view) h.0.mover at h.1.seats.mover (inr (refl, refl));
-      recv = part_splits (λ v. v.recv) board.views id view (without_mover view) (mover_alone view) h.0.recv at h.1.seats.recv (inl (refl, refl));
-      back = part_splits (λ v. v.back) board.views id view (without_mover view) (mover_alone view) h.0.back at h.1.seats.back (inl (refl, refl));
-      cut = part_splits (λ v. v.cut) board.views id view (without_mover view) (mover_alone view) h.0.cut at h.1.seats.cut (inl (refl, refl));
-    };
-    knows = h.1.knows;
-    shows = h.1.shows;
-  },
-)
+mover_splits N id view = seats_split N id view (without_mover view) (mover_alone view) (inl (refl, refl)) (inr (refl, refl)) (inl (refl, refl)) (inl (refl, refl)) (inl (refl, refl))
 
 pub recv_splits : (N id : ℕ) (view : LaneView) → Splits (ShowsALane N) id view (without_recv view) (recv_alone view)
-recv_splits N id view board h at = (
-  h.0,
-  record {
-    words = h.1.words;
-    sized = h.1.sized;
-    seats = record {
-      send = part_splits (λ v. v.send) board.views id view (without_recv view) (recv_alone view) h.0.send at h.1.seats.send (inl (refl, refl));
-      mover = part_splits (λ v. v.mover) board.views id view (without_recv view) (recv_alone view) h.0.mover at h.1.seats.mover (inl (refl, refl));
-      recv = part_splits (λ v. v.recv) board.views id view (without_recv view) (recv_alone view) h.0.recv at h.1.seats.recv (inr (refl, refl));
-      back = part_splits (λ v. v.back) board.views id view (without_recv view) (recv_alone view) h.0.back at h.1.seats.back (inl (refl, refl));
-      cut = part_splits (λ v. v.cut) board.views id view (without_recv view) (recv_alone view) h.0.cut at h.1.seats.cut (inl (refl, refl));
-    };
-    knows = h.1.knows;
-    shows = h.1.shows;
-  },
-)
+recv_splits N id view = seats_split N id view (without_recv view) (recv_alone view) (inl (refl, refl)) (inl (refl, refl)) (inr (refl, refl)) (inl (refl, refl)) (inl (refl, refl))
 
 pub back_splits : (N id : ℕ) (view : LaneView) → Splits (ShowsALane N) id view (without_back view) (back_alone view)
-back_splits N id view board h at = (
-  h.0,
-  record {
-    words = h.1.words;
-    sized = h.1.sized;
-    seats = record {
-      send = part_splits (λ v. v.send) board.views id view (without_back view) (back_alone view) h.0.send at h.1.seats.send (inl (refl, refl));
-      mover = part_splits (λ v. v.mover) board.views id view (without_back view) (back_alone view) h.0.mover at h.1.seats.mover (inl (refl, refl));
-      recv = part_splits (λ v. v.recv) board.views id view (without_back view) (back_alone view) h.0.recv at h.1.seats.recv (inl (refl, refl));
-      back = part_splits (λ v. v.back) board.views id view (without_back view) (back_alone view) h.0.back at h.1.seats.back (inr (refl, refl));
-      cut = part_splits (λ v. v.cut) board.views id view (without_back view) (back_alone view) h.0.cut at h.1.seats.cut (inl (refl, refl));
-    };
-    knows = h.1.knows;
-    shows = h.1.shows;
-  },
-)
+back_splits N id view = seats_split N id view (without_back view) (back_alone view) (inl (refl, refl)) (inl (refl, refl)) (inl (refl, refl)) (inr (refl, refl)) (inl (refl, refl))
 
 pub cut_splits : (N id : ℕ) (view : LaneView) → Splits (ShowsALane N) id view (without_cut view) (cut_alone view)
-cut_splits N id view board h at = (
-  h.0,
-  record {
-    words = h.1.words;
-    sized = h.1.sized;
-    seats = record {
-      send = part_splits (λ v. v.send) board.views id view (without_cut view) (cut_alone view) h.0.send at h.1.seats.send (inl (refl, refl));
-      mover = part_splits (λ v. v.mover) board.views id view (without_cut view) (cut_alone view) h.0.mover at h.1.seats.mover (inl (refl, refl));
-      recv = part_splits (λ v. v.recv) board.views id view (without_cut view) (cut_alone view) h.0.recv at h.1.seats.recv (inl (refl, refl));
-      back = part_splits (λ v. v.back) board.views id view (without_cut view) (cut_alone view) h.0.back at h.1.seats.back (inl (refl, refl));
-      cut = part_splits (λ v. v.cut) board.views id view (without_cut view) (cut_alone view) h.0.cut at h.1.seats.cut (inr (refl, refl));
-    };
-    knows = h.1.knows;
-    shows = h.1.shows;
-  },
-)
+cut_splits N id view = seats_split N id view (without_cut view) (cut_alone view) (inl (refl, refl)) (inl (refl, refl)) (inl (refl, refl)) (inl (refl, refl)) (inr (refl, refl))
 
 pub seats_join : (N id : ℕ) (view : LaneView) (other : ℕ) (second : LaneView) → Joins (ShowsALane N) id view other second (joined view second) no_parts
-seats_join N id view other second board h at apart at_other = (
-  h.0,
-  record {
-    words = h.1.words;
-    sized = h.1.sized;
-    seats = record {
+seats_join N id view other second board h at apart at_other =
+    seats_change N board h.0 _ h.1 (
+    record {
       send = part_joins (λ v. v.send) board.views id other view second (joined view second) h.0.send at apart at_other refl refl h.1.seats.send;
       mover = part_joins (λ v. v.mover) board.views id other view second (joined view second) h.0.mover at apart at_other refl refl h.1.seats.mover;
       recv = part_joins (λ v. v.recv) board.views id other view second (joined view second) h.0.recv at apart at_other refl refl h.1.seats.recv;
       back = part_joins (λ v. v.back) board.views id other view second (joined view second) h.0.back at apart at_other refl refl h.1.seats.back;
       cut = part_joins (λ v. v.cut) board.views id other view second (joined view second) h.0.cut at apart at_other refl refl h.1.seats.cut;
-    };
-    knows = h.1.knows;
-    shows = h.1.shows;
-  },
-)
+    })
 
 map-replicate : {A B : Type 0} (f : A → B) (n : ℕ) (x : A) → map f (replicate n x) ≡ replicate n (f x)
 map-replicate f zero x = refl

@@ -1,10 +1,11 @@
 -- The steps of the way back and of the cut: entries are given back to the sender, and later frames are refused.
-use Rattle.std.proofs.Common.{◌≡◌, ℕ, ◌+◌, ◌-◌, ◌%◌, ◌<◌, ◌≤◌, List, refl, sym, ap, ◌∙◌, inl, inr, arith, mod-lt, ◌⊎◌}
+use Rattle.std.proofs.Common.{◌≡◌, ℕ, ◌+◌, ◌-◌, ◌%◌, ◌<◌, ◌≤◌, List, true, refl, sym, ap, ◌∙◌, inl, inr, arith, mod-lt, ◌⊎◌}
 use native.Mathlib.Nat.{add-mod_right}
 use Rattle.std.proofs.lemmas.Bool.{lt-ltb, le-ltb, cases_eq, cases_lt}
 use mathlib.Core.Option.{some}
 use lib.ListN.{get_elem?}
 use Rattle.table_rule.specs.LaneNames.{Lane, tail_of}
+use Rattle.table_rule.specs.Words.{cut_word}
 use Rattle.table_rule.specs.Views.{Bytes}
 use Rattle.table_rule.specs.Borders.{Borders, Slots, SlotsStand}
 use Rattle.table_rule.specs.ShownLane.{number_at}
@@ -12,6 +13,7 @@ use Rattle.table_rule.specs.LaneSteps.{Runs, index_steps}
 use Rattle.table_rule.specs.Kinds.{LoadsIndex, StoresIndex, Cuts}
 use Rattle.table_rule.proofs.LaneLaws.{number_is, number_from, tail_after}
 use Rattle.table_rule.proofs.LaneRuns.{runs_keep, index_all}
+use Rattle.table_rule.proofs.ClaimsAndLoads.{shows_still}
 use Rattle.table_rule.proofs.Slots.{slot_is}
 use Rattle.table_rule.proofs.Order.{in_order}
 use Rattle.table_rule.proofs.SenderShows.{borders_in}
@@ -34,24 +36,14 @@ loads_index N m slots h =
     let o = in_order N m slots h in
     let small : tail_of N m.lane.acked < N = mod-lt (m.lane.acked + N - 1) (omega (arith, o.two)) in
     let out = h.index.outward in
-    record {
-      law = h.law;
-      of = h.of;
-      parts = h.parts;
-      posted = h.posted;
-      ring = h.ring;
-      index = record {
-        outward = h.index.outward;
-        homeward = h.index.homeward;
-        position = omega arith;
-        last_load = shown N m.back.freed m.lane.acked m.words.index_out o.two o.freed (omega arith) h.index.outward;
-      };
-      link = h.link;
-      holding = h.holding;
-      receiving = h.receiving;
-      room = h.room;
-      places = h.places;
-    }
+    shows_still N m slots slots m.send.claims m.words.index_out m.words.link m.cut.cut h
+    (record {
+      outward = h.index.outward;
+      homeward = h.index.homeward;
+      position = omega arith;
+      last_load = shown N m.back.freed m.lane.acked m.words.index_out o.two o.freed (omega arith) h.index.outward;
+    })
+    h.link h.room h.places
 
 -- the slots of entries that are given back are the sender's
 gives_back : (N : ℕ) (k : Borders) (sent : List Bytes) (slots : Slots) (freed : ℕ) → k.freed ≤ freed → freed ≤ k.cleared → k.cleared ≤ k.looked → k.looked ≤ k.flagged → k.flagged ≤ k.taken → k.taken ≤ k.sent → k.sent ≤ k.claimed
@@ -104,16 +96,4 @@ stores_index N m slots new h =
 
 -- the link is cut
 pub cuts : Cuts
-cuts N m slots h = record {
-  law = h.law;
-  of = h.of;
-  parts = h.parts;
-  posted = h.posted;
-  ring = h.ring;
-  index = h.index;
-  link = refl;
-  holding = h.holding;
-  receiving = h.receiving;
-  room = h.room;
-  places = h.places;
-}
+cuts N m slots h = shows_still N m slots slots m.send.claims m.back.index cut_word true h h.index refl h.room h.places

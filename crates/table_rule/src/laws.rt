@@ -4,6 +4,7 @@ ghost use Rattle.table_rule.specs.Owners.{OwnersHaveSlots};
 ghost use Rattle.table_rule.specs.Kinds.{Claims, Sends, Takes, StoresHeader, StoresFlag, Looks, Copies, Clears, Acknowledges, LoadsIndex, StoresIndex, Cuts};
 
 /// Each slot has one owner, that of its entry in the lane that the table shows, and is where that owner has it.
+#[tactic(auto, using(crate::proofs::Owners::owners_have_slots))]
 pub fn slots_are_with_their_owners()
     ensures { OwnersHaveSlots }
 {}
@@ -11,6 +12,7 @@ pub fn slots_are_with_their_owners()
 /// Each step of the sender on the table is its steps of the lane, which the table then shows: none where the slot of
 /// the next entry goes to the sender, and the entry begun with all its writes posted where its posted header is
 /// stored.
+#[tactic(auto, using(crate::proofs::SenderShows::claims, crate::proofs::SenderShows::sends))]
 pub fn sender_steps_are_of_the_lane()
     ensures claims { Claims }
     ensures sends { Sends }
@@ -18,6 +20,7 @@ pub fn sender_steps_are_of_the_lane()
 
 /// The same of the mover: none where a slot goes to it, the fields of an entry land with its header, and the flags
 /// and the doorbell with its flag.
+#[tactic(auto, using(crate::proofs::MoverShows::takes, crate::proofs::MoverShows::stores_header, crate::proofs::MoverShows::stores_flag))]
 pub fn mover_steps_are_of_the_lane()
     ensures takes { Takes }
     ensures stores_header { StoresHeader }
@@ -26,6 +29,7 @@ pub fn mover_steps_are_of_the_lane()
 
 /// The same of the receiver: it looks with the slot, copies all parts with the header, clears with the flag, and
 /// acknowledges with index out.
+#[tactic(auto, using(crate::proofs::ReceiverShows::looks, crate::proofs::ReceiverShows::copies, crate::proofs::ReceiverShows::clears, crate::proofs::ReceiverShows::acks))]
 pub fn receiver_steps_are_of_the_lane()
     ensures looks { Looks }
     ensures copies { Copies }
@@ -35,6 +39,7 @@ pub fn receiver_steps_are_of_the_lane()
 
 /// The same of the way back, with which all index writes land up to the one that it loaded, and of the cut, which is
 /// no step of the lane.
+#[tactic(auto, using(crate::proofs::WayBackShows::loads_index, crate::proofs::WayBackShows::stores_index, crate::proofs::WayBackShows::cuts))]
 pub fn other_steps_are_of_the_lane()
     ensures loads_index { LoadsIndex }
     ensures stores_index { StoresIndex }

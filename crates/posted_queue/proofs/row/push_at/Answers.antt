@@ -1,4 +1,4 @@
-use Rattle.std.proofs.Common.{arith, ap}
+use Rattle.std.proofs.Common.{arith}
 use Rattle.posted_queue.proofs.RowLemmas.{length-part, writes_in-push}
 use Rattle.posted_queue.proofs.row.push_at.Goals as goal
 
@@ -7,4 +7,4 @@ push-requires-clause-countable g c = let short = length-part c.args.row.now.item
 
 pub returns-clause-writes : goal.returns-clause-writes
 returns-clause-writes g c =
-    writes_in-push c.args.row.now.items c.args.number c.index_mut-part.result.now c.push.new.self c.args.write c.requires.there c.index_mut-part.ensures.value (ap (λ flight. flight.writes) c.push.ensures) c.requires.behind
+    writes_in-push c.args.row.now.items c.args.number c.index_mut-part.result.now c.push.new.self c.args.write c.requires.there c.index_mut-part.ensures.value c.push.ensures.writes c.requires.behind
