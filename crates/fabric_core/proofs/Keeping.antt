@@ -10,7 +10,7 @@ use Rattle.step_kinds.specs.declared.plan.PairPlan.{PairPlan}
 use Rattle.byte_model.specs.RingWrites.{WindowWrite, entry_write}
 use Rattle.bridge_pair.specs.Bridge.{Bridge, flight_of, pages_of, with_pages}
 use Rattle.bridge_pair.specs.Pages.{PagesGrow}
-use Rattle.fabric_rule.specs.Parts.{plain_bridge}
+use Rattle.fabric_rule.specs.Parts.{QueuePart, plain_bridge}
 use Rattle.frame_ring.specs.Calls.{begin_answer as port_begin_answer, down_answer, down_begun, frame_begun, where_begun}
 use Rattle.frame_ring.specs.Port.{Left, PortState, unused_of, writes_left}
 use Rattle.frame_ring.specs.Seen.{HasPages, HasPagesIn, IsLeftReady, IsReady, with_room}
@@ -56,7 +56,7 @@ grown_peer : (bridge : Bridge) (side : Side) (pages : List ℕ) (more : ℕ) →
 grown_peer bridge A pages more = refl
 grown_peer bridge B pages more = refl
 
-pub grown_plain : (bridge : Bridge) (side : Side) (pages : List ℕ) (more : ℕ) → plain_bridge (with_room (with_pages bridge (other_side side) pages) side more) ≡ plain_bridge bridge
+grown_plain : (bridge : Bridge) (side : Side) (pages : List ℕ) (more : ℕ) → plain_bridge (with_room (with_pages bridge (other_side side) pages) side more) ≡ plain_bridge bridge
 grown_plain bridge A pages more = refl
 grown_plain bridge B pages more = refl
 
@@ -82,8 +82,15 @@ pub record SamePlace (new old : PortState) : Type 0 where
 pub same_place : (port : PortState) → SamePlace port port
 same_place port = record { same_plan = refl; same_side = refl; same_queue = refl }
 
+-- of a bridge whose pages at the peer grew, and its room with what the port hasn't used
+abbrev pub IsGrown : PortState → PortState → Bridge → Bridge → Type 0
+IsGrown old new before after = after ≡ with_room (with_pages before (other_side old.side) (pages_of after (other_side old.side))) old.side (unused_of new - unused_of old)
+
+pub plain_grown : (old new : PortState) (before after : Bridge) → IsGrown old new before after → plain_bridge after ≡ plain_bridge before
+plain_grown old new before after rest = ap plain_bridge rest ∙ grown_plain before old.side (pages_of after (other_side old.side)) (unused_of new - unused_of old)
+
 pub keeps_grown : (old new : PortState) (before after : Bridge) (touched : ℕ → Type 0) → SamePlace new old
-    → after ≡ with_room (with_pages before (other_side old.side) (pages_of after (other_side old.side))) old.side (unused_of new - unused_of old)
+    → IsGrown old new before after
     → PagesGrow touched (pages_of before (other_side old.side)) (pages_of after (other_side old.side)) → HasPagesIn new after → KeepsPort old new before after
 keeps_grown old new before after touched same rest grow ready =
     let side = old.side in
@@ -108,7 +115,7 @@ keeps_grown old new before after touched same rest grow ready =
 
 -- where the call answered want of memory, the port is as it was
 pub ready_after : (old new : PortState) (before after : Bridge) (touched : ℕ → Type 0)
-    → after ≡ with_room (with_pages before (other_side old.side) (pages_of after (other_side old.side))) old.side (unused_of new - unused_of old)
+    → IsGrown old new before after
     → PagesGrow touched (pages_of before (other_side old.side)) (pages_of after (other_side old.side)) → HasPagesIn old before
     → new ≡ old → HasPagesIn new after
 ready_after old new before after touched rest grow ready same =
@@ -135,13 +142,22 @@ both_spare : (bridge : Bridge) (side : Side) (peer own : List ℕ) (more : ℕ)
 both_spare bridge A peer own more = refl
 both_spare bridge B peer own more = refl
 
-pub both_plain : (bridge : Bridge) (side : Side) (peer own : List ℕ) (more : ℕ)
+both_plain : (bridge : Bridge) (side : Side) (peer own : List ℕ) (more : ℕ)
     → plain_bridge (with_room (with_pages (with_pages bridge (other_side side) peer) side own) side more) ≡ plain_bridge bridge
 both_plain bridge A peer own more = refl
 both_plain bridge B peer own more = refl
 
+-- of a bridge whose pages grew on both sides
+abbrev pub IsGrownBoth : PortState → PortState → Bridge → Bridge → Type 0
+IsGrownBoth old new before after =
+    after ≡ with_room (with_pages (with_pages before (other_side old.side) (pages_of after (other_side old.side))) old.side (pages_of after old.side)) old.side (unused_of new - unused_of old)
+
+pub plain_grown_both : (old new : PortState) (before after : Bridge) → IsGrownBoth old new before after → plain_bridge after ≡ plain_bridge before
+plain_grown_both old new before after rest =
+    ap plain_bridge rest ∙ both_plain before old.side (pages_of after (other_side old.side)) (pages_of after old.side) (unused_of new - unused_of old)
+
 pub keeps_both : (old new : PortState) (before after : Bridge) (touched flags : ℕ → Type 0) → SamePlace new old
-    → after ≡ with_room (with_pages (with_pages before (other_side old.side) (pages_of after (other_side old.side))) old.side (pages_of after old.side)) old.side (unused_of new - unused_of old)
+    → IsGrownBoth old new before after
     → PagesGrow touched (pages_of before (other_side old.side)) (pages_of after (other_side old.side)) → PagesGrow flags (pages_of before old.side) (pages_of after old.side)
     → HasPagesIn new after → KeepsPort old new before after
 keeps_both old new before after touched flags same rest grow own_grow ready =
@@ -187,6 +203,16 @@ keeps_exact old new before after same plan pages room peer ready =
       peer_room = peer;
       ready = ready;
     }
+
+-- A queue's call keeps what its port's does, as the part is seen
+pub keeps_seen : (seen part : QueuePart) (new next : QueueState) (before after : Bridge) → seen ≡ part → new ≡ next → SamePlace next.port seen.queue.port
+    → (SamePlace new.port seen.queue.port → HasPagesIn new.port after → KeepsPort seen.queue.port new.port before after)
+    → (HasPagesIn seen.queue.port before → HasPagesIn new.port after) → HasPagesIn part.queue.port before → KeepsPort part.queue.port new.port before after
+keeps_seen seen part new next before after view is place keeps ready had =
+    let old = seen.queue.port in
+    let same : SamePlace new.port old = subst (λ (queue : QueueState). SamePlace queue.port old) (sym is) place in
+    let here : HasPagesIn old before = subst (λ (part : QueuePart). HasPagesIn part.queue.port before) (sym view) had in
+    subst (λ (part : QueuePart). KeepsPort part.queue.port new.port before after) view (keeps same (ready here))
 
 -- The port after each call is of the same queue, and but for a look and a copy it receives as before
 

@@ -15,7 +15,7 @@ use Rattle.fabric_rule.specs.Parts.{QueuePart, one_more, plain_bridge}
 use Rattle.fabric_core.specs.Parts.{KeepsPort}
 use Rattle.fabric_core.specs.Sessions.{Tallied}
 use Rattle.fabric_core.specs.Turns.{begin_turn}
-use Rattle.fabric_core.proofs.Keeping.{SamePlace, begin_place, begin_receives, grown_plain, keeps_grown, ready_after, same_place}
+use Rattle.fabric_core.proofs.Keeping.{begin_place, begin_receives, keeps_grown, keeps_seen, plain_grown, ready_after, same_place}
 use Rattle.fabric_core.proofs.QueueParts.{not_begun, part_with, same_part}
 use Rattle.fabric_core.proofs.queues.QueueBox.begin.Goals as goal
 use Rattle.fabric_core.proofs.queues.QueueBox.begin.Goals.{in-Ok, in_default}
@@ -28,16 +28,12 @@ returns-in_err-begun-clause-keeps c =
     let after = c.begin.new.pair in
     let touched = TouchedByBegin old bridge c.args.frame in
     let err = c.in_err-begun.ensures.err in
-    let had : HasPagesIn old bridge = subst (λ (part : QueuePart). HasPagesIn part.queue.port bridge) (sym c.self.view_is) c.requires.pages in
-    let same : SamePlace new old = subst (λ (queue : QueueState). SamePlace queue.port old) (sym err) (same_place old) in
-    let ready = ready_after old new bridge after touched c.begin.ensures.rest c.begin.ensures.pages had (ap (λ (queue : QueueState). queue.port) err) in
-    subst (λ (part : QueuePart). KeepsPort part.queue.port new bridge after) c.self.view_is
-    (keeps_grown old new bridge after touched same c.begin.ensures.rest c.begin.ensures.pages ready)
+    keeps_seen _ _ c.begin.new.self c.self.inside.queue bridge after c.self.view_is err (same_place old)
+    (λ same. keeps_grown old new bridge after touched same c.begin.ensures.rest c.begin.ensures.pages)
+    (λ had. ready_after old new bridge after touched c.begin.ensures.rest c.begin.ensures.pages had (ap (λ (queue : QueueState). queue.port) err)) c.requires.pages
 
 pub returns-in_err-begun-clause-plain : goal.returns-in_err-begun-clause-plain
-returns-in_err-begun-clause-plain c =
-    let old = c.self.inside.queue.port in
-    ap plain_bridge c.begin.ensures.rest ∙ grown_plain c.args.pair.now old.side (pages_of c.begin.new.pair (other_side old.side)) (unused_of c.begin.new.self.port - unused_of old)
+returns-in_err-begun-clause-plain c = plain_grown c.self.inside.queue.port c.begin.new.self.port c.args.pair.now c.begin.new.pair c.begin.ensures.rest
 
 -- a queue on which a frame is begun receives as before
 pub invariant_of-self-in-Ok : goal.invariant_of-self-in-Ok
@@ -79,23 +75,18 @@ returns-clause-after c =
     ])
 
 pub returns-clause-plain : goal.returns-clause-plain
-returns-clause-plain c =
-    let old = c.self.inside.queue.port in
-    ap plain_bridge c.begin.ensures.rest ∙ grown_plain c.args.pair.now old.side (pages_of c.begin.new.pair (other_side old.side)) (unused_of c.begin.new.self.port - unused_of old)
+returns-clause-plain c = plain_grown c.self.inside.queue.port c.begin.new.self.port c.args.pair.now c.begin.new.pair c.begin.ensures.rest
 
 pub returns-clause-keeps : goal.returns-clause-keeps
 returns-clause-keeps c =
-    let old = c.self.inside.queue.port in
-    let new = c.begin.new.self.port in
+    let queue = c.self.inside.queue in
     let bridge = c.args.pair.now in
     let after = c.begin.new.pair in
-    let touched = TouchedByBegin old bridge c.args.frame in
-    let had : HasPagesIn old bridge = subst (λ (part : QueuePart). HasPagesIn part.queue.port bridge) (sym c.self.view_is) c.requires.pages in
-    let same : SamePlace new old = subst (λ (queue : QueueState). SamePlace queue.port old) (sym c.in_ok-begun.ensures.after) (begin_place c.self.inside.queue bridge c.args.frame) in
     let left : c.match-begun.self.queue ≡ c.begin.new.self = elim c.match-begun.branch [
       | in-Ok w ↦ ap (λ (part : QueuePart). part.queue) w.self-is
       | in_default w ↦ ap (λ (part : QueuePart). part.queue) w.self-is
     ] in
-    subst (λ (part : QueuePart). KeepsPort part.queue.port c.match-begun.self.queue.port bridge after) c.self.view_is
-    (subst (λ (queue : QueueState). KeepsPort old queue.port bridge after) (sym left)
-    (keeps_grown old new bridge after touched same c.begin.ensures.rest c.begin.ensures.pages (c.in_ok-begun.ensures.ready had)))
+    subst (λ (queue : QueueState). KeepsPort c.args.self.now.queue.port queue.port bridge after) (sym left)
+    (keeps_seen _ _ c.begin.new.self (after_begin queue bridge c.args.frame) bridge after c.self.view_is c.in_ok-begun.ensures.after (begin_place queue bridge c.args.frame)
+    (λ same. keeps_grown queue.port c.begin.new.self.port bridge after (TouchedByBegin queue.port bridge c.args.frame) same c.begin.ensures.rest c.begin.ensures.pages)
+    c.in_ok-begun.ensures.ready c.requires.pages)

@@ -4,11 +4,12 @@ use Rattle.bridge_pair.specs.Bridge.{pages_of}
 use Rattle.frame_ring.specs.Calls.{TouchedByFlags, TouchedByLook}
 use Rattle.frame_ring.specs.Port.{unused_of}
 use Rattle.frame_ring.specs.Seen.{HasPagesIn}
+use Rattle.queue_pair.specs.Gates.{after_look}
 use Rattle.queue_pair.specs.Queue.{QueueState}
 use Rattle.fabric_rule.specs.Parts.{QueuePart, plain_bridge}
 use Rattle.fabric_core.specs.Parts.{KeepsPort}
 use Rattle.fabric_core.specs.Sessions.{Tallied}
-use Rattle.fabric_core.proofs.Keeping.{SamePlace, both_plain, keeps_both, ready_both, same_place}
+use Rattle.fabric_core.proofs.Keeping.{keeps_both, keeps_seen, plain_grown_both, ready_both, same_place}
 use Rattle.fabric_core.proofs.Phases.{look_place}
 use Rattle.fabric_core.proofs.queues.QueueBox.look.Goals as goal
 
@@ -21,17 +22,12 @@ returns-in_err-look-clause-keeps c =
     let touched = TouchedByLook old bridge in
     let flags = TouchedByFlags old bridge in
     let err = c.in_err-look.ensures.err in
-    let had : HasPagesIn old bridge = subst (λ (part : QueuePart). HasPagesIn part.queue.port bridge) (sym c.self.view_is) c.requires.pages in
-    let same : SamePlace new old = subst (λ (queue : QueueState). SamePlace queue.port old) (sym err) (same_place old) in
-    let ready = ready_both old new bridge after touched flags c.look.ensures.pages c.look.ensures.flags had (ap (λ (queue : QueueState). queue.port) err) in
-    subst (λ (part : QueuePart). KeepsPort part.queue.port new bridge after) c.self.view_is
-    (keeps_both old new bridge after touched flags same c.look.ensures.rest c.look.ensures.pages c.look.ensures.flags ready)
+    keeps_seen _ _ c.look.new.self c.self.inside.queue bridge after c.self.view_is err (same_place old)
+    (λ same. keeps_both old new bridge after touched flags same c.look.ensures.rest c.look.ensures.pages c.look.ensures.flags)
+    (λ had. ready_both old new bridge after touched flags c.look.ensures.pages c.look.ensures.flags had (ap (λ (queue : QueueState). queue.port) err)) c.requires.pages
 
 pub returns-in_err-look-clause-plain : goal.returns-in_err-look-clause-plain
-returns-in_err-look-clause-plain c =
-    let old = c.self.inside.queue.port in
-    ap plain_bridge c.look.ensures.rest
-    ∙ both_plain c.args.pair.now old.side (pages_of c.look.new.pair (other_side old.side)) (pages_of c.look.new.pair old.side) (unused_of c.look.new.self.port - unused_of old)
+returns-in_err-look-clause-plain c = plain_grown_both c.self.inside.queue.port c.look.new.self.port c.args.pair.now c.look.new.pair c.look.ensures.rest
 
 -- room was taken for the frame that the entry may be the last of
 pub invariant_of-self-2 : goal.invariant_of-self-2
@@ -43,20 +39,13 @@ invariant_of-self-2 c =
     }
 
 pub returns-clause-plain : goal.returns-clause-plain
-returns-clause-plain c =
-    let old = c.self.inside.queue.port in
-    ap plain_bridge c.look.ensures.rest
-    ∙ both_plain c.args.pair.now old.side (pages_of c.look.new.pair (other_side old.side)) (pages_of c.look.new.pair old.side) (unused_of c.look.new.self.port - unused_of old)
+returns-clause-plain c = plain_grown_both c.self.inside.queue.port c.look.new.self.port c.args.pair.now c.look.new.pair c.look.ensures.rest
 
 pub returns-clause-keeps : goal.returns-clause-keeps
 returns-clause-keeps c =
-    let old = c.self.inside.queue.port in
-    let new = c.look.new.self.port in
+    let queue = c.self.inside.queue in
     let bridge = c.args.pair.now in
     let after = c.look.new.pair in
-    let touched = TouchedByLook old bridge in
-    let flags = TouchedByFlags old bridge in
-    let had : HasPagesIn old bridge = subst (λ (part : QueuePart). HasPagesIn part.queue.port bridge) (sym c.self.view_is) c.requires.pages in
-    let same : SamePlace new old = subst (λ (queue : QueueState). SamePlace queue.port old) (sym c.in_ok-look.ensures.after) (look_place c.self.inside.queue bridge) in
-    subst (λ (part : QueuePart). KeepsPort part.queue.port new bridge after) c.self.view_is
-    (keeps_both old new bridge after touched flags same c.look.ensures.rest c.look.ensures.pages c.look.ensures.flags (c.in_ok-look.ensures.ready had))
+    keeps_seen _ _ c.look.new.self (after_look queue bridge) bridge after c.self.view_is c.in_ok-look.ensures.after (look_place queue bridge)
+    (λ same. keeps_both queue.port c.look.new.self.port bridge after (TouchedByLook queue.port bridge) (TouchedByFlags queue.port bridge) same c.look.ensures.rest c.look.ensures.pages c.look.ensures.flags)
+    c.in_ok-look.ensures.ready c.requires.pages

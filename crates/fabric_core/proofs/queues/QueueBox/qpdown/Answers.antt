@@ -5,10 +5,11 @@ use Rattle.bridge_pair.specs.Bridge.{pages_of}
 use Rattle.frame_ring.specs.Calls.{TouchedByDown}
 use Rattle.frame_ring.specs.Port.{Receiving, unused_of}
 use Rattle.frame_ring.specs.Seen.{HasPagesIn}
+use Rattle.queue_pair.specs.Gates.{after_qpdown}
 use Rattle.queue_pair.specs.Queue.{QueueState}
 use Rattle.fabric_rule.specs.Parts.{QueuePart, plain_bridge}
 use Rattle.fabric_core.specs.Parts.{KeepsPort}
-use Rattle.fabric_core.proofs.Keeping.{SamePlace, down_place, down_receives, grown_plain, keeps_grown, ready_after, same_place}
+use Rattle.fabric_core.proofs.Keeping.{down_place, down_receives, keeps_grown, keeps_seen, plain_grown, ready_after, same_place}
 use Rattle.fabric_core.proofs.queues.QueueBox.qpdown.Goals as goal
 
 pub returns-in_err-begun-clause-keeps : goal.returns-in_err-begun-clause-keeps
@@ -19,21 +20,15 @@ returns-in_err-begun-clause-keeps c =
     let after = c.qpdown.new.pair in
     let touched = TouchedByDown old bridge in
     let err = c.in_err-begun.ensures.err in
-    let had : HasPagesIn old bridge = subst (λ (part : QueuePart). HasPagesIn part.queue.port bridge) (sym c.self.view_is) c.requires.pages in
-    let same : SamePlace new old = subst (λ (queue : QueueState). SamePlace queue.port old) (sym err) (same_place old) in
-    let ready = ready_after old new bridge after touched c.qpdown.ensures.rest c.qpdown.ensures.pages had (ap (λ (queue : QueueState). queue.port) err) in
-    subst (λ (part : QueuePart). KeepsPort part.queue.port new bridge after) c.self.view_is
-    (keeps_grown old new bridge after touched same c.qpdown.ensures.rest c.qpdown.ensures.pages ready)
+    keeps_seen _ _ c.qpdown.new.self c.self.inside.queue bridge after c.self.view_is err (same_place old)
+    (λ same. keeps_grown old new bridge after touched same c.qpdown.ensures.rest c.qpdown.ensures.pages)
+    (λ had. ready_after old new bridge after touched c.qpdown.ensures.rest c.qpdown.ensures.pages had (ap (λ (queue : QueueState). queue.port) err)) c.requires.pages
 
 pub returns-in_err-begun-clause-plain : goal.returns-in_err-begun-clause-plain
-returns-in_err-begun-clause-plain c =
-    let old = c.self.inside.queue.port in
-    ap plain_bridge c.qpdown.ensures.rest ∙ grown_plain c.args.pair.now old.side (pages_of c.qpdown.new.pair (other_side old.side)) (unused_of c.qpdown.new.self.port - unused_of old)
+returns-in_err-begun-clause-plain c = plain_grown c.self.inside.queue.port c.qpdown.new.self.port c.args.pair.now c.qpdown.new.pair c.qpdown.ensures.rest
 
 pub returns-clause-plain : goal.returns-clause-plain
-returns-clause-plain c =
-    let old = c.self.inside.queue.port in
-    ap plain_bridge c.qpdown.ensures.rest ∙ grown_plain c.args.pair.now old.side (pages_of c.qpdown.new.pair (other_side old.side)) (unused_of c.qpdown.new.self.port - unused_of old)
+returns-clause-plain c = plain_grown c.self.inside.queue.port c.qpdown.new.self.port c.args.pair.now c.qpdown.new.pair c.qpdown.ensures.rest
 
 -- a queue that goes down receives as before
 pub invariant_of-self-2 : goal.invariant_of-self-2
@@ -44,12 +39,9 @@ invariant_of-self-2 c =
 
 pub returns-clause-keeps : goal.returns-clause-keeps
 returns-clause-keeps c =
-    let old = c.self.inside.queue.port in
-    let new = c.qpdown.new.self.port in
+    let queue = c.self.inside.queue in
     let bridge = c.args.pair.now in
     let after = c.qpdown.new.pair in
-    let touched = TouchedByDown old bridge in
-    let had : HasPagesIn old bridge = subst (λ (part : QueuePart). HasPagesIn part.queue.port bridge) (sym c.self.view_is) c.requires.pages in
-    let same : SamePlace new old = subst (λ (queue : QueueState). SamePlace queue.port old) (sym c.in_ok-begun.ensures.after) (down_place c.self.inside.queue bridge) in
-    subst (λ (part : QueuePart). KeepsPort part.queue.port new bridge after) c.self.view_is
-    (keeps_grown old new bridge after touched same c.qpdown.ensures.rest c.qpdown.ensures.pages (c.in_ok-begun.ensures.ready had))
+    keeps_seen _ _ c.qpdown.new.self (after_qpdown queue bridge) bridge after c.self.view_is c.in_ok-begun.ensures.after (down_place queue bridge)
+    (λ same. keeps_grown queue.port c.qpdown.new.self.port bridge after (TouchedByDown queue.port bridge) same c.qpdown.ensures.rest c.qpdown.ensures.pages)
+    c.in_ok-begun.ensures.ready c.requires.pages
