@@ -26,7 +26,7 @@ use Rattle.frame_ring.specs.Calls.{ack_answer, acked_by, after_ack, after_clear,
 use Rattle.frame_ring.specs.Seen.{flags_cleared, index_posted}
 use Rattle.queue_pair.specs.Queue.{QueueState, with_port}
 use Rattle.fabric_rule.specs.Answers.{of_ack, of_clear}
-use Rattle.fabric_rule.specs.InPlace.{CountsOfPhase, ReceivingInPlace, receiver_of}
+use Rattle.fabric_rule.specs.InPlace.{CountsOfPhase}
 use Rattle.fabric_rule.specs.Moves.{Move, ack_move, clear_move}
 use Rattle.fabric_rule.specs.Parts.{with_bridge, with_queue}
 use Rattle.fabric_rule.specs.StandsFor.{PairStands, has_forgotten}
