@@ -162,7 +162,7 @@ module _ {devs : List DevPlan} {plan : PairPlan} {k : ℕ} (now : Standing devs 
   abbrev side_refuses : Side → ℕ → Bool → Option BeginAnswer
   side_refuses side queue joined = side_says (is_up now.site.pair.link.state) joined (has_bit (side_of now.site.pair side).closed queue)
 
-  -- the tests of a frame by the index word that the ledger (reads now), and by the one that the port sees
+  -- the tests of a frame by the index word that the ledger reads, and by the one that the port sees
   abbrev BeginAt : Side → ℕ → List ℕ → List Entry → Bool → ℕ → Type 0
   BeginAt side queue frame pieces joined index =
       Follows devs plan k now.site (Begin k side queue frame) (begin_made side queue frame pieces (tests side queue (length frame) (needs side queue frame) (is_long side queue frame) false joined index))
