@@ -133,7 +133,7 @@ abbrev forgets_view : QueueView → QueueView
 forgets_view view =
     record {
       sends = record view.sends { waiting = []; todo = [] };
-      receives = record view.receives { phase = Idle; part = 0; gathered = [] };
+      receives = record view.receives { port = record view.receives.port { phase = Idle; part = 0; gathered = [] } };
       dev = record view.dev { stopped = false };
       accepted = view.accepted;
       delivered = view.delivered;

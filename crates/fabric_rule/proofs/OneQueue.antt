@@ -21,7 +21,7 @@ use Rattle.lane_model.specs.Lane.{Entry}
 use Rattle.bridge_pair.specs.Bridge.{Bridge, book_of}
 use Rattle.fabric_rule.specs.InPlace.{LinkInPlace, SendingEnd, receiver_of, sender_of, ReceivingInPlace, SendingInPlace, last_entry}
 use Rattle.fabric_rule.specs.Parts.{PairState, QueuePart, no_queue, with_queue, SessionCount, count_in}
-use Rattle.fabric_rule.specs.StandsFor.{PairStands, QueueStands, bridge_with, has_forgotten, port_for, sent_of, view_of, QueueView, SideStands, all_sent, bridge_for, is_left, receiving_for, sending_for, writes_labelled}
+use Rattle.fabric_rule.specs.StandsFor.{PairStands, QueueStands, bridge_with, has_forgotten, port_for, sent_of, view_of, QueueView, SideStands, all_sent, bridge_for, is_left, sending_for, writes_labelled}
 use Rattle.fabric_rule.proofs.Follows.{with_promises, AllSides, state_for, by_end, by_side, same_at, two_same}
 use Rattle.fabric_rule.proofs.Links.{no_bits, bridge_same}
 use Rattle.fabric_rule.proofs.Queues.{queue_is, set_again, other_dev, side_at, side_same}
@@ -241,7 +241,7 @@ module _ {devs : List DevPlan} {plan : PairPlan} {k : ℕ} (now : Standing devs 
 
   -- its receiver is at another place
   abbrev pub received_part : Side → ℕ → LanePart → QueuePart
-  received_part side queue lane = part_with side queue (with_port (port_queue side queue false) (with_receiving (port_queue side queue false).port (receiving_for (receiver_of lane))))
+  received_part side queue lane = part_with side queue (with_port (port_queue side queue false) (with_receiving (port_queue side queue false).port (receiver_of lane).port))
 
   pub received_stands : (side : Side) (queue : ℕ) (lane : LanePart) (dev : DevPart) (counters : Counters) (delivered : List SessionCount) (seen_delivered : ℕ → ℕ) → queue < (side_plan plan side).queues → has_forgotten now.site.pair.link side ≡ false
       → dev.stopped ≡ (dev_of now.site.pair side queue).stopped → counters ≡ dev.counters → ((session : ℕ) → count_in delivered session ≡ seen_delivered session) → ReceivingInPlace plan side queue false (receiver_of lane)
