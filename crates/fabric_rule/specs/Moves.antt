@@ -39,11 +39,14 @@ pub record Move : Type 0 where
 abbrev pub bridge_move : PairState → Answer → Bridge → Move
 bridge_move pair answer bridge = record { answer = answer; after = with_bridge pair bridge }
 
--- an answer, with another port of a queue and another bridge
-abbrev pub port_move : PairState → Side → ℕ → Answer → PortState → Bridge → Move
-port_move pair side queue answer port bridge =
+-- what a queue's port answers, with the port after it and what it does to the bridge
+abbrev pub port_move : PairState → Side → ℕ → (PortState → Answer) → (PortState → PortState) → (PortState → Bridge → Bridge) → Move
+port_move pair side queue answer after by =
     let part = queue_of pair side queue in
-    record { answer = answer; after = with_bridge (with_queue pair side queue (record part { queue = with_port part.queue port })) bridge }
+    record {
+      answer = answer part.queue.port;
+      after = with_bridge (with_queue pair side queue (record part { queue = with_port part.queue (after part.queue.port) })) (by part.queue.port pair.bridge);
+    }
 
 -- an answer that changes nothing
 abbrev pub shows : PairState → Answer → Move
@@ -142,9 +145,7 @@ xbegin_move pair dev side queue dst kind payload =
     record { answer = answer; after = with_queue pair side queue (xbegun answer pair part frame) }
 
 abbrev pub post_move : PairState → Side → ℕ → Move
-post_move pair side queue =
-    let port = (queue_of pair side queue).queue.port in
-    port_move pair side queue (of_post (post_answer port)) (after_post port) (posted_by port pair.bridge)
+post_move pair side queue = port_move pair side queue (λ port. of_post (post_answer port)) after_post posted_by
 
 abbrev pub wake_move : PairState → Side → ℕ → Move
 wake_move pair side queue =
@@ -186,14 +187,10 @@ copy_move pair side queue =
     }
 
 abbrev pub clear_move : PairState → Side → ℕ → Move
-clear_move pair side queue =
-    let port = (queue_of pair side queue).queue.port in
-    port_move pair side queue (of_clear (clear_answer port)) (after_clear port) (cleared_by port pair.bridge)
+clear_move pair side queue = port_move pair side queue (λ port. of_clear (clear_answer port)) after_clear cleared_by
 
 abbrev pub ack_move : PairState → Side → ℕ → Move
-ack_move pair side queue =
-    let port = (queue_of pair side queue).queue.port in
-    port_move pair side queue (of_ack (ack_answer port)) (after_ack port) (acked_by port pair.bridge)
+ack_move pair side queue = port_move pair side queue (λ port. of_ack (ack_answer port)) after_ack acked_by
 
 -- Registers and what is shown
 
