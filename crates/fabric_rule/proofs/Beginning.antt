@@ -118,9 +118,9 @@ module _ {devs : List DevPlan} {plan : PairPlan} {k : ℕ} (now : Standing devs 
   abbrev is_full : Side → ℕ → ℕ → ℕ → Bool
   is_full side queue needed index = nat_lt (free_in_memory (sizes_of plan side queue).entries (head_in (sizes_of plan side queue) (lane_of now.site.pair side queue)) index) needed
 
-  abbrev tests : Side → ℕ → ℕ → ℕ → Bool → Bool → Bool → ℕ → Option Answer
-  tests side queue len needed long stopped joined index =
-      refusal_says (is_up now.site.pair.link.state) joined (has_bit (side_of now.site.pair side).closed queue) long (is_lane_busy (lane_of now.site.pair side queue)) stopped (is_full side queue needed index) len
+  abbrev tests : Bool → Side → ℕ → ℕ → ℕ → Bool → Bool → Bool → ℕ → Option Answer
+  tests up side queue len needed long stopped joined index =
+      refusal_says up joined (has_bit (side_of now.site.pair side).closed queue) long (is_lane_busy (lane_of now.site.pair side queue)) stopped (is_full side queue needed index) len
       (sizes_of plan side queue).most (head_in (sizes_of plan side queue) (lane_of now.site.pair side queue)) index
 
   begin_core : (side : Side) (queue : ℕ) (frame : List ℕ) (pieces : List Entry) (refusal : Option Answer) (said : Answer) (begun : BeginAnswer) (joined busy full : Bool) (q after : QueueState) (new : PortState) → (part now side queue).queue ≡ q
@@ -162,10 +162,10 @@ module _ {devs : List DevPlan} {plan : PairPlan} {k : ℕ} (now : Standing devs 
   abbrev side_refuses : Side → ℕ → Bool → Option BeginAnswer
   side_refuses side queue joined = side_says (is_up now.site.pair.link.state) joined (has_bit (side_of now.site.pair side).closed queue)
 
-  -- the tests of a frame by the index word that the ledger (reads now), and by the one that the port sees
+  -- the tests of a frame by the index word that the ledger reads, and by the one that the port sees
   abbrev BeginAt : Side → ℕ → List ℕ → List Entry → Bool → ℕ → Type 0
   BeginAt side queue frame pieces joined index =
-      Follows devs plan k now.site (Begin k side queue frame) (begin_made side queue frame pieces (tests side queue (length frame) (needs side queue frame) (is_long side queue frame) false joined index))
+      Follows devs plan k now.site (Begin k side queue frame) (begin_made side queue frame pieces (tests (is_up now.site.pair.link.state) side queue (length frame) (needs side queue frame) (is_long side queue frame) false joined index))
       (begin_says side queue frame (of_begin (answer_unless (side_refuses side queue joined) (says_frame side queue frame)))
       (port_unless (side_refuses side queue joined) (port_queue now side queue false) (where_begun (port_queue now side queue false).port (port_new side queue pieces) (says_frame side queue frame))))
 
@@ -194,28 +194,23 @@ module _ {devs : List DevPlan} {plan : PairPlan} {k : ℕ} (now : Standing devs 
       (gates (length frame) (sizes_of plan side queue).most (head_in (sizes_of plan side queue) (lane_of now.site.pair side queue)) (seen_word now side queue) (lane_of now.site.pair side queue).told (port_queue now side queue false) (port_new side queue (first ∷ others))
       (is_up now.site.pair.link.state) joined (has_bit (side_of now.site.pair side).closed queue) (is_long side queue frame) (is_lane_busy (lane_of now.site.pair side queue)) false (is_full side queue (needs side queue frame) (seen_word now side queue)))
 
-  -- the answer by whether the bridge has the queue joined
-  abbrev BeginSeen : Side → ℕ → List ℕ → Bool → Bool → Type 0
-  BeginSeen side queue frame forgotten joined =
+  -- the answer by whether the link is up, and whether the bridge has the queue joined
+  abbrev BeginSeen : Side → ℕ → List ℕ → Bool → Bool → Bool → Type 0
+  BeginSeen side queue frame forgotten up joined =
       let q = port_queue now side queue forgotten in
-      let refuses = side_says (is_up now.site.pair.link.state) joined q.closed in
-      Follows devs plan k now.site (Begin k side queue frame) (begin_step (sizes_of plan side queue) (reads now) now.site.pair side queue frame)
+      let refuses = side_says up joined q.closed in
+      Follows devs plan k now.site (Begin k side queue frame)
+      (begin_made side queue frame (pieces_of (sizes_of plan side queue).largest frame)
+      (tests up side queue (length frame) (needs side queue frame) (is_long side queue frame) false (has_bit (side_of now.site.pair side).joined queue) ((reads now).index_word side queue)))
       (begin_says side queue frame (of_begin (answer_unless refuses (port_begin_answer q.port (kept now).bridge (length frame)))) (port_unless refuses q (port_after_begin q.port (kept now).bridge frame)))
 
   begin_by : (side : Side) (queue : ℕ) (frame : List ℕ) (forgotten : Bool) → queue < (side_plan plan side).queues → has_forgotten now.site.pair.link side ≡ forgotten → (has_bit (side_of now.site.pair side).joined queue ≡ true → SizesFit plan)
       → Follows devs plan k now.site (Begin k side queue frame) (begin_step (sizes_of plan side queue) (reads now) now.site.pair side queue frame) (begin_with side queue frame (port_queue now side queue forgotten))
   begin_by side queue frame true among forgot fits =
-      subst (BeginSeen side queue frame true) (sym (joined_is now side queue))
-      (subst (λ up. Follows devs plan k now.site (Begin k side queue frame)
-      (begin_made side queue frame (pieces_of (sizes_of plan side queue).largest frame)
-      (refusal_says up (has_bit (side_of now.site.pair side).joined queue) (has_bit (side_of now.site.pair side).closed queue) (is_long side queue frame) (is_lane_busy (lane_of now.site.pair side queue)) false
-      (is_full side queue (needs side queue frame) ((reads now).index_word side queue)) (length frame) (sizes_of plan side queue).most (head_in (sizes_of plan side queue) (lane_of now.site.pair side queue)) ((reads now).index_word side queue)))
-      (begin_says side queue frame
-      (of_begin (answer_unless (side_says up (has_bit (side_of now.site.pair side).joined queue) (has_bit (side_of now.site.pair side).closed queue)) (port_begin_answer (port_queue now side queue true).port (kept now).bridge (length frame))))
-      (port_unless (side_says up (has_bit (side_of now.site.pair side).joined queue) (has_bit (side_of now.site.pair side).closed queue)) (port_queue now side queue true) (port_after_begin (port_queue now side queue true).port (kept now).bridge frame))))
-      (sym (not_up side forgot)) (refl, as_it_was now side queue true among forgot))
+      subst (BeginSeen side queue frame true (is_up now.site.pair.link.state)) (sym (joined_is now side queue))
+      (subst (λ up. BeginSeen side queue frame true up (has_bit (side_of now.site.pair side).joined queue)) (sym (not_up side forgot)) (refl, as_it_was now side queue true among forgot))
   begin_by side queue frame false among fresh fits =
-      subst (BeginSeen side queue frame false) (sym (joined_is now side queue))
+      subst (BeginSeen side queue frame false (is_up now.site.pair.link.state)) (sym (joined_is now side queue))
       (begin_read side queue frame (pieces_of (sizes_of plan side queue).largest frame) (has_bit (side_of now.site.pair side).joined queue)
       (λ joined. same_word plan now.site now.pages now.spare side queue now.declared among (own_fits plan (fits joined) side))
       (begin_fresh side queue frame (pieces_of (sizes_of plan side queue).largest frame) (has_bit (side_of now.site.pair side).joined queue) among fresh fits refl (pieces_fit (sizes_of plan side queue).largest frame)))
@@ -257,7 +252,7 @@ module _ {devs : List DevPlan} {plan : PairPlan} {k : ℕ} (now : Standing devs 
 
   abbrev DownAt : Side → ℕ → Bool → ℕ → Type 0
   DownAt side queue joined index =
-      DownCore side queue (tests side queue 0 1 false false joined index) (of_begin (answer_unless (side_refuses side queue joined) (says_down side queue))) (answer_unless (side_refuses side queue joined) (says_down side queue))
+      DownCore side queue (tests (is_up now.site.pair.link.state) side queue 0 1 false false joined index) (of_begin (answer_unless (side_refuses side queue joined) (says_down side queue))) (answer_unless (side_refuses side queue joined) (says_down side queue))
       (port_unless (side_refuses side queue joined) (port_queue now side queue false) (where_begun (port_queue now side queue false).port (port_with side queue GoesDown [] (lane_of now.site.pair side queue).told) (says_down side queue)))
 
   down_read : (side : Side) (queue : ℕ) (joined : Bool) → (joined ≡ true → seen_word now side queue ≡ (reads now).index_word side queue) → DownAt side queue joined (seen_word now side queue) → DownAt side queue joined ((reads now).index_word side queue)
@@ -284,28 +279,21 @@ module _ {devs : List DevPlan} {plan : PairPlan} {k : ℕ} (now : Standing devs 
             (λ session. (tally_of now.site.pair side queue session).accepted) among fresh fits (no_payload side queue) tt refl h.stopped refl refl h.counters h.accepted),
       )
 
-  abbrev DownSeen : Side → ℕ → Bool → Bool → Type 0
-  DownSeen side queue forgotten joined =
+  abbrev DownSeen : Side → ℕ → Bool → Bool → Bool → Type 0
+  DownSeen side queue forgotten up joined =
       let q = port_queue now side queue forgotten in
-      let refuses = side_says (is_up now.site.pair.link.state) joined q.closed in
+      let refuses = side_says up joined q.closed in
       let begun = answer_unless refuses (down_answer q.port (kept now).bridge) in
-      Follows devs plan k now.site (QpDown k side queue) (qpdown_step (sizes_of plan side queue) (reads now) now.site.pair side queue)
+      Follows devs plan k now.site (QpDown k side queue) (down_made side queue (tests up side queue 0 1 false false (has_bit (side_of now.site.pair side).joined queue) ((reads now).index_word side queue)))
       (down_says side queue (of_begin begun) (closed_where_begun begun (port_unless refuses q (after_down q.port (kept now).bridge))))
 
   down_by : (side : Side) (queue : ℕ) (forgotten : Bool) → queue < (side_plan plan side).queues → has_forgotten now.site.pair.link side ≡ forgotten → (has_bit (side_of now.site.pair side).joined queue ≡ true → SizesFit plan)
       → Follows devs plan k now.site (QpDown k side queue) (qpdown_step (sizes_of plan side queue) (reads now) now.site.pair side queue) (down_with side queue (port_queue now side queue forgotten))
   down_by side queue true among forgot fits =
-      subst (DownSeen side queue true) (sym (joined_is now side queue))
-      (subst (λ up. Follows devs plan k now.site (QpDown k side queue)
-      (down_made side queue
-      (refusal_says up (has_bit (side_of now.site.pair side).joined queue) (has_bit (side_of now.site.pair side).closed queue) false (is_lane_busy (lane_of now.site.pair side queue)) false (is_full side queue 1 ((reads now).index_word side queue)) 0 (sizes_of plan side queue).most
-      (head_in (sizes_of plan side queue) (lane_of now.site.pair side queue)) ((reads now).index_word side queue)))
-      (down_says side queue (of_begin (answer_unless (side_says up (has_bit (side_of now.site.pair side).joined queue) (has_bit (side_of now.site.pair side).closed queue)) (down_answer (port_queue now side queue true).port (kept now).bridge)))
-      (closed_where_begun (answer_unless (side_says up (has_bit (side_of now.site.pair side).joined queue) (has_bit (side_of now.site.pair side).closed queue)) (down_answer (port_queue now side queue true).port (kept now).bridge))
-      (port_unless (side_says up (has_bit (side_of now.site.pair side).joined queue) (has_bit (side_of now.site.pair side).closed queue)) (port_queue now side queue true) (after_down (port_queue now side queue true).port (kept now).bridge)))))
-      (sym (not_up side forgot)) (refl, as_it_was now side queue true among forgot))
+      subst (DownSeen side queue true (is_up now.site.pair.link.state)) (sym (joined_is now side queue))
+      (subst (λ up. DownSeen side queue true up (has_bit (side_of now.site.pair side).joined queue)) (sym (not_up side forgot)) (refl, as_it_was now side queue true among forgot))
   down_by side queue false among fresh fits =
-      subst (DownSeen side queue false) (sym (joined_is now side queue))
+      subst (DownSeen side queue false (is_up now.site.pair.link.state)) (sym (joined_is now side queue))
       (down_read side queue (has_bit (side_of now.site.pair side).joined queue) (λ joined. same_word plan now.site now.pages now.spare side queue now.declared among (own_fits plan (fits joined) side))
       (down_core side queue _ _ _ (has_bit (side_of now.site.pair side).joined queue) _ _ (port_queue now side queue false) _ (port_with side queue GoesDown [] (lane_of now.site.pair side queue).told) (is_queue now side queue false among fresh)
       (λ joined. down_ok side queue among fresh (fits joined))
@@ -393,7 +381,7 @@ module _ {devs : List DevPlan} {plan : PairPlan} {k : ℕ} (now : Standing devs 
 
     abbrev DeviceAt : Side → ℕ → List Entry → Bool → Bool → ℕ → Type 0
     DeviceAt side queue pieces stopped joined index =
-        DeviceCore side queue pieces (tests side queue (length frame) (needs side queue frame) (is_long side queue frame) (dev_of now.site.pair side queue).stopped joined index)
+        DeviceCore side queue pieces (tests (is_up now.site.pair.link.state) side queue (length frame) (needs side queue frame) (is_long side queue frame) (dev_of now.site.pair side queue).stopped joined index)
         (of_xbegin stopped (answer_unless (side_refuses side queue joined) (says_frame side queue frame))) (port_queue now side queue false)
         (port_unless (side_refuses side queue joined) (port_queue now side queue false) (where_begun (port_queue now side queue false).port (port_new side queue pieces) (says_frame side queue frame)))
 
@@ -447,37 +435,29 @@ module _ {devs : List DevPlan} {plan : PairPlan} {k : ℕ} (now : Standing devs 
         (gates (length frame) (sizes_of plan side queue).most (head_in (sizes_of plan side queue) (lane_of now.site.pair side queue)) (seen_word now side queue) (lane_of now.site.pair side queue).told (port_queue now side queue false) (port_new side queue (first ∷ others))
         (is_up now.site.pair.link.state) joined (has_bit (side_of now.site.pair side).closed queue) (is_long side queue frame) (is_lane_busy (lane_of now.site.pair side queue)) (dev_of now.site.pair side queue).stopped (is_full side queue (needs side queue frame) (seen_word now side queue)))
 
-    abbrev DeviceSeen : Side → ℕ → Bool → Bool → Type 0
-    DeviceSeen side queue forgotten joined =
+    abbrev DeviceSeen : Side → ℕ → Bool → Bool → Bool → Type 0
+    DeviceSeen side queue forgotten up joined =
         let q = port_queue now side queue forgotten in
-        let refuses = side_says (is_up now.site.pair.link.state) joined q.closed in
+        let refuses = side_says up joined q.closed in
         Follows devs plan k now.site (Xbegin k side queue d dst kind payload)
         (device_made side queue d frame (pieces_of (sizes_of plan side queue).largest frame)
-        (tests side queue (length frame) (needs side queue frame) (is_long side queue frame) (dev_of now.site.pair side queue).stopped (has_bit (side_of now.site.pair side).joined queue) ((reads now).index_word side queue)))
+        (tests up side queue (length frame) (needs side queue frame) (is_long side queue frame) (dev_of now.site.pair side queue).stopped (has_bit (side_of now.site.pair side).joined queue) ((reads now).index_word side queue)))
         (device_says side queue frame (of_xbegin (dev_of now.site.pair side queue).stopped (answer_unless refuses (port_begin_answer q.port (kept now).bridge (length frame)))) q (port_unless refuses q (port_after_begin q.port (kept now).bridge frame)))
 
     device_by : (side : Side) (queue : ℕ) (forgotten : Bool) → queue < (side_plan plan side).queues → d < length devs → IsOn (dev_plan devs d) k side queue → has_forgotten now.site.pair.link side ≡ forgotten → (has_bit (side_of now.site.pair side).joined queue ≡ true → SizesFit plan)
         → Follows devs plan k now.site (Xbegin k side queue d dst kind payload)
-        (device_made side queue d frame (pieces_of (sizes_of plan side queue).largest frame) (tests side queue (length frame) (needs side queue frame) (is_long side queue frame) (dev_of now.site.pair side queue).stopped (has_bit (side_of now.site.pair side).joined queue) ((reads now).index_word side queue)))
+        (device_made side queue d frame (pieces_of (sizes_of plan side queue).largest frame) (tests (is_up now.site.pair.link.state) side queue (length frame) (needs side queue frame) (is_long side queue frame) (dev_of now.site.pair side queue).stopped (has_bit (side_of now.site.pair side).joined queue) ((reads now).index_word side queue)))
         (device_with side queue (dev_of now.site.pair side queue).stopped (port_queue now side queue forgotten))
     device_by side queue true among declared on forgot fits =
-        subst (DeviceSeen side queue true) (sym (joined_is now side queue))
-        (subst (λ up. Follows devs plan k now.site (Xbegin k side queue d dst kind payload)
-        (device_made side queue d frame (pieces_of (sizes_of plan side queue).largest frame)
-        (refusal_says up (has_bit (side_of now.site.pair side).joined queue) (has_bit (side_of now.site.pair side).closed queue) (is_long side queue frame) (is_lane_busy (lane_of now.site.pair side queue)) (dev_of now.site.pair side queue).stopped
-        (is_full side queue (needs side queue frame) ((reads now).index_word side queue)) (length frame) (sizes_of plan side queue).most (head_in (sizes_of plan side queue) (lane_of now.site.pair side queue)) ((reads now).index_word side queue)))
-        (device_says side queue frame
-        (of_xbegin (dev_of now.site.pair side queue).stopped (answer_unless (side_says up (has_bit (side_of now.site.pair side).joined queue) (has_bit (side_of now.site.pair side).closed queue)) (port_begin_answer (port_queue now side queue true).port (kept now).bridge (length frame))))
-        (port_queue now side queue true)
-        (port_unless (side_says up (has_bit (side_of now.site.pair side).joined queue) (has_bit (side_of now.site.pair side).closed queue)) (port_queue now side queue true) (port_after_begin (port_queue now side queue true).port (kept now).bridge frame))))
-        (sym (not_up side forgot)) (down (dev_of now.site.pair side queue).stopped))
+        subst (DeviceSeen side queue true (is_up now.site.pair.link.state)) (sym (joined_is now side queue))
+        (subst (λ up. DeviceSeen side queue true up (has_bit (side_of now.site.pair side).joined queue)) (sym (not_up side forgot)) (down (dev_of now.site.pair side queue).stopped))
       where
         down : (stopped : Bool) → Follows devs plan k now.site (Xbegin k side queue d dst kind payload) (device_made side queue d frame (pieces_of (sizes_of plan side queue).largest frame) (Some answer.LinkDown))
             (device_says side queue frame (of_xbegin stopped IsLinkDown) (port_queue now side queue true) (port_queue now side queue true))
         down true = (refl, refused side queue true among forgot)
         down false = (refl, refused side queue true among forgot)
     device_by side queue false among declared on fresh fits =
-        subst (DeviceSeen side queue false) (sym (joined_is now side queue))
+        subst (DeviceSeen side queue false (is_up now.site.pair.link.state)) (sym (joined_is now side queue))
         (device_read side queue (pieces_of (sizes_of plan side queue).largest frame) (dev_of now.site.pair side queue).stopped (has_bit (side_of now.site.pair side).joined queue)
         (λ joined. same_word plan now.site now.pages now.spare side queue now.declared among (own_fits plan (fits joined) side))
         (device_fresh side queue (pieces_of (sizes_of plan side queue).largest frame) (has_bit (side_of now.site.pair side).joined queue) among declared on fresh fits refl (pieces_fit (sizes_of plan side queue).largest frame)))
@@ -485,7 +465,16 @@ module _ {devs : List DevPlan} {plan : PairPlan} {k : ℕ} (now : Standing devs 
   pub xbegin_follows : (side : Side) (queue d : ℕ) (dst : List ℕ) (kind : ℕ) (payload : List ℕ) → queue < (side_plan plan side).queues → d < length devs → IsOn (dev_plan devs d) k side queue → (has_bit (side_of now.site.pair side).joined queue ≡ true → SizesFit plan)
       → Follows devs plan k now.site (Xbegin k side queue d dst kind payload) (xbegin_step (sizes_of plan side queue) (reads now) (dev_plan devs d) now.site.pair side queue dst kind payload) (xbegin_move (kept now) (dev_plan devs d) side queue dst kind payload)
   xbegin_follows side queue d dst kind payload among declared on fits =
-      subst (λ (new : QueuePart). Follows devs plan k now.site (Xbegin k side queue d dst kind payload) (xbegin_step (sizes_of plan side queue) (reads now) (dev_plan devs d) now.site.pair side queue dst kind payload) (record { answer = (of_xbegin (part now side queue).flow.stopped (begin_answer (part now side queue).queue (kept now).bridge (length (ethernet_frame dst (dev_plan devs d).address kind payload)))); after = with_queue (kept now) side queue new })) (sym (device_part_is side queue (ethernet_frame dst (dev_plan devs d).address kind payload) (of_xbegin (part now side queue).flow.stopped (begin_answer (part now side queue).queue (kept now).bridge (length (ethernet_frame dst (dev_plan devs d).address kind payload)))) (part now side queue).queue))
-      (subst (λ (q : QueueState). Follows devs plan k now.site (Xbegin k side queue d dst kind payload) (xbegin_step (sizes_of plan side queue) (reads now) (dev_plan devs d) now.site.pair side queue dst kind payload) (device_with d dst kind payload (ethernet_frame dst (dev_plan devs d).address kind payload) side queue (part now side queue).flow.stopped q)) (sym (is_queue now side queue (has_forgotten now.site.pair.link side) among refl))
-      (subst (λ stopped. Follows devs plan k now.site (Xbegin k side queue d dst kind payload) (xbegin_step (sizes_of plan side queue) (reads now) (dev_plan devs d) now.site.pair side queue dst kind payload) (device_with d dst kind payload (ethernet_frame dst (dev_plan devs d).address kind payload) side queue stopped (port_queue now side queue (has_forgotten now.site.pair.link side)))) (sym ((now.sides side).queues queue among).stopped)
-      (device_by d dst kind payload (ethernet_frame dst (dev_plan devs d).address kind payload) side queue (has_forgotten now.site.pair.link side) among declared on refl fits)))
+      subst (λ (new : QueuePart). Frames (record { answer = said; after = with_queue (kept now) side queue new })) (sym (device_part_is side queue frame said (part now side queue).queue))
+      (by_queue now side queue (λ (q : QueueState). Frames (device_with d dst kind payload frame side queue (part now side queue).flow.stopped q)) among
+      (λ forgotten forgot. subst (λ stopped. Frames (device_with d dst kind payload frame side queue stopped (port_queue now side queue forgotten))) (sym ((now.sides side).queues queue among).stopped)
+      (device_by d dst kind payload frame side queue forgotten among declared on forgot fits)))
+    where
+      frame : List ℕ
+      frame = ethernet_frame dst (dev_plan devs d).address kind payload
+
+      said : Answer
+      said = of_xbegin (part now side queue).flow.stopped (begin_answer (part now side queue).queue (kept now).bridge (length frame))
+
+      Frames : Move → Type 0
+      Frames move = Follows devs plan k now.site (Xbegin k side queue d dst kind payload) (xbegin_step (sizes_of plan side queue) (reads now) (dev_plan devs d) now.site.pair side queue dst kind payload) move

@@ -26,7 +26,7 @@ use Rattle.frame_ring.specs.Calls.{ack_answer, acked_by, after_ack, after_clear,
 use Rattle.frame_ring.specs.Seen.{flags_cleared, index_posted}
 use Rattle.queue_pair.specs.Queue.{QueueState, with_port}
 use Rattle.fabric_rule.specs.Answers.{of_ack, of_clear}
-use Rattle.fabric_rule.specs.InPlace.{CountsOfPhase, ReceivingInPlace, receiver_of}
+use Rattle.fabric_rule.specs.InPlace.{CountsOfPhase}
 use Rattle.fabric_rule.specs.Moves.{Move, ack_move, clear_move}
 use Rattle.fabric_rule.specs.Parts.{with_bridge, with_queue}
 use Rattle.fabric_rule.specs.StandsFor.{PairStands, has_forgotten}
@@ -50,6 +50,9 @@ after_cleared Cleared acked cleared got is counts = counts
 after_cleared Idle acked cleared got is counts = absurd (false≢true is)
 after_cleared Copying acked cleared got is counts = absurd (false≢true is)
 after_cleared Copied acked cleared got is counts = absurd (false≢true is)
+
+last_copied : (cleared got : ℕ) → cleared + 1 ≡ got → got - 1 ≡ cleared
+last_copied cleared got is = omega (arith, is)
 
 fits_where : (plan : PairPlan) (test : Phase → Bool) (phase : Phase) → test Idle ≡ false → test phase ≡ true → (phase ≡ Idle) ⊎ SizesFit plan → SizesFit plan
 fits_where plan test phase at_idle holds fits = ⊎_elim (λ idle. absurd (true≢false (sym holds ∙ ap test idle ∙ at_idle))) (λ fits. fits) fits
@@ -98,23 +101,15 @@ module _ {devs : List DevPlan} {plan : PairPlan} {k : ℕ} (now : Standing devs 
       → Follows devs plan k now.site (Clear k side queue) (clear_made side queue copied) (clears side queue copied ((lane_to now.site.pair side queue).got - 1))
   clear_at side queue false among fresh is = (refl, as_it_was now side queue false among fresh)
   clear_at side queue true among fresh is =
-      subst (λ n. Follows devs plan k now.site (Clear k side queue) (clear_made side queue true) (clears side queue true n)) (sym last) (
+      let lane = lane_to now.site.pair side queue in
+      let old = (stands_by now side queue false among fresh).receiving in
+      let counts = after_copied lane.phase lane.acked lane.cleared lane.got is (old.counts refl) in
+      let fits = fits_where plan is_copied lane.phase refl is old.fits in
+      subst (λ n. Follows devs plan k now.site (Clear k side queue) (clear_made side queue true) (clears side queue true n)) (sym (last_copied lane.cleared lane.got counts.1)) (
         refl,
-        bytes_come (receives now side queue (flags_gone side queue) among fresh refl (record { counts = λ _. counts; fits = inr fits; len = λ copying. absurd (false≢true copying) })) side (zeroed_flags plan side queue (lane_to now.site.pair side queue).cleared)
-            (header_inside plan now.site now.pages now.spare side queue now.declared among (own_fits plan fits side) (lane_to now.site.pair side queue).cleared (flags_offset plan) 4 (fields_lie plan).flags),
+        bytes_come (receives now side queue (flags_gone side queue) among fresh refl (record { counts = λ _. counts; fits = inr fits; len = λ copying. absurd (false≢true copying) })) side (zeroed_flags plan side queue lane.cleared)
+            (header_inside plan now.site now.pages now.spare side queue now.declared among (own_fits plan fits side) lane.cleared (flags_offset plan) 4 (fields_lie plan).flags),
       )
-    where
-      old : ReceivingInPlace plan side queue false (receiver_of (lane_to now.site.pair side queue))
-      old = (stands_by now side queue false among fresh).receiving
-
-      counts : ((lane_to now.site.pair side queue).acked + 1 ≡ (lane_to now.site.pair side queue).cleared + 1) × ((lane_to now.site.pair side queue).cleared + 1 ≡ (lane_to now.site.pair side queue).got)
-      counts = after_copied (lane_to now.site.pair side queue).phase (lane_to now.site.pair side queue).acked (lane_to now.site.pair side queue).cleared (lane_to now.site.pair side queue).got is (old.counts refl)
-
-      last : (lane_to now.site.pair side queue).got - 1 ≡ (lane_to now.site.pair side queue).cleared
-      last = let c = counts.1 in omega (arith, c)
-
-      fits : SizesFit plan
-      fits = fits_where plan is_copied (lane_to now.site.pair side queue).phase refl is old.fits
 
   clear_by : (side : Side) (queue : ℕ) (forgotten : Bool) → queue < (side_plan plan side).queues → has_forgotten now.site.pair.link side ≡ forgotten
       → Follows devs plan k now.site (Clear k side queue) (clear_step now.site.pair side queue) (cleared_with side queue (port_queue now side queue forgotten))
@@ -130,29 +125,19 @@ module _ {devs : List DevPlan} {plan : PairPlan} {k : ℕ} (now : Standing devs 
       → Follows devs plan k now.site (Ack k side queue) (ack_made side queue cleared) (acks side queue cleared ((lane_to now.site.pair side queue).got - 1))
   ack_at side queue false among fresh is = (refl, as_it_was now side queue false among fresh)
   ack_at side queue true among fresh is =
-      subst (λ n. Follows devs plan k now.site (Ack k side queue) (ack_made side queue true) (acks side queue true n)) (sym last) (
+      let lane = lane_to now.site.pair side queue in
+      let old = (stands_by now side queue false among fresh).receiving in
+      let counts = after_cleared lane.phase lane.acked lane.cleared lane.got is (old.counts refl) in
+      let given_back = with_queue (kept now) side queue (received_part now side queue (given side queue)) in
+      let first = receives now side queue (given side queue) among fresh refl (record { counts = λ _. counts; fits = inl refl; len = λ copying. absurd (false≢true copying) }) in
+      subst (λ n. Follows devs plan k now.site (Ack k side queue) (ack_made side queue true) (acks side queue true n)) (sym (last_copied lane.acked lane.got (counts.0 ∙ counts.1))) (
         refl,
-        by_bridge now (with_lane now.site.pair (other_side side) queue (given side queue)) (with_queue (kept now) side queue (received_part now side queue (given side queue))).queues
+        by_bridge now (with_lane now.site.pair (other_side side) queue (given side queue)) given_back.queues
             (λ (bridge : Bridge). PairStands devs plan k
-            (record now.site { pair = posts_through (reads now) (with_lane now.site.pair (other_side side) queue (given side queue)) side (Index queue (lane_to now.site.pair side queue).acked) })
-            (record (with_queue (kept now) side queue (received_part now side queue (given side queue))) { bridge = index_posted bridge side queue (lane_to now.site.pair side queue).acked })) first
-            (index_posts (then_standing now _ _ first) side queue (lane_to now.site.pair side queue).acked among fits),
+            (record now.site { pair = posts_through (reads now) (with_lane now.site.pair (other_side side) queue (given side queue)) side (Index queue lane.acked) })
+            (record given_back { bridge = index_posted bridge side queue lane.acked })) first
+            (index_posts (then_standing now _ _ first) side queue lane.acked among (fits_where plan is_cleared lane.phase refl is old.fits)),
       )
-    where
-      old : ReceivingInPlace plan side queue false (receiver_of (lane_to now.site.pair side queue))
-      old = (stands_by now side queue false among fresh).receiving
-
-      counts : ((lane_to now.site.pair side queue).acked + 1 ≡ (lane_to now.site.pair side queue).cleared) × ((lane_to now.site.pair side queue).cleared ≡ (lane_to now.site.pair side queue).got)
-      counts = after_cleared (lane_to now.site.pair side queue).phase (lane_to now.site.pair side queue).acked (lane_to now.site.pair side queue).cleared (lane_to now.site.pair side queue).got is (old.counts refl)
-
-      last : (lane_to now.site.pair side queue).got - 1 ≡ (lane_to now.site.pair side queue).acked
-      last = let b = counts.0 in let c = counts.1 in omega (arith, b, c)
-
-      fits : SizesFit plan
-      fits = fits_where plan is_cleared (lane_to now.site.pair side queue).phase refl is old.fits
-
-      first : PairStands devs plan k (record now.site { pair = with_lane now.site.pair (other_side side) queue (given side queue) }) (with_queue (kept now) side queue (received_part now side queue (given side queue)))
-      first = receives now side queue (given side queue) among fresh refl (record { counts = λ _. counts; fits = inl refl; len = λ copying. absurd (false≢true copying) })
 
   ack_by : (side : Side) (queue : ℕ) (forgotten : Bool) → queue < (side_plan plan side).queues → has_forgotten now.site.pair.link side ≡ forgotten
       → Follows devs plan k now.site (Ack k side queue) (ack_step (reads now) now.site.pair side queue) (acked_with side queue (port_queue now side queue forgotten))

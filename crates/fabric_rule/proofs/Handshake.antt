@@ -43,6 +43,8 @@ use Rattle.fabric_rule.specs.StandsFor.{SideStands, book_for, bridge_for, has_fo
 use Rattle.bridge_pair.specs.declared.book.SideBook.{SideBook}
 use Rattle.bridge_pair.specs.Flights.{flying_of}
 use Rattle.bridge_pair.specs.Writes.{pad_write}
+use Rattle.byte_model.specs.Stores.{bytes_in}
+use Rattle.bridge_pair.specs.Ends.{bytes_after}
 use Rattle.fabric_rule.proofs.Follows.{AllSides, Follows, by_side, state_for}
 use Rattle.fabric_rule.proofs.Links.{not_down_up}
 use Rattle.fabric_rule.proofs.Posting.{posts_one}
@@ -241,23 +243,13 @@ module _ (devs : List DevPlan) (plan : PairPlan) (k : ℕ) (site : Site) (pages 
   abbrev came_up_with : Side → List ℕ → Bridge
   came_up_with side bytes = with_book (with_memory (bridge_for plan site) side (record { bytes = bytes; promised = [] })) side (record (book_for (side_of site.pair side)) { up = true })
 
+  came_up : (side : Side) → IsPair plan → (side_plan plan (other_side side)).size ≤ (side_plan plan side).cap
+      → came_up_with side (bytes_after (fresh_index_words plan side ++ zeroed_headers plan side) (bytes_in (at_side site.stores side) 0 (memory_size plan side))) ≡ came_up_with side (bytes_in ((fresh_index_words plan side ++ zeroed_headers plan side) ++ at_side site.stores side) 0 (memory_size plan side))
+  came_up side declared fits = ap (came_up_with side) (all_stored (fresh_index_words plan side ++ zeroed_headers plan side) (at_side site.stores side) (memory_size plan side) (rings_inside plan side declared fits))
+
   checked_up : (side : Side) → IsPair plan → (side_plan plan (other_side side)).size ≤ (side_plan plan side).cap → checks_as side check.Up None
-  checked_up A declared fits = (
-    refl,
-    record {
-      bridge = ap (came_up_with A) (all_stored (fresh_index_words plan A ++ zeroed_headers plan A) site.stores.a (memory_size plan A) (rings_inside plan A declared fits));
-      link = link;
-      sides = by_side _ (sides A) (sides B);
-    },
-  )
-  checked_up B declared fits = (
-    refl,
-    record {
-      bridge = ap (came_up_with B) (all_stored (fresh_index_words plan B ++ zeroed_headers plan B) site.stores.b (memory_size plan B) (rings_inside plan B declared fits));
-      link = link;
-      sides = by_side _ (sides A) (sides B);
-    },
-  )
+  checked_up A declared fits = (refl, record { bridge = came_up A declared fits; link = link; sides = by_side _ (sides A) (sides B) })
+  checked_up B declared fits = (refl, record { bridge = came_up B declared fits; link = link; sides = by_side _ (sides A) (sides B) })
 
   check_as : (side : Side) (found : CheckAnswer) (refusal : Option Answer) → IsPair plan → (refusal ≡ None → (side_plan plan (other_side side)).size ≤ (side_plan plan side).cap) → ChecksAs found refusal → checks_as side found refusal
   check_as side found refusal declared fits (inl both) =

@@ -109,11 +109,12 @@ module _ {devs : List DevPlan} {plan : PairPlan} {k : ℕ} (now : Standing devs 
   may_not : (side : Side) → slice_get (all_writes side) place ≡ None → may_land (map flying_order (all_writes side)) place ≡ false
   may_not side none = ap (λ found. lands_behind found (take place (map flying_order (all_writes side)))) (slice_get-map flying_order (all_writes side) place ∙ ap (option_map flying_order) none)
 
-  -- the pair without the write
+  -- a write that may not land is still in flight
   still_there : (side : Side) → PairStands devs plan k now.site (record (kept now) { bridge = with_flight (kept now).bridge side (record { writes = all_writes side; spare = at_side now.spare side }) })
   still_there A = record { bridge = refl; link = now.link; sides = now.sides }
   still_there B = record { bridge = refl; link = now.link; sides = now.sides }
 
+  -- the pair without one that lands
   taken : (side : Side) (label : Label) → slice_get (side_of now.site.pair side).flight place ≡ Some label
       → PairStands devs plan k (record now.site { pair = with_side_part now.site.pair side (record (side_of now.site.pair side) { flight = remove (side_of now.site.pair side).flight place; poked = poked_left (side_of now.site.pair side).flight (side_of now.site.pair side).poked place label }) })
       (record (kept now) { bridge = with_flight (kept now).bridge side (record { writes = remove (all_writes side) place; spare = at_side now.spare side }) })

@@ -133,7 +133,7 @@ abbrev forgets_view : QueueView → QueueView
 forgets_view view =
     record {
       sends = record view.sends { waiting = []; todo = [] };
-      receives = record view.receives { phase = Idle; part = 0; gathered = [] };
+      receives = record view.receives { port = record view.receives.port { phase = Idle; part = 0; gathered = [] } };
       dev = record view.dev { stopped = false };
       accepted = view.accepted;
       delivered = view.delivered;
@@ -253,10 +253,9 @@ module _ (devs : List DevPlan) (plan : PairPlan) (k : ℕ) (site : Site) (pages 
 
   broken : (refusal : Option LinkRefusal) → cut_refusal site.pair.link ≡ refusal
       → Follows devs plan k site (Break k) (decided site.pair (answer_of_refusal refusal) Done (record site.pair { link = cut_link site.pair.link })) (moved refusal Done (with_link state.bridge (cut_link site.pair.link)))
-  broken None passed = (refl, record { bridge = refl; link = λ side down. absurd (false≢true down); sides = by_side _ (not_forgetting A up) (not_forgetting B up) })
-    where
-      up : is_down site.pair.link.state ≡ false
-      up = not_down_up site.pair.link.state (passed_where (is_up site.pair.link.state) NotUp passed)
+  broken None passed =
+      let up = not_down_up site.pair.link.state (passed_where (is_up site.pair.link.state) NotUp passed) in
+      (refl, record { bridge = refl; link = λ side down. absurd (false≢true down); sides = by_side _ (not_forgetting A up) (not_forgetting B up) })
   broken (Some refusal) passed = (same_refusal refusal, record { bridge = refl; link = link; sides = sides })
 
   pub break_follows : Follows devs plan k site (Break k) (break_step site.pair) (break_move state)
@@ -272,10 +271,9 @@ module _ (devs : List DevPlan) (plan : PairPlan) (k : ℕ) (site : Site) (pages 
       → Follows devs plan k site (DropDone k)
       (decided site.pair (answer_of_refusal refusal) Done (record site.pair { link = dropped_link site.pair.link; sides = record { a = emptied_side site.pair.sides.a; b = emptied_side site.pair.sides.b } }))
       (moved refusal Done (dropped state.bridge))
-  all_dropped None passed = (refl, record { bridge = refl; link = by_side _ (λ down no. absurd (false≢true no)) (λ down no. absurd (false≢true no)); sides = by_side _ (emptied A (view_of site.pair A) (not_forgetting A closing)) (emptied B (view_of site.pair B) (not_forgetting B closing)) })
-    where
-      closing : is_down site.pair.link.state ≡ false
-      closing = not_down_closing site.pair.link.state (passed_where (is_closing site.pair.link.state) NotClosing passed)
+  all_dropped None passed =
+      let closing = not_down_closing site.pair.link.state (passed_where (is_closing site.pair.link.state) NotClosing passed) in
+      (refl, record { bridge = refl; link = by_side _ (λ down no. absurd (false≢true no)) (λ down no. absurd (false≢true no)); sides = by_side _ (emptied A (view_of site.pair A) (not_forgetting A closing)) (emptied B (view_of site.pair B) (not_forgetting B closing)) })
   all_dropped (Some refusal) passed = (same_refusal refusal, record { bridge = refl; link = link; sides = sides })
 
   pub drop_follows : Follows devs plan k site (DropDone k) (drop_step site.pair) (drop_move state)

@@ -1,7 +1,7 @@
 -- One queue of one side, as a fabric keeps it and as a site has it.
-use Rattle.std.proofs.Common.{◌≡◌, ℕ, ◌<◌, Bool, true, false, List, refl, sym, ap, ◌∙◌, subst, ⊎_elim}
+use Rattle.std.proofs.Common.{◌≡◌, ℕ, ◌<◌, Bool, true, false, List, refl, sym, ap, ◌∙◌, subst}
 use Rattle.std.specs.Prelude.{slice_index_or, ◌⊎◌, ◌++◌, [], slice_set}
-use Rattle.std.proofs.lemmas.Bool.{true≢false, cases_Bool, false≢true}
+use Rattle.std.proofs.lemmas.Bool.{false≢true}
 use Rattle.step_kinds.specs.Bits.{has_bit}
 use Rattle.step_kinds.specs.Sides.{other_side}
 use Rattle.step_kinds.specs.declared.names.Side.{Side}
@@ -21,7 +21,7 @@ use Rattle.lane_model.specs.Lane.{Entry}
 use Rattle.bridge_pair.specs.Bridge.{Bridge, book_of}
 use Rattle.fabric_rule.specs.InPlace.{LinkInPlace, SendingEnd, receiver_of, sender_of, ReceivingInPlace, SendingInPlace, last_entry}
 use Rattle.fabric_rule.specs.Parts.{PairState, QueuePart, no_queue, with_queue, SessionCount, count_in}
-use Rattle.fabric_rule.specs.StandsFor.{PairStands, QueueStands, bridge_with, has_forgotten, port_for, sent_of, view_of, QueueView, SideStands, all_sent, bridge_for, is_left, receiving_for, sending_for, writes_labelled}
+use Rattle.fabric_rule.specs.StandsFor.{PairStands, QueueStands, bridge_with, has_forgotten, port_for, sent_of, view_of, QueueView, SideStands, all_sent, bridge_for, is_left, sending_for, writes_labelled}
 use Rattle.fabric_rule.proofs.Follows.{with_promises, AllSides, state_for, by_end, by_side, same_at, two_same}
 use Rattle.fabric_rule.proofs.Links.{no_bits, bridge_same}
 use Rattle.fabric_rule.proofs.Queues.{queue_is, set_again, other_dev, side_at, side_same}
@@ -78,7 +78,7 @@ module _ {devs : List DevPlan} {plan : PairPlan} {k : ℕ} (now : Standing devs 
   joined_is A queue = refl
   joined_is B queue = refl
 
-  -- it stands
+  -- what is kept stands for the site
   pub stands_now : PairStands devs plan k now.site kept
   stands_now = record { bridge = refl; link = now.link; sides = now.sides }
 
@@ -102,14 +102,11 @@ module _ {devs : List DevPlan} {plan : PairPlan} {k : ℕ} (now : Standing devs 
   pub by_bridge : (pair : PairPart) (queues : Both (List QueuePart)) (P : Bridge → Type 0) → PairStands devs plan k (record now.site { pair = pair }) (record kept { queues = queues }) → P (with_promises (bridge_for plan (record now.site { pair = pair })) now.pages now.spare) → P kept.bridge
   by_bridge pair queues P stands holds = subst P (sym (ap (λ (bridge : Bridge). with_promises bridge now.pages now.spare) stands.bridge)) holds
 
-  -- a side on which a queue is joined hasn't forgotten its session
-  pub remembers : (side : Side) (queue : ℕ) → has_bit (side_of now.site.pair side).joined queue ≡ true → has_forgotten now.site.pair.link side ≡ false
-  remembers side queue joined = ⊎_elim (λ forgot. absurd (true≢false (sym joined ∙ ap (λ bits. has_bit bits queue) ((now.sides side).none_joined forgot) ∙ no_bits queue))) (λ no. no) (cases_Bool (has_forgotten now.site.pair.link side))
-
+  -- a side that has forgotten its session has no queue joined
   pub no_joined : (side : Side) (queue : ℕ) → has_forgotten now.site.pair.link side ≡ true → has_bit (side_of now.site.pair side).joined queue ≡ false
   no_joined side queue forgot = ap (λ bits. has_bit bits queue) ((now.sides side).none_joined forgot) ∙ no_bits queue
 
-  -- What a step on one queue of one side changes
+  -- What a step on one queue of one side changes: that queue, and nothing that the peer sees of others
 
   -- the pair with other lanes, devices and tallies, and with other queues closed
   abbrev pub pair_with : Both SidePart → Both (ℕ → LanePart) → Both (ℕ → DevPart) → Both (ℕ → ℕ → Tally) → PairPart
@@ -132,6 +129,7 @@ module _ {devs : List DevPlan} {plan : PairPlan} {k : ℕ} (now : Standing devs 
 
   module _ (sides : Both SidePart) (lanes : Both (ℕ → LanePart)) (devices : Both (ℕ → DevPart)) (tallies : Both (ℕ → ℕ → Tally)) (alike : (s : Side) → record (at_side sides s) { closed = 0 } ≡ record (side_of now.site.pair s) { closed = 0 })
       (grows : (s : Side) → SentGrows (sent_of (at_side now.site.pair.lanes s)) (sent_of (at_side lanes s))) where
+    -- the writes in flight are the same
     bridge_then : bridge_for plan now.site ≡ bridge_for plan (record now.site { pair = pair_with sides lanes devices tallies })
     bridge_then =
         sym (two_same (λ (a b : SidePart). bridge_with plan now.site.pair.link (record { a = a; b = b }) (all_sent lanes) now.site.stores) (alike A) (alike B)
@@ -145,6 +143,7 @@ module _ {devs : List DevPlan} {plan : PairPlan} {k : ℕ} (now : Standing devs 
     StandsThen s own parts =
         SideStands devs plan k s (is_down now.site.pair.link.state) (has_forgotten now.site.pair.link s) own.joined own.flight own.poked (view_of (pair_with sides lanes devices tallies) s) parts
 
+    -- a side that sees all its queues as they were, and one that sees all but this
     sees : (s : Side) → ((other : ℕ) → view_of (pair_with sides lanes devices tallies) s other ≡ view_of now.site.pair s other) → StandsThen s (at_side sides s) (at_side now.queues s)
     sees s same = subst (λ (own : SidePart). StandsThen s own (at_side now.queues s)) (sym (alike s)) (side_same devs plan k s _ _ _ _ _ (view_of now.site.pair s) _ (at_side now.queues s) same (now.sides s))
 
@@ -242,7 +241,7 @@ module _ {devs : List DevPlan} {plan : PairPlan} {k : ℕ} (now : Standing devs 
 
   -- its receiver is at another place
   abbrev pub received_part : Side → ℕ → LanePart → QueuePart
-  received_part side queue lane = part_with side queue (with_port (port_queue side queue false) (with_receiving (port_queue side queue false).port (receiving_for (receiver_of lane))))
+  received_part side queue lane = part_with side queue (with_port (port_queue side queue false) (with_receiving (port_queue side queue false).port (receiver_of lane).port))
 
   pub received_stands : (side : Side) (queue : ℕ) (lane : LanePart) (dev : DevPart) (counters : Counters) (delivered : List SessionCount) (seen_delivered : ℕ → ℕ) → queue < (side_plan plan side).queues → has_forgotten now.site.pair.link side ≡ false
       → dev.stopped ≡ (dev_of now.site.pair side queue).stopped → counters ≡ dev.counters → ((session : ℕ) → count_in delivered session ≡ seen_delivered session) → ReceivingInPlace plan side queue false (receiver_of lane)

@@ -17,6 +17,7 @@ use Rattle.plan_model.specs.Both.{at_side}
 use Rattle.plan_model.specs.Link.{Link, is_down}
 use Rattle.plan_model.specs.Sizes.{layout_of, layout_to}
 use Rattle.ledger_model.specs.Ledger.{LanePart}
+use Rattle.frame_ring.specs.Port.{Receiving}
 use Rattle.bridge_pair.specs.Bridge.{memory_size}
 use Rattle.bridge_pair.specs.Flights.{Flying}
 use Rattle.bridge_pair.specs.declared.flying.Arrival.{Arrival}
@@ -38,30 +39,26 @@ sender_of lane = record { sent = lane.sent; waiting = lane.waiting; todo = lane.
 abbrev pub last_entry : SendingEnd → Entry
 last_entry sends = slice_index_or sends.sent (length sends.sent - 1) GoesDown
 
--- what its receiver knows of it
+-- what its receiver knows of it: what its port keeps, and how many entries it cleared and gave back
 pub record ReceivingEnd : Type 0 where
-  pub got : ℕ
+  pub port : Receiving
   pub cleared : ℕ
   pub acked : ℕ
-  pub phase : Phase
-  pub part : ℕ
-  pub len : ℕ
-  pub left : ℕ
-  pub gathered : List ℕ
-  pub done : ℕ
 
 abbrev pub receiver_of : LanePart → ReceivingEnd
 receiver_of lane =
     record {
-      got = lane.got;
+      port = record {
+        got = lane.got;
+        done = lane.done;
+        phase = lane.phase;
+        part = lane.part;
+        len = lane.len;
+        left = lane.left;
+        gathered = lane.gathered;
+      };
       cleared = lane.cleared;
       acked = lane.acked;
-      phase = lane.phase;
-      part = lane.part;
-      len = lane.len;
-      left = lane.left;
-      gathered = lane.gathered;
-      done = lane.done;
     }
 
 -- The link
@@ -108,17 +105,17 @@ CountsOfPhase Copied acked cleared got = (acked ≡ cleared) × (cleared + 1 ≡
 CountsOfPhase Cleared acked cleared got = (acked + 1 ≡ cleared) × (cleared ≡ got)
 
 pub record ReceivingInPlace (plan : PairPlan) (side : Side) (queue : ℕ) (forgotten : Bool) (receives : ReceivingEnd) : Type 0 where
-  pub counts : forgotten ≡ false → CountsOfPhase receives.phase receives.acked receives.cleared receives.got
+  pub counts : forgotten ≡ false → CountsOfPhase receives.port.phase receives.acked receives.cleared receives.port.got
   -- where an entry is at hand the sides' sizes fit, and one that is copied has the bytes of a slot at most
-  pub fits : (receives.phase ≡ Idle) ⊎ SizesFit plan
-  pub len : is_copying receives.phase ≡ true → receives.len ≤ max_payload_of (layout_to plan side queue)
+  pub fits : (receives.port.phase ≡ Idle) ⊎ SizesFit plan
+  pub len : is_copying receives.port.phase ≡ true → receives.port.len ≤ max_payload_of (layout_to plan side queue)
 
 -- A side that has forgotten its session
 
 pub record IsForgotten (sends : SendingEnd) (receives : ReceivingEnd) (stopped : Bool) : Type 0 where
   pub todo : sends.todo ≡ []
   pub waiting : sends.waiting ≡ []
-  pub phase : receives.phase ≡ Idle
+  pub phase : receives.port.phase ≡ Idle
   pub goes_on : stopped ≡ false
 
 -- What is in flight

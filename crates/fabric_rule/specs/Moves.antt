@@ -25,6 +25,7 @@ use Rattle.hand_shake.specs.Offers.{offer_answer, after_offer, with_posted}
 use Rattle.hand_shake.specs.Checks.{check_answer, after_check}
 use Rattle.hand_shake.specs.Queues.{ready_answer, after_ready, join_answer, after_join}
 use Rattle.frame_ring.specs.Calls.{post_answer, after_post, posted_by, copy_answer, after_copy, clear_answer, after_clear, cleared_by, ack_answer, after_ack, acked_by, free_answer}
+use Rattle.frame_ring.specs.Port.{PortState}
 use Rattle.queue_pair.specs.Gates.{begin_answer, after_begin, qpdown_answer, after_qpdown, look_answer, after_look, irq_bits, after_irq}
 use Rattle.queue_pair.specs.Queue.{fresh_queue, with_port}
 use Rattle.fabric_rule.specs.Answers.{of_link, of_offer, of_check, of_ready, of_join, of_begin, of_xbegin, of_post, of_land, of_look, of_copy, of_clear, of_ack}
@@ -37,6 +38,15 @@ pub record Move : Type 0 where
 -- an answer, with another bridge
 abbrev pub bridge_move : PairState → Answer → Bridge → Move
 bridge_move pair answer bridge = record { answer = answer; after = with_bridge pair bridge }
+
+-- what a queue's port answers, with the port after it and what it does to the bridge
+abbrev pub port_move : PairState → Side → ℕ → (PortState → Answer) → (PortState → PortState) → (PortState → Bridge → Bridge) → Move
+port_move pair side queue answer after by =
+    let part = queue_of pair side queue in
+    record {
+      answer = answer part.queue.port;
+      after = with_bridge (with_queue pair side queue (record part { queue = with_port part.queue (after part.queue.port) })) (by part.queue.port pair.bridge);
+    }
 
 -- an answer that changes nothing
 abbrev pub shows : PairState → Answer → Move
@@ -135,14 +145,7 @@ xbegin_move pair dev side queue dst kind payload =
     record { answer = answer; after = with_queue pair side queue (xbegun answer pair part frame) }
 
 abbrev pub post_move : PairState → Side → ℕ → Move
-post_move pair side queue =
-    let part = queue_of pair side queue in
-    record {
-      answer = of_post (post_answer part.queue.port);
-      after =
-          with_bridge (with_queue pair side queue (record part { queue = with_port part.queue (after_post part.queue.port) }))
-          (posted_by part.queue.port pair.bridge);
-    }
+post_move pair side queue = port_move pair side queue (λ port. of_post (post_answer port)) after_post posted_by
 
 abbrev pub wake_move : PairState → Side → ℕ → Move
 wake_move pair side queue =
@@ -184,24 +187,10 @@ copy_move pair side queue =
     }
 
 abbrev pub clear_move : PairState → Side → ℕ → Move
-clear_move pair side queue =
-    let part = queue_of pair side queue in
-    record {
-      answer = of_clear (clear_answer part.queue.port);
-      after =
-          with_bridge (with_queue pair side queue (record part { queue = with_port part.queue (after_clear part.queue.port) }))
-          (cleared_by part.queue.port pair.bridge);
-    }
+clear_move pair side queue = port_move pair side queue (λ port. of_clear (clear_answer port)) after_clear cleared_by
 
 abbrev pub ack_move : PairState → Side → ℕ → Move
-ack_move pair side queue =
-    let part = queue_of pair side queue in
-    record {
-      answer = of_ack (ack_answer part.queue.port);
-      after =
-          with_bridge (with_queue pair side queue (record part { queue = with_port part.queue (after_ack part.queue.port) }))
-          (acked_by part.queue.port pair.bridge);
-    }
+ack_move pair side queue = port_move pair side queue (λ port. of_ack (ack_answer port)) after_ack acked_by
 
 -- Registers and what is shown
 

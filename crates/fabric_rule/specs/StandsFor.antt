@@ -27,7 +27,7 @@ use Rattle.bridge_pair.specs.Bridge.{Bridge, memory_size}
 use Rattle.bridge_pair.specs.Flights.{Flying, flying_of}
 use Rattle.bridge_pair.specs.Writes.{PostedWrite, bell_write, memory_write, pad_write}
 use Rattle.bridge_pair.specs.declared.book.SideBook.{SideBook}
-use Rattle.frame_ring.specs.Port.{PortState, Receiving, Sending, fresh_port}
+use Rattle.frame_ring.specs.Port.{PortState, Sending, fresh_port}
 use Rattle.fabric_rule.specs.InPlace.{FlightInPlace, IsForgotten, LinkInPlace, ReceivingEnd, ReceivingInPlace, SendingEnd, SendingInPlace, last_entry, receiver_of, sender_of}
 use Rattle.fabric_rule.specs.Parts.{PairState, QueuePart, count_in, no_queue, plain_bridge, queues_of}
 
@@ -140,23 +140,11 @@ is_left sends = if is_empty_list sends.todo then (if is_empty_list sends.waiting
 abbrev pub sending_for : SendingEnd → Entry → Sending
 sending_for sends entry = record { begun = length sends.sent; told = sends.told; entry = entry; todo = sends.todo; waiting = sends.waiting }
 
-abbrev pub receiving_for : ReceivingEnd → Receiving
-receiving_for receives =
-    record {
-      got = receives.got;
-      done = receives.done;
-      phase = receives.phase;
-      part = receives.part;
-      len = receives.len;
-      left = receives.left;
-      gathered = receives.gathered;
-    }
-
 -- the port's counts are the ledger's, but that they are 0 once its side has forgotten the session
 abbrev pub port_for : PairPlan → Side → ℕ → Bool → QueueView → Entry → PortState
 port_for plan side queue true view entry = fresh_port plan side queue
 port_for plan side queue false view entry =
-    record { plan = plan; side = side; queue = queue; sending = sending_for view.sends entry; receiving = receiving_for view.receives }
+    record { plan = plan; side = side; queue = queue; sending = sending_for view.sends entry; receiving = view.receives.port }
 
 -- the device of this number is on the queue
 pub record IsOn (dev : DevPlan) (pair : ℕ) (side : Side) (queue : ℕ) : Type 0 where
