@@ -1,5 +1,5 @@
 -- What a queue's calls ask of a pair is there after each of them.
-use Rattle.std.proofs.Common.{◌≡◌, ◌∙◌, ℕ, ◌+◌, ◌-◌, ◌<◌, ◌≤◌, Bool, true, false, All, List, [], ◌∷◌, length, Option, Some, None, refl, sym, ap, subst, arith, if◌then◌else◌}
+use Rattle.std.proofs.Common.{◌≡◌, ◌∙◌, ℕ, ◌+◌, ◌-◌, ◌<◌, ◌≤◌, Bool, true, false, List, [], ◌∷◌, length, Option, Some, None, refl, sym, ap, subst, arith, if◌then◌else◌}
 use Rattle.step_kinds.specs.Sides.{other_side}
 use Rattle.step_kinds.specs.declared.lanes.Begun.{Begun}
 use Rattle.step_kinds.specs.declared.lanes.Begun.TheVariants.{Ok as BegunOk, TooLong as FrameTooLong, Busy as PortBusy, NoRoom as RingFull}
@@ -15,10 +15,10 @@ use Rattle.lane_model.specs.declared.Phase.{Phase}
 use Rattle.lane_model.specs.declared.Phase.TheVariants.{Idle, Copying, Copied, Cleared}
 use Rattle.plan_model.specs.DeclaredPlans.{IsPair}
 use Rattle.plan_model.specs.Plans.{side_plan}
-use Rattle.bridge_pair.specs.Bridge.{Bridge, flight_of, pages_of, with_pages}
+use Rattle.bridge_pair.specs.Bridge.{Bridge, flight_of, with_pages}
 use Rattle.frame_ring.specs.Calls.{acked_by, after_ack, after_begin as port_after_begin, after_clear, after_copy, after_down, after_look as port_after_look, after_post, begin_answer as port_begin_answer, cleared_by, down_answer, down_begun, first_posted, frame_begun, gathered_next, last_got, more_entries, more_parts, next_begun, part_copied, posted_by, where_begun}
 use Rattle.frame_ring.specs.Port.{PortState, Receiving, unused_of, with_receiving, writes_left}
-use Rattle.frame_ring.specs.Seen.{FitsRings, HasPagesIn, flags_cleared, index_posted, reaches, ring_posted, window_posted, with_room}
+use Rattle.frame_ring.specs.Seen.{FitsRings, HasPagesIn, flags_cleared, reaches, ring_posted, window_posted, with_room}
 use Rattle.queue_pair.specs.Gates.{after_begin, after_look, after_look_answer, after_qpdown, closed_where_begun, look_answer, port_unless, qpdown_answer, sender_refusal}
 use Rattle.queue_pair.specs.Needs.{HasNeeds}
 use Rattle.queue_pair.specs.Queue.{QueueState, fresh_queue, with_port}

@@ -1,8 +1,6 @@
 -- A queue refuses where a begin would be refused.
-use Rattle.std.proofs.Common.{◌≡◌, ◌||◌, ℕ, Bool, true, false, not, Option, Some, None, is_some, refl, nat_lt, if◌then◌else◌}
-use Rattle.step_kinds.specs.declared.lanes.Begun.{Begun}
+use Rattle.std.proofs.Common.{◌≡◌, ◌||◌, ℕ, Bool, true, false, not, Some, None, is_some, refl, nat_lt, if◌then◌else◌}
 use Rattle.step_kinds.specs.declared.lanes.Begun.TheVariants.{Ok as BegunOk, TooLong as FrameTooLong, Busy as PortBusy, NoRoom as RingFull}
-use Rattle.bridge_pair.specs.Bridge.{Bridge}
 use Rattle.frame_ring.specs.Calls.{free_seen, head_seen, index_word_seen, sizes_seen}
 use Rattle.frame_ring.specs.Port.{is_busy}
 use Rattle.plan_model.specs.Link.{is_up}

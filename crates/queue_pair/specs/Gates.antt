@@ -1,5 +1,5 @@
 -- The calls of a queue pair: link, joined queue and closed queue are tested before what the port answers.
-use Rattle.std.specs.Prelude.{ℕ, ◌||◌, Bool, true, false, not, Option, Some, None, List, length, is_some, bit_and, if◌then◌else◌}
+use Rattle.std.specs.Prelude.{ℕ, ◌||◌, Bool, true, not, Option, Some, None, List, is_some, bit_and, if◌then◌else◌}
 use Rattle.step_kinds.specs.Bits.{has_bit, without_bits}
 use Rattle.step_kinds.specs.declared.lanes.Begun.{Begun}
 use Rattle.step_kinds.specs.declared.lanes.Begun.TheVariants.{Ok as BegunOk, TooLong as FrameTooLong, Busy as PortBusy, NoRoom as RingFull}

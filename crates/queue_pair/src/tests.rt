@@ -1,16 +1,24 @@
 ghost use Rattle.std.specs.Prelude.{◌≡◌, ◌<◌, ◌≤◌, IfOk, OnOk, length, true};
 ghost use Rattle.frame_ring.specs.Seen.{FitsRings};
 ghost use Rattle.plan_model.specs.DeclaredPlans.{IsPair};
+ghost use Rattle.queue_pair.specs.Gates.{refuses_answer};
+ghost use Rattle.queue_pair.specs.Laws.{is_refusal as refusal};
 ghost use Rattle.queue_pair.specs.Needs.{HasNeeds};
+ghost use Rattle.step_kinds.specs.Limits.{IsMtu};
 
 use super::*;
-use bridge_pair::Pair;
+use crate::laws::refuses_where_begin_would;
+use bridge_pair::{Pair, memory_bytes};
 use std::alloc::{AllocError, Global};
+use std::process::Abort;
 use std::test::Fail;
-use step_kinds::{Frame, LaneCopy, Name, PairPlan, Side, SidePlan};
+use step_kinds::{Frame, Label, LaneCopy, Name, PairPlan, Side, SidePlan};
 
-// Two sides with one queue, one window of 4,096 bytes, and rings of 4 entries of at most 1,011 bytes.
-fn plan(up: bool) -> PairPlan
+// Two sides with one queue and one window of 4,096 bytes. With 1,023 bytes a slot they have rings of 4 entries of at most
+// 1,011 bytes, with 65,536 rings of 2 entries of at most 2,034.
+fn plan(up: bool, mtu: u32) -> PairPlan
+    requires mtu { IsMtu mtu }
+    requires least { 20 ≤ mtu }
     ensures { IsPair result }
 {
     let side = SidePlan {
@@ -24,7 +32,7 @@ fn plan(up: bool) -> PairPlan
         name: Name::of_bytes(&[112]),
         a: side,
         b: side,
-        mtu: 1023,
+        mtu,
         up,
         strict: false,
         raw: false,
@@ -33,20 +41,21 @@ fn plan(up: bool) -> PairPlan
     }
 }
 
-// So many bytes, all of them 7.
-fn sevens(alloc: Global, len: u32) -> Result<Frame, AllocError>
+// A frame of the bytes 1 to 5, or more, all others of which are 7.
+fn bytes(alloc: Global, len: u32) -> Result<Frame, AllocError>
     requires { len ≤ 65536 }
     ensures { IfOk result (λ frame. length frame ≡ len) }
 {
-    let mut bytes = Vec::new(alloc);
+    let mut bytes = Vec::from_array(alloc, [1, 2, 3, 4, 5])?;
     bytes.resize(len as usize, 7)?;
     Ok(Frame::of_vec(bytes))
 }
 
-// What is asked of a queue. Frames have 5 bytes, and long ones 1,012.
+// What is asked of a queue. Frames have 5 bytes, those in parts 300, and long ones 1,012.
 #[derive(Clone, Copy)]
 enum Call {
     Begin,
+    BeginParts,
     BeginLong,
     Down,
     Post,
@@ -85,36 +94,43 @@ fn look(pair: &mut Pair, queue: &mut QueuePair) -> Result<LookAnswer, AllocError
     Ok(answer)
 }
 
-fn post(pair: &mut Pair, queue: &mut QueuePair) -> bool
+fn post(pair: &mut Pair, queue: &mut QueuePair) -> Option<Label>
     requires { HasNeeds queue.old pair.old }
     ensures { HasNeeds queue.new pair.new }
 {
-    queue.post(pair).is_some()
+    queue.post(pair)
 }
 
-// The bytes of a frame that was copied whole.
-fn copy(pair: &Pair, queue: &mut QueuePair) -> u32
+fn copy(pair: &Pair, queue: &mut QueuePair) -> LaneCopy
     requires { HasNeeds queue.old pair.now }
     ensures { HasNeeds queue.new pair.now }
 {
-    match queue.copy(pair) {
-        LaneCopy::Whole { frame, .. } => frame.len(),
-        _ => 0,
+    queue.copy(pair)
+}
+
+// Of a frame that was copied whole its number, its length, its first byte and its last.
+fn copied(alloc: Global, copy: LaneCopy) -> Result<String, AllocError> {
+    match copy {
+        LaneCopy::Whole { number, frame } => {
+            let (first, last) = (frame.bytes().first(), frame.bytes().last());
+            format!(in alloc; "{} {} {:?} {:?}", number, frame.len(), first, last)
+        }
+        other => format!(in alloc; "{:?}", other),
     }
 }
 
-fn clear(pair: &mut Pair, queue: &mut QueuePair) -> bool
+fn clear(pair: &mut Pair, queue: &mut QueuePair) -> Option<u64>
     requires { HasNeeds queue.old pair.old }
     ensures { HasNeeds queue.new pair.new }
 {
-    queue.clear(pair).is_some()
+    queue.clear(pair)
 }
 
-fn ack(pair: &mut Pair, queue: &mut QueuePair) -> bool
+fn ack(pair: &mut Pair, queue: &mut QueuePair) -> Option<u64>
     requires { HasNeeds queue.old pair.old }
     ensures { HasNeeds queue.new pair.new }
 {
-    queue.ack(pair).is_some()
+    queue.ack(pair)
 }
 
 fn reset(pair: &mut Pair, queue: &mut QueuePair)
@@ -134,19 +150,16 @@ fn make(
     requires { HasNeeds queue.old pair.old }
     ensures { OnOk result (HasNeeds queue.new pair.new) }
 {
-    match call {
-        Call::Begin => {
-            let frame = sevens(alloc, 5)?;
-            format!(in alloc; "{:?}", begin(pair, queue, frame)?)
-        }
-        Call::BeginLong => {
-            let frame = sevens(alloc, 1012)?;
-            format!(in alloc; "{:?}", begin(pair, queue, frame)?)
-        }
-        Call::Down => format!(in alloc; "{:?}", qpdown(pair, queue)?),
-        Call::Look => format!(in alloc; "{:?}", look(pair, queue)?),
-        _ => make_more(alloc, pair, queue, call),
-    }
+    let len = match call {
+        Call::Begin => 5,
+        Call::BeginParts => 300,
+        Call::BeginLong => 1012,
+        Call::Down => return format!(in alloc; "{:?}", qpdown(pair, queue)?),
+        Call::Look => return format!(in alloc; "{:?}", look(pair, queue)?),
+        _ => return make_more(alloc, pair, queue, call),
+    };
+    let frame = bytes(alloc, len)?;
+    format!(in alloc; "{:?}", begin(pair, queue, frame)?)
 }
 
 // All others.
@@ -160,10 +173,10 @@ fn make_more(
     ensures { OnOk result (HasNeeds queue.new pair.new) }
 {
     match call {
-        Call::Post => format!(in alloc; "{}", post(pair, queue)),
-        Call::Copy => format!(in alloc; "{}", copy(pair, queue)),
-        Call::Clear => format!(in alloc; "{}", clear(pair, queue)),
-        Call::Ack => format!(in alloc; "{}", ack(pair, queue)),
+        Call::Post => format!(in alloc; "{:?}", post(pair, queue)),
+        Call::Copy => copied(alloc, copy(pair, queue)),
+        Call::Clear => format!(in alloc; "{:?}", clear(pair, queue)),
+        Call::Ack => format!(in alloc; "{:?}", ack(pair, queue)),
         Call::Refuses => format!(in alloc; "{}", queue.refuses(pair, 5)),
         Call::RefusesLong => format!(in alloc; "{}", queue.refuses(pair, 1012)),
         Call::Free => format!(in alloc; "{}", queue.free(pair)),
@@ -191,30 +204,65 @@ fn fresh(alloc: Global, pair: &Pair, side: Side) -> QueuePair
     QueuePair::new(alloc, pair.plan(), side, 0)
 }
 
-// Makes these calls one after another on a new queue of a side, and says whether each answers what stands beside it.
+// Makes these calls one after another on a new queue of a side, each of which is to answer what stands beside it.
 fn follow(
+    rt: &impl Abort,
     alloc: Global,
     pair: &mut Pair,
     side: Side,
     calls: &[(Call, &str)],
-) -> Result<bool, AllocError> {
-    if !fits(pair.plan()) {
-        return Ok(false);
-    }
+) -> Result<(), Fail> {
+    assert!(rt; fits(pair.plan()));
     let mut queue = fresh(alloc, pair, side);
     for (call, want) in calls {
         let answer = make(alloc, pair, &mut queue, *call)?;
-        if answer.as_str() != *want {
-            return Ok(false);
-        }
+        assert_eq!(rt; answer.as_str(), *want);
     }
-    Ok(true)
+    Ok(())
 }
 
+// So many of a side's writes land.
+fn land(pair: &mut Pair, side: Side, count: u32) {
+    for _ in 0..count {
+        let _landed = pair.land(side, 0);
+    }
+}
+
+// The four bytes at an address of a side's memory, where they lie in it.
+fn word(pair: &Pair, side: Side, at: u64) -> Option<u32> {
+    let few = memory_bytes(pair.plan(), side) < 4 || memory_bytes(pair.plan(), side) - 4 < at;
+    if few {
+        None
+    } else {
+        Some(pair.local_word(side, at))
+    }
+}
+
+// They are written there.
+fn set_word(pair: &mut Pair, side: Side, at: u64, value: u32) -> Result<(), AllocError> {
+    if 4 <= memory_bytes(pair.plan(), side) && at <= memory_bytes(pair.plan(), side) - 4 {
+        pair.promise_range(side, at, 4)?;
+        pair.set_local_word(side, at, value);
+    }
+    Ok(())
+}
+
+const CHUNK: &str = "Some(Chunk { queue: 0, number: 0, part: 0 })";
+
+const LEN: &str = "Some(Len { queue: 0, number: 0 })";
+
+const VER: &str = "Some(Ver { queue: 0, number: 0 })";
+
+const FLAG: &str = "Some(Flag { queue: 0, number: 0 })";
+
+const DOWN: &str = "Some(Down { queue: 0, number: 0 })";
+
+const BELL: &str = "Some(Bell { queue: 0 })";
+
 #[test]
-fn a_frame_and_a_link_down_entry(rt: HostRuntime) -> Result<(), Fail> {
-    let mut pair = Pair::new(rt.alloc(), &plan(true))?;
-    let sent = [
+fn a_frame_is_begun_and_posted(rt: HostRuntime) -> Result<(), Fail> {
+    let mut pair = Pair::new(rt.alloc(), &plan(true, 1023))?;
+    let calls = [
         (Call::Free, "3"),
         (Call::RefusesLong, "true"),
         (Call::BeginLong, "TooLong { len: 1012, max: 1011 }"),
@@ -223,71 +271,241 @@ fn a_frame_and_a_link_down_entry(rt: HostRuntime) -> Result<(), Fail> {
         (Call::Refuses, "true"),
         (Call::Begin, "Busy"),
         (Call::Free, "2"),
-        (Call::Post, "true"),
-        (Call::Post, "true"),
-        (Call::Post, "true"),
-        (Call::Post, "true"),
-        (Call::Post, "true"),
-        (Call::Post, "false"),
-        (Call::Down, "Ok { number: 1 }"),
+        (Call::Post, CHUNK),
+        (Call::Post, LEN),
+        (Call::Post, VER),
+        (Call::Post, FLAG),
+        (Call::Post, BELL),
+        (Call::Post, "None"),
+    ];
+    follow(&rt, rt.alloc(), &mut pair, Side::A, &calls)
+}
+// Side A sends a frame of 5 bytes.
+fn send(rt: &impl Abort, alloc: Global, pair: &mut Pair) -> Result<(), Fail> {
+    let sent = [
+        (Call::Begin, "Ok { number: 0 }"),
+        (Call::Post, CHUNK),
+        (Call::Post, LEN),
+        (Call::Post, VER),
+        (Call::Post, FLAG),
+        (Call::Post, BELL),
+    ];
+    follow(rt, alloc, pair, Side::A, &sent)
+}
+
+// The header of slot 0 and the index word that gives the entry back.
+#[test]
+fn a_frame_is_received(rt: HostRuntime) -> Result<(), Fail> {
+    let mut pair = Pair::new(rt.alloc(), &plan(true, 1023))?;
+    send(&rt, rt.alloc(), &mut pair)?;
+    land(&mut pair, Side::A, 4);
+    assert_eq!(rt; word(&pair, Side::B, 1011), Some(0));
+    assert_eq!(rt; word(&pair, Side::B, 1015), Some(5));
+    assert_eq!(rt; word(&pair, Side::B, 1019), Some(1));
+    let received = [
+        (Call::Look, "Ready { number: 0, len: 5 }"),
+        (Call::Look, "OutOfTurn"),
+        (Call::Ack, "None"),
+        (Call::Clear, "None"),
+        (Call::Copy, "0 5 Some(1) Some(5)"),
+        (Call::Copy, "OutOfTurn"),
+        (Call::Clear, "Some(0)"),
+        (Call::Clear, "None"),
+        (Call::Ack, "Some(0)"),
+        (Call::Ack, "None"),
+        (Call::Look, "Empty"),
+    ];
+    follow(&rt, rt.alloc(), &mut pair, Side::B, &received)?;
+    assert_eq!(rt; word(&pair, Side::B, 1019), Some(0));
+    assert_eq!(rt; word(&pair, Side::A, 4092), Some(3));
+    land(&mut pair, Side::B, 1);
+    assert_eq!(rt; word(&pair, Side::A, 4092), Some(0));
+    Ok(())
+}
+
+#[test]
+fn a_frame_of_three_parts(rt: HostRuntime) -> Result<(), Fail> {
+    let mut pair = Pair::new(rt.alloc(), &plan(true, 1023))?;
+    let sent = [
+        (Call::BeginParts, "Ok { number: 0 }"),
+        (Call::Post, CHUNK),
+        (Call::Post, "Some(Chunk { queue: 0, number: 0, part: 1 })"),
+        (Call::Post, "Some(Chunk { queue: 0, number: 0, part: 2 })"),
+        (Call::Post, LEN),
+        (Call::Post, VER),
+        (Call::Post, FLAG),
+    ];
+    follow(&rt, rt.alloc(), &mut pair, Side::A, &sent)?;
+    land(&mut pair, Side::A, 6);
+    let received = [
+        (Call::Look, "Ready { number: 0, len: 300 }"),
+        (Call::Copy, "Part { number: 0, part: 0 }"),
+        (Call::Copy, "Part { number: 0, part: 1 }"),
+        (Call::Copy, "0 300 Some(1) Some(7)"),
+        (Call::Clear, "Some(0)"),
+        (Call::Ack, "Some(0)"),
+    ];
+    follow(&rt, rt.alloc(), &mut pair, Side::B, &received)
+}
+
+#[test]
+fn a_link_down_entry_closes_the_queue(rt: HostRuntime) -> Result<(), Fail> {
+    let mut pair = Pair::new(rt.alloc(), &plan(true, 1023))?;
+    let sent = [
+        (Call::Down, "Ok { number: 0 }"),
         (Call::Down, "Closed"),
         (Call::Begin, "Closed"),
-        (Call::Post, "true"),
-        (Call::Post, "true"),
-        (Call::Post, "true"),
-        (Call::Post, "true"),
+        (Call::Refuses, "true"),
         (Call::Look, "Closed"),
+        (Call::Post, LEN),
+        (Call::Post, VER),
+        (Call::Post, DOWN),
+        (Call::Post, BELL),
+        (Call::Post, "None"),
         (Call::Reset, ""),
         (Call::Free, "3"),
         (Call::Begin, "Ok { number: 0 }"),
         (Call::Reset, ""),
     ];
-    assert!(rt; follow(rt.alloc(), &mut pair, Side::A, &sent)?);
-    for _ in 0..9 {
-        let _landed = pair.land(Side::A, 0);
-    }
+    follow(&rt, rt.alloc(), &mut pair, Side::A, &sent)?;
+    land(&mut pair, Side::A, 3);
     let received = [
-        (Call::Look, "Ready { number: 0, len: 5 }"),
-        (Call::Look, "OutOfTurn"),
-        (Call::Copy, "5"),
-        (Call::Clear, "true"),
-        (Call::Clear, "false"),
-        (Call::Ack, "true"),
-        (Call::Ack, "false"),
         (Call::Look, "PeerDown"),
         (Call::Look, "Closed"),
         (Call::Begin, "Closed"),
         (Call::Reset, ""),
-        (Call::Look, "Empty"),
+        (Call::Begin, "Ok { number: 0 }"),
+        (Call::Look, "PeerDown"),
     ];
-    assert!(rt; follow(rt.alloc(), &mut pair, Side::B, &received)?);
+    follow(&rt, rt.alloc(), &mut pair, Side::B, &received)?;
+    assert_eq!(rt; word(&pair, Side::B, 1019), Some(3));
+    Ok(())
+}
+
+// Rings of 2 entries, of which one stays free.
+#[test]
+fn a_ring_without_room(rt: HostRuntime) -> Result<(), Fail> {
+    let mut pair = Pair::new(rt.alloc(), &plan(true, 65536))?;
+    let sent = [
+        (Call::Free, "1"),
+        (Call::RefusesLong, "false"),
+        (Call::Begin, "Ok { number: 0 }"),
+        (Call::Post, CHUNK),
+        (Call::Post, LEN),
+        (Call::Post, VER),
+        (Call::Post, FLAG),
+        (Call::Post, BELL),
+        (Call::Free, "0"),
+        (Call::Begin, "NoRoom { head: 1, tail: 1 }"),
+        (Call::Down, "NoRoom { head: 1, tail: 1 }"),
+        (Call::Refuses, "false"),
+    ];
+    follow(&rt, rt.alloc(), &mut pair, Side::A, &sent)
+}
+
+// An index word that names no slot of the ring is no room.
+#[test]
+fn room_by_the_index_word(rt: HostRuntime) -> Result<(), Fail> {
+    let mut pair = Pair::new(rt.alloc(), &plan(true, 1023))?;
+    set_word(&mut pair, Side::A, 4092, 0)?;
+    let none = [
+        (Call::Free, "0"),
+        (Call::Begin, "NoRoom { head: 0, tail: 0 }"),
+    ];
+    follow(&rt, rt.alloc(), &mut pair, Side::A, &none)?;
+    set_word(&mut pair, Side::A, 4092, 4)?;
+    let wild = [
+        (Call::Free, "0"),
+        (Call::Begin, "NoRoom { head: 0, tail: 4 }"),
+    ];
+    follow(&rt, rt.alloc(), &mut pair, Side::A, &wild)?;
+    set_word(&mut pair, Side::A, 4092, 1)?;
+    let one = [(Call::Free, "1"), (Call::Begin, "Ok { number: 0 }")];
+    follow(&rt, rt.alloc(), &mut pair, Side::A, &one)
+}
+
+// Version, length and flags of slot 0 as anyone might have written them.
+#[test]
+fn an_entry_by_its_header(rt: HostRuntime) -> Result<(), Fail> {
+    let mut pair = Pair::new(rt.alloc(), &plan(true, 1023))?;
+    set_word(&mut pair, Side::B, 1011, 7)?;
+    set_word(&mut pair, Side::B, 1019, 1)?;
+    let other = [(Call::Look, "VerDiffers { seen: 7, own: 0 }")];
+    follow(&rt, rt.alloc(), &mut pair, Side::B, &other)?;
+    set_word(&mut pair, Side::B, 1011, 0)?;
+    set_word(&mut pair, Side::B, 1015, 1012)?;
+    let long = [(Call::Look, "Long { len: 1012, max: 1011 }")];
+    follow(&rt, rt.alloc(), &mut pair, Side::B, &long)?;
+    set_word(&mut pair, Side::B, 1015, 2)?;
+    let two = [
+        (Call::Look, "Ready { number: 0, len: 2 }"),
+        (Call::Copy, "0 2 Some(0) Some(0)"),
+    ];
+    follow(&rt, rt.alloc(), &mut pair, Side::B, &two)
+}
+
+// Whether a begin was refused for another reason than want of room.
+fn is_refusal(answer: BeginAnswer) -> bool
+    ensures { result ≡ refusal answer }
+{
+    !matches!(answer, BeginAnswer::Ok { .. } | BeginAnswer::NoRoom { .. })
+}
+
+// Whether a begin of 5 bytes is: as the queue says before.
+fn is_refused(alloc: Global, pair: &mut Pair, queue: &mut QueuePair) -> Result<bool, AllocError>
+    requires { HasNeeds queue.old pair.old }
+    ensures { IfOk result (λ refused. refused ≡ refuses_answer queue.old pair.old 5) }
+{
+    refuses_where_begin_would();
+    let frame = bytes(alloc, 5)?;
+    let answer = queue.begin(pair, frame)?;
+    Ok(is_refusal(answer))
+}
+
+// The same of a new queue of a pair that starts up or down.
+fn refused_at_once(rt: &impl Abort, alloc: Global, up: bool) -> Result<bool, Fail> {
+    let mut pair = Pair::new(alloc, &plan(up, 1023))?;
+    assert!(rt; fits(pair.plan()));
+    let mut queue = fresh(alloc, &pair, Side::A);
+    Ok(is_refused(alloc, &mut pair, &mut queue)?)
+}
+
+#[test]
+fn a_refusal_is_said_before(rt: HostRuntime) -> Result<(), Fail> {
+    assert!(rt; refused_at_once(&rt, rt.alloc(), false)?);
+    assert!(rt; !refused_at_once(&rt, rt.alloc(), true)?);
     Ok(())
 }
 
 #[test]
 fn a_link_that_is_not_up(rt: HostRuntime) -> Result<(), Fail> {
-    let mut pair = Pair::new(rt.alloc(), &plan(false))?;
+    let mut pair = Pair::new(rt.alloc(), &plan(false, 1023))?;
     let down = [
         (Call::Begin, "LinkDown"),
         (Call::Down, "LinkDown"),
         (Call::Refuses, "true"),
+        (Call::Post, "None"),
         (Call::Look, "NotReady"),
     ];
-    assert!(rt; follow(rt.alloc(), &mut pair, Side::A, &down)?);
+    follow(&rt, rt.alloc(), &mut pair, Side::A, &down)?;
     let _enabled = (pair.enable(Side::A), pair.enable(Side::B));
     assert!(rt; pair.train().is_ok());
-    let unready = [(Call::BeginLong, "NotReady"), (Call::Look, "NotReady")];
-    assert!(rt; follow(rt.alloc(), &mut pair, Side::A, &unready)?);
-    let mut pair = Pair::new(rt.alloc(), &plan(true))?;
+    let unready = [
+        (Call::BeginLong, "NotReady"),
+        (Call::Down, "NotReady"),
+        (Call::Look, "NotReady"),
+    ];
+    follow(&rt, rt.alloc(), &mut pair, Side::A, &unready)?;
+    let mut pair = Pair::new(rt.alloc(), &plan(true, 1023))?;
     assert!(rt; pair.cut().is_ok());
     let closing = [(Call::Begin, "LinkDown"), (Call::Look, "Empty")];
-    assert!(rt; follow(rt.alloc(), &mut pair, Side::A, &closing)?);
+    follow(&rt, rt.alloc(), &mut pair, Side::A, &closing)?;
     Ok(())
 }
 
 #[test]
 fn an_interrupt_takes_what_is_not_masked(rt: HostRuntime) -> Result<(), Fail> {
-    let mut pair = Pair::new(rt.alloc(), &plan(true))?;
+    let mut pair = Pair::new(rt.alloc(), &plan(true, 1023))?;
     pair.bells(Side::B).ring(0);
     pair.bells(Side::B).ring(3);
     pair.bells(Side::B).mask(8);

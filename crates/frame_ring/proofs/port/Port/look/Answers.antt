@@ -10,56 +10,33 @@ use Rattle.frame_ring.specs.Rings.{header_of}
 use Rattle.frame_ring.specs.Seen.{bytes_seen}
 use Rattle.frame_ring.proofs.Finding.{finds, flags_touch, look_touches}
 use Rattle.frame_ring.proofs.port.Port.look.Goals as goal
+use Rattle.frame_ring.proofs.port.Port.look.Goals.{In-Ready}
 
 pub find-requires-clause-fits : goal.find-requires-clause-fits
 find-requires-clause-fits c =
     let few = c.sight.ensures.few c.in-Ready.number c.in-Ready.len c.in-Ready.is in
     subst (λ (port : PortState). length port.receiving.gathered + c.in-Ready.len ≤ most_frame_bytes) c.self.view_is few
 
-pub returns-in_err-find-in-Ready-clause-pages : goal.returns-in_err-find-in-Ready-clause-pages
-returns-in_err-find-in-Ready-clause-pages c =
+-- what the header says is an entry
+found : (c : In-Ready) → FindsEntry c.args.self.now c.args.pair.now
+found c =
     let port = port_seen c.self.inside in
     let bridge = c.args.pair.now in
     let idle : is_idle port.receiving.phase ≡ true = ap is_idle (sym c.phase.ensures ∙ c.in-Idle.is) in
     let header : header_of c.header-header.result ≡ header_in port.plan (bytes_seen bridge) port.side port.queue port.receiving.got =
     c.header-header.ensures ∙ ap (header_in port.plan (bytes_seen bridge) port.side port.queue) c.got.ensures.value in
-    let found = ap (found_with (sizes_in port.plan (layout_to port.plan port.side port.queue)) port.receiving.got (length port.receiving.gathered)) header in
-    let at : FindsEntry port bridge = finds port bridge _ c.in-Ready.number c.in-Ready.len idle found c.in-Ready.ensures.value in
-    let finds_now : FindsEntry c.args.self.now bridge = subst (λ (port : PortState). FindsEntry port bridge) c.self.view_is at in
-    look_touches c.args.self.now bridge _ _ finds_now c.find.ensures.pages
+    let by_header = ap (found_with (sizes_in port.plan (layout_to port.plan port.side port.queue)) port.receiving.got (length port.receiving.gathered)) header in
+    let at : FindsEntry port bridge = finds port bridge _ c.in-Ready.number c.in-Ready.len idle by_header c.in-Ready.ensures.value in
+    subst (λ (port : PortState). FindsEntry port bridge) c.self.view_is at
+
+pub returns-in_err-find-in-Ready-clause-pages : goal.returns-in_err-find-in-Ready-clause-pages
+returns-in_err-find-in-Ready-clause-pages c = look_touches c.args.self.now c.args.pair.now _ _ (found (goal.at.returns-in_err-find-in-Ready-clause-pages c).In-Ready) c.find.ensures.pages
 
 pub returns-in_err-find-in-Ready-clause-flags : goal.returns-in_err-find-in-Ready-clause-flags
-returns-in_err-find-in-Ready-clause-flags c =
-    let port = port_seen c.self.inside in
-    let bridge = c.args.pair.now in
-    let idle : is_idle port.receiving.phase ≡ true = ap is_idle (sym c.phase.ensures ∙ c.in-Idle.is) in
-    let header : header_of c.header-header.result ≡ header_in port.plan (bytes_seen bridge) port.side port.queue port.receiving.got =
-    c.header-header.ensures ∙ ap (header_in port.plan (bytes_seen bridge) port.side port.queue) c.got.ensures.value in
-    let found = ap (found_with (sizes_in port.plan (layout_to port.plan port.side port.queue)) port.receiving.got (length port.receiving.gathered)) header in
-    let at : FindsEntry port bridge = finds port bridge _ c.in-Ready.number c.in-Ready.len idle found c.in-Ready.ensures.value in
-    let finds_now : FindsEntry c.args.self.now bridge = subst (λ (port : PortState). FindsEntry port bridge) c.self.view_is at in
-    flags_touch c.args.self.now bridge _ _ finds_now c.find.ensures.flags
+returns-in_err-find-in-Ready-clause-flags c = flags_touch c.args.self.now c.args.pair.now _ _ (found (goal.at.returns-in_err-find-in-Ready-clause-flags c).In-Ready) c.find.ensures.flags
 
 pub returns-in_ok-find-in-Ready-clause-pages : goal.returns-in_ok-find-in-Ready-clause-pages
-returns-in_ok-find-in-Ready-clause-pages c =
-    let port = port_seen c.self.inside in
-    let bridge = c.args.pair.now in
-    let idle : is_idle port.receiving.phase ≡ true = ap is_idle (sym c.phase.ensures ∙ c.in-Idle.is) in
-    let header : header_of c.header-header.result ≡ header_in port.plan (bytes_seen bridge) port.side port.queue port.receiving.got =
-    c.header-header.ensures ∙ ap (header_in port.plan (bytes_seen bridge) port.side port.queue) c.got.ensures.value in
-    let found = ap (found_with (sizes_in port.plan (layout_to port.plan port.side port.queue)) port.receiving.got (length port.receiving.gathered)) header in
-    let at : FindsEntry port bridge = finds port bridge _ c.in-Ready.number c.in-Ready.len idle found c.in-Ready.ensures.value in
-    let finds_now : FindsEntry c.args.self.now bridge = subst (λ (port : PortState). FindsEntry port bridge) c.self.view_is at in
-    look_touches c.args.self.now bridge _ _ finds_now c.find.ensures.pages
+returns-in_ok-find-in-Ready-clause-pages c = look_touches c.args.self.now c.args.pair.now _ _ (found (goal.at.returns-in_ok-find-in-Ready-clause-pages c).In-Ready) c.find.ensures.pages
 
 pub returns-in_ok-find-in-Ready-clause-flags : goal.returns-in_ok-find-in-Ready-clause-flags
-returns-in_ok-find-in-Ready-clause-flags c =
-    let port = port_seen c.self.inside in
-    let bridge = c.args.pair.now in
-    let idle : is_idle port.receiving.phase ≡ true = ap is_idle (sym c.phase.ensures ∙ c.in-Idle.is) in
-    let header : header_of c.header-header.result ≡ header_in port.plan (bytes_seen bridge) port.side port.queue port.receiving.got =
-    c.header-header.ensures ∙ ap (header_in port.plan (bytes_seen bridge) port.side port.queue) c.got.ensures.value in
-    let found = ap (found_with (sizes_in port.plan (layout_to port.plan port.side port.queue)) port.receiving.got (length port.receiving.gathered)) header in
-    let at : FindsEntry port bridge = finds port bridge _ c.in-Ready.number c.in-Ready.len idle found c.in-Ready.ensures.value in
-    let finds_now : FindsEntry c.args.self.now bridge = subst (λ (port : PortState). FindsEntry port bridge) c.self.view_is at in
-    flags_touch c.args.self.now bridge _ _ finds_now c.find.ensures.flags
+returns-in_ok-find-in-Ready-clause-flags c = flags_touch c.args.self.now c.args.pair.now _ _ (found (goal.at.returns-in_ok-find-in-Ready-clause-flags c).In-Ready) c.find.ensures.flags

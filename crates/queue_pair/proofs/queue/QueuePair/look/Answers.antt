@@ -1,6 +1,6 @@
 -- What a look leaves of the queue.
 use Rattle.std.proofs.Common.{rules, ◌≡◌, ◌∙◌, sym}
-use Rattle.queue_pair.proofs.LookAnswers.{looked, looked_else, looked_is}
+use Rattle.queue_pair.proofs.LookAnswers.{looked_else, looked_is}
 use Rattle.queue_pair.specs.Queue.{with_port}
 use Rattle.queue_pair.proofs.queue.QueuePair.look.Goals as goal
 use Rattle.queue_pair.proofs.queue.QueuePair.look.Goals.{in-PeerDown, in_default}
