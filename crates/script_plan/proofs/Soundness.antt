@@ -11,7 +11,7 @@ use Rattle.step_kinds.specs.declared.plan.DevPlan.{DevPlan}
 use Rattle.step_kinds.specs.declared.plan.Line.{Line}
 use Rattle.step_kinds.specs.declared.plan.Plan.{Plan}
 use Rattle.step_kinds.specs.declared.steps.Step.{Step}
-use Rattle.plan_model.specs.DeclaredPlans.{IsPair, IsDevice, IsQueueOf, AreClasses, Agree}
+use Rattle.plan_model.specs.DeclaredPlans.{IsPair, IsDevice, IsQueueOf, AreClasses}
 use Rattle.plan_model.specs.Plans.{side_plan, pair_plan, no_pair}
 use Rattle.script_words.specs.Before.{Before, with_class}
 use Rattle.script_words.specs.Compact.{lines_with}
@@ -68,33 +68,28 @@ classes_set (x ∷ classes) zero class (suc k) h small = h (suc k)
 classes_set (x ∷ classes) (suc queue) class zero h small = h 0
 classes_set (x ∷ classes) (suc queue) class (suc k) h small = classes_set classes queue class k (λ j. h (suc j)) small
 
-agree_classed : (pair : PairPlan) (side : Side) (queue class : ℕ) → Agree pair → Agree (with_class pair side queue class)
-agree_classed pair A queue class h = record { versions = h.versions; queues = h.queues; windows = h.windows; sizes = h.sizes }
-agree_classed pair B queue class h = record { versions = h.versions; queues = h.queues; windows = h.windows; sizes = h.sizes }
+-- a pair with other classes
+abbrev with_classes : PairPlan → List ℕ → List ℕ → PairPlan
+with_classes pair a b = record pair { class_a = a; class_b = b }
+
+classes_fit : (pair : PairPlan) (a b : List ℕ) → IsPair pair → AreClasses a → AreClasses b → IsPair (with_classes pair a b)
+classes_fit pair a b h are_a are_b = record {
+  side_a = h.side_a;
+  side_b = h.side_b;
+  known_transport = h.known_transport;
+  mtu = h.mtu;
+  long_header = h.long_header;
+  classes_a = are_a;
+  classes_b = are_b;
+  up = λ t. let agree = h.up t in record { versions = agree.versions; queues = agree.queues; windows = agree.windows; sizes = agree.sizes };
+  raw = h.raw;
+}
 
 pub class_fits : (pair : PairPlan) (side : Side) (queue class : ℕ) → IsPair pair → IsClass class → IsPair (with_class pair side queue class)
-class_fits pair A queue class h small = record {
-  side_a = h.side_a;
-  side_b = h.side_b;
-  known_transport = h.known_transport;
-  mtu = h.mtu;
-  long_header = h.long_header;
-  classes_a = λ k. classes_set pair.class_a queue class k h.classes_a small;
-  classes_b = h.classes_b;
-  up = λ t. agree_classed pair A queue class (h.up t);
-  raw = h.raw;
-}
-class_fits pair B queue class h small = record {
-  side_a = h.side_a;
-  side_b = h.side_b;
-  known_transport = h.known_transport;
-  mtu = h.mtu;
-  long_header = h.long_header;
-  classes_a = h.classes_a;
-  classes_b = λ k. classes_set pair.class_b queue class k h.classes_b small;
-  up = λ t. agree_classed pair B queue class (h.up t);
-  raw = h.raw;
-}
+class_fits pair A queue class h small =
+    classes_fit pair (slice_set pair.class_a queue class) pair.class_b h (λ k. classes_set pair.class_a queue class k h.classes_a small) h.classes_b
+class_fits pair B queue class h small =
+    classes_fit pair pair.class_a (slice_set pair.class_b queue class) h h.classes_a (λ k. classes_set pair.class_b queue class k h.classes_b small)
 
 -- a class leaves the sides of a pair
 sides_stay : (pair : PairPlan) (side own : Side) (queue class : ℕ) → side_plan (with_class pair side queue class) own ≡ side_plan pair own

@@ -5,20 +5,18 @@ use Rattle.script_words.specs.StepLines.{step_line}
 use Rattle.script_words.specs.TrafficLines.{traffic_line}
 use Rattle.script_words.specs.declared.fault.Cause.TheVariants.{UnknownWord}
 
+-- what is so of six words and more is so of words that are at least six
+of_six : (P : List (List ℕ) → Type 0) → ((a b c d e f : List ℕ) (words : List (List ℕ)) → P (a ∷ b ∷ c ∷ d ∷ e ∷ f ∷ words)) → (words : List (List ℕ)) → 6 ≤ length words → P words
+of_six P more [] h = absurd (omega arith)
+of_six P more (a ∷ []) h = absurd (omega arith)
+of_six P more (a ∷ b ∷ []) h = absurd (omega arith)
+of_six P more (a ∷ b ∷ c ∷ []) h = absurd (omega arith)
+of_six P more (a ∷ b ∷ c ∷ d ∷ []) h = absurd (omega arith)
+of_six P more (a ∷ b ∷ c ∷ d ∷ e ∷ []) h = absurd (omega arith)
+of_six P more (a ∷ b ∷ c ∷ d ∷ e ∷ f ∷ words) h = more a b c d e f words
+
 pub step_line_long : (before : Before) (word : List ℕ) (words : List (List ℕ)) → 6 ≤ length words → step_line before word words ≡ Err UnknownWord
-step_line_long before word [] h = absurd (omega arith)
-step_line_long before word (a ∷ []) h = absurd (omega arith)
-step_line_long before word (a ∷ b ∷ []) h = absurd (omega arith)
-step_line_long before word (a ∷ b ∷ c ∷ []) h = absurd (omega arith)
-step_line_long before word (a ∷ b ∷ c ∷ d ∷ []) h = absurd (omega arith)
-step_line_long before word (a ∷ b ∷ c ∷ d ∷ e ∷ []) h = absurd (omega arith)
-step_line_long before word (a ∷ b ∷ c ∷ d ∷ e ∷ f ∷ words) h = refl
+step_line_long before word = of_six (λ words. step_line before word words ≡ Err UnknownWord) (λ a b c d e f words. refl)
 
 pub traffic_line_long : (before : Before) (word : List ℕ) (words : List (List ℕ)) → 6 ≤ length words → traffic_line before word words ≡ Err UnknownWord
-traffic_line_long before word [] h = absurd (omega arith)
-traffic_line_long before word (a ∷ []) h = absurd (omega arith)
-traffic_line_long before word (a ∷ b ∷ []) h = absurd (omega arith)
-traffic_line_long before word (a ∷ b ∷ c ∷ []) h = absurd (omega arith)
-traffic_line_long before word (a ∷ b ∷ c ∷ d ∷ []) h = absurd (omega arith)
-traffic_line_long before word (a ∷ b ∷ c ∷ d ∷ e ∷ []) h = absurd (omega arith)
-traffic_line_long before word (a ∷ b ∷ c ∷ d ∷ e ∷ f ∷ words) h = refl
+traffic_line_long before word = of_six (λ words. traffic_line before word words ≡ Err UnknownWord) (λ a b c d e f words. refl)

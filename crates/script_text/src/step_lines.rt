@@ -214,18 +214,12 @@ fn poke_line(
 }
 
 /// The steps of a frame.
-fn frame_steps(
-    word: FrameWord,
-    plan: &PairPlan,
-    pair: u32,
-    side: Side,
-    queue: u32,
-    frame: Frame,
-) -> Macro
+fn frame_steps(word: FrameWord, plan: &PairPlan, name: QueueName, frame: Frame) -> Macro
     requires declared { IsPair plan.now }
-    requires among { queue < (side_plan plan.now side).queues }
-    ensures { steps_of result ≡ frame_steps_of word plan.now pair side queue frame }
+    requires among { name.queue < (side_plan plan.now name.side).queues }
+    ensures { steps_of result ≡ frame_steps_of word plan.now name.pair name.side name.queue frame }
 {
+    let QueueName { pair, side, queue } = name;
     let len = frame.len();
     let begin = Step::Begin {
         pair,
@@ -253,13 +247,13 @@ fn frame_line(
 ) -> Result<Given, LineError>
     ensures { Reads (result_map given_of result) (rules.frame_line before.now (frame_steps_of word) on.entry.pair.now on.entry.side.now on.entry.queue.now frame.now) }
 {
-    let QueueName { pair, side, queue } = read_queue_name(before, on)?;
+    let name = read_queue_name(before, on)?;
     let bytes = read_bytes(alloc, frame)?;
     if bytes.len() > MOST_FRAME_BYTES as usize {
         return Err(LineError::Fault(Cause::TooMany));
     }
     let frame = Frame::of_vec(bytes.into_vec());
-    let steps = frame_steps(word, before.pair(pair), pair, side, queue, frame);
+    let steps = frame_steps(word, before.pair(name.pair), name, frame);
     Ok(steps_within(before, steps)?)
 }
 

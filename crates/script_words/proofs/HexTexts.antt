@@ -26,46 +26,42 @@ small_past c h =
 
 -- A digit in small letters is the digit of its value
 
-letter_digit : (d : ℕ) → d < 6 → 97 + d ≡ slice_index lower_digits (10 + d)
-letter_digit zero h = refl
-letter_digit (suc zero) h = refl
-letter_digit (suc (suc zero)) h = refl
-letter_digit (suc (suc (suc zero))) h = refl
-letter_digit (suc (suc (suc (suc zero)))) h = refl
-letter_digit (suc (suc (suc (suc (suc zero))))) h = refl
-letter_digit (suc (suc (suc (suc (suc (suc d)))))) h = absurd (omega arith)
-
-decimal_digit : (d : ℕ) → d < 10 → to_ascii_lowercase (48 + d) ≡ slice_index lower_digits d
-decimal_digit zero h = refl
-decimal_digit (suc zero) h = refl
-decimal_digit (suc (suc zero)) h = refl
-decimal_digit (suc (suc (suc zero))) h = refl
-decimal_digit (suc (suc (suc (suc zero)))) h = refl
-decimal_digit (suc (suc (suc (suc (suc zero))))) h = refl
-decimal_digit (suc (suc (suc (suc (suc (suc zero)))))) h = refl
-decimal_digit (suc (suc (suc (suc (suc (suc (suc zero))))))) h = refl
-decimal_digit (suc (suc (suc (suc (suc (suc (suc (suc zero)))))))) h = refl
-decimal_digit (suc (suc (suc (suc (suc (suc (suc (suc (suc zero))))))))) h = refl
-decimal_digit (suc (suc (suc (suc (suc (suc (suc (suc (suc (suc d)))))))))) h = absurd (omega arith)
+digit_text : (v : ℕ) → v < 16 → slice_index lower_digits v ≡ cond (nat_lt v 10) (48 + v) (87 + v)
+digit_text zero h = refl
+digit_text (suc zero) h = refl
+digit_text (suc (suc zero)) h = refl
+digit_text (suc (suc (suc zero))) h = refl
+digit_text (suc (suc (suc (suc zero)))) h = refl
+digit_text (suc (suc (suc (suc (suc zero))))) h = refl
+digit_text (suc (suc (suc (suc (suc (suc zero)))))) h = refl
+digit_text (suc (suc (suc (suc (suc (suc (suc zero))))))) h = refl
+digit_text (suc (suc (suc (suc (suc (suc (suc (suc zero)))))))) h = refl
+digit_text (suc (suc (suc (suc (suc (suc (suc (suc (suc zero))))))))) h = refl
+digit_text (suc (suc (suc (suc (suc (suc (suc (suc (suc (suc zero)))))))))) h = refl
+digit_text (suc (suc (suc (suc (suc (suc (suc (suc (suc (suc (suc zero))))))))))) h = refl
+digit_text (suc (suc (suc (suc (suc (suc (suc (suc (suc (suc (suc (suc zero)))))))))))) h = refl
+digit_text (suc (suc (suc (suc (suc (suc (suc (suc (suc (suc (suc (suc (suc zero))))))))))))) h = refl
+digit_text (suc (suc (suc (suc (suc (suc (suc (suc (suc (suc (suc (suc (suc (suc zero)))))))))))))) h = refl
+digit_text (suc (suc (suc (suc (suc (suc (suc (suc (suc (suc (suc (suc (suc (suc (suc zero))))))))))))))) h = refl
+digit_text (suc (suc (suc (suc (suc (suc (suc (suc (suc (suc (suc (suc (suc (suc (suc (suc v)))))))))))))))) h = absurd (omega arith)
 
 abbrev IsDigitOf : ℕ → ℕ → Type 0
 IsDigitOf c v = (v < 16) × (to_ascii_lowercase c ≡ slice_index lower_digits v)
 
-at_letter : (c v : ℕ) → to_ascii_lowercase c ≡ 97 + (v - 10) → 10 ≤ v → v < 16 → IsDigitOf c v
-at_letter c v e low high =
-    let value : 10 + (v - 10) ≡ v = omega arith in
-    (high, e ∙ (letter_digit (v - 10) (omega arith) ∙ ap (slice_index lower_digits) value))
+at_letter : (c v : ℕ) → to_ascii_lowercase c ≡ 87 + v → 10 ≤ v → v < 16 → IsDigitOf c v
+at_letter c v e low high = (high, e ∙ sym (digit_text v high ∙ cond-false (nat_lt v 10) (48 + v) (87 + v) (le-ltb v 10 low)))
 
 at_upper : (c v : ℕ) → 65 ≤ c → c ≤ 70 → c - 55 ≡ v → IsDigitOf c v
-at_upper c v low high e = let here : c + 32 ≡ 97 + (v - 10) = omega arith in at_letter c v (small_of_capital c low (omega arith) ∙ here) (omega arith) (omega arith)
+at_upper c v low high e = let here : c + 32 ≡ 87 + v = omega arith in at_letter c v (small_of_capital c low (omega arith) ∙ here) (omega arith) (omega arith)
 
 at_small : (c v : ℕ) → 97 ≤ c → c ≤ 102 → c - 87 ≡ v → IsDigitOf c v
-at_small c v low high e = let here : c ≡ 97 + (v - 10) = omega arith in at_letter c v (small_past c (omega arith) ∙ here) (omega arith) (omega arith)
+at_small c v low high e = let here : c ≡ 87 + v = omega arith in at_letter c v (small_past c (omega arith) ∙ here) (omega arith) (omega arith)
 
 at_decimal : (c v : ℕ) → 48 ≤ c → c ≤ 57 → c - 48 ≡ v → IsDigitOf c v
 at_decimal c v low high e =
-    let here : 48 + (c - 48) ≡ c = omega arith in
-    (omega arith, ap to_ascii_lowercase (sym here) ∙ (decimal_digit (c - 48) (omega arith) ∙ ap (slice_index lower_digits) e))
+    let here : c ≡ 48 + v = omega arith in
+    let few : v < 16 = omega arith in
+    (few, small_below c (omega arith) ∙ (here ∙ sym (digit_text v few ∙ cond-true (nat_lt v 10) (48 + v) (87 + v) (lt-ltb v 10 (omega arith)))))
 
 in_range : (least c most : ℕ) → (nat_le least c && nat_le c most) ≡ true → (least ≤ c) × (c ≤ most)
 in_range least c most e = let both = and_parts (nat_le least c) (nat_le c most) e in (leb-true least c both.0, leb-true c most both.1)
