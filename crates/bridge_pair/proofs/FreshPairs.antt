@@ -1,5 +1,5 @@
 -- Fresh pairs.
-use Rattle.std.proofs.Common.{◌≡◌, ℕ, ◌<◌, ◌^◌, Bool, true, false, List, [], Contains, replicate, sym, ap, ◌∙◌, subst, arith, ⊎_elim, if◌then◌else◌}
+use Rattle.std.proofs.Common.{◌≡◌, ℕ, ◌<◌, ◌^◌, Bool, true, false, List, [], Contains, replicate, refl, sym, ap, ◌∙◌, subst, arith, ⊎_elim, if◌then◌else◌}
 use Rattle.std.proofs.lemmas.Nat.{pow_pos}
 use Rattle.byte_model.specs.Stores.{Store}
 use Rattle.host_memory.specs.Memory.{Contents}
@@ -13,6 +13,7 @@ use Rattle.bridge_pair.specs.Ends.{bytes_after}
 use Rattle.bridge_pair.specs.Fresh.{fresh_book, fresh_stores, fresh_bridge, fresh_bridge_with, started_memory, whole_book, zero_memory}
 use Rattle.bridge_pair.specs.Links.{no_book}
 use Rattle.bridge_pair.specs.Pages.{PagesGrow}
+use Rattle.bridge_pair.proofs.Sides.{pages_of-with_bytes}
 use Rattle.bridge_pair.specs.Words.{AreFreshPages, AreIndexWordsPromised, TouchesIndexWord}
 
 -- a fresh book fits its plan
@@ -25,32 +26,25 @@ fresh_is_book plan side = by_up plan.up where
   by_up true = record { ready = omega (arith, some); joined = omega (arith, some); offered = omega arith }
   by_up false = record { ready = some; joined = some; offered = omega arith }
 
+-- index words are set
+abbrev with_words : Bridge → Side → Bridge
+with_words bridge side = with_bytes bridge side (bytes_after (fresh_index_words bridge.plan side) (bytes_of bridge side))
+
+promised_first : (old : Bridge) (side : Side) (pages : List ℕ) → with_words (with_pages old side pages) side ≡ with_memory old side (started_memory old side pages)
+promised_first old A pages = refl
+promised_first old B pages = refl
+
 -- promised and then stored
-pub then_started : (old now new : Bridge) (side : Side) → now ≡ with_pages old side (pages_of now side)
-    → new ≡ with_bytes now side (bytes_after (fresh_index_words now.plan side) (bytes_of now side))
+pub then_started : (old now new : Bridge) (side : Side) → now ≡ with_pages old side (pages_of now side) → new ≡ with_words now side
     → (new ≡ with_memory old side (started_memory old side (pages_of new side))) × (pages_of new side ≡ pages_of now side)
-then_started old now new A promised stored = at_a where
-  pages : pages_of new A ≡ pages_of now A
-  pages = ap (λ (bridge : Bridge). pages_of bridge A) stored
-
-  at_a : (new ≡ with_memory old A (started_memory old A (pages_of new A))) × (pages_of new A ≡ pages_of now A)
-  at_a = (
-    stored
-        ∙ ap (λ (bridge : Bridge). with_bytes bridge A (bytes_after (fresh_index_words bridge.plan A) (bytes_of bridge A))) promised
-        ∙ ap (λ promised. with_memory old A (started_memory old A promised)) (sym pages),
-    pages,
-  )
-then_started old now new B promised stored = at_b where
-  pages : pages_of new B ≡ pages_of now B
-  pages = ap (λ (bridge : Bridge). pages_of bridge B) stored
-
-  at_b : (new ≡ with_memory old B (started_memory old B (pages_of new B))) × (pages_of new B ≡ pages_of now B)
-  at_b = (
-    stored
-        ∙ ap (λ (bridge : Bridge). with_bytes bridge B (bytes_after (fresh_index_words bridge.plan B) (bytes_of bridge B))) promised
-        ∙ ap (λ promised. with_memory old B (started_memory old B promised)) (sym pages),
-    pages,
-  )
+then_started old now new side promised stored =
+    let pages : pages_of new side ≡ pages_of now side = ap (λ (bridge : Bridge). pages_of bridge side) stored ∙ pages_of-with_bytes now side _ in (
+      stored
+          ∙ ap (λ (bridge : Bridge). with_words bridge side) promised
+          ∙ promised_first old side (pages_of now side)
+          ∙ ap (λ promised. with_memory old side (started_memory old side promised)) (sym pages),
+      pages,
+    )
 
 stores_up : (plan : PairPlan) (side : Side) → plan.up ≡ true → fresh_stores plan side ≡ fresh_index_words plan side
 stores_up plan side up = ap (λ b. if b then fresh_index_words plan side else []) up

@@ -1,9 +1,15 @@
 ghost use Rattle.std.specs.Prelude.{◌≡◌, ◌+◌, ◌<◌, ◌≤◌, IfSome, length};
-ghost use Rattle.bridge_pair.specs.Bridge.{bytes_of};
+ghost use Rattle.bridge_pair.specs.Bridge.{bytes_of, flight_of, pages_of};
+ghost use Rattle.bridge_pair.specs.Laws.{KeepsPromises};
 ghost use Rattle.plan_model.specs.DeclaredPlans.{IsPair};
 ghost use Rattle.plan_model.specs.Plans.{side_plan as side_plan_of};
+ghost use Rattle.step_kinds.specs.declared.names.Side.TheVariants.{A, B};
 
 use super::*;
+use crate::laws::{
+    landing_keeps_promises, link_steps_keep_promises, own_writes_keep_promises,
+    posting_uses_one_promise,
+};
 use std::alloc::{AllocError, Global};
 use std::process::Abort;
 use std::test::Fail;
@@ -13,7 +19,10 @@ use step_kinds::{Label, Name, PairPlan, Side, SidePlan};
 fn plan(up: bool, strict: bool, queues: u32) -> PairPlan
     requires some { 1 ≤ queues }
     requires few { queues ≤ 2 }
-    ensures { IsPair result }
+    ensures pair { IsPair result }
+    ensures queues { result.a.queues ≡ queues }
+    ensures size { result.b.size ≡ 4096 }
+    ensures cap { result.a.cap ≡ 4096 }
 {
     let side = SidePlan {
         version: 4,
@@ -47,6 +56,15 @@ fn address(pair: &Pair, side: Side, offset: u64, len: u64) -> Option<u64>
         return None;
     }
     Some(own_address(pair.plan(), side, 0, offset))
+}
+
+// The bytes that stand at four places of a side's memory, where they lie in it.
+fn bytes_at(pair: &Pair, side: Side, offset: u64) -> [u8; 4] {
+    let mut bytes = [77; 4];
+    if let Some(at) = address(pair, side, offset, 4) {
+        pair.local_read(side, at, &mut bytes);
+    }
+    bytes
 }
 
 // The word of a side's memory, where it lies in it.
@@ -142,17 +160,17 @@ fn bits(alloc: Global, pair: &mut Pair, side: Side) -> Result<String, AllocError
 }
 
 fn step_link(alloc: Global, pair: &mut Pair, call: &Call) -> Result<String, AllocError> {
-    let done = match call {
-        Call::Cut => pair.cut().is_ok(),
-        Call::Drop => pair.drop_done().is_ok(),
-        Call::Clean(side) => pair.clean(*side).is_ok(),
-        Call::Enable(side) => pair.enable(*side).is_ok(),
-        Call::Train => pair.train().is_ok(),
+    let refusal = match call {
+        Call::Cut => pair.cut().err(),
+        Call::Drop => pair.drop_done().err(),
+        Call::Clean(side) => pair.clean(*side).err(),
+        Call::Enable(side) => pair.enable(*side).err(),
+        Call::Train => pair.train().err(),
         _ => return read(alloc, pair, call),
     };
     format!(in alloc;
-        "{} {:?} {}",
-        done,
+        "{:?} {:?} {}",
+        refusal,
         pair.link().state(),
         pair.link().session()
     )
@@ -292,17 +310,20 @@ fn a_link_that_is_lost(rt: HostRuntime) -> Result<(), Fail> {
         (Call::Mask(Side::B, 6), "0"),
         (Call::Pad(Side::A, 77), "1"),
         (Call::Bell(Side::A), "2"),
-        (Call::Cut, "true Closing 1"),
+        (Call::Drop, "Some(NotClosing) Up 1"),
+        (Call::Cut, "None Closing 1"),
+        (Call::Cut, "Some(NotUp) Closing 1"),
+        (Call::Clean(Side::B), "Some(NotDown) Closing 1"),
         (Call::Pad(Side::A, 88), "2"),
         (
             Call::Land(Side::A, 0),
             "Landed(Pad { index: 12, value: 77 })",
         ),
         (Call::PadAt(Side::B, 12), "77"),
-        (Call::Drop, "true Down 1"),
+        (Call::Drop, "None Down 1"),
         (Call::Land(Side::A, 0), "Nothing"),
-        (Call::Enable(Side::B), "false Down 1"),
-        (Call::Clean(Side::B), "true Down 1"),
+        (Call::Enable(Side::B), "Some(Dirty) Down 1"),
+        (Call::Clean(Side::B), "None Down 1"),
         (Call::PadAt(Side::B, 12), "0"),
         (Call::Bits(Side::B), "0 6"),
         (Call::Word(Side::B, 8), "9"),
@@ -310,10 +331,132 @@ fn a_link_that_is_lost(rt: HostRuntime) -> Result<(), Fail> {
             Call::Book(Side::B),
             "SideBook { up: false, ready: 0, joined: 0, offered: 0 }",
         ),
-        (Call::Clean(Side::A), "true Down 1"),
-        (Call::Enable(Side::A), "true Down 1"),
-        (Call::Enable(Side::B), "true Down 1"),
-        (Call::Train, "true Up 2"),
+        (Call::Clean(Side::A), "None Down 1"),
+        (Call::Enable(Side::A), "None Down 1"),
+        (Call::Train, "Some(NotEnabled) Down 1"),
+        (Call::Enable(Side::B), "None Down 1"),
+        (Call::Train, "None Up 2"),
     ];
     follow(&rt, rt.alloc(), &plan(true, true, 1), &calls)
+}
+
+// The index word as it stands in memory, zeroed by hand, and fresh again.
+fn index_words(alloc: Global) -> Result<[[u8; 4]; 3], AllocError> {
+    let mut pair = Pair::new(alloc, &plan(true, true, 1))?;
+    let first = bytes_at(&pair, Side::A, 4092);
+    if let Some(at) = address(&pair, Side::A, 4092, 4) {
+        pair.promise_range(Side::A, at, 4)?;
+        pair.set_local_word(Side::A, at, 0x0403_0201);
+    }
+    let changed = bytes_at(&pair, Side::A, 4092);
+    let own = side_plan(pair.plan(), Side::A);
+    if side_plan(pair.plan(), Side::B).size <= own.cap {
+        pair.promise_index_words(Side::A)?;
+        pair.set_index_words(Side::A);
+    }
+    Ok([first, changed, bytes_at(&pair, Side::A, 4092)])
+}
+
+#[test]
+fn an_index_word_in_bytes(rt: HostRuntime) -> Result<(), Fail> {
+    let [first, changed, fresh] = index_words(rt.alloc())?;
+    assert_eq!(rt; first, [3, 0, 0, 0]);
+    assert_eq!(rt; changed, [1, 2, 3, 4]);
+    assert_eq!(rt; fresh, [3, 0, 0, 0]);
+    Ok(())
+}
+
+#[test]
+fn a_book_is_replaced(rt: HostRuntime) -> Result<(), Fail> {
+    let mut pair = Pair::new(rt.alloc(), &plan(true, true, 1))?;
+    pair.set_book(Side::A, SideBook::none());
+    assert_eq!(rt; pair.book(Side::A), SideBook::none());
+    assert!(rt; pair.book(Side::B).up);
+    Ok(())
+}
+
+// How many entries the rings of side A's queue have, that which it sends to and that which it receives in, and the address
+// of its index word.
+fn rings(plan: &PairPlan, queue: u32) -> (u32, u32, u64)
+    requires pair { IsPair plan.now }
+    requires among { queue < plan.now.a.queues }
+    requires fits { plan.now.b.size ≤ plan.now.a.cap }
+{
+    (
+        sending_ring(plan, Side::A, queue).entries(),
+        receiving_ring(plan, Side::A, queue).entries(),
+        index_word_at(plan, Side::A, queue),
+    )
+}
+
+#[test]
+fn rings_of_four_entries_and_of_two(rt: HostRuntime) -> Result<(), Fail> {
+    assert_eq!(rt; rings(&plan(true, true, 1), 0), (4, 4, 4092));
+    assert_eq!(rt; rings(&plan(true, true, 2), 0), (2, 2, 2044));
+    assert_eq!(rt; rings(&plan(true, true, 2), 1), (2, 2, 4092));
+    Ok(())
+}
+
+#[test]
+fn numbers_of_a_plan(rt: HostRuntime) -> Result<(), Fail> {
+    let plan = copy_of(&plan(true, true, 2));
+    assert_eq!(rt; memory_bytes(&plan, Side::A), 4096);
+    assert_eq!(rt; header_bytes(&plan), 12);
+    assert_eq!(rt; high_half(4_294_967_301), 1);
+    assert_eq!(rt; low_half(4_294_967_301), 5);
+    Ok(())
+}
+
+#[test]
+fn what_a_write_is_called(rt: HostRuntime) -> Result<(), Fail> {
+    let flag = Label::Flag {
+        queue: 0,
+        number: 6,
+    };
+    let pad = Label::Pad {
+        index: 5,
+        value: 4096,
+    };
+    assert_eq!(rt; Write::memory(flag, 0, 1019, &[1, 0, 0, 0]).label(), flag);
+    assert_eq!(rt; Write::pad(5, 4096).label(), pad);
+    assert_eq!(rt; Write::bell(3).label(), Label::Bell { queue: 3 });
+    Ok(())
+}
+
+#[test]
+fn bytes_of_a_write(rt: HostRuntime) {
+    let bytes = WriteBytes::of_slice(&[1, 2, 3]);
+    assert_eq!(rt; bytes.as_slice(), [1, 2, 3].as_slice());
+}
+
+// A doorbell is rung that was promised, and lands.
+fn ring_and_land(pair: &mut Pair)
+    requires { 0 < (flight_of pair.old A).spare }
+    ensures { pages_of pair.new B ≡ pages_of pair.old B }
+{
+    posting_uses_one_promise();
+    landing_keeps_promises();
+    pair.post(Side::A, Write::bell(0));
+    pair.land(Side::A, 0);
+}
+
+// The link is lost, and side B masks its doorbell.
+fn lose_and_mask(pair: &mut Pair)
+    ensures { KeepsPromises pair.old pair.new }
+{
+    link_steps_keep_promises();
+    own_writes_keep_promises();
+    let _lost = pair.cut();
+    pair.bells(Side::B).mask(4);
+}
+
+#[test]
+fn promises_stay(rt: HostRuntime) -> Result<(), Fail> {
+    let mut pair = Pair::new(rt.alloc(), &plan(true, true, 1))?;
+    pair.promise(Side::A, 1)?;
+    ring_and_land(&mut pair);
+    lose_and_mask(&mut pair);
+    assert_eq!(rt; pair.bells(Side::B).pending(), 1);
+    assert_eq!(rt; pair.bells(Side::B).masked(), 4);
+    Ok(())
 }

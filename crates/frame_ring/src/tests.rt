@@ -5,10 +5,10 @@ ghost use Rattle.step_kinds.specs.Limits.{IsMtu, IsQueues, IsSize};
 
 use super::*;
 use bridge_pair::laws::landing_keeps_promises;
-use bridge_pair::{Pair, own_address, side_plan};
+use bridge_pair::{Pair, memory_bytes, own_address, side_plan};
 use std::alloc::{AllocError, Global};
 use std::test::Fail;
-use step_kinds::{Frame, Name, PairPlan, Side, SidePlan};
+use step_kinds::{Frame, Label, Name, PairPlan, Side, SidePlan};
 
 // A pair that starts up, both sides of which have one window of so many bytes.
 fn plan(version: u32, queues: u32, size: u64, mtu: u32) -> PairPlan
@@ -22,6 +22,8 @@ fn plan(version: u32, queues: u32, size: u64, mtu: u32) -> PairPlan
     ensures fits { FitsRings result }
     ensures a { 0 < result.a.queues }
     ensures b { 0 < result.b.queues }
+    ensures all_a { result.a.queues ≡ queues }
+    ensures all_b { result.b.queues ≡ queues }
 {
     let side = SidePlan {
         version,
@@ -91,13 +93,15 @@ fn sevens(alloc: Global, len: u32) -> Result<Frame, AllocError>
     Ok(Frame::of_vec(bytes))
 }
 
-// Posts all writes that are left, of which there are no more than 99, and lets them land: how many there were.
-fn post_and_land(pair: &mut Pair, port: &mut Port) -> u32
+// Posts all writes that are left, of which there are no more than 99: how many there were.
+fn post_all(pair: &mut Pair, port: &mut Port) -> u32
     requires plan { pair.old.plan ≡ port.old.plan }
     requires room { HasRoomIn port.old pair.old }
     requires pages { HasPagesIn port.old pair.old }
     ensures same { pair.new.plan ≡ pair.old.plan }
     ensures plan { pair.new.plan ≡ port.new.plan }
+    ensures room { HasRoomIn port.new pair.new }
+    ensures pages { HasPagesIn port.new pair.new }
 {
     let mut posted = 0;
     for turn in 0..99 {
@@ -105,6 +109,18 @@ fn post_and_land(pair: &mut Pair, port: &mut Port) -> u32
             posted = turn + 1;
         }
     }
+    posted
+}
+
+// The same, and lets them land.
+fn post_and_land(pair: &mut Pair, port: &mut Port) -> u32
+    requires plan { pair.old.plan ≡ port.old.plan }
+    requires room { HasRoomIn port.old pair.old }
+    requires pages { HasPagesIn port.old pair.old }
+    ensures same { pair.new.plan ≡ pair.old.plan }
+    ensures plan { pair.new.plan ≡ port.new.plan }
+{
+    let posted = post_all(pair, port);
     land_all(pair, Side::A);
     posted
 }
@@ -136,8 +152,19 @@ fn word(pair: &Pair, side: Side, at: u64) -> u32 {
     pair.local_word(side, at)
 }
 
+// A side writes a word into its own memory, where it lies in it.
+fn set_word(pair: &mut Pair, side: Side, at: u64, value: u32) -> Result<(), AllocError>
+    ensures { pair.new.plan ≡ pair.old.plan }
+{
+    if 4 <= memory_bytes(pair.plan(), side) && at <= memory_bytes(pair.plan(), side) - 4 {
+        pair.promise_range(side, at, 4)?;
+        pair.set_local_word(side, at, value);
+    }
+    Ok(())
+}
+
 // A frame of so many bytes is begun.
-fn begin_one(alloc: Global, pair: &mut Pair, port: &mut Port, len: u32) -> Result<(), AllocError>
+fn begin_one(alloc: Global, pair: &mut Pair, port: &mut Port, len: u32) -> Result<Begun, AllocError>
     requires plan { pair.old.plan ≡ port.old.plan }
     requires fits { FitsRings port.old.plan }
     requires room { HasRoomIn port.old pair.old }
@@ -150,12 +177,11 @@ fn begin_one(alloc: Global, pair: &mut Pair, port: &mut Port, len: u32) -> Resul
     ensures pages { OnOk result (HasPagesIn port.new pair.new) }
 {
     let frame = sevens(alloc, len)?;
-    let _begun = port.begin(pair, frame)?;
-    Ok(())
+    port.begin(pair, frame)
 }
 
 // A link-down entry is begun.
-fn down_one(pair: &mut Pair, port: &mut Port) -> Result<(), AllocError>
+fn down_one(pair: &mut Pair, port: &mut Port) -> Result<Begun, AllocError>
     requires plan { pair.old.plan ≡ port.old.plan }
     requires fits { FitsRings port.old.plan }
     requires room { HasRoomIn port.old pair.old }
@@ -165,8 +191,7 @@ fn down_one(pair: &mut Pair, port: &mut Port) -> Result<(), AllocError>
     ensures room { OnOk result (HasRoomIn port.new pair.new) }
     ensures pages { OnOk result (HasPagesIn port.new pair.new) }
 {
-    let _begun = port.down(pair)?;
-    Ok(())
+    port.down(pair)
 }
 
 // A new pair, on which side A has sent a frame of so many bytes, and how many writes it took.
@@ -180,7 +205,7 @@ fn sent(alloc: Global, plan: &PairPlan, len: u32) -> Result<(Pair, u32), AllocEr
 {
     let mut pair = Pair::new(alloc, plan)?;
     let mut port = Port::new(alloc, plan, Side::A, 0);
-    begin_one(alloc, &mut pair, &mut port, len)?;
+    let _begun = begin_one(alloc, &mut pair, &mut port, len)?;
     let posted = post_and_land(&mut pair, &mut port);
     Ok((pair, posted))
 }
@@ -298,6 +323,9 @@ fn an_entry_is_taken(rt: HostRuntime) -> Result<(), Fail> {
     assert_eq!(rt; received(rt.alloc(), &plan, &mut pair)?.as_str(), want);
     assert_eq!(rt; word(&pair, Side::B, 1015), 5);
     assert_eq!(rt; word(&pair, Side::B, 1019), 0);
+    assert_eq!(rt; word(&pair, Side::A, 4092), 3);
+    land_all(&mut pair, Side::B);
+    assert_eq!(rt; word(&pair, Side::A, 4092), 0);
     Ok(())
 }
 
@@ -310,7 +338,7 @@ fn free_again(alloc: Global, plan: &PairPlan) -> Result<[u32; 2], AllocError>
 {
     let mut pair = Pair::new(alloc, plan)?;
     let mut port = Port::new(alloc, plan, Side::A, 0);
-    begin_one(alloc, &mut pair, &mut port, 5)?;
+    let _begun = begin_one(alloc, &mut pair, &mut port, 5)?;
     post_and_land(&mut pair, &mut port);
     let before = port.free(&pair);
     let _taken = received(alloc, plan, &mut pair)?;
@@ -324,24 +352,30 @@ fn an_entry_given_back_is_free(rt: HostRuntime) -> Result<(), Fail> {
     Ok(())
 }
 
-// What the peer sees of a side that goes down.
-fn seen_of_down(alloc: Global, plan: &PairPlan) -> Result<String, AllocError>
+// A new pair, on which side A went down, what that answered, and how many writes it took.
+fn gone_down(alloc: Global, plan: &PairPlan) -> Result<(Pair, Begun, u32), AllocError>
     requires pair { IsPair plan.now }
     requires fits { FitsRings plan.now }
     requires a { 0 < plan.now.a.queues }
-    requires b { 0 < plan.now.b.queues }
+    ensures { IfOk result (λ gone. gone.0.plan ≡ plan.now) }
 {
     let mut pair = Pair::new(alloc, plan)?;
     let mut port = Port::new(alloc, plan, Side::A, 0);
-    down_one(&mut pair, &mut port)?;
-    post_and_land(&mut pair, &mut port);
-    received(alloc, plan, &mut pair)
+    let begun = down_one(&mut pair, &mut port)?;
+    let posted = post_and_land(&mut pair, &mut port);
+    Ok((pair, begun, posted))
 }
 
 #[test]
 fn a_side_goes_down(rt: HostRuntime) -> Result<(), Fail> {
-    let seen = seen_of_down(rt.alloc(), &plan(4, 1, 4096, 1023))?;
-    assert_eq!(rt; seen.as_str(), "PeerDown [2, 0, 0] None None");
+    let plan = plan(4, 1, 4096, 1023);
+    let (mut pair, begun, posted) = gone_down(rt.alloc(), &plan)?;
+    assert_eq!(rt; begun, Begun::Ok { number: 0 });
+    assert_eq!(rt; posted, 4);
+    assert_eq!(rt; word(&pair, Side::B, 1015), 0);
+    assert_eq!(rt; word(&pair, Side::B, 1019), 3);
+    let want = "PeerDown [2, 0, 0] None None";
+    assert_eq!(rt; received(rt.alloc(), &plan, &mut pair)?.as_str(), want);
     Ok(())
 }
 
@@ -363,7 +397,7 @@ fn refused_till_reset(alloc: Global, plan: &PairPlan) -> Result<[bool; 2], Alloc
 {
     let mut pair = Pair::new(alloc, plan)?;
     let mut port = Port::new(alloc, plan, Side::A, 0);
-    begin_one(alloc, &mut pair, &mut port, 5)?;
+    let _begun = begin_one(alloc, &mut pair, &mut port, 5)?;
     Ok(reset_one(&mut pair, &mut port))
 }
 
@@ -371,5 +405,291 @@ fn refused_till_reset(alloc: Global, plan: &PairPlan) -> Result<[bool; 2], Alloc
 fn a_port_is_reset(rt: HostRuntime) -> Result<(), Fail> {
     let refused = refused_till_reset(rt.alloc(), &plan(4, 1, 4096, 1023))?;
     assert_eq!(rt; refused, [true, false]);
+    Ok(())
+}
+
+// The header of slot 0 ends it, in rings of 2 entries and of 4,095.
+#[test]
+fn headers_of_other_rings(rt: HostRuntime) -> Result<(), Fail> {
+    let (two, _posted) = sent(rt.alloc(), &plan(4, 1, 4096, 65536), 5)?;
+    assert_eq!(rt; word(&two, Side::B, 2038), 5);
+    assert_eq!(rt; word(&two, Side::B, 2042), 1);
+    let (many, _posted) = sent(rt.alloc(), &plan(4, 1, 268_435_456, 65536), 5)?;
+    assert_eq!(rt; word(&many, Side::B, 65528), 5);
+    assert_eq!(rt; word(&many, Side::B, 65532), 1);
+    Ok(())
+}
+
+// The word at an address of side A of a new pair.
+fn first_word(alloc: Global, plan: &PairPlan, at: u64) -> Result<u32, AllocError>
+    requires { IsPair plan.now }
+{
+    let pair = Pair::new(alloc, plan)?;
+    Ok(word(&pair, Side::A, at))
+}
+
+#[test]
+fn index_words_of_new_rings(rt: HostRuntime) -> Result<(), Fail> {
+    assert_eq!(rt; first_word(rt.alloc(), &plan(4, 1, 4096, 1023), 4092)?, 3);
+    assert_eq!(rt; first_word(rt.alloc(), &plan(4, 1, 4096, 65536), 4092)?, 1);
+    let large = plan(4, 1, 268_435_456, 65536);
+    assert_eq!(rt; first_word(rt.alloc(), &large, 268_435_452)?, 4094);
+    Ok(())
+}
+
+// What a begin of 5 bytes answers on a new ring, where the word at this address says so.
+fn begun_where(alloc: Global, plan: &PairPlan, at: u64, tail: u32) -> Result<Begun, AllocError>
+    requires pair { IsPair plan.now }
+    requires fits { FitsRings plan.now }
+    requires queue { 0 < plan.now.a.queues }
+{
+    let mut pair = Pair::new(alloc, plan)?;
+    set_word(&mut pair, Side::A, at, tail)?;
+    let mut port = Port::new(alloc, plan, Side::A, 0);
+    begin_one(alloc, &mut pair, &mut port, 5)
+}
+
+// An index word that names no slot of the ring is no room.
+#[test]
+fn room_in_a_ring_of_four(rt: HostRuntime) -> Result<(), Fail> {
+    let plan = plan(4, 1, 4096, 1023);
+    let none = begun_where(rt.alloc(), &plan, 4092, 0)?;
+    assert_eq!(rt; none, Begun::NoRoom { head: 0, tail: 0 });
+    let wild = begun_where(rt.alloc(), &plan, 4092, 4)?;
+    assert_eq!(rt; wild, Begun::NoRoom { head: 0, tail: 4 });
+    let one = begun_where(rt.alloc(), &plan, 4092, 1)?;
+    assert_eq!(rt; one, Begun::Ok { number: 0 });
+    Ok(())
+}
+
+#[test]
+fn room_in_a_ring_of_two(rt: HostRuntime) -> Result<(), Fail> {
+    let plan = plan(4, 1, 4096, 65536);
+    let none = begun_where(rt.alloc(), &plan, 4092, 0)?;
+    assert_eq!(rt; none, Begun::NoRoom { head: 0, tail: 0 });
+    let wild = begun_where(rt.alloc(), &plan, 4092, 2)?;
+    assert_eq!(rt; wild, Begun::NoRoom { head: 0, tail: 2 });
+    Ok(())
+}
+
+#[test]
+fn room_in_a_ring_of_many(rt: HostRuntime) -> Result<(), Fail> {
+    let plan = plan(4, 1, 268_435_456, 65536);
+    let none = begun_where(rt.alloc(), &plan, 268_435_452, 0)?;
+    assert_eq!(rt; none, Begun::NoRoom { head: 0, tail: 0 });
+    let wild = begun_where(rt.alloc(), &plan, 268_435_452, 4095)?;
+    assert_eq!(rt;
+        wild,
+        Begun::NoRoom {
+            head: 0,
+            tail: 4095
+        }
+    );
+    Ok(())
+}
+
+// What begins of 5 bytes answer: of the first frame, before its writes are posted, and after.
+fn begun_thrice(alloc: Global, plan: &PairPlan) -> Result<[Begun; 3], AllocError>
+    requires pair { IsPair plan.now }
+    requires fits { FitsRings plan.now }
+    requires queue { 0 < plan.now.a.queues }
+{
+    let mut pair = Pair::new(alloc, plan)?;
+    let mut port = Port::new(alloc, plan, Side::A, 0);
+    let first = begin_one(alloc, &mut pair, &mut port, 5)?;
+    let busy = begin_one(alloc, &mut pair, &mut port, 5)?;
+    post_all(&mut pair, &mut port);
+    let last = begin_one(alloc, &mut pair, &mut port, 5)?;
+    Ok([first, busy, last])
+}
+
+#[test]
+fn a_second_frame_is_begun(rt: HostRuntime) -> Result<(), Fail> {
+    let [first, busy, second] = begun_thrice(rt.alloc(), &plan(4, 1, 4096, 1023))?;
+    assert_eq!(rt; first, Begun::Ok { number: 0 });
+    assert_eq!(rt; busy, Begun::Busy);
+    assert_eq!(rt; second, Begun::Ok { number: 1 });
+    Ok(())
+}
+
+#[test]
+fn a_full_ring_takes_no_frame(rt: HostRuntime) -> Result<(), Fail> {
+    let [_first, _busy, none] = begun_thrice(rt.alloc(), &plan(4, 1, 4096, 65536))?;
+    assert_eq!(rt; none, Begun::NoRoom { head: 1, tail: 1 });
+    Ok(())
+}
+
+// What a begin of so many bytes answers on a new ring.
+fn begun_at_once(alloc: Global, plan: &PairPlan, len: u32) -> Result<Begun, AllocError>
+    requires pair { IsPair plan.now }
+    requires fits { FitsRings plan.now }
+    requires queue { 0 < plan.now.a.queues }
+    requires some { 0 < len }
+    requires few { len ≤ 65536 }
+{
+    let mut pair = Pair::new(alloc, plan)?;
+    let mut port = Port::new(alloc, plan, Side::A, 0);
+    begin_one(alloc, &mut pair, &mut port, len)
+}
+
+#[test]
+fn a_frame_that_is_too_long(rt: HostRuntime) -> Result<(), Fail> {
+    let most = begun_at_once(rt.alloc(), &plan(4, 1, 4096, 1023), 1011)?;
+    assert_eq!(rt; most, Begun::Ok { number: 0 });
+    let long = begun_at_once(rt.alloc(), &plan(4, 1, 4096, 1023), 1012)?;
+    let want = Begun::TooLong {
+        len: 1012,
+        max: 1011,
+    };
+    assert_eq!(rt; long, want);
+    Ok(())
+}
+
+// The next write is posted.
+fn post_one(pair: &mut Pair, port: &mut Port) -> Option<Label>
+    requires plan { pair.old.plan ≡ port.old.plan }
+    requires room { HasRoomIn port.old pair.old }
+    requires pages { HasPagesIn port.old pair.old }
+    ensures plan { pair.new.plan ≡ port.new.plan }
+    ensures room { HasRoomIn port.new pair.new }
+    ensures pages { HasPagesIn port.new pair.new }
+{
+    port.post(pair)
+}
+
+// The labels that are posted of a frame of 5 bytes, one after another, till none is left.
+fn labels_posted(alloc: Global, plan: &PairPlan) -> Result<[Option<Label>; 6], AllocError>
+    requires pair { IsPair plan.now }
+    requires fits { FitsRings plan.now }
+    requires queue { 0 < plan.now.a.queues }
+{
+    let mut pair = Pair::new(alloc, plan)?;
+    let mut port = Port::new(alloc, plan, Side::A, 0);
+    let _begun = begin_one(alloc, &mut pair, &mut port, 5)?;
+    let mut posted = [None; 6];
+    posted[0] = post_one(&mut pair, &mut port);
+    posted[1] = post_one(&mut pair, &mut port);
+    posted[2] = post_one(&mut pair, &mut port);
+    posted[3] = post_one(&mut pair, &mut port);
+    posted[4] = post_one(&mut pair, &mut port);
+    posted[5] = post_one(&mut pair, &mut port);
+    Ok(posted)
+}
+
+#[test]
+fn the_flag_comes_behind_the_fields(rt: HostRuntime) -> Result<(), Fail> {
+    let (queue, number) = (0, 0);
+    let chunk = Label::Chunk {
+        queue,
+        number,
+        part: 0,
+    };
+    let want = [
+        Some(chunk),
+        Some(Label::Len { queue, number }),
+        Some(Label::Ver { queue, number }),
+        Some(Label::Flag { queue, number }),
+        Some(Label::Bell { queue }),
+        None,
+    ];
+    assert_eq!(rt; labels_posted(rt.alloc(), &plan(4, 1, 4096, 1023))?, want);
+    Ok(())
+}
+
+// What a look of side B finds in slot 0, where its version, length and flags are these: the words from this address on.
+fn seen_where(
+    alloc: Global,
+    plan: &PairPlan,
+    at: u64,
+    words: [u32; 3],
+) -> Result<RingLook, AllocError>
+    requires pair { IsPair plan.now }
+    requires fits { FitsRings plan.now }
+    requires queue { 0 < plan.now.b.queues }
+    requires near { at < 100000 }
+{
+    let mut pair = Pair::new(alloc, plan)?;
+    set_word(&mut pair, Side::B, at, words[0])?;
+    set_word(&mut pair, Side::B, at + 4, words[1])?;
+    set_word(&mut pair, Side::B, at + 8, words[2])?;
+    let mut port = Port::new(alloc, plan, Side::B, 0);
+    look_one(&mut pair, &mut port)
+}
+
+#[test]
+fn an_entry_of_another_version(rt: HostRuntime) -> Result<(), Fail> {
+    let seen = seen_where(rt.alloc(), &plan(4, 1, 4096, 1023), 1011, [7, 0, 1])?;
+    assert_eq!(rt; seen, RingLook::VerDiffers { seen: 7, own: 0 });
+    Ok(())
+}
+
+#[test]
+fn an_entry_that_is_too_long(rt: HostRuntime) -> Result<(), Fail> {
+    let plan = plan(4, 1, 4096, 1023);
+    let long = seen_where(rt.alloc(), &plan, 1011, [0, 1012, 1])?;
+    let want = RingLook::Long {
+        len: 1012,
+        max: 1011,
+    };
+    assert_eq!(rt; long, want);
+    let two = seen_where(rt.alloc(), &plan, 1011, [0, 2, 1])?;
+    assert_eq!(rt; two, RingLook::Ready { number: 0, len: 2 });
+    Ok(())
+}
+
+#[test]
+fn an_entry_without_its_flag(rt: HostRuntime) -> Result<(), Fail> {
+    let plan = plan(4, 1, 4096, 1023);
+    assert_eq!(rt;
+        seen_where(rt.alloc(), &plan, 1011, [0, 5, 0])?,
+        RingLook::Empty
+    );
+    assert_eq!(rt;
+        seen_where(rt.alloc(), &plan, 1011, [0, 0, 3])?,
+        RingLook::PeerDown
+    );
+    Ok(())
+}
+
+// What three copies answer of a frame of so many bytes that side A has sent.
+fn copied_thrice(alloc: Global, plan: &PairPlan, len: u32) -> Result<[[u32; 3]; 3], AllocError>
+    requires pair { IsPair plan.now }
+    requires fits { FitsRings plan.now }
+    requires a { 0 < plan.now.a.queues }
+    requires b { 0 < plan.now.b.queues }
+    requires some { 0 < len }
+    requires few { len ≤ 65536 }
+{
+    let (mut pair, _posted) = sent(alloc, plan, len)?;
+    let mut port = Port::new(alloc, plan, Side::B, 0);
+    let _look = look_one(&mut pair, &mut port)?;
+    let first = copy_one(&mut pair, &mut port);
+    let second = copy_one(&mut pair, &mut port);
+    let third = copy_one(&mut pair, &mut port);
+    Ok([first, second, third])
+}
+
+#[test]
+fn a_frame_of_three_parts(rt: HostRuntime) -> Result<(), Fail> {
+    let copies = copied_thrice(rt.alloc(), &plan(4, 1, 4096, 1023), 300)?;
+    assert_eq!(rt; copies, [[0, 0, 0], [0, 1, 0], [1, 300, 7]]);
+    Ok(())
+}
+
+// The side and the number of a port's queue.
+fn named(alloc: Global, plan: &PairPlan, side: Side) -> (Side, u32)
+    requires pair { IsPair plan.now }
+    requires a { 1 < plan.now.a.queues }
+    requires b { 1 < plan.now.b.queues }
+{
+    let port = Port::new(alloc, plan, side, 1);
+    (port.side(), port.queue())
+}
+
+#[test]
+fn a_port_has_side_and_queue(rt: HostRuntime) -> Result<(), Fail> {
+    let plan = plan(4, 2, 4096, 1023);
+    assert_eq!(rt; named(rt.alloc(), &plan, Side::A), (Side::A, 1));
+    assert_eq!(rt; named(rt.alloc(), &plan, Side::B), (Side::B, 1));
     Ok(())
 }

@@ -1,5 +1,5 @@
 -- A side that comes up.
-use Rattle.std.proofs.Common.{◌≡◌, ℕ, inl, inr, true, List, ap, ◌∙◌, sym, subst}
+use Rattle.std.proofs.Common.{◌≡◌, ℕ, inl, inr, true, List, ap, ◌∙◌, refl, sym, subst}
 use Rattle.byte_model.specs.FreshRings.{fresh_index_words, zeroed_headers}
 use Rattle.step_kinds.specs.declared.names.Side.{Side}
 use Rattle.step_kinds.specs.declared.names.Side.TheVariants.{A, B}
@@ -16,59 +16,59 @@ use Rattle.hand_shake.specs.Headers.{AreHeadersPromised, AreRingsPromised, Touch
 use Rattle.hand_shake.specs.declared.CheckAnswer.TheVariants.{Up}
 use Rattle.hand_shake.proofs.HeaderPages.{bytes_after-append}
 
--- the bridge with its rings made fresh and these pages promised
-abbrev fresh_with : Bridge → Side → List ℕ → Bridge
-fresh_with bridge side pages =
-    with_book
-    (with_bytes (with_pages bridge side pages) side (bytes_after (fresh_index_words bridge.plan side) (bytes_after (zeroed_headers bridge.plan side) (bytes_of bridge side))))
-    side (record (book_of bridge side) { up = true })
+-- what each step makes of a bridge: headers are zeroed, index words are set, and the book says that the side is up
+abbrev with_zeroed : Bridge → Side → Bridge
+with_zeroed bridge side = with_bytes bridge side (bytes_after (zeroed_headers bridge.plan side) (bytes_of bridge side))
+
+abbrev with_words : Bridge → Side → Bridge
+with_words bridge side = with_bytes bridge side (bytes_after (fresh_index_words bridge.plan side) (bytes_of bridge side))
+
+abbrev with_up : Bridge → Side → Bridge
+with_up bridge side = with_book bridge side (record (book_of bridge side) { up = true })
 
 -- pages that are promised in two goes, zeroed headers, index words, and the book
 pub record ComesUp (old headers words zeroed set new : Bridge) (side : Side) : Type 0 where
   pub first : headers ≡ with_pages old side (pages_of headers side)
   pub second : words ≡ with_pages headers side (pages_of words side)
-  pub zeroes : zeroed ≡ with_bytes words side (bytes_after (zeroed_headers words.plan side) (bytes_of words side))
-  pub sets : set ≡ with_bytes zeroed side (bytes_after (fresh_index_words zeroed.plan side) (bytes_of zeroed side))
-  pub keeps : new ≡ with_book set side (record (book_of set side) { up = true })
+  pub zeroes : zeroed ≡ with_zeroed words side
+  pub sets : set ≡ with_words zeroed side
+  pub keeps : new ≡ with_up set side
+
+-- all steps, by the pages that were promised
+abbrev fresh_with : Bridge → Side → List ℕ → List ℕ → Bridge
+fresh_with old side headers words = with_up (with_words (with_zeroed (with_pages (with_pages old side headers) side words) side) side) side
+
+-- bytes and book at once, and then the pages
+fresh_at_once : (old : Bridge) (side : Side) (headers words : List ℕ)
+    → fresh_with old side headers words ≡ with_pages (with_up (with_bytes old side (bytes_after (fresh_index_words old.plan side) (bytes_after (zeroed_headers old.plan side) (bytes_of old side)))) side) side words
+fresh_at_once old A headers words = refl
+fresh_at_once old B headers words = refl
+
+fresh_pages : (old : Bridge) (side : Side) (headers words : List ℕ) → pages_of (fresh_with old side headers words) side ≡ words
+fresh_pages old A headers words = refl
+fresh_pages old B headers words = refl
 
 pub came_up_is : (old headers words zeroed set new : Bridge) (side : Side) → ComesUp old headers words zeroed set new side
     → (new ≡ with_pages (came_up old side) side (pages_of new side)) × (pages_of new side ≡ pages_of words side)
-came_up_is old headers words zeroed set new A comes = (together, same)
+came_up_is old headers words zeroed set new side comes = (together, same)
   where
-    same : pages_of new A ≡ pages_of words A
-    same = ap (λ (b : Bridge). pages_of b A) comes.keeps ∙ ap (λ (b : Bridge). pages_of b A) comes.sets ∙ ap (λ (b : Bridge). pages_of b A) comes.zeroes
-
-    chain : new ≡ fresh_with old A (pages_of words A)
+    chain : new ≡ fresh_with old side (pages_of headers side) (pages_of words side)
     chain =
         comes.keeps
-        ∙ ap (λ (b : Bridge). with_book b A (record (book_of b A) { up = true }))
-        (comes.sets ∙ ap (λ (b : Bridge). with_bytes b A (bytes_after (fresh_index_words b.plan A) (bytes_of b A)))
-        (comes.zeroes ∙ ap (λ (b : Bridge). with_bytes b A (bytes_after (zeroed_headers b.plan A) (bytes_of b A)))
-        (comes.second ∙ ap (λ (b : Bridge). with_pages b A (pages_of words A)) comes.first)))
+        ∙ ap (λ (b : Bridge). with_up b side)
+        (comes.sets ∙ ap (λ (b : Bridge). with_words b side)
+        (comes.zeroes ∙ ap (λ (b : Bridge). with_zeroed b side)
+        (comes.second ∙ ap (λ (b : Bridge). with_pages b side (pages_of words side)) comes.first)))
 
-    together : new ≡ with_pages (came_up old A) A (pages_of new A)
+    same : pages_of new side ≡ pages_of words side
+    same = ap (λ (b : Bridge). pages_of b side) chain ∙ fresh_pages old side (pages_of headers side) (pages_of words side)
+
+    together : new ≡ with_pages (came_up old side) side (pages_of new side)
     together =
         chain
-        ∙ ap (λ bytes. with_pages (with_book (with_bytes old A bytes) A (record (book_of old A) { up = true })) A (pages_of words A)) (sym (bytes_after-append (fresh_index_words old.plan A) (zeroed_headers old.plan A) (bytes_of old A)))
-        ∙ ap (λ pages. with_pages (came_up old A) A pages) (sym same)
-came_up_is old headers words zeroed set new B comes = (together, same)
-  where
-    same : pages_of new B ≡ pages_of words B
-    same = ap (λ (b : Bridge). pages_of b B) comes.keeps ∙ ap (λ (b : Bridge). pages_of b B) comes.sets ∙ ap (λ (b : Bridge). pages_of b B) comes.zeroes
-
-    chain : new ≡ fresh_with old B (pages_of words B)
-    chain =
-        comes.keeps
-        ∙ ap (λ (b : Bridge). with_book b B (record (book_of b B) { up = true }))
-        (comes.sets ∙ ap (λ (b : Bridge). with_bytes b B (bytes_after (fresh_index_words b.plan B) (bytes_of b B)))
-        (comes.zeroes ∙ ap (λ (b : Bridge). with_bytes b B (bytes_after (zeroed_headers b.plan B) (bytes_of b B)))
-        (comes.second ∙ ap (λ (b : Bridge). with_pages b B (pages_of words B)) comes.first)))
-
-    together : new ≡ with_pages (came_up old B) B (pages_of new B)
-    together =
-        chain
-        ∙ ap (λ bytes. with_pages (with_book (with_bytes old B bytes) B (record (book_of old B) { up = true })) B (pages_of words B)) (sym (bytes_after-append (fresh_index_words old.plan B) (zeroed_headers old.plan B) (bytes_of old B)))
-        ∙ ap (λ pages. with_pages (came_up old B) B pages) (sym same)
+        ∙ fresh_at_once old side (pages_of headers side) (pages_of words side)
+        ∙ ap (λ bytes. with_pages (with_up (with_bytes old side bytes) side) side (pages_of words side)) (sym (bytes_after-append (fresh_index_words old.plan side) (zeroed_headers old.plan side) (bytes_of old side)))
+        ∙ ap (λ pages. with_pages (came_up old side) side pages) (sym same)
 
 -- the pages of the headers, and then of the index words
 pub rings_grow : (plan same : PairPlan) (side : Side) (old headers words : List ℕ) → same ≡ plan → PagesGrow (TouchesHeader plan side) old headers → PagesGrow (TouchesIndexWord same side) headers words

@@ -1,73 +1,47 @@
 -- What a side offers, place by place.
-use Rattle.std.proofs.Common.{◌≡◌, ℕ, zero, suc, ◌+◌, ◌*◌, ◌/◌, ◌%◌, ◌<◌, ◌≤◌, ◌==◌, length, slice_index_or, refl, arith, if◌then◌else◌}
-use Rattle.plan_model.specs.Pads.{offers, word}
+use Rattle.std.proofs.Common.{◌≡◌, ◌∙◌, ℕ, zero, suc, ◌+◌, ◌*◌, ◌/◌, ◌%◌, ◌<◌, ◌==◌, List, [], ◌∷◌, length, slice_index_or, refl, ap, arith, if◌then◌else◌}
+use Rattle.std.specs.List.{flat_map}
+use Rattle.std.proofs.lemmas.List.{get_or-append-add, get_or_append_left, length-append}
+use Rattle.lane_model.specs.Lane.{count_from}
+use Rattle.plan_model.specs.Pads.{high_pad, low_pad, offers, word}
 use Rattle.step_kinds.specs.declared.plan.SidePlan.{SidePlan}
+use Rattle.step_kinds.specs.declared.steps.Label.{Label}
 use Rattle.step_kinds.specs.declared.steps.Label.TheVariants.{Pad}
 
--- the numbers of a side
-abbrev pub side_with : ℕ → ℕ → ℕ → ℕ → ℕ → SidePlan
-side_with version queues windows size cap = record { version = version; queues = queues; windows = windows; size = size; cap = cap }
+-- the two halves of a window's size, for each of these windows
+abbrev halves : ℕ → ℕ → ℕ → List Label
+halves size from windows = flat_map (λ m. Pad (high_pad m) (size / word) ∷ Pad (low_pad m) (size % word) ∷ []) (count_from from windows)
 
-pub length_offers : (version queues windows size cap : ℕ) → 1 ≤ windows → windows ≤ 4 → length (offers (side_with version queues windows size cap)) ≡ 2 * windows + 3
-length_offers version queues zero size cap some few = absurd (omega arith)
-length_offers version queues (suc zero) size cap some few = refl
-length_offers version queues (suc (suc zero)) size cap some few = refl
-length_offers version queues (suc (suc (suc zero))) size cap some few = refl
-length_offers version queues (suc (suc (suc (suc zero)))) size cap some few = refl
-length_offers version queues (suc (suc (suc (suc (suc windows))))) size cap some few = absurd (omega arith)
+-- and what comes behind them
+abbrev pub behind_halves : SidePlan → List Label
+behind_halves own = Pad 3 own.windows ∷ Pad 2 own.queues ∷ Pad 0 own.version ∷ []
 
-pub size_offered : (version queues windows size cap place : ℕ) → windows ≤ 4 → place < 2 * windows
-    → slice_index_or (offers (side_with version queues windows size cap)) place (Pad 0 0) ≡ Pad (4 + place) (if place % 2 == 0 then size / word else size % word)
-size_offered version queues zero size cap place few within = absurd (omega arith)
-size_offered version queues (suc zero) size cap zero few within = refl
-size_offered version queues (suc zero) size cap (suc zero) few within = refl
-size_offered version queues (suc zero) size cap (suc (suc place)) few within = absurd (omega arith)
-size_offered version queues (suc (suc zero)) size cap zero few within = refl
-size_offered version queues (suc (suc zero)) size cap (suc zero) few within = refl
-size_offered version queues (suc (suc zero)) size cap (suc (suc zero)) few within = refl
-size_offered version queues (suc (suc zero)) size cap (suc (suc (suc zero))) few within = refl
-size_offered version queues (suc (suc zero)) size cap (suc (suc (suc (suc place)))) few within = absurd (omega arith)
-size_offered version queues (suc (suc (suc zero))) size cap zero few within = refl
-size_offered version queues (suc (suc (suc zero))) size cap (suc zero) few within = refl
-size_offered version queues (suc (suc (suc zero))) size cap (suc (suc zero)) few within = refl
-size_offered version queues (suc (suc (suc zero))) size cap (suc (suc (suc zero))) few within = refl
-size_offered version queues (suc (suc (suc zero))) size cap (suc (suc (suc (suc zero)))) few within = refl
-size_offered version queues (suc (suc (suc zero))) size cap (suc (suc (suc (suc (suc zero))))) few within = refl
-size_offered version queues (suc (suc (suc zero))) size cap (suc (suc (suc (suc (suc (suc place)))))) few within = absurd (omega arith)
-size_offered version queues (suc (suc (suc (suc zero)))) size cap zero few within = refl
-size_offered version queues (suc (suc (suc (suc zero)))) size cap (suc zero) few within = refl
-size_offered version queues (suc (suc (suc (suc zero)))) size cap (suc (suc zero)) few within = refl
-size_offered version queues (suc (suc (suc (suc zero)))) size cap (suc (suc (suc zero))) few within = refl
-size_offered version queues (suc (suc (suc (suc zero)))) size cap (suc (suc (suc (suc zero)))) few within = refl
-size_offered version queues (suc (suc (suc (suc zero)))) size cap (suc (suc (suc (suc (suc zero))))) few within = refl
-size_offered version queues (suc (suc (suc (suc zero)))) size cap (suc (suc (suc (suc (suc (suc zero)))))) few within = refl
-size_offered version queues (suc (suc (suc (suc zero)))) size cap (suc (suc (suc (suc (suc (suc (suc zero))))))) few within = refl
-size_offered version queues (suc (suc (suc (suc zero)))) size cap (suc (suc (suc (suc (suc (suc (suc (suc place)))))))) few within = absurd (omega arith)
-size_offered version queues (suc (suc (suc (suc (suc windows))))) size cap place few within = absurd (omega arith)
+length_halves : (size from windows : ℕ) → length (halves size from windows) ≡ 2 * windows
+length_halves size from zero = refl
+length_halves size from (suc windows) = omega (arith, length_halves size (suc from) windows)
 
-pub windows_offered : (version queues windows size cap place : ℕ) → 1 ≤ windows → windows ≤ 4 → place ≡ 2 * windows + 0
-    → slice_index_or (offers (side_with version queues windows size cap)) place (Pad 0 0) ≡ Pad 3 windows
-windows_offered version queues zero size cap place some few at = absurd (omega arith)
-windows_offered version queues (suc zero) size cap place some few at = rw at
-windows_offered version queues (suc (suc zero)) size cap place some few at = rw at
-windows_offered version queues (suc (suc (suc zero))) size cap place some few at = rw at
-windows_offered version queues (suc (suc (suc (suc zero)))) size cap place some few at = rw at
-windows_offered version queues (suc (suc (suc (suc (suc windows))))) size cap place some few at = absurd (omega arith)
+half_at : (size from windows place : ℕ) → place < 2 * windows → slice_index_or (halves size from windows) place (Pad 0 0) ≡ Pad (4 + 2 * from + place) (if place % 2 == 0 then size / word else size % word)
+half_at size from zero place within = absurd (omega (arith, within))
+half_at size from (suc windows) zero within = let e : 4 + (from + from) ≡ 4 + 2 * from + 0 = omega arith in ap (λ i. Pad i (size / word)) e
+half_at size from (suc windows) (suc zero) within = let e : 5 + (from + from) ≡ 4 + 2 * from + 1 = omega arith in ap (λ i. Pad i (size % word)) e
+half_at size from (suc windows) (suc (suc place)) within =
+    let e : 4 + 2 * suc from + place ≡ 4 + 2 * from + suc (suc place) = omega arith in
+    let same : place % 2 ≡ suc (suc place) % 2 = omega arith in
+    half_at size (suc from) windows place (omega (arith, within))
+    ∙ ap (λ i. Pad i (if place % 2 == 0 then size / word else size % word)) e
+    ∙ ap (λ rest. Pad (4 + 2 * from + suc (suc place)) (if rest == 0 then size / word else size % word)) same
 
-pub queues_offered : (version queues windows size cap place : ℕ) → 1 ≤ windows → windows ≤ 4 → place ≡ 2 * windows + 1
-    → slice_index_or (offers (side_with version queues windows size cap)) place (Pad 0 0) ≡ Pad 2 queues
-queues_offered version queues zero size cap place some few at = absurd (omega arith)
-queues_offered version queues (suc zero) size cap place some few at = rw at
-queues_offered version queues (suc (suc zero)) size cap place some few at = rw at
-queues_offered version queues (suc (suc (suc zero))) size cap place some few at = rw at
-queues_offered version queues (suc (suc (suc (suc zero)))) size cap place some few at = rw at
-queues_offered version queues (suc (suc (suc (suc (suc windows))))) size cap place some few at = absurd (omega arith)
+pub length_offers : (own : SidePlan) → length (offers own) ≡ 2 * own.windows + 3
+length_offers own = length-append (halves own.size 0 own.windows) (behind_halves own) ∙ ap (λ n. n + 3) (length_halves own.size 0 own.windows)
 
-pub version_offered : (version queues windows size cap place : ℕ) → 1 ≤ windows → windows ≤ 4 → place ≡ 2 * windows + 2
-    → slice_index_or (offers (side_with version queues windows size cap)) place (Pad 0 0) ≡ Pad 0 version
-version_offered version queues zero size cap place some few at = absurd (omega arith)
-version_offered version queues (suc zero) size cap place some few at = rw at
-version_offered version queues (suc (suc zero)) size cap place some few at = rw at
-version_offered version queues (suc (suc (suc zero))) size cap place some few at = rw at
-version_offered version queues (suc (suc (suc (suc zero)))) size cap place some few at = rw at
-version_offered version queues (suc (suc (suc (suc (suc windows))))) size cap place some few at = absurd (omega arith)
+pub size_offered : (own : SidePlan) (place : ℕ) → place < 2 * own.windows → slice_index_or (offers own) place (Pad 0 0) ≡ Pad (4 + place) (if place % 2 == 0 then own.size / word else own.size % word)
+size_offered own place within =
+    get_or_append_left (halves own.size 0 own.windows) (behind_halves own) (Pad 0 0) place (omega (arith, within, length_halves own.size 0 own.windows))
+    ∙ half_at own.size 0 own.windows place within
+
+-- the place that is k behind the sizes
+pub behind_offered : (own : SidePlan) (place k : ℕ) → place ≡ 2 * own.windows + k → slice_index_or (offers own) place (Pad 0 0) ≡ slice_index_or (behind_halves own) k (Pad 0 0)
+behind_offered own place k at =
+    let e : place ≡ length (halves own.size 0 own.windows) + k = omega (arith, at, length_halves own.size 0 own.windows) in
+    ap (λ place. slice_index_or (offers own) place (Pad 0 0)) e
+    ∙ get_or-append-add (halves own.size 0 own.windows) (behind_halves own) k (Pad 0 0)

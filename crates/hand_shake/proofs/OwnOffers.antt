@@ -6,7 +6,6 @@ use Rattle.plan_model.specs.Plans.{side_plan}
 use Rattle.step_kinds.specs.declared.names.Side.{Side}
 use Rattle.step_kinds.specs.declared.names.Side.TheVariants.{A, B}
 use Rattle.step_kinds.specs.declared.plan.PairPlan.{PairPlan}
-use Rattle.step_kinds.specs.declared.plan.SidePlan.{SidePlan}
 use Rattle.bridge_pair.specs.Bridge.{Bridge, IsBridge, book_of, offer_length}
 use Rattle.hand_shake.proofs.OfferPlaces.{length_offers}
 
@@ -15,10 +14,7 @@ own_side plan A declared = declared.side_a
 own_side plan B declared = declared.side_b
 
 pub own_length : (plan : PairPlan) (side : Side) → IsPair plan → length (offers (side_plan plan side)) ≡ 2 * (side_plan plan side).windows + 3
-own_length plan side declared =
-    let own : SidePlan = side_plan plan side in
-    let is = own_side plan side declared in
-    length_offers own.version own.queues own.windows own.size own.cap is.windows.0 is.windows.1
+own_length plan side declared = length_offers (side_plan plan side)
 
 -- where the offer is not whole some of it is left
 pub some_left : (bridge : Bridge) (side : Side) → IsBridge bridge → (book_of bridge side).offered ≢ length (offers (side_plan bridge.plan side))

@@ -30,15 +30,16 @@ fn side_with(version: u32, queues: u32, windows: u32) -> SidePlan
     }
 }
 
-// A pair that starts down, whose side A has version 4, one queue and one window.
-fn plan_with(b: SidePlan) -> PairPlan
+// A pair that starts down, whose side A has version 4, so many queues and one window.
+fn plan_with(queues: u32, b: SidePlan) -> PairPlan
+    requires queues { IsQueues queues }
     requires side { IsSide b }
     requires size { b.size ≡ 4096 }
     ensures { IsPair result }
 {
     PairPlan {
         name: Name::of_bytes(&[112]),
-        a: side_with(4, 1, 1),
+        a: side_with(4, queues, 1),
         b,
         mtu: 1023,
         up: false,
@@ -133,6 +134,8 @@ fn shake(alloc: Global, pair: &mut Pair, call: &Call) -> Result<String, AllocErr
         Call::Check => format!(in alloc; "{:?}", check_at(pair, Side::A)?),
         Call::Ready => format!(in alloc; "{:?}", ready_at(pair, Side::A)?),
         Call::Join => format!(in alloc; "{:?}", join_at(pair, Side::A)),
+        Call::Land => format!(in alloc; "{:?}", pair.land(Side::B, 0)),
+        Call::LandReady => format!(in alloc; "{:?}", pair.land(Side::A, 0)),
         Call::Word(offset) => format!(in alloc; "{}", word(pair, Side::A, *offset)),
         Call::PadAt(side, index) => format!(in alloc; "{}", pair.pad(*side, *index % 16)),
         _ => Ok(String::new(alloc)),
@@ -145,12 +148,6 @@ fn make(alloc: Global, pair: &mut Pair, call: &Call) -> Result<String, AllocErro
         Call::Train => {
             train(pair);
         }
-        Call::Land => {
-            pair.land(Side::B, 0);
-        }
-        Call::LandReady => {
-            pair.land(Side::A, 0);
-        }
         Call::Told(index, value) => tell(pair, *index, *value)?,
         Call::PutWord(offset) => set_word(pair, Side::A, *offset, 1)?,
         _ => return shake(alloc, pair, call),
@@ -159,11 +156,18 @@ fn make(alloc: Global, pair: &mut Pair, call: &Call) -> Result<String, AllocErro
 }
 
 // Makes these calls one after another on a new pair with this side B, each of which is to answer what stands beside it.
-fn follow(rt: &impl Abort, alloc: Global, b: SidePlan, calls: &[(Call, &str)]) -> Result<(), Fail>
+fn follow(
+    rt: &impl Abort,
+    alloc: Global,
+    queues: u32,
+    b: SidePlan,
+    calls: &[(Call, &str)],
+) -> Result<(), Fail>
+    requires queues { IsQueues queues }
     requires side { IsSide b }
     requires size { b.size ≡ 4096 }
 {
-    let mut pair = Pair::new(alloc, &plan_with(b))?;
+    let mut pair = Pair::new(alloc, &plan_with(queues, b))?;
     for (call, want) in calls {
         let answer = make(alloc, &mut pair, call)?;
         assert_eq!(rt; answer.as_str(), *want);
@@ -175,24 +179,27 @@ fn follow(rt: &impl Abort, alloc: Global, b: SidePlan, calls: &[(Call, &str)]) -
 fn an_offer_ends_with_the_version(rt: HostRuntime) -> Result<(), Fail> {
     let calls = [
         (Call::Offer, "LinkDown"),
+        (Call::Check, "Some(LinkDown)"),
+        (Call::Ready, "Some(LinkDown)"),
+        (Call::Join, "Some(LinkDown)"),
         (Call::Train, ""),
         (Call::Offer, "Offered { index: 4 }"),
         (Call::Offer, "Offered { index: 5 }"),
         (Call::Offer, "Offered { index: 3 }"),
         (Call::Offer, "Offered { index: 2 }"),
-        (Call::Land, ""),
-        (Call::Land, ""),
-        (Call::Land, ""),
-        (Call::Land, ""),
+        (Call::Land, "Landed(Pad { index: 4, value: 0 })"),
+        (Call::Land, "Landed(Pad { index: 5, value: 4096 })"),
+        (Call::Land, "Landed(Pad { index: 3, value: 1 })"),
+        (Call::Land, "Landed(Pad { index: 2, value: 1 })"),
         (Call::PadAt(Side::A, 5), "4096"),
         (Call::Check, "Some(NotYet)"),
         (Call::Offer, "Offered { index: 0 }"),
         (Call::Check, "Some(NotYet)"),
-        (Call::Land, ""),
+        (Call::Land, "Landed(Pad { index: 0, value: 4 })"),
         (Call::PadAt(Side::A, 0), "4"),
         (Call::Offer, "Already"),
     ];
-    follow(&rt, rt.alloc(), side_with(4, 1, 1), &calls)
+    follow(&rt, rt.alloc(), 1, side_with(4, 1, 1), &calls)
 }
 
 // The scratchpads as the peer might have written them.
@@ -204,6 +211,8 @@ fn what_differs_is_said(rt: HostRuntime) -> Result<(), Fail> {
         (Call::Check, "Some(Version { seen: 3, own: 4 })"),
         (Call::Told(0, 5), ""),
         (Call::Check, "Some(Queues { seen: 0, own: 1 })"),
+        (Call::Told(2, 2), ""),
+        (Call::Check, "Some(Queues { seen: 2, own: 1 })"),
         (Call::Told(2, 1), ""),
         (Call::Told(3, 2), ""),
         (Call::Check, "Some(Windows { seen: 2, own: 1 })"),
@@ -213,7 +222,7 @@ fn what_differs_is_said(rt: HostRuntime) -> Result<(), Fail> {
         (Call::Told(5, 4096), ""),
         (Call::Check, "Some(Up)"),
     ];
-    follow(&rt, rt.alloc(), side_with(5, 1, 1), &calls)
+    follow(&rt, rt.alloc(), 1, side_with(5, 1, 1), &calls)
 }
 
 // Side A comes up over flags that an entry left.
@@ -234,12 +243,32 @@ fn a_queue_is_joined(rt: HostRuntime) -> Result<(), Fail> {
         (Call::Join, "Some(NotReady)"),
         (Call::Ready, "Some(Ok)"),
         (Call::Ready, "Some(Already)"),
-        (Call::LandReady, ""),
+        (Call::LandReady, "Landed(Pad { index: 1, value: 1 })"),
         (Call::PadAt(Side::B, 1), "1"),
         (Call::Join, "Some(NotYet)"),
         (Call::Told(1, 1), ""),
         (Call::Join, "Some(Joined)"),
         (Call::Join, "Some(Already)"),
     ];
-    follow(&rt, rt.alloc(), side_with(4, 1, 1), &calls)
+    follow(&rt, rt.alloc(), 1, side_with(4, 1, 1), &calls)
+}
+
+// Two queues have rings of 2 entries, whose headers end at 1,022 and at 3,070 in the first slots.
+#[test]
+fn rings_of_two_entries_are_fresh(rt: HostRuntime) -> Result<(), Fail> {
+    let calls = [
+        (Call::Train, ""),
+        (Call::PutWord(1018), ""),
+        (Call::PutWord(3066), ""),
+        (Call::Told(2, 2), ""),
+        (Call::Told(3, 1), ""),
+        (Call::Told(5, 4096), ""),
+        (Call::Told(0, 4), ""),
+        (Call::Check, "Some(Up)"),
+        (Call::Word(1018), "0"),
+        (Call::Word(3066), "0"),
+        (Call::Word(2044), "1"),
+        (Call::Word(4092), "1"),
+    ];
+    follow(&rt, rt.alloc(), 2, side_with(4, 2, 1), &calls)
 }

@@ -45,7 +45,7 @@ loop-k-preserved c =
       rest = pages_again c.args.pair.now c.loop-k.pair c.promise_entry.new.pair (other_side rings.side) c.loop-k.invariant.rest c.promise_entry.ensures.rest;
       pages = pages_grow here;
       done = entries_promised rings c.args.from (c.args.from + c.from.result) c.loop-k.k (length c.piece_bytes.result.now) (pieces_of (largest_in rings) c.args.frame.now) _ _ (ap (λ k. c.args.from + k) c.from.ensures) (piece_is here).0
-      c.loop-k.invariant.done c.promise_entry.ensures.pages c.in_ok-promise_entry.ensures.ok;
+          c.loop-k.invariant.done c.promise_entry.ensures.pages c.in_ok-promise_entry.ensures.ok;
     }
 
 pub returns-clause-ok : goal.returns-clause-ok

@@ -1,6 +1,6 @@
 use Rattle.std.proofs.Common.{◌≡◌}
 use Rattle.frame_ring.specs.Seen.{HasPagesIn, HasRoomIn}
-use Rattle.frame_ring.proofs.tests.post_and_land.Given as goal
+use Rattle.frame_ring.proofs.tests.post_all.Given as goal
 
 abbrev pub invariant-loop-turn : goal.invariant-loop-turn
 invariant-loop-turn l =
