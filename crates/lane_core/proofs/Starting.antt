@@ -1,10 +1,9 @@
 -- The ring law holds of a lane at the start of its session.
-use Rattle.std.proofs.Common.{◌≡◌, ℕ, ◌+◌, ◌-◌, ◌%◌, ◌<◌, ◌≤◌, length, replicate, refl, sym, ap, ◌∙◌, arith, mod-lt, mod-eq_of_lt, List, [], map, subst}
-use Rattle.std.proofs.lemmas.List.{length-replicate, get_or-replicate}
-use Rattle.lane_model.specs.Lane.{Slot, blank_slot, slot_of}
-use Rattle.lane_laws.specs.Laws.{IsFresh}
+use Rattle.std.proofs.Common.{◌≡◌, ℕ, ◌+◌, ◌-◌, ◌%◌, ◌<◌, ◌≤◌, replicate, refl, sym, ◌∙◌, arith, mod-eq_of_lt, List, [], map, subst}
+use Rattle.std.proofs.lemmas.List.{length-replicate}
+use Rattle.lane_model.specs.Lane.{Slot}
 use Rattle.lane_model.specs.Law.{HoldsRingLaw}
-use Rattle.lane_laws.proofs.Facade.{fresh_holds}
+use Rattle.lane_laws.proofs.Facade.{new_holds}
 use Rattle.lane_model.specs.declared.Write.{Write}
 use Rattle.posted_queue.specs.Flight.{Flight, nothing_in_flight}
 use Rattle.lane_core.specs.Parts.{entry_seen, place_seen}
@@ -14,29 +13,8 @@ use Rattle.lane_core.specs.declared.write.PostedWrite.{PostedWrite}
 use Rattle.lane_core.specs.declared.write.IndexWrite.{IndexWrite}
 use Rattle.lane_core.specs.Fresh.{fresh_lane, zeroed_slot}
 
-place_zero : (entries largest k : ℕ) → 2 ≤ entries → slot_of (fresh_lane entries largest) k ≡ zeroed_slot largest
-place_zero entries largest k two = get_or-replicate entries (k % entries) (zeroed_slot largest) blank_slot (mod-lt k (omega arith))
-
 pub fresh_law : (entries largest : ℕ) → 2 ≤ entries → HoldsRingLaw (fresh_lane entries largest)
-fresh_law entries largest two =
-    let fresh : IsFresh (fresh_lane entries largest) = record {
-      two_entries = two;
-      slots = length-replicate entries (zeroed_slot largest);
-      rooms = λ k below. ap (λ (place : Slot). length place.payload) (place_zero entries largest k two) ∙ length-replicate largest 0;
-      no_flags = λ k. ap (λ (place : Slot). place.flags) (place_zero entries largest k two);
-      index_word = last_free entries two;
-      sent = refl;
-      todo = refl;
-      flight = refl;
-      returning = refl;
-      flagged = refl;
-      got = refl;
-      cleared = refl;
-      acked = refl;
-      freed = refl;
-      phase = refl;
-    } in
-    fresh_holds (fresh_lane entries largest) fresh
+fresh_law entries largest two = new_holds entries largest (entries - 1) (zeroed_slot largest) two (length-replicate largest 0) refl (last_free entries two)
   where
     last_free : (n : ℕ) → 2 ≤ n → n - 1 ≡ (0 + n - 1) % n
     last_free n two_or_more =

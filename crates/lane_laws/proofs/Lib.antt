@@ -2,6 +2,7 @@ pub mod Chunks
 pub mod Facade
 pub mod Landing
 pub mod LaneLaws
+pub mod NewLanes
 pub mod Numbers
 pub mod Receiver
 pub mod Ring

@@ -1,6 +1,6 @@
 -- Worked examples: what one frame of a byte does to a lane with a ring of two slots, step by step.
 use Rattle.std.specs.Prelude.{◌≡◌, ℕ, true, false, List, [], ◌∷◌, replicate}
-use Rattle.lane_model.specs.Lane.{Entry, Carries, GoesDown, Lane, Slot, free_in, writes_of}
+use Rattle.lane_model.specs.Lane.{Entry, Carries, GoesDown, Lane, Slot, free_in, new_lane, writes_of}
 use Rattle.lane_model.specs.Ring.{head_of, tail_of, room_of}
 use Rattle.lane_model.specs.Steps.{after_begin, after_post, after_landing, after_look, after_copy, after_clear, after_ack, after_index, after_cut, after_drop, more_to_copy}
 use Rattle.lane_model.specs.declared.Field.TheVariants.{Chunk, Length, Version}
@@ -13,25 +13,7 @@ abbrev pub slot : ℕ → ℕ → ℕ → ℕ → Slot
 slot byte len ver flags = record { payload = byte ∷ 0 ∷ []; left = 0; ver = ver; len = len; flags = flags }
 
 abbrev pub fresh : Lane
-fresh =
-    record {
-      entries = 2;
-      largest = 2;
-      up = true;
-      sent = [];
-      todo = [];
-      flight = [];
-      returning = [];
-      ring = slot 0 0 0 0 ∷ slot 0 0 0 0 ∷ [];
-      index_word = 1;
-      flagged = 0;
-      got = 0;
-      cleared = 0;
-      acked = 0;
-      freed = 0;
-      phase = Idle;
-      part = 0;
-    }
+fresh = new_lane 2 2 (slot 0 0 0 0 ∷ slot 0 0 0 0 ∷ []) 1
 
 abbrev pub letter : Entry
 letter = Carries (97 ∷ []) 0

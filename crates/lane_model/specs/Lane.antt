@@ -1,13 +1,14 @@
 -- One lane in one session: what its sender began, what is on its way, the ring in the receiver's memory, and how far
 -- each has come. `ntb_transport` moves frames in the same way: payload and header into a ring in the peer's memory,
 -- then the header's DONE flag and a doorbell, and an index written back once the receiver is done.
-use Rattle.std.specs.Prelude.{ℕ, zero, suc, ◌+◌, ◌-◌, ◌*◌, ◌/◌, ◌%◌, ◌^◌, max, Bool, List, [], ◌∷◌, ◌++◌, length, map, take, drop, replicate, slice_index_or, slice_set}
+use Rattle.std.specs.Prelude.{ℕ, zero, suc, ◌+◌, ◌-◌, ◌*◌, ◌/◌, ◌%◌, ◌^◌, max, Bool, true, List, [], ◌∷◌, ◌++◌, length, map, take, drop, replicate, slice_index_or, slice_set}
 use Rattle.lane_model.specs.Ring.{head_of, free_entries}
 pub use Rattle.lane_model.specs.declared.Field.{Field}
 pub use Rattle.lane_model.specs.declared.Field.TheVariants.{Chunk, Length, Version}
 pub use Rattle.lane_model.specs.declared.Write.{Write}
 pub use Rattle.lane_model.specs.declared.Write.TheVariants.{Data, Flag, Bell}
 use Rattle.lane_model.specs.declared.Phase.{Phase}
+use Rattle.lane_model.specs.declared.Phase.TheVariants.{Idle}
 
 -- What a sender puts into one slot of the ring: a piece of a frame with the number of pieces that follow it, or the word
 -- that this end of the queue goes down. A frame that fits one slot is one piece, and none is left.
@@ -65,6 +66,28 @@ pub record Lane : Type 0 where
   -- where the receiver stands with entry `got`, and how many parts of it were copied
   pub phase : Phase
   pub part : ℕ
+
+-- a lane in which nothing was begun, with this ring and this index word
+abbrev pub new_lane : ℕ → ℕ → List Slot → ℕ → Lane
+new_lane entries largest ring index_word =
+    record {
+      entries = entries;
+      largest = largest;
+      up = true;
+      sent = [];
+      todo = [];
+      flight = [];
+      returning = [];
+      ring = ring;
+      index_word = index_word;
+      flagged = 0;
+      got = 0;
+      cleared = 0;
+      acked = 0;
+      freed = 0;
+      phase = Idle;
+      part = 0;
+    }
 
 -- the bytes of a chunk; a payload is cut from its start, and the last chunk may be shorter
 abbrev pub chunk_size : ℕ

@@ -1,18 +1,18 @@
 -- Seats that are cut in two and joined keep the rule, and so does the table at the start.
-use Rattle.std.proofs.Common.{◌≡◌, ℕ, zero, suc, ◌+◌, ◌-◌, ◌%◌, ◌^◌, ◌<◌, ◌≤◌, true, false, List, [], ◌∷◌, length, map, refl, sym, ap, ◌∙◌, inl, inr, arith, mod-lt, None, replicate}
+use Rattle.std.proofs.Common.{◌≡◌, ℕ, zero, suc, ◌+◌, ◌-◌, ◌%◌, ◌^◌, ◌<◌, ◌≤◌, false, List, [], ◌∷◌, length, map, refl, sym, ap, ◌∙◌, inl, inr, arith, mod-lt, None, replicate}
 use Rattle.std.proofs.lemmas.Bool.{le-ltb}
 use Rattle.std.proofs.lemmas.List.{length-replicate, get_or-replicate}
 use mathlib.Core.Option.{some, none}
 use mathlib.Core.Option as home
 use lib.ListN.{get_elem?}
 use Rattle.atomic_table.specs.Table.{Splits, Joins, opening}
-use Rattle.table_rule.specs.LaneNames.{Lane, Slot, blank_slot, Idle, tail_of}
+use Rattle.table_rule.specs.LaneNames.{Lane, Slot, new_lane, tail_of}
 use Rattle.table_rule.specs.Words.{words_of, first_words}
 use Rattle.table_rule.specs.Views.{LaneView, joined, no_parts, without_mover, mover_alone, without_recv, recv_alone, without_back, back_alone, without_cut, cut_alone, all_parts, new_send, new_move, new_recv, new_back, new_cut}
 use Rattle.table_rule.specs.ShownLane.{borders_of}
 use Rattle.table_rule.specs.Moment.{Moment, EachHasOneSeat, ShowsLane}
 use Rattle.table_rule.specs.Rule.{Content, Board, IsMoment, ShowsALane}
-use Rattle.table_rule.proofs.LaneLaws.{IsFresh, fresh_holds}
+use Rattle.table_rule.proofs.LaneLaws.{new_holds}
 use Rattle.table_rule.proofs.Seats.{GoesToOne, part_splits, part_joins}
 use Rattle.table_rule.proofs.Slots.{slot_is}
 
@@ -72,51 +72,15 @@ some_payload n = (replicate n 0, length-replicate n 0)
 abbrev new_slot : List ℕ → Slot
 new_slot payload = record { payload = payload; left = 0; ver = 0; len = 0; flags = 0 }
 
-abbrev new_lane : ℕ → List ℕ → Lane
-new_lane N payload = record {
-  entries = N;
-  largest = 65536;
-  up = true;
-  sent = [];
-  todo = [];
-  flight = [];
-  returning = [];
-  ring = replicate N (new_slot payload);
-  index_word = tail_of N 0;
-  flagged = 0;
-  got = 0;
-  cleared = 0;
-  acked = 0;
-  freed = 0;
-  phase = Idle;
-  part = 0;
-}
+abbrev lane_at_start : ℕ → List ℕ → Lane
+lane_at_start N payload = new_lane N 65536 (replicate N (new_slot payload)) (tail_of N 0)
 
 abbrev new_moment : ℕ → List ℕ → Moment
-new_moment N payload = record { words = first_words N; lane = new_lane N payload; send = new_send N; mover = new_move N; recv = new_recv N; back = new_back N; cut = new_cut N }
-
-is_fresh : (N : ℕ) (payload : List ℕ) → 2 ≤ N → length payload ≡ 65536 → IsFresh (new_lane N payload)
-is_fresh N payload two long = record {
-  two_entries = two;
-  slots = length-replicate N (new_slot payload);
-  rooms = λ k below. ap (λ (s : Slot). length s.payload) (get_or-replicate N (k % N) (new_slot payload) blank_slot (mod-lt k (omega arith))) ∙ long;
-  no_flags = λ k. ap (λ (s : Slot). s.flags) (get_or-replicate N (k % N) (new_slot payload) blank_slot (mod-lt k (omega arith)));
-  index_word = refl;
-  sent = refl;
-  todo = refl;
-  flight = refl;
-  returning = refl;
-  flagged = refl;
-  got = refl;
-  cleared = refl;
-  acked = refl;
-  freed = refl;
-  phase = refl;
-}
+new_moment N payload = record { words = first_words N; lane = lane_at_start N payload; send = new_send N; mover = new_move N; recv = new_recv N; back = new_back N; cut = new_cut N }
 
 new_shows : (N : ℕ) (payload : List ℕ) → 2 ≤ N → N ≤ 65535 → length payload ≡ 65536 → ShowsLane N (new_moment N payload) (map some (replicate N None))
 new_shows N payload two small long = record {
-  law = fresh_holds (new_lane N payload) (is_fresh N payload two long);
+  law = new_holds N 65536 (tail_of N 0) (new_slot payload) two long refl refl;
   of = record { entries = refl; largest = refl; up = refl; todo = refl; small = small };
   parts = record { entries = refl; whole = refl; flight = refl; copied = refl; stage = refl; given_back = refl };
   posted = record { newest = λ n below near. absurd (omega arith); never = λ position past below. get_or-replicate N position 0 0 below };
