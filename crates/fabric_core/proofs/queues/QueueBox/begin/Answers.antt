@@ -1,17 +1,15 @@
-use Rattle.std.proofs.Common.{◌≡◌, ◌∙◌, ◌-◌, ap, refl, subst, sym}
-use Rattle.step_kinds.specs.Sides.{other_side}
+use Rattle.std.proofs.Common.{◌≡◌, ◌∙◌, ap, refl, subst, sym}
 use Rattle.lane_model.specs.Tests.{is_copying}
 use Rattle.plan_model.specs.Link.{Link}
-use Rattle.bridge_pair.specs.Bridge.{Bridge, pages_of}
+use Rattle.bridge_pair.specs.Bridge.{Bridge}
 use Rattle.frame_ring.specs.Calls.{TouchedByBegin}
-use Rattle.frame_ring.specs.Port.{Receiving, unused_of}
-use Rattle.frame_ring.specs.Seen.{HasPagesIn}
+use Rattle.frame_ring.specs.Port.{Receiving}
 use Rattle.queue_pair.specs.Gates.{after_begin}
 use Rattle.queue_pair.specs.Queue.{QueueState}
 use Rattle.queue_pair.specs.declared.BeginAnswer.{BeginAnswer}
 use Rattle.fabric_rule.specs.Answers.{of_begin}
 use Rattle.fabric_rule.specs.Moves.{accepted_where_begun}
-use Rattle.fabric_rule.specs.Parts.{QueuePart, one_more, plain_bridge}
+use Rattle.fabric_rule.specs.Parts.{QueuePart, one_more}
 use Rattle.fabric_core.specs.Parts.{KeepsPort}
 use Rattle.fabric_core.specs.Sessions.{Tallied}
 use Rattle.fabric_core.specs.Turns.{begin_turn}

@@ -1,13 +1,7 @@
-use Rattle.std.proofs.Common.{◌∙◌, ◌-◌, IsTrue, ap, rules, subst, sym}
-use Rattle.step_kinds.specs.Sides.{other_side}
-use Rattle.bridge_pair.specs.Bridge.{pages_of}
+use Rattle.std.proofs.Common.{IsTrue, ap, rules}
 use Rattle.frame_ring.specs.Calls.{TouchedByFlags, TouchedByLook}
-use Rattle.frame_ring.specs.Port.{unused_of}
-use Rattle.frame_ring.specs.Seen.{HasPagesIn}
 use Rattle.queue_pair.specs.Gates.{after_look}
 use Rattle.queue_pair.specs.Queue.{QueueState}
-use Rattle.fabric_rule.specs.Parts.{QueuePart, plain_bridge}
-use Rattle.fabric_core.specs.Parts.{KeepsPort}
 use Rattle.fabric_core.specs.Sessions.{Tallied}
 use Rattle.fabric_core.proofs.Keeping.{keeps_both, keeps_seen, plain_grown_both, ready_both, same_place}
 use Rattle.fabric_core.proofs.Phases.{look_place}

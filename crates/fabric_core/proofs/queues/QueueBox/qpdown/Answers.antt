@@ -1,14 +1,9 @@
-use Rattle.std.proofs.Common.{◌∙◌, ◌-◌, ap, subst, sym}
-use Rattle.step_kinds.specs.Sides.{other_side}
+use Rattle.std.proofs.Common.{◌∙◌, ap, sym}
 use Rattle.lane_model.specs.Tests.{is_copying}
-use Rattle.bridge_pair.specs.Bridge.{pages_of}
 use Rattle.frame_ring.specs.Calls.{TouchedByDown}
-use Rattle.frame_ring.specs.Port.{Receiving, unused_of}
-use Rattle.frame_ring.specs.Seen.{HasPagesIn}
+use Rattle.frame_ring.specs.Port.{Receiving}
 use Rattle.queue_pair.specs.Gates.{after_qpdown}
 use Rattle.queue_pair.specs.Queue.{QueueState}
-use Rattle.fabric_rule.specs.Parts.{QueuePart, plain_bridge}
-use Rattle.fabric_core.specs.Parts.{KeepsPort}
 use Rattle.fabric_core.proofs.Keeping.{down_place, down_receives, keeps_grown, keeps_seen, plain_grown, ready_after, same_place}
 use Rattle.fabric_core.proofs.queues.QueueBox.qpdown.Goals as goal
 
