@@ -77,7 +77,11 @@ fn push_answers(alloc: Global, text: &mut Vec<u8>, lines: &[LineAnswer]) -> Resu
 
 /// Adds the line of an answer: the number of its script line, a space, and the answer's text. The only error is want of
 /// memory, and then some part of the line may have been added.
-pub fn push_answer_line(alloc: Global, text: &mut Vec<u8>, made: &LineAnswer) -> Result<(), AllocError>
+pub fn push_answer_line(
+    alloc: Global,
+    text: &mut Vec<u8>,
+    made: &LineAnswer,
+) -> Result<(), AllocError>
     ensures { OnOk result (text.new.items ≡ text.old.items ++ answer_line made.now) }
 {
     let mut digits = Buffer::new();
