@@ -1,9 +1,8 @@
 -- The report of a plan, made of what its functions give.
 use Rattle.std.proofs.Common.{◌≡◌, ◌∙◌, ℕ, ◌<◌, List, ◌++◌, Result, Ok, Err, IfOk, length, sym, ap, subst, arith, Global, Vec}
-use Rattle.std.specs.List.{All, flat_map}
+use Rattle.std.specs.List.{All}
 use Rattle.std.proofs.lemmas.List.{length-map}
 use Rattle.step_kinds.specs.declared.plan.Counters.{Counters}
-use Rattle.step_kinds.specs.declared.plan.LineAnswer.{LineAnswer}
 use Rattle.step_kinds.specs.declared.plan.Plan.{Plan}
 use Rattle.step_kinds.specs.declared.names.Side.{Side}
 use Rattle.step_kinds.specs.declared.names.Side.TheVariants.{A, B}

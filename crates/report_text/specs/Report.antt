@@ -1,5 +1,5 @@
 -- The text of a report and of a threaded run, from their data. Each line ends with a line feed.
-use Rattle.std.specs.Prelude.{ℕ, ◌+◌, ◌==◌, ◌&&◌, List, [], ◌∷◌, ◌++◌, codes, length, map, slice_index_or, if◌then◌else◌}
+use Rattle.std.specs.Prelude.{ℕ, ◌+◌, ◌==◌, ◌&&◌, List, [], ◌∷◌, ◌++◌, codes, length, slice_index_or, if◌then◌else◌}
 use Rattle.std.specs.List.{flat_map, zip}
 use Rattle.std.specs.Fmt.{decimal}
 use Rattle.step_kinds.specs.Runs.{SessionShown, LaneShown}
@@ -12,7 +12,6 @@ use Rattle.step_kinds.specs.declared.plan.LineAnswer.{LineAnswer}
 use Rattle.step_kinds.specs.declared.plan.PairPlan.{PairPlan}
 use Rattle.step_kinds.specs.declared.plan.Plan.{Plan}
 use Rattle.plan_model.specs.Plans.{no_pair}
-use Rattle.step_kinds.specs.declared.steps.Answer.{Answer}
 use Rattle.report_text.specs.Texts.{answer_text, frame_text, numbers_text}
 use Rattle.report_text.specs.declared.whole.LaneCount.{LaneCount}
 

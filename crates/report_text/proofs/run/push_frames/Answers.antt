@@ -1,4 +1,4 @@
-use Rattle.std.proofs.Common.{◌≡◌, ◌++◌, ◌+◌, ◌<◌, take, get_or, length, [], ap, ◌∙◌, arith}
+use Rattle.std.proofs.Common.{◌++◌, ◌+◌, ◌<◌, take, get_or, length, [], ap, ◌∙◌, arith}
 use Rattle.report_text.specs.Report.{frame_line, frame_lines}
 use Rattle.report_text.proofs.Devices.{grown}
 use Rattle.report_text.proofs.Runs.{frame_lines_more}

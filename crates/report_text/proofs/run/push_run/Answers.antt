@@ -1,4 +1,4 @@
-use Rattle.std.proofs.Common.{◌≡◌, ◌++◌, ◌+◌, take, map, get_or, sym, subst}
+use Rattle.std.proofs.Common.{◌≡◌, ◌++◌, ◌+◌, take, map, sym, subst}
 use Rattle.step_kinds.specs.Runs.{session_shown}
 use Rattle.report_text.specs.Report.{session_lines, sessions_lines}
 use Rattle.report_text.proofs.Devices.{grown}

@@ -1,4 +1,4 @@
-use Rattle.std.proofs.Common.{rules, ◌≡◌, ◌++◌, ap, ◌∙◌, sym}
+use Rattle.std.proofs.Common.{rules, ◌++◌, ap, ◌∙◌, sym}
 use Rattle.std.specs.Prelude.{codes}
 use Rattle.report_text.proofs.Runs.{runs_shown}
 use Rattle.report_text.specs.Report.{run_lines, end_line}
