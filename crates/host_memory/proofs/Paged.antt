@@ -1,57 +1,53 @@
 -- A memory in pages: what its bytes are at each address, and what one page read, written or added does to them.
-use Rattle.std.proofs.Common.{◌≡◌, ◌≢◌, ◌⊎◌, ℕ, ◌+◌, ◌-◌, ◌/◌, ◌%◌, ◌<◌, ◌≤◌, true, false, cond, Option, Some, None, IsSome, is_some, List, [], length, get_or, drop, replicate, refl, sym, ap, subst, ◌∙◌, nat_lt, rules, rules, inl, inr, ⊎_elim, arith, Contains}
+use Rattle.std.proofs.Common.{◌≡◌, ◌≢◌, ◌⊎◌, ℕ, ◌+◌, ◌-◌, ◌/◌, ◌%◌, ◌<◌, ◌≤◌, true, false, cond, Option, Some, None, IsSome, is_some, List, [], length, get_or, drop, replicate, refl, sym, ap, subst, ◌∙◌, nat_eq, rules, rules, inl, inr, ⊎_elim, arith, Contains}
 use borrow.Rule.Slice.PartMut.{mid_of, put_mid}
-use Rattle.std.specs.Ordering.{nat_cmp, is_eq}
-use Rattle.std.specs.declared.cmp.Ordering.TheVariants.{Less, Greater}
 use Rattle.std.specs.Map.{lookup, keys_of}
-use Rattle.std.specs.BTreeMap as tree
+use Rattle.std.specs.HashMap.{IsEmpty, IsUnique, Updates, get, keys}
 use Rattle.std.specs.Global.{Box}
-use Rattle.std.proofs.lemmas.Bool.{cases_lt, cases_eq, ne_eqb, true≢false}
+use Rattle.std.proofs.lemmas.Bool.{cases_lt, cases_eq, eqb-false, ne_eqb, true≢false}
 use Rattle.std.proofs.lemmas.Grind.{get_or_default_zero}
 use Rattle.std.proofs.lemmas.List.{places, same_lists, get_or-drop, get_or-replicate, get_or-take, length-replicate}
 use Rattle.std.proofs.lemmas.List.FromFn.{length-map-range_with_len, get_or-map-range_with_len}
 use Rattle.std.proofs.lemmas.Slice.{overwrites}
-use Rattle.std.proofs.lemmas.Map.Keys.{below_from_sorted}
-use Rattle.std.proofs.lemmas.Map.Lookups.{exact_unsigned}
-use Rattle.std.proofs.lemmas.Map.Views.{btree_map_contains_key_iff}
-use Rattle.std.specs.Cmp.{nat_cmp_total}
+use Rattle.std.proofs.lemmas.Map.Keys.{apart_from_distinct}
+use Rattle.std.proofs.lemmas.Map.Views.{exact_unsigned_eq, hash_map_contains_key_iff}
+use Rattle.std.specs.Cmp.{nat_eq_equiv}
 use Rattle.host_memory.specs.Memory.{Contents, NoRepeats, bytes_at, written}
 use Rattle.host_memory.proofs.Writes.{length-written, written_inside, written_outside}
 use Rattle.host_memory.specs.Pages.{Pages, byte_on, byte_in, bytes_in}
 
-pub length-bytes_in : (pages : Pages) (len : ℕ) → length (bytes_in pages len) ≡ len
+pub length-bytes_in : {Hasher : Type 0} (pages : Pages Hasher) (len : ℕ) → length (bytes_in pages len) ≡ len
 length-bytes_in pages len = length-map-range_with_len (byte_in pages) 0 len
 
-pub byte-bytes_in : (pages : Pages) (len k d : ℕ) → k < len → get_or (bytes_in pages len) k d ≡ byte_in pages k
+pub byte-bytes_in : {Hasher : Type 0} (pages : Pages Hasher) (len k d : ℕ) → k < len → get_or (bytes_in pages len) k d ≡ byte_in pages k
 byte-bytes_in pages len k d within = get_or-map-range_with_len (byte_in pages) 0 len k k d within (omega arith)
 
 -- with no page all is zeros
-byte-none : (pages : Pages) (k : ℕ) → tree.IsEmpty pages → byte_in pages k ≡ 0
+byte-none : {Hasher : Type 0} (pages : Pages Hasher) (k : ℕ) → IsEmpty pages → byte_in pages k ≡ 0
 byte-none pages k empty =
-    ap (λ es. byte_on (lookup (tree.is_at (nat_cmp (k / 4096))) es) (k % 4096)) empty
+    ap (λ es. byte_on (lookup (nat_eq (k / 4096)) es) (k % 4096)) empty
 
-pub bytes_in-none : (pages : Pages) (len : ℕ) → tree.IsEmpty pages → bytes_in pages len ≡ replicate len 0
+pub bytes_in-none : {Hasher : Type 0} (pages : Pages Hasher) (len : ℕ) → IsEmpty pages → bytes_in pages len ≡ replicate len 0
 bytes_in-none pages len empty =
     same_lists _ _ (length-bytes_in pages len ∙ sym (length-replicate len 0))
     (λ k d h.
     let within : k < len = subst (λ n. k < n) (length-bytes_in pages len) h in
     byte-bytes_in pages len k d within ∙ byte-none pages k empty ∙ sym (get_or-replicate len k 0 d within))
 
--- the keys of a map in order
-pub no_repeats : (pages : Pages) → tree.IsOrdered nat_cmp pages → NoRepeats (tree.keys pages)
-no_repeats pages ordered i j i<j within e =
-    let below : get_or (tree.keys pages) i 0 < get_or (tree.keys pages) j 0 = below_from_sorted (tree.keys pages) i j 0 ordered i<j within in
-    omega (arith, below, e)
+-- no key of a map stands twice
+pub no_repeats : {Hasher : Type 0} (pages : Pages Hasher) → IsUnique nat_eq pages → NoRepeats (keys pages)
+no_repeats pages unique i j i<j within e =
+    eqb-false (get_or (keys pages) i 0) (get_or (keys pages) j 0) (apart_from_distinct nat_eq (keys pages) i j 0 unique i<j within) e
 
 -- the page and the place of an address that lies behind another one on its page
 pub same_page : (at k : ℕ) → at % 4096 + k < 4096 → ((at + k) / 4096 ≡ at / 4096) × ((at + k) % 4096 ≡ at % 4096 + k)
 same_page at k fits = (omega arith, omega arith)
 
-pub keys-none : (pages : Pages) → tree.IsEmpty pages → tree.keys pages ≡ []
+pub keys-none : {Hasher : Type 0} (pages : Pages Hasher) → IsEmpty pages → keys pages ≡ []
 keys-none pages empty = ap keys_of empty
 
 -- what a view says of bytes
-pub bytes_seen : (pages : Pages) (len : ℕ) (contents : Contents) (seen : Contents) → seen ≡ contents → seen.bytes ≡ bytes_in pages len → bytes_in pages len ≡ contents.bytes
+pub bytes_seen : {Hasher : Type 0} (pages : Pages Hasher) (len : ℕ) (contents : Contents) (seen : Contents) → seen ≡ contents → seen.bytes ≡ bytes_in pages len → bytes_in pages len ≡ contents.bytes
 bytes_seen pages len contents seen e same = sym same ∙ ap (λ (c : Contents). c.bytes) e
 
 -- a byte of the middle of a list
@@ -67,39 +63,39 @@ middle_written xs xs' ys ys' start end same_xs same_ys size fits =
     ∙ search (rules, overwrites)
 
 -- a page that is among the keys is there
-pub is_there : (pages : Pages) (page : ℕ) → Contains (tree.keys pages) page → IsSome (tree.get nat_cmp pages page)
-is_there pages page among = (btree_map_contains_key_iff nat_cmp_total exact_unsigned pages page).1 among
+pub is_there : {Hasher : Type 0} (pages : Pages Hasher) (page : ℕ) → Contains (keys pages) page → IsSome (get nat_eq pages page)
+is_there pages page among = (hash_map_contains_key_iff nat_eq_equiv exact_unsigned_eq pages page).1 among
 
-pub is_among : (pages : Pages) (page : ℕ) → IsSome (tree.get nat_cmp pages page) → Contains (tree.keys pages) page
-is_among pages page there = (btree_map_contains_key_iff nat_cmp_total exact_unsigned pages page).0 there
+pub is_among : {Hasher : Type 0} (pages : Pages Hasher) (page : ℕ) → IsSome (get nat_eq pages page) → Contains (keys pages) page
+is_among pages page there = (hash_map_contains_key_iff nat_eq_equiv exact_unsigned_eq pages page).0 there
 
 -- one page, read
-pub read_piece : (pages : Pages) (len at n : ℕ) (out : List ℕ) → at + n ≤ len → at % 4096 + n ≤ 4096 → length out ≡ n
-    → ((k : ℕ) → k < n → get_or out k 0 ≡ byte_on (tree.get nat_cmp pages (at / 4096)) (at % 4096 + k))
+pub read_piece : {Hasher : Type 0} (pages : Pages Hasher) (len at n : ℕ) (out : List ℕ) → at + n ≤ len → at % 4096 + n ≤ 4096 → length out ≡ n
+    → ((k : ℕ) → k < n → get_or out k 0 ≡ byte_on (get nat_eq pages (at / 4096)) (at % 4096 + k))
     → out ≡ bytes_at at n (bytes_in pages len)
 read_piece pages len at n out within one_page size same =
     same_lists _ _ (let l = length-bytes_in pages len in grind (arith, places))
     (λ k d h.
     let k<n : k < n = omega (arith, h, size) in
     let there = same_page at k (omega (arith, within, one_page, k<n)) in
-    let found : byte_on (tree.get nat_cmp pages (at / 4096)) (at % 4096 + k) ≡ byte_in pages (at + k) =
-    sym (ap (λ page. byte_on (tree.get nat_cmp pages page) ((at + k) % 4096)) there.0 ∙ ap (λ place. byte_on (tree.get nat_cmp pages (at / 4096)) place) there.1) in
+    let found : byte_on (get nat_eq pages (at / 4096)) (at % 4096 + k) ≡ byte_in pages (at + k) =
+    sym (ap (λ page. byte_on (get nat_eq pages page) ((at + k) % 4096)) there.0 ∙ ap (λ place. byte_on (get nat_eq pages (at / 4096)) place) there.1) in
     get_or_default_zero out k d h ∙ same k k<n ∙ found
     ∙ sym (byte-bytes_in pages len (at + k) d (omega (arith, within, k<n)))
     ∙ sym (get_or-drop at (bytes_in pages len) k d)
     ∙ sym (get_or-take n (drop at (bytes_in pages len)) k d k<n))
 
 -- a key that differs is another one
-other_key : (p q : ℕ) → p ≢ q → tree.is_at (nat_cmp p) q ≡ false
-other_key p q apart = rw (ne_eqb p q apart) (elim (nat_lt p q) as (λ b. is_eq (cond b Less Greater) ≡ false) [ true ↦ refl | false ↦ refl ])
+other_key : (p q : ℕ) → p ≢ q → nat_eq p q ≡ false
+other_key p q apart = ne_eqb p q apart
 
 none_of : {X : Type 0} (found : Option X) → is_some found ≡ false → found ≡ None
 none_of None absent = refl
 none_of (Some x) absent = absurd (true≢false absent)
 
 -- a page of zeros, added
-pub zeros_added : (pages new : Pages) (page : ℕ) (zeros : Box (List ℕ)) → is_some (tree.get nat_cmp pages page) ≡ false
-    → tree.Updates nat_cmp pages new page (Some zeros) → zeros.value ≡ replicate 4096 0
+pub zeros_added : {Hasher : Type 0} (pages new : Pages Hasher) (page : ℕ) (zeros : Box (List ℕ)) → is_some (get nat_eq pages page) ≡ false
+    → Updates nat_eq pages new page (Some zeros) → zeros.value ≡ replicate 4096 0
     → (len : ℕ) → bytes_in new len ≡ bytes_in pages len
 zeros_added pages new page zeros absent updates blank len =
     same_lists _ _ (length-bytes_in new len ∙ sym (length-bytes_in pages len))
@@ -109,36 +105,36 @@ zeros_added pages new page zeros absent updates blank len =
   where
     reads : (k : ℕ) → (k / 4096 ≡ page) ⊎ (k / 4096 ≢ page) → byte_in new k ≡ byte_in pages k
     reads k (inl same) =
-        ap (λ q. byte_on (tree.get nat_cmp new q) (k % 4096)) same ∙ ap (λ found. byte_on found (k % 4096)) updates.1
+        ap (λ q. byte_on (get nat_eq new q) (k % 4096)) same ∙ ap (λ found. byte_on found (k % 4096)) updates.1
         ∙ ap (λ bytes. get_or bytes (k % 4096) 0) blank ∙ get_or-replicate 4096 (k % 4096) 0 0 (omega arith)
-        ∙ sym (ap (λ q. byte_on (tree.get nat_cmp pages q) (k % 4096)) same ∙ ap (λ found. byte_on found (k % 4096)) (none_of _ absent))
+        ∙ sym (ap (λ q. byte_on (get nat_eq pages q) (k % 4096)) same ∙ ap (λ found. byte_on found (k % 4096)) (none_of _ absent))
     reads k (inr differs) = ap (λ found. byte_on found (k % 4096)) (updates.2 (k / 4096) (other_key page (k / 4096) (λ e. differs (sym e))))
 
-pub added_is_among : (pages new : Pages) (page : ℕ) (zeros : Box (List ℕ)) → tree.Updates nat_cmp pages new page (Some zeros) → Contains (tree.keys new) page
+pub added_is_among : {Hasher : Type 0} (pages new : Pages Hasher) (page : ℕ) (zeros : Box (List ℕ)) → Updates nat_eq pages new page (Some zeros) → Contains (keys new) page
 added_is_among pages new page zeros updates = is_among new page (rw updates.1 refl)
 
-pub others_stay : (pages new : Pages) (page : ℕ) (zeros : Box (List ℕ)) → tree.Updates nat_cmp pages new page (Some zeros)
-    → (other : ℕ) → Contains (tree.keys pages) other → Contains (tree.keys new) other
+pub others_stay : {Hasher : Type 0} (pages new : Pages Hasher) (page : ℕ) (zeros : Box (List ℕ)) → Updates nat_eq pages new page (Some zeros)
+    → (other : ℕ) → Contains (keys pages) other → Contains (keys new) other
 others_stay pages new page zeros updates other among =
-    ⊎_elim (λ same. let P : ℕ → Type 0 = λ q. Contains (tree.keys new) q in subst P (sym same) (added_is_among pages new page zeros updates))
+    ⊎_elim (λ same. let P : ℕ → Type 0 = λ q. Contains (keys new) q in subst P (sym same) (added_is_among pages new page zeros updates))
     (λ differs. is_among new other (ap is_some (updates.2 other (other_key page other (λ e. differs (sym e)))) ∙ is_there pages other among))
     (cases_eq other page)
 
-pub only_one_more : (pages new : Pages) (page : ℕ) (zeros : Box (List ℕ)) → tree.Updates nat_cmp pages new page (Some zeros)
-    → (other : ℕ) → Contains (tree.keys new) other → Contains (tree.keys pages) other ⊎ (other ≡ page)
+pub only_one_more : {Hasher : Type 0} (pages new : Pages Hasher) (page : ℕ) (zeros : Box (List ℕ)) → Updates nat_eq pages new page (Some zeros)
+    → (other : ℕ) → Contains (keys new) other → Contains (keys pages) other ⊎ (other ≡ page)
 only_one_more pages new page zeros updates other among =
     ⊎_elim (λ same. inr same)
     (λ differs. inl (is_among pages other (sym (ap is_some (updates.2 other (other_key page other (λ e. differs (sym e))))) ∙ is_there new other among)))
     (cases_eq other page)
 
 -- a page that isn't there isn't among the keys
-pub not_among : (pages : Pages) (page : ℕ) → is_some (tree.get nat_cmp pages page) ≡ false → Contains (tree.keys pages) page → ⊥
+pub not_among : {Hasher : Type 0} (pages : Pages Hasher) (page : ℕ) → is_some (get nat_eq pages page) ≡ false → Contains (keys pages) page → ⊥
 not_among pages page absent among = true≢false (sym (is_there pages page among) ∙ absent)
 
 -- one page, written
-pub write_piece : (pages new : Pages) (len at : ℕ) (piece : List ℕ) (page page' : Box (List ℕ)) → at + length piece ≤ len → at % 4096 + length piece ≤ 4096
-    → tree.get nat_cmp pages (at / 4096) ≡ Some page
-    → tree.Updates nat_cmp pages new (at / 4096) (Some page')
+pub write_piece : {Hasher : Type 0} (pages new : Pages Hasher) (len at : ℕ) (piece : List ℕ) (page page' : Box (List ℕ)) → at + length piece ≤ len → at % 4096 + length piece ≤ 4096
+    → get nat_eq pages (at / 4096) ≡ Some page
+    → Updates nat_eq pages new (at / 4096) (Some page')
     → length page.value ≡ 4096
     → page'.value ≡ written (at % 4096) piece page.value
     → bytes_in new len ≡ written at piece (bytes_in pages len)
@@ -168,10 +164,10 @@ write_piece pages new len at piece page page' within one_page there updates whol
 
     -- an address on the page
     on_page : (k : ℕ) → k / 4096 ≡ at / 4096 → byte_in new k ≡ get_or page'.value (k % 4096) 0
-    on_page k same = ap (λ q. byte_on (tree.get nat_cmp new q) (k % 4096)) same ∙ ap (λ found. byte_on found (k % 4096)) updates.1
+    on_page k same = ap (λ q. byte_on (get nat_eq new q) (k % 4096)) same ∙ ap (λ found. byte_on found (k % 4096)) updates.1
 
     was_on_page : (k : ℕ) → k / 4096 ≡ at / 4096 → byte_in pages k ≡ get_or page.value (k % 4096) 0
-    was_on_page k same = ap (λ q. byte_on (tree.get nat_cmp pages q) (k % 4096)) same ∙ ap (λ found. byte_on found (k % 4096)) there
+    was_on_page k same = ap (λ q. byte_on (get nat_eq pages q) (k % 4096)) same ∙ ap (λ found. byte_on found (k % 4096)) there
 
     stays : (k : ℕ) → (k < at) ⊎ (at + length piece ≤ k) → (k / 4096 ≡ at / 4096) ⊎ (k / 4096 ≢ at / 4096) → byte_in new k ≡ byte_in pages k
     stays k apart (inl same) =

@@ -5,7 +5,7 @@ ghost use Rattle.host_memory.specs.Memory.{ArePromised, NoRepeats, Touches, byte
 
 use byteorder::{ByteOrder, LittleEndian};
 use std::alloc::{AllocError, Global};
-use std::collections::BTreeMap;
+use std::collections::HashMap;
 use std::marker::Model;
 
 /// The bytes of a page: page 0 begins at address 0, and each further one where the one before it ends.
@@ -19,14 +19,14 @@ type Page = Box<[u8; 4096]>;
 /// A page is there from its promise on and stays. A page that isn't there reads as zeros.
 #[derive(Drop)]
 pub struct Memory {
-    pages: BTreeMap<u64, Page>,
+    pages: HashMap<u64, Page>,
     len: u64,
     alloc: Global,
 }
 
 impl Model for Memory {
     ghost use Rattle.std.specs.Prelude.{◌<◌, ◌^◌};
-    ghost use Rattle.std.specs.BTreeMap.{keys};
+    ghost use Rattle.std.specs.HashMap.{keys};
     ghost use Rattle.host_memory.specs.Memory.{Contents};
     ghost use Rattle.host_memory.specs.Pages.{bytes_in};
 
@@ -51,7 +51,7 @@ impl Memory {
             return Err(AllocError);
         }
         Ok(Memory {
-            pages: BTreeMap::new(alloc),
+            pages: HashMap::new(alloc),
             len,
             alloc,
         })

@@ -1,5 +1,5 @@
 use Rattle.std.proofs.Common.{◌≡◌, Contains, rules, sym, ◌∙◌, ap, subst, ⊎_elim, inl, inr}
-use Rattle.std.specs.BTreeMap.{keys}
+use Rattle.std.specs.HashMap.{keys}
 use Rattle.host_memory.specs.Memory.{Contents}
 use Rattle.host_memory.specs.Pages.{bytes_in}
 use Rattle.host_memory.proofs.Paged.{zeros_added, added_is_among, others_stay, only_one_more, not_among, is_among}

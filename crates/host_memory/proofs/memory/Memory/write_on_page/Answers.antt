@@ -1,7 +1,7 @@
 use borrow.Rule.Slice.PartMut.{put_mid}
 use Rattle.std.proofs.Common.{◌≡◌, ℕ, ◌+◌, ◌-◌, ◌%◌, ◌≤◌, List, Contains, is_some, length, sym, refl, ◌∙◌, subst, ap, rules}
 use Rattle.std.specs.Box.{with_value}
-use Rattle.std.specs.BTreeMap.{keys}
+use Rattle.std.specs.HashMap.{keys}
 use Rattle.host_memory.specs.Memory.{Contents, page_of}
 use Rattle.host_memory.specs.Pages.{bytes_in}
 use Rattle.host_memory.proofs.Paged.{not_among, write_piece, length-bytes_in, middle_written}
