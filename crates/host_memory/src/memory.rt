@@ -73,7 +73,7 @@ impl Memory {
     }
 
     /// How many pages are there, which are those that were promised. Each takes [`PAGE_SIZE`] bytes of the machine's
-    /// memory, and the directory of the pages some more.
+    /// memory, and the map of the pages some more.
     pub fn page_count(&self) -> usize
         ensures count { result ≡ length self.now.promised }
         ensures distinct { NoRepeats self.now.promised }
