@@ -74,7 +74,7 @@ pub is_among : (pages : Pages) (page : ℕ) → IsSome (tree.get nat_cmp pages p
 is_among pages page there = (btree_map_contains_key_iff nat_cmp_total exact_unsigned pages page).0 there
 
 -- one page, read
-pub read_piece : (pages : Pages) (len at n : ℕ) (out : List ℕ) → at + n ≤ len → at % 4096 + n ≤ 4096 → length out ≡ n
+read_piece : (pages : Pages) (len at n : ℕ) (out : List ℕ) → at + n ≤ len → at % 4096 + n ≤ 4096 → length out ≡ n
     → ((k : ℕ) → k < n → get_or out k 0 ≡ byte_on (tree.get nat_cmp pages (at / 4096)) (at % 4096 + k))
     → out ≡ bytes_at at n (bytes_in pages len)
 read_piece pages len at n out within one_page size same =
@@ -88,6 +88,12 @@ read_piece pages len at n out within one_page size same =
     ∙ sym (byte-bytes_in pages len (at + k) d (omega (arith, within, k<n)))
     ∙ sym (get_or-drop at (bytes_in pages len) k d)
     ∙ sym (get_or-take n (drop at (bytes_in pages len)) k d k<n))
+
+-- the same of the bytes that the memory shows
+pub read_shown : (pages : Pages) (len at n : ℕ) (out shown : List ℕ) → bytes_in pages len ≡ shown → at + n ≤ length shown → at % 4096 + n ≤ 4096 → length out ≡ n
+    → ((k : ℕ) → k < n → get_or out k 0 ≡ byte_on (tree.get nat_cmp pages (at / 4096)) (at % 4096 + k)) → out ≡ bytes_at at n shown
+read_shown pages len at n out shown seen within one_page size same =
+    rw (sym seen) (read_piece pages len at n out (subst (λ m. at + n ≤ m) (ap length (sym seen) ∙ length-bytes_in pages len) within) one_page size same)
 
 -- a key that differs is another one
 other_key : (p q : ℕ) → p ≢ q → tree.is_at (nat_cmp p) q ≡ false
