@@ -22,7 +22,7 @@ use Rattle.ring_geometry.specs.Geometry.{HasRing, entries_of}
 use Rattle.plan_model.specs.Both.{at_side}
 use Rattle.plan_model.specs.DeclaredPlans.{Agree, IsDeclared, IsPair, IsPairOf, IsPermitted}
 use Rattle.plan_model.specs.Plans.{pair_plan, side_plan}
-use Rattle.plan_model.specs.Sizes.{layout_of, sizes_in, sizes_of}
+use Rattle.plan_model.specs.Sizes.{Sizes, layout_of, sizes_in, sizes_of}
 use Rattle.plan_model.proofs.Rings.{each_queue_has_a_ring}
 use Rattle.byte_model.specs.Addresses.{own_slot}
 use Rattle.byte_model.specs.Headers.{Bytes, found_in_memory, found_with, free_in_memory, header_in, index_word_in, part_in_memory}
@@ -168,43 +168,51 @@ module _ (plan : Plan) (steps : List Step) (k : ℕ) (declared : IsDeclared plan
       subst (StandsAt Own Shown (other_side from) queue (sizes_of Own from queue).largest (got % entries)) (ap (λ place. slice_index_or (ring from queue).ring place blank_slot) (mod-twice got entries some))
       ((stands from queue has agree).slots (got % entries) (mod-lt got some))
 
-  found_is : (from : Side) (queue : ℕ) → Has (other_side from) queue → IsJoined (other_side from) queue → is_idle (lane_of Now from queue).phase ≡ true
-      → found_in_memory Own Shown (other_side from) queue (lane_of Now from queue).got (length (lane_of Now from queue).gathered) ≡ found_in_ledger (lane_of Now from queue)
-  found_is from queue has joined idle =
-      let agree = agreed (other_side from) queue joined in
-      let sends = has_sender from queue agree has in
-      let lane = lane_of Now from queue in
-      let sizes = sizes_of Own from queue in
-      let large = two from queue sends in
-      let holds = law from queue sends joined in
-      let sees = look_sees (shown from queue) (phase_idle lane.phase idle) holds in
-      let same = layouts_alike Own agree from queue in
-      let header = sym (header_at_slot Own (other_side from) queue lane.got sizes.entries (omega (arith, large)) (ap entries_of same) Shown) ∙ (next_stands from queue sends agree).header in
-      ap (λ layout. found_with (sizes_in Own layout) lane.got (length lane.gathered) (header_in Own Shown (other_side from) queue lane.got)) same
-      ∙ ap (found_with sizes lane.got (length lane.gathered)) header
-      ∙ next_read sizes lane.flagged lane.got (length lane.gathered) (next_slot from queue) (entry_in lane lane.got) sees.one_of_both sees.nothing sees.an_entry
-      (λ more.
-      let begun = holds.2.counts.flagged_first in
-      let below : lane.got < length lane.sent = omega (arith, more, begun) in
-      (holds.2.frames.fits lane.got below, (receiver_knows_its_frame plan (memory_of plan) steps (name from queue) no_raw).fits joined idle below))
+  -- A lane whose receiver is joined
+  module _ (from : Side) (queue : ℕ) (has : Has (other_side from) queue) (joined : IsJoined (other_side from) queue) where
+    abbrev lane : LanePart
+    lane = lane_of Now from queue
 
-  part_is : (from : Side) (queue : ℕ) → Has (other_side from) queue → IsJoined (other_side from) queue → is_copying (lane_of Now from queue).phase ≡ true
-      → part_in_memory Own Shown (other_side from) queue (lane_of Now from queue).got (lane_of Now from queue).len (lane_of Now from queue).part ≡ part_in_ledger (lane_of Now from queue)
-  part_is from queue has joined copying =
-      let agree = agreed (other_side from) queue joined in
-      let sends = has_sender from queue agree has in
-      let lane = lane_of Now from queue in
-      let sizes = sizes_of Own from queue in
-      let large = two from queue sends in
-      let holds = law from queue sends joined in
-      let sees = copy_sees (shown from queue) (phase_copying lane.phase copying) holds in
-      let begun = holds.2.counts.flagged_first in
-      let first = sees.0 in
-      let at = own_slot Own (other_side from) queue lane.got in
-      let address = address_at_slot Own (other_side from) queue lane.got sizes.entries (omega (arith, large)) (ap entries_of (layouts_alike Own agree from queue)) in
-      let payload = ap (λ place. Shown (other_side from) place sizes.largest) (sym address) ∙ (next_stands from queue sends agree).payload in
-      part_is_read (at_side (site_of plan k steps).stores (other_side from)) at sizes.largest lane.part lane.len (next_slot from queue) lane.got (entry_in lane lane.got)
-      payload sees.3 sees.2 ((receiver_knows_its_frame plan (memory_of plan) steps (name from queue) no_raw).len_is copying) (holds.2.frames.fits lane.got (omega (arith, first, begun)))
+    abbrev sizes : Sizes
+    sizes = sizes_of Own from queue
+
+    agree : Agree Own
+    agree = agreed (other_side from) queue joined
+
+    sends : Has from queue
+    sends = has_sender from queue agree has
+
+    large : 2 ≤ sizes.entries
+    large = two from queue sends
+
+    holds : HoldsRingLaw (shown from queue)
+    holds = law from queue sends joined
+
+    found_is : is_idle lane.phase ≡ true
+        → found_in_memory Own Shown (other_side from) queue lane.got (length lane.gathered) ≡ found_in_ledger lane
+    found_is idle =
+        let sees = look_sees (shown from queue) (phase_idle lane.phase idle) holds in
+        let same = layouts_alike Own agree from queue in
+        let header = sym (header_at_slot Own (other_side from) queue lane.got sizes.entries (omega (arith, large)) (ap entries_of same) Shown) ∙ (next_stands from queue sends agree).header in
+        ap (λ layout. found_with (sizes_in Own layout) lane.got (length lane.gathered) (header_in Own Shown (other_side from) queue lane.got)) same
+        ∙ ap (found_with sizes lane.got (length lane.gathered)) header
+        ∙ next_read sizes lane.flagged lane.got (length lane.gathered) (next_slot from queue) (entry_in lane lane.got) sees.one_of_both sees.nothing sees.an_entry
+        (λ more.
+        let begun = holds.2.counts.flagged_first in
+        let below : lane.got < length lane.sent = omega (arith, more, begun) in
+        (holds.2.frames.fits lane.got below, (receiver_knows_its_frame plan (memory_of plan) steps (name from queue) no_raw).fits joined idle below))
+
+    part_is : is_copying lane.phase ≡ true
+        → part_in_memory Own Shown (other_side from) queue lane.got lane.len lane.part ≡ part_in_ledger lane
+    part_is copying =
+        let sees = copy_sees (shown from queue) (phase_copying lane.phase copying) holds in
+        let begun = holds.2.counts.flagged_first in
+        let first = sees.0 in
+        let at = own_slot Own (other_side from) queue lane.got in
+        let address = address_at_slot Own (other_side from) queue lane.got sizes.entries (omega (arith, large)) (ap entries_of (layouts_alike Own agree from queue)) in
+        let payload = ap (λ place. Shown (other_side from) place sizes.largest) (sym address) ∙ (next_stands from queue sends agree).payload in
+        part_is_read (at_side (site_of plan k steps).stores (other_side from)) at sizes.largest lane.part lane.len (next_slot from queue) lane.got (entry_in lane lane.got)
+        payload sees.3 sees.2 ((receiver_knows_its_frame plan (memory_of plan) steps (name from queue) no_raw).len_is copying) (holds.2.frames.fits lane.got (omega (arith, first, begun)))
 
   -- A side, which sends one lane of a queue and receives the other
 

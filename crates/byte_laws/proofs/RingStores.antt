@@ -102,6 +102,14 @@ module _ (plan : PairPlan) (declared : IsPair plan) (agree : Agree plan) (from :
           (ring_left (New (label q)) older ring (other apart) stands)
     ]
 
+    -- of this lane, into one slot
+    slot_set : (label : Label) (older : List Store) (ring : List Slot) (n : ℕ) (slot : Slot) → IsFitting plan pair from label
+        → ((k : ℕ) → k ≢ n % Entries → IsOutsideOf queue k (spot_of plan from label)) → Stands older ring
+        → (StandsIn Memory (is_five plan) queue (n % Entries) older (slice_index_or ring (n % Entries) blank_slot) → StandsIn Memory (is_five plan) queue (n % Entries) (New label ++ older) slot)
+        → Stands (New label ++ older) (slice_set ring (n % Entries) slot)
+    slot_set label older ring n slot may outside stands own =
+        ring_set (New label) older ring (n % Entries) slot (place_among n) (λ k below apart. label_leaves label k may below (outside k apart)) (own (stands.stands (n % Entries) (place_among n))) stands
+
     -- the flags of an entry
     flags_open : (entry : Entry) → entry ≢ GoesDown → flags_of entry ≡ done
     flags_open (Carries bytes left) h = refl
@@ -115,50 +123,40 @@ module _ (plan : PairPlan) (declared : IsPair plan) (agree : Agree plan) (from :
             let there = written_at plan agree from queue (λ l. slot_of l (n % entries_of l) + chunk_size * part) in
             let inside = chunk_fits (bytes_of (entry_in Own n)) part may.1 in
             let room : length (bytes_of (entry_in Own n)) ≤ max_payload_of (layout_at Memory queue) = subst (λ (l : Layout). length (bytes_of (entry_in Own n)) ≤ max_payload_of l) (same_layout plan agree from queue) may.2 in
-            ring_set (New (Chunk queue n part)) older ring (n % Entries) _ (place_among n) (λ k below apart. label_leaves (Chunk queue n part) k may below (inr (λ e. apart (sym e))))
-            (chunk_stands Memory (size_fits plan agree (other_side from)) queue ring_there (n % Entries) (place_among n) (is_five plan) (chunk_size * part) _ older _ refl (omega (arith, there)) (omega (arith, inside, room))
-            (stands.stands (n % Entries) (place_among n)))
-            stands
+            slot_set (Chunk queue n part) older ring n _ may (λ k apart. inr (λ e. apart (sym e))) stands
+            (chunk_stands Memory (size_fits plan agree (other_side from)) queue ring_there (n % Entries) (place_among n) (is_five plan) (chunk_size * part) _ older _ refl (omega (arith, there)) (omega (arith, inside, room)))
     label_stands (Len q n) older ring fits stands = own_or_other (λ p. Len p n) (Data n Length) q older ring own (λ apart k below. label_leaves (Len q n) k fits below (inl apart)) stands fits
       where
         own : IsFitting plan pair from (Len queue n) → Stands (New (Len queue n) ++ older) (with_write Entries Own ring (Some (Data n Length)))
         own may =
             let room : length (bytes_of (entry_in Own n)) ≤ max_payload_of (layout_at Memory queue) = subst (λ (l : Layout). length (bytes_of (entry_in Own n)) ≤ max_payload_of l) (same_layout plan agree from queue) may.1 in
             let small = payload_small plan declared (other_side from) queue peer_among in
-            ring_set (New (Len queue n)) older ring (n % Entries) _ (place_among n) (λ k below apart. label_leaves (Len queue n) k may below (inr (λ e. apart (sym e))))
+            slot_set (Len queue n) older ring n _ may (λ k apart. inr (λ e. apart (sym e))) stands
             (length_stands Memory (size_fits plan agree (other_side from)) queue ring_there (n % Entries) (place_among n) (is_five plan) _ older _ (length (bytes_of (entry_in Own n))) refl
-            (written_at plan agree from queue (λ l. header_of l (n % entries_of l) + length_at (is_five plan))) refl (omega (arith, room, small))
-            (stands.stands (n % Entries) (place_among n)))
-            stands
+            (written_at plan agree from queue (λ l. header_of l (n % entries_of l) + length_at (is_five plan))) refl (omega (arith, room, small)))
     label_stands (Ver q n) older ring fits stands = own_or_other (λ p. Ver p n) (Data n Version) q older ring own (λ apart k below. label_leaves (Ver q n) k fits below (inl apart)) stands fits
       where
         own : IsFitting plan pair from (Ver queue n) → Stands (New (Ver queue n) ++ older) (with_write Entries Own ring (Some (Data n Version)))
         own may =
-            ring_set (New (Ver queue n)) older ring (n % Entries) _ (place_among n) (λ k below apart. label_leaves (Ver queue n) k may below (inr (λ e. apart (sym e))))
+            slot_set (Ver queue n) older ring n _ may (λ k apart. inr (λ e. apart (sym e))) stands
             (version_stands Memory (size_fits plan agree (other_side from)) queue ring_there (n % Entries) (place_among n) (is_five plan) _ older _ (version_of n) (left_of (entry_in Own n)) refl
-            (written_at plan agree from queue (λ l. header_of l (n % entries_of l)) ∙ ap (λ place. address_of Memory queue place) (omega arith)) refl (mod-lt n (omega arith)) may.1 may.2
-            (stands.stands (n % Entries) (place_among n)))
-            stands
+            (written_at plan agree from queue (λ l. header_of l (n % entries_of l)) ∙ ap (λ place. address_of Memory queue place) (omega arith)) refl (mod-lt n (omega arith)) may.1 may.2)
     label_stands (Flag q n) older ring fits stands = own_or_other (λ p. Flag p n) (EntryFlag n) q older ring own (λ apart k below. label_leaves (Flag q n) k fits below (inl apart)) stands fits
       where
         own : IsFitting plan pair from (Flag queue n) → Stands (New (Flag queue n) ++ older) (with_write Entries Own ring (Some (EntryFlag n)))
         own may =
             subst (λ flags. Stands (New (Flag queue n) ++ older) (slice_set ring (n % Entries) (with_flags (slice_index_or ring (n % Entries) blank_slot) flags))) (sym (flags_open (entry_in Own n) may.1))
-            (ring_set (New (Flag queue n)) older ring (n % Entries) _ (place_among n) (λ k below apart. label_leaves (Flag queue n) k may below (inr (λ e. apart (sym e))))
+            (slot_set (Flag queue n) older ring n _ may (λ k apart. inr (λ e. apart (sym e))) stands
             (flags_stand Memory (size_fits plan agree (other_side from)) queue ring_there (n % Entries) (place_among n) (is_five plan) _ older _ done refl
-            (written_at plan agree from queue (λ l. header_of l (n % entries_of l) + flags_at (is_five plan))) refl (omega arith)
-            (stands.stands (n % Entries) (place_among n)))
-            stands)
+            (written_at plan agree from queue (λ l. header_of l (n % entries_of l) + flags_at (is_five plan))) refl (omega arith)))
     label_stands (Down q n) older ring fits stands = own_or_other (λ p. Down p n) (EntryFlag n) q older ring own (λ apart k below. label_leaves (Down q n) k fits below (inl apart)) stands fits
       where
         own : IsFitting plan pair from (Down queue n) → Stands (New (Down queue n) ++ older) (with_write Entries Own ring (Some (EntryFlag n)))
         own may =
             subst (λ flags. Stands (New (Down queue n) ++ older) (slice_set ring (n % Entries) (with_flags (slice_index_or ring (n % Entries) blank_slot) flags))) (sym (ap flags_of may.1))
-            (ring_set (New (Down queue n)) older ring (n % Entries) _ (place_among n) (λ k below apart. label_leaves (Down queue n) k may below (inr (λ e. apart (sym e))))
+            (slot_set (Down queue n) older ring n _ may (λ k apart. inr (λ e. apart (sym e))) stands
             (flags_stand Memory (size_fits plan agree (other_side from)) queue ring_there (n % Entries) (place_among n) (is_five plan) _ older _ (done + 2) refl
-            (written_at plan agree from queue (λ l. header_of l (n % entries_of l) + flags_at (is_five plan))) refl (omega arith)
-            (stands.stands (n % Entries) (place_among n)))
-            stands)
+            (written_at plan agree from queue (λ l. header_of l (n % entries_of l) + flags_at (is_five plan))) refl (omega arith)))
     label_stands (Bell q) older ring fits stands = own_or_other (λ p. Bell p) QueueBell q older ring (λ may. stands) (λ apart k below. label_leaves (Bell q) k fits below tt) stands fits
     label_stands (Index q n) older ring fits stands = ring_left (New (Index q n)) older ring (λ k below. label_leaves (Index q n) k fits below tt) stands
     label_stands (Pad i value) older ring fits stands = stands

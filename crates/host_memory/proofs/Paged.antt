@@ -70,7 +70,7 @@ pub is_among : {Hasher : Type 0} (pages : Pages Hasher) (page : ℕ) → IsSome 
 is_among pages page there = (hash_map_contains_key_iff nat_eq_equiv exact_unsigned_eq pages page).0 there
 
 -- one page, read
-pub read_piece : {Hasher : Type 0} (pages : Pages Hasher) (len at n : ℕ) (out : List ℕ) → at + n ≤ len → at % 4096 + n ≤ 4096 → length out ≡ n
+read_piece : {Hasher : Type 0} (pages : Pages Hasher) (len at n : ℕ) (out : List ℕ) → at + n ≤ len → at % 4096 + n ≤ 4096 → length out ≡ n
     → ((k : ℕ) → k < n → get_or out k 0 ≡ byte_on (get nat_eq pages (at / 4096)) (at % 4096 + k))
     → out ≡ bytes_at at n (bytes_in pages len)
 read_piece pages len at n out within one_page size same =
@@ -84,6 +84,12 @@ read_piece pages len at n out within one_page size same =
     ∙ sym (byte-bytes_in pages len (at + k) d (omega (arith, within, k<n)))
     ∙ sym (get_or-drop at (bytes_in pages len) k d)
     ∙ sym (get_or-take n (drop at (bytes_in pages len)) k d k<n))
+
+-- the same of the bytes that the memory shows
+pub read_shown : {Hasher : Type 0} (pages : Pages Hasher) (len at n : ℕ) (out shown : List ℕ) → bytes_in pages len ≡ shown → at + n ≤ length shown → at % 4096 + n ≤ 4096 → length out ≡ n
+    → ((k : ℕ) → k < n → get_or out k 0 ≡ byte_on (get nat_eq pages (at / 4096)) (at % 4096 + k)) → out ≡ bytes_at at n shown
+read_shown pages len at n out shown seen within one_page size same =
+    rw (sym seen) (read_piece pages len at n out (subst (λ m. at + n ≤ m) (ap length (sym seen) ∙ length-bytes_in pages len) within) one_page size same)
 
 -- a key that differs is another one
 other_key : (p q : ℕ) → p ≢ q → nat_eq p q ≡ false

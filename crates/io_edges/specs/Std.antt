@@ -1,24 +1,15 @@
 -- What the adapters of the standard library's readers and writers hold.
 use Rattle.std.specs.Prelude.{◌≡◌, ℕ, Result, MatchResult}
 use Rattle.io_edges.specs.Plan.{one_more}
-use Rattle.io_edges.specs.declared.std_streams.StdSource.{StdSource}
-use Rattle.io_edges.specs.declared.std_streams.StdSink.{StdSink}
+use Rattle.io_edges.specs.declared.std_streams.StdStream.{StdStream}
 
--- the reader
-abbrev pub source_reader : {R : Type 0} → StdSource R → R
-source_reader source = source.inner
-
--- the faults that were counted
-abbrev pub source_faults : {R : Type 0} → StdSource R → ℕ
-source_faults source = source.faults
-
--- the writer
-abbrev pub sink_writer : {W : Type 0} → StdSink W → W
-sink_writer sink = sink.inner
+-- the reader or writer
+abbrev pub inner_of : {T : Type 0} → StdStream T → T
+inner_of stream = stream.inner
 
 -- the faults that were counted
-abbrev pub sink_faults : {W : Type 0} → StdSink W → ℕ
-sink_faults sink = sink.faults
+abbrev pub faults_of : {T : Type 0} → StdStream T → ℕ
+faults_of stream = stream.faults
 
 -- An error is counted, up to the last value of a u64, and nothing else is.
 abbrev pub CountsErrors : {T E : Type 0} → ℕ → ℕ → Result T E → Type 0

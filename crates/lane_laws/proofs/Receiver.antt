@@ -1,11 +1,11 @@
 -- The receiver's steps keep the law of the ring, and so do the landing of an index write and the loss of the link.
-use Rattle.std.proofs.Common.{◌≡◌, ℕ, suc, ◌+◌, ◌-◌, ◌%◌, ◌<◌, ◌≤◌, true, false, true≢false, List, [], ◌∷◌, ◌++◌, length, sym, ap, ◌∙◌, subst, inl, inr, arith, append-nil, append_assoc, mod-lt, if◌then◌else◌}
+use Rattle.std.proofs.Common.{◌≡◌, ℕ, suc, ◌+◌, ◌-◌, ◌%◌, ◌<◌, ◌≤◌, Bool, true, false, true≢false, List, [], ◌∷◌, ◌++◌, length, refl, sym, ap, ◌∙◌, subst, inl, inr, arith, append-nil, append_assoc, mod-lt, if◌then◌else◌}
 use native.Mathlib.Nat.{add-mod_right}
 use Rattle.std.proofs.lemmas.Bool.{cases_Bool, cases_eq, cond-true, cond-false, ltb-true}
 use Rattle.lane_model.specs.Lane.{Slot, Lane, count_from, copies_of, entry_of, slot_of, with_flags}
 use Rattle.lane_model.specs.declared.Field.TheVariants.{Chunk}
 use Rattle.lane_model.specs.declared.Write.{Write}
-use Rattle.lane_model.specs.Law.{PhaseCounts, Stands, StandsWhole, RingLaw}
+use Rattle.lane_model.specs.Law.{IndexesCome, PhaseCounts, RingLaw, SlotsStand, Stands, StandsWhole, WritesCome}
 use Rattle.lane_laws.specs.Laws.{SeesNext}
 use Rattle.lane_model.specs.Steps.{after_look, after_copy, after_clear, after_ack, after_index, after_cut, after_drop, more_to_copy}
 use Rattle.lane_model.specs.declared.Phase.{Phase}
@@ -219,29 +219,25 @@ index_keeps lost lost_back lane n rest front h =
       };
     }
 
-pub cut_keeps : (lost : List Write) (lost_back : List ℕ) (lane : Lane) → RingLaw lost lost_back lane → RingLaw lost lost_back (after_cut lane)
-cut_keeps lost lost_back lane h =
+-- a lane that isn't up may lose what was in flight
+lost_keeps : (lost lost_now : List Write) (lost_back back_now : List ℕ) (lane : Lane) (up : Bool) (flight : List Write) (returning : List ℕ) → up ≡ false
+    → flight ++ lost_now ≡ lane.flight ++ lost → returning ++ back_now ≡ lane.returning ++ lost_back
+    → RingLaw lost lost_back lane → RingLaw lost_now back_now (record lane { up = up; flight = flight; returning = returning })
+lost_keeps lost lost_now lost_back back_now lane up flight returning down writes indexes h =
     record {
       room = h.room;
       frames = h.frames;
       counts = h.counts;
       receiver = h.receiver;
-      coming = h.coming;
-      none_lost = λ up. absurd (true≢false (sym up));
-      standing = h.standing;
-      back = h.back;
+      coming = subst (λ (w : List Write). WritesCome lane.flagged lane.sent (w ++ lane.todo) lane.todo) (sym writes) h.coming;
+      none_lost = λ is_up. absurd (true≢false (sym is_up ∙ down));
+      standing = subst (λ (w : List Write). SlotsStand lane.entries lane.ring lane.sent lane.cleared lane.flagged (w ++ lane.todo)) (sym writes) h.standing;
+      back = subst (IndexesCome lane.entries lane.freed lane.acked lane.index_word) (sym indexes) h.back;
     }
+
+pub cut_keeps : (lost : List Write) (lost_back : List ℕ) (lane : Lane) → RingLaw lost lost_back lane → RingLaw lost lost_back (after_cut lane)
+cut_keeps lost lost_back lane h = lost_keeps lost lost lost_back lost_back lane false lane.flight lane.returning refl refl refl h
 
 pub drop_keeps : (lost : List Write) (lost_back : List ℕ) (lane : Lane) → lane.up ≡ false → RingLaw lost lost_back lane
     → RingLaw (lane.flight ++ lost) (lane.returning ++ lost_back) (after_drop lane)
-drop_keeps lost lost_back lane down h =
-    record {
-      room = h.room;
-      frames = h.frames;
-      counts = h.counts;
-      receiver = h.receiver;
-      coming = h.coming;
-      none_lost = λ up. absurd (true≢false (sym up ∙ down));
-      standing = h.standing;
-      back = h.back;
-    }
+drop_keeps lost lost_back lane down h = lost_keeps lost (lane.flight ++ lost) lost_back (lane.returning ++ lost_back) lane lane.up [] [] down refl refl h

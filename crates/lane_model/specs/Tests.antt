@@ -3,21 +3,24 @@ use Rattle.std.specs.Prelude.{Bool, true, false, List, [], ◌∷◌}
 use Rattle.lane_model.specs.declared.Phase.{Phase}
 use Rattle.lane_model.specs.declared.Phase.TheVariants.{Idle, Copying, Copied, Cleared}
 
+abbrev pub same_phase : Phase → Phase → Bool
+same_phase Idle Idle = true
+same_phase Copying Copying = true
+same_phase Copied Copied = true
+same_phase Cleared Cleared = true
+same_phase one other = false
+
 abbrev pub is_idle : Phase → Bool
-is_idle Idle = true
-is_idle phase = false
+is_idle phase = same_phase phase Idle
 
 abbrev pub is_copying : Phase → Bool
-is_copying Copying = true
-is_copying phase = false
+is_copying phase = same_phase phase Copying
 
 abbrev pub is_copied : Phase → Bool
-is_copied Copied = true
-is_copied phase = false
+is_copied phase = same_phase phase Copied
 
 abbrev pub is_cleared : Phase → Bool
-is_cleared Cleared = true
-is_cleared phase = false
+is_cleared phase = same_phase phase Cleared
 
 abbrev pub is_empty_list : {X : Type 0} → List X → Bool
 is_empty_list [] = true

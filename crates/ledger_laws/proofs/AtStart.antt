@@ -5,8 +5,9 @@ use Rattle.std.proofs.lemmas.Bool.{false≢true}
 use Rattle.step_kinds.specs.declared.names.Side.{Side}
 use Rattle.step_kinds.specs.declared.names.Side.TheVariants.{A, B}
 use Rattle.step_kinds.specs.declared.plan.PairPlan.{PairPlan}
+use Rattle.step_kinds.specs.declared.plan.SidePlan.{SidePlan}
 use Rattle.plan_model.specs.Both.{at_side, both_of}
-use Rattle.ledger_model.specs.Ledger.{side_of, lane_of}
+use Rattle.ledger_model.specs.Ledger.{SidePart, side_of, lane_of}
 use Rattle.plan_model.specs.Link.{is_up, is_down, is_closing}
 use Rattle.ledger_model.specs.LinkSteps.{fresh_lane}
 use Rattle.ledger_model.specs.Next.{fresh_pair, agreed_side, idle_side}
@@ -33,12 +34,16 @@ pub fresh-lane : (plan : PairPlan) (from : Side) (queue : ℕ) → lane_of (fres
 fresh-lane plan A queue = refl
 fresh-lane plan B queue = refl
 
+-- what holds of a side that agreed with its peer, and of an idle one, holds of each side before any step
+pub each_fresh_side : (plan : PairPlan) (P : SidePart → Type 0) → ((own peer : SidePlan) → P (agreed_side own peer)) → P idle_side → (s : Side) → P (side_of (fresh_pair plan) s)
+each_fresh_side plan P agreed idle s = go plan.up s
+  where
+    go : (up : Bool) (s : Side) → P (at_side (if up then record { a = agreed_side plan.a plan.b; b = agreed_side plan.b plan.a } else both_of idle_side) s)
+    go true A = agreed plan.a plan.b
+    go true B = agreed plan.b plan.a
+    go false A = idle
+    go false B = idle
+
 -- nothing is in flight before any step
 pub fresh-flight : (plan : PairPlan) (s : Side) → (side_of (fresh_pair plan) s).flight ≡ []
-fresh-flight plan s = go plan.up s
-  where
-    go : (up : Bool) (s : Side) → (at_side (if up then record { a = agreed_side plan.a plan.b; b = agreed_side plan.b plan.a } else both_of idle_side) s).flight ≡ []
-    go true A = refl
-    go true B = refl
-    go false A = refl
-    go false B = refl
+fresh-flight plan = each_fresh_side plan (λ part. part.flight ≡ []) (λ own peer. refl) refl

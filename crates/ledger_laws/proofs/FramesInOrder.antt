@@ -287,6 +287,15 @@ all_parts {sent} {got} {part} {len} {left} {gathered} last piece =
           (take_all (chunk_size * part) piece.bytes (let few = ltb-false part (chunks_in len) last in let size = piece.size in omega arith));
     }
 
+-- then it stands between two entries
+receives_between : {q : ℕ} {up : Bool} {joined : ℕ} {sent : List Entry} {got part len left : ℕ} (done : ℕ) (gathered : List ℕ) → got < length sent
+    → number_after 0 (take (got + 1) sent) ≡ done → gathered ≡ rest_after [] (take (got + 1) sent) → Receives q up joined sent (got + 1) done Copied part len left gathered
+receives_between done gathered below done_is is = record {
+  within = omega arith;
+  done_is = done_is;
+  has = inl (record { between = λ _. is; copying = λ c. absurd (false≢true c) });
+}
+
 -- the entry taken has others of its frame behind it, or not
 module _ (n : ℕ) (rest : List ℕ) (xs : List Entry) (bytes : List ℕ) where
   some_left : (left : ℕ) → nat_lt 0 left ≡ true
@@ -354,22 +363,14 @@ receives_kept plan lane s made news t no_raw (CopiesEntry bytes may) h =
     let took = all_parts may.copy.more (part_more bytes (may.copy.are no_raw) (piece_of_copy may.copy.turn h)) in
     let more = some_left 0 [] (take s.lane.got s.lane.sent) took.bytes s.lane.left may.left in
     record {
-      receives = record {
-        within = let below = took.below in omega arith;
-        done_is = ap (number_after 0) took.next ∙ more.0 ∙ h.done_is;
-        has = inl (record { between = λ _. took.is ∙ sym more.1 ∙ ap (rest_after []) (sym took.next); copying = λ c. absurd (false≢true c) });
-      };
+      receives = receives_between _ _ took.below (ap (number_after 0) took.next ∙ more.0 ∙ h.done_is) (took.is ∙ sym more.1 ∙ ap (rest_after []) (sym took.next));
       grows = same_frames (ap (frames_from 0 []) took.next ∙ more.2);
     }
 receives_kept plan lane s made news t no_raw (CopiesLast bytes may) h =
     let took = all_parts may.copy.more (part_more bytes (may.copy.are no_raw) (piece_of_copy may.copy.turn h)) in
     let whole = none_left 0 [] (take s.lane.got s.lane.sent) took.bytes s.lane.left may.left in
     record {
-      receives = record {
-        within = let below = took.below in omega arith;
-        done_is = ap (number_after 0) took.next ∙ whole.0 ∙ ap (λ n. n + 1) h.done_is;
-        has = inl (record { between = λ _. sym whole.1 ∙ ap (rest_after []) (sym took.next); copying = λ c. absurd (false≢true c) });
-      };
+      receives = receives_between _ _ took.below (ap (number_after 0) took.next ∙ whole.0 ∙ ap (λ n. n + 1) h.done_is) (sym whole.1 ∙ ap (rest_after []) (sym took.next));
       grows = GoOn (ap (frames_from 0 []) took.next ∙ whole.2
           ∙ ap (λ n. given_of s ++ record { number = n; bytes = rest_after [] (take s.lane.got s.lane.sent) ++ took.bytes } ∷ []) h.done_is
           ∙ ap (λ b. given_of s ++ record { number = s.lane.done; bytes = b } ∷ []) (sym took.is));

@@ -25,7 +25,7 @@ use Rattle.ledger_laws.proofs.JoinedSides.{LiveOf, JoinsOf, live_up, joins_kept}
 use Rattle.ledger_laws.proofs.UpMeansAgreement.{HandshakeKnown, handshake_runs, has_found, agrees}
 use Rattle.ledger_laws.proofs.walk.Logs.{HoldsOn, holds_after}
 use Rattle.ledger_laws.proofs.walk.News.{News}
-use Rattle.ledger_laws.proofs.walk.Sight.{Sight, Sender, Receiver, part_of, sight}
+use Rattle.ledger_laws.proofs.walk.Sight.{Sight, Sender, Receiver, sight}
 use Rattle.ledger_laws.proofs.walk.Turn.{Turn, Forgets, Checks, Joins, MayCheck}
 
 -- A side that a script can declare
@@ -78,10 +78,10 @@ module _ (plan : Plan) (lane : LaneName) where
   -- the check of the lane's sender
   check_agrees : (log : List Answered) (s : Sight) → IsPair Pair → HandshakeKnown lane Peer log s → MayCheck Own s Sender → Agreed
   check_agrees log s is known may =
-      let found = has_found Own (part_of s.sender) (is_up s.state) may.passes in
+      let found = has_found Own s.sender.part (is_up s.state) may.passes in
       let own_side = as_side Own (declared_side Pair is lane.from) in
       let peer_side = as_side Peer (declared_side Pair is (other_side lane.from)) in
-      let agree = agrees lane Own Peer log (part_of s.sender) (is_up s.state) s.receiver.offered s.receiver.flight own_side peer_side found (known.session may.up may.not_yet) in
+      let agree = agrees lane Own Peer log s.sender.part (is_up s.state) s.receiver.offered s.receiver.flight own_side peer_side found (known.session may.up may.not_yet) in
       record {
         versions = known_to_both Own.version Peer.version (known_to_one Pair is lane.from) agree.versions_agree;
         queues = agree.same_queues;

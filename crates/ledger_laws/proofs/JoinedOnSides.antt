@@ -14,7 +14,7 @@ use Rattle.step_kinds.specs.declared.plan.PairPlan.{PairPlan}
 use Rattle.step_kinds.specs.declared.plan.Plan.{Plan}
 use Rattle.step_kinds.specs.declared.steps.Answer.{Answer}
 use Rattle.step_kinds.specs.declared.steps.Label.{Label}
-use Rattle.step_kinds.specs.declared.steps.Label.TheVariants.{Flag, Down, Bell, Index, Pad}
+use Rattle.step_kinds.specs.declared.steps.Label.TheVariants.{Index, Pad}
 use Rattle.step_kinds.specs.declared.steps.Step.{Step}
 use Rattle.step_kinds.specs.declared.steps.Step.TheVariants.{Enable, Train, Break, DropDone, Clean, Offer, Check, Ready, Join, Begin, QpDown, Xbegin, Post, Land, Look, Copy, Clear, Ack, Wake, Irq, Mask, Unmask, Spad, Poke}
 use Rattle.lane_model.specs.Lane.{Entry}
@@ -36,7 +36,7 @@ use Rattle.ledger_laws.specs.States.{JoinedSideIsUp, StoppedDeviceIsJoined, Busy
 use Rattle.ledger_laws.proofs.AtStart.{fresh-lane}
 use Rattle.ledger_laws.proofs.BitSets.{no_bit, has-with_kept}
 use Rattle.ledger_laws.proofs.FreshLanes.{started}
-use Rattle.ledger_laws.proofs.PairStates.{HoldsOfPair, pair_after}
+use Rattle.ledger_laws.proofs.PairStates.{HoldsOfPair, pair_after, landing_cases}
 use Rattle.ledger_laws.proofs.walk.Cases.{offer_cases, offering, next_offer, ready_cases, readied, ready_pad, xbegin_cases, copy_cases, ack_cases, acking}
 use Rattle.ledger_laws.proofs.walk.Logs.{HoldsAlways, always_after}
 use Rattle.ledger_laws.proofs.walk.News.{News}
@@ -222,12 +222,8 @@ stops_posted reading pair side queue lane [] h = h
 stops_posted reading pair side queue lane (label ∷ rest) h = stops_through reading (with_lane pair side queue (record lane { todo = rest })) side label h
 
 stops_landed : (pair : PairPart) (side : Side) (label : Label) → StopsJoined pair → StopsJoined (lands_on pair side label)
-stops_landed pair side (Flag queue n) h = h
-stops_landed pair side (Down queue n) h = h
-stops_landed pair side (Bell queue) h = stops_alike pair (other_side side) _ refl h
-stops_landed pair side (Index queue n) h = h
-stops_landed pair side (Pad i value) h = stops_alike pair (other_side side) _ refl h
-stops_landed pair side label h = h
+stops_landed pair side label h =
+    landing_cases StopsJoined pair side label h (λ from queue lane. h) (λ part keeps. stops_alike pair (other_side side) part keeps.joined h)
 
 stops_land : (plan : PairPlan) (pair : PairPart) (side : Side) (place : ℕ) (found : Option Label) → StopsJoined pair → StopsJoined (land_found plan pair side place found).after
 stops_land plan pair side place None h = h

@@ -33,7 +33,7 @@ use Rattle.ledger_laws.proofs.AtStart.{fresh-flight}
 use Rattle.ledger_laws.proofs.EntriesFit.{all_push}
 use Rattle.ledger_laws.proofs.LabelsOfEntries.{all_remove}
 use Rattle.ledger_laws.proofs.Offers.{is_offer, offer_of, offer-good}
-use Rattle.ledger_laws.proofs.PairStates.{HoldsOfPair, pair_after}
+use Rattle.ledger_laws.proofs.PairStates.{HoldsOfPair, pair_after, landing_cases}
 use Rattle.ledger_laws.proofs.walk.Cases.{enable_cases, train_cases, break_cases, drop_cases, clean_cases, offer_cases, next_offer, ready_cases, readied, ready_pad, post_cases, copy_cases, ack_cases, acking}
 use Rattle.ledger_laws.proofs.walk.Logs.{OwnTodos}
 use Rattle.ledger_laws.proofs.walk.SendingTurns.{on_queue-labels}
@@ -106,12 +106,8 @@ module _ (plan : PairPlan) where
   good_taken pair side place label good = good_side pair side _ (all_remove (IsPostable plan side) (side_of pair side).flight place (good side)) good
 
   good_landed : (pair : PairPart) (side : Side) (label : Label) → Good pair → Good (lands_on pair side label)
-  good_landed pair side (Flag queue n) good = good
-  good_landed pair side (Down queue n) good = good
-  good_landed pair side (Bell queue) good = good_alike pair (other_side side) _ refl good
-  good_landed pair side (Index queue n) good = good
-  good_landed pair side (Pad i value) good = good_alike pair (other_side side) _ refl good
-  good_landed pair side label good = good
+  good_landed pair side label good =
+      landing_cases Good pair side label good (λ from queue lane. good) (λ part keeps. good_alike pair (other_side side) part keeps.flight good)
 
   good_land : (pair : PairPart) (side : Side) (place : ℕ) (found : Option Label) → Good pair → Good (land_found plan pair side place found).after
   good_land pair side place None good = good

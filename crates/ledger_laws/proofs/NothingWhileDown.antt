@@ -11,25 +11,25 @@ use Rattle.step_kinds.specs.declared.plan.PairPlan.{PairPlan}
 use Rattle.step_kinds.specs.declared.plan.Plan.{Plan}
 use Rattle.step_kinds.specs.declared.steps.Answer.{Answer}
 use Rattle.step_kinds.specs.declared.steps.Label.{Label}
-use Rattle.step_kinds.specs.declared.steps.Label.TheVariants.{Flag, Down, Bell, Index, Pad, Raw}
+use Rattle.step_kinds.specs.declared.steps.Label.TheVariants.{Pad, Raw}
 use Rattle.step_kinds.specs.declared.steps.Step.{Step}
 use Rattle.step_kinds.specs.declared.steps.Step.TheVariants.{Enable, Train, Break, DropDone, Clean, Offer, Check, Ready, Join, Begin, QpDown, Xbegin, Post, Land, Look, Copy, Clear, Ack, Wake, Irq, Mask, Unmask, Spad, Poke}
 use Rattle.byte_model.specs.Headers.{Bytes, Found, ALinkDownEntry, AnEntry}
 use Rattle.ledger_model.specs.Ledger.{LanePart, SidePart, PairPart, side_of, lane_of, link_up, with_side_part, with_lane, posts, posts_raw}
-use Rattle.ledger_model.specs.Next.{fresh_pair, agreed_side, idle_side, read_next}
+use Rattle.ledger_model.specs.Next.{fresh_pair, read_next}
 use Rattle.ledger_model.specs.Outcome.{Outcome, decided}
 use Rattle.ledger_model.specs.Reading.{Reading, reading_of}
 use Rattle.ledger_model.specs.Receiving.{lands_on, poked_without, raws_before, taken_out, land_found, look_at}
 use Rattle.ledger_model.specs.Sending.{next_begun, posts_through, post_first}
 use Rattle.ledger_model.specs.LinkSteps.{cleaned_side}
-use Rattle.plan_model.specs.Both.{at_side, with_side, both_of}
+use Rattle.plan_model.specs.Both.{at_side, with_side}
 use Rattle.plan_model.specs.Link.{is_down, cleaned_link}
 use Rattle.plan_model.specs.Plans.{pair_plan}
 use Rattle.ledger_laws.specs.States.{NothingInFlightWhileDown}
-use Rattle.ledger_laws.proofs.AtStart.{down-not_up, fresh-flight}
+use Rattle.ledger_laws.proofs.AtStart.{down-not_up, each_fresh_side, fresh-flight}
 use Rattle.ledger_laws.proofs.InFlight.{EmptyOf, empty_kept}
 use Rattle.ledger_laws.proofs.EachPair.{AnyStep}
-use Rattle.ledger_laws.proofs.PairStates.{HoldsOfPair, pair_after}
+use Rattle.ledger_laws.proofs.PairStates.{HoldsOfPair, pair_after, landing_cases}
 use Rattle.ledger_laws.proofs.walk.Cases.{train_cases, break_cases, copy_cases}
 use Rattle.ledger_laws.proofs.walk.Logs.{all_fit, HoldsAlways, always_after}
 
@@ -115,12 +115,8 @@ none_taken pair side place label none down other = go side other
     go B B = without-nothing (side_of pair B) place label (none down B)
 
 leaves_landed : (pair : PairPart) (side : Side) (label : Label) → Leaves pair (lands_on pair side label)
-leaves_landed pair side (Flag queue n) = leaves_lane pair side queue _
-leaves_landed pair side (Down queue n) = leaves_lane pair side queue _
-leaves_landed pair side (Bell queue) = leaves_side pair (other_side side) _ refl
-leaves_landed pair side (Index queue n) = leaves_lane pair (other_side side) queue _
-leaves_landed pair side (Pad i value) = leaves_side pair (other_side side) _ refl
-leaves_landed pair side label = leaves_all pair
+leaves_landed pair side label =
+    landing_cases (Leaves pair) pair side label (leaves_all pair) (leaves_lane pair) (λ part keeps. leaves_side pair (other_side side) part keeps.poked)
 
 none_landed : (plan : PairPlan) (pair : PairPart) (side : Side) (place : ℕ) (found : Option Label) → KeepsNone pair → KeepsNone (land_found plan pair side place found).after
 none_landed plan pair side place None none = none
@@ -172,13 +168,7 @@ none_next devs plan reading bytes pair (Poke p side window offset poked) none = 
 none_next devs plan reading bytes pair step none = none
 
 fresh-poked : (plan : PairPlan) (side : Side) → (side_of (fresh_pair plan) side).poked ≡ []
-fresh-poked plan side = go plan.up side
-  where
-    go : (up : Bool) (side : Side) → (at_side (if up then record { a = agreed_side plan.a plan.b; b = agreed_side plan.b plan.a } else both_of idle_side) side).poked ≡ []
-    go true A = refl
-    go true B = refl
-    go false A = refl
-    go false B = refl
+fresh-poked plan = each_fresh_side plan (λ part. part.poked ≡ []) (λ own peer. refl) refl
 
 none_holds : (plan : Plan) (pair : ℕ) → HoldsOfPair plan pair AnyStep KeepsNone
 none_holds plan pair = record {

@@ -23,10 +23,9 @@ use Rattle.lane_model.specs.declared.Phase.{Phase}
 use Rattle.lane_model.specs.declared.Phase.TheVariants.{Idle, Copying, Copied, Cleared}
 use Rattle.lane_model.specs.declared.Write.{Write}
 use Rattle.lane_model.specs.declared.Write.TheVariants.{Data, Flag as EntryFlag, Bell as QueueBell}
-use Rattle.lane_laws.proofs.Facade.{fresh_holds, cut_keeps, drop_keeps, forget_keeps, free_is_room, begin_keeps, post_keeps, land_data_keeps, land_flag_keeps, land_bell_keeps, look_keeps, copy_keeps, clear_keeps, ack_keeps, index_keeps, tail_after}
+use Rattle.lane_laws.proofs.Facade.{empty_holds, cut_keeps, drop_keeps, forget_keeps, free_is_room, begin_keeps, post_keeps, land_data_keeps, land_flag_keeps, land_bell_keeps, look_keeps, copy_keeps, clear_keeps, ack_keeps, index_keeps, tail_after}
 use Rattle.ledger_model.specs.Labels.{labels_of, write_of, index_of, writes_among, indexes_among}
 use Rattle.ledger_model.specs.Ledger.{LanePart}
-use Rattle.ledger_model.specs.LinkSteps.{fresh_lane}
 use Rattle.ledger_model.specs.Log.{Answered}
 use Rattle.ledger_model.specs.Receiving.{is_idle, is_copying, is_copied, is_cleared}
 use Rattle.ledger_model.specs.Rings.{RingPart, lane_shown, without_header}
@@ -118,23 +117,9 @@ pub law_at_start : (sizes : Sizes) (q : ℕ) (up : Bool) (writes : List Write) (
     → IsFreshLane writes indexes lane → ((k : ℕ) → (slice_index_or ring.ring k blank_slot).flags ≡ 0) → HoldsRingLaw (tailed sizes q up writes indexes lane ring)
 law_at_start sizes q up writes indexes lane ring two sized fresh no_flags =
     subst (λ (l : LanePart). HoldsRingLaw (tailed sizes q up writes indexes l ring)) (sym fresh.fresh)
-    (fresh_holds (tailed sizes q up writes indexes fresh_lane ring) (record {
-      two_entries = two;
-      slots = sized.slots;
-      rooms = λ k below. subst (λ j. length (slice_index_or ring.ring j blank_slot).payload ≡ sizes.largest) (sym (mod-eq_of_lt below)) (sized.rooms k below);
-      no_flags = λ k. no_flags (k % sizes.entries);
-      index_word = refl;
-      sent = refl;
-      todo = refl;
-      flight = fresh.no_writes;
-      returning = fresh.no_indexes;
-      flagged = refl;
-      got = refl;
-      cleared = refl;
-      acked = refl;
-      freed = refl;
-      phase = refl;
-    }))
+    (empty_holds sizes.entries sizes.largest (tail_of sizes.entries 0) up ring.ring writes indexes two sized.slots
+    (λ k below. subst (λ j. length (slice_index_or ring.ring j blank_slot).payload ≡ sizes.largest) (sym (mod-eq_of_lt below)) (sized.rooms k below))
+    (λ k. no_flags (k % sizes.entries)) refl fresh.no_writes fresh.no_indexes)
 
 -- Changes of a lane of which the law speaks
 

@@ -1,6 +1,6 @@
--- Which posted writes may overtake which, and which transactions may, after PCI Express Base 4.0, section 2.4.
+-- Which posted writes may overtake which, after PCI Express Base 4.0, section 2.4.
 -- A kind is a number. The posted writes are of kind 0, relaxed, and kind 1, strict.
-use Rattle.std.specs.Prelude.{ℕ, Bool, false, ◌==◌, ◌&&◌, ◌||◌, not, if◌then◌else◌, List, take, Option, Some, None, slice_get}
+use Rattle.std.specs.Prelude.{ℕ, Bool, false, ◌==◌, ◌||◌, not, List, take, Option, Some, None, slice_get}
 use Rattle.std.specs.List.{list_all}
 
 abbrev pub relaxed : ℕ
@@ -8,12 +8,6 @@ relaxed = 0
 
 abbrev pub strict : ℕ
 strict = 1
-
-abbrev pub read_request : ℕ
-read_request = 2
-
-abbrev pub completion : ℕ
-completion = 3
 
 -- whether a posted write of the later kind may pass an earlier one of the other kind: a relaxed one may pass any
 abbrev pub may_pass : ℕ → ℕ → Bool
@@ -36,13 +30,3 @@ lands_behind (Some write) before = list_all (passes write) before
 -- whether the write at this place of a list in flight may land
 abbrev pub may_land : List Order → ℕ → Bool
 may_land orders place = lands_behind (slice_get orders place) (take place orders)
-
--- the kinds of posted writes
-abbrev pub is_posted : ℕ → Bool
-is_posted kind = kind == relaxed || kind == strict
-
--- Whether a later transaction may overtake an earlier one, of these kinds. A posted write is passed by relaxed posted
--- writes alone. What isn't posted is passed by everything, but completions keep their order.
-abbrev pub may_overtake : ℕ → ℕ → Bool
-may_overtake later earlier =
-    if is_posted earlier then may_pass later earlier else not (later == completion && earlier == completion)

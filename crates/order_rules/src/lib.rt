@@ -7,8 +7,9 @@
 #![tactic(auto)]
 
 ghost use Rattle.std.specs.Prelude.{◌≡◌, ℕ, ◌<◌, ◌==◌, ◌||◌, not};
-ghost use Rattle.order_rules.specs.Order.{may_pass, may_overtake};
+ghost use Rattle.order_rules.specs.Order.{may_pass};
 ghost use Rattle.order_rules.specs.Table.{answer_at};
+ghost use Rattle.order_rules.specs.Transactions.{may_overtake};
 
 use std::marker::Model;
 

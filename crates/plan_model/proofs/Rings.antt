@@ -3,6 +3,7 @@ use Rattle.std.proofs.Common.{◌≡◌, ℕ, zero, suc, ◌+◌, ◌-◌, ◌*�
 use Rattle.std.proofs.Math.Nat.{le-mul_of_pos_right, mod-eq_of_lt, mod-eq-sub-mul-div, mod-lt}
 use Rattle.std.proofs.lemmas.Nat.{le-div}
 use Rattle.std.proofs.lemmas.Bool.Decides.{nat_tests}
+use Rattle.step_kinds.specs.Limits.{IsMtu, IsQueues, IsSize, IsWindows}
 use Rattle.step_kinds.specs.Sides.{other_side}
 use Rattle.step_kinds.specs.declared.names.Side.{Side}
 use Rattle.step_kinds.specs.declared.names.Side.TheVariants.{A, B}
@@ -54,22 +55,20 @@ large_area l some few size = le-div 256 l.window (queues_in_window l) some (omeg
 
 -- what of a declaration a ring needs
 record Fits (windows queues mtu header size : ℕ) : Type 0 where
-  some_windows : 0 < windows
-  few_windows : windows ≤ 4
-  few_queues : queues ≤ 16
-  least : 4096 ≤ size
-  most : size ≤ 268435456
-  small_mtu : mtu ≤ 65536
+  are_windows : IsWindows windows
+  are_queues : IsQueues queues
+  is_size : IsSize size
+  is_mtu : IsMtu mtu
   short : (header ≡ 12) ⊎ (header ≡ 16)
   room : header + 4 ≤ mtu
 
 placed : (l : Layout) → l.queue < l.queues → Fits l.windows l.queues l.mtu l.header l.window → IsPlaced l
 placed l among fits =
-    let few : (0 < queues_in_window l) × (queues_in_window l ≤ 16) = few_queues l fits.some_windows among fits.few_queues in
-    let large : 256 ≤ area l = large_area l few.0 few.1 fits.least in
+    let few : (0 < queues_in_window l) × (queues_in_window l ≤ 16) = few_queues l fits.are_windows.0 among fits.are_queues.1 in
+    let large : 256 ≤ area l = large_area l few.0 few.1 fits.is_size.0 in
     record {
-      ring = record { some_window = fits.some_windows; a_queue = among; index_fits = omega arith; header_fits = fits_slot (area l) large fits.short fits.room };
-      limits = record { window_fits = fits.most; windows_fit = fits.few_windows; queues_fit = fits.few_queues; mtu_fits = fits.small_mtu; header_fits = grind arith };
+      ring = record { some_window = fits.are_windows.0; a_queue = among; index_fits = omega arith; header_fits = fits_slot (area l) large fits.short fits.room };
+      limits = record { window_fits = fits.is_size.1; windows_fit = fits.are_windows.1; queues_fit = fits.are_queues.1; mtu_fits = fits.is_mtu.1; header_fits = grind arith };
     }
   where
     fits_slot : (bytes : ℕ) → 256 ≤ bytes → (l.header ≡ 12) ⊎ (l.header ≡ 16) → l.header + 4 ≤ l.mtu → l.header + 4 ≤ min l.mtu ((bytes - 4) / 2)
@@ -97,12 +96,10 @@ fits pair declared side from =
     let sender : IsSide (side_plan pair from) = side_of pair declared from in
     let header = header_fits pair declared in
     record {
-      some_windows = own.windows.0;
-      few_windows = own.windows.1;
-      few_queues = own.queues.1;
-      least = sender.size.0;
-      most = sender.size.1;
-      small_mtu = declared.mtu.1;
+      are_windows = own.windows;
+      are_queues = own.queues;
+      is_size = sender.size;
+      is_mtu = declared.mtu;
       short = header.0;
       room = header.1;
     }

@@ -35,35 +35,45 @@ spot-slice_get row place spot part is read =
     ∙ ap (λ p. slice_get (p.writes ++ behind) spot.place) at
     ∙ slice_get-append_near part.writes behind spot.place within
 
+-- the writes of a row, those before and behind a spot's part apart
+record IsParted {W : Type 0} (row : List (PartState W)) (place : ℕ) (spot : Spot) (part : PartState W) (before behind : List W) : Type 0 where
+  within : spot.place < length part.writes
+  whole : writes_in row ≡ before ++ (part.writes ++ behind)
+  less : place - length before ≡ spot.place
+
+spot-parts : {W : Type 0} (row : List (PartState W)) (place : ℕ) (spot : Spot) (part : PartState W) → IsSpot row place spot → part ≡ get_or row spot.part part
+    → IsParted row place spot part (writes_in (take spot.part row)) (writes_in (drop (suc spot.part) row))
+spot-parts row place spot part is read =
+    let at : part_at row spot.part ≡ part = spot-part row place spot part is read in
+    record {
+      within = subst (λ p. spot.place < length p.writes) at is.place_there;
+      whole = writes_in-at row spot.part is.part_there ∙ ap (λ p. writes_in (take spot.part row) ++ (p.writes ++ writes_in (drop (suc spot.part) row))) at;
+      less = (let e = is.adds_up in omega arith);
+    }
+
 -- a taking at the spot is a taking at the place
 pub spot-remove : {W : Type 0} (row : List (PartState W)) (place : ℕ) (spot : Spot) (old new : PartState W) → IsSpot row place spot → old ≡ get_or row spot.part old → new.writes ≡ remove old.writes spot.place → writes_in (set row spot.part new) ≡ remove (writes_in row) place
 spot-remove row place spot old new is read taken =
-    let at : part_at row spot.part ≡ old = spot-part row place spot old is read in
     let before = writes_in (take spot.part row) in
     let behind = writes_in (drop (suc spot.part) row) in
-    let within : spot.place < length old.writes = subst (λ p. spot.place < length p.writes) at is.place_there in
-    let whole : writes_in row ≡ before ++ (old.writes ++ behind) = writes_in-at row spot.part is.part_there ∙ ap (λ p. before ++ (p.writes ++ behind)) at in
-    let less : place - length before ≡ spot.place = (let e = is.adds_up in omega arith) in
+    let parted = spot-parts row place spot old is read in
     writes_in-set row spot.part new is.part_there
     ∙ ap (λ writes. before ++ (writes ++ behind)) taken
-    ∙ ap (λ writes. before ++ writes) (sym (remove-append_left old.writes behind spot.place within))
-    ∙ ap (λ n. before ++ remove (old.writes ++ behind) n) (sym less)
+    ∙ ap (λ writes. before ++ writes) (sym (remove-append_left old.writes behind spot.place parted.within))
+    ∙ ap (λ n. before ++ remove (old.writes ++ behind) n) (sym parted.less)
     ∙ sym (remove-append_right before (old.writes ++ behind) (length before) place refl (let e = is.adds_up in omega arith))
-    ∙ ap (λ writes. remove writes place) (sym whole)
+    ∙ ap (λ writes. remove writes place) (sym parted.whole)
 
 -- where no part before holds a write back, the writes before it in its own part decide
 pub spot-is_held_back : {W : Type 0} (order : W → Order) (waits_for : Option ℕ) (row : List (PartState W)) (place : ℕ) (spot : Spot) (part : PartState W) → IsSpot row place spot → part ≡ get_or row spot.part part → is_held_back order waits_for (writes_in (take spot.part row)) ≡ false → is_held_back order waits_for (take place (writes_in row)) ≡ is_held_back order waits_for (take spot.place part.writes)
 spot-is_held_back order waits_for row place spot part is read free =
-    let at : part_at row spot.part ≡ part = spot-part row place spot part is read in
     let before = writes_in (take spot.part row) in
     let behind = writes_in (drop (suc spot.part) row) in
-    let within : spot.place < length part.writes = subst (λ p. spot.place < length p.writes) at is.place_there in
-    let whole : writes_in row ≡ before ++ (part.writes ++ behind) = writes_in-at row spot.part is.part_there ∙ ap (λ p. before ++ (p.writes ++ behind)) at in
-    let less : place - length before ≡ spot.place = (let e = is.adds_up in omega arith) in
-    ap (λ writes. is_held_back order waits_for (take place writes)) whole
+    let parted = spot-parts row place spot part is read in
+    ap (λ writes. is_held_back order waits_for (take place writes)) parted.whole
     ∙ ap (is_held_back order waits_for) (take-append_far before (part.writes ++ behind) place (let e = is.adds_up in omega arith))
-    ∙ ap (λ n. is_held_back order waits_for (before ++ take n (part.writes ++ behind))) less
-    ∙ ap (λ writes. is_held_back order waits_for (before ++ writes)) (take-append-le spot.place part.writes behind (omega arith))
+    ∙ ap (λ n. is_held_back order waits_for (before ++ take n (part.writes ++ behind))) parted.less
+    ∙ ap (λ writes. is_held_back order waits_for (before ++ writes)) (take-append-le spot.place part.writes behind (let near = parted.within in omega arith))
     ∙ is_held_back-append order waits_for before (take spot.place part.writes)
     ∙ ap (λ b. b || is_held_back order waits_for (take spot.place part.writes)) free
 

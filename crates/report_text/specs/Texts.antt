@@ -1,7 +1,7 @@
 -- The texts of labels and answers: a word, and then its numbers and bytes. Numbers are decimal, bytes lower-case hexadecimal.
-use Rattle.std.specs.Prelude.{ℕ, List, [], ◌∷◌, ◌++◌, Option, Some, None, codes}
+use Rattle.std.specs.Prelude.{ℕ, ◌==◌, not, IsTrue, List, [], ◌∷◌, ◌++◌, Option, Some, None, codes}
 use Rattle.std.specs.Fmt.{decimal}
-use Rattle.std.specs.List.{flat_map}
+use Rattle.std.specs.List.{flat_map, list_any}
 use Rattle.hex.specs.Hex.{encode_lower}
 use Rattle.step_kinds.specs.declared.steps.Label.{Label}
 use Rattle.step_kinds.specs.declared.steps.Label.TheVariants.{Chunk, Len, Ver, Flag, Down, Bell, Index, Pad, Raw}
@@ -90,28 +90,6 @@ answer_text (Mem bytes) = codes "mem " ++ encode_lower bytes
 answer_text (PadValue value) = with_one (codes "pad") value
 answer_text (QueueShown count label) = with_one (codes "queue") count ++ 32 ∷ shown_text label
 
--- an answer whose text is one word
+-- an answer whose text is one word: it has no space
 abbrev pub IsOneWord : Answer → Type 0
-IsOneWord (OkSession _) = ⊥
-IsOneWord (OkNumber _) = ⊥
-IsOneWord (Offered _) = ⊥
-IsOneWord (Version _ _) = ⊥
-IsOneWord (Queues _ _) = ⊥
-IsOneWord (Windows _ _) = ⊥
-IsOneWord (Size _ _) = ⊥
-IsOneWord (TooLong _ _) = ⊥
-IsOneWord (Again _ _) = ⊥
-IsOneWord (Posted _) = ⊥
-IsOneWord (Landed _) = ⊥
-IsOneWord (VerDiffers _ _) = ⊥
-IsOneWord (Long _ _) = ⊥
-IsOneWord (ReadyFrame _ _) = ⊥
-IsOneWord (Copied _ _) = ⊥
-IsOneWord (Delivered _ _) = ⊥
-IsOneWord (Cleared _) = ⊥
-IsOneWord (Acked _) = ⊥
-IsOneWord (Irq _) = ⊥
-IsOneWord (Mem _) = ⊥
-IsOneWord (PadValue _) = ⊥
-IsOneWord (QueueShown _ _) = ⊥
-IsOneWord _ = Unit {0}
+IsOneWord answer = IsTrue (not (list_any (λ byte. byte == 32) (answer_text answer)))

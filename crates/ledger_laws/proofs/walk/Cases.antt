@@ -263,18 +263,43 @@ sender_each pair side queue later rest =
     down_each (link_up pair) _ (no (not (has_bit (side_of pair side).joined queue)) NotReady refl refl (no (has_bit (side_of pair side).closed queue) Closed refl refl rest))
 
 -- what is passed before the entry is looked at
-record MaySendAny (pair : PairPart) (side : Side) (queue : ℕ) (later : Option Answer) : Type 0 where
+record MaySendAny (pair : PairPart) (side : Side) (queue : ℕ) : Type 0 where
   up : link_up pair ≡ true
   joined : has_bit (side_of pair side).joined queue ≡ true
   not_closed : has_bit (side_of pair side).closed queue ≡ false
-  then_passed : later ≡ None
 
-sender_passed : (pair : PairPart) (side : Side) (queue : ℕ) (later : Option Answer) → refuse_sender pair side queue later ≡ None → MaySendAny pair side queue later
+sender_passed : (pair : PairPart) (side : Side) (queue : ℕ) (later : Option Answer) → refuse_sender pair side queue later ≡ None → MaySendAny pair side queue × (later ≡ None)
 sender_passed pair side queue later none =
     let a = passed _ _ _ none in
     let b = passed _ _ _ a.1 in
     let c = passed _ _ _ b.1 in
-    record { up = not-false _ a.0; joined = not-false _ b.0; not_closed = c.0; then_passed = c.1 }
+    (record { up = not-false _ a.0; joined = not-false _ b.0; not_closed = c.0 }, c.1)
+
+-- what is passed with it: the lane's sender is idle, and there is room, as what is passed later says
+may_send : (reading : Reading) (sizes : Sizes) (pair : PairPart) (side : Side) (queue len needed : ℕ) (later : Option Answer) → MaySendAny pair side queue
+    → refuse_busy (lane_of pair side queue) later ≡ None → (later ≡ None → nat_lt (reading.free side queue) needed ≡ false) → len ≤ sizes.most
+    → MaySend reading sizes pair side queue len needed
+may_send reading sizes pair side queue len needed later any none room fits =
+    let a = passed _ _ _ none in
+    let idle = neither _ _ a.0 in
+    record {
+      up = any.up;
+      joined = any.joined;
+      not_closed = any.not_closed;
+      not_busy = empty_is _ idle.0;
+      none_waiting = empty_is _ idle.1;
+      room = ltb-false (reading.free side queue) needed (room a.1);
+      fits = fits;
+    }
+
+-- and a frame isn't too long
+may_send_frame : (reading : Reading) (sizes : Sizes) (pair : PairPart) (side : Side) (queue len needed : ℕ) (later : Option Answer)
+    → refuse_sender pair side queue (refuse_long len sizes.most (refuse_busy (lane_of pair side queue) later)) ≡ None
+    → (later ≡ None → nat_lt (reading.free side queue) needed ≡ false) → MaySend reading sizes pair side queue len needed
+may_send_frame reading sizes pair side queue len needed later none room =
+    let a = sender_passed pair side queue _ none in
+    let b = passed _ _ _ a.1 in
+    may_send reading sizes pair side queue len needed later a.0 b.1 room (ltb-false sizes.most len b.0)
 
 abbrev pub closing : PairPart → Side → ℕ → PairPart
 closing pair side queue =
@@ -295,21 +320,7 @@ module _ (reading : Reading) where
       (sender_each pair side queue _
       (long_each (length bytes) sizes.most _ (busy_each (lane_of pair side queue) _ (full_each sizes reading (lane_of pair side queue) side queue (needs sizes (length bytes))))))
       refused
-      (λ none.
-      let a = sender_passed pair side queue _ none in
-      let b = passed _ _ _ a.then_passed in
-      let c = passed _ _ _ b.1 in
-      let d = passed _ _ _ c.1 in
-      let idle = neither _ _ c.0 in
-      made (record {
-        up = a.up;
-        joined = a.joined;
-        not_closed = a.not_closed;
-        not_busy = empty_is _ idle.0;
-        none_waiting = empty_is _ idle.1;
-        room = ltb-false (reading.free side queue) (needs sizes (length bytes)) d.0;
-        fits = ltb-false sizes.most (length bytes) b.0;
-      }))
+      (λ none. made (may_send_frame reading sizes pair side queue (length bytes) (needs sizes (length bytes)) _ none (λ full. (passed _ _ _ full).0)))
 
   pub qpdown_cases : (P : Outcome → Type 0) (sizes : Sizes) (pair : PairPart) (side : Side) (queue : ℕ)
       → ((r : Answer) → Refused (not (link_up pair)) r → P (record { answer = r; after = pair }))
@@ -323,18 +334,7 @@ module _ (reading : Reading) where
       refused
       (λ none.
       let a = sender_passed pair side queue _ none in
-      let c = passed _ _ _ a.then_passed in
-      let d = passed _ _ _ c.1 in
-      let idle = neither _ _ c.0 in
-      made (record {
-        up = a.up;
-        joined = a.joined;
-        not_closed = a.not_closed;
-        not_busy = empty_is _ idle.0;
-        none_waiting = empty_is _ idle.1;
-        room = ltb-false (reading.free side queue) 1 d.0;
-        fits = omega arith;
-      }))
+      made (may_send reading sizes pair side queue 0 1 _ a.0 a.1 (λ full. (passed _ _ _ full).0) (omega arith)))
 
   -- a device counts a frame that was accepted
   abbrev pub sent_frame : Sizes → DevPlan → PairPart → Side → ℕ → List ℕ → PairPart
@@ -354,22 +354,7 @@ module _ (reading : Reading) where
       (busy_each (lane_of pair side queue) _
       (no (dev_of pair side queue).stopped Stopped refl refl (full_each sizes reading (lane_of pair side queue) side queue (needs sizes len))))))
       refused
-      (λ none.
-      let a = sender_passed pair side queue _ none in
-      let b = passed _ _ _ a.then_passed in
-      let c = passed _ _ _ b.1 in
-      let d = passed _ _ _ c.1 in
-      let e = passed _ _ _ d.1 in
-      let idle = neither _ _ c.0 in
-      made (record {
-        up = a.up;
-        joined = a.joined;
-        not_closed = a.not_closed;
-        not_busy = empty_is _ idle.0;
-        none_waiting = empty_is _ idle.1;
-        room = ltb-false (reading.free side queue) (needs sizes len) e.0;
-        fits = ltb-false sizes.most len b.0;
-      }))
+      (λ none. made (may_send_frame reading sizes pair side queue len (needs sizes len) _ none (λ stopped. (passed _ _ _ (passed _ _ _ stopped).1).0)))
     where
       len : ℕ
       len = length (ethernet_frame dst plan.address kind payload)

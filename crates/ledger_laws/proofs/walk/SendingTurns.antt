@@ -135,7 +135,7 @@ module _ (plan : Plan) (lane : LaneName) (pair : PairPart) (reading : Reading) (
       own may =
           shown_as plan lane pair (QpDown p lane.from lane.queue) (OkNumber Now.lane.told) (closing pair lane.from lane.queue) _
           (sight-side lane.from lane.queue (with_lane pair lane.from lane.queue (begun_lane lane.queue Now.lane (GoesDown ∷ []))) Sender _
-          ∙ ap (λ (s : Sight). record s { sender = record Now.sender { closed = with_bit Now.sender.closed lane.queue } }) (sight-lane lane.from lane.queue pair _))
+          ∙ ap (λ (s : Sight). record s { sender = record Now.sender { part = record Now.sender.part { closed = with_bit Now.sender.closed lane.queue } } }) (sight-lane lane.from lane.queue pair _))
           (turned (Closes (record {
             up = may.up;
             joined = may.joined;
@@ -152,12 +152,12 @@ module _ (plan : Plan) (lane : LaneName) (pair : PairPart) (reading : Reading) (
       off s q (OtherQueue ne) is may =
           shown_as plan lane pair (QpDown p lane.from q) (OkNumber (lane_of pair lane.from q).told) (closing pair lane.from q) _
           (sight-side lane.from lane.queue (with_lane pair lane.from q (begun_lane q (lane_of pair lane.from q) (GoesDown ∷ []))) Sender _
-          ∙ ap (λ (s : Sight). record s { sender = record Now.sender { closed = with_bit Now.sender.closed q } }) (sight-off lane.from lane.queue pair lane.from q _ is))
+          ∙ ap (λ (s : Sight). record s { sender = record Now.sender { part = record Now.sender.part { closed = with_bit Now.sender.closed q } } }) (sight-off lane.from lane.queue pair lane.from q _ is))
           (turned (Shuts Sender q false) (tells_qpdown plan lane Now.lane p lane.from q _ false (on-off lane p lane.from q is)))
       off s q OtherWay is may =
           shown_as plan lane pair (QpDown p (other_side lane.from) q) (OkNumber (lane_of pair (other_side lane.from) q).told) (closing pair (other_side lane.from) q) _
           (sight-side lane.from lane.queue (with_lane pair (other_side lane.from) q (begun_lane q (lane_of pair (other_side lane.from) q) (GoesDown ∷ []))) Receiver _
-          ∙ ap (λ (s : Sight). record s { receiver = record Now.receiver { closed = with_bit Now.receiver.closed q } }) (sight-off lane.from lane.queue pair (other_side lane.from) q _ is))
+          ∙ ap (λ (s : Sight). record s { receiver = record Now.receiver { part = record Now.receiver.part { closed = with_bit Now.receiver.closed q } } }) (sight-off lane.from lane.queue pair (other_side lane.from) q _ is))
           (turned (Shuts Receiver q false) (tells_qpdown plan lane Now.lane p (other_side lane.from) q _ false (on-off lane p (other_side lane.from) q is)))
 
   -- A write is posted, of this lane or of another: `Ready` says which, and `lane_then` is the lane that posts it by then

@@ -27,7 +27,7 @@ use Rattle.ledger_laws.proofs.Offers.{offer-is_pad, offer-no_link}
 use Rattle.ledger_laws.proofs.Outcomes.{passed, refused_passed}
 use Rattle.ledger_laws.proofs.walk.Cases.{trained, broken, dropped, cleaned, offering, next_offer, readied, ready_pad, joining}
 use Rattle.ledger_model.specs.Receiving.{closes}
-use Rattle.ledger_laws.proofs.walk.Sight.{Sight, each_way, with_up, with_ready, with_joined, with_offered, with_closed, with_masked, end-own, Role, end_at, part_of, with_enabled, with_pending, posted, side_at, by_role, sight, sight-posts}
+use Rattle.ledger_laws.proofs.walk.Sight.{Sight, each_way, with_up, with_ready, with_joined, with_offered, with_closed, with_masked, end-own, Role, end_at, with_enabled, with_pending, posted, side_at, by_role, sight, sight-posts}
 use Rattle.ledger_laws.proofs.walk.Turn.{MayTrain, IsForeign, is_handshake, forgotten, dropped_end, turned, Enables, Trains, Breaks, Drops, Forgets, Offers, Checks, Readies, Joins, Shuts, Says, TakesBells, Masks}
 use Rattle.ledger_laws.proofs.walk.News.{Tells, looked_news}
 use Rattle.ledger_laws.proofs.walk.Tells.{is_read, tells_no, tells_train, tells_break, tells_check, tells_irq}
@@ -140,7 +140,7 @@ module _ (plan : Plan) (lane : LaneName) (pair : PairPart) where
           (turned (Checks e (record {
             up = not-false _ a.0;
             not_yet = ap (λ own. own.up) is ∙ b.0;
-            passes = ap (λ own. check_refusal (side_plan (pair_plan plan lane.pair) s) (part_of own) (link_up pair)) is ∙ none;
+            passes = ap (λ own. check_refusal (side_plan (pair_plan plan lane.pair) s) own.part (link_up pair)) is ∙ none;
           })) (tells_check plan lane Now.lane p same e))
 
   pub ready : (p : ℕ) (side : Side) (queue : ℕ) → link_up pair ≡ true → (side_of pair side).up ≡ true

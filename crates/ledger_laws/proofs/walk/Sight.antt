@@ -13,17 +13,10 @@ use Rattle.plan_model.specs.Link.{is_up}
 use Rattle.ledger_model.specs.Log.{same_side}
 use Rattle.plan_model.specs.declared.LinkState.{LinkState}
 
--- An end of the lane: its side, and what the link says of that side.
+-- An end of the lane: its side, but for the bytes of raw writes, and what the link says of that side.
 pub record End : Type 0 where
-  pub up : Bool
-  pub ready : ℕ
-  pub joined : ℕ
-  pub closed : ℕ
-  pub offered : ℕ
-  pub pads : List ℕ
-  pub pending : ℕ
-  pub masked : ℕ
-  pub flight : List Label
+  pub part : SidePart
+  pub open part use {up, ready, joined, closed, offered, pads, pending, masked, flight}
   pub clean : Bool
   pub enabled : Bool
 
@@ -61,7 +54,8 @@ receiver_after Receiver new old = new
 abbrev pub with_end : Sight → Role → End → Sight
 with_end s e new = record s { sender = sender_after e new s.sender; receiver = receiver_after e new s.receiver }
 
--- the sight with another number of one end; what isn't changed of both ends is in sight as before, whichever end it is
+-- the sight with another value in a field of one end; what isn't changed of both ends is in sight as before, whichever
+-- end it is
 abbrev pub on_sender : {X : Type 0} → Role → X → X → X
 on_sender Sender new old = new
 on_sender Receiver new old = old
@@ -70,38 +64,44 @@ abbrev pub on_receiver : {X : Type 0} → Role → X → X → X
 on_receiver Sender new old = old
 on_receiver Receiver new old = new
 
+abbrev pub with_field : {X : Type 0} → (End → X) → (X → End → End) → Role → X → Sight → Sight
+with_field get put e x s = record s {
+  sender = put (on_sender e x (get s.sender)) s.sender;
+  receiver = put (on_receiver e x (get s.receiver)) s.receiver;
+}
+
 abbrev pub with_up : Role → Bool → Sight → Sight
-with_up e x s = record s { sender = record s.sender { up = on_sender e x s.sender.up }; receiver = record s.receiver { up = on_receiver e x s.receiver.up } }
+with_up = with_field (λ own. own.up) (λ up own. record own { part = record own.part { up = up } })
 
 abbrev pub with_ready : Role → ℕ → Sight → Sight
-with_ready e x s = record s { sender = record s.sender { ready = on_sender e x s.sender.ready }; receiver = record s.receiver { ready = on_receiver e x s.receiver.ready } }
+with_ready = with_field (λ own. own.ready) (λ ready own. record own { part = record own.part { ready = ready } })
 
 abbrev pub with_joined : Role → ℕ → Sight → Sight
-with_joined e x s = record s { sender = record s.sender { joined = on_sender e x s.sender.joined }; receiver = record s.receiver { joined = on_receiver e x s.receiver.joined } }
+with_joined = with_field (λ own. own.joined) (λ joined own. record own { part = record own.part { joined = joined } })
 
 abbrev pub with_closed : Role → ℕ → Sight → Sight
-with_closed e x s = record s { sender = record s.sender { closed = on_sender e x s.sender.closed }; receiver = record s.receiver { closed = on_receiver e x s.receiver.closed } }
+with_closed = with_field (λ own. own.closed) (λ closed own. record own { part = record own.part { closed = closed } })
 
 abbrev pub with_offered : Role → ℕ → Sight → Sight
-with_offered e x s = record s { sender = record s.sender { offered = on_sender e x s.sender.offered }; receiver = record s.receiver { offered = on_receiver e x s.receiver.offered } }
+with_offered = with_field (λ own. own.offered) (λ offered own. record own { part = record own.part { offered = offered } })
 
 abbrev pub with_pads : Role → List ℕ → Sight → Sight
-with_pads e x s = record s { sender = record s.sender { pads = on_sender e x s.sender.pads }; receiver = record s.receiver { pads = on_receiver e x s.receiver.pads } }
+with_pads = with_field (λ own. own.pads) (λ pads own. record own { part = record own.part { pads = pads } })
 
 abbrev pub with_pending : Role → ℕ → Sight → Sight
-with_pending e x s = record s { sender = record s.sender { pending = on_sender e x s.sender.pending }; receiver = record s.receiver { pending = on_receiver e x s.receiver.pending } }
+with_pending = with_field (λ own. own.pending) (λ pending own. record own { part = record own.part { pending = pending } })
 
 abbrev pub with_masked : Role → ℕ → Sight → Sight
-with_masked e x s = record s { sender = record s.sender { masked = on_sender e x s.sender.masked }; receiver = record s.receiver { masked = on_receiver e x s.receiver.masked } }
+with_masked = with_field (λ own. own.masked) (λ masked own. record own { part = record own.part { masked = masked } })
 
 abbrev pub with_flight : Role → List Label → Sight → Sight
-with_flight e x s = record s { sender = record s.sender { flight = on_sender e x s.sender.flight }; receiver = record s.receiver { flight = on_receiver e x s.receiver.flight } }
+with_flight = with_field (λ own. own.flight) (λ flight own. record own { part = record own.part { flight = flight } })
 
 abbrev pub with_clean : Role → Bool → Sight → Sight
-with_clean e x s = record s { sender = record s.sender { clean = on_sender e x s.sender.clean }; receiver = record s.receiver { clean = on_receiver e x s.receiver.clean } }
+with_clean = with_field (λ own. own.clean) (λ clean own. record own { clean = clean })
 
 abbrev pub with_enabled : Role → Bool → Sight → Sight
-with_enabled e x s = record s { sender = record s.sender { enabled = on_sender e x s.sender.enabled }; receiver = record s.receiver { enabled = on_receiver e x s.receiver.enabled } }
+with_enabled = with_field (λ own. own.enabled) (λ enabled own. record own { enabled = enabled })
 
 -- the side of an end, where the lane's sender is this side
 abbrev pub side_at : Side → Role → Side
@@ -137,34 +137,7 @@ posted e label s = with_flight e (flight_with s.state (end_at s e).flight label)
 -- The sight of a lane
 
 abbrev pub end_of_part : SidePart → Bool → Bool → End
-end_of_part part clean enabled = record {
-  up = part.up;
-  ready = part.ready;
-  joined = part.joined;
-  closed = part.closed;
-  offered = part.offered;
-  pads = part.pads;
-  pending = part.pending;
-  masked = part.masked;
-  flight = part.flight;
-  clean = clean;
-  enabled = enabled;
-}
-
--- the side's part that an end shows
-abbrev pub part_of : End → SidePart
-part_of own = record {
-  up = own.up;
-  ready = own.ready;
-  joined = own.joined;
-  closed = own.closed;
-  offered = own.offered;
-  pads = own.pads;
-  pending = own.pending;
-  masked = own.masked;
-  flight = own.flight;
-  poked = [];
-}
+end_of_part part clean enabled = record { part = record part { poked = [] }; clean = clean; enabled = enabled }
 
 abbrev pub end_of : PairPart → Side → End
 end_of pair side = end_of_part (side_of pair side) (at_side pair.link.clean side) (at_side pair.link.enabled side)

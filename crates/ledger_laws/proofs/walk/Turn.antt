@@ -36,7 +36,7 @@ use Rattle.plan_model.specs.Sizes.{Sizes, sizes_of, pieces_in}
 use Rattle.order_rules.specs.Order.{may_land}
 use Rattle.plan_model.specs.Orders.{order_of}
 use Rattle.ledger_laws.specs.Laws.{IsOrdinaryOn}
-use Rattle.ledger_laws.proofs.walk.Sight.{End, Sight, Role, Sender, Receiver, peer_of, end_at, on_sender, on_receiver, with_up, with_ready, with_joined, with_closed, with_offered, with_pads, with_pending, with_masked, with_flight, with_clean, with_enabled, side_at, part_of, posted}
+use Rattle.ledger_laws.proofs.walk.Sight.{End, Sight, Role, Sender, Receiver, peer_of, end_at, on_sender, on_receiver, with_up, with_ready, with_joined, with_closed, with_offered, with_pads, with_pending, with_masked, with_flight, with_clean, with_enabled, side_at, posted}
 use Rattle.ledger_laws.proofs.walk.News.{News, no_news, Tells, looked_news, pads_landed, ring_landed, ring_freed, ring_checked, ring_cleared, sees_taken}
 
 -- What a step has passed
@@ -79,7 +79,7 @@ pub record MayOffer (own : SidePlan) (s : Sight) (e : Role) (label : Label) : Ty
 pub record MayCheck (own : SidePlan) (s : Sight) (e : Role) : Type 0 where
   pub up : is_up s.state ≡ true
   pub not_yet : (end_at s e).up ≡ false
-  pub passes : check_refusal own (part_of (end_at s e)) (is_up s.state) ≡ None
+  pub passes : check_refusal own (end_at s e).part (is_up s.state) ≡ None
 
 pub record MayReady (s : Sight) (e : Role) : Type 0 where
   pub up : is_up s.state ≡ true
@@ -220,7 +220,7 @@ forgotten e s =
     record (with_clean e true (with_pending e 0 (with_pads e (replicate 16 0) (with_offered e 0 less)))) { lane = forgotten_lane e s.lane }
 
 abbrev pub dropped_end : End → End
-dropped_end own = record own { flight = []; clean = false; enabled = false }
+dropped_end own = record { part = record own.part { flight = [] }; clean = false; enabled = false }
 
 abbrev pub more_accepted : Tally → Tally
 more_accepted tally = record tally { accepted = tally.accepted + 1 }
@@ -264,7 +264,7 @@ pub data Turn (plan : Plan) (lane : LaneName) (s : Sight) (made : Answered) : Ne
       → Turn plan lane s made (record no_news { takes = pieces_in (SizesOf plan lane).largest (length bytes); accepted = record { number = s.lane.told; bytes = bytes } ∷ [] })
       (record s { lane = frame_begun lane.queue s.lane (first ∷ others); tally = updated s.tally s.session (more_accepted (s.tally s.session)) })
   Closes : MayBegin (IsRaw plan lane) (SizesOf plan lane) lane.queue s 0 1 → Turn plan lane s made (record no_news { takes = 1 })
-      (record s { sender = record s.sender { closed = with_bit s.sender.closed lane.queue }; lane = begun_lane lane.queue s.lane (GoesDown ∷ []) })
+      (record s { sender = record s.sender { part = record s.sender.part { closed = with_bit s.sender.closed lane.queue } }; lane = begun_lane lane.queue s.lane (GoesDown ∷ []) })
   Posts : (label : Label) (rest : List Label) → MayPost lane.queue s label rest → Turn plan lane s made no_news (posted Sender label (record s { lane = record s.lane { todo = rest } }))
   PostsNext : (entry : Entry) (others : List Entry) (label : Label) (rest : List Label) → MayPostNext lane.queue s entry others label rest
       → Turn plan lane s made no_news (posted Sender label (record s { lane = record (picked lane.queue s.lane entry others) { todo = rest } }))
