@@ -57,6 +57,11 @@ last_copied cleared got is = omega (arith, is)
 fits_where : (plan : PairPlan) (test : Phase → Bool) (phase : Phase) → test Idle ≡ false → test phase ≡ true → (phase ≡ Idle) ⊎ SizesFit plan → SizesFit plan
 fits_where plan test phase at_idle holds fits = ⊎_elim (λ idle. absurd (true≢false (sym holds ∙ ap test idle ∙ at_idle))) (λ fits. fits) fits
 
+-- a receiver is in turn or not
+by_turn : (P : Bool → Type 0) (turn : Bool) → P false → (turn ≡ true → P true) → P turn
+by_turn P true out in_turn = in_turn refl
+by_turn P false out in_turn = out
+
 module _ {devs : List DevPlan} {plan : PairPlan} {k : ℕ} (now : Standing devs plan k) where
   abbrev flags_gone : Side → ℕ → LanePart
   flags_gone side queue = record (lane_to now.site.pair side queue) { cleared = (lane_to now.site.pair side queue).cleared + 1; phase = Cleared }
@@ -97,14 +102,12 @@ module _ {devs : List DevPlan} {plan : PairPlan} {k : ℕ} (now : Standing devs 
   abbrev acks : Side → ℕ → Bool → ℕ → Move
   acks side queue cleared n = moves side queue (given side queue) cleared (of_ack (if cleared then Some n else None)) (index_posted (kept now).bridge side queue n)
 
-  clear_at : (side : Side) (queue : ℕ) (copied : Bool) → queue < (side_plan plan side).queues → has_forgotten now.site.pair.link side ≡ false → is_copied (lane_to now.site.pair side queue).phase ≡ copied
-      → Follows devs plan k now.site (Clear k side queue) (clear_made side queue copied) (clears side queue copied ((lane_to now.site.pair side queue).got - 1))
-  clear_at side queue false among fresh is = (refl, as_it_was now side queue false among fresh)
-  clear_at side queue true among fresh is =
+  clear_in_turn : (side : Side) (queue : ℕ) → queue < (side_plan plan side).queues → has_forgotten now.site.pair.link side ≡ false → is_copied (lane_to now.site.pair side queue).phase ≡ true
+      → Follows devs plan k now.site (Clear k side queue) (clear_made side queue true) (clears side queue true ((lane_to now.site.pair side queue).got - 1))
+  clear_in_turn side queue among fresh is =
       let lane = lane_to now.site.pair side queue in
-      let old = (stands_by now side queue false among fresh).receiving in
-      let counts = after_copied lane.phase lane.acked lane.cleared lane.got is (old.counts refl) in
-      let fits = fits_where plan is_copied lane.phase refl is old.fits in
+      let counts = after_copied lane.phase lane.acked lane.cleared lane.got is ((stands_by now side queue false among fresh).receiving.counts refl) in
+      let fits = fits_where plan is_copied lane.phase refl is (stands_by now side queue false among fresh).receiving.fits in
       subst (λ n. Follows devs plan k now.site (Clear k side queue) (clear_made side queue true) (clears side queue true n)) (sym (last_copied lane.cleared lane.got counts.1)) (
         refl,
         bytes_come (receives now side queue (flags_gone side queue) among fresh refl (record { counts = λ _. counts; fits = inr fits; len = λ copying. absurd (false≢true copying) })) side (zeroed_flags plan side queue lane.cleared)
@@ -113,21 +116,19 @@ module _ {devs : List DevPlan} {plan : PairPlan} {k : ℕ} (now : Standing devs 
 
   clear_by : (side : Side) (queue : ℕ) (forgotten : Bool) → queue < (side_plan plan side).queues → has_forgotten now.site.pair.link side ≡ forgotten
       → Follows devs plan k now.site (Clear k side queue) (clear_step now.site.pair side queue) (cleared_with side queue (port_queue now side queue forgotten))
-  clear_by side queue true among forgot =
-      subst (λ copied. Follows devs plan k now.site (Clear k side queue) (clear_made side queue copied) (cleared_with side queue (port_queue now side queue true))) (sym (ap is_copied ((stands_by now side queue true among forgot).forgets refl).phase))
-      (refl, as_it_was now side queue true among forgot)
-  clear_by side queue false among fresh = clear_at side queue (is_copied (lane_to now.site.pair side queue).phase) among fresh refl
+  clear_by side queue true among forgot = rw (ap is_copied ((stands_by now side queue true among forgot).forgets refl).phase) (refl, as_it_was now side queue true among forgot)
+  clear_by side queue false among fresh =
+      by_turn (λ copied. Follows devs plan k now.site (Clear k side queue) (clear_made side queue copied) (clears side queue copied ((lane_to now.site.pair side queue).got - 1)))
+      (is_copied (lane_to now.site.pair side queue).phase) (refl, as_it_was now side queue false among fresh) (clear_in_turn side queue among fresh)
 
   pub clear_follows : (side : Side) (queue : ℕ) → queue < (side_plan plan side).queues → Follows devs plan k now.site (Clear k side queue) (clear_step now.site.pair side queue) (clear_move (kept now) side queue)
   clear_follows side queue among = by_queue now side queue (λ (q : QueueState). Follows devs plan k now.site (Clear k side queue) (clear_step now.site.pair side queue) (cleared_with side queue q)) among (λ forgotten. clear_by side queue forgotten among)
 
-  ack_at : (side : Side) (queue : ℕ) (cleared : Bool) → queue < (side_plan plan side).queues → has_forgotten now.site.pair.link side ≡ false → is_cleared (lane_to now.site.pair side queue).phase ≡ cleared
-      → Follows devs plan k now.site (Ack k side queue) (ack_made side queue cleared) (acks side queue cleared ((lane_to now.site.pair side queue).got - 1))
-  ack_at side queue false among fresh is = (refl, as_it_was now side queue false among fresh)
-  ack_at side queue true among fresh is =
+  ack_in_turn : (side : Side) (queue : ℕ) → queue < (side_plan plan side).queues → has_forgotten now.site.pair.link side ≡ false → is_cleared (lane_to now.site.pair side queue).phase ≡ true
+      → Follows devs plan k now.site (Ack k side queue) (ack_made side queue true) (acks side queue true ((lane_to now.site.pair side queue).got - 1))
+  ack_in_turn side queue among fresh is =
       let lane = lane_to now.site.pair side queue in
-      let old = (stands_by now side queue false among fresh).receiving in
-      let counts = after_cleared lane.phase lane.acked lane.cleared lane.got is (old.counts refl) in
+      let counts = after_cleared lane.phase lane.acked lane.cleared lane.got is ((stands_by now side queue false among fresh).receiving.counts refl) in
       let given_back = with_queue (kept now) side queue (received_part now side queue (given side queue)) in
       let first = receives now side queue (given side queue) among fresh refl (record { counts = λ _. counts; fits = inl refl; len = λ copying. absurd (false≢true copying) }) in
       subst (λ n. Follows devs plan k now.site (Ack k side queue) (ack_made side queue true) (acks side queue true n)) (sym (last_copied lane.acked lane.got (counts.0 ∙ counts.1))) (
@@ -136,15 +137,15 @@ module _ {devs : List DevPlan} {plan : PairPlan} {k : ℕ} (now : Standing devs 
             (λ (bridge : Bridge). PairStands devs plan k
             (record now.site { pair = posts_through (reads now) (with_lane now.site.pair (other_side side) queue (given side queue)) side (Index queue lane.acked) })
             (record given_back { bridge = index_posted bridge side queue lane.acked })) first
-            (index_posts (then_standing now _ _ first) side queue lane.acked among (fits_where plan is_cleared lane.phase refl is old.fits)),
+            (index_posts (then_standing now _ _ first) side queue lane.acked among (fits_where plan is_cleared lane.phase refl is (stands_by now side queue false among fresh).receiving.fits)),
       )
 
   ack_by : (side : Side) (queue : ℕ) (forgotten : Bool) → queue < (side_plan plan side).queues → has_forgotten now.site.pair.link side ≡ forgotten
       → Follows devs plan k now.site (Ack k side queue) (ack_step (reads now) now.site.pair side queue) (acked_with side queue (port_queue now side queue forgotten))
-  ack_by side queue true among forgot =
-      subst (λ cleared. Follows devs plan k now.site (Ack k side queue) (ack_made side queue cleared) (acked_with side queue (port_queue now side queue true))) (sym (ap is_cleared ((stands_by now side queue true among forgot).forgets refl).phase))
-      (refl, as_it_was now side queue true among forgot)
-  ack_by side queue false among fresh = ack_at side queue (is_cleared (lane_to now.site.pair side queue).phase) among fresh refl
+  ack_by side queue true among forgot = rw (ap is_cleared ((stands_by now side queue true among forgot).forgets refl).phase) (refl, as_it_was now side queue true among forgot)
+  ack_by side queue false among fresh =
+      by_turn (λ cleared. Follows devs plan k now.site (Ack k side queue) (ack_made side queue cleared) (acks side queue cleared ((lane_to now.site.pair side queue).got - 1)))
+      (is_cleared (lane_to now.site.pair side queue).phase) (refl, as_it_was now side queue false among fresh) (ack_in_turn side queue among fresh)
 
   pub ack_follows : (side : Side) (queue : ℕ) → queue < (side_plan plan side).queues → Follows devs plan k now.site (Ack k side queue) (ack_step (reads now) now.site.pair side queue) (ack_move (kept now) side queue)
   ack_follows side queue among = by_queue now side queue (λ (q : QueueState). Follows devs plan k now.site (Ack k side queue) (ack_step (reads now) now.site.pair side queue) (acked_with side queue q)) among (λ forgotten. ack_by side queue forgotten among)

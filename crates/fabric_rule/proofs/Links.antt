@@ -14,7 +14,7 @@ use Rattle.step_kinds.specs.declared.steps.Step.TheVariants.{Enable, Train, Brea
 use Rattle.plan_model.specs.Both.{Both, at_side, both_of, with_side}
 use Rattle.plan_model.specs.Link.{Link, is_down, is_up, is_closing, refused_where, enable_refusal, train_refusal, cut_refusal, drop_refusal, clean_refusal, enabled_link, trained_link, cut_link, dropped_link, cleaned_link}
 use Rattle.plan_model.specs.declared.LinkRefusal.{LinkRefusal}
-use Rattle.plan_model.specs.declared.LinkRefusal.TheVariants.{NotDown, Dirty, NotEnabled, NotUp, NotClosing, SessionsSpent}
+use Rattle.plan_model.specs.declared.LinkRefusal.TheVariants.{NotDown, Dirty, NotEnabled, NotUp, NotClosing}
 use Rattle.plan_model.specs.declared.LinkState.{LinkState}
 use Rattle.plan_model.specs.declared.LinkState.TheVariants.{Down, Up, Closing}
 use Rattle.ledger_model.specs.LinkSteps.{answer_of_refusal, cleaned_side, emptied_side, forgotten_lanes, fresh_lane, started_dev, enable_step, train_step, break_step, drop_step, clean_step, refusal_answer}
@@ -40,11 +40,7 @@ use Rattle.fabric_rule.proofs.Follows.{AllSides, Follows, by_side, state_for}
 -- a refusal has its own answer
 pub same_refusal : (refusal : LinkRefusal) → of_refusal refusal ≡ refusal_answer refusal
 same_refusal NotDown = refl
-same_refusal Dirty = refl
-same_refusal NotEnabled = refl
-same_refusal NotUp = refl
-same_refusal NotClosing = refl
-same_refusal SessionsSpent = refl
+same_refusal refusal = refl
 
 -- what passed where nothing was refused
 passed_enable : (down clean : Bool) → refused_where (not down) NotDown (refused_where (not clean) Dirty None) ≡ None → clean ≡ true

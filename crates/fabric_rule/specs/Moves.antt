@@ -27,7 +27,7 @@ use Rattle.hand_shake.specs.Queues.{ready_answer, after_ready, join_answer, afte
 use Rattle.frame_ring.specs.Calls.{post_answer, after_post, posted_by, copy_answer, after_copy, clear_answer, after_clear, cleared_by, ack_answer, after_ack, acked_by, free_answer}
 use Rattle.frame_ring.specs.Port.{PortState}
 use Rattle.queue_pair.specs.Gates.{begin_answer, after_begin, qpdown_answer, after_qpdown, look_answer, after_look, irq_bits, after_irq}
-use Rattle.queue_pair.specs.Queue.{fresh_queue, with_port}
+use Rattle.queue_pair.specs.Queue.{QueueState, fresh_queue, with_port}
 use Rattle.fabric_rule.specs.Answers.{of_link, of_offer, of_check, of_ready, of_join, of_begin, of_xbegin, of_post, of_land, of_look, of_copy, of_clear, of_ack}
 use Rattle.fabric_rule.specs.Parts.{PairState, QueuePart, one_more, queues_of, queue_of, with_bridge, with_queues, with_queue}
 
@@ -47,6 +47,12 @@ port_move pair side queue answer after by =
       answer = answer part.queue.port;
       after = with_bridge (with_queue pair side queue (record part { queue = with_port part.queue (after part.queue.port) })) (by part.queue.port pair.bridge);
     }
+
+-- what a queue answers by its bridge, with the queue after it
+abbrev pub call_move : PairState → Side → ℕ → (QueueState → Bridge → Answer) → (QueueState → Bridge → QueueState) → Move
+call_move pair side queue answer after =
+    let part = queue_of pair side queue in
+    record { answer = answer part.queue pair.bridge; after = with_queue pair side queue (record part { queue = after part.queue pair.bridge }) }
 
 -- an answer that changes nothing
 abbrev pub shows : PairState → Answer → Move
@@ -116,12 +122,7 @@ begin_move pair side queue frame =
     }
 
 abbrev pub qpdown_move : PairState → Side → ℕ → Move
-qpdown_move pair side queue =
-    let part = queue_of pair side queue in
-    record {
-      answer = of_begin (qpdown_answer part.queue pair.bridge);
-      after = with_queue pair side queue (record part { queue = after_qpdown part.queue pair.bridge });
-    }
+qpdown_move pair side queue = call_move pair side queue (λ queue bridge. of_begin (qpdown_answer queue bridge)) after_qpdown
 
 -- a device's frame was begun: it is counted, and the device stops where it left too few entries free; or it was refused, which is
 -- counted, and nothing else changes
@@ -162,12 +163,7 @@ abbrev pub land_move : PairState → Side → ℕ → Move
 land_move pair side place = bridge_move pair (of_land (label_landed (landing pair.bridge side place))) (after_land pair.bridge side place)
 
 abbrev pub look_move : PairState → Side → ℕ → Move
-look_move pair side queue =
-    let part = queue_of pair side queue in
-    record {
-      answer = of_look (look_answer part.queue pair.bridge);
-      after = with_queue pair side queue (record part { queue = after_look part.queue pair.bridge });
-    }
+look_move pair side queue = call_move pair side queue (λ queue bridge. of_look (look_answer queue bridge)) after_look
 
 -- a frame that was delivered is counted in the pair's session, and by the device on the queue
 abbrev pub delivered_where_whole : LaneCopy → ℕ → QueuePart → QueuePart

@@ -1,20 +1,23 @@
 -- Room that is promised and promises that aren't used go down together.
-use Rattle.std.proofs.Common.{◌≡◌, ◌∙◌, ℕ, ◌+◌, ◌-◌, Bool, true, false, Some, None, List, [], ◌∷◌, length, refl, ap, arith, if◌then◌else◌}
+use Rattle.std.proofs.Common.{◌≡◌, ◌∙◌, ℕ, ◌+◌, ◌-◌, Bool, true, false, Some, None, List, [], ◌∷◌, length, refl, sym, ap, arith, if◌then◌else◌}
 use Rattle.step_kinds.specs.declared.names.Side.{Side}
 use Rattle.step_kinds.specs.declared.names.Side.TheVariants.{A, B}
 use Rattle.step_kinds.specs.declared.steps.Label.{Label}
 use Rattle.step_kinds.specs.declared.steps.Label.TheVariants.{Chunk, Len, Ver, Flag, Down, Bell, Index, Pad, Raw}
 use Rattle.byte_model.specs.RingWrites.{WindowWrite}
 use Rattle.lane_model.specs.Lane.{Entry}
+use Rattle.lane_model.specs.Tests.{is_copied, is_copying, is_idle}
+use Rattle.lane_model.specs.declared.Phase.{Phase}
+use Rattle.lane_model.specs.declared.Phase.TheVariants.{Idle, Copying, Copied, Cleared}
 use Rattle.plan_model.specs.Link.{is_up}
 use Rattle.posted_queue.specs.Flight.{Flight, given_back, posted}
 use Rattle.bridge_pair.specs.Bridge.{Bridge, flight_of, with_flight}
 use Rattle.bridge_pair.specs.Calls.{after_post as after_posting}
 use Rattle.bridge_pair.specs.Flights.{Flying, flying_of}
 use Rattle.bridge_pair.specs.Writes.{PostedWrite, bell_write, memory_write}
-use Rattle.frame_ring.specs.Calls.{after_post, first_label, let_go, next_begun, rest_of}
+use Rattle.frame_ring.specs.Calls.{after_clear, after_copy, after_post, first_label, gathered_next, let_go, more_entries, more_parts, next_begun, part_copied, rest_of}
 use Rattle.frame_ring.specs.Outgoing.{IsLabelOf}
-use Rattle.frame_ring.specs.Port.{PortState, Sending, unused_of}
+use Rattle.frame_ring.specs.Port.{PortState, Receiving, Sending, unused_of, with_receiving, writes_left}
 use Rattle.frame_ring.specs.Seen.{reaches, ring_posted, window_posted}
 use Rattle.frame_ring.proofs.Ready.{lefts, next_keeps}
 
@@ -76,3 +79,36 @@ unused_posted port label is = omega (arith, one_gone port.queue (next_begun port
 
 pub unused_same : (port : PortState) → None ≡ first_label (next_begun port.queue port.sending).todo → unused_of (after_post port) ≡ unused_of port
 unused_same port is = omega (arith, none_gone port.queue (next_begun port.queue port.sending) is, ap length (next_keeps port.queue port.sending))
+
+-- A copy and a clear use no promise
+
+-- a receiver that passes a test which idle ones don't has an entry at hand
+busy : (test : Phase → Bool) → test Idle ≡ false → (phase : Phase) → test phase ≡ true → is_idle phase ≡ false
+busy test idle Idle is = absurd (cc)
+busy test idle Copying is = refl
+busy test idle Copied is = refl
+busy test idle Cleared is = refl
+
+still_busy : (one two three : Receiving) (more others : Bool) → is_idle one.phase ≡ false → is_idle two.phase ≡ false → is_idle three.phase ≡ false → is_idle (if more then one else if others then two else three).phase ≡ false
+still_busy one two three true others e f g = e
+still_busy one two three false true e f g = f
+still_busy one two three false false e f g = g
+
+-- a receiver that has an entry at hand before and after
+unused_busy : (port : PortState) (receiving : Receiving) → is_idle port.receiving.phase ≡ false → is_idle receiving.phase ≡ false → unused_of (with_receiving port receiving) ≡ unused_of port
+unused_busy port receiving was is = ap (λ idle. length (writes_left port) + (if idle then 0 else 1)) (is ∙ sym was)
+
+unused_if : (port : PortState) (receiving : Receiving) (test : Bool) → (test ≡ true → unused_of (with_receiving port receiving) ≡ unused_of port) → unused_of (if test then with_receiving port receiving else port) ≡ unused_of port
+unused_if port receiving true h = h refl
+unused_if port receiving false h = refl
+
+pub unused_copied : (port : PortState) (bridge : Bridge) → unused_of (after_copy port bridge) ≡ unused_of port
+unused_copied port bridge =
+    unused_if port (part_copied port.receiving (gathered_next port bridge)) (is_copying port.receiving.phase)
+    (λ copying. let was = busy is_copying refl port.receiving.phase copying in
+    unused_busy port (part_copied port.receiving (gathered_next port bridge)) was (still_busy _ _ _ (more_parts port.receiving) (more_entries port.receiving) was refl refl))
+
+pub unused_cleared : (port : PortState) → unused_of (after_clear port) ≡ unused_of port
+unused_cleared port =
+    unused_if port (record port.receiving { phase = Cleared }) (is_copied port.receiving.phase)
+    (λ copied. unused_busy port (record port.receiving { phase = Cleared }) (busy is_copied refl port.receiving.phase copied) refl)

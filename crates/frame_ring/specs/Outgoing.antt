@@ -59,9 +59,14 @@ sender_seen sender =
 abbrev pub most_numbers : ℕ
 most_numbers = 2 ^ 62
 
+-- the most bytes of an entry's payload
+pub record IsMostPayload (largest : ℕ) : Type 0 where
+  pub some : 4 ≤ largest
+  pub few : largest ≤ 65536
+
 pub record IsSender (sender : SenderInside) : Type 0 where
-  pub some : 4 ≤ sender.largest
-  pub few : sender.largest ≤ 65536
+  pub payload : IsMostPayload sender.largest
+  pub open payload use *
   pub pieces : sender.pieces ≡ length (entries_under sender.largest sender.frame)
   pub piece : sender.piece < sender.pieces
   pub few_pieces : sender.pieces ≤ 65536

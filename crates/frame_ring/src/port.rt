@@ -18,9 +18,7 @@ ghost use Rattle.step_kinds.specs.Sides.{other_side};
 
 use crate::RingLook;
 use crate::posting::{clear_flags, post_index, post_write};
-use crate::promises::{
-    count_writes, promise_entry, promise_flags, promise_frame, promise_index_word,
-};
+use crate::promises::count_writes;
 use crate::reading::{free_by, has_index_word, header, index_word, slot_at, tail};
 use crate::receiving::Receiver;
 use crate::rings::{QueueRings, slot_in};
@@ -376,7 +374,7 @@ impl Port {
             return Err(AllocError);
         }
         let count = count_writes(&frame, largest);
-        promise_frame(&self.rings, pair, from, &frame)?;
+        self.rings.promise_frame(pair, from, &frame)?;
         pair.promise(self.rings.side(), count)?;
         self.sender.begin(frame, count);
         Ok(())
@@ -397,7 +395,7 @@ impl Port {
         if !has_numbers(from, 1, 0) {
             return Err(AllocError);
         }
-        promise_entry(&self.rings, pair, from, 0)?;
+        self.rings.promise_entry(pair, from, 0)?;
         pair.promise(self.rings.side(), 4)?;
         self.sender.down();
         Ok(())
@@ -421,8 +419,8 @@ impl Port {
         if !has_numbers(got, 1, 0) {
             return Err(AllocError);
         }
-        promise_index_word(&self.rings, pair)?;
-        promise_flags(&self.rings, pair, got)?;
+        self.rings.promise_index_word(pair)?;
+        self.rings.promise_flags(pair, got)?;
         self.receiver.find(pair, self.rings.side(), len, left)
     }
 }

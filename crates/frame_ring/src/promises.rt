@@ -23,68 +23,80 @@ use bridge_pair::{Pair, header_bytes, own_address};
 use std::alloc::AllocError;
 use step_kinds::Frame;
 
-/// Promises the pages of so many bytes at the peer, from an offset of the queue's window on, where the peer has the window.
-pub fn promise_bytes(
-    rings: &QueueRings,
-    pair: &mut Pair,
-    offset: u64,
-    len: u64,
-) -> Result<(), AllocError>
-    requires plan { pair.old.plan ≡ rings.now.plan }
-    requires fit { SizesFit rings.now.plan }
-    requires within { offset + len ≤ (side_plan_of rings.now.plan rings.now.side).size }
-    ensures rest { pair.new ≡ with_pages pair.old (other_side rings.now.side) (pages_of pair.new (other_side rings.now.side)) }
-    ensures pages { PagesGrow (TouchesRange rings.now offset len) (pages_of pair.old (other_side rings.now.side)) (pages_of pair.new (other_side rings.now.side)) }
-    ensures ok { OnOk result (IsRangePromised rings.now offset len (pages_of pair.new (other_side rings.now.side))) }
-{
-    if !reaches(rings) {
-        return Ok(());
+impl QueueRings {
+    /// Promises the pages of so many bytes at the peer, from an offset of the queue's window on, where the peer has the window.
+    pub fn promise_bytes(&self, pair: &mut Pair, offset: u64, len: u64) -> Result<(), AllocError>
+        requires plan { pair.old.plan ≡ self.now.plan }
+        requires fit { SizesFit self.now.plan }
+        requires within { offset + len ≤ (side_plan_of self.now.plan self.now.side).size }
+        ensures rest { pair.new ≡ with_pages pair.old (other_side self.now.side) (pages_of pair.new (other_side self.now.side)) }
+        ensures pages { PagesGrow (TouchesRange self.now offset len) (pages_of pair.old (other_side self.now.side)) (pages_of pair.new (other_side self.now.side)) }
+        ensures ok { OnOk result (IsRangePromised self.now offset len (pages_of pair.new (other_side self.now.side))) }
+    {
+        if !reaches(self) {
+            return Ok(());
+        }
+        let _plan = pair.plan();
+        let peer = self.side().other();
+        let at = own_address(self.plan(), peer, self.out().window_of(), offset);
+        pair.promise_range(peer, at, len)
     }
-    let _plan = pair.plan();
-    let peer = rings.side().other();
-    let at = own_address(rings.plan(), peer, rings.out().window_of(), offset);
-    pair.promise_range(peer, at, len)
-}
 
-/// Promises the pages of entry `n`, which has so many bytes.
-pub fn promise_entry(
-    rings: &QueueRings,
-    pair: &mut Pair,
-    n: u64,
-    len: u64,
-) -> Result<(), AllocError>
-    requires plan { pair.old.plan ≡ rings.now.plan }
-    requires fit { SizesFit rings.now.plan }
-    requires fits { len ≤ (sizes_of rings.now.plan rings.now.side rings.now.queue).largest }
-    ensures rest { pair.new ≡ with_pages pair.old (other_side rings.now.side) (pages_of pair.new (other_side rings.now.side)) }
-    ensures pages { PagesGrow (TouchesEntry rings.now n len) (pages_of pair.old (other_side rings.now.side)) (pages_of pair.new (other_side rings.now.side)) }
-    ensures ok { OnOk result (IsEntryPromised rings.now n len (pages_of pair.new (other_side rings.now.side))) }
-{
-    promise_bytes(rings, pair, slot_offset_of(rings, n), len)?;
-    let header = u64::from(header_bytes(rings.plan()));
-    promise_bytes(rings, pair, header_offset_of(rings, n), header)
-}
-
-/// Promises the pages of all entries of a frame, the first of which has the number `from`.
-pub fn promise_frame(
-    rings: &QueueRings,
-    pair: &mut Pair,
-    from: u64,
-    frame: &Frame,
-) -> Result<(), AllocError>
-    requires plan { pair.old.plan ≡ rings.now.plan }
-    requires fit { SizesFit rings.now.plan }
-    requires few { from ≤ most_numbers }
-    ensures rest { pair.new ≡ with_pages pair.old (other_side rings.now.side) (pages_of pair.new (other_side rings.now.side)) }
-    ensures pages { PagesGrow (TouchesEntries rings.now from (pieces_of (sizes_of rings.now.plan rings.now.side rings.now.queue).largest frame.now)) (pages_of pair.old (other_side rings.now.side)) (pages_of pair.new (other_side rings.now.side)) }
-    ensures ok { OnOk result (AreEntriesPromised rings.now from (pieces_of (sizes_of rings.now.plan rings.now.side rings.now.queue).largest frame.now) (pages_of pair.new (other_side rings.now.side))) }
-{
-    let largest = rings.out().max_payload();
-    for k in 0..pieces_in(largest, frame.len()) {
-        let len = piece_bytes(frame.bytes(), largest, k).len() as u64;
-        promise_entry(rings, pair, from + u64::from(k), len)?;
+    /// Promises the pages of entry `n`, which has so many bytes.
+    pub fn promise_entry(&self, pair: &mut Pair, n: u64, len: u64) -> Result<(), AllocError>
+        requires plan { pair.old.plan ≡ self.now.plan }
+        requires fit { SizesFit self.now.plan }
+        requires fits { len ≤ (sizes_of self.now.plan self.now.side self.now.queue).largest }
+        ensures rest { pair.new ≡ with_pages pair.old (other_side self.now.side) (pages_of pair.new (other_side self.now.side)) }
+        ensures pages { PagesGrow (TouchesEntry self.now n len) (pages_of pair.old (other_side self.now.side)) (pages_of pair.new (other_side self.now.side)) }
+        ensures ok { OnOk result (IsEntryPromised self.now n len (pages_of pair.new (other_side self.now.side))) }
+    {
+        self.promise_bytes(pair, slot_offset_of(self, n), len)?;
+        let header = u64::from(header_bytes(self.plan()));
+        self.promise_bytes(pair, header_offset_of(self, n), header)
     }
-    Ok(())
+
+    /// Promises the pages of all entries of a frame, the first of which has the number `from`.
+    pub fn promise_frame(&self, pair: &mut Pair, from: u64, frame: &Frame) -> Result<(), AllocError>
+        requires plan { pair.old.plan ≡ self.now.plan }
+        requires fit { SizesFit self.now.plan }
+        requires few { from ≤ most_numbers }
+        ensures rest { pair.new ≡ with_pages pair.old (other_side self.now.side) (pages_of pair.new (other_side self.now.side)) }
+        ensures pages { PagesGrow (TouchesEntries self.now from (pieces_of (sizes_of self.now.plan self.now.side self.now.queue).largest frame.now)) (pages_of pair.old (other_side self.now.side)) (pages_of pair.new (other_side self.now.side)) }
+        ensures ok { OnOk result (AreEntriesPromised self.now from (pieces_of (sizes_of self.now.plan self.now.side self.now.queue).largest frame.now) (pages_of pair.new (other_side self.now.side))) }
+    {
+        let largest = self.out().max_payload();
+        for k in 0..pieces_in(largest, frame.len()) {
+            let len = piece_bytes(frame.bytes(), largest, k).len() as u64;
+            self.promise_entry(pair, from + u64::from(k), len)?;
+        }
+        Ok(())
+    }
+
+    /// Promises the pages of the index words that the side posts.
+    pub fn promise_index_word(&self, pair: &mut Pair) -> Result<(), AllocError>
+        requires plan { pair.old.plan ≡ self.now.plan }
+        requires fit { SizesFit self.now.plan }
+        ensures rest { pair.new ≡ with_pages pair.old (other_side self.now.side) (pages_of pair.new (other_side self.now.side)) }
+        ensures pages { PagesGrow (TouchesRange self.now (index_of (layout_of self.now.plan self.now.side self.now.queue)) 4) (pages_of pair.old (other_side self.now.side)) (pages_of pair.new (other_side self.now.side)) }
+        ensures ok { OnOk result (IsRangePromised self.now (index_of (layout_of self.now.plan self.now.side self.now.queue)) 4 (pages_of pair.new (other_side self.now.side))) }
+    {
+        let offset = self.out().index_at();
+        self.promise_bytes(pair, offset, 4)
+    }
+
+    /// Promises the pages of the flags of the slot in which the side receives entry `n`.
+    pub fn promise_flags(&self, pair: &mut Pair, n: u64) -> Result<(), AllocError>
+        requires plan { pair.old.plan ≡ self.now.plan }
+        requires fit { SizesFit self.now.plan }
+        ensures rest { pair.new ≡ with_pages pair.old self.now.side (pages_of pair.new self.now.side) }
+        ensures pages { PagesGrow (Touches (own_header self.now.plan self.now.side self.now.queue n + offset_of_flags self.now.plan) 4) (pages_of pair.old self.now.side) (pages_of pair.new self.now.side) }
+        ensures ok { OnOk result (ArePromised (own_header self.now.plan self.now.side self.now.queue n + offset_of_flags self.now.plan) 4 (pages_of pair.new self.now.side)) }
+    {
+        let _plan = pair.plan();
+        let at = header_at(self, n) + flags_offset(self);
+        pair.promise_range(self.side(), at, 4)
+    }
 }
 
 /// How many writes the entries of a frame take.
@@ -100,29 +112,4 @@ pub fn count_writes(frame: &Frame, largest: u32) -> usize
         count += chunks_of(len) as usize + 4;
     }
     count
-}
-
-/// Promises the pages of the index words that the side posts.
-pub fn promise_index_word(rings: &QueueRings, pair: &mut Pair) -> Result<(), AllocError>
-    requires plan { pair.old.plan ≡ rings.now.plan }
-    requires fit { SizesFit rings.now.plan }
-    ensures rest { pair.new ≡ with_pages pair.old (other_side rings.now.side) (pages_of pair.new (other_side rings.now.side)) }
-    ensures pages { PagesGrow (TouchesRange rings.now (index_of (layout_of rings.now.plan rings.now.side rings.now.queue)) 4) (pages_of pair.old (other_side rings.now.side)) (pages_of pair.new (other_side rings.now.side)) }
-    ensures ok { OnOk result (IsRangePromised rings.now (index_of (layout_of rings.now.plan rings.now.side rings.now.queue)) 4 (pages_of pair.new (other_side rings.now.side))) }
-{
-    let offset = rings.out().index_at();
-    promise_bytes(rings, pair, offset, 4)
-}
-
-/// Promises the pages of the flags of the slot in which the side receives entry `n`.
-pub fn promise_flags(rings: &QueueRings, pair: &mut Pair, n: u64) -> Result<(), AllocError>
-    requires plan { pair.old.plan ≡ rings.now.plan }
-    requires fit { SizesFit rings.now.plan }
-    ensures rest { pair.new ≡ with_pages pair.old rings.now.side (pages_of pair.new rings.now.side) }
-    ensures pages { PagesGrow (Touches (own_header rings.now.plan rings.now.side rings.now.queue n + offset_of_flags rings.now.plan) 4) (pages_of pair.old rings.now.side) (pages_of pair.new rings.now.side) }
-    ensures ok { OnOk result (ArePromised (own_header rings.now.plan rings.now.side rings.now.queue n + offset_of_flags rings.now.plan) 4 (pages_of pair.new rings.now.side)) }
-{
-    let _plan = pair.plan();
-    let at = header_at(rings, n) + flags_offset(rings);
-    pair.promise_range(rings.side(), at, 4)
 }

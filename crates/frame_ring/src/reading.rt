@@ -1,12 +1,13 @@
 //! What a side reads of its rings in its own memory.
 
-ghost use Rattle.std.specs.Prelude.{◌≡◌, ◌+◌, ◌%◌, ◌*◌, ◌^◌, ◌<◌, ◌≤◌, nat_le};
+ghost use Rattle.std.specs.Prelude.{◌≡◌, ℕ, ◌+◌, ◌%◌, ◌*◌, ◌^◌, ◌<◌, ◌≤◌, nat_le};
 ghost use Rattle.bridge_pair.specs.Bridge.{memory_size};
-ghost use Rattle.byte_model.specs.Addresses.{own_header, own_index_word, own_slot};
+ghost use Rattle.byte_model.specs.Addresses.{own_address as address_in_window, own_header, own_index_word, own_slot};
 ghost use Rattle.byte_model.specs.Headers.{flags_offset as offset_of_flags, free_in_memory, header_in, index_word_in, word_at};
 ghost use Rattle.frame_ring.specs.Rings.{header_of};
 ghost use Rattle.frame_ring.specs.Seen.{bytes_seen};
 ghost use Rattle.plan_model.specs.DeclaredPlans.{SizesFit};
+ghost use Rattle.plan_model.specs.Plans.{side_plan as side_plan_of};
 ghost use Rattle.plan_model.specs.Sizes.{header_bytes as bytes_of_header, layout_to, sizes_of};
 ghost use Rattle.ring_geometry.specs.Geometry.{max_payload_of};
 
@@ -22,6 +23,17 @@ pub struct HeaderWords {
     pub flags: u32,
 }
 
+// The address of a place in the window of the ring in which the side receives.
+fn received_at(rings: &QueueRings, offset: u64) -> u64
+    requires fit { SizesFit rings.now.plan }
+    requires offset { offset ≤ (side_plan_of rings.now.plan rings.now.side).cap }
+    ensures value { result ≡ address_in_window rings.now.plan rings.now.side rings.now.queue offset }
+    ensures within { (len : ℕ) → offset + len ≤ (side_plan_of rings.now.plan rings.now.side).cap → result + len ≤ memory_size rings.now.plan rings.now.side }
+    ensures small { result < 2 ^ 62 }
+{
+    own_address(rings.plan(), rings.side(), rings.into().window_of(), offset)
+}
+
 /// The address of the header of the slot in which the side receives entry `n`.
 pub fn header_at(rings: &QueueRings, n: u64) -> u64
     requires { SizesFit rings.now.plan }
@@ -30,13 +42,7 @@ pub fn header_at(rings: &QueueRings, n: u64) -> u64
     ensures small { result < 2 ^ 62 }
 {
     let into = rings.into();
-    let slot = slot_in(into, n);
-    own_address(
-        rings.plan(),
-        rings.side(),
-        into.window_of(),
-        into.header_at(slot),
-    )
+    received_at(rings, into.header_at(slot_in(into, n)))
 }
 
 /// The address of the slot in which the side receives entry `n`.
@@ -47,13 +53,7 @@ pub fn slot_at(rings: &QueueRings, n: u64) -> u64
     ensures small { result < 2 ^ 62 }
 {
     let into = rings.into();
-    let slot = slot_in(into, n);
-    own_address(
-        rings.plan(),
-        rings.side(),
-        into.window_of(),
-        into.slot_at(slot),
-    )
+    received_at(rings, into.slot_at(slot_in(into, n)))
 }
 
 /// Where the flags stand in a header.

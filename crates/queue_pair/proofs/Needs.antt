@@ -11,14 +11,13 @@ use Rattle.step_kinds.specs.declared.steps.Label.TheVariants.{Chunk, Len, Ver, F
 use Rattle.byte_model.specs.RingWrites.{WindowWrite}
 use Rattle.lane_model.specs.Lane.{Entry}
 use Rattle.lane_model.specs.Tests.{is_cleared, is_copied, is_copying, is_idle}
-use Rattle.lane_model.specs.declared.Phase.{Phase}
-use Rattle.lane_model.specs.declared.Phase.TheVariants.{Idle, Copying, Copied, Cleared}
 use Rattle.plan_model.specs.DeclaredPlans.{IsPair}
 use Rattle.plan_model.specs.Plans.{side_plan}
 use Rattle.bridge_pair.specs.Bridge.{Bridge, flight_of, with_pages}
-use Rattle.frame_ring.specs.Calls.{acked_by, after_ack, after_begin as port_after_begin, after_clear, after_copy, after_down, after_look as port_after_look, after_post, begin_answer as port_begin_answer, cleared_by, down_answer, down_begun, first_posted, frame_begun, gathered_next, last_got, more_entries, more_parts, next_begun, part_copied, posted_by, where_begun}
-use Rattle.frame_ring.specs.Port.{PortState, Receiving, unused_of, with_receiving, writes_left}
+use Rattle.frame_ring.specs.Calls.{acked_by, after_ack, after_begin as port_after_begin, after_clear, after_copy, after_down, after_look as port_after_look, after_post, begin_answer as port_begin_answer, cleared_by, down_answer, down_begun, first_posted, frame_begun, last_got, next_begun, posted_by, where_begun}
+use Rattle.frame_ring.specs.Port.{PortState, unused_of}
 use Rattle.frame_ring.specs.Seen.{FitsRings, HasPagesIn, flags_cleared, reaches, ring_posted, window_posted, with_room}
+use Rattle.frame_ring.proofs.Spare.{unused_cleared, unused_copied}
 use Rattle.queue_pair.specs.Gates.{after_begin, after_look, after_look_answer, after_qpdown, closed_where_begun, look_answer, port_unless, qpdown_answer, sender_refusal}
 use Rattle.queue_pair.specs.Needs.{HasNeeds}
 use Rattle.queue_pair.specs.Queue.{QueueState, fresh_queue, with_port}
@@ -193,41 +192,6 @@ ack_needs old new before after needs is acked spare ready =
     (omega (arith, needs.room, spare)) ready
 
 -- A copy and a clear use no promise
-
-copying_busy : (phase : Phase) → is_copying phase ≡ true → is_idle phase ≡ false
-copying_busy Idle e = absurd (cc e)
-copying_busy Copying e = refl
-copying_busy Copied e = refl
-copying_busy Cleared e = refl
-
-copied_busy : (phase : Phase) → is_copied phase ≡ true → is_idle phase ≡ false
-copied_busy Idle e = absurd (cc e)
-copied_busy Copying e = refl
-copied_busy Copied e = refl
-copied_busy Cleared e = refl
-
-still_busy : (one two three : Receiving) (more others : Bool) → is_idle one.phase ≡ false → is_idle two.phase ≡ false → is_idle three.phase ≡ false → is_idle (if more then one else if others then two else three).phase ≡ false
-still_busy one two three true others e f g = e
-still_busy one two three false true e f g = f
-still_busy one two three false false e f g = g
-
-unused_same : (port : PortState) (receiving : Receiving) → is_idle port.receiving.phase ≡ false → is_idle receiving.phase ≡ false → unused_of (with_receiving port receiving) ≡ unused_of port
-unused_same port receiving was is = ap (λ idle. length (writes_left port) + (if idle then 0 else 1)) (is ∙ sym was)
-
-unused_if : (port : PortState) (receiving : Receiving) (test : Bool) → (test ≡ true → unused_of (with_receiving port receiving) ≡ unused_of port) → unused_of (if test then with_receiving port receiving else port) ≡ unused_of port
-unused_if port receiving true h = h refl
-unused_if port receiving false h = refl
-
-unused_copied : (port : PortState) (bridge : Bridge) → unused_of (after_copy port bridge) ≡ unused_of port
-unused_copied port bridge =
-    unused_if port (part_copied port.receiving (gathered_next port bridge)) (is_copying port.receiving.phase)
-    (λ copying. let busy = copying_busy port.receiving.phase copying in
-    unused_same port (part_copied port.receiving (gathered_next port bridge)) busy (still_busy _ _ _ (more_parts port.receiving) (more_entries port.receiving) busy refl refl))
-
-unused_cleared : (port : PortState) → unused_of (after_clear port) ≡ unused_of port
-unused_cleared port =
-    unused_if port (record port.receiving { phase = Cleared }) (is_copied port.receiving.phase)
-    (λ copied. unused_same port (record port.receiving { phase = Cleared }) (copied_busy port.receiving.phase copied) refl)
 
 pub copy_needs : (old new : QueueState) (bridge : Bridge) → HasNeeds old bridge → new ≡ with_port old (after_copy old.port bridge) → HasPagesIn new.port bridge → HasNeeds new bridge
 copy_needs old new bridge needs is ready =

@@ -5,28 +5,24 @@ use Rattle.host_memory.specs.Memory.{ArePromised}
 use Rattle.lane_model.specs.Tests.{is_copied}
 use Rattle.step_kinds.specs.Sides.{other_side}
 use Rattle.bridge_pair.specs.Bridge.{Bridge, pages_of}
-use Rattle.frame_ring.specs.Port.{PortState, Receiving, with_receiving}
+use Rattle.frame_ring.specs.Port.{Receiving, with_receiving}
 use Rattle.frame_ring.specs.Ports.{port_seen}
-use Rattle.frame_ring.specs.Seen.{HasPages, HasPagesIn}
-use Rattle.frame_ring.proofs.Ready.{cleared_ready, copied_flags, pages_with_bytes}
+use Rattle.frame_ring.specs.Seen.{HasPages}
+use Rattle.frame_ring.proofs.Ready.{cleared_ready, copied_flags, pages_seen, pages_with_bytes}
 use Rattle.frame_ring.proofs.port.Port.clear.Goals as goal
 
 pub clear_flags-requires-clause-promised : goal.clear_flags-requires-clause-promised
 clear_flags-requires-clause-promised c =
     let port = port_seen c.self.inside in
     let pair = c.args.pair.now in
-    let ready : HasPagesIn port pair = subst (λ (port : PortState). HasPagesIn port pair) (sym c.self.view_is) c.requires.pages in
-    let copied = ap is_copied (sym c.phase.ensures ∙ c.in-Copied.is) in
     subst (λ n. ArePromised (own_header port.plan port.side port.queue n + flags_offset port.plan) 4 (pages_of pair port.side)) (sym c.last_got-number.ensures)
-    (copied_flags port (pages_of pair port.side) (pages_of pair (other_side port.side)) copied ready)
+    (copied_flags port _ _ (ap is_copied (sym c.phase.ensures ∙ c.in-Copied.is)) (pages_seen port c.args.self.now pair c.self.view_is c.requires.pages))
 
 pub returns-clause-ready : goal.returns-clause-ready
 returns-clause-ready c =
     let port = port_seen c.self.inside in
     let pair = c.args.pair.now in
-    let ready : HasPagesIn port pair = subst (λ (port : PortState). HasPagesIn port pair) (sym c.self.view_is) c.requires.pages in
-    let copied = ap is_copied (sym c.phase.ensures ∙ c.in-Copied.is) in
     let own = ap (λ (bridge : Bridge). pages_of bridge port.side) c.clear_flags.ensures ∙ pages_with_bytes pair port.side port.side _ in
     let peer = ap (λ (bridge : Bridge). pages_of bridge (other_side port.side)) c.clear_flags.ensures ∙ pages_with_bytes pair port.side (other_side port.side) _ in
     subst (λ (receiving : Receiving). HasPages (with_receiving port receiving) (pages_of c.clear_flags.new.pair port.side) (pages_of c.clear_flags.new.pair (other_side port.side))) (sym c.cleared.ensures)
-    (rw (own, peer) (cleared_ready port (pages_of pair port.side) (pages_of pair (other_side port.side)) copied ready))
+    (rw (own, peer) (cleared_ready port _ _ (ap is_copied (sym c.phase.ensures ∙ c.in-Copied.is)) (pages_seen port c.args.self.now pair c.self.view_is c.requires.pages)))

@@ -2,17 +2,15 @@ use Rattle.std.proofs.Common.{◌∙◌, ap, sym, subst}
 use Rattle.lane_model.specs.Tests.{is_copying}
 use Rattle.step_kinds.specs.Sides.{other_side}
 use Rattle.bridge_pair.specs.Bridge.{pages_of}
-use Rattle.frame_ring.specs.Port.{PortState, Receiving, with_receiving}
+use Rattle.frame_ring.specs.Port.{Receiving, with_receiving}
 use Rattle.frame_ring.specs.Ports.{port_seen}
-use Rattle.frame_ring.specs.Seen.{HasPages, HasPagesIn}
-use Rattle.frame_ring.proofs.Ready.{copied_ready}
+use Rattle.frame_ring.specs.Seen.{HasPages}
+use Rattle.frame_ring.proofs.Ready.{copied_ready, pages_seen}
 use Rattle.frame_ring.proofs.port.Port.copy.Goals as goal
 
 pub returns-clause-ready : goal.returns-clause-ready
 returns-clause-ready c = λ there.
     (let port = port_seen c.self.inside in
     let pair = c.args.pair.now in
-    let ready : HasPagesIn port pair = subst (λ (port : PortState). HasPagesIn port pair) (sym c.self.view_is) there in
-    let copying = ap is_copying (sym c.phase.ensures ∙ c.in-Copying.is) in
     subst (λ (receiving : Receiving). HasPages (with_receiving port receiving) (pages_of pair port.side) (pages_of pair (other_side port.side))) (sym c.copy.ensures.after)
-    (copied_ready port _ (pages_of pair port.side) (pages_of pair (other_side port.side)) copying ready))
+    (copied_ready port _ _ _ (ap is_copying (sym c.phase.ensures ∙ c.in-Copying.is)) (pages_seen port c.args.self.now pair c.self.view_is there)))

@@ -22,8 +22,7 @@ invariant_of-self c =
     let left : c.args.left ≡ all_writes_in (pieces_of kept.largest c.args.frame) = c.requires.writes ∙ ap (λ largest. all_writes_in (pieces_of largest c.args.frame)) (sym largest) in
     let writes : 4 ≤ all_writes_in (pieces_of kept.largest c.args.frame) = some_writes (pieces_of kept.largest c.args.frame) some in
     record {
-      some = law.some;
-      few = law.few;
+      payload = law.payload;
       pieces = pieces ∙ sym count;
       piece = omega (arith, pieces, count, some);
       few_pieces = c.pieces_in-self-inside.ensures.few;

@@ -18,8 +18,12 @@ more_is kept seen law is moved some =
     one_is_left (entries_under kept.largest kept.frame) kept.queue (kept.begun - 1) kept.piece kept.next kept.left (among_is kept law) law.next law.left
     (subst (λ (outgoing : Outgoing). is_empty_list outgoing.sending.todo ≡ true → is_empty_list outgoing.sending.waiting ≡ true) (sym is) moved) some
 
-step : Outgoing → Sending
+abbrev step : Outgoing → Sending
 step outgoing = let_go (record outgoing.sending { todo = rest_of outgoing.sending.todo })
+
+-- where the sender is as it is kept, it is as it is seen
+seen_to_step : (kept : Inside) (seen : Outgoing) (sending : Sending) → sender_seen kept ≡ seen → sending ≡ step (sender_seen kept) → with_progress (sender_seen kept) sending ≡ with_progress seen (step seen)
+seen_to_step kept seen sending is same = ap (with_progress (sender_seen kept)) same ∙ ap (λ (outgoing : Outgoing). with_progress outgoing (step outgoing)) is
 
 pub overflow_add-self : goal.overflow_add-self
 overflow_add-self c =
@@ -32,8 +36,7 @@ invariant_of-self-else-self-eq0-2 c =
     let law = c.self.invariant in
     let more = more_is c.self.inside c.args.self.now law c.self.view_is c.requires (omega (arith, c.if-self-eq0.false)) in
     record {
-      some = law.some;
-      few = law.few;
+      payload = law.payload;
       pieces = law.pieces;
       piece = law.piece;
       few_pieces = law.few_pieces;
@@ -46,22 +49,16 @@ invariant_of-self-else-self-eq0-2 c =
     }
 
 pub returns-then-self-eq0-2 : goal.returns-then-self-eq0-2
-unfolding step
 returns-then-self-eq0-2 c =
     let kept = c.self.inside in
-    let law = c.self.invariant in
-    let more = more_is kept c.args.self.now law c.self.view_is c.requires (omega (arith, c.if-self-eq0.false)) in
-    ap (with_progress (sender_seen kept))
-    (posted_last (entries_under kept.largest kept.frame) kept.queue kept.piece kept.next kept.begun kept.told (among_is kept law) more (omega (arith, law.left, c.if-self-eq0.false, c.if-self-eq0-2.true)))
-    ∙ ap (λ (outgoing : Outgoing). with_progress outgoing (step outgoing)) c.self.view_is
+    let more = more_is kept c.args.self.now c.self.invariant c.self.view_is c.requires (omega (arith, c.if-self-eq0.false)) in
+    seen_to_step kept c.args.self.now _ c.self.view_is
+    (posted_last (entries_under kept.largest kept.frame) kept.queue kept.piece kept.next kept.begun kept.told (among_is kept c.self.invariant) more (omega (arith, c.self.invariant.left, c.if-self-eq0.false, c.if-self-eq0-2.true)))
 
 pub returns-else-self-eq0-2 : goal.returns-else-self-eq0-2
-unfolding step
 returns-else-self-eq0-2 c =
     let kept = c.self.inside in
-    let law = c.self.invariant in
-    let more = more_is kept c.args.self.now law c.self.view_is c.requires (omega (arith, c.if-self-eq0.false)) in
-    ap (with_progress (sender_seen kept))
-    (posted_more (entries_under kept.largest kept.frame) kept.queue kept.piece kept.next kept.begun kept.told (kept.left - 1) (among_is kept law) more
-    (omega (arith, law.left, c.if-self-eq0.false)) (omega (arith, c.if-self-eq0-2.false)))
-    ∙ ap (λ (outgoing : Outgoing). with_progress outgoing (step outgoing)) c.self.view_is
+    let more = more_is kept c.args.self.now c.self.invariant c.self.view_is c.requires (omega (arith, c.if-self-eq0.false)) in
+    seen_to_step kept c.args.self.now _ c.self.view_is
+    (posted_more (entries_under kept.largest kept.frame) kept.queue kept.piece kept.next kept.begun kept.told (kept.left - 1) (among_is kept c.self.invariant) more
+    (omega (arith, c.self.invariant.left, c.if-self-eq0.false)) (omega (arith, c.if-self-eq0-2.false)))
