@@ -1,10 +1,10 @@
 -- The mover's atomic steps keep the rule and tell what they are to tell.
-use Rattle.std.proofs.Common.{◌≡◌, ℕ, ◌+◌, ◌-◌, ◌%◌, ◌<◌, ◌≤◌, Bool, true, false, List, [], ◌∷◌, length, drop, set, get_or, refl, sym, subst, ap, ◌∙◌, inl, inr, arith, eq-eqb, ne_eqb, Some, eqb}
+use Rattle.std.proofs.Common.{◌≡◌, ℕ, ◌+◌, ◌-◌, ◌%◌, ◌<◌, ◌≤◌, true, false, List, [], ◌∷◌, length, drop, set, get_or, refl, sym, subst, ap, ◌∙◌, inl, inr, arith, eq-eqb, ne_eqb, Some, eqb}
 use Rattle.std.proofs.lemmas.Bool.{cases_eq}
 use Rattle.std.specs.Prelude.{IfSome}
-use mathlib.Core.Option.{some, none}
+use mathlib.Core.Option.{none}
 use lib.ListN.{get_elem?}
-use Rattle.atomic_table.specs.Table.{Allows, keeps, takes, gives}
+use Rattle.atomic_table.specs.Table.{Allows, keeps, takes}
 use Rattle.table_rule.specs.LaneNames.{done}
 use Rattle.table_rule.specs.Words.{posted_word, header_word, flag_word, header_of}
 use Rattle.table_rule.specs.Views.{Bytes, MovePart, the_move, HasMove, with_move}
@@ -14,7 +14,7 @@ use Rattle.table_rule.specs.Rule.{Content, Sitter, ShowsALane}
 use Rattle.table_rule.specs.Knowledge.{taken, posted_loaded, frame_taken, header_stored, flag_stored}
 use Rattle.table_rule.specs.Plays.{KnowsSent, sees_posted, stores_header, stores_flag}
 use Rattle.table_rule.proofs.LaneLaws.{number_is}
-use Rattle.table_rule.proofs.SeatChanges.{load_shows, store_shows, mover_sits}
+use Rattle.table_rule.proofs.SeatChanges.{load_shows, load_keeps, store_shows, store_gives, mover_sits}
 use Rattle.table_rule.proofs.Seats.{part_too}
 use Rattle.table_rule.proofs.WordLists.{posted_at, set_header, set_flag}
 use Rattle.table_rule.proofs.Order.{in_order}
@@ -53,13 +53,8 @@ sees_posted_allowed N slots id me i is has board h counted at fits =
             (let hit : eqb found (header_of n) ≡ true = eq-eqb found (header_of n) new in rw hit (frame, refl, omega arith, omega (arith, o.claimed, o.sent)), surely),
           )
       | inr old ↦
-          let after : MovePart = posted_loaded part found in (
-            with_move me.0 after,
-            keeps,
-            tt,
-            load_shows after i seat seat.now.knows seat.now.shows,
-            (let miss : eqb found (header_of n) ≡ false = ne_eqb found (header_of n) old in rw miss refl, surely),
-          )
+          let after : MovePart = posted_loaded part found in
+          load_keeps (sees_posted me found) me.1 after i seat seat.now.knows seat.now.shows (let miss : eqb found (header_of n) ≡ false = ne_eqb found (header_of n) old in rw miss refl, surely)
     ]
 
 pub stores_header_allowed : (N slots id : ℕ) (me : Sitter) (i new n : ℕ) → i ≡ header_word N n → new ≡ header_of n → HasMove me.0 → (the_move me.0).entries ≡ N
@@ -83,22 +78,13 @@ stores_header_allowed N slots id me i new n is header has entries low high left 
       ap (λ (k : ℕ). (with_move me.0 (header_stored part k), me.1)) (sym named),
     )
 
-pub stores_flag_allowed : (N slots id : ℕ) (me : Sitter) (i : ℕ) (k : ℕ) (frame : Bytes) (others : List (ℕ × Content)) (held : List Bytes) (stored : List Bool) → i ≡ flag_word N (the_move me.0).flagged
-    → me.1 ≡ (k, Some frame) ∷ others → k ≡ (the_move me.0).flagged % N → HasMove me.0 → (the_move me.0).held ≡ frame ∷ held → (the_move me.0).stored ≡ true ∷ stored
-    → Allows (ShowsALane N) slots id me i (λ _. done) (λ _. stores_flag me done)
-stores_flag_allowed N slots id me i k frame others held stored is hand slot has holds marked =
-    subst (λ (c : List (ℕ × Content)). Allows (ShowsALane N) slots id (me.0, c) i (λ _. done) (λ _. stores_flag (me.0, c) done)) (sym hand)
-    (λ board h counted at fits.
+pub stores_flag_allowed : (N slots id : ℕ) (me : Sitter) (i : ℕ) (k : ℕ) (frame : Bytes) (others : List (ℕ × Content)) → i ≡ flag_word N (the_move me.0).flagged → me.1 ≡ (k, Some frame) ∷ others → k ≡ (the_move me.0).flagged % N → HasMove me.0
+    → (the_move me.0).held ≡ frame ∷ drop 1 (the_move me.0).held → (the_move me.0).stored ≡ true ∷ drop 1 (the_move me.0).stored → Allows (ShowsALane N) slots id me i (λ _. done) (λ _. stores_flag me done)
+stores_flag_allowed N slots id me i k frame others is hand slot has holds marked =
+    store_gives N slots id me i done k ((the_move me.0).flagged % N) (Some frame) others (λ held. with_move me.0 (flag_stored (the_move me.0))) hand slot
+    (λ board h at.
     let part : MovePart = the_move me.0 in
     let m : Moment = record h.0 { mover = part } in
     let seat = mover_sits N board h id me.0 at has in
-    let n : ℕ = part.flagged in
-    let landed = moving.stores_flag N m board.homes frame held stored holds marked seat.now.shows in
-    let after : MovePart = record part { flagged = n + 1; held = held; stored = stored } in
-    let same : after ≡ flag_stored part = λ q. record part { flagged = n + 1; held = drop 1 (sym holds q); stored = drop 1 (sym marked q) } in (
-      with_move me.0 after,
-      gives,
-      tt,
-      store_shows after seat is refl (set_flag N m.words seat.now.sized seat.two n done) seat.now.knows (subst (λ (j : ℕ). ShowsLane N (record m { words = record m.words { flags = set m.words.flags (n % N) done }; lane = landed.0; mover = after }) (set board.homes j (some (Some frame)))) (sym slot) landed.2),
-      ap (λ (p : MovePart). (with_move me.0 p, others)) same,
-    ))
+    let landed = moving.stores_flag N m board.homes frame (drop 1 part.held) (drop 1 part.stored) holds marked seat.now.shows in
+    store_shows (flag_stored part) seat is refl (set_flag N m.words seat.now.sized seat.two part.flagged done) seat.now.knows landed.2)

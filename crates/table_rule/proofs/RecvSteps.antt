@@ -2,9 +2,9 @@
 use Rattle.std.proofs.Common.{◌≡◌, ℕ, ◌+◌, ◌%◌, ◌^◌, ◌<◌, true, false, List, [], ◌∷◌, ◌++◌, length, take, set, get_or, refl, sym, subst, ap, ◌∙◌, inl, inr, arith, eq-eqb, ne_eqb, append-nil, Some, None, eqb}
 use Rattle.std.proofs.lemmas.Bool.{cases_eq}
 use Rattle.std.specs.Prelude.{IfSome}
-use mathlib.Core.Option.{some, none}
+use mathlib.Core.Option.{none}
 use lib.ListN.{get_elem?}
-use Rattle.atomic_table.specs.Table.{Allows, keeps, takes, gives}
+use Rattle.atomic_table.specs.Table.{Allows, takes}
 use Rattle.table_rule.specs.LaneNames.{done, Idle, Copying, Copied, Cleared}
 use Rattle.table_rule.specs.Words.{header_word, flag_word, index_out_word}
 use Rattle.table_rule.specs.Views.{Bytes, RecvPart, the_recv, HasRecv, with_recv}
@@ -13,7 +13,7 @@ use Rattle.table_rule.specs.Moment.{Moment, ShowsLane}
 use Rattle.table_rule.specs.Rule.{Content, Sitter, ShowsALane}
 use Rattle.table_rule.specs.Knowledge.{flag_loaded, frame_found, frame_copied, flag_cleared, acknowledged}
 use Rattle.table_rule.specs.Plays.{sees_flag, copies_frame, clears_flag, stores_index_out}
-use Rattle.table_rule.proofs.SeatChanges.{load_shows, store_shows, receiver_sits}
+use Rattle.table_rule.proofs.SeatChanges.{load_shows, load_keeps, store_shows, store_keeps, store_gives, receiver_sits}
 use Rattle.table_rule.proofs.Seats.{part_too}
 use Rattle.table_rule.proofs.WordLists.{header_at, flag_at, set_flag, set_index_out}
 use Rattle.table_rule.proofs.ReceiverShows.{none_long}
@@ -52,13 +52,8 @@ sees_flag_allowed N slots id me i is has idle board h counted at fits =
           )
       | inr down ↦
           let after : RecvPart = flag_loaded part found in
-          let miss : eqb found done ≡ false = ne_eqb found done down in (
-            with_recv me.0 after,
-            keeps,
-            tt,
-            load_shows after i seat seat.now.knows seat.now.shows,
-            (rw miss refl, surely, begins),
-          )
+          let miss : eqb found done ≡ false = ne_eqb found done down in
+          load_keeps (sees_flag me found) me.1 after i seat seat.now.knows seat.now.shows (rw miss refl, surely, begins)
     ]
 
 pub copies_frame_allowed : (N slots id : ℕ) (me : Sitter) (i : ℕ) → i ≡ header_word N (length (the_recv me.0).got) → HasRecv me.0 → (the_recv me.0).phase ≡ Copying → Allows (ShowsALane N) slots id me i (λ n. n) (copies_frame me)
@@ -71,42 +66,24 @@ copies_frame_allowed N slots id me i is has copying board h counted at fits =
     let copy = receiving.copies N m board.homes copying seat.now.shows in
     let after : RecvPart = frame_copied part in
     let prefix : after.got ≡ take (length after.got) m.send.sent =
-    sym (append-nil after.got) ∙ copy.3.receiving.prefix ∙ ap (λ (j : ℕ). take j m.send.sent) (let e : length after.got + 0 ≡ length after.got = omega arith in e) in (
-      with_recv me.0 after,
-      keeps,
-      tt,
-      load_shows after i seat seat.now.knows copy.3,
-      (refl, ap (λ (header : ℕ). header % 2 ^ 32) word ∙ receiving.version_stands N m board.homes n refl copying seat.now.shows, part_too (λ v. v.send) board.views id me.0 m.send (λ send. after.got ≡ take (length after.got) send.sent) at seat.now.seats.send prefix),
-    )
+    sym (append-nil after.got) ∙ copy.3.receiving.prefix ∙ ap (λ (j : ℕ). take j m.send.sent) (let e : length after.got + 0 ≡ length after.got = omega arith in e) in
+    load_keeps (copies_frame me (get_or board.words i 0)) me.1 after i seat seat.now.knows copy.3 (refl, ap (λ (header : ℕ). header % 2 ^ 32) word ∙ receiving.version_stands N m board.homes n refl copying seat.now.shows, part_too (λ v. v.send) board.views id me.0 m.send (λ send. after.got ≡ take (length after.got) send.sent) at seat.now.seats.send prefix)
 
 pub clears_flag_allowed : (N slots id : ℕ) (me : Sitter) (i n : ℕ) (k : ℕ) (others : List (ℕ × Content)) → i ≡ flag_word N n → n + 1 ≡ length (the_recv me.0).got → me.1 ≡ (k, None) ∷ others → k ≡ n % N
     → HasRecv me.0 → (the_recv me.0).phase ≡ Copied → Allows (ShowsALane N) slots id me i (λ _. 0) (λ _. clears_flag me 0)
 clears_flag_allowed N slots id me i n k others is last hand slot has copied =
-    subst (λ (c : List (ℕ × Content)). Allows (ShowsALane N) slots id (me.0, c) i (λ _. 0) (λ _. clears_flag (me.0, c) 0)) (sym hand)
-    (λ board h counted at fits.
-    let part : RecvPart = the_recv me.0 in
-    let m : Moment = record h.0 { recv = part } in
+    store_gives N slots id me i 0 k (n % N) None others (λ held. with_recv me.0 (flag_cleared (the_recv me.0))) hand slot
+    (λ board h at.
+    let m : Moment = record h.0 { recv = the_recv me.0 } in
     let seat = receiver_sits N board h id me.0 at has in
     let clear = receiving.clears N m board.homes n last copied seat.now.shows in
-    let after : RecvPart = flag_cleared part in (
-      with_recv me.0 after,
-      gives,
-      tt,
-      store_shows after seat is refl (set_flag N m.words seat.now.sized seat.two n 0) seat.now.knows (subst (λ (j : ℕ). ShowsLane N (record m { words = record m.words { flags = set m.words.flags (n % N) 0 }; lane = clear.0; recv = after }) (set board.homes j (some None))) (sym slot) clear.2),
-      refl,
-    ))
+    store_shows (flag_cleared m.recv) seat is refl (set_flag N m.words seat.now.sized seat.two n 0) seat.now.knows clear.2)
 
 pub stores_index_out_allowed : (N slots id : ℕ) (me : Sitter) (i n new : ℕ) → i ≡ index_out_word N → n + 1 ≡ length (the_recv me.0).got → new ≡ n % N → HasRecv me.0 → (the_recv me.0).phase ≡ Cleared
     → Allows (ShowsALane N) slots id me i (λ _. new) (λ _. stores_index_out me new)
-stores_index_out_allowed N slots id me i n new is last index has cleared board h counted at fits =
-    let part : RecvPart = the_recv me.0 in
-    let m : Moment = record h.0 { recv = part } in
+stores_index_out_allowed N slots id me i n new is last index has cleared =
+    store_keeps N slots id me i new (with_recv me.0 (acknowledged (the_recv me.0))) (λ board h at.
+    let m : Moment = record h.0 { recv = the_recv me.0 } in
     let seat = receiver_sits N board h id me.0 at has in
     let ack = receiving.acks N m board.homes n last cleared seat.now.shows in
-    let after : RecvPart = acknowledged part in (
-      with_recv me.0 after,
-      keeps,
-      tt,
-      store_shows after seat is index (set_index_out N m.words seat.now.sized seat.two (n % N)) seat.now.knows ack.2,
-      refl,
-    )
+    store_shows (acknowledged m.recv) seat is index (set_index_out N m.words seat.now.sized seat.two (n % N)) seat.now.knows ack.2)

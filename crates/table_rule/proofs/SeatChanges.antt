@@ -1,14 +1,15 @@
 -- One seat changes its part: the parts of all seats after it, and what the table then shows.
-use Rattle.std.proofs.Common.{◌≡◌, ℕ, ◌≤◌, List, set, get_or, refl, sym, subst, ◌∙◌}
+use Rattle.std.proofs.Common.{◌≡◌, ℕ, ◌≤◌, List, set, get_or, refl, sym, subst, ◌∙◌, ◌∷◌, ap}
 use Rattle.std.proofs.lemmas.List.{set-get_or}
 use mathlib.Core.Option.{some}
 use lib.ListN.{get_elem?}
+use Rattle.atomic_table.specs.Table.{Act, Allows, Valid, stepped, carried_after, rest, keeps, gives}
 use Rattle.table_rule.specs.LaneNames.{Lane}
 use Rattle.table_rule.specs.Views.{SendPart, MovePart, RecvPart, BackPart, CutPart, LaneView, the_send, the_move, the_recv, the_back, the_cut, HasSend, HasMove, HasRecv, HasBack, HasCut, with_send, with_move, with_recv, with_back, with_cut}
 use Rattle.table_rule.specs.Words.{Words}
 use Rattle.table_rule.specs.Borders.{Slots}
 use Rattle.table_rule.specs.Moment.{Moment, EachHasOneSeat, EachKnows, ShowsLane}
-use Rattle.table_rule.specs.Rule.{Board, IsMoment, ShowsALane}
+use Rattle.table_rule.specs.Rule.{Content, Board, Sitter, IsMoment, ShowsALane}
 use Rattle.table_rule.proofs.Order.{in_order}
 use Rattle.table_rule.proofs.Seats.{part_stays, part_changes}
 use Rattle.table_rule.proofs.WordLists.{Stores}
@@ -33,6 +34,24 @@ pub store_shows : {P : Type 0} {N : ℕ} {board : Board} {id : ℕ} {moment : P 
     → Stores N (moment part).words j y words → AllKnow N (moment after) → ShowsLane N (record (moment after) { words = words; lane = lane }) homes
     → ShowsALane N (record { words = set board.words i x; homes = homes; views = set board.views id (view after) })
 store_shows after seat at is stores knows shows = (_, record { words = (λ k. set (seat.now.words k) (at k) (is k)) ∙ stores.words; sized = stores.sized; seats = seat.seats after; knows = knows; shows = shows })
+
+-- a load after which the seat knows more, and takes no slot
+pub load_keeps : {P : Type 0} {N : ℕ} {board : Board} {id : ℕ} {moment : P → Moment} {view : P → LaneView} {part : P} {lane : Lane} (tells : Sitter → Type 0) (hand : List (ℕ × Content)) (after : P) (i : ℕ) → Sits P N board id moment view part → AllKnow N (moment after)
+    → ShowsLane N (record (moment after) { words = (moment part).words; lane = lane }) board.homes → tells (view after, hand)
+    → (w : LaneView) × (act : Act Content) × Valid board.homes hand act × ShowsALane N (stepped board i (get_or board.words i 0) id hand w act) × tells (w, carried_after hand act)
+load_keeps {view = view} tells hand after i seat knows shows told = (view after, keeps, tt, load_shows after i seat knows shows, told)
+
+-- a store after which the seat has the slots that it had, and one after which the slot that it took last is at home
+pub store_keeps : (N slots id : ℕ) (me : Sitter) (i x : ℕ) (view : LaneView) → ((board : Board) → ShowsALane N board → get_elem? board.views id ≡ some me.0 → ShowsALane N (record { words = set board.words i x; homes = board.homes; views = set board.views id view }))
+    → Allows (ShowsALane N) slots id me i (λ _. x) (λ _ after. after ≡ (view, me.1))
+store_keeps N slots id me i x view shows board h count at small = (view, keeps, tt, shows board h at, refl)
+
+pub store_gives : (N slots id : ℕ) (me : Sitter) (i x slot place : ℕ) (content : Content) (others : List (ℕ × Content)) (view : List (ℕ × Content) → LaneView) → me.1 ≡ (slot, content) ∷ others → slot ≡ place
+    → ((board : Board) → ShowsALane N board → get_elem? board.views id ≡ some me.0 → ShowsALane N (record { words = set board.words i x; homes = set board.homes place (some content); views = set board.views id (view ((place, content) ∷ others)) }))
+    → Allows (ShowsALane N) slots id me i (λ _. x) (λ _ after. after ≡ (view me.1, rest me.1))
+store_gives N slots id me i x slot place content others view hand here shows =
+    subst (λ (held : List (ℕ × Content)). Allows (ShowsALane N) slots id (me.0, held) i (λ _. x) (λ _ after. after ≡ (view held, rest held))) (sym (hand ∙ ap (λ (k : ℕ). (k, content) ∷ others) here))
+    (λ board h count at small. (view ((place, content) ∷ others), gives, tt, shows board h at, refl))
 
 module _ (N : ℕ) (board : Board) (h : ShowsALane N board) (id : ℕ) (view : LaneView) (at : get_elem? board.views id ≡ some view) where
   abbrev m : Moment

@@ -1,25 +1,13 @@
 -- Where a slot is, by its owner in the lane that the table shows.
-use Rattle.std.specs.Prelude.{◌≡◌, ℕ, ◌+◌, ◌%◌, ◌<◌, ◌≤◌, ◌==◌, ◌&&◌, Bool, true, false, length, Option, if◌then◌else◌, nat_lt}
+use Rattle.std.specs.Prelude.{◌≡◌, ℕ, ◌+◌, ◌%◌, ◌<◌, ◌≤◌, ◌==◌, ◌&&◌, length, Option, if◌then◌else◌, nat_lt}
 use mathlib.Core.Option.{some}
 use mathlib.Core.Option as home
 use lib.ListN.{get_elem?}
-use Rattle.table_rule.specs.LaneNames.{Phase, Idle, Copying, Copied, Cleared, Owner, Sender, InFlight, Landed, Receiver, Returning, owner_of}
+use Rattle.table_rule.specs.LaneNames.{Owner, Sender, InFlight, Landed, Receiver, Returning, owner_of, is_copying, is_copied}
 use Rattle.table_rule.specs.Views.{Bytes}
 use Rattle.table_rule.specs.Borders.{Slots, empty, out, full}
 use Rattle.table_rule.specs.Knowledge.{taken}
 use Rattle.table_rule.specs.Moment.{Moment, ShowsLane}
-
-abbrev pub is_copying : Phase → Bool
-is_copying Idle = false
-is_copying Copying = true
-is_copying Copied = false
-is_copying Cleared = false
-
-abbrev pub is_copied : Phase → Bool
-is_copied Idle = false
-is_copied Copying = false
-is_copied Copied = true
-is_copied Cleared = false
 
 -- the slot of entry n, by its owner
 abbrev pub place_by : Owner → Moment → ℕ → home.Option (Option Bytes)
