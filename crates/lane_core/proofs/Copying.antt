@@ -49,7 +49,7 @@ copies_from l place copied here copying kept now =
           ∙ ap (λ bytes. l.copied.items ++ chunk_of bytes l.part) payload
           ∙ ap (λ before. before ++ chunk_of (bytes_at l) l.part) (kept.buffers.items copying)
           ∙ take_both (chunk_size * l.part) chunk_size (bytes_at l);
-      small = omega (arith, fits, kept.small);
+      small = omega (arith, fits, kept.sending.small);
     }
 
 -- more is left where another chunk begins within the bytes

@@ -226,7 +226,7 @@ pub has_landed : (l : Inside) (place : ℕ) (write : PostedWrite) (flight : Flig
 has_landed l place write flight answer after kept =
     let was = was_landed _ _ write answer in
     let found : slice_get (lane_seen l).flight place ≡ Some write.mark = slice_get-map (λ (w : PostedWrite). w.mark) l.flight.writes place ∙ ap (option_map (λ (w : PostedWrite). w.mark)) was.0 in
-    let may : may_land_in (value_seen l) place ≡ true = ap (λ orders. may_land orders place) (sym (orders_seen l.strict l.flight.writes kept.orders)) ∙ was.1 in
+    let may : may_land_in (value_seen l) place ≡ true = ap (λ orders. may_land orders place) (sym (orders_seen l.strict l.flight.writes kept.sending.orders)) ∙ was.1 in
     let now = after ∙ cond-true _ _ _ was.1 in
     let writes : flight.writes ≡ remove l.flight.writes place = ap (λ (f : Flight PostedWrite). f.writes) now in
     record {
@@ -234,7 +234,7 @@ has_landed l place write flight answer after kept =
       may = may;
       lands = lands (lane_seen l) l.strict place write.mark found may kept.law;
       marks = ap (map (λ (w : PostedWrite). w.mark)) writes ∙ map-remove (λ (w : PostedWrite). w.mark) l.flight.writes place;
-      orders = All-same (λ (w : PostedWrite). w.strict ≡ l.strict) flight.writes _ writes (All-remove (λ (w : PostedWrite). w.strict ≡ l.strict) l.flight.writes place kept.orders);
+      orders = All-same (λ (w : PostedWrite). w.strict ≡ l.strict) flight.writes _ writes (All-remove (λ (w : PostedWrite). w.strict ≡ l.strict) l.flight.writes place kept.sending.orders);
       spare = ap (λ (f : Flight PostedWrite). f.spare) now;
     }
 

@@ -11,8 +11,9 @@ use Rattle.posted_queue.specs.Landing.{land_answer as queue_answer, after_landin
 use Rattle.posted_queue.specs.declared.LandAnswer.TheVariants.{Landed as QueueLanded, Blocked as QueueBlocked, Nothing as QueueNothing}
 use Rattle.order_rules.specs.Order.{Order, may_land}
 use Rattle.step_kinds.specs.declared.steps.Label.TheVariants.{Index}
-use Rattle.lane_core.specs.Calls.{index_order, may_land_index, land_index_answer, index_found, after_land_index, after_index_found}
+use Rattle.lane_core.specs.Calls.{LaneValue, with_lane, index_order, may_land_index, land_index_answer, index_found, after_land_index, after_index_found}
 use Rattle.lane_core.specs.Seen.{lane_seen, value_seen}
+use Rattle.lane_core.specs.declared.answers.LaneLand.{LaneLand}
 use Rattle.lane_core.specs.declared.answers.LaneLand.TheVariants.{Landed, Blocked, Nothing}
 use Rattle.lane_core.specs.declared.lane.Lane.TheInside.{Inside}
 use Rattle.lane_core.specs.declared.write.IndexWrite.{IndexWrite}
@@ -70,32 +71,41 @@ has_returned l place write returning answer after law =
       spare = ap (λ (f : Flight IndexWrite). f.spare) now;
     }
 
--- where it answers that none stands at the place, or that one is blocked, nothing changes
-pub record IsUnmoved (l : Inside) (place : ℕ) (returning : Flight IndexWrite) : Type 0 where
+pub returned_answer : {l : Inside} {place n : ℕ} {returning : Flight IndexWrite} {value : LaneValue} → HasReturned l place n returning → value_seen l ≡ value → Landed (Index l.queue n) ≡ land_index_answer value place
+returned_answer {l = l} {place = place} {n = n} landed seen = subst (λ (value : LaneValue). Landed (Index l.queue n) ≡ land_index_answer value place) seen (sym landed.answer)
+
+-- where it answers that none stands at the place, or that one is blocked, nothing changes, and the lane answers the same
+pub record IsUnmoved (l : Inside) (place : ℕ) (returning : Flight IndexWrite) (answer : LaneLand) : Type 0 where
   pub same : returning ≡ l.returning
   pub after : after_land_index (lane_seen l) place ≡ lane_seen l
+  pub answers : land_index_answer (value_seen l) place ≡ answer
 
-pub none_returned : (l : Inside) (place : ℕ) (returning : Flight IndexWrite) → QueueNothing ≡ queue_answer order_of_index l.returning place
-    → returning ≡ queue_after order_of_index l.returning place → IsUnmoved l place returning × (land_index_answer (value_seen l) place ≡ Nothing)
+pub none_returned : (l : Inside) (place : ℕ) (returning : Flight IndexWrite) → QueueNothing ≡ queue_answer order_of_index l.returning place → returning ≡ queue_after order_of_index l.returning place → IsUnmoved l place returning Nothing
 none_returned l place returning answer after =
     let was = was_nothing _ _ answer in
-    let found : slice_get (lane_seen l).returning place ≡ None = slice_get-map number_of_write l.returning.writes place ∙ ap (option_map number_of_write) was in (
-      record {
-        same = after ∙ cond-false _ _ _ (past_the_end order_of_index l.returning.writes place was);
-        after = ap (after_index_found (lane_seen l) place) found;
-      },
-      ap (index_found (value_seen l) place) found,
-    )
+    let found : slice_get (lane_seen l).returning place ≡ None = slice_get-map number_of_write l.returning.writes place ∙ ap (option_map number_of_write) was in
+    record {
+      same = after ∙ cond-false _ _ _ (past_the_end order_of_index l.returning.writes place was);
+      after = ap (after_index_found (lane_seen l) place) found;
+      answers = ap (index_found (value_seen l) place) found;
+    }
 
-pub blocked_return : (l : Inside) (place : ℕ) (returning : Flight IndexWrite) → QueueBlocked ≡ queue_answer order_of_index l.returning place
-    → returning ≡ queue_after order_of_index l.returning place → IsUnmoved l place returning × (land_index_answer (value_seen l) place ≡ Blocked)
+pub blocked_return : (l : Inside) (place : ℕ) (returning : Flight IndexWrite) → QueueBlocked ≡ queue_answer order_of_index l.returning place → returning ≡ queue_after order_of_index l.returning place → IsUnmoved l place returning Blocked
 blocked_return l place returning answer after =
     let was = was_blocked _ _ answer in
     let found : slice_get (lane_seen l).returning place ≡ Some was.0.number = slice_get-map number_of_write l.returning.writes place ∙ ap (option_map number_of_write) was.1 in
-    let waits : may_land_index (lane_seen l) place ≡ false = ap (λ orders. may_land orders place) (sym (orders_seen l.returning.writes)) ∙ was.2 in (
-      record {
-        same = after ∙ cond-false _ _ _ was.2;
-        after = ap (after_index_found (lane_seen l) place) found ∙ cond-false _ _ _ waits;
-      },
-      ap (index_found (value_seen l) place) found ∙ cond-false _ _ _ waits,
-    )
+    let waits : may_land_index (lane_seen l) place ≡ false = ap (λ orders. may_land orders place) (sym (orders_seen l.returning.writes)) ∙ was.2 in
+    record {
+      same = after ∙ cond-false _ _ _ was.2;
+      after = ap (after_index_found (lane_seen l) place) found ∙ cond-false _ _ _ waits;
+      answers = ap (index_found (value_seen l) place) found ∙ cond-false _ _ _ waits;
+    }
+
+-- so contracts see the answer and the lane of the model
+pub unmoved_answer : {l : Inside} {place : ℕ} {returning : Flight IndexWrite} {answer : LaneLand} {value : LaneValue} → IsUnmoved l place returning answer → value_seen l ≡ value → answer ≡ land_index_answer value place
+unmoved_answer {place = place} {answer = answer} still seen = subst (λ (value : LaneValue). answer ≡ land_index_answer value place) seen (sym still.answers)
+
+pub unmoved_after : {l : Inside} {place : ℕ} {returning : Flight IndexWrite} {answer : LaneLand} {value : LaneValue} → IsUnmoved l place returning answer → value_seen l ≡ value
+    → value_seen (record l { returning = returning }) ≡ with_lane value (after_land_index value.lane place)
+unmoved_after {l = l} {place = place} still seen =
+    rw still.same (subst (λ (value : LaneValue). value_seen l ≡ with_lane value (after_land_index value.lane place)) seen (ap (with_lane (value_seen l)) (sym still.after)))

@@ -1,9 +1,10 @@
 -- What contracts see of a lane, and what its fields keep beside that.
-use Rattle.std.specs.Prelude.{◌≡◌, ℕ, ◌*◌, ◌^◌, ◌≤◌, List, length, map, take, vec_capacity, All}
+use Rattle.std.specs.Prelude.{◌≡◌, ℕ, ◌*◌, ◌^◌, ◌≤◌, Bool, List, length, map, take, vec_capacity, All}
 use Rattle.lane_model.specs.Lane.{Lane, bytes_of, entry_of, chunk_size}
 use Rattle.lane_model.specs.Law.{HoldsRingLaw}
 use Rattle.lane_model.specs.declared.Phase.{Phase}
 use Rattle.lane_model.specs.declared.Phase.TheVariants.{Idle, Copying}
+use Rattle.posted_queue.specs.Flight.{Flight}
 use Rattle.lane_core.specs.Calls.{LaneValue}
 use Rattle.lane_core.specs.Parts.{entry_seen, place_seen}
 use Rattle.lane_core.specs.declared.write.PostedWrite.{PostedWrite}
@@ -44,11 +45,16 @@ pub record Buffers (phase : Phase) (part : ℕ) (bytes copied : List ℕ) (capac
   pub items : phase ≡ Copying → copied ≡ take (chunk_size * part) bytes
   pub room : phase ≡ Copying → length bytes ≤ capacity
 
+-- few entries were begun, a slot's payload is at most the longest frame, each write in flight has its order, and there is
+-- room in flight for what is left to post
+pub record SendingStands (begun largest : ℕ) (strict : Bool) (left : ℕ) (flight : Flight PostedWrite) : Type 0 where
+  pub few : begun ≤ 2 ^ 46
+  pub small : largest ≤ 65536
+  pub orders : All (λ (write : PostedWrite). write.strict ≡ strict) flight.writes
+  pub room : left ≤ flight.spare
+
 pub record IsKept (l : Inside) : Type 0 where
   pub law : HoldsRingLaw (lane_seen l)
-  pub few : length l.sent.items ≤ 2 ^ 46
-  pub small : l.largest ≤ 65536
-  pub orders : All (λ (write : PostedWrite). write.strict ≡ l.strict) l.flight.writes
-  pub room : length l.todo.items ≤ l.flight.spare
+  pub sending : SendingStands (length l.sent.items) l.largest l.strict (length l.todo.items) l.flight
   pub index_room : index_room l.phase ≤ l.returning.spare
   pub buffers : Buffers l.phase l.part (bytes_of (entry_of (lane_seen l) l.got)) l.copied.items (vec_capacity l.copied)

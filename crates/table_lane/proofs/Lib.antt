@@ -1,2 +1,3 @@
 pub mod FirstMove
 pub mod WaitingEntries
+pub mod WordsInTable

@@ -1,5 +1,6 @@
 -- One seat with all five parts, in which a lane ends, and what its proof shows.
 use Rattle.std.specs.Prelude.{◌≡◌, ℕ, Bool, List, [], ◌∷◌, take}
+use Rattle.atomic_table.specs.Seated.{TableId}
 use Rattle.table_rule.specs.declared.parts.MovePart.{MovePart}
 use Rattle.table_rule.specs.declared.parts.LaneView.{LaneView}
 use Rattle.table_rule.specs.Rule.{Sitter}
@@ -25,6 +26,12 @@ pub record MovesNext (N n : ℕ) (part : MovePart) : Type 0 where
 pub record OthersStay (before after : LaneView) : Type 0 where
   pub send : the_send after ≡ the_send before
   pub cut : the_cut after ≡ the_cut before
+
+-- a seat goes on at its table with all parts, and the sender's and the cut's are as before
+pub record GoesOn (table_before table_after : TableId) (before after : Sitter) : Type 0 where
+  pub table : table_after ≡ table_before
+  pub all : HasAll after
+  pub others : OthersStay before.0 after.0
 
 -- what a lane's proof shows: the frames that were sent, those that were received before the end, the number of
 -- entries, and whether the link was cut

@@ -1,6 +1,6 @@
 //! A lane is made: one table, and an end for each part.
 ghost use Rattle.std.specs.Prelude.{◌≡◌, ◌≤◌, ◌<◌, [], IfOk};
-ghost use Rattle.table_rule.specs.Views.{all_parts, without_mover, mover_alone, without_recv, recv_alone, without_back, back_alone, without_cut, cut_alone};
+ghost use Rattle.table_rule.specs.Views.{all_parts, OfMover, OfReceiver, OfWayBack, OfCut, without, alone};
 ghost use Rattle.table_rule.specs.Words.{first_words, words_of};
 ghost use Rattle.table_lane.specs.NewEnds.{AreNew};
 ghost use Rattle.table_lane.specs.Table.{IsTableOf};
@@ -51,11 +51,11 @@ fn room_for(alloc: Global, entries: u64) -> Result<FrameList, AllocError>
 fn split_off(board: &Board, send: &mut LaneSeat) -> (LaneSeat, LaneSeat, LaneSeat, LaneSeat)
     requires table { (send.old.table_id ≡ board.now.table_id) × (0 < board.now.table_id.words) }
     ensures table { (send.new.table_id ≡ board.now.table_id) × (result.0.table_id ≡ board.now.table_id) × (result.1.table_id ≡ board.now.table_id) × (result.2.table_id ≡ board.now.table_id) × (result.3.table_id ≡ board.now.table_id) }
-    ensures mover { result.0.me ≡ (mover_alone send.old.me.0, []) }
-    ensures recv { result.1.me ≡ (recv_alone (without_mover send.old.me.0), []) }
-    ensures back { result.2.me ≡ (back_alone (without_recv (without_mover send.old.me.0)), []) }
-    ensures cut { result.3.me ≡ (cut_alone (without_back (without_recv (without_mover send.old.me.0))), []) }
-    ensures send { send.new.me ≡ (without_cut (without_back (without_recv (without_mover send.old.me.0))), send.old.me.1) }
+    ensures mover { result.0.me ≡ (alone OfMover send.old.me.0, []) }
+    ensures recv { result.1.me ≡ (alone OfReceiver (without OfMover send.old.me.0), []) }
+    ensures back { result.2.me ≡ (alone OfWayBack (without OfReceiver (without OfMover send.old.me.0)), []) }
+    ensures cut { result.3.me ≡ (alone OfCut (without OfWayBack (without OfReceiver (without OfMover send.old.me.0))), []) }
+    ensures send { send.new.me ≡ (without OfCut (without OfWayBack (without OfReceiver (without OfMover send.old.me.0))), send.old.me.1) }
 {
     let mover = board.split_seat::<SplitsMove>(send);
     let recv = board.split_seat::<SplitsRecv>(send);

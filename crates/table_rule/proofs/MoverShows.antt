@@ -9,7 +9,7 @@ use Rattle.table_rule.specs.LaneNames.{Entry, entry_of_frame, GoesDown, Write, D
 use Rattle.table_rule.specs.Words.{header_of}
 use Rattle.table_rule.specs.Views.{Bytes}
 use Rattle.table_rule.specs.Borders.{Borders, out, full}
-use Rattle.table_rule.specs.ShownLane.{in_flight, PostedStand, RingStands}
+use Rattle.table_rule.specs.ShownLane.{in_flight, PostedStand, RingStands, HeldStand}
 use Rattle.table_rule.specs.LaneSteps.{Land, Runs, header_steps, flag_steps}
 use Rattle.table_rule.specs.Kinds.{Takes, StoresHeader, StoresFlag}
 use Rattle.table_rule.proofs.LaneLaws.{same_number}
@@ -58,39 +58,25 @@ takes N m slots n is shown h =
     let l1 : nat_lt n k.looked ≡ false = le-ltb n k.looked (omega arith) in
     let l2 : nat_lt n k.flagged ≡ false = le-ltb n k.flagged (omega arith) in
     let l4 : nat_lt n k.sent ≡ true = lt-ltb n k.sent below in
-    let low : m.back.freed ≤ n = omega arith in (
+    let low : m.back.freed ≤ n = omega arith in
+    let holding : HeldStand m.send.sent m.mover.flagged (m.mover.held ++ frame ∷ []) (m.mover.stored ++ false ∷ []) = record {
+      frames = λ j low_j. elim (cases_lt j (length m.mover.held)) [
+        | inl old ↦ get_or_append_left m.mover.held (frame ∷ []) [] j old ∙ h.holding.frames j old
+        | inr new ↦ get_or_push m.mover.held frame [] j (omega arith) ∙ ap (λ (i : ℕ). get_or m.send.sent i []) (omega arith)
+      ];
+      within = omega arith;
+      marks = omega arith;
+    } in (
       below,
       h.places.at n low (omega arith) ∙ ap some (slot_is k m.send.sent n l0 l1 l2 (le-ltb n k.taken (omega arith)) l4 refl),
-      record {
-        law = h.law;
-        of = h.of;
-        parts = record {
-          entries = h.parts.entries;
-          whole = h.parts.whole;
-          flight = h.parts.flight ∙ sym (in_flight-take m.mover.flagged m.mover.stored (drop m.mover.flagged m.lane.sent));
-          copied = h.parts.copied;
-          stage = h.parts.stage;
-          given_back = h.parts.given_back;
-        };
-        posted = h.posted;
-        ring = h.ring;
-        index = h.index;
-        link = h.link;
-        holding = record {
-          frames = λ j low_j. elim (cases_lt j (length m.mover.held)) [
-            | inl old ↦ get_or_append_left m.mover.held (frame ∷ []) [] j old ∙ h.holding.frames j old
-            | inr new ↦ get_or_push m.mover.held frame [] j (omega arith) ∙ ap (λ (i : ℕ). get_or m.send.sent i []) (omega arith)
-          ];
-          within = omega arith;
-          marks = omega arith;
-        };
-        receiving = h.receiving;
-        room = h.room;
-        places = slot_changes N k after m.send.sent m.send.sent slots n out (omega (arith, o.two)) h.places refl low (omega arith)
+      assumption (
+        h.parts.flight ∙ sym (in_flight-take m.mover.flagged m.mover.stored (drop m.mover.flagged m.lane.sent)),
+        holding,
+        slot_changes N k after m.send.sent m.send.sent slots n out (omega (arith, o.two)) h.places refl low (omega arith)
             (λ j other. ap (λ b. slot_by (nat_lt j k.cleared) (nat_lt j k.looked) (nat_lt j k.flagged) b (nat_lt j k.sent) (nat_lt j k.claimed) (full m.send.sent j))
             (ap (nat_lt j) one ∙ moves_past j k.taken (λ e. other (e ∙ sym is))))
-            (slot_is after m.send.sent n l0 l1 l2 (lt-ltb n after.taken (omega arith)) l4 refl);
-      },
+            (slot_is after m.send.sent n l0 l1 l2 (lt-ltb n after.taken (omega arith)) l4 refl),
+      ),
     )
 
 -- headers and flags after one slot of the ring changed

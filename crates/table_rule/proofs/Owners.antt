@@ -3,8 +3,7 @@ use Rattle.std.proofs.Common.{◌≡◌, ℕ, ◌+◌, ◌<◌, ◌≤◌, Bool,
 use Rattle.std.proofs.lemmas.Bool.{lt-ltb, le-ltb, cases_eq, cases_lt}
 use Rattle.std.proofs.lemmas.List.{length-map}
 use mathlib.Core.Option.{some}
-use Rattle.lane_model.specs.Tests.{is_copying, is_copied}
-use Rattle.table_rule.specs.LaneNames.{entry_of_frame, Lane, Phase, PhaseCounts, Idle, Copying, Copied, Cleared, Owner, Sender, InFlight, Landed, Receiver, Returning, owner_of}
+use Rattle.table_rule.specs.LaneNames.{entry_of_frame, Lane, Phase, PhaseCounts, Idle, Copying, Copied, Cleared, Owner, Sender, InFlight, Landed, Receiver, Returning, owner_of, is_copying, is_copied}
 use Rattle.table_rule.specs.Borders.{empty, out, full}
 use Rattle.table_rule.specs.ShownLane.{hand_in, claimed_by}
 use Rattle.table_rule.specs.Owners.{place_by, OwnersHaveSlots}

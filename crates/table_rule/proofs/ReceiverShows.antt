@@ -1,4 +1,5 @@
--- The receiver's steps: look at the next entry, copy it whole, clear its flags, acknowledge it.
+-- The receiver's steps: look at the next entry, copy it whole, clear its flags, acknowledge it. What a step leaves as it
+-- was is found by `assumption`, which lists only what is new.
 use Rattle.std.proofs.Common.{◌≡◌, ℕ, suc, ◌+◌, ◌%◌, ◌^◌, ◌<◌, ◌≤◌, false, List, [], ◌∷◌, ◌++◌, length, map, take, set, get_or, refl, sym, subst, ap, ◌∙◌, inl, inr, arith, length-append, append-nil, nat_lt, replicate}
 use Rattle.std.proofs.lemmas.Bool.{lt-ltb, le-ltb, cases_lt}
 use Rattle.std.proofs.Math.ListN.{get_or-map}
@@ -6,8 +7,8 @@ use Rattle.std.proofs.Math.Seq.{take-suc}
 use mathlib.Core.Option.{some}
 use Rattle.table_rule.specs.LaneNames.{Lane, Slot, blank_slot, slot_of, with_flags, done, PhaseCounts, Idle, Copying, Copied, Cleared, bytes_of, entry_of, flags_of, version_of, entry_of_frame, GoesDown, after_look, after_clear, after_ack}
 use Rattle.table_rule.specs.Views.{Bytes}
-use Rattle.table_rule.specs.Borders.{Borders, Slots, empty, out, full, slot_at}
-use Rattle.table_rule.specs.ShownLane.{RingStands, hand_in}
+use Rattle.table_rule.specs.Borders.{Borders, Slots, SlotsStand, empty, out, full, slot_at}
+use Rattle.table_rule.specs.ShownLane.{RingStands, IndexStands, hand_in}
 use Rattle.table_rule.specs.LaneSteps.{Look, Copy, Clear, Acknowledge, Runs}
 use Rattle.table_rule.specs.Kinds.{Looks, Copies, Clears, Acknowledges}
 use Rattle.table_rule.specs.Moment.{Moment, ShowsLane}
@@ -79,22 +80,14 @@ looks N m slots n is idle raised h =
       (
         after_look lane,
         runs,
-        record {
-          law = runs_keep (Look ∷ []) lane (after_look lane) runs h.law;
-          of = record { entries = h.of.entries; largest = h.of.largest; up = h.of.up; todo = h.of.todo; small = h.of.small };
-          parts = record { entries = h.parts.entries; whole = h.parts.whole; flight = h.parts.flight; copied = h.parts.copied; stage = refl; given_back = h.parts.given_back };
-          posted = h.posted;
-          ring = h.ring;
-          index = h.index;
-          link = h.link;
-          holding = h.holding;
-          receiving = record { prefix = prefix; in_hand = refl };
-          room = h.room;
-          places = slot_changes N k after m.send.sent m.send.sent slots n out (omega (arith, o.two)) h.places refl low (omega arith)
+        assumption (
+          runs_keep (Look ∷ []) lane (after_look lane) runs h.law,
+          prefix,
+          slot_changes N k after m.send.sent m.send.sent slots n out (omega (arith, o.two)) h.places refl low (omega arith)
               (λ j other. ap (λ b. slot_by (nat_lt j k.cleared) b (nat_lt j k.flagged) (nat_lt j k.taken) (nat_lt j k.sent) (nat_lt j k.claimed) (full m.send.sent j))
               (ap (nat_lt j) one_more ∙ moves_past j k.looked (λ e. other (omega arith))))
-              (slot_is after m.send.sent n l0 (lt-ltb n after.looked (omega arith)) refl refl refl refl);
-        },
+              (slot_is after m.send.sent n l0 (lt-ltb n after.looked (omega arith)) refl refl refl refl),
+        ),
       ),
     )
 
@@ -120,23 +113,18 @@ copies N m slots copying h =
     let one : length m.recv.hand ≡ 1 = h.receiving.in_hand ∙ ap hand_in copying in
     let long : length (m.recv.got ++ m.recv.hand) ≡ length m.recv.got + length m.recv.hand = length-append m.recv.got m.recv.hand in
     let copied = h.parts.copied in
-    let same : length (m.recv.got ++ m.recv.hand) + 0 ≡ length m.recv.got + length m.recv.hand = omega arith in (
+    let same : length (m.recv.got ++ m.recv.hand) + 0 ≡ length m.recv.got + length m.recv.hand = omega arith in
+    let places : SlotsStand N (record (borders_in m) { looked = length (m.recv.got ++ m.recv.hand) + 0 }) m.send.sent slots =
+    record { count = h.places.count; at = λ n low high. h.places.at n low high ∙ ap (λ (j : ℕ). some (slot_at (record (borders_in m) { looked = j }) m.send.sent n)) (sym same) } in (
       all.0,
       next,
       all.2,
-      record {
-        law = runs_keep (Copy ∷ replicate all.0 Copy) lane next all.2 h.law;
-        of = record { entries = h.of.entries; largest = h.of.largest; up = h.of.up; todo = h.of.todo; small = h.of.small };
-        parts = record { entries = h.parts.entries; whole = h.parts.whole; flight = h.parts.flight; copied = omega arith; stage = refl; given_back = h.parts.given_back };
-        posted = h.posted;
-        ring = h.ring;
-        index = h.index;
-        link = h.link;
-        holding = h.holding;
-        receiving = record { prefix = append-nil (m.recv.got ++ m.recv.hand) ∙ h.receiving.prefix ∙ ap (λ (j : ℕ). take j m.send.sent) (sym same); in_hand = refl };
-        room = h.room;
-        places = record { count = h.places.count; at = λ n low high. h.places.at n low high ∙ ap (λ (j : ℕ). some (slot_at (record (borders_in m) { looked = j }) m.send.sent n)) (sym same) };
-      },
+      assumption (
+        runs_keep (Copy ∷ replicate all.0 Copy) lane next all.2 h.law,
+        (let count : next.got ≡ length (m.recv.got ++ m.recv.hand) = omega arith in count),
+        append-nil (m.recv.got ++ m.recv.hand) ∙ h.receiving.prefix ∙ ap (λ (j : ℕ). take j m.send.sent) (sym same),
+        places,
+      ),
     )
 
 -- the flags are cleared, and the slot is at home and empty
@@ -158,22 +146,15 @@ clears N m slots n is copied_phase h =
     let runs : Runs (Clear ∷ []) lane next = (next, (lane_copied, refl), refl) in (
       next,
       runs,
-      record {
-        law = runs_keep (Clear ∷ []) lane next runs h.law;
-        of = record { entries = h.of.entries; largest = h.of.largest; up = h.of.up; todo = h.of.todo; small = h.of.small };
-        parts = record { entries = h.parts.entries; whole = h.parts.whole; flight = h.parts.flight; copied = h.parts.copied; stage = refl; given_back = h.parts.given_back };
-        posted = h.posted;
-        ring = subst (λ (p : ℕ × ℕ). RingStands next.ring m.words.headers (set m.words.flags (p.0 % p.1) 0)) (λ i. (same i, h.of.entries i)) ring;
-        index = h.index;
-        link = h.link;
-        holding = h.holding;
-        receiving = record { prefix = h.receiving.prefix; in_hand = h.receiving.in_hand ∙ ap hand_in copied_phase };
-        room = h.room;
-        places = slot_changes N k after m.send.sent m.send.sent slots n empty (omega (arith, o.two)) h.places refl (omega arith) (omega arith)
+      assumption (
+        runs_keep (Clear ∷ []) lane next runs h.law,
+        subst (λ (p : ℕ × ℕ). RingStands next.ring m.words.headers (set m.words.flags (p.0 % p.1) 0)) (λ i. (same i, h.of.entries i)) ring,
+        h.receiving.in_hand ∙ ap hand_in copied_phase,
+        slot_changes N k after m.send.sent m.send.sent slots n empty (omega (arith, o.two)) h.places refl (omega arith) (omega arith)
             (λ j other. ap (λ b. slot_by b (nat_lt j k.looked) (nat_lt j k.flagged) (nat_lt j k.taken) (nat_lt j k.sent) (nat_lt j k.claimed) (full m.send.sent j))
             (moves_past j lane.cleared (λ e. other (e ∙ same))))
-            (slot_is after m.send.sent n (lt-ltb n after.cleared (omega arith)) refl refl refl refl refl);
-      },
+            (slot_is after m.send.sent n (lt-ltb n after.cleared (omega arith)) refl refl refl refl refl),
+      ),
     )
 
 -- index out names the entry
@@ -188,25 +169,14 @@ acks N m slots n is cleared_phase h =
     let cleared_all : lane.cleared ≡ lane.got = counts.1 in
     let same : n ≡ lane.acked = omega arith in
     let next : Lane = after_ack lane in
+    let index : IndexStands N (n % N) m.words.index next.acked m.back.freed m.back.index = record {
+      outward = ap (λ (j : ℕ). j % N) same ∙ tail_after N lane.acked o.two;
+      homeward = h.index.homeward;
+      position = h.index.position;
+      last_load = elim h.index.last_load [ inl old ↦ inl old | inr new ↦ inr (omega arith) ];
+    } in
     let runs : Runs (Acknowledge ∷ []) lane next = (next, (lane_cleared, refl), refl) in (
       next,
       runs,
-      record {
-        law = runs_keep (Acknowledge ∷ []) lane next runs h.law;
-        of = record { entries = h.of.entries; largest = h.of.largest; up = h.of.up; todo = h.of.todo; small = h.of.small };
-        parts = record { entries = h.parts.entries; whole = h.parts.whole; flight = h.parts.flight; copied = h.parts.copied; stage = refl; given_back = h.parts.given_back };
-        posted = h.posted;
-        ring = h.ring;
-        index = record {
-          outward = ap (λ (j : ℕ). j % N) same ∙ tail_after N lane.acked o.two;
-          homeward = h.index.homeward;
-          position = h.index.position;
-          last_load = elim h.index.last_load [ inl old ↦ inl old | inr new ↦ inr (omega arith) ];
-        };
-        link = h.link;
-        holding = h.holding;
-        receiving = record { prefix = h.receiving.prefix; in_hand = h.receiving.in_hand ∙ ap hand_in cleared_phase };
-        room = h.room;
-        places = h.places;
-      },
+      assumption (runs_keep (Acknowledge ∷ []) lane next runs h.law, index, h.receiving.in_hand ∙ ap hand_in cleared_phase),
     )

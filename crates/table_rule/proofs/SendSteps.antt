@@ -1,50 +1,39 @@
 -- The sender's atomic steps keep the rule and tell what they are to tell.
-use Rattle.std.proofs.Common.{◌≡◌, ℕ, ◌+◌, ◌-◌, ◌%◌, ◌^◌, ◌<◌, ◌≤◌, true, false, List, ◌∷◌, length, set, get_or, refl, sym, subst, ap, ◌∙◌, inl, inr, arith, mod-lt, length-set, Some, None, nat_lt}
+use Rattle.std.proofs.Common.{◌≡◌, ℕ, ◌+◌, ◌-◌, ◌%◌, ◌^◌, ◌<◌, ◌≤◌, true, false, List, ◌∷◌, length, set, get_or, refl, sym, subst, ap, ◌∙◌, inl, inr, arith, mod-lt, Some, None, nat_lt}
 use Rattle.std.proofs.lemmas.Bool.{cases_Bool, ltb-true}
-use mathlib.Core.Option.{some, none}
+use mathlib.Core.Option.{none}
 use lib.ListN.{get_elem?}
-use Rattle.atomic_table.specs.Table.{Allows, keeps, takes, gives}
+use Rattle.atomic_table.specs.Table.{Allows, takes}
 use Rattle.table_rule.specs.LaneNames.{free_entries, head_of, tail_of}
 use Rattle.table_rule.specs.Words.{posted_word, index_word, header_of}
 use Rattle.table_rule.specs.Views.{Bytes, SendPart, the_send, HasSend, with_send}
 use Rattle.table_rule.specs.Moment.{Moment, ShowsLane}
-use Rattle.table_rule.specs.Rule.{Content, Board, Sitter, IsMoment, ShowsALane}
+use Rattle.table_rule.specs.Rule.{Content, Sitter, ShowsALane}
 use Rattle.table_rule.specs.Knowledge.{link_loaded, index_loaded, head, free_by, slot_claimed, frame_sent}
-use Rattle.table_rule.specs.Plays.{sees_link, sees_index, stores_posted}
-use Rattle.table_rule.proofs.SeatChanges.{load_shows, send_seats}
+use Rattle.table_rule.specs.Plays.{frame_in, sees_link, sees_index, stores_posted}
+use Rattle.table_rule.proofs.SeatChanges.{load_shows, load_keeps, store_shows, store_gives, sender_sits}
 use Rattle.table_rule.proofs.WordLists.{index_at, set_posted}
 use Rattle.table_rule.proofs.Order.{in_order}
 use Rattle.table_rule.proofs.SenderShows as sending
 
--- the moment with the sender's part that the seat has
-with_the_send : (N : ℕ) (board : Board) (m : Moment) (part : SendPart) → part ≡ m.send → IsMoment N m board → IsMoment N (record m { send = part }) board
-with_the_send N board m part same now = subst (λ (p : SendPart). IsMoment N (record m { send = p }) board) (sym same) now
-
 pub sees_link_allowed : (N slots id : ℕ) (me : Sitter) (i : ℕ) → HasSend me.0 → Allows (ShowsALane N) slots id me i (λ n. n) (sees_link me)
 sees_link_allowed N slots id me i has board h counted at fits =
-    let seats = send_seats board.views id me.0 h.0.send h.0.mover h.0.recv h.0.back h.0.cut at h.1.seats has in
     let part : SendPart = the_send me.0 in
     let m : Moment = record h.0 { send = part } in
-    let now = with_the_send N board h.0 part seats.0 h.1 in
-    let new : SendPart = link_loaded part (get_or board.words i 0) in (
-      with_send me.0 new,
-      keeps,
-      tt,
-      load_shows N board (record m { send = new }) i _ _ now.words now.sized (seats.1 new) now.knows now.shows,
-      refl,
-    )
+    let seat = sender_sits N board h id me.0 at has in
+    let new : SendPart = link_loaded part (get_or board.words i 0) in
+    load_keeps (sees_link me (get_or board.words i 0)) me.1 new i seat seat.now.knows seat.now.shows refl
 
 pub sees_index_allowed : (N slots id : ℕ) (me : Sitter) (i : ℕ) → i ≡ index_word N → HasSend me.0 → (the_send me.0).claims ≡ false → Allows (ShowsALane N) slots id me i (λ n. n) (sees_index me)
 sees_index_allowed N slots id me i is has no_claim board h counted at fits =
-    let seats = send_seats board.views id me.0 h.0.send h.0.mover h.0.recv h.0.back h.0.cut at h.1.seats has in
     let part : SendPart = the_send me.0 in
     let m : Moment = record h.0 { send = part } in
-    let now = with_the_send N board h.0 part seats.0 h.1 in
+    let seat = sender_sits N board h id me.0 at has in
     let found : ℕ = get_or board.words i 0 in
-    let word : found ≡ m.words.index = (λ j. get_or (now.words j) (is j) 0) ∙ index_at N m.words now.sized in
-    let knows : part.entries ≡ N = now.knows.send in
-    let o = in_order N m board.homes now.shows in
-    let homeward = now.shows.index.homeward in
+    let word : found ≡ m.words.index = (λ j. get_or (seat.now.words j) (is j) 0) ∙ index_at N m.words seat.now.sized seat.two in
+    let knows : part.entries ≡ N = seat.now.knows.send in
+    let o = in_order N m board.homes seat.now.shows in
+    let homeward = seat.now.shows.index.homeward in
     let below : tail_of N m.back.freed < N = mod-lt (m.back.freed + N - 1) (omega (arith, o.two)) in
     let small : found < part.entries = omega arith in
     let same : free_by part found ≡ free_entries N (head_of N (length part.sent)) m.words.index = λ j. free_entries (knows j) (head_of (knows j) (length part.sent)) (word j) in
@@ -52,51 +41,27 @@ sees_index_allowed N slots id me i is has no_claim board h counted at fits =
       | inl room ↦
           let new : SendPart = slot_claimed (index_loaded part found) in
           let free : 0 < free_by part found = ltb-true 0 (free_by part found) room in
-          let claim = sending.claims N m board.homes no_claim (omega arith) now.shows in
+          let claim = sending.claims N m board.homes no_claim (omega arith) seat.now.shows in
           let at_head : length part.sent % N ≡ head part = ap (λ (k : ℕ). length part.sent % k) (sym knows) in (
             with_send me.0 new,
             takes (head part) None,
             ap (get_elem? board.homes) (sym at_head) ∙ claim.0,
-            load_shows N board (record m { send = new }) i _ _ now.words now.sized (seats.1 new) now.knows (subst (λ (k : ℕ). ShowsLane N (record m { send = slot_claimed part }) (set board.homes k none)) at_head claim.1),
+            load_shows new i seat seat.now.knows (subst (λ (k : ℕ). ShowsLane N (record m { send = slot_claimed part }) (set board.homes k none)) at_head claim.1),
             (small, rw room refl),
           )
       | inr none_free ↦
-          let new : SendPart = index_loaded part found in (
-            with_send me.0 new,
-            keeps,
-            tt,
-            load_shows N board (record m { send = new }) i _ _ now.words now.sized (seats.1 new) now.knows now.shows,
-            (small, rw none_free refl),
-          )
+          let new : SendPart = index_loaded part found in
+          load_keeps (sees_index me found) me.1 new i seat seat.now.knows seat.now.shows (small, rw none_free refl)
     ]
 
 pub stores_posted_allowed : (N slots id : ℕ) (me : Sitter) (i new : ℕ) (frame : Bytes) (k : ℕ) (others : List (ℕ × Content)) → i ≡ posted_word N (length (the_send me.0).sent) → new ≡ header_of (length (the_send me.0).sent)
     → me.1 ≡ (k, Some frame) ∷ others → k ≡ length (the_send me.0).sent % N → length frame ≤ 65536 → length (the_send me.0).sent < 2 ^ 62 → HasSend me.0 → (the_send me.0).claims ≡ true
     → Allows (ShowsALane N) slots id me i (λ _. new) (λ _. stores_posted me new)
 stores_posted_allowed N slots id me i new frame k others is header hand slot fits counted has claim =
-    subst (λ (held : List (ℕ × Content)). Allows (ShowsALane N) slots id (me.0, held) i (λ _. new) (λ _. stores_posted (me.0, held) new)) (sym hand)
-    (λ board h count at small.
-    let seats = send_seats board.views id me.0 h.0.send h.0.mover h.0.recv h.0.back h.0.cut at h.1.seats has in
-    let part : SendPart = the_send me.0 in
-    let m : Moment = record h.0 { send = part } in
-    let now = with_the_send N board h.0 part seats.0 h.1 in
-    let n : ℕ = length part.sent in
-    let o = in_order N m board.homes now.shows in
-    let place : n % N < N = mod-lt n (omega (arith, o.two)) in
-    let sent = sending.sends N m board.homes frame claim fits counted now.sized now.shows in
-    let after : SendPart = frame_sent part frame in (
-      with_send me.0 after,
-      gives,
-      tt,
-      (
-        record m { words = record m.words { posted = set m.words.posted (n % N) (header_of n) }; lane = sent.0; send = after },
-        record {
-          words = (λ j. set (now.words j) (is j) (header j)) ∙ set_posted N m.words now.sized (n % N) (header_of n) place;
-          sized = record { posted = length-set m.words.posted (n % N) (header_of n) ∙ now.sized.posted; headers = now.sized.headers; flags = now.sized.flags };
-          seats = seats.1 after;
-          knows = now.knows;
-          shows = subst (λ (j : ℕ). ShowsLane N (record m { words = record m.words { posted = set m.words.posted (n % N) (header_of n) }; lane = sent.0; send = after }) (set board.homes j (some (Some frame)))) (sym slot) sent.2;
-        },
-      ),
-      refl,
-    ))
+    store_gives N slots id me i new k (length (the_send me.0).sent % N) (Some frame) others (λ held. with_send me.0 (frame_sent (the_send me.0) (frame_in held))) hand slot
+    (λ board h at.
+    let m : Moment = record h.0 { send = the_send me.0 } in
+    let seat = sender_sits N board h id me.0 at has in
+    let n : ℕ = length m.send.sent in
+    let sent = sending.sends N m board.homes frame claim fits counted seat.now.sized seat.now.shows in
+    store_shows (frame_sent m.send frame) seat is header (set_posted N m.words seat.now.sized seat.two n (header_of n)) seat.now.knows sent.2)

@@ -8,7 +8,7 @@ use lib.ListN.{get_elem?}
 use Rattle.atomic_table.specs.Table.{Splits, Joins, opening}
 use Rattle.table_rule.specs.LaneNames.{Lane, Slot, new_lane, tail_of}
 use Rattle.table_rule.specs.Words.{words_of, first_words}
-use Rattle.table_rule.specs.Views.{LaneView, joined, no_parts, without_mover, mover_alone, without_recv, recv_alone, without_back, back_alone, without_cut, cut_alone, all_parts, new_send, new_move, new_recv, new_back, new_cut}
+use Rattle.table_rule.specs.Views.{LaneView, joined, no_parts, PartKind, OfMover, OfReceiver, OfWayBack, OfCut, without, alone, all_parts, new_send, new_move, new_recv, new_back, new_cut}
 use Rattle.table_rule.specs.ShownLane.{borders_of}
 use Rattle.table_rule.specs.Moment.{Moment, EachHasOneSeat, ShowsLane}
 use Rattle.table_rule.specs.Rule.{Content, Board, IsMoment, ShowsALane}
@@ -33,17 +33,12 @@ seats_split N id view left right send mover recv back cut board h at =
       cut = part_splits (λ v. v.cut) board.views id view left right h.0.cut at h.1.seats.cut cut;
     })
 
-pub mover_splits : (N id : ℕ) (view : LaneView) → Splits (ShowsALane N) id view (without_mover view) (mover_alone view)
-mover_splits N id view = seats_split N id view (without_mover view) (mover_alone view) (inl (refl, refl)) (inr (refl, refl)) (inl (refl, refl)) (inl (refl, refl)) (inl (refl, refl))
-
-pub recv_splits : (N id : ℕ) (view : LaneView) → Splits (ShowsALane N) id view (without_recv view) (recv_alone view)
-recv_splits N id view = seats_split N id view (without_recv view) (recv_alone view) (inl (refl, refl)) (inl (refl, refl)) (inr (refl, refl)) (inl (refl, refl)) (inl (refl, refl))
-
-pub back_splits : (N id : ℕ) (view : LaneView) → Splits (ShowsALane N) id view (without_back view) (back_alone view)
-back_splits N id view = seats_split N id view (without_back view) (back_alone view) (inl (refl, refl)) (inl (refl, refl)) (inl (refl, refl)) (inr (refl, refl)) (inl (refl, refl))
-
-pub cut_splits : (N id : ℕ) (view : LaneView) → Splits (ShowsALane N) id view (without_cut view) (cut_alone view)
-cut_splits N id view = seats_split N id view (without_cut view) (cut_alone view) (inl (refl, refl)) (inl (refl, refl)) (inl (refl, refl)) (inl (refl, refl)) (inr (refl, refl))
+-- one of its parts goes to the new seat, and the others stay
+pub splits_off : (part : PartKind) (N id : ℕ) (view : LaneView) → Splits (ShowsALane N) id view (without part view) (alone part view)
+splits_off OfMover N id view = seats_split N id view (without OfMover view) (alone OfMover view) (inl (refl, refl)) (inr (refl, refl)) (inl (refl, refl)) (inl (refl, refl)) (inl (refl, refl))
+splits_off OfReceiver N id view = seats_split N id view (without OfReceiver view) (alone OfReceiver view) (inl (refl, refl)) (inl (refl, refl)) (inr (refl, refl)) (inl (refl, refl)) (inl (refl, refl))
+splits_off OfWayBack N id view = seats_split N id view (without OfWayBack view) (alone OfWayBack view) (inl (refl, refl)) (inl (refl, refl)) (inl (refl, refl)) (inr (refl, refl)) (inl (refl, refl))
+splits_off OfCut N id view = seats_split N id view (without OfCut view) (alone OfCut view) (inl (refl, refl)) (inl (refl, refl)) (inl (refl, refl)) (inl (refl, refl)) (inr (refl, refl))
 
 pub seats_join : (N id : ℕ) (view : LaneView) (other : ℕ) (second : LaneView) → Joins (ShowsALane N) id view other second (joined view second) no_parts
 seats_join N id view other second board h at apart at_other =

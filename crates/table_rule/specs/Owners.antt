@@ -3,8 +3,7 @@ use Rattle.std.specs.Prelude.{◌≡◌, ℕ, ◌+◌, ◌%◌, ◌<◌, ◌≤�
 use mathlib.Core.Option.{some}
 use mathlib.Core.Option as home
 use lib.ListN.{get_elem?}
-use Rattle.lane_model.specs.Tests.{is_copying, is_copied}
-use Rattle.table_rule.specs.LaneNames.{Owner, Sender, InFlight, Landed, Receiver, Returning, owner_of}
+use Rattle.table_rule.specs.LaneNames.{Owner, Sender, InFlight, Landed, Receiver, Returning, owner_of, is_copying, is_copied}
 use Rattle.table_rule.specs.Views.{Bytes}
 use Rattle.table_rule.specs.Borders.{Slots, empty, out, full}
 use Rattle.table_rule.specs.Knowledge.{taken}

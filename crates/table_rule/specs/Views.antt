@@ -102,27 +102,21 @@ joined view other = record {
   cut = first_of view.cut other.cut;
 }
 
--- a seat is cut in two
-abbrev pub without_mover : LaneView → LaneView
-without_mover view = record view { mover = None }
+-- a seat is cut in two: one of its parts goes to the new seat alone
+pub data PartKind : Type 0 where
+  OfMover : PartKind
+  OfReceiver : PartKind
+  OfWayBack : PartKind
+  OfCut : PartKind
 
-abbrev pub mover_alone : LaneView → LaneView
-mover_alone view = record no_parts { mover = view.mover }
+abbrev pub without : PartKind → LaneView → LaneView
+without OfMover view = record view { mover = None }
+without OfReceiver view = record view { recv = None }
+without OfWayBack view = record view { back = None }
+without OfCut view = record view { cut = None }
 
-abbrev pub without_recv : LaneView → LaneView
-without_recv view = record view { recv = None }
-
-abbrev pub recv_alone : LaneView → LaneView
-recv_alone view = record no_parts { recv = view.recv }
-
-abbrev pub without_back : LaneView → LaneView
-without_back view = record view { back = None }
-
-abbrev pub back_alone : LaneView → LaneView
-back_alone view = record no_parts { back = view.back }
-
-abbrev pub without_cut : LaneView → LaneView
-without_cut view = record view { cut = None }
-
-abbrev pub cut_alone : LaneView → LaneView
-cut_alone view = record no_parts { cut = view.cut }
+abbrev pub alone : PartKind → LaneView → LaneView
+alone OfMover view = record no_parts { mover = view.mover }
+alone OfReceiver view = record no_parts { recv = view.recv }
+alone OfWayBack view = record no_parts { back = view.back }
+alone OfCut view = record no_parts { cut = view.cut }

@@ -125,44 +125,44 @@ impl Play<Option<Frame>, LaneView> for CutsLink {
 pub struct SplitsMove;
 
 impl Split<LaneView> for SplitsMove {
-    ghost use Rattle.table_rule.specs.Views.{without_mover, mover_alone};
+    ghost use Rattle.table_rule.specs.Views.{OfMover, without, alone};
 
-    ghost left = { without_mover };
+    ghost left = { without OfMover };
 
-    ghost right = { mover_alone };
+    ghost right = { alone OfMover };
 }
 
 /// A new seat gets the receiver's part.
 pub struct SplitsRecv;
 
 impl Split<LaneView> for SplitsRecv {
-    ghost use Rattle.table_rule.specs.Views.{without_recv, recv_alone};
+    ghost use Rattle.table_rule.specs.Views.{OfReceiver, without, alone};
 
-    ghost left = { without_recv };
+    ghost left = { without OfReceiver };
 
-    ghost right = { recv_alone };
+    ghost right = { alone OfReceiver };
 }
 
 /// A new seat gets the way back's part.
 pub struct SplitsBack;
 
 impl Split<LaneView> for SplitsBack {
-    ghost use Rattle.table_rule.specs.Views.{without_back, back_alone};
+    ghost use Rattle.table_rule.specs.Views.{OfWayBack, without, alone};
 
-    ghost left = { without_back };
+    ghost left = { without OfWayBack };
 
-    ghost right = { back_alone };
+    ghost right = { alone OfWayBack };
 }
 
 /// A new seat gets the cut's part.
 pub struct SplitsCut;
 
 impl Split<LaneView> for SplitsCut {
-    ghost use Rattle.table_rule.specs.Views.{without_cut, cut_alone};
+    ghost use Rattle.table_rule.specs.Views.{OfCut, without, alone};
 
-    ghost left = { without_cut };
+    ghost left = { without OfCut };
 
-    ghost right = { cut_alone };
+    ghost right = { alone OfCut };
 }
 
 /// Two seats become one, which has the parts of both.

@@ -1,14 +1,12 @@
 use Rattle.std.proofs.Common.{◌≡◌, ◌+◌, ◌-◌, ◌++◌, length}
 use Rattle.table_rule.specs.Views.{the_send, the_move, the_recv}
 use Rattle.table_lane.specs.RecvAnswers.{IsReady}
-use Rattle.table_lane.specs.EndOfLane.{HasAll, OthersStay}
+use Rattle.table_lane.specs.EndOfLane.{GoesOn}
 use Rattle.table_lane.proofs.lane_end.drain.Given as goal
 
 abbrev pub invariant-loop-frame : goal.invariant-loop-frame
 invariant-loop-frame l = record {
-  table : l.seat.table_id ≡ l.initial.seat.table_id;
-  all : HasAll l.seat.me;
-  others : OthersStay l.initial.seat.me.0 l.seat.me.0;
+  goes_on : GoesOn l.initial.seat.table_id l.seat.table_id l.initial.seat.me l.seat.me;
   mover : the_move l.seat.me.0 ≡ the_move l.initial.seat.me.0;
   ready : IsReady l.entries l.number (the_recv l.seat.me.0);
   got : (the_recv l.seat.me.0).got ≡ (the_recv l.initial.seat.me.0).got ++ l.left.frames;

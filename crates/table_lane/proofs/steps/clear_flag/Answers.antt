@@ -1,20 +1,21 @@
-use Rattle.std.proofs.Common.{arith, length, ◌≡◌, ℕ, ◌%◌, ◌<◌, sym, ap, ◌∙◌, subst, mod-lt}
+use Rattle.std.proofs.Common.{arith, length, ◌≡◌, ℕ, ◌%◌, ◌<◌, refl, sym, ap, ◌∙◌, subst, mod-lt}
 use Rattle.table_rule.specs.Words.{flag_word}
 use Rattle.table_rule.specs.Rule.{Sitter}
 use Rattle.table_rule.specs.declared.parts.LaneView.{LaneView}
 use Rattle.table_rule.specs.Views.{HasRecv, the_recv}
 use Rattle.atomic_table.specs.Table.{rest}
 use Rattle.table_rule.proofs.RecvSteps.{clears_flag_allowed}
+use Rattle.table_lane.proofs.WordsInTable.{flag_stands}
 use Rattle.table_lane.proofs.steps.clear_flag.Goals as goal
 
 pub store-requires : goal.store-requires
 store-requires c =
     let t = c.requires.table.1 in
-    let small : c.args.n % c.args.entries < c.args.entries = mod-lt c.args.n (omega (arith, t.two)) in
+    let word = flag_stands {n = c.args.n} t c.flag_word.ensures refl in
     let swapped = c.exchange-frame.ensures in
     let view : c.exchange-frame.new.seat.me.0 ≡ c.args.seat.now.me.0 = ap (λ (m : Sitter). m.0) swapped.3 in (
       swapped.0 ∙ c.requires.table.0,
-      omega (arith, t.words),
-      clears_flag_allowed _ _ _ _ _ c.args.n _ (rest c.args.seat.now.me.1) (c.flag_word.ensures ∙ ap (λ (N : ℕ). flag_word N c.args.n) (sym t.key)) (c.requires.part.2 ∙ ap (λ (v : LaneView). length (the_recv v).got) (sym view)) (ap (λ (m : Sitter). m.1) swapped.3)
+      word.0,
+      clears_flag_allowed _ _ _ _ _ c.args.n _ (rest c.args.seat.now.me.1) word.1 (c.requires.part.2 ∙ ap (λ (v : LaneView). length (the_recv v).got) (sym view)) (ap (λ (m : Sitter). m.1) swapped.3)
           (c.posted_word.ensures ∙ ap (λ (N : ℕ). c.args.n % N) (sym t.key)) (subst (λ (v : LaneView). HasRecv v) (sym view) c.requires.part.0) (ap (λ (v : LaneView). (the_recv v).phase) view ∙ c.requires.part.1),
     )

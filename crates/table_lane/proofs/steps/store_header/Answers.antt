@@ -1,4 +1,4 @@
-use Rattle.std.proofs.Common.{arith, ◌≡◌, ℕ, ◌+◌, ◌-◌, ◌%◌, ◌<◌, sym, ap, ◌∙◌, mod-lt}
+use Rattle.std.proofs.Common.{arith, ◌≡◌, ℕ, ◌+◌, ◌-◌, ◌%◌, ◌<◌, refl, sym, ap, ◌∙◌, mod-lt}
 use Rattle.table_rule.specs.declared.parts.MovePart.{MovePart}
 use Rattle.table_rule.specs.ShownLane.{number_at}
 use Rattle.table_rule.specs.Words.{header_word}
@@ -7,16 +7,16 @@ use Rattle.table_rule.specs.Views.{the_move, with_move}
 use Rattle.table_rule.specs.Knowledge.{header_stored}
 use Rattle.table_rule.proofs.LaneLaws.{number_is}
 use Rattle.table_rule.proofs.MoveSteps.{stores_header_allowed}
+use Rattle.table_lane.proofs.WordsInTable.{header_stands}
 use Rattle.table_lane.proofs.steps.store_header.Goals as goal
 
 pub store-requires : goal.store-requires
 store-requires c =
-    let t = c.requires.table.1 in
-    let small : c.args.n % c.args.entries < c.args.entries = mod-lt c.args.n (omega (arith, t.two)) in
+    let word = header_stands {n = c.args.n} c.requires.table.1 c.header_word.ensures refl in
     let held = c.requires.held in (
       c.requires.table.0,
-      omega (arith, t.words),
-      stores_header_allowed _ _ _ _ _ _ c.args.n (c.header_word.ensures ∙ ap (λ (N : ℕ). header_word N c.args.n) (sym t.key)) c.header_of.ensures c.requires.part.0 (c.requires.part.1 ∙ sym t.key) held.0 held.1 held.3,
+      word.0,
+      stores_header_allowed _ _ _ _ _ _ c.args.n word.1 c.header_of.ensures c.requires.part.0 (c.requires.part.1 ∙ sym c.requires.table.1.key) held.0 held.1 held.3,
     )
 
 pub returns-clause-knows : goal.returns-clause-knows

@@ -16,10 +16,7 @@ invariant_of-self c =
     let returning = ap (map number) c.post.ensures.writes ∙ map-posted number old.up old.returning.writes (record { number = old.acked }) in
     record {
       law = subst (λ (numbers : List ℕ). HoldsRingLaw (record (after_ack (lane_seen old)) { returning = numbers })) (sym returning) (ack_keeps (lane_seen old) c.in-Cleared.is kept.law);
-      few = kept.few;
-      small = kept.small;
-      orders = kept.orders;
-      room = kept.room;
+      sending = kept.sending;
       index_room = omega arith;
       buffers = not_copying Idle old.part _ _ _ (λ e. cc e);
     }

@@ -34,10 +34,7 @@ invariant_of-self-2 c =
     rw c.in_ok-promise.ensures.ok
     (record {
       law = subst HoldsRingLaw (sym seen) law;
-      few = omega (arith, more, few, count);
-      small = kept.small;
-      orders = kept.orders;
-      room = omega (arith, all, writes, c.chunks.ensures.value);
+      sending = record { few = omega (arith, more, few, count); small = kept.sending.small; orders = kept.sending.orders; room = omega (arith, all, writes, c.chunks.ensures.value) };
       index_room = kept.index_room;
       buffers = buffers_stay old entry c.push_reserved.new.self.items pushed kept;
     })

@@ -23,10 +23,7 @@ invariant_of-self c =
     ∙ with_flags_at-is (lane_seen old) old.cleared 0 kept.law.2.room.slots in
     record {
       law = subst (λ (places : List Slot). HoldsRingLaw (record (after_clear (lane_seen old)) { ring = places })) (sym ring) (clear_keeps (lane_seen old) c.in-Copied.is kept.law);
-      few = kept.few;
-      small = kept.small;
-      orders = kept.orders;
-      room = kept.room;
+      sending = kept.sending;
       index_room = subst (λ (phase : Phase). index_room phase ≤ old.returning.spare) c.in-Copied.is kept.index_room;
       buffers = not_copying Cleared old.part _ _ _ (λ e. cc e);
     }

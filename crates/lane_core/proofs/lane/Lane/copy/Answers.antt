@@ -27,10 +27,7 @@ invariant_of-self c =
     let law = copy_keeps (lane_seen old) c.in-Copying.is kept.law in
     record {
       law = subst HoldsRingLaw (cond-true _ _ _ (more_left (lane_seen old) (omega (arith, more, copies.len)))) law;
-      few = kept.few;
-      small = kept.small;
-      orders = kept.orders;
-      room = kept.room;
+      sending = kept.sending;
       index_room = kept.index_room;
       buffers = record {
         items = λ e. copies.copied ∙ ap (λ n. take n (bytes_at old)) (next_chunk old.part);
@@ -73,10 +70,7 @@ invariant_of-self-2 c =
     let law = copy_keeps (lane_seen old) c.in-Copying.is kept.law in
     record {
       law = subst HoldsRingLaw (cond-false _ _ _ (copied_whole c).last) law;
-      few = kept.few;
-      small = kept.small;
-      orders = kept.orders;
-      room = kept.room;
+      sending = kept.sending;
       index_room = subst (λ (phase : Phase). index_room phase ≤ old.returning.spare) c.in-Copying.is kept.index_room;
       buffers = not_copying Copied old.part _ _ _ (λ e. cc e);
     }

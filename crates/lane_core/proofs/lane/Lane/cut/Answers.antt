@@ -7,10 +7,7 @@ invariant_of-self c =
     let kept = c.self.invariant in
     record {
       law = cut_keeps (lane_seen c.self.inside) kept.law;
-      few = kept.few;
-      small = kept.small;
-      orders = kept.orders;
-      room = kept.room;
+      sending = kept.sending;
       index_room = kept.index_room;
       buffers = kept.buffers;
     }

@@ -11,10 +11,7 @@ invariant_of-self c =
     rw (c.discard.ensures, c.discard-2.ensures)
     (record {
       law = law;
-      few = kept.few;
-      small = kept.small;
-      orders = λ k d below. absurd (omega arith);
-      room = kept.room;
+      sending = record { few = kept.sending.few; small = kept.sending.small; orders = λ k d below. absurd (omega arith); room = kept.sending.room };
       index_room = kept.index_room;
       buffers = kept.buffers;
     })

@@ -57,7 +57,7 @@ returns-in-Nothing-clause-after c =
 pub returns-in-Blocked-clause-answer : goal.returns-in-Blocked-clause-answer
 returns-in-Blocked-clause-answer c =
     let old = c.self.inside in
-    let held = is_held_back old c.args.place c.in-Blocked.ensures.answer c.self.invariant.orders in
+    let held = is_held_back old c.args.place c.in-Blocked.ensures.answer c.self.invariant.sending.orders in
     subst (λ (value : LaneValue). Blocked ≡ land_answer value c.args.place) c.self.view_is (sym held.0)
 
 pub returns-in-Blocked-clause-after : goal.returns-in-Blocked-clause-after
@@ -65,7 +65,7 @@ returns-in-Blocked-clause-after c =
     let old = c.self.inside in
     let waits = was_blocked _ _ c.in-Blocked.ensures.answer in
     let same : c.land.new.self ≡ old.flight = c.in-Blocked.ensures.after ∙ cond-false _ _ _ waits.2 in
-    let held = is_held_back old c.args.place c.in-Blocked.ensures.answer c.self.invariant.orders in
+    let held = is_held_back old c.args.place c.in-Blocked.ensures.answer c.self.invariant.sending.orders in
     rw same (subst (λ (value : LaneValue). value_seen old ≡ with_lane value (after_land value c.args.place)) c.self.view_is (ap (with_lane (value_seen old)) (sym held.1)))
 
 pub store-requires-clause-can : goal.store-requires-clause-can
@@ -104,10 +104,7 @@ invariant_of-self-in-Landed c =
     let landed = has_landed old c.args.place c.in-Landed.field-0 c.land.new.self c.in-Landed.ensures.answer c.in-Landed.ensures.after kept in
     record {
       law = subst HoldsRingLaw (sym (lane_after c)) landed.lands.law;
-      few = kept.few;
-      small = kept.small;
-      orders = landed.orders;
-      room = omega (arith, kept.room, landed.spare);
+      sending = record { few = kept.sending.few; small = kept.sending.small; orders = landed.orders; room = omega (arith, kept.sending.room, landed.spare) };
       index_room = kept.index_room;
       buffers = kept.buffers;
     }

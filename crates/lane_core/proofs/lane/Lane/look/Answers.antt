@@ -19,10 +19,7 @@ invariant_of-self-in-Frame c =
     rw c.in_ok-promise-in-Frame.ensures.ok
     (record {
       law = look_keeps (lane_seen old) c.in-Idle.is frame.more kept.law;
-      few = kept.few;
-      small = kept.small;
-      orders = kept.orders;
-      room = kept.room;
+      sending = kept.sending;
       index_room = omega arith;
       buffers = record { items = λ e. c.in_ok-buffer-in-Frame.ensures.items; room = λ e. omega (arith, size, c.in_ok-buffer-in-Frame.ensures.exact) };
     })

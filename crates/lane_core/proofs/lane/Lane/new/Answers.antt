@@ -11,10 +11,7 @@ invariant_of-result c =
     record {
       law = started c.args.entries c.args.max c.new.result.items c.new-2.result.items c.new-3.result c.new-4.result c.in_ok-ring.ring.items c.requires.two_entries
           c.new.ensures.items c.new-2.ensures.items c.new-3.ensures c.new-4.ensures c.in_ok-ring.ensures;
-      few = omega arith;
-      small = c.requires.fits;
-      orders = rw c.new-3.ensures (λ k d below. absurd (omega arith));
-      room = omega arith;
+      sending = record { few = omega arith; small = c.requires.fits; orders = rw c.new-3.ensures (λ k d below. absurd (omega arith)); room = omega arith };
       index_room = omega arith;
       buffers = not_copying Idle 0 _ _ _ (λ e. cc e);
     }

@@ -29,10 +29,12 @@ invariant_of-self-2 c =
     let one_less = ap length c.in_ok-mark.ensures.items in
     record {
       law = subst (λ (marks : List Write). HoldsRingLaw (record (after_post (lane_seen old) mark rest) { flight = marks })) (sym flight) (post_keeps (lane_seen old) mark rest c.in_ok-mark.ensures.items kept.law);
-      few = kept.few;
-      small = kept.small;
-      orders = All-posted old.strict old.up old.flight.writes mark c.post.new.flight.writes c.post.ensures.writes kept.orders;
-      room = omega (arith, kept.room, one_less, c.post.ensures.spare);
+      sending = record {
+        few = kept.sending.few;
+        small = kept.sending.small;
+        orders = All-posted old.strict old.up old.flight.writes mark c.post.new.flight.writes c.post.ensures.writes kept.sending.orders;
+        room = omega (arith, kept.sending.room, one_less, c.post.ensures.spare);
+      };
       index_room = kept.index_room;
       buffers = kept.buffers;
     }
