@@ -139,14 +139,10 @@ fn is_size(bytes: u32) -> bool
 fn plain_setting(word: &[u8]) -> Option<Setting>
     ensures { result ≡ rules.plain_setting word.now }
 {
-    if word == b"up".as_slice() {
-        Some(Setting::Up)
-    } else if word == b"strict".as_slice() {
-        Some(Setting::Strict)
-    } else if word == b"raw".as_slice() {
-        Some(Setting::Raw)
-    } else {
-        None
+    value_of! { word:
+        b"up" => Setting::Up,
+        b"strict" => Setting::Strict,
+        b"raw" => Setting::Raw,
     }
 }
 

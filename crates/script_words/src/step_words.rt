@@ -66,12 +66,9 @@ pub enum FrameWord {
 pub fn frame_word_of(word: &[u8]) -> Option<FrameWord>
     ensures { option_map frame_steps_of result ≡ rules.frame_steps word.now }
 {
-    if word == b"begin".as_slice() {
-        Some(FrameWord::Begin)
-    } else if word == b"send".as_slice() {
-        Some(FrameWord::Send)
-    } else {
-        None
+    value_of! { word:
+        b"begin" => FrameWord::Begin,
+        b"send" => FrameWord::Send,
     }
 }
 
@@ -79,14 +76,10 @@ pub fn frame_word_of(word: &[u8]) -> Option<FrameWord>
 pub fn pair_word_of(word: &[u8]) -> Option<PairWord>
     ensures { option_map pair_step_of result ≡ rules.pair_step word.now }
 {
-    if word == b"train".as_slice() {
-        Some(PairWord::Train)
-    } else if word == b"break".as_slice() {
-        Some(PairWord::Break)
-    } else if word == b"drop".as_slice() {
-        Some(PairWord::Drop)
-    } else {
-        None
+    value_of! { word:
+        b"train" => PairWord::Train,
+        b"break" => PairWord::Break,
+        b"drop" => PairWord::Drop,
     }
 }
 
@@ -94,20 +87,13 @@ pub fn pair_word_of(word: &[u8]) -> Option<PairWord>
 pub fn side_word_of(word: &[u8]) -> Option<SideWord>
     ensures { option_map side_steps_of result ≡ rules.side_steps word.now }
 {
-    if word == b"enable".as_slice() {
-        Some(SideWord::Enable)
-    } else if word == b"clean".as_slice() {
-        Some(SideWord::Clean)
-    } else if word == b"offer".as_slice() {
-        Some(SideWord::Offer)
-    } else if word == b"check".as_slice() {
-        Some(SideWord::Check)
-    } else if word == b"irq".as_slice() {
-        Some(SideWord::Irq)
-    } else if word == b"offerall".as_slice() {
-        Some(SideWord::OfferAll)
-    } else {
-        None
+    value_of! { word:
+        b"enable" => SideWord::Enable,
+        b"clean" => SideWord::Clean,
+        b"offer" => SideWord::Offer,
+        b"check" => SideWord::Check,
+        b"irq" => SideWord::Irq,
+        b"offerall" => SideWord::OfferAll,
     }
 }
 
@@ -115,26 +101,16 @@ pub fn side_word_of(word: &[u8]) -> Option<SideWord>
 pub fn queue_word_of(word: &[u8]) -> Option<QueueWord>
     ensures { option_map queue_steps_of result ≡ rules.queue_steps word.now }
 {
-    if word == b"ready".as_slice() {
-        Some(QueueWord::Ready)
-    } else if word == b"join".as_slice() {
-        Some(QueueWord::Join)
-    } else if word == b"qpdown".as_slice() {
-        Some(QueueWord::QpDown)
-    } else if word == b"post".as_slice() {
-        Some(QueueWord::Post)
-    } else if word == b"look".as_slice() {
-        Some(QueueWord::Look)
-    } else if word == b"copy".as_slice() {
-        Some(QueueWord::Copy)
-    } else if word == b"clear".as_slice() {
-        Some(QueueWord::Clear)
-    } else if word == b"ack".as_slice() {
-        Some(QueueWord::Ack)
-    } else if word == b"recv".as_slice() {
-        Some(QueueWord::Recv)
-    } else {
-        None
+    value_of! { word:
+        b"ready" => QueueWord::Ready,
+        b"join" => QueueWord::Join,
+        b"qpdown" => QueueWord::QpDown,
+        b"post" => QueueWord::Post,
+        b"look" => QueueWord::Look,
+        b"copy" => QueueWord::Copy,
+        b"clear" => QueueWord::Clear,
+        b"ack" => QueueWord::Ack,
+        b"recv" => QueueWord::Recv,
     }
 }
 
@@ -142,20 +118,13 @@ pub fn queue_word_of(word: &[u8]) -> Option<QueueWord>
 pub fn number_word_of(word: &[u8]) -> Option<NumberWord>
     ensures { option_map numbered_of result ≡ rules.numbered_steps word.now }
 {
-    if word == b"land".as_slice() {
-        Some(NumberWord::Land)
-    } else if word == b"landall".as_slice() {
-        Some(NumberWord::LandAll)
-    } else if word == b"mask".as_slice() {
-        Some(NumberWord::Mask)
-    } else if word == b"unmask".as_slice() {
-        Some(NumberWord::Unmask)
-    } else if word == b"showq".as_slice() {
-        Some(NumberWord::ShowQueue)
-    } else if word == b"showspad".as_slice() {
-        Some(NumberWord::ShowPad)
-    } else {
-        None
+    value_of! { word:
+        b"land" => NumberWord::Land,
+        b"landall" => NumberWord::LandAll,
+        b"mask" => NumberWord::Mask,
+        b"unmask" => NumberWord::Unmask,
+        b"showq" => NumberWord::ShowQueue,
+        b"showspad" => NumberWord::ShowPad,
     }
 }
 
