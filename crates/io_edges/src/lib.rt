@@ -15,7 +15,7 @@ mod whole;
 pub use memory_sink::MemorySink;
 pub use memory_source::MemorySource;
 pub use plain_source::PlainSource;
-pub use std_streams::StdStream;
+pub use std_streams::{StdSink, StdSource, StdStream};
 pub use streams::{Failed, Sink, Source};
 pub use whole::{ReadError, WriteFault, read_all, write_all};
 

@@ -14,6 +14,12 @@ pub struct StdStream<T> {
     faults: u64,
 }
 
+/// A reader, as a source of bytes.
+pub type StdSource<R> = StdStream<R>;
+
+/// A writer, as a sink of bytes.
+pub type StdSink<W> = StdStream<W>;
+
 impl<T> StdStream<T> {
     ghost use Rattle.io_edges.specs.Std.{faults_of, inner_of};
 

@@ -112,11 +112,11 @@ fn a_write_fails_in_mid_stream(rt: HostRuntime) -> Result<(), Fail> {
 #[test]
 fn std_streams_are_adapted(rt: HostRuntime) -> Result<(), Fail> {
     let alloc = rt.alloc();
-    let mut source = StdStream::new(b"hello world".as_slice());
+    let mut source = StdSource::new(b"hello world".as_slice());
     let bytes = read_all(alloc, &mut source, 11)?;
     assert_eq!(rt; bytes.as_slice(), b"hello world".as_slice());
 
-    let mut sink = StdStream::new(Vec::new(alloc));
+    let mut sink = StdSink::new(Vec::new(alloc));
     write_all(&mut sink, &bytes)?;
     assert_eq!(rt; write_all(&mut sink, b""), Ok(()));
     Ok(())

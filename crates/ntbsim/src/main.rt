@@ -1,7 +1,7 @@
 //! `ntbsim`: replays scripts of hosts that are joined in pairs by PCI Express non-transparent bridges.
 #![tactic(auto)]
 
-use io_edges::StdStream;
+use io_edges::{StdSink, StdSource};
 use std::alloc::{AllocError, Global};
 use std::process::ExitCode;
 use std::rt::Env;
@@ -16,8 +16,8 @@ fn main(rt: HostRuntime) -> ExitCode {
         Ok(words) => words,
         Err(AllocError) => return ExitCode::from(OUT_OF_MEMORY),
     };
-    let mut source = StdStream::new(rt.stdin());
-    let mut sink = StdStream::new(rt.stdout());
+    let mut source = StdSource::new(rt.stdin());
+    let mut sink = StdSink::new(rt.stdout());
     ExitCode::from(ntb_top::run_program(rt.alloc(), &words, &mut source, &mut sink))
 }
 
