@@ -4,21 +4,9 @@ use Rattle.step_kinds.specs.declared.names.Side.{Side}
 use Rattle.step_kinds.specs.declared.names.Side.TheVariants.{A, B}
 use Rattle.bridge_pair.specs.Bridge.{Bridge, bytes_of, pages_of, with_bytes, with_pages}
 
-pub pages_of-with_pages : (bridge : Bridge) (side : Side) (pages : List ℕ) → pages_of (with_pages bridge side pages) side ≡ pages
-pages_of-with_pages bridge A pages = refl
-pages_of-with_pages bridge B pages = refl
-
-pub bytes_of-with_pages : (bridge : Bridge) (side : Side) (pages : List ℕ) → bytes_of (with_pages bridge side pages) side ≡ bytes_of bridge side
-bytes_of-with_pages bridge A pages = refl
-bytes_of-with_pages bridge B pages = refl
-
 pub with_pages-twice : (bridge : Bridge) (side : Side) (pages more : List ℕ) → with_pages (with_pages bridge side pages) side more ≡ with_pages bridge side more
 with_pages-twice bridge A pages more = refl
 with_pages-twice bridge B pages more = refl
-
-pub with_pages-same : (bridge : Bridge) (side : Side) → with_pages bridge side (pages_of bridge side) ≡ bridge
-with_pages-same bridge A = refl
-with_pages-same bridge B = refl
 
 pub pages_of-with_bytes : (bridge : Bridge) (side : Side) (bytes : List ℕ) → pages_of (with_bytes bridge side bytes) side ≡ pages_of bridge side
 pages_of-with_bytes bridge A bytes = refl
@@ -31,10 +19,6 @@ bytes_of-with_bytes bridge B bytes = refl
 pub with_bytes-twice : (bridge : Bridge) (side : Side) (bytes more : List ℕ) → with_bytes (with_bytes bridge side bytes) side more ≡ with_bytes bridge side more
 with_bytes-twice bridge A bytes more = refl
 with_bytes-twice bridge B bytes more = refl
-
-pub with_bytes-same : (bridge : Bridge) (side : Side) → with_bytes bridge side (bytes_of bridge side) ≡ bridge
-with_bytes-same bridge A = refl
-with_bytes-same bridge B = refl
 
 -- Steps that change one thing again and again
 

@@ -8,18 +8,18 @@ use Rattle.step_kinds.specs.declared.steps.Step.{Step}
 use Rattle.step_kinds.specs.declared.steps.Step.TheVariants.{Enable, Train, Break, DropDone, Clean, Offer, Check, Ready, Join, Begin, QpDown, Xbegin, Post, Land, Look, Copy, Clear, Ack, Wake, Irq, Mask, Unmask, Spad, Poke, ShowMem, ShowPad, ShowQueue}
 use Rattle.plan_model.specs.DeclaredPlans.{IsDeviceOn, IsPermitted, IsQueueOf}
 
-module _ (plan : Plan) (steps : List Line) (traffic : List Traffic) where
-  -- the plan with other steps and traffic
-  abbrev other : Plan
-  other = record plan { steps = steps; traffic = traffic }
+-- the plan with these steps and this traffic
+abbrev pub with_lists : Plan → List Line → List Traffic → Plan
+with_lists plan steps traffic = record plan { steps = steps; traffic = traffic }
 
-  pub queue_of_other : (pair : ℕ) (side : Side) (queue : ℕ) → IsQueueOf plan pair side queue → IsQueueOf other pair side queue
+module _ (plan : Plan) (steps : List Line) (traffic : List Traffic) where
+  pub queue_of_other : (pair : ℕ) (side : Side) (queue : ℕ) → IsQueueOf plan pair side queue → IsQueueOf (with_lists plan steps traffic) pair side queue
   queue_of_other pair side queue may = record { declared = may.declared; among = may.among }
 
-  device_of_other : (pair : ℕ) (side : Side) (queue dev : ℕ) → IsDeviceOn plan pair side queue dev → IsDeviceOn other pair side queue dev
+  pub device_of_other : (pair : ℕ) (side : Side) (queue dev : ℕ) → IsDeviceOn plan pair side queue dev → IsDeviceOn (with_lists plan steps traffic) pair side queue dev
   device_of_other pair side queue dev may = record { declared = may.declared; its_pair = may.its_pair; its_side = may.its_side; its_queue = may.its_queue }
 
-  pub permitted_by_other : (step : Step) → IsPermitted plan step → IsPermitted other step
+  pub permitted_by_other : (step : Step) → IsPermitted plan step → IsPermitted (with_lists plan steps traffic) step
   permitted_by_other (Enable pair side) may = may
   permitted_by_other (Train pair) may = may
   permitted_by_other (Break pair) may = may

@@ -15,8 +15,8 @@ use Rattle.step_kinds.specs.declared.plan.Plan.{Plan}
 use Rattle.step_kinds.specs.declared.plan.Traffic.{Traffic}
 use Rattle.step_kinds.specs.declared.plan.Traffic.TheVariants.{Send, Break as LinkLoss}
 use Rattle.step_kinds.specs.declared.steps.Step.{Step}
-use Rattle.step_kinds.specs.declared.steps.Step.TheVariants.{Enable, Train, Break, DropDone, Clean, Offer, Check, Ready, Join, Begin, QpDown, Xbegin, Post, Land, Look, Copy, Clear, Ack, Wake, Irq, Mask, Unmask, Spad, Poke, ShowMem, ShowPad, ShowQueue}
-use Rattle.plan_model.specs.DeclaredPlans.{IsPair, IsDevice, IsDeclared, IsQueueOf, IsDeviceOn, IsPermitted, SameQueue}
+use Rattle.plan_model.specs.DeclaredPlans.{IsPair, IsDevice, IsDeclared, IsPermitted, SameQueue}
+use Rattle.plan_model.proofs.Permitted.{with_lists, queue_of_other, permitted_by_other}
 use Rattle.plan_model.specs.Plans.{pair_plan, dev_plan, no_pair, no_dev}
 use Rattle.plan_model.specs.TrafficPlans.{frames_in, bytes_in, is_break_of, IsTraffic, IsWhole}
 use Rattle.script_words.specs.Before.{Before, nothing_before, with_given, with_class, Given, Nothing, Host, APair, ADevice, AClass, StepsBegin, TrafficBegins, MoreSteps, MoreTraffic}
@@ -44,45 +44,7 @@ use Rattle.script_text.proofs.WordFacts.{Filled, filter_filled}
 
 -- Other steps and traffic beside the same pairs and devices
 
-abbrev with_lists : Plan → List Line → List Traffic → Plan
-with_lists plan steps traffic = record plan { steps = steps; traffic = traffic }
-
 module _ (plan : Plan) (steps : List Line) (traffic : List Traffic) where
-  queue_in : (k : ℕ) (side : Side) (queue : ℕ) → IsQueueOf plan k side queue → IsQueueOf (with_lists plan steps traffic) k side queue
-  queue_in k side queue h = record { declared = h.declared; among = h.among }
-
-  device_in : (pair : ℕ) (side : Side) (queue dev : ℕ) → IsDeviceOn plan pair side queue dev → IsDeviceOn (with_lists plan steps traffic) pair side queue dev
-  device_in pair side queue dev h = record { declared = h.declared; its_pair = h.its_pair; its_side = h.its_side; its_queue = h.its_queue }
-
-  permitted_in : (step : Step) → IsPermitted plan step → IsPermitted (with_lists plan steps traffic) step
-  permitted_in (Enable pair side) h = h
-  permitted_in (Train pair) h = h
-  permitted_in (Break pair) h = h
-  permitted_in (DropDone pair) h = h
-  permitted_in (Clean pair side) h = h
-  permitted_in (Offer pair side) h = h
-  permitted_in (Check pair side) h = h
-  permitted_in (Ready pair side queue) h = queue_in pair side queue h
-  permitted_in (Join pair side queue) h = queue_in pair side queue h
-  permitted_in (Begin pair side queue frame) h = (queue_in pair side queue h.0, h.1)
-  permitted_in (QpDown pair side queue) h = queue_in pair side queue h
-  permitted_in (Xbegin pair side queue dev dst kind payload) h = (queue_in pair side queue h.0, device_in pair side queue dev h.1, h.2)
-  permitted_in (Post pair side queue) h = queue_in pair side queue h
-  permitted_in (Land pair side place) h = h
-  permitted_in (Look pair side queue) h = queue_in pair side queue h
-  permitted_in (Copy pair side queue) h = queue_in pair side queue h
-  permitted_in (Clear pair side queue) h = queue_in pair side queue h
-  permitted_in (Ack pair side queue) h = queue_in pair side queue h
-  permitted_in (Wake pair side queue dev) h = (queue_in pair side queue h.0, device_in pair side queue dev h.1)
-  permitted_in (Irq pair side) h = h
-  permitted_in (Mask pair side bits) h = h
-  permitted_in (Unmask pair side bits) h = h
-  permitted_in (Spad pair side i value) h = h
-  permitted_in (Poke pair side window offset bytes) h = h
-  permitted_in (ShowMem pair side at len) h = h
-  permitted_in (ShowPad pair side i) h = h
-  permitted_in (ShowQueue pair side place) h = h
-
   traffic_in : (item : Traffic) → IsTraffic plan item → IsTraffic (with_lists plan steps traffic) item
   traffic_in (Send lane frame) h = (record { declared = h.0.declared; may = h.0.may; among = h.0.among; short = h.0.short }, h.1, h.2)
   traffic_in (LinkLoss pair) h = h
@@ -92,7 +54,7 @@ module _ (plan : Plan) (steps : List Line) (traffic : List Traffic) where
     few_pairs = h.few_pairs;
     pairs = h.pairs;
     few_devices = h.few_devices;
-    devices = λ k lt. device_stays plan (with_lists plan steps traffic) queue_in (dev_plan plan.devs k) (h.devices k lt);
+    devices = λ k lt. device_stays plan (with_lists plan steps traffic) (queue_of_other plan steps traffic) (dev_plan plan.devs k) (h.devices k lt);
     one_on_a_queue = h.one_on_a_queue;
   }
 
@@ -243,8 +205,8 @@ steps_kept n before steps held fits =
       whole = record {
         declared = declared_in plan more before.plan.traffic whole.declared;
         steps = All-append P before.plan.steps lines
-            (All-weaker (λ line. IsPermitted plan line.step) P (λ line h. permitted_in plan more before.plan.traffic line.step h) before.plan.steps whole.steps)
-            (All-map P (λ step. record { line = n; step = step }) steps (λ k d lt. permitted_in plan more before.plan.traffic (get_or steps k d) (fits.permitted k d lt)));
+            (All-weaker (λ line. IsPermitted plan line.step) P (λ line h. permitted_by_other plan more before.plan.traffic line.step h) before.plan.steps whole.steps)
+            (All-map P (λ step. record { line = n; step = step }) steps (λ k d lt. permitted_by_other plan more before.plan.traffic (get_or steps k d) (fits.permitted k d lt)));
         few_steps = let few = fits.few in omega arith;
         traffic = All-weaker (IsTraffic plan) (IsTraffic next) (traffic_in plan more before.plan.traffic) before.plan.traffic whole.traffic;
         few_frames = whole.few_frames;
@@ -264,7 +226,7 @@ traffic_kept n before traffic held fits =
     record {
       whole = record {
         declared = declared_in plan before.plan.steps more whole.declared;
-        steps = All-weaker (λ line. IsPermitted plan line.step) (λ line. IsPermitted next line.step) (λ line h. permitted_in plan before.plan.steps more line.step h) before.plan.steps whole.steps;
+        steps = All-weaker (λ line. IsPermitted plan line.step) (λ line. IsPermitted next line.step) (λ line h. permitted_by_other plan before.plan.steps more line.step h) before.plan.steps whole.steps;
         few_steps = whole.few_steps;
         traffic = All-append (IsTraffic next) before.plan.traffic traffic
             (All-weaker (IsTraffic plan) (IsTraffic next) stays before.plan.traffic whole.traffic) (All-weaker (IsTraffic plan) (IsTraffic next) stays traffic fits.items);

@@ -63,6 +63,17 @@ fn break_line(before: &Reader, pair: &[u8]) -> Result<Given, Cause>
     Ok(Given::Break { pair })
 }
 
+/// The lane that a queue's side sends.
+fn lane_of(name: QueueName) -> LaneName
+    ensures { result ≡ rules.lane_of name }
+{
+    LaneName {
+        pair: name.pair,
+        from: name.side,
+        queue: name.queue,
+    }
+}
+
 /// `frame PAIR SIDE QUEUE HEX`
 fn frame_line(
     alloc: Global,
@@ -72,12 +83,8 @@ fn frame_line(
 ) -> Result<Given, LineError>
     ensures { Reads (result_map given_of result) (rules.traffic_frame_line before.now on.entry.pair.now on.entry.side.now on.entry.queue.now frame.now) }
 {
-    let QueueName {
-        pair,
-        side: from,
-        queue,
-    } = read_queue_name(before, on)?;
-    let lane = LaneName { pair, from, queue };
+    let name = read_queue_name(before, on)?;
+    let lane = lane_of(name);
     let bytes = read_bytes(alloc, frame)?;
     test_lane(before, lane, bytes.len() as u64, 1)?;
     let frame = Frame::of_vec(bytes.into_vec());
@@ -88,12 +95,8 @@ fn frame_line(
 fn flood_line(before: &Reader, on: QueueWords<'_>, count: &[u8], len: &[u8]) -> Result<Given, Cause>
     ensures { result_map given_of result ≡ rules.flood_line before.now on.entry.pair.now on.entry.side.now on.entry.queue.now count.now len.now }
 {
-    let QueueName {
-        pair,
-        side: from,
-        queue,
-    } = read_queue_name(before, on)?;
-    let lane = LaneName { pair, from, queue };
+    let name = read_queue_name(before, on)?;
+    let lane = lane_of(name);
     let count = read_number_between(1, 100_000, count)?;
     let len = read_number_between(1, 65_536, len)?;
     test_lane(before, lane, len as u64, count as u64)?;
