@@ -89,7 +89,7 @@ IsGrown old new before after = after ≡ with_room (with_pages before (other_sid
 pub plain_grown : (old new : PortState) (before after : Bridge) → IsGrown old new before after → plain_bridge after ≡ plain_bridge before
 plain_grown old new before after rest = ap plain_bridge rest ∙ grown_plain before old.side (pages_of after (other_side old.side)) (unused_of new - unused_of old)
 
-pub keeps_grown : (old new : PortState) (before after : Bridge) (touched : ℕ → Type 0) → SamePlace new old
+keeps_grown : (old new : PortState) (before after : Bridge) (touched : ℕ → Type 0) → SamePlace new old
     → IsGrown old new before after
     → PagesGrow touched (pages_of before (other_side old.side)) (pages_of after (other_side old.side)) → HasPagesIn new after → KeepsPort old new before after
 keeps_grown old new before after touched same rest grow ready =
@@ -114,7 +114,7 @@ keeps_grown old new before after touched same rest grow ready =
     }
 
 -- where the call answered want of memory, the port is as it was
-pub ready_after : (old new : PortState) (before after : Bridge) (touched : ℕ → Type 0)
+ready_after : (old new : PortState) (before after : Bridge) (touched : ℕ → Type 0)
     → IsGrown old new before after
     → PagesGrow touched (pages_of before (other_side old.side)) (pages_of after (other_side old.side)) → HasPagesIn old before
     → new ≡ old → HasPagesIn new after
@@ -156,7 +156,7 @@ pub plain_grown_both : (old new : PortState) (before after : Bridge) → IsGrown
 plain_grown_both old new before after rest =
     ap plain_bridge rest ∙ both_plain before old.side (pages_of after (other_side old.side)) (pages_of after old.side) (unused_of new - unused_of old)
 
-pub keeps_both : (old new : PortState) (before after : Bridge) (touched flags : ℕ → Type 0) → SamePlace new old
+keeps_both : (old new : PortState) (before after : Bridge) (touched flags : ℕ → Type 0) → SamePlace new old
     → IsGrownBoth old new before after
     → PagesGrow touched (pages_of before (other_side old.side)) (pages_of after (other_side old.side)) → PagesGrow flags (pages_of before old.side) (pages_of after old.side)
     → HasPagesIn new after → KeepsPort old new before after
@@ -180,7 +180,7 @@ keeps_both old new before after touched flags same rest grow own_grow ready =
     }
 
 -- where the look answered want of memory, the port is as it was
-pub ready_both : (old new : PortState) (before after : Bridge) (touched flags : ℕ → Type 0)
+ready_both : (old new : PortState) (before after : Bridge) (touched flags : ℕ → Type 0)
     → PagesGrow touched (pages_of before (other_side old.side)) (pages_of after (other_side old.side)) → PagesGrow flags (pages_of before old.side) (pages_of after old.side)
     → HasPagesIn old before → new ≡ old → HasPagesIn new after
 ready_both old new before after touched flags grow own_grow ready same =
@@ -213,6 +213,40 @@ keeps_seen seen part new next before after view is place keeps ready had =
     let same : SamePlace new.port old = subst (λ (queue : QueueState). SamePlace queue.port old) (sym is) place in
     let here : HasPagesIn old before = subst (λ (part : QueuePart). HasPagesIn part.queue.port before) (sym view) had in
     subst (λ (part : QueuePart). KeepsPort part.queue.port new.port before after) view (keeps same (ready here))
+
+-- the same of a call that grew the pages at the peer, and where it answered want of memory
+pub begun_keeps : (seen part : QueuePart) (new next : QueueState) (before after : Bridge) (touched : ℕ → Type 0) → seen ≡ part → new ≡ next → SamePlace next.port seen.queue.port
+    → IsGrown seen.queue.port new.port before after
+    → PagesGrow touched (pages_of before (other_side seen.queue.port.side)) (pages_of after (other_side seen.queue.port.side))
+    → (HasPagesIn seen.queue.port before → HasPagesIn new.port after) → HasPagesIn part.queue.port before → KeepsPort part.queue.port new.port before after
+begun_keeps seen part new next before after touched view is place rest grow =
+    keeps_seen seen part new next before after view is place (λ same. keeps_grown seen.queue.port new.port before after touched same rest grow)
+
+pub wanted_keeps : (seen part : QueuePart) (new : QueueState) (before after : Bridge) (touched : ℕ → Type 0) → seen ≡ part → new ≡ seen.queue
+    → IsGrown seen.queue.port new.port before after
+    → PagesGrow touched (pages_of before (other_side seen.queue.port.side)) (pages_of after (other_side seen.queue.port.side))
+    → HasPagesIn part.queue.port before → KeepsPort part.queue.port new.port before after
+wanted_keeps seen part new before after touched view is rest grow =
+    begun_keeps seen part new seen.queue before after touched view is (same_place seen.queue.port) rest grow
+    (λ had. ready_after seen.queue.port new.port before after touched rest grow had (ap (λ (queue : QueueState). queue.port) is))
+
+-- and of a look
+pub looked_keeps : (seen part : QueuePart) (new next : QueueState) (before after : Bridge) (touched flags : ℕ → Type 0) → seen ≡ part → new ≡ next → SamePlace next.port seen.queue.port
+    → IsGrownBoth seen.queue.port new.port before after
+    → PagesGrow touched (pages_of before (other_side seen.queue.port.side)) (pages_of after (other_side seen.queue.port.side))
+    → PagesGrow flags (pages_of before seen.queue.port.side) (pages_of after seen.queue.port.side)
+    → (HasPagesIn seen.queue.port before → HasPagesIn new.port after) → HasPagesIn part.queue.port before → KeepsPort part.queue.port new.port before after
+looked_keeps seen part new next before after touched flags view is place rest grow own_grow =
+    keeps_seen seen part new next before after view is place (λ same. keeps_both seen.queue.port new.port before after touched flags same rest grow own_grow)
+
+pub look_wanted_keeps : (seen part : QueuePart) (new : QueueState) (before after : Bridge) (touched flags : ℕ → Type 0) → seen ≡ part → new ≡ seen.queue
+    → IsGrownBoth seen.queue.port new.port before after
+    → PagesGrow touched (pages_of before (other_side seen.queue.port.side)) (pages_of after (other_side seen.queue.port.side))
+    → PagesGrow flags (pages_of before seen.queue.port.side) (pages_of after seen.queue.port.side)
+    → HasPagesIn part.queue.port before → KeepsPort part.queue.port new.port before after
+look_wanted_keeps seen part new before after touched flags view is rest grow own_grow =
+    looked_keeps seen part new seen.queue before after touched flags view is (same_place seen.queue.port) rest grow own_grow
+    (λ had. ready_both seen.queue.port new.port before after touched flags grow own_grow had (ap (λ (queue : QueueState). queue.port) is))
 
 -- The port after each call is of the same queue, and but for a look and a copy it receives as before
 

@@ -1,5 +1,5 @@
 -- A bridge that differs in one side's flight alone, as a post and an ack leave it, and one that differs in bytes alone.
-use Rattle.std.proofs.Common.{◌≡◌, ◌∙◌, ℕ, ◌+◌, ◌≤◌, Bool, true, false, List, [], ◌∷◌, refl, ap, arith, if◌then◌else◌}
+use Rattle.std.proofs.Common.{◌≡◌, ◌∙◌, ℕ, ◌+◌, ◌≤◌, Bool, true, false, List, [], ◌∷◌, refl, sym, ap, subst, arith, if◌then◌else◌}
 use Rattle.step_kinds.specs.Sides.{other_side}
 use Rattle.step_kinds.specs.declared.names.Side.{Side}
 use Rattle.step_kinds.specs.declared.names.Side.TheVariants.{A, B}
@@ -14,11 +14,15 @@ use Rattle.bridge_pair.specs.Bridge.{Bridge, flight_of, pages_of, with_bytes, wi
 use Rattle.bridge_pair.specs.Ends.{after_posting}
 use Rattle.bridge_pair.specs.Flights.{Flying, flying_of}
 use Rattle.bridge_pair.specs.Writes.{bell_write, memory_write}
-use Rattle.frame_ring.specs.Calls.{acked_by, cleared_by, first_posted, last_got, next_begun, posted_by}
+use Rattle.frame_ring.specs.Calls.{acked_by, after_clear, cleared_by, first_posted, last_got, next_begun, posted_by}
 use Rattle.frame_ring.specs.Port.{PortState, unused_of}
 use Rattle.frame_ring.specs.Seen.{HasPagesIn, flags_cleared, index_posted, reaches, ring_posted, window_posted}
+use Rattle.frame_ring.proofs.Spare.{unused_cleared}
+use Rattle.queue_pair.specs.Queue.{QueueState, with_port}
+use Rattle.fabric_rule.specs.Parts.{QueuePart}
 use Rattle.fabric_core.specs.Parts.{KeepsPort}
-use Rattle.fabric_core.proofs.Keeping.{SamePlace, keeps_exact}
+use Rattle.fabric_core.proofs.Keeping.{SamePlace, keeps_exact, keeps_seen}
+use Rattle.fabric_core.proofs.Phases.{clear_place}
 
 -- One flight
 
@@ -80,7 +84,7 @@ no_more before after old new e = omega (arith, e)
 no_less : (n m : ℕ) → n ≡ m → m ≤ n
 no_less n m e = omega (arith, e)
 
-pub keeps_flight : (old new : PortState) (before after : Bridge) → SamePlace new old → OneFlight before old.side after
+keeps_flight : (old new : PortState) (before after : Bridge) → SamePlace new old → OneFlight before old.side after
     → (flight_of after old.side).spare + unused_of old ≡ (flight_of before old.side).spare + unused_of new → HasPagesIn new after → KeepsPort old new before after
 keeps_flight old new before after same one room ready =
     let peer : (flight_of after (other_side old.side)).spare ≡ (flight_of before (other_side old.side)).spare =
@@ -89,9 +93,18 @@ keeps_flight old new before after same one room ready =
     (no_more (flight_of before old.side).spare (flight_of after old.side).spare (unused_of old) (unused_of new) room)
     (no_less (flight_of after (other_side old.side)).spare (flight_of before (other_side old.side)).spare peer) ready
 
+-- a call of a queue that changed one flight alone, as its part is seen
+pub flight_keeps : (seen part : QueuePart) (new next : QueueState) (before after posted : Bridge) → seen ≡ part → new ≡ next → SamePlace next.port seen.queue.port
+    → after ≡ posted → OneFlight before seen.queue.port.side posted
+    → (flight_of after seen.queue.port.side).spare + unused_of seen.queue.port ≡ (flight_of before seen.queue.port.side).spare + unused_of new.port
+    → HasPagesIn new.port after → HasPagesIn part.queue.port before → KeepsPort part.queue.port new.port before after
+flight_keeps seen part new next before after posted view is place e one room ready =
+    keeps_seen seen part new next before after view is place
+    (λ same. keeps_flight seen.queue.port new.port before after same (subst (OneFlight before seen.queue.port.side) (sym e) one) room) (λ had. ready)
+
 -- Bytes alone
 
-pub record OtherBytes (before : Bridge) (side : Side) (after : Bridge) : Type 0 where
+record OtherBytes (before : Bridge) (side : Side) (after : Bridge) : Type 0 where
   pub bytes : List ℕ
   pub rest : after ≡ with_bytes before side bytes
 
@@ -99,7 +112,7 @@ same_bytes : (bridge : Bridge) (side : Side) → OtherBytes bridge side bridge
 same_bytes bridge A = record { bytes = bridge.memories.a.bytes; rest = refl }
 same_bytes bridge B = record { bytes = bridge.memories.b.bytes; rest = refl }
 
-pub clear_bytes : (port : PortState) (bridge : Bridge) → OtherBytes bridge port.side (cleared_by port bridge)
+clear_bytes : (port : PortState) (bridge : Bridge) → OtherBytes bridge port.side (cleared_by port bridge)
 clear_bytes port bridge = at_test (is_copied port.receiving.phase) where
   at_test : (copied : Bool) → OtherBytes bridge port.side (if copied then flags_cleared bridge port.side port.queue (last_got port.receiving) else bridge)
   at_test true = record { bytes = _; rest = refl }
@@ -111,7 +124,7 @@ pages_stay bridge A B bytes = refl
 pages_stay bridge B A bytes = refl
 pages_stay bridge B B bytes = refl
 
-pub keeps_bytes : (old new : PortState) (before after : Bridge) → SamePlace new old → OtherBytes before old.side after → unused_of new ≡ unused_of old → HasPagesIn new after
+keeps_bytes : (old new : PortState) (before after : Bridge) → SamePlace new old → OtherBytes before old.side after → unused_of new ≡ unused_of old → HasPagesIn new after
     → KeepsPort old new before after
 keeps_bytes old new before after same other room ready =
     let flights = λ (any : Side). ap (λ (bridge : Bridge). (flight_of bridge any).spare) other.rest in
@@ -121,3 +134,12 @@ keeps_bytes old new before after same other room ready =
     (no_less (flight_of after (other_side old.side)).spare (flight_of before (other_side old.side)).spare (flights (other_side old.side))) ready where
       same_room : (spare after unused unused_after : ℕ) → after ≡ spare → unused_after ≡ unused → spare + unused_after ≤ after + unused
       same_room spare after unused unused_after e f = omega (arith, e, f)
+
+-- a clear, which uses no promise, as the part of its queue is seen
+pub clear_keeps : (seen part : QueuePart) (new : QueueState) (before after : Bridge) → seen ≡ part → new ≡ with_port seen.queue (after_clear seen.queue.port)
+    → after ≡ cleared_by seen.queue.port before → HasPagesIn new.port after → HasPagesIn part.queue.port before → KeepsPort part.queue.port new.port before after
+clear_keeps seen part new before after view is e ready =
+    let old = seen.queue.port in
+    keeps_seen seen part new (with_port seen.queue (after_clear old)) before after view is (clear_place old)
+    (λ same. keeps_bytes old new.port before after same (subst (OtherBytes before old.side) (sym e) (clear_bytes old before))
+    (ap (λ (queue : QueueState). unused_of queue.port) is ∙ unused_cleared old)) (λ had. ready)

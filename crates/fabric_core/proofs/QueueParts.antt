@@ -1,14 +1,16 @@
 -- A queue's part of a pair, put together.
-use Rattle.std.proofs.Common.{◌≡◌, ℕ, ◌+◌, ◌≤◌, List, refl, arith}
+use Rattle.std.proofs.Common.{◌≡◌, ◌∙◌, ℕ, ◌+◌, ◌≤◌, true, List, refl, sym, ap, arith}
 use Rattle.step_kinds.specs.Sides.{other_side}
 use Rattle.step_kinds.specs.declared.lanes.LaneCopy.{LaneCopy}
 use Rattle.step_kinds.specs.declared.lanes.LaneCopy.TheVariants.{Whole}
 use Rattle.step_kinds.specs.declared.plan.Counters.{Counters}
+use Rattle.lane_model.specs.Tests.{is_copying}
 use Rattle.plan_model.specs.Device.{Flow}
 use Rattle.bridge_pair.specs.Bridge.{Bridge, flight_of}
 use Rattle.frame_ring.specs.Calls.{after_copy}
 use Rattle.frame_ring.specs.Port.{PortState, unused_of}
 use Rattle.frame_ring.specs.Seen.{HasPagesIn}
+use Rattle.frame_ring.proofs.Spare.{unused_copied}
 use Rattle.queue_pair.specs.Queue.{QueueState}
 use Rattle.queue_pair.specs.declared.BeginAnswer.{BeginAnswer}
 use Rattle.queue_pair.specs.declared.BeginAnswer.TheVariants.{Ok as IsBegun}
@@ -16,8 +18,10 @@ use Rattle.fabric_rule.specs.Answers.{of_begin}
 use Rattle.fabric_rule.specs.Moves.{accepted_where_begun, delivered_where_whole}
 use Rattle.fabric_rule.specs.Parts.{QueuePart, SessionCount}
 use Rattle.fabric_core.specs.Parts.{KeepsPort}
+use Rattle.fabric_core.specs.QueueBoxes.{IsQueueBox}
+use Rattle.fabric_core.specs.declared.queues.QueueBox.TheInside.{Inside}
 use Rattle.fabric_core.proofs.Keeping.{keeps_exact}
-use Rattle.fabric_core.proofs.Phases.{copy_place, copy_unused}
+use Rattle.fabric_core.proofs.Phases.{copy_place}
 
 abbrev pub part_with : QueueState → Flow → Counters → List SessionCount → List SessionCount → QueuePart
 part_with queue flow counters accepted delivered = record { queue = queue; flow = flow; counters = counters; accepted = accepted; delivered = delivered }
@@ -26,6 +30,13 @@ pub same_part : (queue queue' : QueueState) (flow flow' : Flow) (counters counte
     → queue ≡ queue' → flow ≡ flow' → counters ≡ counters' → accepted ≡ accepted' → delivered ≡ delivered'
     → part_with queue flow counters accepted delivered ≡ part_with queue' flow' counters' accepted' delivered'
 same_part queue queue' flow flow' counters counters' accepted accepted' delivered delivered' q f c a d = λ i. part_with (q i) (f i) (c i) (a i) (d i)
+
+-- a queue box whose queue copies only where it did before has the room that it needs
+pub box_kept : (kept : Inside) (new next : QueueState) → IsQueueBox kept → new ≡ next → (is_copying next.port.receiving.phase ≡ true → is_copying kept.queue.port.receiving.phase ≡ true)
+    → IsQueueBox (record kept { queue = new })
+box_kept kept new next law is goes_on =
+    let same = ap (λ (queue : QueueState). is_copying queue.port.receiving.phase) is in
+    record { room = λ later. law.room (goes_on (sym same ∙ later)); numbers = λ later. law.numbers (goes_on (sym same ∙ later)) }
 
 pub not_whole : (copy : LaneCopy) (session : ℕ) (part : QueuePart) → ((number : ℕ) (frame : List ℕ) → copy ≡ Whole number frame → ⊥)
     → delivered_where_whole copy session part ≡ part
@@ -39,7 +50,7 @@ same_room spare unused unused_after e = omega (arith, e)
 pub keeps_copy : (port : PortState) (bridge : Bridge) → HasPagesIn (after_copy port bridge) bridge → KeepsPort port (after_copy port bridge) bridge bridge
 keeps_copy port bridge ready =
     keeps_exact port (after_copy port bridge) bridge bridge (copy_place port bridge) refl (λ any. refl)
-    (same_room (flight_of bridge port.side).spare (unused_of port) (unused_of (after_copy port bridge)) (copy_unused port bridge))
+    (same_room (flight_of bridge port.side).spare (unused_of port) (unused_of (after_copy port bridge)) (unused_copied port bridge))
     (at_most (flight_of bridge (other_side port.side)).spare) ready where
       at_most : (n : ℕ) → n ≤ n
       at_most n = omega arith

@@ -1,5 +1,6 @@
 -- A pair stays whole through a step on its bridge, or on one of its queues.
 use Rattle.std.proofs.Common.{◌≡◌, ℕ, ◌<◌, List, Result, Ok, Err, OnErr, OnOk, length, get_or, set, ap, subst, sym}
+use Rattle.step_kinds.specs.Sides.{other_side}
 use Rattle.step_kinds.specs.declared.names.Side.{Side}
 use Rattle.step_kinds.specs.declared.names.Side.TheVariants.{A, B}
 use Rattle.step_kinds.specs.declared.steps.Answer.{Answer}
@@ -31,25 +32,25 @@ stepped_after state new step (Err e) after = tt
 
 -- On a queue
 
-within_side : (bridge : Bridge) (side : Side) (parts : List QueuePart) (queue : ℕ) → SideIsWhole bridge side parts → queue < (side_plan bridge.plan side).queues → queue < length parts
-within_side bridge side parts queue whole below = subst (λ n. queue < n) (sym whole.all_queues) below
+-- a pair of a side's queues and its peer's
+abbrev pub sides_of : Bridge → Side → List QueuePart → List QueuePart → PairState
+sides_of bridge A own peer = state_of bridge own peer
+sides_of bridge B own peer = state_of bridge peer own
 
-pub called_a : (old new : Bridge) (a b parts : List QueuePart) (queue : ℕ) → IsWhole (state_of old a b) → queue < (side_plan old.plan A).queues
-    → parts ≡ set a queue (get_or parts queue no_queue) → KeepsPort (get_or a queue no_queue).queue.port (get_or parts queue no_queue).queue.port old new
-    → IsWhole (state_of new parts b)
-called_a old new a b parts queue whole below is keeps =
-    let whole_a = side_whole (state_of old a b) A whole in
-    let whole_b = side_whole (state_of old a b) B whole in
-    let part = get_or parts queue no_queue in
-    let within = within_side old A a queue whole_a below in
-    both_whole new parts b (subst (λ parts. SideIsWhole new A parts) (sym is) (side_turned old new A a queue part within keeps whole_a)) (peer_kept old new A a b queue part within keeps whole_a whole_b)
+each_side_whole : (bridge : Bridge) (side : Side) (own peer : List QueuePart) → IsWhole (sides_of bridge side own peer) → SideIsWhole bridge side own × SideIsWhole bridge (other_side side) peer
+each_side_whole bridge A own peer whole = (side_whole (state_of bridge own peer) A whole, side_whole (state_of bridge own peer) B whole)
+each_side_whole bridge B own peer whole = (side_whole (state_of bridge peer own) B whole, side_whole (state_of bridge peer own) A whole)
 
-pub called_b : (old new : Bridge) (a b parts : List QueuePart) (queue : ℕ) → IsWhole (state_of old a b) → queue < (side_plan old.plan B).queues
-    → parts ≡ set b queue (get_or parts queue no_queue) → KeepsPort (get_or b queue no_queue).queue.port (get_or parts queue no_queue).queue.port old new
-    → IsWhole (state_of new a parts)
-called_b old new a b parts queue whole below is keeps =
-    let whole_a = side_whole (state_of old a b) A whole in
-    let whole_b = side_whole (state_of old a b) B whole in
+whole_of_sides : (bridge : Bridge) (side : Side) (own peer : List QueuePart) → SideIsWhole bridge side own → SideIsWhole bridge (other_side side) peer → IsWhole (sides_of bridge side own peer)
+whole_of_sides bridge A own peer whole peer_whole = both_whole bridge own peer whole peer_whole
+whole_of_sides bridge B own peer whole peer_whole = both_whole bridge peer own peer_whole whole
+
+pub called : (old new : Bridge) (side : Side) (own peer parts : List QueuePart) (queue : ℕ) → IsWhole (sides_of old side own peer) → queue < (side_plan old.plan side).queues
+    → parts ≡ set own queue (get_or parts queue no_queue) → KeepsPort (get_or own queue no_queue).queue.port (get_or parts queue no_queue).queue.port old new
+    → IsWhole (sides_of new side parts peer)
+called old new side own peer parts queue whole below is keeps =
+    let each = each_side_whole old side own peer whole in
     let part = get_or parts queue no_queue in
-    let within = within_side old B b queue whole_b below in
-    both_whole new a parts (peer_kept old new B b a queue part within keeps whole_b whole_a) (subst (λ parts. SideIsWhole new B parts) (sym is) (side_turned old new B b queue part within keeps whole_b))
+    let within : queue < length own = subst (λ n. queue < n) (sym each.0.all_queues) below in
+    whole_of_sides new side parts peer (subst (λ parts. SideIsWhole new side parts) (sym is) (side_turned old new side own queue part within keeps each.0))
+    (peer_kept old new side own peer queue part within keeps each.0 each.1)

@@ -1,5 +1,5 @@
 -- A step on a pair is a turn of the part that it touches, and a step on the bridge keeps all that was promised.
-use Rattle.std.proofs.Common.{◌≡◌, ◌∙◌, ℕ, ◌≤◌, Bool, true, false, Contains, List, length, refl, sym, ap, subst, arith, if◌then◌else◌}
+use Rattle.std.proofs.Common.{◌≡◌, ◌∙◌, ℕ, ◌≤◌, Bool, true, false, Contains, IfOk, List, OnOk, Result, length, refl, sym, ap, subst, arith, if◌then◌else◌}
 use Rattle.step_kinds.specs.Bits.{with_bit}
 use Rattle.step_kinds.specs.declared.names.Side.{Side}
 use Rattle.step_kinds.specs.declared.names.Side.TheVariants.{A, B}
@@ -30,7 +30,7 @@ use Rattle.hand_shake.specs.declared.OfferAnswer.TheVariants.{Offered}
 use Rattle.hand_shake.specs.declared.ReadyAnswer.{ReadyAnswer}
 use Rattle.hand_shake.specs.declared.ReadyAnswer.TheVariants.{Ok as IsReady}
 use Rattle.fabric_rule.specs.Moves.{Move, bridge_move, clean_move, posted_aside, xbegun}
-use Rattle.fabric_rule.specs.Parts.{PairState, QueuePart, plain_bridge, queue_of}
+use Rattle.fabric_rule.specs.Parts.{PairState, QueuePart, plain_bridge, plain_pair, queue_of}
 use Rattle.fabric_rule.specs.Steps.{move_of}
 use Rattle.fabric_core.specs.Promised.{HasMorePages, KeepsPromised}
 use Rattle.fabric_core.specs.Turns.{bare_pair, bridge_turn, place_of, queue_turn, turned}
@@ -59,10 +59,20 @@ xbegin_made : (pair : PairState) (dev : DevPlan) (side : Side) (queue : ℕ) (fr
 unfolding with_part
 xbegin_made pair dev side queue frame answer = ap (with_part pair side queue answer) (xbegun_bare answer pair (queue_of pair side queue) frame)
 
-pub made_at : (devs : List DevPlan) (pair : PairState) (step : Step) → IsMadeAt devs pair step (place_of step)
+made_at : (devs : List DevPlan) (pair : PairState) (step : Step) → IsMadeAt devs pair step (place_of step)
 made_at devs pair (Xbegin p side queue dev dst kind payload) = xbegin_made pair (dev_plan devs dev) side queue (ethernet_frame dst (dev_plan devs dev).address kind payload) _
 made_at devs pair (Begin p side queue frame) = refl
 made_at devs pair step = refl
+
+pub made_there : (devs : List DevPlan) (pair : PairState) (step : Step) (place : StepPlace) → place ≡ place_of step → IsMadeAt devs pair step place
+made_there devs pair step place is = subst (IsMadeAt devs pair step) (sym is) (made_at devs pair step)
+
+-- what a move answers and what it leaves, if it is another that was made
+pub answered : {E : Type 0} (result : Result Answer E) (move made : Move) → move ≡ made → IfOk result (λ answer. answer ≡ made.answer) → IfOk result (λ answer. answer ≡ move.answer)
+answered result move made is answer = subst (λ (move : Move). IfOk result (λ answer. answer ≡ move.answer)) (sym is) answer
+
+pub left : {E : Type 0} (result : Result Answer E) (new : PairState) (move made : Move) → move ≡ made → OnOk result (plain_pair new ≡ plain_pair made.after) → OnOk result (plain_pair new ≡ plain_pair move.after)
+left result new move made is after = subst (λ (move : Move). OnOk result (plain_pair new ≡ plain_pair move.after)) (sym is) after
 
 -- What a step on the bridge keeps
 

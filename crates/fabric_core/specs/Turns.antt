@@ -12,6 +12,7 @@ use Rattle.plan_model.specs.Ethernet.{ethernet_frame}
 use Rattle.plan_model.specs.Plans.{dev_plan}
 use Rattle.bridge_pair.specs.Bridge.{Bridge}
 use Rattle.frame_ring.specs.Calls.{post_answer, after_post, posted_by, copy_answer, after_copy, clear_answer, after_clear, cleared_by, ack_answer, after_ack, acked_by, free_answer}
+use Rattle.frame_ring.specs.Port.{PortState}
 use Rattle.queue_pair.specs.Gates.{begin_answer, after_begin, qpdown_answer, after_qpdown, look_answer, after_look}
 use Rattle.queue_pair.specs.Queue.{with_port}
 use Rattle.fabric_rule.specs.Answers.{of_begin, of_xbegin, of_post, of_look, of_copy, of_clear, of_ack}
@@ -107,13 +108,12 @@ counted_begun (OkNumber number) part free len =
     record part { flow = record part.flow { stopped = stopped_after_send part.flow free }; counters = count_accepted part.counters len }
 counted_begun answer part free len = record part { counters = count_refused part.counters }
 
+-- what a call of the queue's port comes to
+abbrev pub port_turn : QueuePart → Answer → PortState → Bridge → QueueTurn
+port_turn part answer port bridge = record { answer = answer; part = record part { queue = with_port part.queue port }; bridge = bridge }
+
 abbrev pub post_turn : QueuePart → Bridge → QueueTurn
-post_turn part bridge =
-    record {
-      answer = of_post (post_answer part.queue.port);
-      part = record part { queue = with_port part.queue (after_post part.queue.port) };
-      bridge = posted_by part.queue.port bridge;
-    }
+post_turn part bridge = port_turn part (of_post (post_answer part.queue.port)) (after_post part.queue.port) (posted_by part.queue.port bridge)
 
 abbrev pub look_turn : QueuePart → Bridge → QueueTurn
 look_turn part bridge =
@@ -129,20 +129,10 @@ copy_turn part bridge =
     }
 
 abbrev pub clear_turn : QueuePart → Bridge → QueueTurn
-clear_turn part bridge =
-    record {
-      answer = of_clear (clear_answer part.queue.port);
-      part = record part { queue = with_port part.queue (after_clear part.queue.port) };
-      bridge = cleared_by part.queue.port bridge;
-    }
+clear_turn part bridge = port_turn part (of_clear (clear_answer part.queue.port)) (after_clear part.queue.port) (cleared_by part.queue.port bridge)
 
 abbrev pub ack_turn : QueuePart → Bridge → QueueTurn
-ack_turn part bridge =
-    record {
-      answer = of_ack (ack_answer part.queue.port);
-      part = record part { queue = with_port part.queue (after_ack part.queue.port) };
-      bridge = acked_by part.queue.port bridge;
-    }
+ack_turn part bridge = port_turn part (of_ack (ack_answer part.queue.port)) (after_ack part.queue.port) (acked_by part.queue.port bridge)
 
 abbrev pub wake_turn : QueuePart → Bridge → QueueTurn
 wake_turn part bridge =

@@ -138,11 +138,6 @@ fn copy_of(dev: &DevPlan) -> DevPlan
 {
     DevPlan {
         name: Name::of_bytes(dev.name.bytes()),
-        pair: dev.pair,
-        side: dev.side,
-        queue: dev.queue,
-        address: dev.address,
-        stop: dev.stop,
-        start: dev.start,
+        ..*dev
     }
 }

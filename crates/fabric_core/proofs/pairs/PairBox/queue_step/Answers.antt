@@ -4,7 +4,7 @@ use Rattle.step_kinds.specs.declared.names.Side.{Side}
 use Rattle.step_kinds.specs.declared.names.Side.TheVariants.{A, B}
 use Rattle.fabric_rule.specs.Parts.{PairState, queue_of}
 use Rattle.fabric_core.specs.Turns.{queue_turn}
-use Rattle.fabric_core.proofs.SteppedPairs.{called_a, called_b}
+use Rattle.fabric_core.proofs.SteppedPairs.{called}
 use Rattle.fabric_core.proofs.pairs.PairBox.queue_step.Goals as goal
 
 pub invariant_of-self : goal.invariant_of-self
@@ -12,7 +12,7 @@ invariant_of-self c =
     let below =
     subst (λ (state : PairState). c.args.queue < (side_plan state.bridge.plan A).queues) (sym c.self.view_is)
     (subst (λ (side : Side). c.args.queue < (side_plan c.args.self.now.bridge.plan side).queues) c.in-A.is c.requires.among) in
-    called_a c.self.inside.pair c.make_at.new.pair c.self.inside.queues_a.items c.self.inside.queues_b.items c.make_at.new.queues.items c.args.queue c.self.invariant below c.make_at.ensures.queues
+    called c.self.inside.pair c.make_at.new.pair A c.self.inside.queues_a.items c.self.inside.queues_b.items c.make_at.new.queues.items c.args.queue c.self.invariant below c.make_at.ensures.queues
     c.make_at.ensures.keeps
 
 pub invariant_of-self-in-B : goal.invariant_of-self-in-B
@@ -20,7 +20,7 @@ invariant_of-self-in-B c =
     let below =
     subst (λ (state : PairState). c.args.queue < (side_plan state.bridge.plan B).queues) (sym c.self.view_is)
     (subst (λ (side : Side). c.args.queue < (side_plan c.args.self.now.bridge.plan side).queues) c.in-B.is c.requires.among) in
-    called_b c.self.inside.pair c.make_at-in-B.new.pair c.self.inside.queues_a.items c.self.inside.queues_b.items c.make_at-in-B.new.queues.items c.args.queue c.self.invariant below
+    called c.self.inside.pair c.make_at-in-B.new.pair B c.self.inside.queues_b.items c.self.inside.queues_a.items c.make_at-in-B.new.queues.items c.args.queue c.self.invariant below
     c.make_at-in-B.ensures.queues c.make_at-in-B.ensures.keeps
 
 pub returns-in-A-clause-answer : goal.returns-in-A-clause-answer

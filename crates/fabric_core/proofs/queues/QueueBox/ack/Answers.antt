@@ -1,25 +1,12 @@
-use Rattle.std.proofs.Common.{◌∙◌, ap, subst, sym}
-use Rattle.lane_model.specs.Tests.{is_copying}
-use Rattle.queue_pair.specs.Queue.{QueueState}
-use Rattle.fabric_core.specs.Parts.{KeepsPort}
-use Rattle.fabric_rule.specs.Parts.{QueuePart}
-use Rattle.fabric_core.proofs.Keeping.{SamePlace}
-use Rattle.fabric_core.proofs.OneFlight.{OneFlight, ack_flight, keeps_flight}
+use Rattle.fabric_core.proofs.OneFlight.{ack_flight, flight_keeps}
 use Rattle.fabric_core.proofs.Phases.{ack_goes_on, ack_place}
+use Rattle.fabric_core.proofs.QueueParts.{box_kept}
 use Rattle.fabric_core.proofs.queues.QueueBox.ack.Goals as goal
 
 pub invariant_of-self : goal.invariant_of-self
-invariant_of-self c =
-    let same = ap (λ (queue : QueueState). is_copying queue.port.receiving.phase) c.ack.ensures.after in
-    record {
-      room = λ later. c.self.invariant.room (ack_goes_on c.self.inside.queue.port (sym same ∙ later));
-      numbers = λ later. c.self.invariant.numbers (ack_goes_on c.self.inside.queue.port (sym same ∙ later));
-    }
+invariant_of-self c = box_kept c.self.inside c.ack.new.self _ c.self.invariant c.ack.ensures.after (ack_goes_on c.self.inside.queue.port)
 
 pub returns-clause-keeps : goal.returns-clause-keeps
 returns-clause-keeps c =
-    let old = c.self.inside.queue.port in
-    let same : SamePlace c.ack.new.self.port old = subst (λ (queue : QueueState). SamePlace queue.port old) (sym c.ack.ensures.after) (ack_place old) in
-    subst (λ (part : QueuePart). KeepsPort part.queue.port c.ack.new.self.port c.args.pair.now c.ack.new.pair) c.self.view_is
-    (keeps_flight old c.ack.new.self.port c.args.pair.now c.ack.new.pair same
-    (subst (OneFlight c.args.pair.now old.side) (sym c.ack.ensures.pair) (ack_flight old c.args.pair.now)) c.ack.ensures.spare c.ack.ensures.ready)
+    flight_keeps _ _ c.ack.new.self _ c.args.pair.now c.ack.new.pair _ c.self.view_is c.ack.ensures.after (ack_place c.self.inside.queue.port) c.ack.ensures.pair
+    (ack_flight c.self.inside.queue.port c.args.pair.now) c.ack.ensures.spare c.ack.ensures.ready c.requires.pages

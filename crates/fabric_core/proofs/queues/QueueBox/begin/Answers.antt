@@ -2,7 +2,6 @@ use Rattle.std.proofs.Common.{◌≡◌, ◌∙◌, ap, refl, subst, sym}
 use Rattle.lane_model.specs.Tests.{is_copying}
 use Rattle.plan_model.specs.Link.{Link}
 use Rattle.bridge_pair.specs.Bridge.{Bridge}
-use Rattle.frame_ring.specs.Calls.{TouchedByBegin}
 use Rattle.frame_ring.specs.Port.{Receiving}
 use Rattle.queue_pair.specs.Gates.{after_begin}
 use Rattle.queue_pair.specs.Queue.{QueueState}
@@ -13,22 +12,14 @@ use Rattle.fabric_rule.specs.Parts.{QueuePart, one_more}
 use Rattle.fabric_core.specs.Parts.{KeepsPort}
 use Rattle.fabric_core.specs.Sessions.{Tallied}
 use Rattle.fabric_core.specs.Turns.{begin_turn}
-use Rattle.fabric_core.proofs.Keeping.{begin_place, begin_receives, keeps_grown, keeps_seen, plain_grown, ready_after, same_place}
+use Rattle.fabric_core.proofs.Keeping.{begin_place, begin_receives, begun_keeps, plain_grown, wanted_keeps}
 use Rattle.fabric_core.proofs.QueueParts.{not_begun, part_with, same_part}
 use Rattle.fabric_core.proofs.queues.QueueBox.begin.Goals as goal
 use Rattle.fabric_core.proofs.queues.QueueBox.begin.Goals.{in-Ok, in_default}
 
 pub returns-in_err-begun-clause-keeps : goal.returns-in_err-begun-clause-keeps
 returns-in_err-begun-clause-keeps c =
-    let old = c.self.inside.queue.port in
-    let new = c.begin.new.self.port in
-    let bridge = c.args.pair.now in
-    let after = c.begin.new.pair in
-    let touched = TouchedByBegin old bridge c.args.frame in
-    let err = c.in_err-begun.ensures.err in
-    keeps_seen _ _ c.begin.new.self c.self.inside.queue bridge after c.self.view_is err (same_place old)
-    (λ same. keeps_grown old new bridge after touched same c.begin.ensures.rest c.begin.ensures.pages)
-    (λ had. ready_after old new bridge after touched c.begin.ensures.rest c.begin.ensures.pages had (ap (λ (queue : QueueState). queue.port) err)) c.requires.pages
+    wanted_keeps _ _ c.begin.new.self c.args.pair.now c.begin.new.pair _ c.self.view_is c.in_err-begun.ensures.err c.begin.ensures.rest c.begin.ensures.pages c.requires.pages
 
 pub returns-in_err-begun-clause-plain : goal.returns-in_err-begun-clause-plain
 returns-in_err-begun-clause-plain c = plain_grown c.self.inside.queue.port c.begin.new.self.port c.args.pair.now c.begin.new.pair c.begin.ensures.rest
@@ -77,14 +68,11 @@ returns-clause-plain c = plain_grown c.self.inside.queue.port c.begin.new.self.p
 
 pub returns-clause-keeps : goal.returns-clause-keeps
 returns-clause-keeps c =
-    let queue = c.self.inside.queue in
     let bridge = c.args.pair.now in
-    let after = c.begin.new.pair in
     let left : c.match-begun.self.queue ≡ c.begin.new.self = elim c.match-begun.branch [
       | in-Ok w ↦ ap (λ (part : QueuePart). part.queue) w.self-is
       | in_default w ↦ ap (λ (part : QueuePart). part.queue) w.self-is
     ] in
-    subst (λ (queue : QueueState). KeepsPort c.args.self.now.queue.port queue.port bridge after) (sym left)
-    (keeps_seen _ _ c.begin.new.self (after_begin queue bridge c.args.frame) bridge after c.self.view_is c.in_ok-begun.ensures.after (begin_place queue bridge c.args.frame)
-    (λ same. keeps_grown queue.port c.begin.new.self.port bridge after (TouchedByBegin queue.port bridge c.args.frame) same c.begin.ensures.rest c.begin.ensures.pages)
-    c.in_ok-begun.ensures.ready c.requires.pages)
+    subst (λ (queue : QueueState). KeepsPort c.args.self.now.queue.port queue.port bridge c.begin.new.pair) (sym left)
+    (begun_keeps _ _ c.begin.new.self _ bridge c.begin.new.pair _ c.self.view_is c.in_ok-begun.ensures.after (begin_place c.self.inside.queue bridge c.args.frame) c.begin.ensures.rest
+    c.begin.ensures.pages c.in_ok-begun.ensures.ready c.requires.pages)

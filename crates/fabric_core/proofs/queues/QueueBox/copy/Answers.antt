@@ -11,7 +11,7 @@ use Rattle.fabric_rule.specs.Parts.{QueuePart, one_more}
 use Rattle.fabric_core.specs.Parts.{KeepsPort}
 use Rattle.fabric_core.specs.Turns.{copy_turn}
 use Rattle.fabric_core.proofs.Phases.{copy_goes_on, whole_copied, whole_copying}
-use Rattle.fabric_core.proofs.QueueParts.{keeps_copy, not_whole, part_with, same_part}
+use Rattle.fabric_core.proofs.QueueParts.{box_kept, keeps_copy, not_whole, part_with, same_part}
 use Rattle.fabric_core.proofs.queues.QueueBox.copy.Goals as goal
 use Rattle.fabric_core.proofs.queues.QueueBox.copy.Goals.{in-Whole, in_default}
 
@@ -31,12 +31,7 @@ invariant_of-self c =
     record { room = λ later. absurd (cc (done, later)); numbers = λ later. absurd (cc (done, later)) }
 
 pub invariant_of-self-in_default : goal.invariant_of-self-in_default
-invariant_of-self-in_default c =
-    let same = ap (λ (queue : QueueState). is_copying queue.port.receiving.phase) c.copy-copy.ensures.after in
-    record {
-      room = λ later. c.self.invariant.room (copy_goes_on c.self.inside.queue.port c.args.pair.now (sym same ∙ later));
-      numbers = λ later. c.self.invariant.numbers (copy_goes_on c.self.inside.queue.port c.args.pair.now (sym same ∙ later));
-    }
+invariant_of-self-in_default c = box_kept c.self.inside c.copy-copy.new.self _ c.self.invariant c.copy-copy.ensures.after (copy_goes_on c.self.inside.queue.port c.args.pair.now)
 
 pub returns-clause-after : goal.returns-clause-after
 returns-clause-after c =
