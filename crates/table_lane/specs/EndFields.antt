@@ -2,6 +2,8 @@
 use Rattle.std.specs.Prelude.{◌≡◌, ◌≤◌, ◌+◌, ◌%◌, ◌^◌, ℕ, suc, false, List, [], ◌∷◌, length, Some}
 use Rattle.std.specs.VecDeque.{deque_capacity}
 use Rattle.std.specs.Arc.{arc_value}
+use Rattle.atomic_table.specs.Seated.{TableId}
+use Rattle.table_rule.specs.declared.parts.LaneView.{LaneView}
 use Rattle.table_rule.specs.Views.{the_send, the_move, the_recv, the_back, the_cut}
 use Rattle.table_lane.specs.Table.{IsTableOf}
 use Rattle.table_lane.specs.Ends.{Sender, send_only, Mover, move_only, Receiver, recv_only, WayBack, back_only, Cutter, cut_only}
@@ -14,16 +16,21 @@ use Rattle.table_lane.specs.declared.back.BackEnd.TheInside as back
 use Rattle.table_lane.specs.declared.back.CutEnd.TheInside as cut
 use Rattle.table_rule.specs.LaneNames.{Idle}
 
+-- an end stands at the table of its lane, its seat has one part alone and no slot, and the part knows how many entries
+-- there are
+pub record HasAlone (view : LaneView) (known N : ℕ) (at of : TableId) (key : ℕ) (sitter : Sitter) : Type 0 where
+  pub stands : at ≡ of
+  pub table : IsTableOf N of key
+  pub me : sitter ≡ (view, [])
+  pub entries : known ≡ N
+
 abbrev pub sender_of : send.Inside → Sender
 sender_of end = record { lane = end.seat.table_id; part = the_send end.seat.me.0 }
 
--- the seat stands at the table and has the sender's part alone and no slot
+-- the seat has the sender's part alone and no slot
 pub record IsSendEnd (end : send.Inside) : Type 0 where
-  pub stands : end.seat.table_id ≡ (arc_value end.table).shared.table_id
-  pub table : IsTableOf end.entries (arc_value end.table).shared.table_id (arc_value end.table).shared.key
-  pub me : end.seat.me ≡ (send_only (the_send end.seat.me.0), [])
+  pub alone : HasAlone (send_only (the_send end.seat.me.0)) (the_send end.seat.me.0).entries end.entries end.seat.table_id (arc_value end.table).shared.table_id (arc_value end.table).shared.key end.seat.me
   pub claims : (the_send end.seat.me.0).claims ≡ false
-  pub entries : (the_send end.seat.me.0).entries ≡ end.entries
   pub sent : length (the_send end.seat.me.0).sent ≡ end.sent
   pub counted : end.sent ≤ 2 ^ 62
 
@@ -59,12 +66,9 @@ receiver_of end = record { lane = end.seat.table_id; part = the_recv end.seat.me
 
 -- the seat has the receiver's part alone and no slot, and looks at no frame
 pub record IsRecvEnd (end : recv.Inside) : Type 0 where
-  pub stands : end.seat.table_id ≡ (arc_value end.table).shared.table_id
-  pub table : IsTableOf end.entries (arc_value end.table).shared.table_id (arc_value end.table).shared.key
-  pub me : end.seat.me ≡ (recv_only (the_recv end.seat.me.0), [])
+  pub alone : HasAlone (recv_only (the_recv end.seat.me.0)) (the_recv end.seat.me.0).entries end.entries end.seat.table_id (arc_value end.table).shared.table_id (arc_value end.table).shared.key end.seat.me
   pub phase : (the_recv end.seat.me.0).phase ≡ Idle
   pub hand : (the_recv end.seat.me.0).hand ≡ []
-  pub entries : (the_recv end.seat.me.0).entries ≡ end.entries
   pub got : length (the_recv end.seat.me.0).got ≡ end.got
   pub counted : end.got ≤ 2 ^ 62
   pub nothing_left : end.left.frames ≡ []
@@ -74,17 +78,11 @@ abbrev pub way_back_of : back.Inside → WayBack
 way_back_of end = record { lane = end.seat.table_id; part = the_back end.seat.me.0 }
 
 pub record IsBackEnd (end : back.Inside) : Type 0 where
-  pub stands : end.seat.table_id ≡ (arc_value end.table).shared.table_id
-  pub table : IsTableOf end.entries (arc_value end.table).shared.table_id (arc_value end.table).shared.key
-  pub me : end.seat.me ≡ (back_only (the_back end.seat.me.0), [])
-  pub entries : (the_back end.seat.me.0).entries ≡ end.entries
+  pub alone : HasAlone (back_only (the_back end.seat.me.0)) (the_back end.seat.me.0).entries end.entries end.seat.table_id (arc_value end.table).shared.table_id (arc_value end.table).shared.key end.seat.me
   pub freed : (the_back end.seat.me.0).freed ≡ end.freed
 
 abbrev pub cutter_of : cut.Inside → Cutter
 cutter_of end = record { lane = end.seat.table_id; part = the_cut end.seat.me.0 }
 
 pub record IsCutEnd (end : cut.Inside) : Type 0 where
-  pub stands : end.seat.table_id ≡ (arc_value end.table).shared.table_id
-  pub table : IsTableOf end.entries (arc_value end.table).shared.table_id (arc_value end.table).shared.key
-  pub me : end.seat.me ≡ (cut_only (the_cut end.seat.me.0), [])
-  pub entries : (the_cut end.seat.me.0).entries ≡ end.entries
+  pub alone : HasAlone (cut_only (the_cut end.seat.me.0)) (the_cut end.seat.me.0).entries end.entries end.seat.table_id (arc_value end.table).shared.table_id (arc_value end.table).shared.key end.seat.me
