@@ -1,45 +1,46 @@
 ghost use Rattle.std.specs.Prelude.{◌≡◌, ◌+◌, ◌≤◌, IfSome, length};
 ghost use Rattle.bridge_pair.specs.Bridge.{bytes_of};
 ghost use Rattle.plan_model.specs.DeclaredPlans.{IsPair, IsSide};
-ghost use Rattle.step_kinds.specs.Limits.{IsQueues, IsWindows};
 
 use super::*;
 use bridge_pair::{Pair, Write, own_address, side_plan};
+use call_tables::{assert_answers, follow};
 use std::alloc::{AllocError, Global};
 use std::process::Abort;
 use std::test::Fail;
 use step_kinds::{Name, PairPlan, Side, SidePlan};
 
-// A side whose windows have 4,096 bytes.
-fn side_with(version: u32, queues: u32, windows: u32) -> SidePlan
-    requires known { 3 ≤ version }
-    requires last { version ≤ 5 }
-    requires queues { IsQueues queues }
-    requires windows { IsWindows windows }
-    ensures side { IsSide result }
-    ensures version { result.version ≡ version }
-    ensures size { result.size ≡ 4096 }
-    ensures cap { result.cap ≡ 4096 }
-{
-    SidePlan {
-        version,
-        queues,
-        windows,
-        size: 4096,
-        cap: 4096,
-    }
-}
+// A side with one queue and one window of 4,096 bytes.
+const ONE_QUEUE: SidePlan = SidePlan {
+    version: 4,
+    queues: 1,
+    windows: 1,
+    size: 4096,
+    cap: 4096,
+};
 
-// A pair that starts down, whose side A has version 4, so many queues and one window.
-fn plan_with(queues: u32, b: SidePlan) -> PairPlan
-    requires queues { IsQueues queues }
+const LATER_VERSION: SidePlan = SidePlan {
+    version: 5,
+    ..ONE_QUEUE
+};
+
+const TWO_QUEUES: SidePlan = SidePlan {
+    queues: 2,
+    ..ONE_QUEUE
+};
+
+// A pair that starts down, whose side A has version 4, one window, and as many queues as this side B.
+fn plan_with(b: SidePlan) -> PairPlan
     requires side { IsSide b }
     requires size { b.size ≡ 4096 }
     ensures { IsPair result }
 {
     PairPlan {
         name: Name::of_bytes(&[112]),
-        a: side_with(4, queues, 1),
+        a: SidePlan {
+            queues: b.queues,
+            ..ONE_QUEUE
+        },
         b,
         mtu: 1023,
         up: false,
@@ -156,119 +157,105 @@ fn make(alloc: Global, pair: &mut Pair, call: &Call) -> Result<String, AllocErro
 }
 
 // Makes these calls one after another on a new pair with this side B, each of which is to answer what stands beside it.
-fn follow(
-    rt: &impl Abort,
-    alloc: Global,
-    queues: u32,
-    b: SidePlan,
-    calls: &[(Call, &str)],
-) -> Result<(), Fail>
-    requires queues { IsQueues queues }
+fn follow(rt: &impl Abort, alloc: Global, b: SidePlan, calls: &[(Call, &str)]) -> Result<(), Fail>
     requires side { IsSide b }
     requires size { b.size ≡ 4096 }
 {
-    let mut pair = Pair::new(alloc, &plan_with(queues, b))?;
-    for (call, want) in calls {
-        let answer = make(alloc, &mut pair, call)?;
-        assert_eq!(rt; answer.as_str(), *want);
-    }
+    let mut pair = Pair::new(alloc, &plan_with(b))?;
+    assert_answers!(rt; calls, call => make(alloc, &mut pair, call)?);
     Ok(())
 }
 
 #[test]
 fn an_offer_ends_with_the_version(rt: HostRuntime) -> Result<(), Fail> {
-    let calls = [
-        (Call::Offer, "LinkDown"),
-        (Call::Check, "Some(LinkDown)"),
-        (Call::Ready, "Some(LinkDown)"),
-        (Call::Join, "Some(LinkDown)"),
-        (Call::Train, ""),
-        (Call::Offer, "Offered { index: 4 }"),
-        (Call::Offer, "Offered { index: 5 }"),
-        (Call::Offer, "Offered { index: 3 }"),
-        (Call::Offer, "Offered { index: 2 }"),
-        (Call::Land, "Landed(Pad { index: 4, value: 0 })"),
-        (Call::Land, "Landed(Pad { index: 5, value: 4096 })"),
-        (Call::Land, "Landed(Pad { index: 3, value: 1 })"),
-        (Call::Land, "Landed(Pad { index: 2, value: 1 })"),
-        (Call::PadAt(Side::A, 5), "4096"),
-        (Call::Check, "Some(NotYet)"),
-        (Call::Offer, "Offered { index: 0 }"),
-        (Call::Check, "Some(NotYet)"),
-        (Call::Land, "Landed(Pad { index: 0, value: 4 })"),
-        (Call::PadAt(Side::A, 0), "4"),
-        (Call::Offer, "Already"),
-    ];
-    follow(&rt, rt.alloc(), 1, side_with(4, 1, 1), &calls)
+    follow! { rt, ONE_QUEUE;
+        Offer => "LinkDown",
+        Check => "Some(LinkDown)",
+        Ready => "Some(LinkDown)",
+        Join => "Some(LinkDown)",
+        Train => "",
+        Offer => "Offered { index: 4 }",
+        Offer => "Offered { index: 5 }",
+        Offer => "Offered { index: 3 }",
+        Offer => "Offered { index: 2 }",
+        Land => "Landed(Pad { index: 4, value: 0 })",
+        Land => "Landed(Pad { index: 5, value: 4096 })",
+        Land => "Landed(Pad { index: 3, value: 1 })",
+        Land => "Landed(Pad { index: 2, value: 1 })",
+        PadAt(Side::A, 5) => "4096",
+        Check => "Some(NotYet)",
+        Offer => "Offered { index: 0 }",
+        Check => "Some(NotYet)",
+        Land => "Landed(Pad { index: 0, value: 4 })",
+        PadAt(Side::A, 0) => "4",
+        Offer => "Already",
+    }
 }
 
 // The scratchpads as the peer might have written them.
 #[test]
 fn what_differs_is_said(rt: HostRuntime) -> Result<(), Fail> {
-    let calls = [
-        (Call::Train, ""),
-        (Call::Told(0, 3), ""),
-        (Call::Check, "Some(Version { seen: 3, own: 4 })"),
-        (Call::Told(0, 5), ""),
-        (Call::Check, "Some(Queues { seen: 0, own: 1 })"),
-        (Call::Told(2, 2), ""),
-        (Call::Check, "Some(Queues { seen: 2, own: 1 })"),
-        (Call::Told(2, 1), ""),
-        (Call::Told(3, 2), ""),
-        (Call::Check, "Some(Windows { seen: 2, own: 1 })"),
-        (Call::Told(3, 1), ""),
-        (Call::Told(5, 8192), ""),
-        (Call::Check, "Some(Size { seen: 8192, cap: 4096 })"),
-        (Call::Told(5, 4096), ""),
-        (Call::Check, "Some(Up)"),
-    ];
-    follow(&rt, rt.alloc(), 1, side_with(5, 1, 1), &calls)
+    follow! { rt, LATER_VERSION;
+        Train => "",
+        Told(0, 3) => "",
+        Check => "Some(Version { seen: 3, own: 4 })",
+        Told(0, 5) => "",
+        Check => "Some(Queues { seen: 0, own: 1 })",
+        Told(2, 2) => "",
+        Check => "Some(Queues { seen: 2, own: 1 })",
+        Told(2, 1) => "",
+        Told(3, 2) => "",
+        Check => "Some(Windows { seen: 2, own: 1 })",
+        Told(3, 1) => "",
+        Told(5, 8192) => "",
+        Check => "Some(Size { seen: 8192, cap: 4096 })",
+        Told(5, 4096) => "",
+        Check => "Some(Up)",
+    }
 }
 
 // Side A comes up over flags that an entry left.
 #[test]
 fn a_queue_is_joined(rt: HostRuntime) -> Result<(), Fail> {
-    let calls = [
-        (Call::Train, ""),
-        (Call::PutWord(1019), ""),
-        (Call::Ready, "Some(NotChecked)"),
-        (Call::Told(2, 1), ""),
-        (Call::Told(3, 1), ""),
-        (Call::Told(0, 4), ""),
-        (Call::Word(1019), "1"),
-        (Call::Check, "Some(Up)"),
-        (Call::Check, "Some(Already)"),
-        (Call::Word(1019), "0"),
-        (Call::Word(4092), "3"),
-        (Call::Join, "Some(NotReady)"),
-        (Call::Ready, "Some(Ok)"),
-        (Call::Ready, "Some(Already)"),
-        (Call::LandReady, "Landed(Pad { index: 1, value: 1 })"),
-        (Call::PadAt(Side::B, 1), "1"),
-        (Call::Join, "Some(NotYet)"),
-        (Call::Told(1, 1), ""),
-        (Call::Join, "Some(Joined)"),
-        (Call::Join, "Some(Already)"),
-    ];
-    follow(&rt, rt.alloc(), 1, side_with(4, 1, 1), &calls)
+    follow! { rt, ONE_QUEUE;
+        Train => "",
+        PutWord(1019) => "",
+        Ready => "Some(NotChecked)",
+        Told(2, 1) => "",
+        Told(3, 1) => "",
+        Told(0, 4) => "",
+        Word(1019) => "1",
+        Check => "Some(Up)",
+        Check => "Some(Already)",
+        Word(1019) => "0",
+        Word(4092) => "3",
+        Join => "Some(NotReady)",
+        Ready => "Some(Ok)",
+        Ready => "Some(Already)",
+        LandReady => "Landed(Pad { index: 1, value: 1 })",
+        PadAt(Side::B, 1) => "1",
+        Join => "Some(NotYet)",
+        Told(1, 1) => "",
+        Join => "Some(Joined)",
+        Join => "Some(Already)",
+    }
 }
 
 // Two queues have rings of 2 entries, whose headers end at 1,022 and at 3,070 in the first slots.
 #[test]
 fn rings_of_two_entries_are_fresh(rt: HostRuntime) -> Result<(), Fail> {
-    let calls = [
-        (Call::Train, ""),
-        (Call::PutWord(1018), ""),
-        (Call::PutWord(3066), ""),
-        (Call::Told(2, 2), ""),
-        (Call::Told(3, 1), ""),
-        (Call::Told(5, 4096), ""),
-        (Call::Told(0, 4), ""),
-        (Call::Check, "Some(Up)"),
-        (Call::Word(1018), "0"),
-        (Call::Word(3066), "0"),
-        (Call::Word(2044), "1"),
-        (Call::Word(4092), "1"),
-    ];
-    follow(&rt, rt.alloc(), 2, side_with(4, 2, 1), &calls)
+    follow! { rt, TWO_QUEUES;
+        Train => "",
+        PutWord(1018) => "",
+        PutWord(3066) => "",
+        Told(2, 2) => "",
+        Told(3, 1) => "",
+        Told(5, 4096) => "",
+        Told(0, 4) => "",
+        Check => "Some(Up)",
+        Word(1018) => "0",
+        Word(3066) => "0",
+        Word(2044) => "1",
+        Word(4092) => "1",
+    }
 }

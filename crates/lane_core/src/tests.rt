@@ -2,6 +2,7 @@ ghost use Rattle.std.specs.Prelude.{◌≡◌, ◌+◌, ◌<◌, ◌≤◌, ◌^
 ghost use Rattle.lane_laws.specs.Laws.{IsOpen};
 
 use super::*;
+use call_tables::follow;
 use std::alloc::{AllocError, Global};
 use std::process::Abort;
 use std::test::Fail;
@@ -145,21 +146,40 @@ fn make(alloc: Global, lane: &mut Lane, call: &Call) -> Result<String, Fail>
     }
 }
 
-// Makes these calls one after another on a new lane, each of which is to answer what stands beside it.
-fn follow(
-    rt: &impl Abort,
-    alloc: Global,
+// The ring of a new lane.
+#[derive(Clone, Copy)]
+struct Ring {
     entries: u32,
     max: u32,
     strict: bool,
-    calls: &[(Call, &str)],
-) -> Result<(), Fail>
-    requires two_entries { 2 ≤ entries }
-    requires a_byte { 1 ≤ max }
-    requires fits { max ≤ 65536 }
+}
+
+const STRICT: Ring = Ring {
+    entries: 4,
+    max: 1011,
+    strict: true,
+};
+
+const RELAXED: Ring = Ring {
+    entries: 4,
+    max: 1011,
+    strict: false,
+};
+
+const SHORT: Ring = Ring {
+    entries: 2,
+    max: 2034,
+    strict: true,
+};
+
+// Makes these calls one after another on a new lane, each of which is to answer what stands beside it.
+fn follow(rt: &impl Abort, alloc: Global, ring: Ring, calls: &[(Call, &str)]) -> Result<(), Fail>
+    requires two_entries { 2 ≤ ring.entries }
+    requires a_byte { 1 ≤ ring.max }
+    requires fits { ring.max ≤ 65536 }
     requires few { length calls.now < 2 ^ 46 }
 {
-    let mut lane = Lane::new(alloc, 0, entries, max, strict)?;
+    let mut lane = Lane::new(alloc, 0, ring.entries, ring.max, ring.strict)?;
     for (call, want) in calls {
         let answer = make(alloc, &mut lane, call)?;
         assert_eq!(rt; answer.as_str(), *want);
@@ -169,140 +189,117 @@ fn follow(
 
 #[test]
 fn a_frame_there_and_back(rt: HostRuntime) -> Result<(), Fail> {
-    let calls = [
-        (Call::Begin(1), "Ok { number: 0 }"),
-        (Call::Begin(1), "Busy"),
-        (Call::Post, "Some(Chunk { queue: 0, number: 0, part: 0 })"),
-        (Call::Post, "Some(Len { queue: 0, number: 0 })"),
-        (Call::Post, "Some(Ver { queue: 0, number: 0 })"),
-        (Call::Post, "Some(Flag { queue: 0, number: 0 })"),
-        (Call::Post, "Some(Bell { queue: 0 })"),
-        (Call::Post, "None"),
-        (
-            Call::Land(0),
-            "Landed(Chunk { queue: 0, number: 0, part: 0 })",
-        ),
-        (Call::Land(0), "Landed(Len { queue: 0, number: 0 })"),
-        (Call::Land(0), "Landed(Ver { queue: 0, number: 0 })"),
-        (Call::Land(0), "Landed(Flag { queue: 0, number: 0 })"),
-        (Call::Land(0), "Landed(Bell { queue: 0 })"),
-        (Call::Look, "Ready { number: 0, len: 1 }"),
-        (Call::Look, "OutOfTurn"),
-        (Call::Ack, "None"),
-        (Call::Copy, "0 with 1"),
-        (Call::Copy, "out of turn"),
-        (Call::Clear, "Some(0)"),
-        (Call::Ack, "Some(0)"),
-        (Call::LandIndex(0), "Landed(Index { queue: 0, number: 0 })"),
-    ];
-    follow(&rt, rt.alloc(), 4, 1011, true, &calls)
+    follow! { rt, STRICT;
+        Begin(1) => "Ok { number: 0 }",
+        Begin(1) => "Busy",
+        Post => "Some(Chunk { queue: 0, number: 0, part: 0 })",
+        Post => "Some(Len { queue: 0, number: 0 })",
+        Post => "Some(Ver { queue: 0, number: 0 })",
+        Post => "Some(Flag { queue: 0, number: 0 })",
+        Post => "Some(Bell { queue: 0 })",
+        Post => "None",
+        Land(0) => "Landed(Chunk { queue: 0, number: 0, part: 0 })",
+        Land(0) => "Landed(Len { queue: 0, number: 0 })",
+        Land(0) => "Landed(Ver { queue: 0, number: 0 })",
+        Land(0) => "Landed(Flag { queue: 0, number: 0 })",
+        Land(0) => "Landed(Bell { queue: 0 })",
+        Look => "Ready { number: 0, len: 1 }",
+        Look => "OutOfTurn",
+        Ack => "None",
+        Copy => "0 with 1",
+        Copy => "out of turn",
+        Clear => "Some(0)",
+        Ack => "Some(0)",
+        LandIndex(0) => "Landed(Index { queue: 0, number: 0 })",
+    }
 }
 
 #[test]
 fn one_entry_stays_free(rt: HostRuntime) -> Result<(), Fail> {
-    let calls = [
-        (Call::Begin(1), "Ok { number: 0 }"),
-        (Call::Posts(5), "Some(Bell { queue: 0 })"),
-        (Call::Begin(1), "Ok { number: 1 }"),
-        (Call::Posts(5), "Some(Bell { queue: 0 })"),
-        (Call::Begin(1), "Ok { number: 2 }"),
-        (Call::Posts(5), "Some(Bell { queue: 0 })"),
-        (Call::Begin(1), "NoRoom { head: 3, tail: 3 }"),
-        (Call::Lands(15), "Landed(Bell { queue: 0 })"),
-        (Call::Receive, "0 with 1, Some(0)"),
-        (Call::LandIndex(0), "Landed(Index { queue: 0, number: 0 })"),
-        (Call::Begin(1), "Ok { number: 3 }"),
-        (Call::Posts(5), "Some(Bell { queue: 0 })"),
-        (Call::Begin(1), "NoRoom { head: 0, tail: 0 }"),
-    ];
-    follow(&rt, rt.alloc(), 4, 1011, true, &calls)?;
-    let calls = [
-        (Call::Begin(1), "Ok { number: 0 }"),
-        (Call::Posts(5), "Some(Bell { queue: 0 })"),
-        (Call::Begin(1), "NoRoom { head: 1, tail: 1 }"),
-        (Call::Lands(5), "Landed(Bell { queue: 0 })"),
-        (Call::Receive, "0 with 1, Some(0)"),
-        (Call::LandIndex(0), "Landed(Index { queue: 0, number: 0 })"),
-        (Call::Begin(1), "Ok { number: 1 }"),
-        (Call::Posts(5), "Some(Bell { queue: 0 })"),
-        (Call::Begin(1), "NoRoom { head: 0, tail: 0 }"),
-    ];
-    follow(&rt, rt.alloc(), 2, 2034, true, &calls)
+    follow! { rt, STRICT;
+        Begin(1) => "Ok { number: 0 }",
+        Posts(5) => "Some(Bell { queue: 0 })",
+        Begin(1) => "Ok { number: 1 }",
+        Posts(5) => "Some(Bell { queue: 0 })",
+        Begin(1) => "Ok { number: 2 }",
+        Posts(5) => "Some(Bell { queue: 0 })",
+        Begin(1) => "NoRoom { head: 3, tail: 3 }",
+        Lands(15) => "Landed(Bell { queue: 0 })",
+        Receive => "0 with 1, Some(0)",
+        LandIndex(0) => "Landed(Index { queue: 0, number: 0 })",
+        Begin(1) => "Ok { number: 3 }",
+        Posts(5) => "Some(Bell { queue: 0 })",
+        Begin(1) => "NoRoom { head: 0, tail: 0 }",
+    }?;
+    follow! { rt, SHORT;
+        Begin(1) => "Ok { number: 0 }",
+        Posts(5) => "Some(Bell { queue: 0 })",
+        Begin(1) => "NoRoom { head: 1, tail: 1 }",
+        Lands(5) => "Landed(Bell { queue: 0 })",
+        Receive => "0 with 1, Some(0)",
+        LandIndex(0) => "Landed(Index { queue: 0, number: 0 })",
+        Begin(1) => "Ok { number: 1 }",
+        Posts(5) => "Some(Bell { queue: 0 })",
+        Begin(1) => "NoRoom { head: 0, tail: 0 }",
+    }
 }
 
 #[test]
 fn the_largest_frame(rt: HostRuntime) -> Result<(), Fail> {
-    let calls = [
-        (Call::Begin(1011), "Ok { number: 0 }"),
-        (Call::Begin(1012), "TooLong { len: 1012, max: 1011 }"),
-    ];
-    follow(&rt, rt.alloc(), 4, 1011, true, &calls)
+    follow! { rt, STRICT;
+        Begin(1011) => "Ok { number: 0 }",
+        Begin(1012) => "TooLong { len: 1012, max: 1011 }",
+    }
 }
 
 #[test]
 fn relaxed_fields_pass_others(rt: HostRuntime) -> Result<(), Fail> {
-    let calls = [
-        (Call::Begin(300), "Ok { number: 0 }"),
-        (Call::Posts(7), "Some(Bell { queue: 0 })"),
-        (
-            Call::Land(2),
-            "Landed(Chunk { queue: 0, number: 0, part: 2 })",
-        ),
-        (
-            Call::Land(0),
-            "Landed(Chunk { queue: 0, number: 0, part: 0 })",
-        ),
-        (
-            Call::Land(0),
-            "Landed(Chunk { queue: 0, number: 0, part: 1 })",
-        ),
-        (Call::Land(0), "Landed(Len { queue: 0, number: 0 })"),
-        (Call::Land(0), "Landed(Ver { queue: 0, number: 0 })"),
-        (Call::Land(0), "Landed(Flag { queue: 0, number: 0 })"),
-        (Call::Look, "Ready { number: 0, len: 300 }"),
-        (Call::Copy, "part 0 of 0"),
-        (Call::Copy, "part 1 of 0"),
-        (Call::Copy, "0 with 300"),
-    ];
-    follow(&rt, rt.alloc(), 4, 1011, false, &calls)?;
-    let calls = [
-        (Call::Begin(1), "Ok { number: 0 }"),
-        (Call::Posts(5), "Some(Bell { queue: 0 })"),
-        (Call::Land(3), "Blocked"),
-        (Call::Land(1), "Landed(Len { queue: 0, number: 0 })"),
-        (Call::Land(9), "Nothing"),
-    ];
-    follow(&rt, rt.alloc(), 4, 1011, false, &calls)?;
-    let calls = [
-        (Call::Begin(3), "Ok { number: 0 }"),
-        (Call::Posts(5), "Some(Bell { queue: 0 })"),
-        (Call::Begin(2), "Ok { number: 1 }"),
-        (Call::Posts(5), "Some(Bell { queue: 0 })"),
-        (
-            Call::Land(5),
-            "Landed(Chunk { queue: 0, number: 1, part: 0 })",
-        ),
-        (Call::Lands(4), "Landed(Flag { queue: 0, number: 0 })"),
-        (Call::Receive, "0 with 3, Some(0)"),
-        (Call::Look, "Empty"),
-    ];
-    follow(&rt, rt.alloc(), 4, 1011, false, &calls)
+    follow! { rt, RELAXED;
+        Begin(300) => "Ok { number: 0 }",
+        Posts(7) => "Some(Bell { queue: 0 })",
+        Land(2) => "Landed(Chunk { queue: 0, number: 0, part: 2 })",
+        Land(0) => "Landed(Chunk { queue: 0, number: 0, part: 0 })",
+        Land(0) => "Landed(Chunk { queue: 0, number: 0, part: 1 })",
+        Land(0) => "Landed(Len { queue: 0, number: 0 })",
+        Land(0) => "Landed(Ver { queue: 0, number: 0 })",
+        Land(0) => "Landed(Flag { queue: 0, number: 0 })",
+        Look => "Ready { number: 0, len: 300 }",
+        Copy => "part 0 of 0",
+        Copy => "part 1 of 0",
+        Copy => "0 with 300",
+    }?;
+    follow! { rt, RELAXED;
+        Begin(1) => "Ok { number: 0 }",
+        Posts(5) => "Some(Bell { queue: 0 })",
+        Land(3) => "Blocked",
+        Land(1) => "Landed(Len { queue: 0, number: 0 })",
+        Land(9) => "Nothing",
+    }?;
+    follow! { rt, RELAXED;
+        Begin(3) => "Ok { number: 0 }",
+        Posts(5) => "Some(Bell { queue: 0 })",
+        Begin(2) => "Ok { number: 1 }",
+        Posts(5) => "Some(Bell { queue: 0 })",
+        Land(5) => "Landed(Chunk { queue: 0, number: 1, part: 0 })",
+        Lands(4) => "Landed(Flag { queue: 0, number: 0 })",
+        Receive => "0 with 3, Some(0)",
+        Look => "Empty",
+    }
 }
 
 #[test]
 fn index_writes_land_in_order(rt: HostRuntime) -> Result<(), Fail> {
-    let calls = [
-        (Call::Begin(1), "Ok { number: 0 }"),
-        (Call::Posts(5), "Some(Bell { queue: 0 })"),
-        (Call::Begin(2), "Ok { number: 1 }"),
-        (Call::Posts(5), "Some(Bell { queue: 0 })"),
-        (Call::Lands(10), "Landed(Bell { queue: 0 })"),
-        (Call::Receive, "0 with 1, Some(0)"),
-        (Call::Receive, "1 with 2, Some(1)"),
-        (Call::LandIndex(1), "Blocked"),
-        (Call::LandIndex(0), "Landed(Index { queue: 0, number: 0 })"),
-    ];
-    follow(&rt, rt.alloc(), 4, 1011, false, &calls)
+    follow! { rt, RELAXED;
+        Begin(1) => "Ok { number: 0 }",
+        Posts(5) => "Some(Bell { queue: 0 })",
+        Begin(2) => "Ok { number: 1 }",
+        Posts(5) => "Some(Bell { queue: 0 })",
+        Lands(10) => "Landed(Bell { queue: 0 })",
+        Receive => "0 with 1, Some(0)",
+        Receive => "1 with 2, Some(1)",
+        LandIndex(1) => "Blocked",
+        LandIndex(0) => "Landed(Index { queue: 0, number: 0 })",
+    }
 }
 
 #[test]

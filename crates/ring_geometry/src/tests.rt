@@ -3,15 +3,17 @@ use std::test::Fail;
 
 const HEADER: u32 = 12;
 
+// A ring's entries, the bytes of a slot, and the most bytes of payload in one.
+fn sizes(ring: &Geometry) -> [u32; 3] {
+    [ring.entries(), ring.frame_size(), ring.max_payload()]
+}
+
 #[test]
 fn small_window_holds_the_mtu(rt: HostRuntime) -> Result<(), Fail> {
     let ring = Geometry::new(4096, 1, 1, 0, 1023, HEADER)?;
-    assert_eq!(rt; ring.entries(), 4);
-    assert_eq!(rt; ring.frame_size(), 1023);
-    assert_eq!(rt; ring.max_payload(), 1011);
+    assert_eq!(rt; sizes(&ring), [4, 1023, 1011]);
     assert_eq!(rt; ring.window_of(), 0);
-    assert_eq!(rt; ring.header_at(0), 1011);
-    assert_eq!(rt; ring.index_at(), 4092);
+    assert_eq!(rt; [ring.header_at(0), ring.index_at()], [1011, 4092]);
     assert_eq!(rt; ring.free(0, 3), 3);
     Ok(())
 }
@@ -19,30 +21,23 @@ fn small_window_holds_the_mtu(rt: HostRuntime) -> Result<(), Fail> {
 #[test]
 fn small_window_halves_the_mtu(rt: HostRuntime) -> Result<(), Fail> {
     let ring = Geometry::new(4096, 1, 1, 0, 65536, HEADER)?;
-    assert_eq!(rt; ring.entries(), 2);
-    assert_eq!(rt; ring.frame_size(), 2046);
-    assert_eq!(rt; ring.max_payload(), 2034);
+    assert_eq!(rt; sizes(&ring), [2, 2046, 2034]);
     Ok(())
 }
 
 #[test]
 fn second_queue_has_the_second_half(rt: HostRuntime) -> Result<(), Fail> {
     let ring = Geometry::new(4096, 1, 2, 1, 1023, HEADER)?;
-    assert_eq!(rt; ring.frame_size(), 1022);
-    assert_eq!(rt; ring.max_payload(), 1010);
-    assert_eq!(rt; ring.entries(), 2);
-    assert_eq!(rt; ring.slot_at(0), 2048);
-    assert_eq!(rt; ring.header_at(0), 3058);
-    assert_eq!(rt; ring.index_at(), 4092);
+    assert_eq!(rt; sizes(&ring), [2, 1022, 1010]);
+    let places = [ring.slot_at(0), ring.header_at(0), ring.index_at()];
+    assert_eq!(rt; places, [2048, 3058, 4092]);
     Ok(())
 }
 
 #[test]
 fn large_window_of_four_queues(rt: HostRuntime) -> Result<(), Fail> {
     let ring = Geometry::new(1048576, 1, 4, 0, 65536, HEADER)?;
-    assert_eq!(rt; ring.entries(), 3);
-    assert_eq!(rt; ring.frame_size(), 65536);
-    assert_eq!(rt; ring.max_payload(), 65524);
+    assert_eq!(rt; sizes(&ring), [3, 65536, 65524]);
     assert_eq!(rt; ring.index_at(), 262140);
     Ok(())
 }
@@ -50,10 +45,8 @@ fn large_window_of_four_queues(rt: HostRuntime) -> Result<(), Fail> {
 #[test]
 fn headers_of_sixteen_bytes(rt: HostRuntime) -> Result<(), Fail> {
     let ring = Geometry::new(4096, 1, 1, 0, 1023, 16)?;
-    assert_eq!(rt; ring.entries(), 4);
-    assert_eq!(rt; ring.max_payload(), 1007);
-    assert_eq!(rt; ring.header_at(0), 1007);
-    assert_eq!(rt; ring.header_at(1), 2030);
+    assert_eq!(rt; sizes(&ring), [4, 1023, 1007]);
+    assert_eq!(rt; [ring.header_at(0), ring.header_at(1)], [1007, 2030]);
     assert_eq!(rt; ring.longest(), 3021);
     assert_eq!(rt; Geometry::new(4096, 1, 1, 0, 19, 16), Err(BadGeometry));
     Ok(())
@@ -62,11 +55,9 @@ fn headers_of_sixteen_bytes(rt: HostRuntime) -> Result<(), Fail> {
 #[test]
 fn largest_window(rt: HostRuntime) -> Result<(), Fail> {
     let ring = Geometry::new(268_435_456, 4, 16, 15, 65536, 16)?;
-    assert_eq!(rt; ring.entries(), 1023);
-    assert_eq!(rt; ring.window_of(), 3);
-    assert_eq!(rt; ring.slot_at(0), 201_326_592);
-    assert_eq!(rt; ring.slot_at(1022), 268_304_384);
-    assert_eq!(rt; ring.index_at(), 268_435_452);
+    assert_eq!(rt; [ring.entries(), ring.window_of()], [1023, 3]);
+    let places = [ring.slot_at(0), ring.slot_at(1022), ring.index_at()];
+    assert_eq!(rt; places, [201_326_592, 268_304_384, 268_435_452]);
     assert_eq!(rt; ring.longest(), 65536);
     Ok(())
 }
@@ -107,9 +98,8 @@ fn least_ring_has_two_entries(rt: HostRuntime) -> Result<(), Fail> {
 fn slots_share_no_byte(rt: HostRuntime) -> Result<(), Fail> {
     laws::slots_stand_apart();
     let ring = Geometry::new(4096, 1, 1, 0, 1023, HEADER)?;
-    assert_eq!(rt; ring.slot_at(1) + u64::from(ring.frame_size()), 2046);
-    assert_eq!(rt; ring.slot_at(2), 2046);
-    assert_eq!(rt; ring.slot_at(3), 3069);
+    let end = ring.slot_at(1) + u64::from(ring.frame_size());
+    assert_eq!(rt; [end, ring.slot_at(2), ring.slot_at(3)], [2046, 2046, 3069]);
     Ok(())
 }
 
@@ -118,9 +108,9 @@ fn slots_share_no_byte(rt: HostRuntime) -> Result<(), Fail> {
 fn headers_end_slots(rt: HostRuntime) -> Result<(), Fail> {
     laws::header_ends_slot();
     let ring = Geometry::new(4096, 1, 1, 0, 1023, HEADER)?;
-    assert_eq!(rt; ring.slot_at(1) + u64::from(ring.max_payload()), 2034);
-    assert_eq!(rt; ring.header_at(1), 2034);
-    assert_eq!(rt; ring.header_at(1) + u64::from(HEADER), 2046);
+    let (slot, header) = (ring.slot_at(1), ring.header_at(1));
+    assert_eq!(rt; slot + u64::from(ring.max_payload()), 2034);
+    assert_eq!(rt; [header, header + u64::from(HEADER)], [2034, 2046]);
     Ok(())
 }
 
@@ -139,9 +129,8 @@ fn index_word_stands_behind_the_last_slot(rt: HostRuntime) -> Result<(), Fail> {
 fn areas_share_no_byte(rt: HostRuntime) -> Result<(), Fail> {
     laws::areas_stand_apart();
     let first = Geometry::new(4096, 1, 2, 0, 1023, HEADER)?;
+    assert_eq!(rt; [first.slot_at(0), first.index_at() + 4], [0, 2048]);
     let second = Geometry::new(4096, 1, 2, 1, 1023, HEADER)?;
-    assert_eq!(rt; first.slot_at(0), 0);
-    assert_eq!(rt; first.index_at() + 4, 2048);
     assert_eq!(rt; second.slot_at(0), 2048);
     Ok(())
 }
@@ -152,12 +141,10 @@ fn areas_lie_in_their_windows(rt: HostRuntime) -> Result<(), Fail> {
     laws::area_lies_in_window();
     let last = Geometry::new(4096, 2, 3, 2, 1023, HEADER)?;
     assert_eq!(rt; last.window_of(), 0);
-    assert_eq!(rt; last.slot_at(0), 2048);
-    assert_eq!(rt; last.index_at() + 4, 4096);
+    assert_eq!(rt; [last.slot_at(0), last.index_at() + 4], [2048, 4096]);
     let second = Geometry::new(4096, 2, 3, 1, 1023, HEADER)?;
     assert_eq!(rt; second.window_of(), 1);
-    assert_eq!(rt; second.slot_at(0), 0);
-    assert_eq!(rt; second.index_at() + 4, 4096);
+    assert_eq!(rt; [second.slot_at(0), second.index_at() + 4], [0, 4096]);
     Ok(())
 }
 
@@ -167,9 +154,10 @@ fn areas_lie_in_their_windows(rt: HostRuntime) -> Result<(), Fail> {
 fn free_entries_are_those_not_out(rt: HostRuntime) -> Result<(), Fail> {
     laws::free_is_room();
     let ring = Geometry::new(4096, 1, 1, 0, 1023, HEADER)?;
-    assert_eq!(rt; ring.free(1, 2), 1);
-    assert_eq!(rt; ring.free(1, 0), 3);
-    assert_eq!(rt; ring.free(1, 1), 0);
+    assert_eq!(rt;
+        [ring.free(1, 2), ring.free(1, 0), ring.free(1, 1)],
+        [1, 3, 0]
+    );
     Ok(())
 }
 

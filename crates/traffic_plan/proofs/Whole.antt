@@ -13,7 +13,7 @@ use Rattle.plan_model.specs.DeclaredPlans.{IsSide, IsPair, IsDeclared, IsQueueOf
 use Rattle.plan_model.specs.Macros.{send, land_all, receive, posts_in}
 use Rattle.plan_model.specs.Plans.{no_pair}
 use Rattle.traffic_plan.specs.Laws.{LoadIsWhole}
-use Rattle.traffic_plan.specs.Load.{load_side, load_pair, length_of, payload_of, landings_of, frame_steps, lines_of_frame, word_of, plan_of}
+use Rattle.traffic_plan.specs.Load.{load_pair, length_of, payload_of, landings_of, frame_steps, lines_of_frame, word_of, plan_of}
 use Rattle.traffic_plan.proofs.Frames.{length_payload, few_bytes, few_steps, few_lines}
 
 -- the pair
@@ -23,7 +23,7 @@ zero_class zero k = lit< tt
 zero_class (suc n) zero = lit< tt
 zero_class (suc n) (suc k) = zero_class n k
 
-side_is : IsSide load_side
+side_is : IsSide load_pair.a
 side_is = record {
   known_version = (lit≤ tt, lit≤ tt);
   queues = (lit≤ tt, lit≤ tt);

@@ -1,9 +1,8 @@
 -- The plan of a generated load: one pair, and the steps of so many frames from its side A to its side B.
-use Rattle.std.specs.Prelude.{ℕ, zero, suc, ◌+◌, ◌*◌, ◌/◌, ◌%◌, ◌^◌, true, false, List, [], ◌∷◌, ◌++◌, map, replicate}
+use Rattle.std.specs.Prelude.{ℕ, zero, suc, ◌+◌, ◌*◌, ◌/◌, ◌%◌, ◌^◌, None, List, [], ◌∷◌, ◌++◌, map}
 use Rattle.std.specs.List.{flat_map, range_with_len}
 use Rattle.rand_xoshiro.specs.SplitMix64.{mix_u64}
 use Rattle.step_kinds.specs.declared.names.Side.TheVariants.{A, B}
-use Rattle.step_kinds.specs.declared.plan.SidePlan.{SidePlan}
 use Rattle.step_kinds.specs.declared.plan.PairPlan.{PairPlan}
 use Rattle.step_kinds.specs.declared.plan.Line.{Line}
 use Rattle.step_kinds.specs.declared.plan.Plan.{Plan}
@@ -11,7 +10,10 @@ use Rattle.step_kinds.specs.declared.steps.Step.{Step}
 use Rattle.step_kinds.specs.declared.steps.Step.TheVariants.{Land}
 use Rattle.lane_model.specs.Lane.{chunks_in}
 use Rattle.plan_model.specs.Macros.{send, land_all, receive}
+use Rattle.script_words.specs.declared.settings.SideKey.TheVariants.{Size}
+use Rattle.script_words.specs.declared.settings.Setting.TheVariants.{Up, Mtu, OfSide}
 use Rattle.script_words.specs.Compact.{lines_with}
+use Rattle.script_words.specs.Settings.{pair_with}
 
 -- the word that SplitMix64 gives at a state, and the state after it
 unfoldable pub word_at : ℕ → ℕ
@@ -34,22 +36,8 @@ abbrev pub most_load_frames : ℕ
 most_load_frames = 30000
 
 -- `p a b up size=4096 mtu=1023`: all other numbers as they are where a script doesn't say them
-abbrev pub load_side : SidePlan
-load_side = record { version = 4; queues = 1; windows = 1; size = 4096; cap = 4096 }
-
 abbrev pub load_pair : PairPlan
-load_pair =
-    record {
-      name = 112 ∷ [];
-      a = load_side;
-      b = load_side;
-      mtu = 1023;
-      up = true;
-      strict = false;
-      raw = false;
-      class_a = replicate 16 0;
-      class_b = replicate 16 0;
-    }
+load_pair = pair_with (112 ∷ []) (Up ∷ OfSide Size None 4096 ∷ Mtu 1023 ∷ [])
 
 -- by its first word a frame has 1 to 300 bytes: the word's eight bytes, the lowest first, again and again
 abbrev pub length_of : ℕ → ℕ

@@ -2,7 +2,7 @@
 
 ghost use Rattle.std.specs.Prelude.{◌≡◌, ◌∷◌, [], ◌++◌, ◌^◌, ◌<◌, ◌≤◌, length, IfOk, OnOk};
 ghost use Rattle.lane_model.specs.Lane.{chunks_in};
-ghost use Rattle.traffic_plan.specs.Load.{word_at, state_past, load_side, load_pair, most_load_frames, length_of, payload_of, frame_lines, load_of};
+ghost use Rattle.traffic_plan.specs.Load.{word_at, state_past, load_pair, most_load_frames, length_of, payload_of, frame_lines, load_of};
 
 use crate::steps::{land_all, push_landings, receive, send};
 use rand_xoshiro::SplitMix64;
@@ -10,8 +10,10 @@ use rand_xoshiro::rand_core::SeedableRng;
 use rand_xoshiro::rand_core::utils::NextWord;
 use script_plan::steps::push_steps;
 use script_words::Macro;
+use script_words::options::pair_with;
+use script_words::settings::{Setting, SideKey};
 use std::alloc::{AllocError, Global};
-use step_kinds::{Frame, Items, Line, Name, PairPlan, Plan, Side, SidePlan, Step};
+use step_kinds::{Frame, Items, Line, Name, PairPlan, Plan, Side, Step};
 
 /// The next word of the generator.
 fn next_word(words: &mut SplitMix64) -> u64
@@ -21,34 +23,17 @@ fn next_word(words: &mut SplitMix64) -> u64
     words.next_word()
 }
 
-/// A side of the pair.
-fn load_side() -> SidePlan
-    ensures { result ≡ load_side }
-{
-    SidePlan {
-        version: 4,
-        queues: 1,
-        windows: 1,
-        size: 4096,
-        cap: 4096,
-    }
-}
-
 /// The pair.
 fn load_pair() -> PairPlan
     ensures { result ≡ load_pair }
 {
-    PairPlan {
-        name: Name::of_bytes(b"p"),
-        a: load_side(),
-        b: load_side(),
-        mtu: 1023,
-        up: true,
-        strict: false,
-        raw: false,
-        class_a: [0; 16],
-        class_b: [0; 16],
-    }
+    let size = Setting::OfSide {
+        key: SideKey::Size,
+        side: None,
+        number: 4096,
+    };
+    let mtu = Setting::Mtu { number: 1023 };
+    pair_with(Name::of_bytes(b"p"), &[Setting::Up, size, mtu])
 }
 
 /// The bytes of a frame, by its first word.
