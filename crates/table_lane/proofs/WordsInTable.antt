@@ -1,5 +1,5 @@
 -- The words of an entry are words of its lane's table.
-use Rattle.std.proofs.Common.{◌≡◌, ℕ, ◌+◌, ◌%◌, ◌<◌, sym, ◌∙◌, arith, mod-lt}
+use Rattle.std.proofs.Common.{◌≡◌, ℕ, ◌%◌, ◌<◌, sym, ◌∙◌, arith, mod-lt}
 use Rattle.atomic_table.specs.Seated.{TableId}
 use Rattle.table_rule.specs.Words.{posted_word, header_word, flag_word}
 use Rattle.table_lane.specs.Table.{IsTableOf}

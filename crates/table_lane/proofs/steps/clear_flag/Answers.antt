@@ -1,5 +1,4 @@
-use Rattle.std.proofs.Common.{arith, length, ◌≡◌, ℕ, ◌%◌, ◌<◌, refl, sym, ap, ◌∙◌, subst, mod-lt}
-use Rattle.table_rule.specs.Words.{flag_word}
+use Rattle.std.proofs.Common.{length, ◌≡◌, ℕ, ◌%◌, refl, sym, ap, ◌∙◌, subst}
 use Rattle.table_rule.specs.Rule.{Sitter}
 use Rattle.table_rule.specs.declared.parts.LaneView.{LaneView}
 use Rattle.table_rule.specs.Views.{HasRecv, the_recv}

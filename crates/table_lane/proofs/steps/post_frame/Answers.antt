@@ -1,5 +1,5 @@
-use Rattle.std.proofs.Common.{arith, length, ◌^◌, ◌≡◌, ℕ, ◌%◌, ◌<◌, sym, ap, ◌∙◌, subst, mod-lt}
-use Rattle.table_rule.specs.Words.{posted_word, header_of}
+use Rattle.std.proofs.Common.{length, ◌^◌, ◌≡◌, ℕ, ◌<◌, sym, ap, ◌∙◌, subst}
+use Rattle.table_rule.specs.Words.{header_of}
 use Rattle.table_rule.specs.Rule.{Sitter}
 use Rattle.table_rule.specs.declared.parts.LaneView.{LaneView}
 use Rattle.table_rule.specs.Views.{HasSend, the_send}

@@ -1,5 +1,4 @@
-use Rattle.std.proofs.Common.{arith, ◌%◌, ◌<◌, sym, ◌∙◌, mod-lt}
-use Rattle.table_rule.specs.Words.{flag_word}
+use Rattle.std.proofs.Common.{◌%◌, sym}
 use Rattle.table_rule.proofs.MoveSteps.{stores_flag_allowed}
 use Rattle.table_lane.proofs.WordsInTable.{flag_stands}
 use Rattle.table_lane.proofs.steps.store_flag.Goals as goal

@@ -1,7 +1,6 @@
-use Rattle.std.proofs.Common.{arith, ◌≡◌, ℕ, ◌+◌, ◌-◌, ◌%◌, ◌<◌, refl, sym, ap, ◌∙◌, mod-lt}
+use Rattle.std.proofs.Common.{arith, ◌≡◌, ℕ, ◌+◌, ◌-◌, ◌%◌, ◌<◌, refl, sym, ap, ◌∙◌}
 use Rattle.table_rule.specs.declared.parts.MovePart.{MovePart}
 use Rattle.table_rule.specs.ShownLane.{number_at}
-use Rattle.table_rule.specs.Words.{header_word}
 use Rattle.table_rule.specs.Rule.{Sitter}
 use Rattle.table_rule.specs.Views.{the_move, with_move}
 use Rattle.table_rule.specs.Knowledge.{header_stored}
