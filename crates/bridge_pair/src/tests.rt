@@ -10,6 +10,7 @@ use crate::laws::{
     landing_keeps_promises, link_steps_keep_promises, own_writes_keep_promises,
     posting_uses_one_promise,
 };
+use call_tables::{assert_answers, follow};
 use std::alloc::{AllocError, Global};
 use std::process::Abort;
 use std::test::Fail;
@@ -207,137 +208,99 @@ fn follow(
     requires { IsPair plan.now }
 {
     let mut pair = Pair::new(alloc, plan)?;
-    for (call, want) in calls {
-        let answer = make(alloc, &mut pair, call)?;
-        assert_eq!(rt; answer.as_str(), *want);
-    }
+    assert_answers!(rt; calls, call => make(alloc, &mut pair, call)?);
     Ok(())
 }
 
 #[test]
 fn a_pair_that_starts_up(rt: HostRuntime) -> Result<(), Fail> {
     let whole = "SideBook { up: true, ready: 1, joined: 1, offered: 5 }";
-    let calls = [
-        (Call::Book(Side::A), whole),
-        (Call::PadAt(Side::B, 0), "4"),
-        (Call::PadAt(Side::B, 1), "1"),
-        (Call::PadAt(Side::B, 2), "1"),
-        (Call::PadAt(Side::B, 3), "1"),
-        (Call::PadAt(Side::B, 4), "0"),
-        (Call::PadAt(Side::B, 5), "4096"),
-        (Call::Word(Side::A, 4092), "3"),
-        (Call::Word(Side::A, 4088), "0"),
-        (Call::Bits(Side::A), "0 0"),
-    ];
-    follow(&rt, rt.alloc(), &plan(true, true, 1), &calls)
+    follow! { rt, &plan(true, true, 1);
+        Book(Side::A) => whole,
+        PadAt(Side::B, 0) => "4",
+        PadAt(Side::B, 1) => "1",
+        PadAt(Side::B, 2) => "1",
+        PadAt(Side::B, 3) => "1",
+        PadAt(Side::B, 4) => "0",
+        PadAt(Side::B, 5) => "4096",
+        Word(Side::A, 4092) => "3",
+        Word(Side::A, 4088) => "0",
+        Bits(Side::A) => "0 0",
+    }
 }
 
 // The fields of an entry, of which the length comes first.
 #[test]
 fn a_relaxed_write_overtakes(rt: HostRuntime) -> Result<(), Fail> {
-    let ver = Label::Ver {
-        queue: 0,
-        number: 0,
-    };
-    let len = Label::Len {
-        queue: 0,
-        number: 0,
-    };
-    let flag = Label::Flag {
-        queue: 0,
-        number: 0,
-    };
-    let calls = [
-        (Call::Post(Side::A, ver, 1011), "1"),
-        (Call::Post(Side::A, len, 1015), "2"),
-        (Call::Post(Side::A, flag, 1019), "3"),
-        (Call::Bell(Side::A), "4"),
-        (Call::LabelAt(Side::A, 3), "Some(Bell { queue: 0 })"),
-        (Call::LabelAt(Side::A, 4), "None"),
-        (Call::Land(Side::A, 2), "Blocked"),
-        (Call::Land(Side::A, 4), "Nothing"),
-        (
-            Call::Land(Side::A, 1),
-            "Landed(Len { queue: 0, number: 0 })",
-        ),
-        (Call::Word(Side::B, 1015), "67305985"),
-        (Call::Word(Side::B, 1011), "0"),
-        (
-            Call::Land(Side::A, 0),
-            "Landed(Ver { queue: 0, number: 0 })",
-        ),
-        (
-            Call::Land(Side::A, 0),
-            "Landed(Flag { queue: 0, number: 0 })",
-        ),
-        (Call::Bits(Side::B), "0 0"),
-        (Call::Land(Side::A, 0), "Landed(Bell { queue: 0 })"),
-        (Call::Bits(Side::B), "1 0"),
-    ];
-    follow(&rt, rt.alloc(), &plan(true, false, 1), &calls)
+    let (queue, number) = (0, 0);
+    let ver = Label::Ver { queue, number };
+    let len = Label::Len { queue, number };
+    let flag = Label::Flag { queue, number };
+    follow! { rt, &plan(true, false, 1);
+        Post(Side::A, ver, 1011) => "1",
+        Post(Side::A, len, 1015) => "2",
+        Post(Side::A, flag, 1019) => "3",
+        Bell(Side::A) => "4",
+        LabelAt(Side::A, 3) => "Some(Bell { queue: 0 })",
+        LabelAt(Side::A, 4) => "None",
+        Land(Side::A, 2) => "Blocked",
+        Land(Side::A, 4) => "Nothing",
+        Land(Side::A, 1) => "Landed(Len { queue: 0, number: 0 })",
+        Word(Side::B, 1015) => "67305985",
+        Word(Side::B, 1011) => "0",
+        Land(Side::A, 0) => "Landed(Ver { queue: 0, number: 0 })",
+        Land(Side::A, 0) => "Landed(Flag { queue: 0, number: 0 })",
+        Bits(Side::B) => "0 0",
+        Land(Side::A, 0) => "Landed(Bell { queue: 0 })",
+        Bits(Side::B) => "1 0",
+    }
 }
 
 #[test]
 fn another_class_is_not_waited_for(rt: HostRuntime) -> Result<(), Fail> {
-    let first = Label::Flag {
-        queue: 0,
-        number: 0,
-    };
-    let second = Label::Flag {
-        queue: 1,
-        number: 0,
-    };
-    let calls = [
-        (Call::Class(Side::A, second), "3"),
-        (Call::Class(Side::B, second), "0"),
-        (Call::Post(Side::A, first, 1019), "1"),
-        (Call::Post(Side::A, second, 3067), "2"),
-        (
-            Call::Land(Side::A, 1),
-            "Landed(Flag { queue: 1, number: 0 })",
-        ),
-        (Call::Post(Side::B, first, 1019), "1"),
-        (Call::Post(Side::B, second, 3067), "1"),
-        (Call::Land(Side::B, 1), "Blocked"),
-    ];
-    follow(&rt, rt.alloc(), &plan(true, true, 2), &calls)
+    let number = 0;
+    let first = Label::Flag { queue: 0, number };
+    let second = Label::Flag { queue: 1, number };
+    follow! { rt, &plan(true, true, 2);
+        Class(Side::A, second) => "3",
+        Class(Side::B, second) => "0",
+        Post(Side::A, first, 1019) => "1",
+        Post(Side::A, second, 3067) => "2",
+        Land(Side::A, 1) => "Landed(Flag { queue: 1, number: 0 })",
+        Post(Side::B, first, 1019) => "1",
+        Post(Side::B, second, 3067) => "1",
+        Land(Side::B, 1) => "Blocked",
+    }
 }
 
 #[test]
 fn a_link_that_is_lost(rt: HostRuntime) -> Result<(), Fail> {
-    let calls = [
-        (Call::Put(Side::B, 8), "0"),
-        (Call::Mask(Side::B, 6), "0"),
-        (Call::Pad(Side::A, 77), "1"),
-        (Call::Bell(Side::A), "2"),
-        (Call::Drop, "Some(NotClosing) Up 1"),
-        (Call::Cut, "None Closing 1"),
-        (Call::Cut, "Some(NotUp) Closing 1"),
-        (Call::Clean(Side::B), "Some(NotDown) Closing 1"),
-        (Call::Pad(Side::A, 88), "2"),
-        (
-            Call::Land(Side::A, 0),
-            "Landed(Pad { index: 12, value: 77 })",
-        ),
-        (Call::PadAt(Side::B, 12), "77"),
-        (Call::Drop, "None Down 1"),
-        (Call::Land(Side::A, 0), "Nothing"),
-        (Call::Enable(Side::B), "Some(Dirty) Down 1"),
-        (Call::Clean(Side::B), "None Down 1"),
-        (Call::PadAt(Side::B, 12), "0"),
-        (Call::Bits(Side::B), "0 6"),
-        (Call::Word(Side::B, 8), "9"),
-        (
-            Call::Book(Side::B),
-            "SideBook { up: false, ready: 0, joined: 0, offered: 0 }",
-        ),
-        (Call::Clean(Side::A), "None Down 1"),
-        (Call::Enable(Side::A), "None Down 1"),
-        (Call::Train, "Some(NotEnabled) Down 1"),
-        (Call::Enable(Side::B), "None Down 1"),
-        (Call::Train, "None Up 2"),
-    ];
-    follow(&rt, rt.alloc(), &plan(true, true, 1), &calls)
+    follow! { rt, &plan(true, true, 1);
+        Put(Side::B, 8) => "0",
+        Mask(Side::B, 6) => "0",
+        Pad(Side::A, 77) => "1",
+        Bell(Side::A) => "2",
+        Drop => "Some(NotClosing) Up 1",
+        Cut => "None Closing 1",
+        Cut => "Some(NotUp) Closing 1",
+        Clean(Side::B) => "Some(NotDown) Closing 1",
+        Pad(Side::A, 88) => "2",
+        Land(Side::A, 0) => "Landed(Pad { index: 12, value: 77 })",
+        PadAt(Side::B, 12) => "77",
+        Drop => "None Down 1",
+        Land(Side::A, 0) => "Nothing",
+        Enable(Side::B) => "Some(Dirty) Down 1",
+        Clean(Side::B) => "None Down 1",
+        PadAt(Side::B, 12) => "0",
+        Bits(Side::B) => "0 6",
+        Word(Side::B, 8) => "9",
+        Book(Side::B) => "SideBook { up: false, ready: 0, joined: 0, offered: 0 }",
+        Clean(Side::A) => "None Down 1",
+        Enable(Side::A) => "None Down 1",
+        Train => "Some(NotEnabled) Down 1",
+        Enable(Side::B) => "None Down 1",
+        Train => "None Up 2",
+    }
 }
 
 // The index word as it stands in memory, zeroed by hand, and fresh again.

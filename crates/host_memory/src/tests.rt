@@ -21,15 +21,43 @@ fn put(memory: &mut Memory, at: u64, bytes: &[u8]) -> Result<(), AllocError>
     Ok(())
 }
 
+// A fresh memory in which these bytes were written.
+fn written(alloc: Global, len: u64, at: u64, bytes: &[u8]) -> Result<Memory, AllocError>
+    requires { at + length bytes.now ≤ len }
+    ensures { IfOk result (λ memory. length memory.bytes ≡ len) }
+{
+    let mut memory = fresh(alloc, len)?;
+    put(&mut memory, at, bytes)?;
+    Ok(memory)
+}
+
+// A fresh memory in which this word was set.
+fn with_word(alloc: Global, len: u64, at: u64, word: u32) -> Result<Memory, AllocError>
+    requires { at + 4 ≤ len }
+    ensures { IfOk result (λ memory. length memory.bytes ≡ len) }
+{
+    let mut memory = fresh(alloc, len)?;
+    memory.promise(at, 4)?;
+    memory.set_u32(at, word);
+    Ok(memory)
+}
+
+// The bytes that stand there.
+fn bytes_at<const N: usize>(memory: &Memory, at: u64) -> [u8; N]
+    requires { at + N ≤ length memory.now.bytes }
+{
+    let mut bytes = [9u8; N];
+    memory.read(at, &mut bytes);
+    bytes
+}
+
 #[test]
 fn writes_are_read_back(rt: HostRuntime) -> Result<(), Fail> {
     let mut memory = fresh(rt.alloc(), 16)?;
     assert_eq!(rt; memory.len(), 16);
     assert!(rt; !memory.is_empty());
     put(&mut memory, 3, &[1, 2, 3])?;
-    let mut out = [9u8; 5];
-    memory.read(2, &mut out);
-    assert_eq!(rt; out, [0, 1, 2, 3, 0]);
+    assert_eq!(rt; bytes_at(&memory, 2), [0, 1, 2, 3, 0]);
     assert_eq!(rt; memory.len(), 16);
     Ok(())
 }
@@ -40,21 +68,15 @@ fn writes_go_on_behind_a_page(rt: HostRuntime) -> Result<(), Fail> {
     put(&mut memory, 4094, &[1, 2, 3, 4])?;
     put(&mut memory, 8191, &[5, 6])?;
     assert_eq!(rt; memory.page_count(), 3);
-    let mut first = [9u8; 6];
-    memory.read(4093, &mut first);
-    assert_eq!(rt; first, [0, 1, 2, 3, 4, 0]);
-    let mut second = [9u8; 6];
-    memory.read(8189, &mut second);
-    assert_eq!(rt; second, [0, 0, 5, 6, 0, 0]);
+    assert_eq!(rt; bytes_at(&memory, 4093), [0, 1, 2, 3, 4, 0]);
+    assert_eq!(rt; bytes_at(&memory, 8189), [0, 0, 5, 6, 0, 0]);
     Ok(())
 }
 
 #[test]
 fn pages_that_are_not_there_are_zeros(rt: HostRuntime) -> Result<(), Fail> {
     let mut memory = fresh(rt.alloc(), 1 << 40)?;
-    let mut out = [9u8; 3];
-    memory.read((1 << 40) - 3, &mut out);
-    assert_eq!(rt; out, [0, 0, 0]);
+    assert_eq!(rt; bytes_at(&memory, (1 << 40) - 3), [0, 0, 0]);
     memory.promise(5000, 0)?;
     assert_eq!(rt; memory.page_count(), 0);
     memory.promise(8191, 2)?;
@@ -65,12 +87,8 @@ fn pages_that_are_not_there_are_zeros(rt: HostRuntime) -> Result<(), Fail> {
 
 #[test]
 fn words_are_little_endian(rt: HostRuntime) -> Result<(), Fail> {
-    let mut memory = fresh(rt.alloc(), 8)?;
-    memory.promise(2, 4)?;
-    memory.set_u32(2, 0x0102_0304);
-    let mut out = [9u8; 8];
-    memory.read(0, &mut out);
-    assert_eq!(rt; out, [0, 0, 4, 3, 2, 1, 0, 0]);
+    let memory = with_word(rt.alloc(), 8, 2, 0x0102_0304)?;
+    assert_eq!(rt; bytes_at(&memory, 0), [0, 0, 4, 3, 2, 1, 0, 0]);
     assert_eq!(rt; memory.u32_at(2), 0x0102_0304);
     assert_eq!(rt; memory.u32_at(3), 0x0001_0203);
     Ok(())
@@ -78,9 +96,7 @@ fn words_are_little_endian(rt: HostRuntime) -> Result<(), Fail> {
 
 #[test]
 fn words_lie_on_two_pages(rt: HostRuntime) -> Result<(), Fail> {
-    let mut memory = fresh(rt.alloc(), 8192)?;
-    memory.promise(4095, 4)?;
-    memory.set_u32(4095, 0x0102_0304);
+    let memory = with_word(rt.alloc(), 8192, 4095, 0x0102_0304)?;
     assert_eq!(rt; memory.u32_at(4095), 0x0102_0304);
     assert_eq!(rt; memory.u32_at(4096), 0x0001_0203);
     Ok(())
@@ -131,31 +147,24 @@ fn window_translates_what_lies_in_it(rt: HostRuntime) {
 #[test]
 fn a_written_byte_is_the_new_one(rt: HostRuntime) -> Result<(), Fail> {
     laws::written_inside();
-    let mut memory = fresh(rt.alloc(), 16)?;
-    put(&mut memory, 3, &[1, 2, 3])?;
-    let mut out = [9u8];
-    memory.read(4, &mut out);
-    assert_eq!(rt; out, [2]);
+    let memory = written(rt.alloc(), 16, 3, &[1, 2, 3])?;
+    assert_eq!(rt; bytes_at(&memory, 4), [2]);
     Ok(())
 }
 
 #[test]
 fn the_bytes_around_a_write_stay(rt: HostRuntime) -> Result<(), Fail> {
     laws::old_outside();
-    let mut memory = fresh(rt.alloc(), 16)?;
-    put(&mut memory, 3, &[4, 5, 6, 7])?;
+    let mut memory = written(rt.alloc(), 16, 3, &[4, 5, 6, 7])?;
     put(&mut memory, 4, &[1, 2])?;
-    let mut out = [9u8; 4];
-    memory.read(3, &mut out);
-    assert_eq!(rt; out, [4, 1, 2, 7]);
+    assert_eq!(rt; bytes_at(&memory, 3), [4, 1, 2, 7]);
     Ok(())
 }
 
 #[test]
 fn a_write_at_the_end_leaves_the_length(rt: HostRuntime) -> Result<(), Fail> {
     laws::length_stays();
-    let mut memory = fresh(rt.alloc(), 16)?;
-    put(&mut memory, 13, &[1, 2, 3])?;
+    let memory = written(rt.alloc(), 16, 13, &[1, 2, 3])?;
     assert_eq!(rt; memory.len(), 16);
     Ok(())
 }
@@ -163,32 +172,24 @@ fn a_write_at_the_end_leaves_the_length(rt: HostRuntime) -> Result<(), Fail> {
 #[test]
 fn a_write_over_a_page_border_is_read_back(rt: HostRuntime) -> Result<(), Fail> {
     laws::reads_back();
-    let mut memory = fresh(rt.alloc(), 8192)?;
-    put(&mut memory, 4095, &[5, 6, 7])?;
-    let mut out = [9u8; 3];
-    memory.read(4095, &mut out);
-    assert_eq!(rt; out, [5, 6, 7]);
+    let memory = written(rt.alloc(), 8192, 4095, &[5, 6, 7])?;
+    assert_eq!(rt; bytes_at(&memory, 4095), [5, 6, 7]);
     Ok(())
 }
 
 #[test]
 fn a_read_before_a_write_is_as_it_was(rt: HostRuntime) -> Result<(), Fail> {
     laws::reads_elsewhere();
-    let mut memory = fresh(rt.alloc(), 16)?;
-    put(&mut memory, 0, &[1, 2])?;
+    let mut memory = written(rt.alloc(), 16, 0, &[1, 2])?;
     put(&mut memory, 2, &[3, 4])?;
-    let mut out = [9u8; 2];
-    memory.read(0, &mut out);
-    assert_eq!(rt; out, [1, 2]);
+    assert_eq!(rt; bytes_at(&memory, 0), [1, 2]);
     Ok(())
 }
 
 #[test]
 fn a_word_is_read_back(rt: HostRuntime) -> Result<(), Fail> {
     laws::word_reads_back();
-    let mut memory = fresh(rt.alloc(), 8)?;
-    memory.promise(1, 4)?;
-    memory.set_u32(1, 0xa1b2_c3d4);
+    let memory = with_word(rt.alloc(), 8, 1, 0xa1b2_c3d4)?;
     assert_eq!(rt; memory.u32_at(1), 0xa1b2_c3d4);
     Ok(())
 }
@@ -196,44 +197,47 @@ fn a_word_is_read_back(rt: HostRuntime) -> Result<(), Fail> {
 #[test]
 fn a_word_beside_a_write_is_as_it_was(rt: HostRuntime) -> Result<(), Fail> {
     laws::word_elsewhere();
-    let mut memory = fresh(rt.alloc(), 8)?;
-    memory.promise(0, 4)?;
-    memory.set_u32(0, 0x0102_0304);
+    let mut memory = with_word(rt.alloc(), 8, 0, 0x0102_0304)?;
     put(&mut memory, 4, &[9])?;
     assert_eq!(rt; memory.u32_at(0), 0x0102_0304);
     Ok(())
+}
+
+// How many pages a fresh memory of four has once these ranges, places and lengths, are promised.
+fn pages_promised(alloc: Global, ranges: &[(u64, u64)]) -> Result<usize, AllocError> {
+    let mut memory = fresh(alloc, 16_384)?;
+    for &(at, len) in ranges {
+        let size = memory.len();
+        if at <= size && len <= size - at {
+            memory.promise(at, len)?;
+        }
+    }
+    Ok(memory.page_count())
 }
 
 // The range lies on two pages, and its part too.
 #[test]
 fn a_part_of_a_promised_range_makes_no_page(rt: HostRuntime) -> Result<(), Fail> {
     laws::part_promised();
-    let mut memory = fresh(rt.alloc(), 16_384)?;
-    memory.promise(4000, 200)?;
-    memory.promise(4090, 10)?;
-    assert_eq!(rt; memory.page_count(), 2);
+    assert_eq!(rt; pages_promised(rt.alloc(), &[(4000, 200), (4090, 10)])?, 2);
     Ok(())
 }
 
 #[test]
 fn two_promised_ranges_are_one(rt: HostRuntime) -> Result<(), Fail> {
     laws::both_promised();
-    let mut memory = fresh(rt.alloc(), 16_384)?;
-    memory.promise(0, 4096)?;
-    memory.promise(4096, 4097)?;
-    assert_eq!(rt; memory.page_count(), 3);
-    memory.promise(0, 8193)?;
-    assert_eq!(rt; memory.page_count(), 3);
+    let one = [(0, 4096), (4096, 4097), (0, 8193)];
+    assert_eq!(rt; pages_promised(rt.alloc(), &one[..2])?, 3);
+    assert_eq!(rt; pages_promised(rt.alloc(), &one)?, 3);
     Ok(())
 }
 
 #[test]
 fn a_promise_stays_behind_another(rt: HostRuntime) -> Result<(), Fail> {
     laws::stays_promised();
-    let mut memory = fresh(rt.alloc(), 16_384)?;
-    memory.promise(0, 1)?;
-    memory.promise(8192, 1)?;
-    memory.promise(0, 1)?;
-    assert_eq!(rt; memory.page_count(), 2);
+    assert_eq!(rt;
+        pages_promised(rt.alloc(), &[(0, 1), (8192, 1), (0, 1)])?,
+        2
+    );
     Ok(())
 }
