@@ -9,6 +9,7 @@ ghost use Rattle.step_kinds.specs.Limits.{IsMtu};
 use super::*;
 use crate::laws::refuses_where_begin_would;
 use bridge_pair::{Pair, memory_bytes};
+use call_tables::{assert_answers, calls, follow};
 use std::alloc::{AllocError, Global};
 use std::process::Abort;
 use std::test::Fail;
@@ -214,10 +215,7 @@ fn follow(
 ) -> Result<(), Fail> {
     assert!(rt; fits(pair.plan()));
     let mut queue = fresh(alloc, pair, side);
-    for (call, want) in calls {
-        let answer = make(alloc, pair, &mut queue, *call)?;
-        assert_eq!(rt; answer.as_str(), *want);
-    }
+    assert_answers!(rt; calls, call => make(alloc, pair, &mut queue, *call)?);
     Ok(())
 }
 
@@ -262,34 +260,33 @@ const BELL: &str = "Some(Bell { queue: 0 })";
 #[test]
 fn a_frame_is_begun_and_posted(rt: HostRuntime) -> Result<(), Fail> {
     let mut pair = Pair::new(rt.alloc(), &plan(true, 1023))?;
-    let calls = [
-        (Call::Free, "3"),
-        (Call::RefusesLong, "true"),
-        (Call::BeginLong, "TooLong { len: 1012, max: 1011 }"),
-        (Call::Refuses, "false"),
-        (Call::Begin, "Ok { number: 0 }"),
-        (Call::Refuses, "true"),
-        (Call::Begin, "Busy"),
-        (Call::Free, "2"),
-        (Call::Post, CHUNK),
-        (Call::Post, LEN),
-        (Call::Post, VER),
-        (Call::Post, FLAG),
-        (Call::Post, BELL),
-        (Call::Post, "None"),
-    ];
-    follow(&rt, rt.alloc(), &mut pair, Side::A, &calls)
+    follow! { rt, &mut pair, Side::A;
+        Free => "3",
+        RefusesLong => "true",
+        BeginLong => "TooLong { len: 1012, max: 1011 }",
+        Refuses => "false",
+        Begin => "Ok { number: 0 }",
+        Refuses => "true",
+        Begin => "Busy",
+        Free => "2",
+        Post => CHUNK,
+        Post => LEN,
+        Post => VER,
+        Post => FLAG,
+        Post => BELL,
+        Post => "None",
+    }
 }
 // Side A sends a frame of 5 bytes.
 fn send(rt: &impl Abort, alloc: Global, pair: &mut Pair) -> Result<(), Fail> {
-    let sent = [
-        (Call::Begin, "Ok { number: 0 }"),
-        (Call::Post, CHUNK),
-        (Call::Post, LEN),
-        (Call::Post, VER),
-        (Call::Post, FLAG),
-        (Call::Post, BELL),
-    ];
+    let sent = calls! {
+        Begin => "Ok { number: 0 }",
+        Post => CHUNK,
+        Post => LEN,
+        Post => VER,
+        Post => FLAG,
+        Post => BELL,
+    };
     follow(rt, alloc, pair, Side::A, &sent)
 }
 
@@ -302,20 +299,19 @@ fn a_frame_is_received(rt: HostRuntime) -> Result<(), Fail> {
     assert_eq!(rt; word(&pair, Side::B, 1011), Some(0));
     assert_eq!(rt; word(&pair, Side::B, 1015), Some(5));
     assert_eq!(rt; word(&pair, Side::B, 1019), Some(1));
-    let received = [
-        (Call::Look, "Ready { number: 0, len: 5 }"),
-        (Call::Look, "OutOfTurn"),
-        (Call::Ack, "None"),
-        (Call::Clear, "None"),
-        (Call::Copy, "0 5 Some(1) Some(5)"),
-        (Call::Copy, "OutOfTurn"),
-        (Call::Clear, "Some(0)"),
-        (Call::Clear, "None"),
-        (Call::Ack, "Some(0)"),
-        (Call::Ack, "None"),
-        (Call::Look, "Empty"),
-    ];
-    follow(&rt, rt.alloc(), &mut pair, Side::B, &received)?;
+    follow! { rt, &mut pair, Side::B;
+        Look => "Ready { number: 0, len: 5 }",
+        Look => "OutOfTurn",
+        Ack => "None",
+        Clear => "None",
+        Copy => "0 5 Some(1) Some(5)",
+        Copy => "OutOfTurn",
+        Clear => "Some(0)",
+        Clear => "None",
+        Ack => "Some(0)",
+        Ack => "None",
+        Look => "Empty",
+    }?;
     assert_eq!(rt; word(&pair, Side::B, 1019), Some(0));
     assert_eq!(rt; word(&pair, Side::A, 4092), Some(3));
     land(&mut pair, Side::B, 1);
@@ -326,58 +322,54 @@ fn a_frame_is_received(rt: HostRuntime) -> Result<(), Fail> {
 #[test]
 fn a_frame_of_three_parts(rt: HostRuntime) -> Result<(), Fail> {
     let mut pair = Pair::new(rt.alloc(), &plan(true, 1023))?;
-    let sent = [
-        (Call::BeginParts, "Ok { number: 0 }"),
-        (Call::Post, CHUNK),
-        (Call::Post, "Some(Chunk { queue: 0, number: 0, part: 1 })"),
-        (Call::Post, "Some(Chunk { queue: 0, number: 0, part: 2 })"),
-        (Call::Post, LEN),
-        (Call::Post, VER),
-        (Call::Post, FLAG),
-    ];
-    follow(&rt, rt.alloc(), &mut pair, Side::A, &sent)?;
+    follow! { rt, &mut pair, Side::A;
+        BeginParts => "Ok { number: 0 }",
+        Post => CHUNK,
+        Post => "Some(Chunk { queue: 0, number: 0, part: 1 })",
+        Post => "Some(Chunk { queue: 0, number: 0, part: 2 })",
+        Post => LEN,
+        Post => VER,
+        Post => FLAG,
+    }?;
     land(&mut pair, Side::A, 6);
-    let received = [
-        (Call::Look, "Ready { number: 0, len: 300 }"),
-        (Call::Copy, "Part { number: 0, part: 0 }"),
-        (Call::Copy, "Part { number: 0, part: 1 }"),
-        (Call::Copy, "0 300 Some(1) Some(7)"),
-        (Call::Clear, "Some(0)"),
-        (Call::Ack, "Some(0)"),
-    ];
-    follow(&rt, rt.alloc(), &mut pair, Side::B, &received)
+    follow! { rt, &mut pair, Side::B;
+        Look => "Ready { number: 0, len: 300 }",
+        Copy => "Part { number: 0, part: 0 }",
+        Copy => "Part { number: 0, part: 1 }",
+        Copy => "0 300 Some(1) Some(7)",
+        Clear => "Some(0)",
+        Ack => "Some(0)",
+    }
 }
 
 #[test]
 fn a_link_down_entry_closes_the_queue(rt: HostRuntime) -> Result<(), Fail> {
     let mut pair = Pair::new(rt.alloc(), &plan(true, 1023))?;
-    let sent = [
-        (Call::Down, "Ok { number: 0 }"),
-        (Call::Down, "Closed"),
-        (Call::Begin, "Closed"),
-        (Call::Refuses, "true"),
-        (Call::Look, "Closed"),
-        (Call::Post, LEN),
-        (Call::Post, VER),
-        (Call::Post, DOWN),
-        (Call::Post, BELL),
-        (Call::Post, "None"),
-        (Call::Reset, ""),
-        (Call::Free, "3"),
-        (Call::Begin, "Ok { number: 0 }"),
-        (Call::Reset, ""),
-    ];
-    follow(&rt, rt.alloc(), &mut pair, Side::A, &sent)?;
+    follow! { rt, &mut pair, Side::A;
+        Down => "Ok { number: 0 }",
+        Down => "Closed",
+        Begin => "Closed",
+        Refuses => "true",
+        Look => "Closed",
+        Post => LEN,
+        Post => VER,
+        Post => DOWN,
+        Post => BELL,
+        Post => "None",
+        Reset => "",
+        Free => "3",
+        Begin => "Ok { number: 0 }",
+        Reset => "",
+    }?;
     land(&mut pair, Side::A, 3);
-    let received = [
-        (Call::Look, "PeerDown"),
-        (Call::Look, "Closed"),
-        (Call::Begin, "Closed"),
-        (Call::Reset, ""),
-        (Call::Begin, "Ok { number: 0 }"),
-        (Call::Look, "PeerDown"),
-    ];
-    follow(&rt, rt.alloc(), &mut pair, Side::B, &received)?;
+    follow! { rt, &mut pair, Side::B;
+        Look => "PeerDown",
+        Look => "Closed",
+        Begin => "Closed",
+        Reset => "",
+        Begin => "Ok { number: 0 }",
+        Look => "PeerDown",
+    }?;
     assert_eq!(rt; word(&pair, Side::B, 1019), Some(3));
     Ok(())
 }
@@ -386,62 +378,60 @@ fn a_link_down_entry_closes_the_queue(rt: HostRuntime) -> Result<(), Fail> {
 #[test]
 fn a_ring_without_room(rt: HostRuntime) -> Result<(), Fail> {
     let mut pair = Pair::new(rt.alloc(), &plan(true, 65536))?;
-    let sent = [
-        (Call::Free, "1"),
-        (Call::RefusesLong, "false"),
-        (Call::Begin, "Ok { number: 0 }"),
-        (Call::Post, CHUNK),
-        (Call::Post, LEN),
-        (Call::Post, VER),
-        (Call::Post, FLAG),
-        (Call::Post, BELL),
-        (Call::Free, "0"),
-        (Call::Begin, "NoRoom { head: 1, tail: 1 }"),
-        (Call::Down, "NoRoom { head: 1, tail: 1 }"),
-        (Call::Refuses, "false"),
-    ];
-    follow(&rt, rt.alloc(), &mut pair, Side::A, &sent)
+    follow! { rt, &mut pair, Side::A;
+        Free => "1",
+        RefusesLong => "false",
+        Begin => "Ok { number: 0 }",
+        Post => CHUNK,
+        Post => LEN,
+        Post => VER,
+        Post => FLAG,
+        Post => BELL,
+        Free => "0",
+        Begin => "NoRoom { head: 1, tail: 1 }",
+        Down => "NoRoom { head: 1, tail: 1 }",
+        Refuses => "false",
+    }
 }
 
 // An index word that names no slot of the ring is no room.
 #[test]
 fn room_by_the_index_word(rt: HostRuntime) -> Result<(), Fail> {
     let mut pair = Pair::new(rt.alloc(), &plan(true, 1023))?;
-    set_word(&mut pair, Side::A, 4092, 0)?;
-    let none = [
-        (Call::Free, "0"),
-        (Call::Begin, "NoRoom { head: 0, tail: 0 }"),
+    let tails = [
+        (0, "0", "NoRoom { head: 0, tail: 0 }"),
+        (4, "0", "NoRoom { head: 0, tail: 4 }"),
+        (1, "1", "Ok { number: 0 }"),
     ];
-    follow(&rt, rt.alloc(), &mut pair, Side::A, &none)?;
-    set_word(&mut pair, Side::A, 4092, 4)?;
-    let wild = [
-        (Call::Free, "0"),
-        (Call::Begin, "NoRoom { head: 0, tail: 4 }"),
-    ];
-    follow(&rt, rt.alloc(), &mut pair, Side::A, &wild)?;
-    set_word(&mut pair, Side::A, 4092, 1)?;
-    let one = [(Call::Free, "1"), (Call::Begin, "Ok { number: 0 }")];
-    follow(&rt, rt.alloc(), &mut pair, Side::A, &one)
+    for (tail, free, begun) in tails {
+        set_word(&mut pair, Side::A, 4092, tail)?;
+        follow! { rt, &mut pair, Side::A;
+            Free => free,
+            Begin => begun,
+        }?;
+    }
+    Ok(())
 }
 
 // Version, length and flags of slot 0 as anyone might have written them.
 #[test]
 fn an_entry_by_its_header(rt: HostRuntime) -> Result<(), Fail> {
     let mut pair = Pair::new(rt.alloc(), &plan(true, 1023))?;
-    set_word(&mut pair, Side::B, 1011, 7)?;
     set_word(&mut pair, Side::B, 1019, 1)?;
-    let other = [(Call::Look, "VerDiffers { seen: 7, own: 0 }")];
-    follow(&rt, rt.alloc(), &mut pair, Side::B, &other)?;
-    set_word(&mut pair, Side::B, 1011, 0)?;
-    set_word(&mut pair, Side::B, 1015, 1012)?;
-    let long = [(Call::Look, "Long { len: 1012, max: 1011 }")];
-    follow(&rt, rt.alloc(), &mut pair, Side::B, &long)?;
-    set_word(&mut pair, Side::B, 1015, 2)?;
-    let two = [
-        (Call::Look, "Ready { number: 0, len: 2 }"),
-        (Call::Copy, "0 2 Some(0) Some(0)"),
+    let headers = [
+        (7, 0, "VerDiffers { seen: 7, own: 0 }"),
+        (0, 1012, "Long { len: 1012, max: 1011 }"),
+        (0, 2, "Ready { number: 0, len: 2 }"),
     ];
-    follow(&rt, rt.alloc(), &mut pair, Side::B, &two)
+    for (version, len, seen) in headers {
+        set_word(&mut pair, Side::B, 1011, version)?;
+        set_word(&mut pair, Side::B, 1015, len)?;
+        follow! { rt, &mut pair, Side::B; Look => seen }?;
+    }
+    follow! { rt, &mut pair, Side::B;
+        Look => "Ready { number: 0, len: 2 }",
+        Copy => "0 2 Some(0) Some(0)",
+    }
 }
 
 // Whether a begin was refused for another reason than want of room.
@@ -480,26 +470,26 @@ fn a_refusal_is_said_before(rt: HostRuntime) -> Result<(), Fail> {
 #[test]
 fn a_link_that_is_not_up(rt: HostRuntime) -> Result<(), Fail> {
     let mut pair = Pair::new(rt.alloc(), &plan(false, 1023))?;
-    let down = [
-        (Call::Begin, "LinkDown"),
-        (Call::Down, "LinkDown"),
-        (Call::Refuses, "true"),
-        (Call::Post, "None"),
-        (Call::Look, "NotReady"),
-    ];
-    follow(&rt, rt.alloc(), &mut pair, Side::A, &down)?;
+    follow! { rt, &mut pair, Side::A;
+        Begin => "LinkDown",
+        Down => "LinkDown",
+        Refuses => "true",
+        Post => "None",
+        Look => "NotReady",
+    }?;
     let _enabled = (pair.enable(Side::A), pair.enable(Side::B));
     assert!(rt; pair.train().is_ok());
-    let unready = [
-        (Call::BeginLong, "NotReady"),
-        (Call::Down, "NotReady"),
-        (Call::Look, "NotReady"),
-    ];
-    follow(&rt, rt.alloc(), &mut pair, Side::A, &unready)?;
+    follow! { rt, &mut pair, Side::A;
+        BeginLong => "NotReady",
+        Down => "NotReady",
+        Look => "NotReady",
+    }?;
     let mut pair = Pair::new(rt.alloc(), &plan(true, 1023))?;
     assert!(rt; pair.cut().is_ok());
-    let closing = [(Call::Begin, "LinkDown"), (Call::Look, "Empty")];
-    follow(&rt, rt.alloc(), &mut pair, Side::A, &closing)?;
+    follow! { rt, &mut pair, Side::A;
+        Begin => "LinkDown",
+        Look => "Empty",
+    }?;
     Ok(())
 }
 
