@@ -9,8 +9,9 @@ use Rattle.frame_ring.specs.Calls.{after_ack, after_clear, after_copy, after_loo
 use Rattle.frame_ring.specs.Port.{PortState, Receiving, with_receiving}
 use Rattle.queue_pair.specs.Gates.{after_look, after_look_answer, look_answer}
 use Rattle.queue_pair.specs.Queue.{QueueState}
+use Rattle.frame_ring.specs.declared.RingLook.TheVariants.{Ready, PeerDown}
 use Rattle.queue_pair.specs.declared.LookAnswer.{LookAnswer}
-use Rattle.queue_pair.specs.declared.LookAnswer.TheVariants.{Ready, PeerDown}
+use Rattle.queue_pair.specs.declared.LookAnswer.TheVariants.{Looked}
 use Rattle.fabric_core.proofs.Keeping.{SamePlace, same_place}
 
 -- of a receiver that goes on where a test says so, or stays
@@ -91,8 +92,8 @@ post_place port = record { same_plan = refl; same_side = refl; same_queue = refl
 -- Looking
 
 look_at : (answer : LookAnswer) (queue : QueueState) (port : PortState) → SamePlace port queue.port → SamePlace (after_look_answer answer queue port).port queue.port
-look_at (Ready number len) queue port same = same
-look_at PeerDown queue port same = same_place queue.port
+look_at (Looked (Ready number len)) queue port same = same
+look_at (Looked PeerDown) queue port same = same_place queue.port
 look_at answer queue port same = same_place queue.port
 
 pub look_place : (queue : QueueState) (bridge : Bridge) → SamePlace (after_look queue bridge).port queue.port

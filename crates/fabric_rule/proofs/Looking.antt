@@ -23,10 +23,10 @@ use Rattle.memory_model.specs.Memory.{bytes_of_site}
 use Rattle.frame_ring.specs.Port.{Receiving, fresh_port, with_receiving}
 use Rattle.frame_ring.specs.Calls.{entry_found, found_seen, look_found}
 use Rattle.frame_ring.specs.declared.RingLook.TheVariants.{OutOfTurn as RingOutOfTurn}
-use Rattle.queue_pair.specs.Gates.{after_look_answer, answer_of_look, look_answer, after_look}
+use Rattle.queue_pair.specs.Gates.{after_look_answer, look_answer, after_look}
 use Rattle.queue_pair.specs.Queue.{QueueState}
 use Rattle.queue_pair.specs.declared.LookAnswer.{LookAnswer}
-use Rattle.queue_pair.specs.declared.LookAnswer.TheVariants.{NotReady as NotJoined, Closed as QueueClosed}
+use Rattle.queue_pair.specs.declared.LookAnswer.TheVariants.{Looked, NotReady as NotJoined, Closed as QueueClosed}
 use Rattle.fabric_rule.specs.Answers.{of_look}
 use Rattle.fabric_rule.specs.InPlace.{CountsOfPhase}
 use Rattle.fabric_rule.specs.Moves.{Move, look_move}
@@ -51,7 +51,7 @@ module _ {devs : List DevPlan} {plan : PairPlan} {k : ℕ} (now : Standing devs 
   -- Look
 
   abbrev look_value : Bool → Bool → Bool → Receiving → Found → LookAnswer
-  look_value joined closed idle receiving seen = if not joined then NotJoined else if closed then QueueClosed else answer_of_look (if idle then look_found receiving seen else RingOutOfTurn)
+  look_value joined closed idle receiving seen = if not joined then NotJoined else if closed then QueueClosed else Looked (if idle then look_found receiving seen else RingOutOfTurn)
 
   abbrev looked : Side → ℕ → QueueState → Bool → Bool → Bool → Found → Move
   looked side queue q joined closed idle seen =

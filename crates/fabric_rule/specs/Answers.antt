@@ -19,6 +19,7 @@ use Rattle.hand_shake.specs.declared.JoinAnswer.{JoinAnswer}
 use Rattle.hand_shake.specs.declared.JoinAnswer.TheVariants as join
 use Rattle.queue_pair.specs.declared.BeginAnswer.{BeginAnswer}
 use Rattle.queue_pair.specs.declared.BeginAnswer.TheVariants as begin
+use Rattle.frame_ring.specs.declared.RingLook.TheVariants as ring
 use Rattle.queue_pair.specs.declared.LookAnswer.{LookAnswer}
 use Rattle.queue_pair.specs.declared.LookAnswer.TheVariants as look
 
@@ -88,12 +89,12 @@ of_land Blocked = answer.Blocked
 of_land Nothing = answer.Nothing
 
 abbrev pub of_look : LookAnswer → Answer
-of_look (look.Ready number len) = answer.ReadyFrame number len
-of_look look.Empty = answer.Empty
-of_look look.PeerDown = answer.PeerDown
-of_look (look.VerDiffers seen own) = answer.VerDiffers seen own
-of_look (look.Long len most) = answer.Long len most
-of_look look.OutOfTurn = answer.OutOfTurn
+of_look (look.Looked (ring.Ready number len)) = answer.ReadyFrame number len
+of_look (look.Looked ring.Empty) = answer.Empty
+of_look (look.Looked ring.PeerDown) = answer.PeerDown
+of_look (look.Looked (ring.VerDiffers seen own)) = answer.VerDiffers seen own
+of_look (look.Looked (ring.Long len most)) = answer.Long len most
+of_look (look.Looked ring.OutOfTurn) = answer.OutOfTurn
 of_look look.NotReady = answer.NotReady
 of_look look.Closed = answer.Closed
 

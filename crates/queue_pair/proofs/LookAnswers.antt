@@ -7,10 +7,10 @@ use Rattle.frame_ring.specs.Calls.{entry_found, look_found, found_seen, look_ans
 use Rattle.frame_ring.specs.declared.RingLook.{RingLook}
 use Rattle.frame_ring.specs.declared.RingLook.TheVariants.{Ready as RingReady, Empty as RingEmpty, PeerDown as RingPeerDown, VerDiffers as RingVerDiffers, Long as RingLong, OutOfTurn as RingOutOfTurn}
 use Rattle.lane_model.specs.Tests.{is_idle}
-use Rattle.queue_pair.specs.Gates.{after_look, after_look_answer, answer_of_look, is_joined}
+use Rattle.queue_pair.specs.Gates.{after_look, after_look_answer, is_joined}
 use Rattle.queue_pair.specs.Queue.{QueueState, with_port}
 use Rattle.queue_pair.specs.declared.LookAnswer.{LookAnswer}
-use Rattle.queue_pair.specs.declared.LookAnswer.TheVariants.{NotReady as NotJoined, Closed as QueueClosed}
+use Rattle.queue_pair.specs.declared.LookAnswer.TheVariants.{Looked, NotReady as NotJoined, Closed as QueueClosed}
 
 -- the queue with the port that was left, closed where a link-down entry was found
 abbrev pub looked : RingLook → QueueState → PortState → QueueState
@@ -18,7 +18,7 @@ looked RingPeerDown queue port = record { port = port; closed = true }
 looked look queue port = with_port queue port
 
 found_looked : (queue : QueueState) (found : Found)
-    → after_look_answer (answer_of_look (look_found queue.port.receiving found)) queue (with_receiving queue.port (entry_found queue.port.receiving found))
+    → after_look_answer (Looked (look_found queue.port.receiving found)) queue (with_receiving queue.port (entry_found queue.port.receiving found))
     ≡ looked (look_found queue.port.receiving found) queue (with_receiving queue.port (entry_found queue.port.receiving found))
 found_looked queue NoEntry = refl
 found_looked queue ALinkDownEntry = refl
@@ -28,7 +28,7 @@ found_looked queue (AnEntry len left) = refl
 
 -- whether or not the receiver is idle
 idle_looked : (queue : QueueState) (found : Found) (idle : Bool)
-    → after_look_answer (answer_of_look (if idle then look_found queue.port.receiving found else RingOutOfTurn)) queue (if idle then with_receiving queue.port (entry_found queue.port.receiving found) else queue.port)
+    → after_look_answer (Looked (if idle then look_found queue.port.receiving found else RingOutOfTurn)) queue (if idle then with_receiving queue.port (entry_found queue.port.receiving found) else queue.port)
     ≡ looked (if idle then look_found queue.port.receiving found else RingOutOfTurn) queue (if idle then with_receiving queue.port (entry_found queue.port.receiving found) else queue.port)
 idle_looked queue found true = found_looked queue found
 idle_looked queue found false = refl
@@ -43,7 +43,7 @@ pub looked_is : (queue : QueueState) (bridge : Bridge) (look : RingLook) (port :
     → look ≡ port_look_answer queue.port bridge → port ≡ port_after_look queue.port bridge → after_look queue bridge ≡ looked look queue port
 looked_is queue bridge look port joined opened look_is port_is =
     rw look_is (rw port_is (
-    ap (λ answer. after_look_answer answer queue (port_after_look queue.port bridge)) (open_answer (is_joined queue bridge) queue.closed (answer_of_look (port_look_answer queue.port bridge)) joined opened)
+    ap (λ answer. after_look_answer answer queue (port_after_look queue.port bridge)) (open_answer (is_joined queue bridge) queue.closed (Looked (port_look_answer queue.port bridge)) joined opened)
     ∙ idle_looked queue (found_seen queue.port bridge) (is_idle queue.port.receiving.phase)))
 
 -- where no link-down entry was found

@@ -23,8 +23,9 @@ use Rattle.queue_pair.specs.Needs.{HasNeeds}
 use Rattle.queue_pair.specs.Queue.{QueueState, fresh_queue, with_port}
 use Rattle.queue_pair.specs.declared.BeginAnswer.{BeginAnswer}
 use Rattle.queue_pair.specs.declared.BeginAnswer.TheVariants.{Ok as IsBegun, LinkDown, NotReady, Closed, TooLong, Busy, NoRoom}
+use Rattle.frame_ring.specs.declared.RingLook.TheVariants.{Ready, Empty, PeerDown, VerDiffers, Long, OutOfTurn}
 use Rattle.queue_pair.specs.declared.LookAnswer.{LookAnswer}
-use Rattle.queue_pair.specs.declared.LookAnswer.TheVariants.{Ready, Empty, PeerDown, VerDiffers, Long, OutOfTurn, NotReady as NotJoined, Closed as QueueClosed}
+use Rattle.queue_pair.specs.declared.LookAnswer.TheVariants.{Looked, NotReady as NotJoined, Closed as QueueClosed}
 
 -- A new queue needs nothing but a plan that fits
 
@@ -85,12 +86,12 @@ qpdown_stays queue bridge =
     (stays_where queue.port (down_begun queue.port) (down_answer queue.port bridge) (record { plan = refl; side = refl })))
 
 stays_looked : (answer : LookAnswer) (queue : QueueState) (port : PortState) → Stays queue.port port → Stays queue.port (after_look_answer answer queue port).port
-stays_looked (Ready number len) queue port h = h
-stays_looked Empty queue port h = same queue.port
-stays_looked PeerDown queue port h = same queue.port
-stays_looked (VerDiffers seen own) queue port h = same queue.port
-stays_looked (Long len most) queue port h = same queue.port
-stays_looked OutOfTurn queue port h = same queue.port
+stays_looked (Looked (Ready number len)) queue port h = h
+stays_looked (Looked Empty) queue port h = same queue.port
+stays_looked (Looked PeerDown) queue port h = same queue.port
+stays_looked (Looked (VerDiffers seen own)) queue port h = same queue.port
+stays_looked (Looked (Long len most)) queue port h = same queue.port
+stays_looked (Looked OutOfTurn) queue port h = same queue.port
 stays_looked NotJoined queue port h = same queue.port
 stays_looked QueueClosed queue port h = same queue.port
 

@@ -9,13 +9,12 @@ use Rattle.plan_model.specs.Link.{is_up}
 use Rattle.bridge_pair.specs.Bridge.{Bridge, bells_of, book_of, with_bells}
 use Rattle.frame_ring.specs.Port.{PortState}
 use Rattle.frame_ring.specs.Calls.{begin_answer as port_begin_answer, after_begin as port_after_begin, down_answer, after_down, refuses_answer as port_refuses, look_answer as port_look_answer, after_look as port_after_look}
-use Rattle.frame_ring.specs.declared.RingLook.{RingLook}
-use Rattle.frame_ring.specs.declared.RingLook.TheVariants.{Ready as RingReady, Empty as RingEmpty, PeerDown as RingPeerDown, VerDiffers as RingVerDiffers, Long as RingLong, OutOfTurn as RingOutOfTurn}
+use Rattle.frame_ring.specs.declared.RingLook.TheVariants.{Ready, PeerDown}
 use Rattle.queue_pair.specs.Queue.{QueueState, with_port}
 use Rattle.queue_pair.specs.declared.BeginAnswer.{BeginAnswer}
 use Rattle.queue_pair.specs.declared.BeginAnswer.TheVariants.{Ok as IsBegun, LinkDown, NotReady, Closed, TooLong, Busy, NoRoom}
 use Rattle.queue_pair.specs.declared.LookAnswer.{LookAnswer}
-use Rattle.queue_pair.specs.declared.LookAnswer.TheVariants.{Ready, Empty, PeerDown, VerDiffers, Long, OutOfTurn, NotReady as NotJoined, Closed as QueueClosed}
+use Rattle.queue_pair.specs.declared.LookAnswer.TheVariants.{Looked, NotReady as NotJoined, Closed as QueueClosed}
 
 -- whether the queue is joined on the side
 abbrev pub is_joined : QueueState → Bridge → Bool
@@ -69,24 +68,16 @@ refuses_answer queue bridge len = is_some (sender_refusal queue bridge) || port_
 
 -- Looking
 
-abbrev pub answer_of_look : RingLook → LookAnswer
-answer_of_look (RingReady number len) = Ready number len
-answer_of_look RingEmpty = Empty
-answer_of_look RingPeerDown = PeerDown
-answer_of_look (RingVerDiffers seen own) = VerDiffers seen own
-answer_of_look (RingLong len most) = Long len most
-answer_of_look RingOutOfTurn = OutOfTurn
-
 abbrev pub look_answer : QueueState → Bridge → LookAnswer
 look_answer queue bridge =
     if not (is_joined queue bridge) then NotJoined
     else if queue.closed then QueueClosed
-    else answer_of_look (port_look_answer queue.port bridge)
+    else Looked (port_look_answer queue.port bridge)
 
 -- a link-down entry closes the queue on this side; every answer but Ready leaves the port as it was
 abbrev pub after_look_answer : LookAnswer → QueueState → PortState → QueueState
-after_look_answer (Ready number len) queue port = with_port queue port
-after_look_answer PeerDown queue port = record queue { closed = true }
+after_look_answer (Looked (Ready number len)) queue port = with_port queue port
+after_look_answer (Looked PeerDown) queue port = record queue { closed = true }
 after_look_answer answer queue port = queue
 
 abbrev pub after_look : QueueState → Bridge → QueueState

@@ -8,6 +8,7 @@ mod queue;
 #[cfg(test)]
 mod tests;
 
+pub use frame_ring::RingLook;
 pub use queue::{QueuePair, irq};
 
 /// The answer to a begin or to a queue's going down, in the order in which its refusals are tested.
@@ -42,36 +43,12 @@ pub enum BeginAnswer {
     },
 }
 
-/// The answer to a look. `NotReady` is tested first, then `Closed`, `OutOfTurn`, `Empty`, `PeerDown`, `VerDiffers`, `Long`.
+/// The answer to a look. `NotReady` is tested first, then `Closed`.
 #[derive(Clone, Copy, Debug, PartialEq, Eq)]
 pub enum LookAnswer {
-    /// An entry stands in the next slot.
-    Ready {
-        /// The number of the entry, counted from 0 in the session.
-        number: u64,
-        /// Its length, in bytes.
-        len: u32,
-    },
-    /// The flags of the next slot lack DONE.
-    Empty,
-    /// The flags say LINK_DOWN: the queue is closed on this side now.
-    PeerDown,
-    /// The version isn't the next entry's.
-    VerDiffers {
-        /// The version that stands there.
-        seen: u32,
-        /// The number of the next entry in 32 bits.
-        own: u32,
-    },
-    /// The entry has more bytes than an entry may have, or makes its frame longer than a frame may be.
-    Long {
-        /// The length, in bytes.
-        len: u32,
-        /// The most that it may be.
-        max: u32,
-    },
-    /// Another entry is at hand.
-    OutOfTurn,
+    /// What came of looking for the next entry of the ring. Where it is [`RingLook::PeerDown`], the queue is closed on this
+    /// side now.
+    Looked(RingLook),
     /// The queue isn't joined on this side.
     NotReady,
     /// The queue is closed on this side.

@@ -5,7 +5,7 @@ ghost use Rattle.bridge_pair.specs.Bridge.{flight_of, pages_of, with_pages};
 ghost use Rattle.bridge_pair.specs.Pages.{PagesGrow};
 ghost use Rattle.plan_model.specs.DeclaredPlans.{IsPair};
 ghost use Rattle.plan_model.specs.Plans.{side_plan as side_plan_of};
-ghost use Rattle.queue_pair.specs.Gates.{after_irq, answer_of_begun as begun_answer, answer_of_look as answer_of_ring, irq_bits};
+ghost use Rattle.queue_pair.specs.Gates.{after_irq, answer_of_begun as begun_answer, irq_bits};
 ghost use Rattle.step_kinds.specs.Limits.{most_frame_bytes};
 ghost use Rattle.step_kinds.specs.Sides.{other_side};
 
@@ -149,7 +149,7 @@ impl QueuePair {
         if let RingLook::PeerDown = look {
             self.closed = true;
         }
-        Ok(answer_of_look(look))
+        Ok(LookAnswer::Looked(look))
     }
 
     /// Copies the next part of the entry at hand, as [`Port::copy`]. It takes no memory.
@@ -251,20 +251,6 @@ fn answer_of_begun(begun: Begun) -> BeginAnswer
         Begun::TooLong { len, max } => BeginAnswer::TooLong { len, max },
         Begun::Busy => BeginAnswer::Busy,
         Begun::NoRoom { head, tail } => BeginAnswer::NoRoom { head, tail },
-    }
-}
-
-// What the port's look is for the queue.
-fn answer_of_look(look: RingLook) -> LookAnswer
-    ensures { result ≡ answer_of_ring look }
-{
-    match look {
-        RingLook::Ready { number, len } => LookAnswer::Ready { number, len },
-        RingLook::Empty => LookAnswer::Empty,
-        RingLook::PeerDown => LookAnswer::PeerDown,
-        RingLook::VerDiffers { seen, own } => LookAnswer::VerDiffers { seen, own },
-        RingLook::Long { len, max } => LookAnswer::Long { len, max },
-        RingLook::OutOfTurn => LookAnswer::OutOfTurn,
     }
 }
 

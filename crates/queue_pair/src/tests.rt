@@ -109,6 +109,14 @@ fn copy(pair: &Pair, queue: &mut QueuePair) -> LaneCopy
     queue.copy(pair)
 }
 
+// What a look found in the ring, or why it didn't look.
+fn seen(alloc: Global, answer: LookAnswer) -> Result<String, AllocError> {
+    match answer {
+        LookAnswer::Looked(look) => format!(in alloc; "{:?}", look),
+        other => format!(in alloc; "{:?}", other),
+    }
+}
+
 // Of a frame that was copied whole its number, its length, its first byte and its last.
 fn copied(alloc: Global, copy: LaneCopy) -> Result<String, AllocError> {
     match copy {
@@ -156,7 +164,7 @@ fn make(
         Call::BeginParts => 300,
         Call::BeginLong => 1012,
         Call::Down => return format!(in alloc; "{:?}", qpdown(pair, queue)?),
-        Call::Look => return format!(in alloc; "{:?}", look(pair, queue)?),
+        Call::Look => return seen(alloc, look(pair, queue)?),
         _ => return make_more(alloc, pair, queue, call),
     };
     let frame = bytes(alloc, len)?;
