@@ -11,6 +11,13 @@ use posted_queue::LandAnswer;
 use queue_pair::{BeginAnswer, LookAnswer};
 use step_kinds::{Answer, Label, LaneCopy};
 
+/// The answer that has the name of a part's answer, and its numbers.
+macro_rules! same_name {
+    ($given:ident: $kind:ident; $($name:ident $({ $($number:ident),+ })?),+) => {
+        match $given { $($kind::$name $({ $($number),+ })? => Answer::$name $({ $($number),+ })?),+ }
+    };
+}
+
 /// A refusal of the link.
 pub fn refusal_answer(refusal: LinkRefusal) -> Answer
     ensures { result ≡ of.of_refusal refusal }
@@ -39,26 +46,16 @@ pub fn link_answer(made: Result<(), LinkRefusal>) -> Answer
 pub fn offer_answer(offer: OfferAnswer) -> Answer
     ensures { result ≡ of.of_offer offer }
 {
-    match offer {
-        OfferAnswer::Offered { index } => Answer::Offered { index },
-        OfferAnswer::Already => Answer::Already,
-        OfferAnswer::LinkDown => Answer::LinkDown,
-    }
+    same_name!(offer: OfferAnswer; Offered { index }, Already, LinkDown)
 }
 
 /// A check.
 pub fn check_answer(check: CheckAnswer) -> Answer
     ensures { result ≡ of.of_check check }
 {
-    match check {
-        CheckAnswer::Up => Answer::Up,
-        CheckAnswer::Already => Answer::Already,
-        CheckAnswer::LinkDown => Answer::LinkDown,
-        CheckAnswer::NotYet => Answer::NotYet,
-        CheckAnswer::Version { seen, own } => Answer::Version { seen, own },
-        CheckAnswer::Queues { seen, own } => Answer::Queues { seen, own },
-        CheckAnswer::Windows { seen, own } => Answer::Windows { seen, own },
-        CheckAnswer::Size { seen, cap } => Answer::Size { seen, cap },
+    same_name! { check: CheckAnswer;
+        Up, Already, LinkDown, NotYet,
+        Version { seen, own }, Queues { seen, own }, Windows { seen, own }, Size { seen, cap }
     }
 }
 
@@ -66,25 +63,14 @@ pub fn check_answer(check: CheckAnswer) -> Answer
 pub fn ready_answer(ready: ReadyAnswer) -> Answer
     ensures { result ≡ of.of_ready ready }
 {
-    match ready {
-        ReadyAnswer::Ok => Answer::Ok,
-        ReadyAnswer::Already => Answer::Already,
-        ReadyAnswer::NotChecked => Answer::NotChecked,
-        ReadyAnswer::LinkDown => Answer::LinkDown,
-    }
+    same_name!(ready: ReadyAnswer; Ok, Already, NotChecked, LinkDown)
 }
 
 /// A queue that is joined.
 pub fn join_answer(join: JoinAnswer) -> Answer
     ensures { result ≡ of.of_join join }
 {
-    match join {
-        JoinAnswer::Joined => Answer::Joined,
-        JoinAnswer::Already => Answer::Already,
-        JoinAnswer::NotReady => Answer::NotReady,
-        JoinAnswer::NotYet => Answer::NotYet,
-        JoinAnswer::LinkDown => Answer::LinkDown,
-    }
+    same_name!(join: JoinAnswer; Joined, Already, NotReady, NotYet, LinkDown)
 }
 
 /// A beginning.
@@ -106,10 +92,7 @@ pub fn begin_answer(begun: BeginAnswer) -> Answer
 pub fn post_answer(posted: Option<Label>) -> Answer
     ensures { result ≡ of.of_post posted }
 {
-    match posted {
-        None => Answer::Idle,
-        Some(label) => Answer::Posted { label },
-    }
+    posted.map_or(Answer::Idle, |label| Answer::Posted { label })
 }
 
 /// A landing.
@@ -154,18 +137,12 @@ pub fn copy_answer(copy: LaneCopy) -> Answer
 pub fn clear_answer(cleared: Option<u64>) -> Answer
     ensures { result ≡ of.of_clear cleared }
 {
-    match cleared {
-        None => Answer::OutOfTurn,
-        Some(number) => Answer::Cleared { number },
-    }
+    cleared.map_or(Answer::OutOfTurn, |number| Answer::Cleared { number })
 }
 
 /// An ack.
 pub fn ack_answer(acked: Option<u64>) -> Answer
     ensures { result ≡ of.of_ack acked }
 {
-    match acked {
-        None => Answer::OutOfTurn,
-        Some(number) => Answer::Acked { number },
-    }
+    acked.map_or(Answer::OutOfTurn, |number| Answer::Acked { number })
 }
