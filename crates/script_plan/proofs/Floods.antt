@@ -7,6 +7,7 @@ use Rattle.step_kinds.specs.declared.names.LaneName.{LaneName}
 use Rattle.step_kinds.specs.declared.plan.Traffic.{Traffic}
 use Rattle.step_kinds.specs.declared.plan.Traffic.TheVariants.{Send}
 use Rattle.lane_model.specs.Lane.{count_from}
+use Rattle.lane_model.proofs.Counting.{length-count_from}
 use Rattle.script_words.specs.Compact.{flood_of}
 use Rattle.plan_model.specs.TrafficPlans.{frames_in, bytes_in}
 use Rattle.script_words.specs.TrafficLines.{flood_frame}
@@ -14,10 +15,6 @@ use Rattle.script_words.specs.TrafficLines.{flood_frame}
 pub count_from-last : (from n : ℕ) → count_from from (suc n) ≡ count_from from n ++ (from + n) ∷ []
 count_from-last from zero = ap (λ k. k ∷ []) (omega arith)
 count_from-last from (suc n) = ap (λ ks. from ∷ ks) (count_from-last (suc from) n ∙ ap (λ k. count_from (suc from) n ++ k ∷ []) (omega arith))
-
-length-count_from : (from n : ℕ) → length (count_from from n) ≡ n
-length-count_from from zero = refl
-length-count_from from (suc n) = ap suc (length-count_from (suc from) n)
 
 zero-first : (n : ℕ) → 0 + n ≡ n
 zero-first n = omega arith
