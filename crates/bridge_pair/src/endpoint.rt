@@ -28,18 +28,6 @@ pub struct Endpoint {
     coming: Queue<FlyingWrite>,
 }
 
-impl Model for Endpoint {
-    ghost use Rattle.std.specs.Prelude.{All};
-    ghost use Rattle.bridge_pair.specs.Ends.{End, HasPlace};
-    ghost use Rattle.bridge_pair.specs.Flights.{Flying};
-
-    ghost Value = { End };
-
-    ghost view = { λ end. record { pads = end.pads; bells = end.bells; memory = end.memory; coming = end.coming } };
-
-    ghost invariant = { λ end. All (λ (flying : Flying). HasPlace end.memory flying.arrival) end.coming.writes };
-}
-
 impl Endpoint {
     ghost use Rattle.std.specs.Borrow.{sem};
     ghost use Rattle.bridge_pair.specs.Lending.{LendsBells};
@@ -224,4 +212,16 @@ impl Endpoint {
         self.pads = Pads::new();
         self.bells.zero_pending();
     }
+}
+
+impl Model for Endpoint {
+    ghost use Rattle.std.specs.Prelude.{All};
+    ghost use Rattle.bridge_pair.specs.Ends.{End, HasPlace};
+    ghost use Rattle.bridge_pair.specs.Flights.{Flying};
+
+    ghost Value = { End };
+
+    ghost view = { λ end. record { pads = end.pads; bells = end.bells; memory = end.memory; coming = end.coming } };
+
+    ghost invariant = { λ end. All (λ (flying : Flying). HasPlace end.memory flying.arrival) end.coming.writes };
 }

@@ -32,17 +32,6 @@ pub struct FlyingWrite {
     pub arrival: Arrival,
 }
 
-impl Model for FlyingWrite {
-    ghost use Rattle.std.specs.Prelude.{◌<◌};
-    ghost use Rattle.bridge_pair.specs.Flights.{Flying};
-
-    ghost Value = { Flying };
-
-    ghost view = { λ write. record { label = write.label; order = record { kind = write.kind; class = write.class }; arrival = write.arrival } };
-
-    ghost invariant = { λ write. (write.kind < 2) × (write.class < 8) };
-}
-
 impl Ordered for FlyingWrite {
     ghost use Rattle.bridge_pair.specs.Flights.{flying_order};
 
@@ -73,6 +62,17 @@ impl FlyingWrite {
             arrival: arrival_of_target(plan, side, target),
         }
     }
+}
+
+impl Model for FlyingWrite {
+    ghost use Rattle.std.specs.Prelude.{◌<◌};
+    ghost use Rattle.bridge_pair.specs.Flights.{Flying};
+
+    ghost Value = { Flying };
+
+    ghost view = { λ write. record { label = write.label; order = record { kind = write.kind; class = write.class }; arrival = write.arrival } };
+
+    ghost invariant = { λ write. (write.kind < 2) × (write.class < 8) };
 }
 
 // Where a side's write arrives.

@@ -43,18 +43,6 @@ pub struct Pair {
     b: Endpoint,
 }
 
-impl Model for Pair {
-    ghost use Rattle.bridge_pair.specs.Bridge.{Bridge};
-
-    ghost Value = { Bridge };
-
-    ghost use Rattle.bridge_pair.specs.Views.{IsJoined, bridge_seen};
-
-    ghost view = { bridge_seen };
-
-    ghost invariant = { IsJoined };
-}
-
 impl Pair {
     ghost use Rattle.bridge_pair.specs.Bridge.{Bridge, IsBook, IsBridge, bells_of, book_of, bytes_of, flight_of, pads_of, pages_of, with_book, with_bytes, with_flight, with_memory, with_pages};
     ghost use Rattle.bridge_pair.specs.Calls.{HasPages, after_land, after_post, landing};
@@ -445,4 +433,16 @@ impl Pair {
         }
         Ok(())
     }
+}
+
+impl Model for Pair {
+    ghost use Rattle.bridge_pair.specs.Bridge.{Bridge};
+
+    ghost Value = { Bridge };
+
+    ghost use Rattle.bridge_pair.specs.Views.{IsJoined, bridge_seen};
+
+    ghost view = { bridge_seen };
+
+    ghost invariant = { IsJoined };
 }

@@ -13,16 +13,6 @@ pub struct WriteBytes {
     len: usize,
 }
 
-impl Model for WriteBytes {
-    ghost use Rattle.std.specs.Prelude.{List, take, ℕ, ◌≤◌};
-
-    ghost Value = { List ℕ };
-
-    ghost view = { λ bytes. take bytes.len bytes.bytes };
-
-    ghost invariant = { λ bytes. (1 ≤ bytes.len) × (bytes.len ≤ 128) };
-}
-
 impl WriteBytes {
     /// These 1 to 128 bytes.
     pub fn of_slice(bytes: &[u8]) -> WriteBytes
@@ -46,6 +36,16 @@ impl WriteBytes {
     {
         &self.bytes[..self.len]
     }
+}
+
+impl Model for WriteBytes {
+    ghost use Rattle.std.specs.Prelude.{List, take, ℕ, ◌≤◌};
+
+    ghost Value = { List ℕ };
+
+    ghost view = { λ bytes. take bytes.len bytes.bytes };
+
+    ghost invariant = { λ bytes. (1 ≤ bytes.len) × (bytes.len ≤ 128) };
 }
 
 /// Where a posted write goes, by the numbers of the side that posts it.
@@ -79,16 +79,6 @@ pub enum Target {
 pub struct Write {
     pub(crate) label: Label,
     pub(crate) target: Target,
-}
-
-impl Model for Write {
-    ghost use Rattle.bridge_pair.specs.Writes.{IsTarget, PostedWrite};
-
-    ghost Value = { PostedWrite };
-
-    ghost view = { λ write. record { label = write.label; target = write.target } };
-
-    ghost invariant = { λ write. IsTarget write.target };
 }
 
 impl Write {
@@ -136,4 +126,14 @@ impl Write {
     {
         self.label
     }
+}
+
+impl Model for Write {
+    ghost use Rattle.bridge_pair.specs.Writes.{IsTarget, PostedWrite};
+
+    ghost Value = { PostedWrite };
+
+    ghost view = { λ write. record { label = write.label; target = write.target } };
+
+    ghost invariant = { λ write. IsTarget write.target };
 }

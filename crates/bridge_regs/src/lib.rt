@@ -20,16 +20,6 @@ pub struct Pads {
     words: [u32; 16],
 }
 
-impl Model for Pads {
-    ghost use Rattle.std.specs.Prelude.{List, ℕ};
-
-    ghost Value = { List ℕ };
-
-    ghost view = { λ pads. pads.words };
-
-    ghost inverse = { λ words. record { words = words } };
-}
-
 impl Pads {
     /// All scratchpads hold 0.
     pub fn new() -> Pads
@@ -57,6 +47,16 @@ impl Pads {
     }
 }
 
+impl Model for Pads {
+    ghost use Rattle.std.specs.Prelude.{List, ℕ};
+
+    ghost Value = { List ℕ };
+
+    ghost view = { λ pads. pads.words };
+
+    ghost inverse = { λ words. record { words = words } };
+}
+
 /// The doorbell of one side: the bits that the peer rang (`ntb_peer_db_set`) and the side has not yet taken, and the
 /// bits that the side has masked (`ntb_db_set_mask`). There are 32 bits, from 0; bit k of a number of bits has the
 /// value 2^k.
@@ -64,16 +64,6 @@ impl Pads {
 pub struct Bells {
     pending: u32,
     masked: u32,
-}
-
-impl Model for Bells {
-    ghost use Rattle.bridge_regs.specs.Doorbell.{Doorbell};
-
-    ghost Value = { Doorbell };
-
-    ghost view = { λ bells. record { pending = bells.pending; masked = bells.masked } };
-
-    ghost inverse = { λ bell. record { pending = bell.pending; masked = bell.masked } };
 }
 
 impl Bells {
@@ -145,4 +135,14 @@ impl Bells {
     {
         self.pending = 0;
     }
+}
+
+impl Model for Bells {
+    ghost use Rattle.bridge_regs.specs.Doorbell.{Doorbell};
+
+    ghost Value = { Doorbell };
+
+    ghost view = { λ bells. record { pending = bells.pending; masked = bells.masked } };
+
+    ghost inverse = { λ bell. record { pending = bell.pending; masked = bell.masked } };
 }

@@ -27,18 +27,6 @@ pub struct SessionCounts {
     has_room: bool,
 }
 
-impl Model for SessionCounts {
-    ghost use Rattle.fabric_core.specs.Sessions.{Tallied};
-
-    ghost Value = { Tallied };
-
-    ghost use Rattle.fabric_core.specs.Counts.{IsTally, tallied_seen};
-
-    ghost view = { tallied_seen };
-
-    ghost invariant = { IsTally };
-}
-
 impl SessionCounts {
     /// No frame in any session, and no room for one. It takes no memory.
     pub fn new(alloc: Global) -> SessionCounts
@@ -97,6 +85,18 @@ impl SessionCounts {
             None => 0,
         }
     }
+}
+
+impl Model for SessionCounts {
+    ghost use Rattle.fabric_core.specs.Sessions.{Tallied};
+
+    ghost Value = { Tallied };
+
+    ghost use Rattle.fabric_core.specs.Counts.{IsTally, tallied_seen};
+
+    ghost view = { tallied_seen };
+
+    ghost invariant = { IsTally };
 }
 
 // Where a session is counted: mostly at the end, where it is the last one, or nowhere, where it comes after all, or as far behind

@@ -23,18 +23,6 @@ pub struct Fabric {
     pairs: Vec<PairBox>,
 }
 
-impl Model for Fabric {
-    ghost use Rattle.fabric_core.specs.Fabric.{FabricState};
-
-    ghost Value = { FabricState };
-
-    ghost use Rattle.fabric_core.specs.Fabrics.{IsFabric, fabric_seen};
-
-    ghost view = { fabric_seen };
-
-    ghost invariant = { IsFabric };
-}
-
 impl Fabric {
     /// The fabric of a plan before any step. The plan's pairs and devices are ones that a script can declare.
     ///
@@ -119,6 +107,18 @@ impl Fabric {
     {
         self.pair(pair).queue(side, queue)
     }
+}
+
+impl Model for Fabric {
+    ghost use Rattle.fabric_core.specs.Fabric.{FabricState};
+
+    ghost Value = { FabricState };
+
+    ghost use Rattle.fabric_core.specs.Fabrics.{IsFabric, fabric_seen};
+
+    ghost view = { fabric_seen };
+
+    ghost invariant = { IsFabric };
 }
 
 // The same devices.

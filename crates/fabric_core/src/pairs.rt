@@ -34,18 +34,6 @@ pub struct PairBox {
     alloc: Global,
 }
 
-impl Model for PairBox {
-    ghost use Rattle.fabric_rule.specs.Parts.{PairState};
-
-    ghost Value = { PairState };
-
-    ghost use Rattle.fabric_core.specs.PairBoxes.{IsPairBox, pair_seen};
-
-    ghost view = { pair_seen };
-
-    ghost invariant = { IsPairBox };
-}
-
 impl PairBox {
     /// A pair before any step, with the limits of the devices on its queues. No two devices are on one queue.
     ///
@@ -159,6 +147,18 @@ impl PairBox {
             Side::B => &self.queues_b[queue as usize],
         }
     }
+}
+
+impl Model for PairBox {
+    ghost use Rattle.fabric_rule.specs.Parts.{PairState};
+
+    ghost Value = { PairState };
+
+    ghost use Rattle.fabric_core.specs.PairBoxes.{IsPairBox, pair_seen};
+
+    ghost view = { pair_seen };
+
+    ghost invariant = { IsPairBox };
 }
 
 // Makes a step on one of these queues, which are those of one side.

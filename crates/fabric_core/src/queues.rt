@@ -35,18 +35,6 @@ pub struct QueueBox {
     delivered: SessionCounts,
 }
 
-impl Model for QueueBox {
-    ghost use Rattle.fabric_rule.specs.Parts.{QueuePart};
-
-    ghost Value = { QueuePart };
-
-    ghost use Rattle.fabric_core.specs.QueueBoxes.{IsQueueBox, part_seen};
-
-    ghost view = { part_seen };
-
-    ghost invariant = { IsQueueBox };
-}
-
 impl QueueBox {
     /// A queue before any step, with the limits of the device on it.
     pub fn new(
@@ -313,4 +301,16 @@ impl QueueBox {
     {
         self.counters
     }
+}
+
+impl Model for QueueBox {
+    ghost use Rattle.fabric_rule.specs.Parts.{QueuePart};
+
+    ghost Value = { QueuePart };
+
+    ghost use Rattle.fabric_core.specs.QueueBoxes.{IsQueueBox, part_seen};
+
+    ghost view = { part_seen };
+
+    ghost invariant = { IsQueueBox };
 }

@@ -20,16 +20,6 @@ pub struct Gathered {
     alloc: Global,
 }
 
-impl Model for Gathered {
-    ghost use Rattle.frame_ring.specs.Gathering.{Gathering, IsGathered, gathering_seen};
-
-    ghost Value = { Gathering };
-
-    ghost view = { gathering_seen };
-
-    ghost invariant = { IsGathered };
-}
-
 impl Gathered {
     /// No bytes, and no room. It takes no memory.
     pub fn new(alloc: Global) -> Gathered
@@ -88,4 +78,14 @@ impl Gathered {
         self.bytes.clear();
         self.filled = 0;
     }
+}
+
+impl Model for Gathered {
+    ghost use Rattle.frame_ring.specs.Gathering.{Gathering, IsGathered, gathering_seen};
+
+    ghost Value = { Gathering };
+
+    ghost view = { gathering_seen };
+
+    ghost invariant = { IsGathered };
 }

@@ -42,17 +42,6 @@ pub struct Port {
     receiver: Receiver,
 }
 
-impl Model for Port {
-    ghost use Rattle.frame_ring.specs.Port.{PortState};
-    ghost use Rattle.frame_ring.specs.Ports.{IsPort, port_seen};
-
-    ghost Value = { PortState };
-
-    ghost view = { port_seen };
-
-    ghost invariant = { IsPort };
-}
-
 impl Port {
     ghost use Rattle.frame_ring.specs.Calls.{down_begun, frame_begun, room_answer, TouchedByBegin, TouchedByDown, TouchedByFlags, TouchedByLook, ack_answer, acked_by, after_ack, after_begin, after_clear, after_copy, after_down, after_look, after_post, begin_answer, clear_answer, cleared_by, copy_answer, down_answer, free_answer, look_answer, post_answer, posted_by, refuses_answer, reset_by};
     ghost use Rattle.frame_ring.specs.Port.{fresh_port, is_busy, unused_of, with_receiving, writes_left};
@@ -423,4 +412,15 @@ impl Port {
         self.rings.promise_flags(pair, got)?;
         self.receiver.find(pair, self.rings.side(), len, left)
     }
+}
+
+impl Model for Port {
+    ghost use Rattle.frame_ring.specs.Port.{PortState};
+    ghost use Rattle.frame_ring.specs.Ports.{IsPort, port_seen};
+
+    ghost Value = { PortState };
+
+    ghost view = { port_seen };
+
+    ghost invariant = { IsPort };
 }

@@ -40,17 +40,6 @@ pub struct Receiver {
     gathered: Gathered,
 }
 
-impl Model for Receiver {
-    ghost use Rattle.frame_ring.specs.Incoming.{IsReceiver, receiver_seen};
-    ghost use Rattle.frame_ring.specs.Port.{Receiving};
-
-    ghost Value = { Receiving };
-
-    ghost view = { receiver_seen };
-
-    ghost invariant = { IsReceiver };
-}
-
 impl Receiver {
     /// A receiver that has found nothing.
     pub fn new(alloc: Global) -> Receiver
@@ -215,4 +204,15 @@ impl Receiver {
         self.left = 0;
         self.gathered.clear();
     }
+}
+
+impl Model for Receiver {
+    ghost use Rattle.frame_ring.specs.Incoming.{IsReceiver, receiver_seen};
+    ghost use Rattle.frame_ring.specs.Port.{Receiving};
+
+    ghost Value = { Receiving };
+
+    ghost view = { receiver_seen };
+
+    ghost invariant = { IsReceiver };
 }

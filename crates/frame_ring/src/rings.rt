@@ -29,16 +29,6 @@ pub struct QueueRings {
     into: Geometry,
 }
 
-impl Model for QueueRings {
-    ghost use Rattle.frame_ring.specs.Rings.{ArePlaced, QueueOf, rings_seen};
-
-    ghost Value = { QueueOf };
-
-    ghost view = { rings_seen };
-
-    ghost invariant = { ArePlaced };
-}
-
 impl QueueRings {
     ghost use Rattle.frame_ring.specs.Rings.{QueueOf};
 
@@ -128,6 +118,16 @@ impl QueueRings {
             self.into.max_payload()
         }
     }
+}
+
+impl Model for QueueRings {
+    ghost use Rattle.frame_ring.specs.Rings.{ArePlaced, QueueOf, rings_seen};
+
+    ghost Value = { QueueOf };
+
+    ghost view = { rings_seen };
+
+    ghost invariant = { ArePlaced };
 }
 
 /// The slot of a ring for entry `n`.

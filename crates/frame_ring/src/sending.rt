@@ -29,16 +29,6 @@ pub struct Sender {
     left: usize,
 }
 
-impl Model for Sender {
-    ghost use Rattle.frame_ring.specs.Outgoing.{IsSender, Outgoing, sender_seen};
-
-    ghost Value = { Outgoing };
-
-    ghost view = { sender_seen };
-
-    ghost invariant = { IsSender };
-}
-
 impl Sender {
     /// A sender that has sent nothing.
     pub fn new(queue: u32, largest: u32) -> Sender
@@ -177,6 +167,16 @@ impl Sender {
         self.left = 4;
         self.begun += 1;
     }
+}
+
+impl Model for Sender {
+    ghost use Rattle.frame_ring.specs.Outgoing.{IsSender, Outgoing, sender_seen};
+
+    ghost Value = { Outgoing };
+
+    ghost view = { sender_seen };
+
+    ghost invariant = { IsSender };
 }
 
 /// Whether numbers are left for so many more entries, and for a frame.

@@ -24,19 +24,6 @@ pub struct Memory {
     alloc: Global,
 }
 
-impl Model for Memory {
-    ghost use Rattle.std.specs.Prelude.{◌<◌, ◌^◌};
-    ghost use Rattle.std.specs.HashMap.{keys};
-    ghost use Rattle.host_memory.specs.Memory.{Contents};
-    ghost use Rattle.host_memory.specs.Pages.{bytes_in};
-
-    ghost Value = { Contents };
-
-    ghost view = { λ memory. record { bytes = bytes_in memory.pages memory.len; promised = keys memory.pages } };
-
-    ghost invariant = { λ memory. memory.len < 2 ^ 63 };
-}
-
 impl Memory {
     /// Makes a memory of `len` bytes, each 0, of which no page is promised. It costs the same for each length.
     ///
@@ -205,6 +192,19 @@ impl Memory {
         }
         Ok(())
     }
+}
+
+impl Model for Memory {
+    ghost use Rattle.std.specs.Prelude.{◌<◌, ◌^◌};
+    ghost use Rattle.std.specs.HashMap.{keys};
+    ghost use Rattle.host_memory.specs.Memory.{Contents};
+    ghost use Rattle.host_memory.specs.Pages.{bytes_in};
+
+    ghost Value = { Contents };
+
+    ghost view = { λ memory. record { bytes = bytes_in memory.pages memory.len; promised = keys memory.pages } };
+
+    ghost invariant = { λ memory. memory.len < 2 ^ 63 };
 }
 
 // How many bytes of its page stand from an address on.

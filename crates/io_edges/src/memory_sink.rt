@@ -19,23 +19,6 @@ pub struct MemorySink {
     plan: FaultPlan,
 }
 
-impl Model for MemorySink {
-    ghost use Rattle.std.specs.Prelude.{◌≤◌, vec_len};
-    ghost use Rattle.std.specs.Vec.{vec_capacity};
-    ghost use Rattle.io_edges.specs.MemorySink.{SinkState};
-
-    ghost Value = { SinkState };
-
-    ghost view = { λ sink. record {
-      held = sink.bytes.items;
-      room = sink.room;
-      piece = sink.piece;
-      plan = sink.plan;
-    } };
-
-    ghost invariant = { λ sink. (vec_len sink.bytes ≤ sink.room) × (sink.room ≤ vec_capacity sink.bytes) };
-}
-
 impl MemorySink {
     /// An empty sink for `room` bytes, which are reserved here. `piece` is the most bytes that a write takes, and
     /// `fails` has the numbers of the writes that fail, where the first is 0. Each of them raises the count of faults,
@@ -71,6 +54,23 @@ impl MemorySink {
     {
         &self.bytes
     }
+}
+
+impl Model for MemorySink {
+    ghost use Rattle.std.specs.Prelude.{◌≤◌, vec_len};
+    ghost use Rattle.std.specs.Vec.{vec_capacity};
+    ghost use Rattle.io_edges.specs.MemorySink.{SinkState};
+
+    ghost Value = { SinkState };
+
+    ghost view = { λ sink. record {
+      held = sink.bytes.items;
+      room = sink.room;
+      piece = sink.piece;
+      plan = sink.plan;
+    } };
+
+    ghost invariant = { λ sink. (vec_len sink.bytes ≤ sink.room) × (sink.room ≤ vec_capacity sink.bytes) };
 }
 
 impl Sink for MemorySink {

@@ -17,21 +17,6 @@ pub struct MemorySource {
     plan: FaultPlan,
 }
 
-impl Model for MemorySource {
-    ghost use Rattle.std.specs.Prelude.{◌≤◌, drop, vec_len};
-    ghost use Rattle.io_edges.specs.MemorySource.{SourceState};
-
-    ghost Value = { SourceState };
-
-    ghost view = { λ source. record {
-      left = drop source.at source.bytes.items;
-      piece = source.piece;
-      plan = source.plan;
-    } };
-
-    ghost invariant = { λ source. (source.at ≤ vec_len source.bytes) × (1 ≤ source.piece) };
-}
-
 impl MemorySource {
     /// A source of these bytes. `piece` is the most bytes that a read gives, and `fails` has the numbers of the reads
     /// that fail, where the first is 0. Each of them raises the count of faults.
@@ -50,6 +35,21 @@ impl MemorySource {
             plan: FaultPlan::new(fails),
         }
     }
+}
+
+impl Model for MemorySource {
+    ghost use Rattle.std.specs.Prelude.{◌≤◌, drop, vec_len};
+    ghost use Rattle.io_edges.specs.MemorySource.{SourceState};
+
+    ghost Value = { SourceState };
+
+    ghost view = { λ source. record {
+      left = drop source.at source.bytes.items;
+      piece = source.piece;
+      plan = source.plan;
+    } };
+
+    ghost invariant = { λ source. (source.at ≤ vec_len source.bytes) × (1 ≤ source.piece) };
 }
 
 impl Source for MemorySource {

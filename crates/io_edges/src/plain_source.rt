@@ -13,6 +13,15 @@ pub struct PlainSource {
     at: usize,
 }
 
+impl PlainSource {
+    /// A source of these bytes.
+    pub fn new(bytes: Vec<u8>) -> PlainSource
+        ensures { result ≡ bytes.items }
+    {
+        PlainSource { bytes, at: 0 }
+    }
+}
+
 impl Model for PlainSource {
     ghost use Rattle.std.specs.Prelude.{ℕ, List, ◌≤◌, drop, vec_len};
 
@@ -21,15 +30,6 @@ impl Model for PlainSource {
     ghost view = { λ source. drop source.at source.bytes.items };
 
     ghost invariant = { λ source. source.at ≤ vec_len source.bytes };
-}
-
-impl PlainSource {
-    /// A source of these bytes.
-    pub fn new(bytes: Vec<u8>) -> PlainSource
-        ensures { result ≡ bytes.items }
-    {
-        PlainSource { bytes, at: 0 }
-    }
 }
 
 impl Source for PlainSource {

@@ -12,14 +12,6 @@ pub(crate) struct FaultPlan {
     faults: u64,
 }
 
-impl Model for FaultPlan {
-    ghost use Rattle.io_edges.specs.Plan.{Plan};
-
-    ghost Value = { Plan };
-
-    ghost view = { λ plan. record { fails = plan.fails.items; calls = plan.calls; faults = plan.faults } };
-}
-
 impl FaultPlan {
     /// No call was made yet.
     pub(crate) fn new(fails: Vec<u64>) -> FaultPlan
@@ -54,4 +46,12 @@ impl FaultPlan {
         self.calls = self.calls.saturating_add(1);
         self.faults = self.faults.saturating_add(1);
     }
+}
+
+impl Model for FaultPlan {
+    ghost use Rattle.io_edges.specs.Plan.{Plan};
+
+    ghost Value = { Plan };
+
+    ghost view = { λ plan. record { fails = plan.fails.items; calls = plan.calls; faults = plan.faults } };
 }

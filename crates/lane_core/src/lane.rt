@@ -46,18 +46,6 @@ pub struct Lane {
     copied: Vec<u8>,
 }
 
-impl Model for Lane {
-    ghost use Rattle.lane_core.specs.Calls.{LaneValue};
-
-    ghost Value = { LaneValue };
-
-    ghost use Rattle.lane_core.specs.Seen.{value_seen, IsKept};
-
-    ghost view = { value_seen };
-
-    ghost invariant = { IsKept };
-}
-
 impl Lane {
     ghost use Rattle.lane_core.specs.Calls.{with_lane, begin_answer, down_answer, after_beginning, post_answer, after_posting, land_answer, after_land, land_index_answer, after_land_index, look_answer, after_looking, copy_answer, after_copying, clear_answer, after_clearing, ack_answer, after_acking};
     ghost use Rattle.lane_core.specs.Fresh.{fresh_value};
@@ -377,4 +365,16 @@ impl Lane {
         self.flight.discard();
         self.returning.discard();
     }
+}
+
+impl Model for Lane {
+    ghost use Rattle.lane_core.specs.Calls.{LaneValue};
+
+    ghost Value = { LaneValue };
+
+    ghost use Rattle.lane_core.specs.Seen.{value_seen, IsKept};
+
+    ghost view = { value_seen };
+
+    ghost invariant = { IsKept };
 }

@@ -48,20 +48,6 @@ pub struct Link {
     clean: Flags,
 }
 
-impl Model for Link {
-    ghost use Rattle.plan_model.specs.Link.{Link as PairLink};
-
-    ghost Value = { PairLink };
-
-    ghost use Rattle.link_state.specs.Kept.{IsNumbered, inside_of, link_of};
-
-    ghost view = { link_of };
-
-    ghost invariant = { IsNumbered };
-
-    ghost inverse = { inside_of };
-}
-
 impl Link {
     /// The link of a pair before any step: down, with no session yet and both sides clean, or, where `up` holds, up
     /// in session 1 and enabled by both sides.
@@ -202,4 +188,18 @@ impl Link {
         self.clean.set(side);
         Ok(())
     }
+}
+
+impl Model for Link {
+    ghost use Rattle.plan_model.specs.Link.{Link as PairLink};
+
+    ghost Value = { PairLink };
+
+    ghost use Rattle.link_state.specs.Kept.{IsNumbered, inside_of, link_of};
+
+    ghost view = { link_of };
+
+    ghost invariant = { IsNumbered };
+
+    ghost inverse = { inside_of };
 }

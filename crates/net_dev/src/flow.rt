@@ -14,16 +14,6 @@ pub struct Flow {
     stopped: bool,
 }
 
-impl Model for Flow {
-    ghost use Rattle.plan_model.specs.Device.{Flow as DeviceFlow};
-
-    ghost Value = { DeviceFlow };
-
-    ghost view = { λ flow. record { stop = flow.stop; start = flow.start; stopped = flow.stopped } };
-
-    ghost inverse = { λ flow. record { stop = flow.stop; start = flow.start; stopped = flow.stopped } };
-}
-
 impl Flow {
     ghost use Rattle.plan_model.specs.Device.{stays_stopped, stopped_after_send};
     ghost use Rattle.net_dev.specs.Flow.{going_on, with_stopped};
@@ -76,4 +66,14 @@ impl Flow {
     {
         self.stopped = false;
     }
+}
+
+impl Model for Flow {
+    ghost use Rattle.plan_model.specs.Device.{Flow as DeviceFlow};
+
+    ghost Value = { DeviceFlow };
+
+    ghost view = { λ flow. record { stop = flow.stop; start = flow.start; stopped = flow.stopped } };
+
+    ghost inverse = { λ flow. record { stop = flow.stop; start = flow.start; stopped = flow.stopped } };
 }

@@ -37,14 +37,6 @@ pub struct OrderTable<const K: usize> {
     rows: [[bool; K]; K],
 }
 
-impl<const K: usize> Model for OrderTable<K> {
-    ghost use Rattle.std.specs.Prelude.{List, Bool};
-
-    ghost Value = { List (List Bool) };
-
-    ghost view = { λ table. table.rows };
-}
-
 impl<const K: usize> OrderTable<K> {
     /// Whether a later transaction of the first kind may pass an earlier one of the second, of the same traffic class:
     /// the table's entry in row `later` and column `earlier`. Both are kinds of the table, below `K`.
@@ -66,6 +58,14 @@ impl<const K: usize> OrderTable<K> {
     {
         later_class != earlier_class || self.may_pass(later, earlier)
     }
+}
+
+impl<const K: usize> Model for OrderTable<K> {
+    ghost use Rattle.std.specs.Prelude.{List, Bool};
+
+    ghost Value = { List (List Bool) };
+
+    ghost view = { λ table. table.rows };
 }
 
 /// Writes the rows of a table of order, one for each kind of a later transaction, in the order of the kinds. Each row

@@ -24,17 +24,6 @@ pub struct BlockQueue<W: Ordered> {
     spare: usize,
 }
 
-impl<W: Ordered> Model for BlockQueue<W> {
-    ghost use Rattle.std.specs.Prelude.{◌+◌, ◌≤◌, ◌<◌, ◌^◌, length};
-    ghost use Rattle.posted_queue.specs.Flight.{Flight};
-
-    ghost Value = { Flight W };
-
-    ghost view = { λ queue. record { writes = queue.blocks.writes; spare = queue.spare } };
-
-    ghost invariant = { λ queue. (queue.spare ≤ queue.blocks.spare) × (length queue.blocks.writes + queue.spare < 2 ^ 64) };
-}
-
 impl<W: Ordered> BlockQueue<W> {
     ghost use Rattle.posted_queue.specs.Flight.{nothing_in_flight, promised, given_back, posted, discarded};
     ghost use Rattle.posted_queue.specs.Landing.{land_answer, after_landing};
@@ -144,6 +133,17 @@ impl<W: Ordered> BlockQueue<W> {
             let _write = self.blocks.take(0, None);
         }
     }
+}
+
+impl<W: Ordered> Model for BlockQueue<W> {
+    ghost use Rattle.std.specs.Prelude.{◌+◌, ◌≤◌, ◌<◌, ◌^◌, length};
+    ghost use Rattle.posted_queue.specs.Flight.{Flight};
+
+    ghost Value = { Flight W };
+
+    ghost view = { λ queue. record { writes = queue.blocks.writes; spare = queue.spare } };
+
+    ghost invariant = { λ queue. (queue.spare ≤ queue.blocks.spare) × (length queue.blocks.writes + queue.spare < 2 ^ 64) };
 }
 
 // A class of which the write at this place passes no earlier one: none where it passes all, as it does at the front.

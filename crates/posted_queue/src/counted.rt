@@ -18,17 +18,6 @@ pub struct Counted<W: Ordered, P: Part<W>> {
     writes: PhantomData<W>,
 }
 
-impl<W: Ordered, P: Part<W>> Model for Counted<W, P> {
-    ghost use Rattle.posted_queue.specs.Rows.{PartState};
-    ghost use Rattle.posted_queue.specs.Counts.{IsCounted};
-
-    ghost Value = { PartState W };
-
-    ghost view = { λ counted. P.state counted.part };
-
-    ghost invariant = { λ counted. IsCounted W.order (P.state counted.part).writes counted.len counted.tally };
-}
-
 impl<W: Ordered, P: Part<W>> Counted<W, P> {
     /// A part with no write. It takes no memory yet.
     pub fn empty(alloc: Global) -> Self
@@ -121,4 +110,15 @@ impl<W: Ordered, P: Part<W>> Counted<W, P> {
     {
         self.part.reserve(more)
     }
+}
+
+impl<W: Ordered, P: Part<W>> Model for Counted<W, P> {
+    ghost use Rattle.posted_queue.specs.Rows.{PartState};
+    ghost use Rattle.posted_queue.specs.Counts.{IsCounted};
+
+    ghost Value = { PartState W };
+
+    ghost view = { λ counted. P.state counted.part };
+
+    ghost invariant = { λ counted. IsCounted W.order (P.state counted.part).writes counted.len counted.tally };
 }

@@ -62,18 +62,6 @@ pub struct Queue<W: Ordered> {
     writes: Slab<W>,
 }
 
-impl<W: Ordered> Model for Queue<W> {
-    ghost use Rattle.posted_queue.specs.Flight.{Flight};
-    ghost use Rattle.posted_queue.specs.Tickets.{flight_of, AreKept};
-    ghost use Rattle.slab.specs.Slab.{HasRoomFor};
-
-    ghost Value = { Flight W };
-
-    ghost view = { λ queue. flight_of queue.writes.slots queue.tickets };
-
-    ghost invariant = { λ queue. AreKept W.order queue.writes.slots queue.tickets.writes × HasRoomFor queue.writes queue.tickets.spare };
-}
-
 impl<W: Ordered> Queue<W> {
     ghost use Rattle.posted_queue.specs.Flight.{nothing_in_flight, promised, given_back, posted, discarded};
     ghost use Rattle.posted_queue.specs.Landing.{land_answer, after_landing};
@@ -183,4 +171,16 @@ impl<W: Ordered> Queue<W> {
             None => None,
         }
     }
+}
+
+impl<W: Ordered> Model for Queue<W> {
+    ghost use Rattle.posted_queue.specs.Flight.{Flight};
+    ghost use Rattle.posted_queue.specs.Tickets.{flight_of, AreKept};
+    ghost use Rattle.slab.specs.Slab.{HasRoomFor};
+
+    ghost Value = { Flight W };
+
+    ghost view = { λ queue. flight_of queue.writes.slots queue.tickets };
+
+    ghost invariant = { λ queue. AreKept W.order queue.writes.slots queue.tickets.writes × HasRoomFor queue.writes queue.tickets.spare };
 }

@@ -26,14 +26,6 @@ pub struct QueuePair {
     closed: bool,
 }
 
-impl Model for QueuePair {
-    ghost use Rattle.queue_pair.specs.Queue.{QueueState};
-
-    ghost Value = { QueueState };
-
-    ghost view = { λ queue. record { port = queue.port; closed = queue.closed } };
-}
-
 impl QueuePair {
     ghost use Rattle.frame_ring.specs.Calls.{TouchedByBegin, TouchedByDown, TouchedByFlags, TouchedByLook, ack_answer, acked_by, after_ack, after_clear, after_copy, after_post, clear_answer, cleared_by, copy_answer, free_answer, post_answer, posted_by, reset_by};
     ghost use Rattle.frame_ring.specs.Port.{unused_of};
@@ -240,6 +232,14 @@ impl QueuePair {
             None
         }
     }
+}
+
+impl Model for QueuePair {
+    ghost use Rattle.queue_pair.specs.Queue.{QueueState};
+
+    ghost Value = { QueueState };
+
+    ghost view = { λ queue. record { port = queue.port; closed = queue.closed } };
 }
 
 // What the port's beginning is for the queue.

@@ -51,22 +51,6 @@ pub struct Geometry {
     entries: u32,
 }
 
-impl Model for Geometry {
-    ghost use Rattle.ring_geometry.specs.Geometry.{Layout};
-
-    ghost Value = { Layout };
-
-    ghost use Rattle.ring_geometry.specs.Kept.{inside_of, inside_of-layout_of, layout_of, IsKept};
-
-    ghost view = { layout_of };
-
-    ghost invariant = { IsKept };
-
-    ghost inverse = { inside_of };
-
-    ghost inverse_ok = { inside_of-layout_of };
-}
-
 impl Geometry {
     /// Places the ring of the queue `queue` of `queues`, counted from 0, on a side with `windows` translation
     /// windows: at most 16 queues and 4 windows.
@@ -209,6 +193,22 @@ impl Geometry {
             self.entries + tail - head
         }
     }
+}
+
+impl Model for Geometry {
+    ghost use Rattle.ring_geometry.specs.Geometry.{Layout};
+
+    ghost Value = { Layout };
+
+    ghost use Rattle.ring_geometry.specs.Kept.{inside_of, inside_of-layout_of, layout_of, IsKept};
+
+    ghost view = { layout_of };
+
+    ghost invariant = { IsKept };
+
+    ghost inverse = { inside_of };
+
+    ghost inverse_ok = { inside_of-layout_of };
 }
 
 /// The number that a header carries for the entry `n` of a lane in this session, counted from 0: its lowest 32 bits.

@@ -22,18 +22,6 @@ pub struct Devices {
     devs: Vec<DevPlan>,
 }
 
-impl Model for Devices {
-    ghost use Rattle.std.specs.Prelude.{List};
-    ghost use Rattle.step_kinds.specs.declared.plan.DevPlan.{DevPlan};
-    ghost use Rattle.script_plan.specs.NamesMatch.{DevicesMatch};
-
-    ghost Value = { List DevPlan };
-
-    ghost view = { λ all. all.devs.items };
-
-    ghost invariant = { λ all. DevicesMatch all.names all.devs.items };
-}
-
 impl Devices {
     /// No devices.
     pub fn new(alloc: Global) -> Devices
@@ -104,6 +92,18 @@ impl Devices {
         let Devices { names: _, devs } = self;
         Items::of_vec(devs)
     }
+}
+
+impl Model for Devices {
+    ghost use Rattle.std.specs.Prelude.{List};
+    ghost use Rattle.step_kinds.specs.declared.plan.DevPlan.{DevPlan};
+    ghost use Rattle.script_plan.specs.NamesMatch.{DevicesMatch};
+
+    ghost Value = { List DevPlan };
+
+    ghost view = { λ all. all.devs.items };
+
+    ghost invariant = { λ all. DevicesMatch all.names all.devs.items };
 }
 
 /// Whether the device sits on the queue.

@@ -12,16 +12,6 @@ pub struct Names {
     names: IndexSet<Vec<u8>>,
 }
 
-impl Model for Names {
-    ghost use Rattle.std.specs.Prelude.{ℕ, List, ◌≤◌, length, map};
-
-    ghost Value = { List (List ℕ) };
-
-    ghost view = { λ all. map (λ name. name.items) all.names.keys };
-
-    ghost invariant = { λ all. length all.names.keys ≤ 64 };
-}
-
 impl Names {
     ghost use Rattle.script_words.specs.Before.{number_named, has_name};
 
@@ -67,4 +57,14 @@ impl Names {
         self.names.insert(kept)?;
         Ok(())
     }
+}
+
+impl Model for Names {
+    ghost use Rattle.std.specs.Prelude.{ℕ, List, ◌≤◌, length, map};
+
+    ghost Value = { List (List ℕ) };
+
+    ghost view = { λ all. map (λ name. name.items) all.names.keys };
+
+    ghost invariant = { λ all. length all.names.keys ≤ 64 };
 }

@@ -18,18 +18,6 @@ pub struct Pairs {
     pairs: Vec<PairPlan>,
 }
 
-impl Model for Pairs {
-    ghost use Rattle.std.specs.Prelude.{List};
-    ghost use Rattle.step_kinds.specs.declared.plan.PairPlan.{PairPlan};
-    ghost use Rattle.script_plan.specs.NamesMatch.{PairsMatch};
-
-    ghost Value = { List PairPlan };
-
-    ghost view = { λ all. all.pairs.items };
-
-    ghost invariant = { λ all. PairsMatch all.names all.pairs.items };
-}
-
 impl Pairs {
     /// No pairs.
     pub fn new(alloc: Global) -> Pairs
@@ -106,6 +94,18 @@ impl Pairs {
         let Pairs { names: _, pairs } = self;
         Items::of_vec(pairs)
     }
+}
+
+impl Model for Pairs {
+    ghost use Rattle.std.specs.Prelude.{List};
+    ghost use Rattle.step_kinds.specs.declared.plan.PairPlan.{PairPlan};
+    ghost use Rattle.script_plan.specs.NamesMatch.{PairsMatch};
+
+    ghost Value = { List PairPlan };
+
+    ghost view = { λ all. all.pairs.items };
+
+    ghost invariant = { λ all. PairsMatch all.names all.pairs.items };
 }
 
 /// Gives one queue of a side of a pair its class.

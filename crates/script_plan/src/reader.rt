@@ -27,18 +27,6 @@ pub struct Reader {
     classed: Vec<QueueName>,
 }
 
-impl Model for Reader {
-    ghost use Rattle.script_words.specs.Before.{Before};
-    ghost use Rattle.script_plan.specs.Sound.{IsSound};
-    ghost use Rattle.script_plan.specs.Seen.{before_with};
-
-    ghost Value = { Before };
-
-    ghost view = { λ all. before_with all.part all.hosts all.pairs all.devs all.steps.items all.traffic all.classed.items };
-
-    ghost invariant = { λ all. IsSound (before_with all.part all.hosts all.pairs all.devs all.steps.items all.traffic all.classed.items) };
-}
-
 impl Reader {
     ghost use Rattle.script_words.specs.Before.{Before, Host, APair, ADevice, AClass, MoreSteps, MoreTraffic, nothing_before, with_given, has_name, pair_names, dev_names};
     ghost use Rattle.step_kinds.specs.Limits.{most_hosts, most_pairs, most_devices, most_steps, most_traffic_frames, most_traffic_bytes, most_breaks, IsClass};
@@ -268,6 +256,18 @@ impl Reader {
             traffic: self.traffic.into_items(),
         }
     }
+}
+
+impl Model for Reader {
+    ghost use Rattle.script_words.specs.Before.{Before};
+    ghost use Rattle.script_plan.specs.Sound.{IsSound};
+    ghost use Rattle.script_plan.specs.Seen.{before_with};
+
+    ghost Value = { Before };
+
+    ghost view = { λ all. before_with all.part all.hosts all.pairs all.devs all.steps.items all.traffic all.classed.items };
+
+    ghost invariant = { λ all. IsSound (before_with all.part all.hosts all.pairs all.devs all.steps.items all.traffic all.classed.items) };
 }
 
 /// Whether this is the same queue.

@@ -21,18 +21,6 @@ pub struct TrafficList {
     breaks: [u32; 16],
 }
 
-impl Model for TrafficList {
-    ghost use Rattle.std.specs.Prelude.{List};
-    ghost use Rattle.step_kinds.specs.declared.plan.Traffic.{Traffic};
-    ghost use Rattle.script_plan.specs.Counts.{TrafficCounted};
-
-    ghost Value = { List Traffic };
-
-    ghost view = { λ all. all.items.items };
-
-    ghost invariant = { λ all. TrafficCounted all.items.items all.frames all.bytes all.breaks };
-}
-
 impl TrafficList {
     /// No traffic.
     pub fn new(alloc: Global) -> TrafficList
@@ -137,6 +125,18 @@ impl TrafficList {
         let TrafficList { items, .. } = self;
         Items::of_vec(items)
     }
+}
+
+impl Model for TrafficList {
+    ghost use Rattle.std.specs.Prelude.{List};
+    ghost use Rattle.step_kinds.specs.declared.plan.Traffic.{Traffic};
+    ghost use Rattle.script_plan.specs.Counts.{TrafficCounted};
+
+    ghost Value = { List Traffic };
+
+    ghost view = { λ all. all.items.items };
+
+    ghost invariant = { λ all. TrafficCounted all.items.items all.frames all.bytes all.breaks };
 }
 
 /// Frame `i` of a flood.

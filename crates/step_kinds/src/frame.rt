@@ -11,16 +11,6 @@ pub struct Frame {
     bytes: Vec<u8>,
 }
 
-impl Model for Frame {
-    ghost use Rattle.std.specs.Prelude.{ℕ, List, ◌≤◌, length};
-
-    ghost Value = { List ℕ };
-
-    ghost view = { λ frame. frame.bytes.items };
-
-    ghost invariant = { λ frame. length frame.bytes.items ≤ 65536 };
-}
-
 impl Frame {
     /// The frame of these bytes, of which there are at most 65,536. It takes no memory.
     pub fn of_vec(bytes: Vec<u8>) -> Frame
@@ -61,4 +51,14 @@ impl Frame {
             bytes: Vec::from_slice(alloc, &self.bytes)?,
         })
     }
+}
+
+impl Model for Frame {
+    ghost use Rattle.std.specs.Prelude.{ℕ, List, ◌≤◌, length};
+
+    ghost Value = { List ℕ };
+
+    ghost view = { λ frame. frame.bytes.items };
+
+    ghost invariant = { λ frame. length frame.bytes.items ≤ 65536 };
 }

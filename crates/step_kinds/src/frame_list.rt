@@ -19,18 +19,6 @@ pub struct FrameList {
     spare: usize,
 }
 
-impl Model for FrameList {
-    ghost use Rattle.std.specs.Prelude.{◌+◌, ◌≤◌};
-    ghost use Rattle.std.specs.VecDeque.{deque_len, deque_capacity};
-    ghost use Rattle.step_kinds.specs.FrameLists.{Frames};
-
-    ghost Value = { Frames };
-
-    ghost view = { λ list. record { frames = list.frames.items; spare = list.spare } };
-
-    ghost invariant = { λ list. deque_len list.frames + list.spare ≤ deque_capacity list.frames };
-}
-
 impl FrameList {
     /// No frames, and no room promised. It takes no memory yet; the allocator is kept for [`FrameList::promise`].
     pub fn new(alloc: Global) -> FrameList
@@ -107,4 +95,16 @@ impl FrameList {
         self.frames.push_front_reserved(frame);
         self.spare -= 1;
     }
+}
+
+impl Model for FrameList {
+    ghost use Rattle.std.specs.Prelude.{◌+◌, ◌≤◌};
+    ghost use Rattle.std.specs.VecDeque.{deque_len, deque_capacity};
+    ghost use Rattle.step_kinds.specs.FrameLists.{Frames};
+
+    ghost Value = { Frames };
+
+    ghost view = { λ list. record { frames = list.frames.items; spare = list.spare } };
+
+    ghost invariant = { λ list. deque_len list.frames + list.spare ≤ deque_capacity list.frames };
 }

@@ -12,14 +12,6 @@ pub struct Items<T> {
     items: Vec<T>,
 }
 
-impl<T> Model for Items<T> {
-    ghost use Rattle.std.specs.Prelude.{List};
-
-    ghost Value = { List T };
-
-    ghost view = { λ list. list.items.items };
-}
-
 impl<T> Items<T> {
     /// No items.
     pub fn new(alloc: Global) -> Items<T>
@@ -75,4 +67,12 @@ impl<T: Drop> Items<T> {
         self.items.push(item)?;
         Ok(())
     }
+}
+
+impl<T> Model for Items<T> {
+    ghost use Rattle.std.specs.Prelude.{List};
+
+    ghost Value = { List T };
+
+    ghost view = { λ list. list.items.items };
 }

@@ -45,16 +45,6 @@ pub struct Name {
     len: usize,
 }
 
-impl Model for Name {
-    ghost use Rattle.std.specs.Prelude.{ℕ, List, ◌≤◌, take};
-
-    ghost Value = { List ℕ };
-
-    ghost view = { λ name. take name.len name.bytes };
-
-    ghost invariant = { λ name. (1 ≤ name.len) × (name.len ≤ 16) };
-}
-
 impl Name {
     /// The name of these 1 to 16 bytes.
     pub fn of_bytes(bytes: &[u8]) -> Name
@@ -78,4 +68,14 @@ impl Name {
     {
         &self.bytes[..self.len]
     }
+}
+
+impl Model for Name {
+    ghost use Rattle.std.specs.Prelude.{ℕ, List, ◌≤◌, take};
+
+    ghost Value = { List ℕ };
+
+    ghost view = { λ name. take name.len name.bytes };
+
+    ghost invariant = { λ name. (1 ≤ name.len) × (name.len ≤ 16) };
 }

@@ -31,18 +31,6 @@ pub struct BackEnd {
     pub(crate) freed: u64,
 }
 
-impl Model for BackEnd {
-    ghost use Rattle.table_lane.specs.Ends.{WayBack};
-
-    ghost Value = { WayBack };
-
-    ghost use Rattle.table_lane.specs.EndFields.{way_back_of, IsBackEnd};
-
-    ghost view = { way_back_of };
-
-    ghost invariant = { IsBackEnd };
-}
-
 /// The end that cuts the link.
 ///
 /// A contract sees which table it stands at, and whether the link was cut.
@@ -51,18 +39,6 @@ pub struct CutEnd {
     pub(crate) table: Arc<LaneTable, Global>,
     pub(crate) seat: LaneSeat,
     pub(crate) entries: u64,
-}
-
-impl Model for CutEnd {
-    ghost use Rattle.table_lane.specs.Ends.{Cutter};
-
-    ghost Value = { Cutter };
-
-    ghost use Rattle.table_lane.specs.EndFields.{cutter_of, IsCutEnd};
-
-    ghost view = { cutter_of };
-
-    ghost invariant = { IsCutEnd };
 }
 
 // The position of the last entry that was given back.
@@ -101,6 +77,18 @@ impl BackEnd {
     }
 }
 
+impl Model for BackEnd {
+    ghost use Rattle.table_lane.specs.Ends.{WayBack};
+
+    ghost Value = { WayBack };
+
+    ghost use Rattle.table_lane.specs.EndFields.{way_back_of, IsBackEnd};
+
+    ghost view = { way_back_of };
+
+    ghost invariant = { IsBackEnd };
+}
+
 impl CutEnd {
     /// Cuts the link for good: later loads of the link word show it, and later frames are refused. All else goes on.
     pub fn cut(&mut self)
@@ -109,4 +97,16 @@ impl CutEnd {
     {
         cut_link(&self.table.shared, &mut self.seat, self.entries);
     }
+}
+
+impl Model for CutEnd {
+    ghost use Rattle.table_lane.specs.Ends.{Cutter};
+
+    ghost Value = { Cutter };
+
+    ghost use Rattle.table_lane.specs.EndFields.{cutter_of, IsCutEnd};
+
+    ghost view = { cutter_of };
+
+    ghost invariant = { IsCutEnd };
 }

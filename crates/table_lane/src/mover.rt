@@ -41,18 +41,6 @@ pub struct MoveEnd {
     pub(crate) waiting: VecDeque<u64>,
 }
 
-impl Model for MoveEnd {
-    ghost use Rattle.table_lane.specs.Ends.{Mover};
-
-    ghost Value = { Mover };
-
-    ghost use Rattle.table_lane.specs.EndFields.{mover_of, IsMoveEnd};
-
-    ghost view = { mover_of };
-
-    ghost invariant = { IsMoveEnd };
-}
-
 impl MoveEnd {
     // How many entries wait for their header.
     fn waiting_count(&self) -> usize
@@ -174,4 +162,16 @@ impl MoveEnd {
         }
         self.make(0)
     }
+}
+
+impl Model for MoveEnd {
+    ghost use Rattle.table_lane.specs.Ends.{Mover};
+
+    ghost Value = { Mover };
+
+    ghost use Rattle.table_lane.specs.EndFields.{mover_of, IsMoveEnd};
+
+    ghost view = { mover_of };
+
+    ghost invariant = { IsMoveEnd };
 }

@@ -34,18 +34,6 @@ pub struct RecvEnd {
     pub(crate) left: FrameList,
 }
 
-impl Model for RecvEnd {
-    ghost use Rattle.table_lane.specs.Ends.{Receiver};
-
-    ghost Value = { Receiver };
-
-    ghost use Rattle.table_lane.specs.EndFields.{receiver_of, IsRecvEnd};
-
-    ghost view = { receiver_of };
-
-    ghost invariant = { IsRecvEnd };
-}
-
 // Receives the next frame, entry `number`, where its flag is up: takes it out of its slot, clears the flag and
 // acknowledges it.
 pub(crate) fn receive(
@@ -87,4 +75,16 @@ impl RecvEnd {
             }
         }
     }
+}
+
+impl Model for RecvEnd {
+    ghost use Rattle.table_lane.specs.Ends.{Receiver};
+
+    ghost Value = { Receiver };
+
+    ghost use Rattle.table_lane.specs.EndFields.{receiver_of, IsRecvEnd};
+
+    ghost view = { receiver_of };
+
+    ghost invariant = { IsRecvEnd };
 }

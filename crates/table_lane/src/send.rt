@@ -33,18 +33,6 @@ pub struct SendEnd {
     pub(crate) sent: u64,
 }
 
-impl Model for SendEnd {
-    ghost use Rattle.table_lane.specs.Ends.{Sender};
-
-    ghost Value = { Sender };
-
-    ghost use Rattle.table_lane.specs.EndFields.{sender_of, IsSendEnd};
-
-    ghost view = { sender_of };
-
-    ghost invariant = { IsSendEnd };
-}
-
 // The free entries, as head and index word show them.
 fn free_entries(entries: u64, head: u64, tail: u64) -> u64
     requires { (head < entries) × (tail < entries) × (entries ≤ 65535) }
@@ -86,4 +74,16 @@ impl SendEnd {
         self.sent = number + 1;
         SendAnswer::Sent { number }
     }
+}
+
+impl Model for SendEnd {
+    ghost use Rattle.table_lane.specs.Ends.{Sender};
+
+    ghost Value = { Sender };
+
+    ghost use Rattle.table_lane.specs.EndFields.{sender_of, IsSendEnd};
+
+    ghost view = { sender_of };
+
+    ghost invariant = { IsSendEnd };
 }
