@@ -10,6 +10,14 @@ use crate::whole::push_lane;
 use std::alloc::{AllocError, Global};
 use step_kinds::{FrameList, LaneName, LaneRun, PairPlan, Plan, RunRecord, SessionRun};
 
+// How many frames of a session were accepted, delivered and left.
+#[derive(Clone, Copy)]
+struct FrameCounts {
+    accepted: u64,
+    delivered: u64,
+    left: u64,
+}
+
 /// The text of a threaded run: for each lane of the record and each of its sessions, from session 1 on, a line with how
 /// many frames were accepted, delivered and left, then these frames, numbered from 0 in each session, those that were
 /// left behind those that were delivered; and `end`. The only error is want of memory.
@@ -47,7 +55,6 @@ fn push_runs(
 }
 
 // Adds the lines of a lane's sessions.
-
 fn push_run(
     alloc: Global,
     text: &mut Vec<u8>,
@@ -87,26 +94,26 @@ fn push_session(
     let left = run.left.len() as u64;
     let accepted = delivered.checked_add(left).ok_or(AllocError)?;
     push_lane(text, pairs, lane, session)?;
-    push_counts(text, accepted, delivered, left)?;
+    let counts = FrameCounts {
+        accepted,
+        delivered,
+        left,
+    };
+    push_counts(text, counts)?;
     push_frames(alloc, text, "frame", 0, &run.delivered)?;
     push_frames(alloc, text, "left", delivered, &run.left)
 }
 
 // Adds how many frames a session accepted, delivered and left, and ends the line.
-fn push_counts(
-    text: &mut Vec<u8>,
-    accepted: u64,
-    delivered: u64,
-    left: u64,
-) -> Result<(), AllocError>
-    ensures { OnOk result (text.new.items ≡ text.old.items ++ counts_text accepted delivered left) }
+fn push_counts(text: &mut Vec<u8>, counts: FrameCounts) -> Result<(), AllocError>
+    ensures { OnOk result (text.new.items ≡ text.old.items ++ counts_text counts.accepted counts.delivered counts.left) }
 {
     push_word(text, " accepted")?;
-    push_numbers(text, &[accepted])?;
+    push_numbers(text, &[counts.accepted])?;
     push_word(text, " delivered")?;
-    push_numbers(text, &[delivered])?;
+    push_numbers(text, &[counts.delivered])?;
     push_word(text, " left")?;
-    push_numbers(text, &[left])?;
+    push_numbers(text, &[counts.left])?;
     push_word(text, "\n")
 }
 

@@ -9,6 +9,13 @@ use step_kinds::{
     PairPlan, Plan, RunRecord, SessionRun, Side, SidePlan,
 };
 
+/// A table of answers or labels, each with its text.
+macro_rules! texts {
+    ($($value:expr => $text:literal),+ $(,)?) => {
+        [$(($value, $text)),+]
+    };
+}
+
 /// Asserts that the text of an answer is these words.
 fn assert_line(
     rt: &impl Abort,
@@ -23,32 +30,32 @@ fn assert_line(
 
 #[test]
 fn answers_of_one_word(rt: HostRuntime) -> Result<(), Fail> {
-    let cases = [
-        (Answer::Ok, "ok"),
-        (Answer::NotDown, "notdown"),
-        (Answer::Dirty, "dirty"),
-        (Answer::NotEnabled, "notenabled"),
-        (Answer::Spent, "spent"),
-        (Answer::NotUp, "notup"),
-        (Answer::NotClosing, "notclosing"),
-        (Answer::LinkDown, "linkdown"),
-        (Answer::Already, "already"),
-        (Answer::NotYet, "notyet"),
-        (Answer::Up, "up"),
-        (Answer::NotChecked, "notchecked"),
-        (Answer::NotReady, "notready"),
-        (Answer::Joined, "joined"),
-        (Answer::Closed, "closed"),
-        (Answer::Busy, "busy"),
-        (Answer::Stopped, "stopped"),
-        (Answer::Idle, "idle"),
-        (Answer::Nothing, "nothing"),
-        (Answer::Blocked, "blocked"),
-        (Answer::OutOfTurn, "outofturn"),
-        (Answer::Empty, "empty"),
-        (Answer::PeerDown, "peerdown"),
-        (Answer::Awake, "awake"),
-    ];
+    let cases = texts! {
+        Answer::Ok => "ok",
+        Answer::NotDown => "notdown",
+        Answer::Dirty => "dirty",
+        Answer::NotEnabled => "notenabled",
+        Answer::Spent => "spent",
+        Answer::NotUp => "notup",
+        Answer::NotClosing => "notclosing",
+        Answer::LinkDown => "linkdown",
+        Answer::Already => "already",
+        Answer::NotYet => "notyet",
+        Answer::Up => "up",
+        Answer::NotChecked => "notchecked",
+        Answer::NotReady => "notready",
+        Answer::Joined => "joined",
+        Answer::Closed => "closed",
+        Answer::Busy => "busy",
+        Answer::Stopped => "stopped",
+        Answer::Idle => "idle",
+        Answer::Nothing => "nothing",
+        Answer::Blocked => "blocked",
+        Answer::OutOfTurn => "outofturn",
+        Answer::Empty => "empty",
+        Answer::PeerDown => "peerdown",
+        Answer::Awake => "awake",
+    };
     for (answer, words) in &cases {
         assert_line(&rt, rt.alloc(), answer, words)?;
     }
@@ -60,25 +67,25 @@ fn answers_with_numbers(rt: HostRuntime) -> Result<(), Fail> {
     let (len, max) = (1012, 1011);
     let (seen, cap) = (8192, 4096);
     let number = 0;
-    let cases = [
-        (Answer::OkSession { session: 3 }, "ok 3"),
-        (Answer::OkNumber { number: 3 }, "ok 3"),
-        (Answer::Offered { index: 4 }, "offered 4"),
-        (Answer::Version { seen: 3, own: 4 }, "version 3 4"),
-        (Answer::Queues { seen: 2, own: 1 }, "queues 2 1"),
-        (Answer::Windows { seen: 2, own: 1 }, "windows 2 1"),
-        (Answer::Size { seen, cap }, "size 8192 4096"),
-        (Answer::TooLong { len, max }, "toolong 1012 1011"),
-        (Answer::Again { head: 3, tail: 3 }, "again 3 3"),
-        (Answer::VerDiffers { seen: 7, own: 0 }, "verdiffers 7 0"),
-        (Answer::Long { len, max }, "long 1012 1011"),
-        (Answer::ReadyFrame { number, len: 300 }, "ready 0 300"),
-        (Answer::Copied { number, part: 1 }, "copied 0 1"),
-        (Answer::Cleared { number }, "cleared 0"),
-        (Answer::Acked { number }, "acked 0"),
-        (Answer::Irq { bits: 1 }, "irq 1"),
-        (Answer::PadValue { value: 7 }, "pad 7"),
-    ];
+    let cases = texts! {
+        Answer::OkSession { session: 3 } => "ok 3",
+        Answer::OkNumber { number: 3 } => "ok 3",
+        Answer::Offered { index: 4 } => "offered 4",
+        Answer::Version { seen: 3, own: 4 } => "version 3 4",
+        Answer::Queues { seen: 2, own: 1 } => "queues 2 1",
+        Answer::Windows { seen: 2, own: 1 } => "windows 2 1",
+        Answer::Size { seen, cap } => "size 8192 4096",
+        Answer::TooLong { len, max } => "toolong 1012 1011",
+        Answer::Again { head: 3, tail: 3 } => "again 3 3",
+        Answer::VerDiffers { seen: 7, own: 0 } => "verdiffers 7 0",
+        Answer::Long { len, max } => "long 1012 1011",
+        Answer::ReadyFrame { number, len: 300 } => "ready 0 300",
+        Answer::Copied { number, part: 1 } => "copied 0 1",
+        Answer::Cleared { number } => "cleared 0",
+        Answer::Acked { number } => "acked 0",
+        Answer::Irq { bits: 1 } => "irq 1",
+        Answer::PadValue { value: 7 } => "pad 7",
+    };
     for (answer, words) in &cases {
         assert_line(&rt, rt.alloc(), answer, words)?;
     }
@@ -89,31 +96,17 @@ fn answers_with_numbers(rt: HostRuntime) -> Result<(), Fail> {
 fn labels() -> [(Label, &'static str); 9] {
     let (queue, number) = (0, 1);
     let (window, offset, len) = (0, 1011, 12);
-    [
-        (
-            Label::Chunk {
-                queue,
-                number,
-                part: 2,
-            },
-            "chunk 0 1 2",
-        ),
-        (Label::Len { queue, number }, "len 0 1"),
-        (Label::Ver { queue, number }, "ver 0 1"),
-        (Label::Flag { queue, number }, "flag 0 1"),
-        (Label::Down { queue, number }, "down 0 1"),
-        (Label::Bell { queue }, "bell 0"),
-        (Label::Index { queue, number }, "index 0 1"),
-        (Label::Pad { index: 4, value: 0 }, "pad 4 0"),
-        (
-            Label::Raw {
-                window,
-                offset,
-                len,
-            },
-            "raw 0 1011 12",
-        ),
-    ]
+    texts! {
+        Label::Chunk { queue, number, part: 2 } => "chunk 0 1 2",
+        Label::Len { queue, number } => "len 0 1",
+        Label::Ver { queue, number } => "ver 0 1",
+        Label::Flag { queue, number } => "flag 0 1",
+        Label::Down { queue, number } => "down 0 1",
+        Label::Bell { queue } => "bell 0",
+        Label::Index { queue, number } => "index 0 1",
+        Label::Pad { index: 4, value: 0 } => "pad 4 0",
+        Label::Raw { window, offset, len } => "raw 0 1011 12",
+    }
 }
 
 #[test]
@@ -148,29 +141,27 @@ fn frames_and_memory(rt: HostRuntime) -> Result<(), Fail> {
     Ok(())
 }
 
-fn side() -> SidePlan {
-    SidePlan {
+/// A plan of one pair, `p`, with one device, `d0`.
+fn plan(alloc: Global) -> Result<Plan, AllocError> {
+    let side = SidePlan {
         version: 4,
         queues: 1,
         windows: 1,
         size: 4096,
         cap: 4096,
-    }
-}
-
-/// A plan of one pair, `p`, with one device, `d0`.
-fn plan(alloc: Global) -> Result<Plan, AllocError> {
+    };
+    let no_class = [0; 16];
     let mut pairs = Items::new(alloc);
     pairs.push(PairPlan {
         name: Name::of_bytes(b"p"),
-        a: side(),
-        b: side(),
+        a: side,
+        b: side,
         mtu: 1023,
         up: true,
         strict: true,
         raw: false,
-        class_a: [0; 16],
-        class_b: [0; 16],
+        class_a: no_class,
+        class_b: no_class,
     })?;
     let mut devs = Items::new(alloc);
     devs.push(DevPlan {
