@@ -11,8 +11,8 @@ use step_kinds::{
 
 /// A table of answers or labels, each with its text.
 macro_rules! texts {
-    ($($value:expr => $text:literal),+ $(,)?) => {
-        [$(($value, $text)),+]
+    ($kind:ident: $($value:ident $({ $($fields:tt)* })? => $text:literal),+ $(,)?) => {
+        [$(($kind::$value $({ $($fields)* })?, $text)),+]
     };
 }
 
@@ -30,31 +30,31 @@ fn assert_line(
 
 #[test]
 fn answers_of_one_word(rt: HostRuntime) -> Result<(), Fail> {
-    let cases = texts! {
-        Answer::Ok => "ok",
-        Answer::NotDown => "notdown",
-        Answer::Dirty => "dirty",
-        Answer::NotEnabled => "notenabled",
-        Answer::Spent => "spent",
-        Answer::NotUp => "notup",
-        Answer::NotClosing => "notclosing",
-        Answer::LinkDown => "linkdown",
-        Answer::Already => "already",
-        Answer::NotYet => "notyet",
-        Answer::Up => "up",
-        Answer::NotChecked => "notchecked",
-        Answer::NotReady => "notready",
-        Answer::Joined => "joined",
-        Answer::Closed => "closed",
-        Answer::Busy => "busy",
-        Answer::Stopped => "stopped",
-        Answer::Idle => "idle",
-        Answer::Nothing => "nothing",
-        Answer::Blocked => "blocked",
-        Answer::OutOfTurn => "outofturn",
-        Answer::Empty => "empty",
-        Answer::PeerDown => "peerdown",
-        Answer::Awake => "awake",
+    let cases = texts! { Answer:
+        Ok => "ok",
+        NotDown => "notdown",
+        Dirty => "dirty",
+        NotEnabled => "notenabled",
+        Spent => "spent",
+        NotUp => "notup",
+        NotClosing => "notclosing",
+        LinkDown => "linkdown",
+        Already => "already",
+        NotYet => "notyet",
+        Up => "up",
+        NotChecked => "notchecked",
+        NotReady => "notready",
+        Joined => "joined",
+        Closed => "closed",
+        Busy => "busy",
+        Stopped => "stopped",
+        Idle => "idle",
+        Nothing => "nothing",
+        Blocked => "blocked",
+        OutOfTurn => "outofturn",
+        Empty => "empty",
+        PeerDown => "peerdown",
+        Awake => "awake",
     };
     for (answer, words) in &cases {
         assert_line(&rt, rt.alloc(), answer, words)?;
@@ -67,24 +67,24 @@ fn answers_with_numbers(rt: HostRuntime) -> Result<(), Fail> {
     let (len, max) = (1012, 1011);
     let (seen, cap) = (8192, 4096);
     let number = 0;
-    let cases = texts! {
-        Answer::OkSession { session: 3 } => "ok 3",
-        Answer::OkNumber { number: 3 } => "ok 3",
-        Answer::Offered { index: 4 } => "offered 4",
-        Answer::Version { seen: 3, own: 4 } => "version 3 4",
-        Answer::Queues { seen: 2, own: 1 } => "queues 2 1",
-        Answer::Windows { seen: 2, own: 1 } => "windows 2 1",
-        Answer::Size { seen, cap } => "size 8192 4096",
-        Answer::TooLong { len, max } => "toolong 1012 1011",
-        Answer::Again { head: 3, tail: 3 } => "again 3 3",
-        Answer::VerDiffers { seen: 7, own: 0 } => "verdiffers 7 0",
-        Answer::Long { len, max } => "long 1012 1011",
-        Answer::ReadyFrame { number, len: 300 } => "ready 0 300",
-        Answer::Copied { number, part: 1 } => "copied 0 1",
-        Answer::Cleared { number } => "cleared 0",
-        Answer::Acked { number } => "acked 0",
-        Answer::Irq { bits: 1 } => "irq 1",
-        Answer::PadValue { value: 7 } => "pad 7",
+    let cases = texts! { Answer:
+        OkSession { session: 3 } => "ok 3",
+        OkNumber { number: 3 } => "ok 3",
+        Offered { index: 4 } => "offered 4",
+        Version { seen: 3, own: 4 } => "version 3 4",
+        Queues { seen: 2, own: 1 } => "queues 2 1",
+        Windows { seen: 2, own: 1 } => "windows 2 1",
+        Size { seen, cap } => "size 8192 4096",
+        TooLong { len, max } => "toolong 1012 1011",
+        Again { head: 3, tail: 3 } => "again 3 3",
+        VerDiffers { seen: 7, own: 0 } => "verdiffers 7 0",
+        Long { len, max } => "long 1012 1011",
+        ReadyFrame { number, len: 300 } => "ready 0 300",
+        Copied { number, part: 1 } => "copied 0 1",
+        Cleared { number } => "cleared 0",
+        Acked { number } => "acked 0",
+        Irq { bits: 1 } => "irq 1",
+        PadValue { value: 7 } => "pad 7",
     };
     for (answer, words) in &cases {
         assert_line(&rt, rt.alloc(), answer, words)?;
@@ -96,16 +96,16 @@ fn answers_with_numbers(rt: HostRuntime) -> Result<(), Fail> {
 fn labels() -> [(Label, &'static str); 9] {
     let (queue, number) = (0, 1);
     let (window, offset, len) = (0, 1011, 12);
-    texts! {
-        Label::Chunk { queue, number, part: 2 } => "chunk 0 1 2",
-        Label::Len { queue, number } => "len 0 1",
-        Label::Ver { queue, number } => "ver 0 1",
-        Label::Flag { queue, number } => "flag 0 1",
-        Label::Down { queue, number } => "down 0 1",
-        Label::Bell { queue } => "bell 0",
-        Label::Index { queue, number } => "index 0 1",
-        Label::Pad { index: 4, value: 0 } => "pad 4 0",
-        Label::Raw { window, offset, len } => "raw 0 1011 12",
+    texts! { Label:
+        Chunk { queue, number, part: 2 } => "chunk 0 1 2",
+        Len { queue, number } => "len 0 1",
+        Ver { queue, number } => "ver 0 1",
+        Flag { queue, number } => "flag 0 1",
+        Down { queue, number } => "down 0 1",
+        Bell { queue } => "bell 0",
+        Index { queue, number } => "index 0 1",
+        Pad { index: 4, value: 0 } => "pad 4 0",
+        Raw { window, offset, len } => "raw 0 1011 12",
     }
 }
 
@@ -143,12 +143,13 @@ fn frames_and_memory(rt: HostRuntime) -> Result<(), Fail> {
 
 /// A plan of one pair, `p`, with one device, `d0`.
 fn plan(alloc: Global) -> Result<Plan, AllocError> {
+    let window = 4096;
     let side = SidePlan {
         version: 4,
         queues: 1,
         windows: 1,
-        size: 4096,
-        cap: 4096,
+        size: window,
+        cap: window,
     };
     let no_class = [0; 16];
     let mut pairs = Items::new(alloc);
