@@ -2,11 +2,11 @@
 use Rattle.std.specs.Prelude.{◌≡◌, ◌≤◌, ◌+◌, ◌%◌, ◌^◌, ℕ, suc, false, List, [], ◌∷◌, length, Some}
 use Rattle.std.specs.VecDeque.{deque_capacity}
 use Rattle.std.specs.Arc.{arc_value}
-use Rattle.atomic_table.specs.Seated.{TableId}
 use Rattle.table_rule.specs.declared.parts.LaneView.{LaneView}
 use Rattle.table_rule.specs.Views.{the_send, the_move, the_recv, the_back, the_cut}
 use Rattle.table_lane.specs.Table.{IsTableOf}
 use Rattle.table_lane.specs.Ends.{Sender, send_only, Mover, move_only, Receiver, recv_only, WayBack, back_only, Cutter, cut_only}
+use Rattle.table_lane.specs.declared.board.Standing.{Standing}
 use Rattle.table_lane.specs.declared.send.SendEnd.TheInside as send
 use Rattle.table_lane.specs.declared.mover.MoveEnd.TheInside as mover
 use Rattle.table_rule.specs.Rule.{Content, Sitter}
@@ -18,20 +18,20 @@ use Rattle.table_rule.specs.LaneNames.{Idle}
 
 -- an end stands at the table of its lane, its seat has one part alone and no slot, and the part knows how many entries
 -- there are
-pub record HasAlone (view : LaneView) (known N : ℕ) (at of : TableId) (key : ℕ) (sitter : Sitter) : Type 0 where
-  pub stands : at ≡ of
-  pub table : IsTableOf N of key
-  pub me : sitter ≡ (view, [])
-  pub entries : known ≡ N
+pub record HasAlone (view : LaneView) (known : ℕ) (at : Standing) : Type 0 where
+  pub stands : at.seat.table_id ≡ (arc_value at.table).shared.table_id
+  pub table : IsTableOf at.entries (arc_value at.table).shared.table_id (arc_value at.table).shared.key
+  pub me : at.seat.me ≡ (view, [])
+  pub entries : known ≡ at.entries
 
 abbrev pub sender_of : send.Inside → Sender
-sender_of end = record { lane = end.seat.table_id; part = the_send end.seat.me.0 }
+sender_of end = record { lane = end.at.seat.table_id; part = the_send end.at.seat.me.0 }
 
 -- the seat has the sender's part alone and no slot
 pub record IsSendEnd (end : send.Inside) : Type 0 where
-  pub alone : HasAlone (send_only (the_send end.seat.me.0)) (the_send end.seat.me.0).entries end.entries end.seat.table_id (arc_value end.table).shared.table_id (arc_value end.table).shared.key end.seat.me
-  pub claims : (the_send end.seat.me.0).claims ≡ false
-  pub sent : length (the_send end.seat.me.0).sent ≡ end.sent
+  pub alone : HasAlone (send_only (the_send end.at.seat.me.0)) (the_send end.at.seat.me.0).entries end.at
+  pub claims : (the_send end.at.seat.me.0).claims ≡ false
+  pub sent : length (the_send end.at.seat.me.0).sent ≡ end.sent
   pub counted : end.sent ≤ 2 ^ 62
 
 -- the slots that the mover has, with their frames, from entry n on
@@ -40,7 +40,7 @@ slots_of N n [] = []
 slots_of N n (frame ∷ frames) = (n % N, Some frame) ∷ slots_of N (suc n) frames
 
 abbrev pub mover_of : mover.Inside → Mover
-mover_of end = record { lane = end.seat.table_id; part = the_move end.seat.me.0 }
+mover_of end = record { lane = end.at.seat.table_id; part = the_move end.at.seat.me.0 }
 
 -- The seat has the mover's part alone and the slots of the held entries, which are those from `first` up to `next`.
 -- `waits` are those that wait for their header.
@@ -55,34 +55,34 @@ pub record MovesWith (N first next : ℕ) (waits : List ℕ) (me : Sitter) : Typ
   pub few : length (the_move me.0).held + 1 ≤ N
 
 pub record IsMoveEnd (end : mover.Inside) : Type 0 where
-  pub stands : end.seat.table_id ≡ (arc_value end.table).shared.table_id
-  pub table : IsTableOf end.entries (arc_value end.table).shared.table_id (arc_value end.table).shared.key
-  pub me : MovesWith end.entries end.flagged end.taken end.waiting.items end.seat.me
-  pub room : end.entries ≤ deque_capacity end.waiting
+  pub stands : end.at.seat.table_id ≡ (arc_value end.at.table).shared.table_id
+  pub table : IsTableOf end.at.entries (arc_value end.at.table).shared.table_id (arc_value end.at.table).shared.key
+  pub me : MovesWith end.at.entries end.flagged end.taken end.waiting.items end.at.seat.me
+  pub room : end.at.entries ≤ deque_capacity end.waiting
   pub counted : end.taken ≤ 2 ^ 62
 
 abbrev pub receiver_of : recv.Inside → Receiver
-receiver_of end = record { lane = end.seat.table_id; part = the_recv end.seat.me.0 }
+receiver_of end = record { lane = end.at.seat.table_id; part = the_recv end.at.seat.me.0 }
 
 -- the seat has the receiver's part alone and no slot, and looks at no frame
 pub record IsRecvEnd (end : recv.Inside) : Type 0 where
-  pub alone : HasAlone (recv_only (the_recv end.seat.me.0)) (the_recv end.seat.me.0).entries end.entries end.seat.table_id (arc_value end.table).shared.table_id (arc_value end.table).shared.key end.seat.me
-  pub phase : (the_recv end.seat.me.0).phase ≡ Idle
-  pub hand : (the_recv end.seat.me.0).hand ≡ []
-  pub got : length (the_recv end.seat.me.0).got ≡ end.got
+  pub alone : HasAlone (recv_only (the_recv end.at.seat.me.0)) (the_recv end.at.seat.me.0).entries end.at
+  pub phase : (the_recv end.at.seat.me.0).phase ≡ Idle
+  pub hand : (the_recv end.at.seat.me.0).hand ≡ []
+  pub got : length (the_recv end.at.seat.me.0).got ≡ end.got
   pub counted : end.got ≤ 2 ^ 62
   pub nothing_left : end.left.frames ≡ []
-  pub room : end.entries ≤ end.left.spare + 1
+  pub room : end.at.entries ≤ end.left.spare + 1
 
 abbrev pub way_back_of : back.Inside → WayBack
-way_back_of end = record { lane = end.seat.table_id; part = the_back end.seat.me.0 }
+way_back_of end = record { lane = end.at.seat.table_id; part = the_back end.at.seat.me.0 }
 
 pub record IsBackEnd (end : back.Inside) : Type 0 where
-  pub alone : HasAlone (back_only (the_back end.seat.me.0)) (the_back end.seat.me.0).entries end.entries end.seat.table_id (arc_value end.table).shared.table_id (arc_value end.table).shared.key end.seat.me
-  pub freed : (the_back end.seat.me.0).freed ≡ end.freed
+  pub alone : HasAlone (back_only (the_back end.at.seat.me.0)) (the_back end.at.seat.me.0).entries end.at
+  pub freed : (the_back end.at.seat.me.0).freed ≡ end.freed
 
 abbrev pub cutter_of : cut.Inside → Cutter
-cutter_of end = record { lane = end.seat.table_id; part = the_cut end.seat.me.0 }
+cutter_of end = record { lane = end.at.seat.table_id; part = the_cut end.at.seat.me.0 }
 
 pub record IsCutEnd (end : cut.Inside) : Type 0 where
-  pub alone : HasAlone (cut_only (the_cut end.seat.me.0)) (the_cut end.seat.me.0).entries end.entries end.seat.table_id (arc_value end.table).shared.table_id (arc_value end.table).shared.key end.seat.me
+  pub alone : HasAlone (cut_only (the_cut end.at.seat.me.0)) (the_cut end.at.seat.me.0).entries end.at

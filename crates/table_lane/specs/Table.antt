@@ -1,6 +1,10 @@
--- A table that is a lane's.
+-- A table that is a lane's, and what a step on it leaves.
 use Rattle.std.specs.Prelude.{◌≡◌, ◌≤◌, ℕ}
 use Rattle.atomic_table.specs.Seated.{TableId}
+use Rattle.atomic_table.specs.declared.shared.Seat.{Seat}
+use Rattle.table_rule.specs.declared.parts.LaneView.{LaneView}
+use Rattle.table_rule.specs.Plays.{Tells}
+use Rattle.table_rule.specs.Rule.{Content}
 use Rattle.table_rule.specs.Words.{words_in}
 
 -- a lane's table of N entries: so many words and slots, and N for its key
@@ -10,3 +14,8 @@ pub record IsTableOf (N : ℕ) (id : TableId) (about : ℕ) : Type 0 where
   pub key : about ≡ N
   pub two : 2 ≤ N
   pub small : N ≤ 65535
+
+-- after a step that loads or stores this word a seat is at its table still, and is as the step tells
+pub record StepTells (told : Tells) (before : Seat Content LaneView) (word : ℕ) (after : Seat Content LaneView) : Type 0 where
+  pub table : after.table_id ≡ before.table_id
+  pub tells : told before.me word after.me

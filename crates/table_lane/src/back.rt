@@ -5,29 +5,16 @@ ghost use Rattle.table_rule.specs.LaneNames.{tail_of};
 ghost use Rattle.table_rule.specs.Knowledge.{link_cut};
 ghost use Rattle.table_lane.specs.RecvAnswers.{GivesBack};
 
-use crate::board::{LaneSeat, LaneTable};
+use crate::board::Standing;
 use crate::steps::{cut_link, load_index_out, store_index};
-use std::alloc::Global;
 use std::marker::Model;
-use std::sync::Arc;
-
-/// What came of a step of the way back.
-#[derive(Clone, Copy, Debug, PartialEq, Eq, Drop)]
-pub enum BackAnswer {
-    /// The index word was stored: the entries up to the one with this number are given back to the sender.
-    Index { number: u64 },
-    /// The index out that this call loaded was not new.
-    Idle,
-}
 
 /// The end that brings indices back to the sender. It never waits and takes no memory.
 ///
 /// A contract sees which table it stands at, and what it knows: how many entries were given back, and its loads.
 #[derive(Drop)]
 pub struct BackEnd {
-    pub(crate) table: Arc<LaneTable, Global>,
-    pub(crate) seat: LaneSeat,
-    pub(crate) entries: u64,
+    pub(crate) at: Standing,
     pub(crate) freed: u64,
 }
 
@@ -36,9 +23,16 @@ pub struct BackEnd {
 /// A contract sees which table it stands at, and whether the link was cut.
 #[derive(Drop)]
 pub struct CutEnd {
-    pub(crate) table: Arc<LaneTable, Global>,
-    pub(crate) seat: LaneSeat,
-    pub(crate) entries: u64,
+    pub(crate) at: Standing,
+}
+
+/// What came of a step of the way back.
+#[derive(Clone, Copy, Debug, PartialEq, Eq, Drop)]
+pub enum BackAnswer {
+    /// The index word was stored: the entries up to the one with this number are given back to the sender.
+    Index { number: u64 },
+    /// The index out that this call loaded was not new.
+    Idle,
 }
 
 // The position of the last entry that was given back.
@@ -65,13 +59,13 @@ impl BackEnd {
         ensures lane { self.new.lane ≡ self.old.lane }
         ensures gives_back { GivesBack self.old.part result self.new.part }
     {
-        let board = &self.table.shared;
-        let index = load_index_out(board, &mut self.seat, self.entries);
-        if index == tail_of(self.entries, self.freed) {
+        let board = &self.at.table.shared;
+        let index = load_index_out(board, &mut self.at.seat, self.at.entries);
+        if index == tail_of(self.at.entries, self.freed) {
             return BackAnswer::Idle;
         }
-        let number = number_at(self.entries, self.freed, index);
-        store_index(board, &mut self.seat, self.entries, index);
+        let number = number_at(self.at.entries, self.freed, index);
+        store_index(board, &mut self.at.seat, self.at.entries, index);
         self.freed = number + 1;
         BackAnswer::Index { number }
     }
@@ -95,7 +89,7 @@ impl CutEnd {
         ensures lane { self.new.lane ≡ self.old.lane }
         ensures cuts { self.new.part ≡ link_cut self.old.part }
     {
-        cut_link(&self.table.shared, &mut self.seat, self.entries);
+        cut_link(&self.at.table.shared, &mut self.at.seat, self.at.entries);
     }
 }
 

@@ -1,9 +1,11 @@
 //! The table of a lane, and the numbers of its words.
-ghost use Rattle.std.specs.Prelude.{◌≡◌, ◌≤◌, ◌<◌};
+ghost use Rattle.std.specs.Prelude.{◌≡◌, ◌≤◌, ◌<◌, IfOk};
+ghost use Rattle.std.specs.Arc.{arc_value};
 ghost use Rattle.table_rule.specs.Words.{posted_word, header_word, flag_word, index_out_word, index_word, link_word, header_of};
 
 use atomic_table::{Seat, Shared, Table};
-use std::alloc::Global;
+use std::alloc::{AllocError, Global};
+use std::sync::Arc;
 use step_kinds::Frame;
 use table_rule::parts::LaneView;
 use table_rule::rule::LaneRule;
@@ -16,6 +18,32 @@ pub(crate) type Board = Shared<Option<Frame>, LaneView, u64, LaneRule>;
 
 /// What an end steps with.
 pub(crate) type LaneSeat = Seat<Option<Frame>, LaneView>;
+
+/// Where an end stands: at the table of its lane, with a seat, and how many entries the ring has.
+#[derive(Drop)]
+pub(crate) struct Standing {
+    pub(crate) table: Arc<LaneTable, Global>,
+    pub(crate) seat: LaneSeat,
+    pub(crate) entries: u64,
+}
+
+impl Standing {
+    /// At a table that other ends stand at too. The only error is want of memory.
+    pub(crate) fn beside(
+        table: &Arc<LaneTable, Global>,
+        seat: LaneSeat,
+        entries: u64,
+    ) -> Result<Standing, AllocError>
+        ensures { IfOk result (λ at. (arc_value at.table ≡ arc_value table.now) × (at.seat.table_id ≡ seat.table_id) × (at.seat.me ≡ seat.me) × (at.entries ≡ entries)) }
+    {
+        let table = Arc::try_clone(table)?;
+        Ok(Standing {
+            table,
+            seat,
+            entries,
+        })
+    }
+}
 
 /// A flag word of an entry that stands whole.
 pub(crate) const DONE: u64 = 1;

@@ -6,7 +6,7 @@ ghost use Rattle.table_lane.specs.NewEnds.{AreNew};
 ghost use Rattle.table_lane.specs.Table.{IsTableOf};
 
 use crate::back::{BackEnd, CutEnd};
-use crate::board::{Board, LaneSeat, LaneTable};
+use crate::board::{Board, LaneSeat, LaneTable, Standing};
 use crate::mover::MoveEnd;
 use crate::recv::RecvEnd;
 use crate::send::SendEnd;
@@ -14,7 +14,8 @@ use std::alloc::{AllocError, Global};
 use std::collections::VecDeque;
 use std::sync::Arc;
 use step_kinds::FrameList;
-use table_rule::plays::{SplitsBack, SplitsCut, SplitsMove, SplitsRecv};
+use table_rule::parts::{BackPart, CutPart, MovePart, RecvPart};
+use table_rule::plays::SplitsOff;
 
 // The words of a new table: all 0, but both indices name the last position.
 fn start_words(alloc: Global, entries: u64) -> Result<Vec<u64>, AllocError>
@@ -57,10 +58,10 @@ fn split_off(board: &Board, send: &mut LaneSeat) -> (LaneSeat, LaneSeat, LaneSea
     ensures cut { result.3.me ≡ (alone OfCut (without OfWayBack (without OfReceiver (without OfMover send.old.me.0))), []) }
     ensures send { send.new.me ≡ (without OfCut (without OfWayBack (without OfReceiver (without OfMover send.old.me.0))), send.old.me.1) }
 {
-    let mover = board.split_seat::<SplitsMove>(send);
-    let recv = board.split_seat::<SplitsRecv>(send);
-    let back = board.split_seat::<SplitsBack>(send);
-    let cut = board.split_seat::<SplitsCut>(send);
+    let mover = board.split_seat::<SplitsOff<MovePart>>(send);
+    let recv = board.split_seat::<SplitsOff<RecvPart>>(send);
+    let back = board.split_seat::<SplitsOff<BackPart>>(send);
+    let cut = board.split_seat::<SplitsOff<CutPart>>(send);
     (mover, recv, back, cut)
 }
 
@@ -80,36 +81,28 @@ pub fn make(
     let (mover, recv, back, cut) = split_off(&table.shared, &mut seat);
     let table = Arc::new(alloc, table)?;
     let mover = MoveEnd {
-        table: Arc::try_clone(&table)?,
-        seat: mover,
-        entries,
+        at: Standing::beside(&table, mover, entries)?,
         flagged: 0,
         taken: 0,
         waiting,
     };
     let recv = RecvEnd {
-        table: Arc::try_clone(&table)?,
-        seat: recv,
-        entries,
+        at: Standing::beside(&table, recv, entries)?,
         got: 0,
         left,
     };
     let back = BackEnd {
-        table: Arc::try_clone(&table)?,
-        seat: back,
-        entries,
+        at: Standing::beside(&table, back, entries)?,
         freed: 0,
     };
     let cut = CutEnd {
-        table: Arc::try_clone(&table)?,
-        seat: cut,
-        entries,
+        at: Standing::beside(&table, cut, entries)?,
     };
-    let send = SendEnd {
+    let at = Standing {
         table,
         seat,
         entries,
-        sent: 0,
     };
+    let send = SendEnd { at, sent: 0 };
     Ok((send, mover, recv, back, cut))
 }

@@ -7,7 +7,7 @@ ghost use Rattle.table_lane.specs.RecvAnswers.{IsReady};
 ghost use Rattle.table_lane.specs.EndOfLane.{HasAll, MovesNext, OthersStay, shown_by};
 
 use crate::back::{BackEnd, CutEnd};
-use crate::board::{Board, LaneSeat, header_of};
+use crate::board::{Board, LaneSeat, Standing, header_of};
 use crate::mover::MoveEnd;
 use crate::recv::{RecvEnd, receive};
 use crate::send::SendEnd;
@@ -135,16 +135,17 @@ pub fn finish(
     ensures proof { result.proof ≡ record { sent = send.part.sent; got = recv.part.got; entries = send.part.entries; cut = cut.part.cut } }
 {
     mover.settle();
-    let RecvEnd {
+    let next = mover.flagged;
+    let (send, mover, back, cut) = (send.at, mover.at, back.at, cut.at);
+    let RecvEnd { at, got, mut left } = recv;
+    let Standing {
         table,
         seat,
         entries,
-        got,
-        mut left,
-    } = recv;
+    } = at;
     let board = &table.shared;
     let mut all = join_all(board, send.seat, mover.seat, seat, back.seat, cut.seat);
-    move_all(board, &mut all, entries, mover.flagged);
+    move_all(board, &mut all, entries, next);
     drain(board, &mut all, entries, got, &mut left);
     LaneEnd {
         left,

@@ -5,12 +5,24 @@ ghost use Rattle.table_rule.specs.Knowledge.{taken, posted_loaded, frame_taken, 
 ghost use Rattle.table_lane.specs.MoveChoice.{waiting, open_moves, Makes, Moves};
 ghost use Rattle.table_lane.specs.declared.mover.MoveAnswer.{MoveAnswer};
 
-use crate::board::{LaneSeat, LaneTable, header_of};
+use crate::board::{Standing, header_of};
 use crate::steps::{load_posted, store_flag, store_header};
-use std::alloc::Global;
 use std::collections::VecDeque;
 use std::marker::Model;
-use std::sync::Arc;
+
+/// The end that moves frames: it takes them, stores their headers in any order, and their flags in order, each after
+/// its header. It never waits and takes no memory.
+///
+/// A contract sees which table it stands at, and what it knows: the entries that it holds, and its loads.
+#[derive(Drop)]
+pub struct MoveEnd {
+    pub(crate) at: Standing,
+    /// The first entry that it holds, and the next one that it takes.
+    pub(crate) flagged: u64,
+    pub(crate) taken: u64,
+    /// The entries that wait for their header, by rising number.
+    pub(crate) waiting: VecDeque<u64>,
+}
 
 /// Which move the mover made.
 #[derive(Clone, Copy, Debug, PartialEq, Eq, Drop)]
@@ -23,22 +35,6 @@ pub enum MoveAnswer {
     Flag { number: u64 },
     /// Nothing is held, and the posted header that this call loaded was not new.
     Idle,
-}
-
-/// The end that moves frames: it takes them, stores their headers in any order, and their flags in order, each after
-/// its header. It never waits and takes no memory.
-///
-/// A contract sees which table it stands at, and what it knows: the entries that it holds, and its loads.
-#[derive(Drop)]
-pub struct MoveEnd {
-    pub(crate) table: Arc<LaneTable, Global>,
-    pub(crate) seat: LaneSeat,
-    pub(crate) entries: u64,
-    /// The first entry that it holds, and the next one that it takes.
-    pub(crate) flagged: u64,
-    pub(crate) taken: u64,
-    /// The entries that wait for their header, by rising number.
-    pub(crate) waiting: VecDeque<u64>,
 }
 
 impl MoveEnd {
@@ -67,7 +63,8 @@ impl MoveEnd {
         ensures knows { self.new.part ≡ header_stored self.old.part result }
     {
         let number = self.waiting.remove(k).unwrap();
-        store_header(&self.table.shared, &mut self.seat, self.entries, number);
+        let board = &self.at.table.shared;
+        store_header(board, &mut self.at.seat, self.at.entries, number);
         number
     }
 
@@ -79,7 +76,8 @@ impl MoveEnd {
         ensures knows { self.new.part ≡ flag_stored self.old.part }
     {
         let number = self.flagged;
-        store_flag(&self.table.shared, &mut self.seat, self.entries, number);
+        let board = &self.at.table.shared;
+        store_flag(board, &mut self.at.seat, self.at.entries, number);
         self.flagged = number + 1;
         number
     }
@@ -91,12 +89,11 @@ impl MoveEnd {
         ensures knows { let seen = posted_loaded self.old.part self.new.part.posted in MatchBool result ((frame : List ℕ) × (self.new.part ≡ frame_taken seen frame)) (self.new.part ≡ seen) }
     {
         let number = self.taken;
-        if load_posted(&self.table.shared, &mut self.seat, self.entries, number)
-            != header_of(number)
-        {
+        let board = &self.at.table.shared;
+        if load_posted(board, &mut self.at.seat, self.at.entries, number) != header_of(number) {
             return false;
         }
-        self.seat.turn();
+        self.at.seat.turn();
         self.waiting.push_back_reserved(number);
         self.taken = number + 1;
         true

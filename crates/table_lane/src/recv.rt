@@ -5,12 +5,21 @@ ghost use Rattle.table_rule.specs.LaneNames.{Idle};
 ghost use Rattle.table_lane.specs.Table.{IsTableOf};
 ghost use Rattle.table_lane.specs.RecvAnswers.{Receives, IsReady, NothingCame, FrameCame};
 
-use crate::board::{Board, DONE, LaneSeat, LaneTable};
+use crate::board::{Board, DONE, LaneSeat, Standing};
 use crate::steps::{acknowledge, clear_flag, load_flag, load_header};
-use std::alloc::Global;
 use std::marker::Model;
-use std::sync::Arc;
 use step_kinds::{Frame, FrameList};
+
+/// The end that receives frames. It never waits and takes no memory.
+///
+/// A contract sees which table it stands at, and what it knows: the frames that were received, and its loads.
+#[derive(Drop)]
+pub struct RecvEnd {
+    pub(crate) at: Standing,
+    pub(crate) got: u64,
+    /// Room for all frames that a ring can have, for what `finish` takes out.
+    pub(crate) left: FrameList,
+}
 
 /// What came of an attempt to receive a frame.
 #[derive(Debug, Drop)]
@@ -19,19 +28,6 @@ pub enum RecvAnswer {
     Got { number: u64, frame: Frame },
     /// The flag that this call loaded showed no DONE.
     Empty,
-}
-
-/// The end that receives frames. It never waits and takes no memory.
-///
-/// A contract sees which table it stands at, and what it knows: the frames that were received, and its loads.
-#[derive(Drop)]
-pub struct RecvEnd {
-    pub(crate) table: Arc<LaneTable, Global>,
-    pub(crate) seat: LaneSeat,
-    pub(crate) entries: u64,
-    pub(crate) got: u64,
-    /// Room for all frames that a ring can have, for what `finish` takes out.
-    pub(crate) left: FrameList,
 }
 
 // Receives the next frame, entry `number`, where its flag is up: takes it out of its slot, clears the flag and
@@ -67,7 +63,8 @@ impl RecvEnd {
         ensures idle { self.new.part.phase ≡ Idle }
     {
         let number = self.got;
-        match receive(&self.table.shared, &mut self.seat, self.entries, number) {
+        let board = &self.at.table.shared;
+        match receive(board, &mut self.at.seat, self.at.entries, number) {
             None => RecvAnswer::Empty,
             Some(frame) => {
                 self.got = number + 1;

@@ -3,12 +3,19 @@ ghost use Rattle.std.specs.Prelude.{◌≡◌, ◌≢◌, ◌<◌, ◌^◌, ◌�
 ghost use Rattle.table_rule.specs.LaneNames.{free_entries};
 ghost use Rattle.table_lane.specs.SendAnswers.{Sends};
 
-use crate::board::{CUT, LaneSeat, LaneTable};
+use crate::board::{CUT, Standing};
 use crate::steps::{load_index, load_link, post_frame};
-use std::alloc::Global;
 use std::marker::Model;
-use std::sync::Arc;
 use step_kinds::Frame;
+
+/// The end that sends frames. It never waits and takes no memory.
+///
+/// A contract sees which table it stands at, and what it knows: the frames that were sent, and its loads.
+#[derive(Drop)]
+pub struct SendEnd {
+    pub(crate) at: Standing,
+    pub(crate) sent: u64,
+}
 
 /// What came of an attempt to send a frame.
 #[derive(Debug, Drop)]
@@ -20,17 +27,6 @@ pub enum SendAnswer {
     NoRoom { frame: Frame, head: u32, tail: u32 },
     /// The link word that this call loaded showed that the link is cut. Here is the frame.
     Cut { frame: Frame },
-}
-
-/// The end that sends frames. It never waits and takes no memory.
-///
-/// A contract sees which table it stands at, and what it knows: the frames that were sent, and its loads.
-#[derive(Drop)]
-pub struct SendEnd {
-    pub(crate) table: Arc<LaneTable, Global>,
-    pub(crate) seat: LaneSeat,
-    pub(crate) entries: u64,
-    pub(crate) sent: u64,
 }
 
 // The free entries, as head and index word show them.
@@ -55,13 +51,13 @@ impl SendEnd {
         ensures lane { self.new.lane ≡ self.old.lane }
         ensures sends { Sends self.old.part frame result self.new.part }
     {
-        let board = &self.table.shared;
-        if load_link(board, &mut self.seat, self.entries) == CUT {
+        let board = &self.at.table.shared;
+        if load_link(board, &mut self.at.seat, self.at.entries) == CUT {
             return SendAnswer::Cut { frame };
         }
-        let head = self.sent % self.entries;
-        let tail = load_index(board, &mut self.seat, self.entries);
-        if free_entries(self.entries, head, tail) == 0 {
+        let head = self.sent % self.at.entries;
+        let tail = load_index(board, &mut self.at.seat, self.at.entries);
+        if free_entries(self.at.entries, head, tail) == 0 {
             return SendAnswer::NoRoom {
                 frame,
                 head: head as u32,
@@ -70,8 +66,8 @@ impl SendEnd {
         }
         let number = self.sent;
         let _at_most = frame.len();
-        post_frame(board, &mut self.seat, self.entries, number, frame);
         self.sent = number + 1;
+        post_frame(board, &mut self.at.seat, self.at.entries, number, frame);
         SendAnswer::Sent { number }
     }
 }

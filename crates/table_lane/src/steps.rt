@@ -8,7 +8,7 @@ ghost use Rattle.table_rule.specs.Knowledge.{frame_sent, header_stored, taken};
 ghost use Rattle.table_rule.specs.Rule.{Content};
 ghost use Rattle.table_rule.specs.Plays.{sees_link, sees_index, stores_posted, sees_posted, stores_flag, sees_flag, copies_frame, clears_flag, stores_index_out, sees_index_out, stores_index, cuts_link};
 ghost use Rattle.table_rule.specs.Words.{cut_word};
-ghost use Rattle.table_lane.specs.Table.{IsTableOf};
+ghost use Rattle.table_lane.specs.Table.{IsTableOf, StepTells};
 
 use crate::board::{
     Board, CUT, DONE, LaneSeat, flag_word, header_of, header_word, index_out_word, index_word,
@@ -24,8 +24,7 @@ use table_rule::plays::{
 pub(crate) fn load_link(table: &Board, seat: &mut LaneSeat, entries: u64) -> u64
     requires table { (seat.old.table_id ≡ table.now.table_id) × IsTableOf entries table.now.table_id table.now.key }
     requires part { HasSend seat.old.me.0 }
-    ensures table { seat.new.table_id ≡ seat.old.table_id }
-    ensures tells { sees_link seat.old.me result seat.new.me }
+    ensures { StepTells sees_link seat.old result seat.new }
 {
     table.load::<SeesLink>(seat, link_word(entries))
 }
@@ -34,8 +33,7 @@ pub(crate) fn load_link(table: &Board, seat: &mut LaneSeat, entries: u64) -> u64
 pub(crate) fn load_index(table: &Board, seat: &mut LaneSeat, entries: u64) -> u64
     requires table { (seat.old.table_id ≡ table.now.table_id) × IsTableOf entries table.now.table_id table.now.key }
     requires part { HasSend seat.old.me.0 × ((the_send seat.old.me.0).claims ≡ false) }
-    ensures table { seat.new.table_id ≡ seat.old.table_id }
-    ensures tells { sees_index seat.old.me result seat.new.me }
+    ensures { StepTells sees_index seat.old result seat.new }
 {
     table.load::<SeesIndex>(seat, index_word(entries))
 }
@@ -58,8 +56,7 @@ pub(crate) fn post_frame(table: &Board, seat: &mut LaneSeat, entries: u64, n: u6
 pub(crate) fn load_posted(table: &Board, seat: &mut LaneSeat, entries: u64, n: u64) -> u64
     requires table { (seat.old.table_id ≡ table.now.table_id) × IsTableOf entries table.now.table_id table.now.key }
     requires part { HasMove seat.old.me.0 × (n ≡ taken (the_move seat.old.me.0)) }
-    ensures table { seat.new.table_id ≡ seat.old.table_id }
-    ensures tells { sees_posted seat.old.me result seat.new.me }
+    ensures { StepTells sees_posted seat.old result seat.new }
 {
     table.load::<SeesPosted>(seat, posted_word(entries, n))
 }
@@ -80,8 +77,7 @@ pub(crate) fn store_flag(table: &Board, seat: &mut LaneSeat, entries: u64, n: u6
     requires table { (seat.old.table_id ≡ table.now.table_id) × IsTableOf entries table.now.table_id table.now.key }
     requires part { HasMove seat.old.me.0 × (n ≡ (the_move seat.old.me.0).flagged) }
     requires held { (frame : Bytes) × (seat.old.me.1 ≡ (n % entries, Some frame) ∷ rest seat.old.me.1) × ((the_move seat.old.me.0).held ≡ frame ∷ drop 1 (the_move seat.old.me.0).held) × ((the_move seat.old.me.0).stored ≡ true ∷ drop 1 (the_move seat.old.me.0).stored) }
-    ensures table { seat.new.table_id ≡ seat.old.table_id }
-    ensures tells { stores_flag seat.old.me 1 seat.new.me }
+    ensures { StepTells stores_flag seat.old 1 seat.new }
 {
     table.store::<StoresFlag>(seat, flag_word(entries, n), DONE);
 }
@@ -90,8 +86,7 @@ pub(crate) fn store_flag(table: &Board, seat: &mut LaneSeat, entries: u64, n: u6
 pub(crate) fn load_flag(table: &Board, seat: &mut LaneSeat, entries: u64, n: u64) -> u64
     requires table { (seat.old.table_id ≡ table.now.table_id) × IsTableOf entries table.now.table_id table.now.key }
     requires part { HasRecv seat.old.me.0 × ((the_recv seat.old.me.0).phase ≡ Idle) × (n ≡ length (the_recv seat.old.me.0).got) }
-    ensures table { seat.new.table_id ≡ seat.old.table_id }
-    ensures tells { sees_flag seat.old.me result seat.new.me }
+    ensures { StepTells sees_flag seat.old result seat.new }
 {
     table.load::<SeesFlag>(seat, flag_word(entries, n))
 }
@@ -100,8 +95,7 @@ pub(crate) fn load_flag(table: &Board, seat: &mut LaneSeat, entries: u64, n: u64
 pub(crate) fn load_header(table: &Board, seat: &mut LaneSeat, entries: u64, n: u64) -> u64
     requires table { (seat.old.table_id ≡ table.now.table_id) × IsTableOf entries table.now.table_id table.now.key }
     requires part { HasRecv seat.old.me.0 × ((the_recv seat.old.me.0).phase ≡ Copying) × (n ≡ length (the_recv seat.old.me.0).got) }
-    ensures table { seat.new.table_id ≡ seat.old.table_id }
-    ensures tells { copies_frame seat.old.me result seat.new.me }
+    ensures { StepTells copies_frame seat.old result seat.new }
 {
     table.load::<CopiesFrame>(seat, header_word(entries, n))
 }
@@ -124,8 +118,7 @@ pub(crate) fn clear_flag(table: &Board, seat: &mut LaneSeat, entries: u64, n: u6
 pub(crate) fn acknowledge(table: &Board, seat: &mut LaneSeat, entries: u64, n: u64)
     requires table { (seat.old.table_id ≡ table.now.table_id) × IsTableOf entries table.now.table_id table.now.key }
     requires part { HasRecv seat.old.me.0 × ((the_recv seat.old.me.0).phase ≡ Cleared) × (n + 1 ≡ length (the_recv seat.old.me.0).got) }
-    ensures table { seat.new.table_id ≡ seat.old.table_id }
-    ensures tells { stores_index_out seat.old.me 0 seat.new.me }
+    ensures { StepTells stores_index_out seat.old 0 seat.new }
 {
     table.store::<StoresIndexOut>(seat, index_out_word(entries), n % entries);
 }
@@ -134,8 +127,7 @@ pub(crate) fn acknowledge(table: &Board, seat: &mut LaneSeat, entries: u64, n: u
 pub(crate) fn load_index_out(table: &Board, seat: &mut LaneSeat, entries: u64) -> u64
     requires table { (seat.old.table_id ≡ table.now.table_id) × IsTableOf entries table.now.table_id table.now.key }
     requires part { HasBack seat.old.me.0 }
-    ensures table { seat.new.table_id ≡ seat.old.table_id }
-    ensures tells { sees_index_out seat.old.me result seat.new.me }
+    ensures { StepTells sees_index_out seat.old result seat.new }
 {
     table.load::<SeesIndexOut>(seat, index_out_word(entries))
 }
@@ -144,8 +136,7 @@ pub(crate) fn load_index_out(table: &Board, seat: &mut LaneSeat, entries: u64) -
 pub(crate) fn store_index(table: &Board, seat: &mut LaneSeat, entries: u64, index: u64)
     requires table { (seat.old.table_id ≡ table.now.table_id) × IsTableOf entries table.now.table_id table.now.key }
     requires part { HasBack seat.old.me.0 × ((the_back seat.old.me.0).entries ≡ entries) × (index ≡ (the_back seat.old.me.0).index) × (index ≢ tail_of entries (the_back seat.old.me.0).freed) }
-    ensures table { seat.new.table_id ≡ seat.old.table_id }
-    ensures tells { stores_index seat.old.me 0 seat.new.me }
+    ensures { StepTells stores_index seat.old 0 seat.new }
 {
     table.store::<StoresIndex>(seat, index_word(entries), index);
 }
@@ -154,8 +145,7 @@ pub(crate) fn store_index(table: &Board, seat: &mut LaneSeat, entries: u64, inde
 pub(crate) fn cut_link(table: &Board, seat: &mut LaneSeat, entries: u64)
     requires table { (seat.old.table_id ≡ table.now.table_id) × IsTableOf entries table.now.table_id table.now.key }
     requires part { HasCut seat.old.me.0 }
-    ensures table { seat.new.table_id ≡ seat.old.table_id }
-    ensures tells { cuts_link seat.old.me 1 seat.new.me }
+    ensures { StepTells cuts_link seat.old 1 seat.new }
 {
     table.store::<CutsLink>(seat, link_word(entries), CUT);
 }

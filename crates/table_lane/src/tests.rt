@@ -1,7 +1,10 @@
-ghost use Rattle.std.specs.Prelude.{◌≡◌, ◌≤◌, ◌<◌, ◌+◌, ◌∷◌, [], length, IfOk, OnOk};
+ghost use Rattle.std.specs.Prelude.{◌≡◌, ◌≤◌, ◌<◌, ◌+◌, ◌^◌, ◌∷◌, [], length, IfOk, OnOk};
+ghost use Rattle.table_lane.specs.NewEnds.{AreOfOneLane};
 
 use super::*;
+use call_tables::follow;
 use std::alloc::{AllocError, Global};
+use std::process::Abort;
 use std::test::Fail;
 use std::thread;
 use std::thread::{Threads, join};
@@ -14,165 +17,187 @@ fn frame_of(alloc: Global, byte: u8) -> Result<Frame, AllocError>
     Ok(Frame::of_vec(vec![in alloc; byte]?))
 }
 
-// Adds to a log what became of each of these frames of one byte.
-fn send_each(alloc: Global, end: &mut SendEnd, bytes: &[u8], log: &mut String) -> Result<(), Fail>
-    requires { length end.old.part.sent + length bytes.now < 1000 }
-    ensures lane { end.new.lane ≡ end.old.lane }
-    ensures few { length end.new.part.sent ≤ length end.old.part.sent + length bytes.now }
-{
-    for byte in bytes {
-        let text = sent_text(alloc, end.send(frame_of(alloc, *byte)?))?;
-        log.push_str(&text)?;
-    }
-    Ok(())
+// The ends of a lane.
+#[derive(Drop)]
+struct Ends {
+    send: SendEnd,
+    mover: MoveEnd,
+    recv: RecvEnd,
+    back: BackEnd,
+    cut: CutEnd,
+}
+
+// A call of an end: a frame of this byte is sent, or the mover steps by this choice.
+#[derive(Drop)]
+enum Call {
+    Send(u8),
+    Move(u64),
+    Recv,
+    Back,
+    Cut,
 }
 
 fn sent_text(alloc: Global, answer: SendAnswer) -> Result<String, AllocError> {
     match answer {
-        SendAnswer::Sent { number } => format!(in alloc; "sent {number}; "),
+        SendAnswer::Sent { number } => format!(in alloc; "sent {number}"),
         SendAnswer::NoRoom { frame, head, tail } => {
-            format!(in alloc; "no room {head} {tail} for {:?}; ", frame.bytes())
+            format!(in alloc; "no room {head} {tail} for {:?}", frame.bytes())
         }
-        SendAnswer::Cut { frame } => format!(in alloc; "cut {:?}; ", frame.bytes()),
+        SendAnswer::Cut { frame } => format!(in alloc; "cut {:?}", frame.bytes()),
     }
 }
 
-// Adds to a log the moves that these choices make.
-fn move_each(
+fn received_text(alloc: Global, answer: RecvAnswer) -> Result<String, AllocError> {
+    match answer {
+        RecvAnswer::Got { number, frame } => {
+            format!(in alloc; "got {number} {:?}", frame.bytes())
+        }
+        RecvAnswer::Empty => format!(in alloc; "empty"),
+    }
+}
+
+// Makes a call; what it answers.
+fn make_call(alloc: Global, ends: &mut Ends, call: &Call) -> Result<String, Fail>
+    requires one_lane { AreOfOneLane ends.old.send ends.old.mover ends.old.recv ends.old.back ends.old.cut }
+    requires few { length ends.old.send.part.sent < 2 ^ 62 }
+    ensures one_lane { OnOk result (AreOfOneLane ends.new.send ends.new.mover ends.new.recv ends.new.back ends.new.cut) }
+    ensures few { OnOk result (length ends.new.send.part.sent ≤ length ends.old.send.part.sent + 1) }
+{
+    let text = match call {
+        Call::Send(byte) => sent_text(alloc, ends.send.send(frame_of(alloc, *byte)?))?,
+        Call::Move(choice) => format!(in alloc; "{:?}", ends.mover.step(*choice))?,
+        Call::Recv => received_text(alloc, ends.recv.recv())?,
+        Call::Back => format!(in alloc; "{:?}", ends.back.step())?,
+        Call::Cut => {
+            ends.cut.cut();
+            format!(in alloc; "cut")?
+        }
+    };
+    Ok(text)
+}
+
+// Makes these calls one after another on a new lane with so many entries, each of which is to answer what stands
+// beside it.
+fn follow(
+    rt: &impl Abort,
     alloc: Global,
-    end: &mut MoveEnd,
-    choices: &[u64],
-    log: &mut String,
-) -> Result<(), Fail>
-    ensures { end.new.lane ≡ end.old.lane }
+    entries: u32,
+    calls: &[(Call, &str)],
+) -> Result<Ends, Fail>
+    requires ring { (2 ≤ entries) × (entries ≤ 65535) }
+    requires few { length calls.now < 2 ^ 46 }
+    ensures { IfOk result (λ ends. AreOfOneLane ends.send ends.mover ends.recv ends.back ends.cut) }
 {
-    for choice in choices {
-        let text = format!(in alloc; "{:?}; ", end.step(*choice))?;
-        log.push_str(&text)?;
+    let (send, mover, recv, back, cut) = make(alloc, entries)?;
+    let mut ends = Ends {
+        send,
+        mover,
+        recv,
+        back,
+        cut,
+    };
+    for (call, want) in calls {
+        let answer = make_call(alloc, &mut ends, call)?;
+        assert_eq!(rt; answer.as_str(), *want);
     }
-    Ok(())
-}
-
-// Adds to a log what so many attempts to receive bring.
-fn recv_times(alloc: Global, end: &mut RecvEnd, times: u32, log: &mut String) -> Result<(), Fail>
-    ensures { end.new.lane ≡ end.old.lane }
-{
-    for _ in 0..times {
-        let text = match end.recv() {
-            RecvAnswer::Got { number, frame } => {
-                format!(in alloc; "got {number} {:?}; ", frame.bytes())?
-            }
-            RecvAnswer::Empty => format!(in alloc; "empty; ")?,
-        };
-        log.push_str(&text)?;
-    }
-    Ok(())
-}
-
-// Adds to a log what so many steps of the way back do.
-fn back_times(alloc: Global, end: &mut BackEnd, times: u32, log: &mut String) -> Result<(), Fail> {
-    for _ in 0..times {
-        let text = format!(in alloc; "{:?}; ", end.step())?;
-        log.push_str(&text)?;
-    }
-    Ok(())
-}
-
-fn full_ring(alloc: Global) -> Result<String, Fail> {
-    let mut log = String::new(alloc);
-    let (mut send, mut mover, mut recv, _back, _cut) = make(alloc, 4)?;
-    send_each(alloc, &mut send, b"abcd", &mut log)?;
-    for choice in 0..10 {
-        mover.step(choice);
-    }
-    recv_times(alloc, &mut recv, 4, &mut log)?;
-    Ok(log)
+    Ok(ends)
 }
 
 #[test]
 fn a_full_ring_refuses_the_next_frame(rt: HostRuntime) -> Result<(), Fail> {
-    let log = full_ring(rt.alloc())?;
-    assert_eq!(rt;
-        log.as_str(),
-        "sent 0; sent 1; sent 2; no room 3 3 for [100]; got 0 [97]; got 1 [98]; got 2 [99]; empty; "
-    );
+    follow! { rt, 4;
+        Send(b'a') => "sent 0",
+        Send(b'b') => "sent 1",
+        Send(b'c') => "sent 2",
+        Send(b'd') => "no room 3 3 for [100]",
+        Move(0) => "Took { number: 0 }",
+        Move(1) => "Took { number: 1 }",
+        Move(2) => "Took { number: 2 }",
+        Move(3) => "Header { number: 0 }",
+        Move(4) => "Header { number: 1 }",
+        Move(5) => "Header { number: 2 }",
+        Move(6) => "Flag { number: 0 }",
+        Move(7) => "Flag { number: 1 }",
+        Move(8) => "Flag { number: 2 }",
+        Move(9) => "Idle",
+        Recv => "got 0 [97]",
+        Recv => "got 1 [98]",
+        Recv => "got 2 [99]",
+        Recv => "empty",
+    }?;
     Ok(())
-}
-
-fn second_trip(alloc: Global) -> Result<String, Fail> {
-    let mut log = String::new(alloc);
-    let (mut send, mut mover, mut recv, mut back, mut cut) = make(alloc, 2)?;
-    send_each(alloc, &mut send, b"ab", &mut log)?;
-    move_each(alloc, &mut mover, &[0, 0, 0, 0], &mut log)?;
-    recv_times(alloc, &mut recv, 1, &mut log)?;
-    back_times(alloc, &mut back, 2, &mut log)?;
-    send_each(alloc, &mut send, b"b", &mut log)?;
-    cut.cut();
-    send_each(alloc, &mut send, b"c", &mut log)?;
-    move_each(alloc, &mut mover, &[0, 0, 0], &mut log)?;
-    recv_times(alloc, &mut recv, 2, &mut log)?;
-    Ok(log)
 }
 
 #[test]
 fn a_second_trip_round_a_ring_of_two_and_a_cut(rt: HostRuntime) -> Result<(), Fail> {
-    let log = second_trip(rt.alloc())?;
-    assert_eq!(rt;
-        log.as_str(),
-        "sent 0; no room 1 1 for [98]; \
-         Took { number: 0 }; Header { number: 0 }; Flag { number: 0 }; Idle; got 0 [97]; Index { number: 0 }; Idle; \
-         sent 1; cut [99]; Took { number: 1 }; Header { number: 1 }; Flag { number: 1 }; got 1 [98]; empty; "
-    );
+    follow! { rt, 2;
+        Send(b'a') => "sent 0",
+        Send(b'b') => "no room 1 1 for [98]",
+        Move(0) => "Took { number: 0 }",
+        Move(0) => "Header { number: 0 }",
+        Move(0) => "Flag { number: 0 }",
+        Move(0) => "Idle",
+        Recv => "got 0 [97]",
+        Back => "Index { number: 0 }",
+        Back => "Idle",
+        Send(b'b') => "sent 1",
+        Cut => "cut",
+        Send(b'c') => "cut [99]",
+        Move(0) => "Took { number: 1 }",
+        Move(0) => "Header { number: 1 }",
+        Move(0) => "Flag { number: 1 }",
+        Recv => "got 1 [98]",
+        Recv => "empty",
+    }?;
     Ok(())
-}
-
-fn chosen_moves(alloc: Global) -> Result<String, Fail> {
-    let mut log = String::new(alloc);
-    let (mut send, mut mover, mut recv, _back, _cut) = make(alloc, 8)?;
-    send_each(alloc, &mut send, b"abc", &mut log)?;
-    move_each(alloc, &mut mover, &[7, 7, 5, 6, 4], &mut log)?;
-    recv_times(alloc, &mut recv, 1, &mut log)?;
-    move_each(alloc, &mut mover, &[1, 1], &mut log)?;
-    recv_times(alloc, &mut recv, 2, &mut log)?;
-    move_each(alloc, &mut mover, &[0, 0, 0], &mut log)?;
-    Ok(log)
 }
 
 // With nothing held each choice is the load; with one header to store, 1 is the load, which here shows nothing new,
 // so that the header is stored.
 #[test]
 fn headers_go_in_any_order_and_flags_in_order(rt: HostRuntime) -> Result<(), Fail> {
-    let log = chosen_moves(rt.alloc())?;
-    assert_eq!(rt;
-        log.as_str(),
-        "sent 0; sent 1; sent 2; \
-         Took { number: 0 }; Took { number: 1 }; Took { number: 2 }; Header { number: 2 }; Header { number: 1 }; empty; \
-         Header { number: 0 }; Flag { number: 0 }; got 0 [97]; empty; \
-         Flag { number: 1 }; Flag { number: 2 }; Idle; "
-    );
+    follow! { rt, 8;
+        Send(b'a') => "sent 0",
+        Send(b'b') => "sent 1",
+        Send(b'c') => "sent 2",
+        Move(7) => "Took { number: 0 }",
+        Move(7) => "Took { number: 1 }",
+        Move(5) => "Took { number: 2 }",
+        Move(6) => "Header { number: 2 }",
+        Move(4) => "Header { number: 1 }",
+        Recv => "empty",
+        Move(1) => "Header { number: 0 }",
+        Move(1) => "Flag { number: 0 }",
+        Recv => "got 0 [97]",
+        Recv => "empty",
+        Move(0) => "Flag { number: 1 }",
+        Move(0) => "Flag { number: 2 }",
+        Move(0) => "Idle",
+    }?;
     Ok(())
-}
-
-fn left_bytes(alloc: Global) -> Result<Vec<u8>, Fail> {
-    let mut log = String::new(alloc);
-    let (mut send, mut mover, mut recv, back, cut) = make(alloc, 5)?;
-    send_each(alloc, &mut send, b"ab", &mut log)?;
-    move_each(alloc, &mut mover, &[0, 0, 0, 0, 0, 0], &mut log)?;
-    recv_times(alloc, &mut recv, 1, &mut log)?;
-    send_each(alloc, &mut send, b"c", &mut log)?;
-    move_each(alloc, &mut mover, &[0], &mut log)?;
-    send_each(alloc, &mut send, b"d", &mut log)?;
-    let end = finish(send, mover, recv, back, cut);
-    let mut left = Vec::new(alloc);
-    for place in 0..end.left.len() {
-        left.extend_from_slice(end.left.frame_at(place).bytes())?;
-    }
-    Ok(left)
 }
 
 #[test]
 fn what_is_left_comes_out_at_the_end(rt: HostRuntime) -> Result<(), Fail> {
-    let left = left_bytes(rt.alloc())?;
+    let ends = follow! { rt, 5;
+        Send(b'a') => "sent 0",
+        Send(b'b') => "sent 1",
+        Move(0) => "Took { number: 0 }",
+        Move(0) => "Header { number: 0 }",
+        Move(0) => "Flag { number: 0 }",
+        Move(0) => "Took { number: 1 }",
+        Move(0) => "Header { number: 1 }",
+        Move(0) => "Flag { number: 1 }",
+        Recv => "got 0 [97]",
+        Send(b'c') => "sent 2",
+        Move(0) => "Took { number: 2 }",
+        Send(b'd') => "sent 3",
+    }?;
+    let end = finish(ends.send, ends.mover, ends.recv, ends.back, ends.cut);
+    let mut left = Vec::new(rt.alloc());
+    for place in 0..end.left.len() {
+        left.extend_from_slice(end.left.frame_at(place).bytes())?;
+    }
     assert_eq!(rt; left.as_slice(), b"bcd".as_slice());
     Ok(())
 }

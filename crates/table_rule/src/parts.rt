@@ -1,8 +1,15 @@
 //! What the ends of a lane know. No value of these types is made: they are the views of seats, for contracts and
 //! proofs. A contract reads an array as a list of any length.
 
+ghost use Rattle.table_rule.specs.Views.{PartKind, OfMover, OfReceiver, OfWayBack, OfCut};
+
 use lane_model::Phase;
 use step_kinds::Frame;
+
+/// A part that can go from the sender's seat to a new one.
+pub trait Part {
+    ghost kind: { PartKind };
+}
 
 /// What the sender knows.
 pub struct SendPart {
@@ -40,6 +47,10 @@ pub struct MovePart {
     pub headers: u64,
 }
 
+impl Part for MovePart {
+    ghost kind = { OfMover };
+}
+
 /// What the receiver knows.
 pub struct RecvPart {
     /// The number of entries of the ring.
@@ -56,6 +67,10 @@ pub struct RecvPart {
     pub flag: u64,
 }
 
+impl Part for RecvPart {
+    ghost kind = { OfReceiver };
+}
+
 /// What the way back knows.
 pub struct BackPart {
     /// The number of entries of the ring.
@@ -68,12 +83,20 @@ pub struct BackPart {
     pub index: u64,
 }
 
+impl Part for BackPart {
+    ghost kind = { OfWayBack };
+}
+
 /// What the cut knows.
 pub struct CutPart {
     /// The number of entries of the ring.
     pub entries: u64,
     /// Whether the link was cut.
     pub cut: bool,
+}
+
+impl Part for CutPart {
+    ghost kind = { OfCut };
 }
 
 /// What a seat knows: the parts that it has. Each part belongs to one seat at each moment.

@@ -1,7 +1,8 @@
 //! The kinds of step on a lane's table: what each atomic step tells its caller.
 
-use crate::parts::LaneView;
+use crate::parts::{LaneView, Part};
 use atomic_table::{Join, Play, Split};
+use std::marker::PhantomData;
 use step_kinds::Frame;
 
 /// The sender loads the link word.
@@ -121,48 +122,17 @@ impl Play<Option<Frame>, LaneView> for CutsLink {
     ghost then = { λ _. cuts_link };
 }
 
-/// A new seat gets the mover's part.
-pub struct SplitsMove;
-
-impl Split<LaneView> for SplitsMove {
-    ghost use Rattle.table_rule.specs.Views.{OfMover, without, alone};
-
-    ghost left = { without OfMover };
-
-    ghost right = { alone OfMover };
+/// A new seat gets one part, of this kind, and the other parts stay.
+pub struct SplitsOff<P> {
+    part: PhantomData<P>,
 }
 
-/// A new seat gets the receiver's part.
-pub struct SplitsRecv;
+impl<P: Part> Split<LaneView> for SplitsOff<P> {
+    ghost use Rattle.table_rule.specs.Views.{without, alone};
 
-impl Split<LaneView> for SplitsRecv {
-    ghost use Rattle.table_rule.specs.Views.{OfReceiver, without, alone};
+    ghost left = { without P.kind };
 
-    ghost left = { without OfReceiver };
-
-    ghost right = { alone OfReceiver };
-}
-
-/// A new seat gets the way back's part.
-pub struct SplitsBack;
-
-impl Split<LaneView> for SplitsBack {
-    ghost use Rattle.table_rule.specs.Views.{OfWayBack, without, alone};
-
-    ghost left = { without OfWayBack };
-
-    ghost right = { alone OfWayBack };
-}
-
-/// A new seat gets the cut's part.
-pub struct SplitsCut;
-
-impl Split<LaneView> for SplitsCut {
-    ghost use Rattle.table_rule.specs.Views.{OfCut, without, alone};
-
-    ghost left = { without OfCut };
-
-    ghost right = { alone OfCut };
+    ghost right = { alone P.kind };
 }
 
 /// Two seats become one, which has the parts of both.

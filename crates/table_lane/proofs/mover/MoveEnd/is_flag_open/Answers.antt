@@ -8,7 +8,7 @@ use Rattle.table_lane.proofs.mover.MoveEnd.is_flag_open.Goals as goal
 
 pub returns-in-Some : goal.returns-in-Some
 returns-in-Some c =
-    let part : MovePart = the_move c.self.inside.seat.me.0 in
+    let part : MovePart = the_move c.self.inside.at.seat.me.0 in
     let inv = c.self.invariant in
     let queue = c.self.inside.waiting in
     let same : queue.items ≡ waiting c.self.inside.flagged part.stored = inv.me.waiting_are in

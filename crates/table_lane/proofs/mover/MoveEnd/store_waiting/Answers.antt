@@ -25,8 +25,8 @@ invariant_of-self c =
     record {
       stands = c.store_header.ensures.table ∙ inv.stands;
       table = inv.table;
-      me = let P : List ℕ → Sitter → Type 0 = MovesWith c.self.inside.entries c.self.inside.flagged c.self.inside.taken in
+      me = let P : List ℕ → Sitter → Type 0 = MovesWith c.self.inside.at.entries c.self.inside.flagged c.self.inside.taken in
           subst (λ (ws : List ℕ). P ws c.store_header.new.seat.me) (sym items) (subst (λ (m : Sitter). P (remove c.self.inside.waiting.items c.args.k) m) (sym c.store_header.ensures.knows) after);
-      room = subst (λ (n : ℕ). c.self.inside.entries ≤ n) (sym c.remove.ensures.capacity) inv.room;
+      room = subst (λ (n : ℕ). c.self.inside.at.entries ≤ n) (sym c.remove.ensures.capacity) inv.room;
       counted = inv.counted;
     }
