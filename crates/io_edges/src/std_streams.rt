@@ -47,8 +47,7 @@ impl<R: Read> Source for StdStream<R> {
         ensures cause { HasCause (faults_of self.old) (faults_of self.new) result }
 
         // What the reader itself has left, where that is known.
-        ensures reader { ReadConsumes (R.remaining (inner_of self.old)) (R.remaining (inner_of self.new))
-            result out.new }
+        ensures reader { ReadConsumes (R.remaining (inner_of self.old)) (R.remaining (inner_of self.new)) result out.new }
         ensures count { CountsErrors (faults_of self.old) (faults_of self.new) result }
     {
         match self.inner.read(out) {
@@ -77,8 +76,7 @@ impl<W: Write> Sink for StdStream<W> {
         ensures cause { HasCause (faults_of self.old) (faults_of self.new) result }
 
         // What the writer itself holds, where that is known.
-        ensures writer { WriteAppends (W.contents (inner_of self.old)) (W.contents (inner_of self.new))
-            result bytes.now }
+        ensures writer { WriteAppends (W.contents (inner_of self.old)) (W.contents (inner_of self.new)) result bytes.now }
         ensures count { CountsErrors (faults_of self.old) (faults_of self.new) result }
     {
         match self.inner.write(bytes) {

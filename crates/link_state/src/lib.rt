@@ -6,7 +6,7 @@
 //! memory, and a refused call changes nothing.
 #![tactic(auto)]
 
-ghost use Rattle.std.specs.Prelude.{IfOk, ◌≡◌, ◌≤◌};
+ghost use Rattle.std.specs.Prelude.{IfErr, IfOk, OnOk, ◌≡◌, ◌≢◌, ◌≤◌};
 ghost use Rattle.std.specs.Result.{result_err};
 ghost use Rattle.plan_model.specs.Both.{at_side, with_side};
 ghost use Rattle.plan_model.specs.Link.{
@@ -84,13 +84,6 @@ impl Link {
         self.enabled.at(side)
     }
 
-    /// Whether the side has forgotten the session that was lost.
-    pub fn clean(&self, side: Side) -> bool
-        ensures { result ≡ at_side self.now.clean side }
-    {
-        self.clean.at(side)
-    }
-
     /// The side agrees to bring the link up (`ntb_link_enable`). A second call changes nothing.
     ///
     /// # Errors
@@ -101,9 +94,7 @@ impl Link {
         ensures refusal { result_err result ≡ enable_refusal self.old side }
         ensures after { self.new ≡ link_after (enable_refusal self.old side) self.old (enabled_link self.old side) }
     {
-        if self.state != LinkState::Down {
-            return Err(LinkRefusal::NotDown);
-        }
+        self.is_in(LinkState::Down, LinkRefusal::NotDown)?;
         if !self.clean.at(side) {
             return Err(LinkRefusal::Dirty);
         }
@@ -122,9 +113,7 @@ impl Link {
         ensures after { self.new ≡ link_after (train_refusal self.old) self.old (trained_link self.old) }
         ensures session { IfOk result (λ session. session ≡ self.new.session) }
     {
-        if self.state != LinkState::Down {
-            return Err(LinkRefusal::NotDown);
-        }
+        self.is_in(LinkState::Down, LinkRefusal::NotDown)?;
         if !(self.enabled.at(Side::A) && self.enabled.at(Side::B)) {
             return Err(LinkRefusal::NotEnabled);
         }
@@ -146,9 +135,7 @@ impl Link {
         ensures refusal { result_err result ≡ cut_refusal self.old }
         ensures after { self.new ≡ link_after (cut_refusal self.old) self.old (cut_link self.old) }
     {
-        if self.state != LinkState::Up {
-            return Err(LinkRefusal::NotUp);
-        }
+        self.is_in(LinkState::Up, LinkRefusal::NotUp)?;
         self.state = LinkState::Closing;
         Ok(())
     }
@@ -163,13 +150,18 @@ impl Link {
         ensures refusal { result_err result ≡ drop_refusal self.old }
         ensures after { self.new ≡ link_after (drop_refusal self.old) self.old (dropped_link self.old) }
     {
-        if self.state != LinkState::Closing {
-            return Err(LinkRefusal::NotClosing);
-        }
+        self.is_in(LinkState::Closing, LinkRefusal::NotClosing)?;
         self.state = LinkState::Down;
         self.enabled = Flags::both(false);
         self.clean = Flags::both(false);
         Ok(())
+    }
+
+    /// Whether the side has forgotten the session that was lost.
+    pub fn clean(&self, side: Side) -> bool
+        ensures { result ≡ at_side self.now.clean side }
+    {
+        self.clean.at(side)
     }
 
     /// The side has forgotten the lost session: it is clean, and may enable the link again. A second call changes
@@ -182,11 +174,21 @@ impl Link {
         ensures refusal { result_err result ≡ clean_refusal self.old }
         ensures after { self.new ≡ link_after (clean_refusal self.old) self.old (cleaned_link self.old side) }
     {
-        if self.state != LinkState::Down {
-            return Err(LinkRefusal::NotDown);
-        }
+        self.is_in(LinkState::Down, LinkRefusal::NotDown)?;
         self.clean.set(side);
         Ok(())
+    }
+
+    // Refuses, with this refusal, where the link is in another state.
+    fn is_in(&self, state: LinkState, refusal: LinkRefusal) -> Result<(), LinkRefusal>
+        ensures ok { OnOk result (self.now.state ≡ state) }
+        ensures err { IfErr result (λ given. (given ≡ refusal) × (self.now.state ≢ state)) }
+    {
+        if self.state == state {
+            Ok(())
+        } else {
+            Err(refusal)
+        }
     }
 }
 

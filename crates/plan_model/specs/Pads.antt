@@ -8,18 +8,19 @@ use Rattle.step_kinds.specs.declared.steps.Label.{Label}
 use Rattle.step_kinds.specs.declared.steps.Label.TheVariants.{Pad}
 use Rattle.lane_model.specs.Lane.{count_from}
 
--- the numbers of the scratchpads that the handshake uses
+-- the numbers of the scratchpads that the handshake uses: each is behind the one before, and the halves of the windows' sizes
+-- are behind all these
 abbrev pub version_pad : ℕ
 version_pad = 0
 
 abbrev pub links_pad : ℕ
-links_pad = 1
+links_pad = version_pad + 1
 
 abbrev pub queues_pad : ℕ
-queues_pad = 2
+queues_pad = links_pad + 1
 
 abbrev pub windows_pad : ℕ
-windows_pad = 3
+windows_pad = queues_pad + 1
 
 abbrev pub high_pad : ℕ → ℕ
 high_pad m = 4 + (m + m)

@@ -43,10 +43,10 @@ pub struct Geometry {
     windows: u32,
     queues: u32,
     queue: u32,
-    mtu: u32,
-    header: u32,
     area_bytes: u64,
     area_begin: u64,
+    mtu: u32,
+    header: u32,
     frame_bytes: u32,
     entries: u32,
 }

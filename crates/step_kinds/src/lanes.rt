@@ -7,46 +7,26 @@ use crate::frame::Frame;
 #[derive(Debug, PartialEq, Eq, Drop)]
 pub enum Begun {
     /// The frame or link-down entry was begun and has this number, counted from 0 in the session.
-    Ok {
-        /// The number.
-        number: u64,
-    },
-    /// The frame is longer than any may be. Of a frame alone, and tested first.
-    TooLong {
-        /// The frame's length, in bytes.
-        len: u32,
-        /// The most bytes that a frame may have.
-        max: u32,
-    },
+    Ok { number: u64 },
+    /// The frame is longer than any may be: its length and the most that it may be, both in bytes. Of a frame alone, and
+    /// tested first.
+    TooLong { len: u32, max: u32 },
     /// The frame before has writes left to post.
     Busy,
-    /// The ring has fewer entries free than are needed.
-    NoRoom {
-        /// The slot of the next entry.
-        head: u32,
-        /// The index word: the slot of the last entry that was given back.
-        tail: u32,
-    },
+    /// The ring has fewer entries free than are needed: `head` is the slot of the next entry, and `tail` the index word, which
+    /// is the slot of the last entry that was given back.
+    NoRoom { head: u32, tail: u32 },
 }
 
 /// What came of copying the next part of an entry. A part is 128 bytes, the last one of an entry the rest of it; that a
 /// copy is made in parts is this project's own, so that a script can put steps between them.
 #[derive(Debug, Drop)]
 pub enum LaneCopy {
-    /// A part was copied, and more of the frame is left.
-    Part {
-        /// The number of the entry.
-        number: u64,
-        /// The number of the part, counted from 0 in its entry.
-        part: u32,
-    },
-    /// The last part was copied: the whole frame.
-    Whole {
-        /// The number of the frame.
-        number: u64,
-        /// The frame.
-        frame: Frame,
-    },
+    /// A part was copied, and more of the frame is left: the number of the entry, and that of the part, counted from 0 in its
+    /// entry.
+    Part { number: u64, part: u32 },
+    /// The last part was copied: the number of the frame, and the whole frame.
+    Whole { number: u64, frame: Frame },
     /// No entry is being copied.
     OutOfTurn,
 }

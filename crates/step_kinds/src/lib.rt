@@ -1,12 +1,13 @@
 //! The plain types of ntbsim's surface: sides and lanes, frames and names, the steps of a script and their answers,
 //! the plan that a script declares and the record of a threaded run; and the surface's limits.
 //!
-//! Contracts see a [`Frame`] and a [`Name`] as their lists of bytes, [`Items`] as a list, and a [`FrameList`] as a list
-//! of frames and the number of frames for which room is promised.
+//! Contracts see a [`Frame`], a [`Name`] and what is kept [`InPlace`] as their lists of bytes, [`Items`] as a list, and a
+//! [`FrameList`] as a list of frames and the number of frames for which room is promised.
 #![tactic(auto)]
 
 mod frame;
 mod frame_list;
+mod in_place;
 mod items;
 mod lanes;
 pub mod limits;
@@ -17,6 +18,7 @@ mod steps;
 
 pub use frame::Frame;
 pub use frame_list::FrameList;
+pub use in_place::InPlace;
 pub use items::Items;
 pub use lanes::{Begun, LaneCopy};
 pub use names::{LaneName, Name, Side};

@@ -3,6 +3,7 @@
 ghost use Rattle.std.specs.Prelude.{◌≡◌, ◌≤◌, length};
 ghost use Rattle.step_kinds.specs.Sides.{other_side};
 
+use crate::in_place::InPlace;
 use std::marker::Model;
 
 /// One of the two sides of a pair, which are joined by one bridge.
@@ -41,8 +42,7 @@ pub struct LaneName {
 /// A name of 1 to 16 bytes, kept in place. Contracts see its list of bytes.
 #[derive(Drop)]
 pub struct Name {
-    bytes: [u8; 16],
-    len: usize,
+    kept: InPlace<16>,
 }
 
 impl Name {
@@ -52,11 +52,8 @@ impl Name {
         requires fits { length bytes.now ≤ 16 }
         ensures { result ≡ bytes.now }
     {
-        let mut kept = [0u8; 16];
-        kept[..bytes.len()].copy_from_slice(bytes);
         Name {
-            bytes: kept,
-            len: bytes.len(),
+            kept: InPlace::of_slice(bytes),
         }
     }
 
@@ -66,16 +63,14 @@ impl Name {
         ensures some { 1 ≤ length result.now }
         ensures fits { length result.now ≤ 16 }
     {
-        &self.bytes[..self.len]
+        self.kept.as_slice()
     }
 }
 
 impl Model for Name {
-    ghost use Rattle.std.specs.Prelude.{ℕ, List, ◌≤◌, take};
+    ghost use Rattle.std.specs.Prelude.{ℕ, List};
 
     ghost Value = { List ℕ };
 
-    ghost view = { λ name. take name.len name.bytes };
-
-    ghost invariant = { λ name. (1 ≤ name.len) × (name.len ≤ 16) };
+    ghost view = { λ name. name.kept };
 }
