@@ -9,19 +9,19 @@ use Rattle.plan_model.specs.Sizes.{layout_of, layout_to}
 
 -- A queue's ring in a memory: the address of each place in the ring's window, and how the ring is laid out there.
 pub record MemoryRing : Type 0 where
-  pub address_of : ℕ → ℕ
+  pub address : ℕ → ℕ
   pub layout : Layout
 
 -- the address of the slot of entry n, and of its header
-abbrev pub slot_in : MemoryRing → ℕ → ℕ
-slot_in ring n = ring.address_of (slot_of ring.layout (n % entries_of ring.layout))
+abbrev pub slot_address : MemoryRing → ℕ → ℕ
+slot_address ring n = ring.address (slot_of ring.layout (n % entries_of ring.layout))
 
-abbrev pub header_in : MemoryRing → ℕ → ℕ
-header_in ring n = ring.address_of (header_of ring.layout (n % entries_of ring.layout))
+abbrev pub header_address : MemoryRing → ℕ → ℕ
+header_address ring n = ring.address (header_of ring.layout (n % entries_of ring.layout))
 
 -- the address of the index word
-abbrev pub index_word_in : MemoryRing → ℕ
-index_word_in ring = ring.address_of (index_of ring.layout)
+abbrev pub index_word_address : MemoryRing → ℕ
+index_word_address ring = ring.address (index_of ring.layout)
 
 -- In a side's own memory
 
@@ -31,16 +31,16 @@ own_address plan side queue offset = window_of (layout_to plan side queue) * (si
 
 -- the ring in which the side receives, with the index word of the lane that it sends
 abbrev pub own_ring : PairPlan → Side → ℕ → MemoryRing
-own_ring plan side queue = record { address_of = own_address plan side queue; layout = layout_to plan side queue }
+own_ring plan side queue = record { address = own_address plan side queue; layout = layout_to plan side queue }
 
 abbrev pub own_slot : PairPlan → Side → ℕ → ℕ → ℕ
-own_slot plan side queue n = slot_in (own_ring plan side queue) n
+own_slot plan side queue n = slot_address (own_ring plan side queue) n
 
 abbrev pub own_header : PairPlan → Side → ℕ → ℕ → ℕ
-own_header plan side queue n = header_in (own_ring plan side queue) n
+own_header plan side queue n = header_address (own_ring plan side queue) n
 
 abbrev pub own_index_word : PairPlan → Side → ℕ → ℕ
-own_index_word plan side queue = index_word_in (own_ring plan side queue)
+own_index_word plan side queue = index_word_address (own_ring plan side queue)
 
 -- In the peer's memory, through the windows that a side sends through
 
@@ -54,4 +54,4 @@ queue_address plan side queue offset = peer_address plan side (window_of (layout
 
 -- the ring to which the side sends, with the index word of the lane that it receives
 abbrev pub peer_ring : PairPlan → Side → ℕ → MemoryRing
-peer_ring plan side queue = record { address_of = queue_address plan side queue; layout = layout_of plan side queue }
+peer_ring plan side queue = record { address = queue_address plan side queue; layout = layout_of plan side queue }
