@@ -29,7 +29,7 @@ use Rattle.memory_model.specs.Memory.{stored}
 use Rattle.memory_model.specs.Targets.{store_of}
 use Rattle.byte_laws.proofs.LabelStores.{rings_in, is_five, size_fits, same_queues, has_ring, slot_among_ring, written_at, own_at, IsFitting, spot_of, FillsSpot, field_inside, label_fills}
 use Rattle.byte_laws.proofs.RingStores.{RingIn, LeavesRing}
-use Rattle.byte_laws.proofs.SlotStores.{at_spot, word_at_spot, Fills, StandsIn, LeavesSlot, other_left, outside_left, flags_stand, zeroed_stands, nothing_stands, flags_at}
+use Rattle.byte_laws.proofs.SlotStores.{at_spot, word_at_spot, Fills, StandsIn, LeavesSlot, other_left, outside_left, FlagsWord, word_stands, zeroed_stands, nothing_stands, flags_at}
 
 -- the entries of a ring are few
 entries_few : (l : Layout) → l.window ≤ 268435456 → entries_of l ≤ 268435456
@@ -221,7 +221,7 @@ module _ (plan : PairPlan) (declared : IsPair plan) (agree : Agree plan) (side :
     pub clear_slot : (n : ℕ) (older : List Store) (slot : Slot) → StandsIn Memory (is_five plan) queue (n % entries_of (layout_at Memory queue)) older slot
         → StandsIn Memory (is_five plan) queue (n % entries_of (layout_at Memory queue)) (zeroed_flags plan side queue n ∷ older) (with_flags slot 0)
     clear_slot n older slot stands =
-        flags_stand Memory small queue ring_there (n % entries_of (layout_at Memory queue)) (slot_among_ring plan declared side queue n among) (is_five plan) (zeroed_flags plan side queue n) older slot 0 refl
+        word_stands Memory small queue ring_there (n % entries_of (layout_at Memory queue)) (slot_among_ring plan declared side queue n among) (is_five plan) FlagsWord (zeroed_flags plan side queue n) older slot 0 refl
         (let there = own_at plan side queue (header_of (layout_to plan side queue) (n % entries_of (layout_to plan side queue))) in omega (arith, there)) refl (omega arith) stands
 
     -- A memory in which nothing was stored, but for index words

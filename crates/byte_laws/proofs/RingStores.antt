@@ -22,7 +22,7 @@ use Rattle.ledger_model.specs.Rings.{with_write}
 use Rattle.memory_model.specs.Memory.{stored}
 use Rattle.memory_model.specs.Targets.{store_of}
 use Rattle.byte_laws.proofs.LabelStores.{rings_in, is_five, size_fits, same_queues, same_layout, has_ring, payload_small, slot_among_ring, written_at, IsFitting, spot_of, IsOutsideOf, chunk_fits, label_fills, spot_leaves}
-use Rattle.byte_laws.proofs.SlotStores.{StandsIn, LeavesSlot, slot_left, chunk_stands, length_stands, flags_stand, version_stands, flags_at, length_at}
+use Rattle.byte_laws.proofs.SlotStores.{StandsIn, LeavesSlot, slot_left, chunk_stands, LengthWord, FlagsWord, word_stands, version_stands, flags_at, length_at}
 
 -- a ring's slots in a memory
 pub record RingIn (rings : Rings) (five : Bool) (queue : ℕ) (stores : List Store) (ring : List Slot) : Type 0 where
@@ -132,7 +132,7 @@ module _ (plan : PairPlan) (declared : IsPair plan) (agree : Agree plan) (from :
             let room : length (bytes_of (entry_in Own n)) ≤ max_payload_of (layout_at Memory queue) = subst (λ (l : Layout). length (bytes_of (entry_in Own n)) ≤ max_payload_of l) (same_layout plan agree from queue) may.1 in
             let small = payload_small plan declared (other_side from) queue peer_among in
             slot_set (Len queue n) older ring n _ may (λ k apart. inr (λ e. apart (sym e))) stands
-            (length_stands Memory (size_fits plan agree (other_side from)) queue ring_there (n % Entries) (place_among n) (is_five plan) _ older _ (length (bytes_of (entry_in Own n))) refl
+            (word_stands Memory (size_fits plan agree (other_side from)) queue ring_there (n % Entries) (place_among n) (is_five plan) LengthWord _ older _ (length (bytes_of (entry_in Own n))) refl
             (written_at plan agree from queue (λ l. header_of l (n % entries_of l) + length_at (is_five plan))) refl (omega (arith, room, small)))
     label_stands (Ver q n) older ring fits stands = own_or_other (λ p. Ver p n) (Data n Version) q older ring own (λ apart k below. label_leaves (Ver q n) k fits below (inl apart)) stands fits
       where
@@ -147,7 +147,7 @@ module _ (plan : PairPlan) (declared : IsPair plan) (agree : Agree plan) (from :
         own may =
             subst (λ flags. Stands (New (Flag queue n) ++ older) (slice_set ring (n % Entries) (with_flags (slice_index_or ring (n % Entries) blank_slot) flags))) (sym (flags_open (entry_in Own n) may.1))
             (slot_set (Flag queue n) older ring n _ may (λ k apart. inr (λ e. apart (sym e))) stands
-            (flags_stand Memory (size_fits plan agree (other_side from)) queue ring_there (n % Entries) (place_among n) (is_five plan) _ older _ done refl
+            (word_stands Memory (size_fits plan agree (other_side from)) queue ring_there (n % Entries) (place_among n) (is_five plan) FlagsWord _ older _ done refl
             (written_at plan agree from queue (λ l. header_of l (n % entries_of l) + flags_at (is_five plan))) refl (omega arith)))
     label_stands (Down q n) older ring fits stands = own_or_other (λ p. Down p n) (EntryFlag n) q older ring own (λ apart k below. label_leaves (Down q n) k fits below (inl apart)) stands fits
       where
@@ -155,7 +155,7 @@ module _ (plan : PairPlan) (declared : IsPair plan) (agree : Agree plan) (from :
         own may =
             subst (λ flags. Stands (New (Down queue n) ++ older) (slice_set ring (n % Entries) (with_flags (slice_index_or ring (n % Entries) blank_slot) flags))) (sym (ap flags_of may.1))
             (slot_set (Down queue n) older ring n _ may (λ k apart. inr (λ e. apart (sym e))) stands
-            (flags_stand Memory (size_fits plan agree (other_side from)) queue ring_there (n % Entries) (place_among n) (is_five plan) _ older _ (done + 2) refl
+            (word_stands Memory (size_fits plan agree (other_side from)) queue ring_there (n % Entries) (place_among n) (is_five plan) FlagsWord _ older _ (done + 2) refl
             (written_at plan agree from queue (λ l. header_of l (n % entries_of l) + flags_at (is_five plan))) refl (omega arith)))
     label_stands (Bell q) older ring fits stands = own_or_other (λ p. Bell p) QueueBell q older ring (λ may. stands) (λ apart k below. label_leaves (Bell q) k fits below tt) stands fits
     label_stands (Index q n) older ring fits stands = ring_left (New (Index q n)) older ring (λ k below. label_leaves (Index q n) k fits below tt) stands

@@ -44,6 +44,19 @@ flags_at five = if five then 12 else 8
 abbrev pub header_size : Bool → ℕ
 header_size five = if five then 16 else 12
 
+-- the words behind the version, each of which a write of its own brings
+pub data LaterWord : Type 0 where
+  LengthWord : LaterWord
+  FlagsWord : LaterWord
+
+abbrev pub place_of : Bool → LaterWord → ℕ
+place_of five LengthWord = length_at five
+place_of five FlagsWord = flags_at five
+
+abbrev pub with_word : LaterWord → ℕ → Slot → Slot
+with_word LengthWord len slot = record slot { len = len }
+with_word FlagsWord flags slot = record slot { flags = flags }
+
 -- what the write of a version fills, and brings
 abbrev pub version_size : Bool → ℕ
 version_size five = if five then 8 else 4
@@ -161,9 +174,10 @@ module _ (rings : Rings) (small : rings.size ≤ rings.cap) (queue : ℕ) (ring 
       let four : length store.bytes ≡ 4 = ap length is ∙ length-word_bytes value in
       word_stored store older 0 (spot_at rings (Header queue n offset 4)) value (omega arith) (omega arith) (ap (λ bytes. take 4 (drop 0 bytes)) is) less
 
-  pub length_stands : (five : Bool) (store : Store) (older : List Store) (slot : Slot) (value : ℕ) → rings.header ≡ header_size five → store.at ≡ spot_at rings (Header queue n (length_at five) 4)
-      → store.bytes ≡ word_bytes value → value < 2 ^ 32 → StandsIn rings five queue n older slot → StandsIn rings five queue n (store ∷ older) (record slot { len = value })
-  length_stands true store older slot value size there is less stands =
+  -- a word behind the version
+  pub word_stands : (five : Bool) (word : LaterWord) (store : Store) (older : List Store) (slot : Slot) (value : ℕ) → rings.header ≡ header_size five → store.at ≡ spot_at rings (Header queue n (place_of five word) 4)
+      → store.bytes ≡ word_bytes value → value < 2 ^ 32 → StandsIn rings five queue n older slot → StandsIn rings five queue n (store ∷ older) (with_word word value slot)
+  word_stands true LengthWord store older slot value size there is less stands =
       let fills = word_fills 8 store value there is (omega arith) in record {
         payload = payload_left 8 4 store fills older ∙ stands.payload;
         left = field_left 8 4 0 store fills (omega arith) (inr (omega arith)) older ∙ stands.left;
@@ -171,7 +185,7 @@ module _ (rings : Rings) (small : rings.size ≤ rings.cap) (queue : ℕ) (ring 
         len = word_is 8 store older value there is less;
         flags = field_left 8 4 12 store fills (omega arith) (inl (omega arith)) older ∙ stands.flags;
       }
-  length_stands false store older slot value size there is less stands =
+  word_stands false LengthWord store older slot value size there is less stands =
       let fills = word_fills 4 store value there is (omega arith) in record {
         payload = payload_left 4 4 store fills older ∙ stands.payload;
         left = stands.left;
@@ -179,10 +193,7 @@ module _ (rings : Rings) (small : rings.size ≤ rings.cap) (queue : ℕ) (ring 
         len = word_is 4 store older value there is less;
         flags = field_left 4 4 8 store fills (omega arith) (inl (omega arith)) older ∙ stands.flags;
       }
-
-  pub flags_stand : (five : Bool) (store : Store) (older : List Store) (slot : Slot) (value : ℕ) → rings.header ≡ header_size five → store.at ≡ spot_at rings (Header queue n (flags_at five) 4)
-      → store.bytes ≡ word_bytes value → value < 2 ^ 32 → StandsIn rings five queue n older slot → StandsIn rings five queue n (store ∷ older) (record slot { flags = value })
-  flags_stand true store older slot value size there is less stands =
+  word_stands true FlagsWord store older slot value size there is less stands =
       let fills = word_fills 12 store value there is (omega arith) in record {
         payload = payload_left 12 4 store fills older ∙ stands.payload;
         left = field_left 12 4 0 store fills (omega arith) (inr (omega arith)) older ∙ stands.left;
@@ -190,7 +201,7 @@ module _ (rings : Rings) (small : rings.size ≤ rings.cap) (queue : ℕ) (ring 
         len = field_left 12 4 8 store fills (omega arith) (inr (omega arith)) older ∙ stands.len;
         flags = word_is 12 store older value there is less;
       }
-  flags_stand false store older slot value size there is less stands =
+  word_stands false FlagsWord store older slot value size there is less stands =
       let fills = word_fills 8 store value there is (omega arith) in record {
         payload = payload_left 8 4 store fills older ∙ stands.payload;
         left = stands.left;

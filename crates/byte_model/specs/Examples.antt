@@ -4,7 +4,7 @@ use Rattle.step_kinds.specs.declared.names.Side.TheVariants.{A, B}
 use Rattle.step_kinds.specs.declared.plan.PairPlan.{PairPlan}
 use Rattle.plan_model.specs.Examples.{small_side, small_pair, pieces_pair, two_queues}
 use Rattle.plan_model.specs.Sizes.{sizes_of}
-use Rattle.byte_model.specs.Addresses.{own_slot, own_header, own_index_word, peer_address, peer_slot, peer_header, peer_index_word}
+use Rattle.byte_model.specs.Addresses.{own_slot, own_header, own_index_word, peer_address, peer_ring, slot_address, header_address, index_word_address}
 use Rattle.byte_model.specs.Headers.{Header, NoEntry, ALinkDownEntry, AnotherVersion, TooManyBytes, AnEntry, found_with, header_with, version_bytes, len_offset, flags_offset, free_in_memory}
 use Rattle.step_kinds.specs.declared.steps.Label.TheVariants.{Chunk, Len, Ver, Flag, Down}
 use Rattle.lane_model.specs.Lane.{Carries, GoesDown}
@@ -15,12 +15,12 @@ use Rattle.byte_model.specs.Stores.{store_at, byte_in, bytes_in}
 -- the slots of a ring of four, their headers, and the index word at the end of the other side's area
 abbrev pub OneQueue : Type 0
 OneQueue =
-    (peer_slot small_pair A 0 0 ≡ 0) × (peer_slot small_pair A 0 1 ≡ 1023) × (peer_slot small_pair A 0 4 ≡ 0) × (peer_header small_pair A 0 0 ≡ 1011)
-    × (own_slot small_pair B 0 5 ≡ 1023) × (own_header small_pair B 0 1 ≡ 2034) × (own_index_word small_pair A 0 ≡ 4092) × (peer_index_word small_pair B 0 ≡ 4092)
+    (slot_address (peer_ring small_pair A 0) 0 ≡ 0) × (slot_address (peer_ring small_pair A 0) 1 ≡ 1023) × (slot_address (peer_ring small_pair A 0) 4 ≡ 0) × (header_address (peer_ring small_pair A 0) 0 ≡ 1011)
+    × (own_slot small_pair B 0 5 ≡ 1023) × (own_header small_pair B 0 1 ≡ 2034) × (own_index_word small_pair A 0 ≡ 4092) × (index_word_address (peer_ring small_pair B 0) ≡ 4092)
 
 -- the second of two queues in a window
 abbrev pub SecondQueue : Type 0
-SecondQueue = (peer_slot two_queues A 1 0 ≡ 2048) × (peer_header two_queues A 1 0 ≡ 3058) × (own_index_word two_queues A 1 ≡ 4092) × (own_index_word two_queues A 0 ≡ 2044)
+SecondQueue = (slot_address (peer_ring two_queues A 1) 0 ≡ 2048) × (header_address (peer_ring two_queues A 1) 0 ≡ 3058) × (own_index_word two_queues A 1 ≡ 4092) × (own_index_word two_queues A 0 ≡ 2044)
 
 -- three queues take two windows in turn, and a window begins where the memory's cap puts it
 abbrev pub three_queues : PairPlan
@@ -30,14 +30,14 @@ three_queues = record small_pair {
 }
 
 abbrev pub TwoWindows : Type 0
-TwoWindows = (peer_slot three_queues A 1 0 ≡ 8192) × (peer_slot three_queues A 2 0 ≡ 2048) × (own_index_word three_queues B 1 ≡ 12284) × (peer_address three_queues A 1 5 ≡ 8197)
+TwoWindows = (slot_address (peer_ring three_queues A 1) 0 ≡ 8192) × (slot_address (peer_ring three_queues A 2) 0 ≡ 2048) × (own_index_word three_queues B 1 ≡ 12284) × (peer_address three_queues A 1 5 ≡ 8197)
 
 -- with windows of unequal sizes an index word stands where the window of its writer ends
 abbrev pub unequal_pair : PairPlan
 unequal_pair = record small_pair { a = record small_side { cap = 8192 }; b = record small_side { size = 8192 } }
 
 abbrev pub UnequalSizes : Type 0
-UnequalSizes = (own_index_word unequal_pair A 0 ≡ 8188) × (peer_index_word unequal_pair B 0 ≡ 8188) × (own_index_word unequal_pair B 0 ≡ 4092) × (peer_index_word unequal_pair A 0 ≡ 4092)
+UnequalSizes = (own_index_word unequal_pair A 0 ≡ 8188) × (index_word_address (peer_ring unequal_pair B 0) ≡ 8188) × (own_index_word unequal_pair B 0 ≡ 4092) × (index_word_address (peer_ring unequal_pair A 0) ≡ 4092)
 
 -- the fields of a header, and what the write of a version brings
 abbrev pub HeaderFields : Type 0

@@ -5,23 +5,13 @@ use Rattle.std.proofs.lemmas.Bool.Decides.{nat_tests}
 use Rattle.std.proofs.lemmas.List.{drop_more, get_or-map, length-append, length-drop, length-map, length-take}
 use Rattle.lane_model.specs.Lane.{Entry, GoesDown, bytes_of, chunks_in, count_from, left_of, writes_of}
 use Rattle.lane_model.specs.Tests.{is_empty_list}
+use Rattle.lane_model.proofs.Counting.{get_or-count_from, length-count_from}
 use Rattle.plan_model.specs.Labels.{label_of, labels_of}
 use Rattle.plan_model.specs.Pieces.{piece_of, pieces_of}
 use Rattle.plan_model.specs.Sizes.{pieces_in}
 use Rattle.step_kinds.specs.declared.steps.Label.{Label}
 use Rattle.frame_ring.specs.Outgoing.{all_writes_in, carries_bytes, entries_under, entry_at, writes_in}
 use Rattle.frame_ring.specs.Port.{left_of_entry, writes_from}
-
--- Counting on
-
-pub length-count_from : (from more : ℕ) → length (count_from from more) ≡ more
-length-count_from from zero = refl
-length-count_from from (suc more) = ap suc (length-count_from (suc from) more)
-
-pub get_or-count_from : (from more k d : ℕ) → k < more → get_or (count_from from more) k d ≡ from + k
-get_or-count_from from zero k d below = absurd (omega arith)
-get_or-count_from from (suc more) zero d below = omega arith
-get_or-count_from from (suc more) (suc k) d below = get_or-count_from (suc from) more k d (omega arith) ∙ omega arith
 
 -- Pieces
 

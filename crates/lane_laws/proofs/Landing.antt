@@ -11,7 +11,7 @@ use Rattle.lane_model.specs.Steps.{after_landing}
 use Rattle.lane_laws.proofs.Numbers.{other_number}
 use Rattle.lane_laws.proofs.Ring.{place_same, place_other, each_place, length-ring_with}
 use Rattle.lane_laws.proofs.Chunks.{IsFieldOf, contains_cases, contains_first, field_among, cell_of_field, stands_written, stands_still, stands_under_flags, flags_stay, room_stays, fields_make_whole}
-use Rattle.lane_laws.proofs.WritesToCome.{flag_in_front, bell_in_front, left_nothing, cell_left, left_to_land_without, cell_to_land}
+use Rattle.lane_laws.proofs.WritesToCome.{flag_in_front, bell_in_front, left_nothing, cell_left, left_to_land_without, cell_to_land, other_writes_keep}
 use Rattle.lane_laws.proofs.Receiver.{more_flagged}
 
 -- the writes to come, with the first in flight apart
@@ -23,34 +23,19 @@ pub land_bell_keeps : (lost : List Write) (lost_back : List ℕ) (lane : Lane) (
 land_bell_keeps lost lost_back lane rest front h =
     let coming : List Write = (rest ++ lost) ++ lane.todo in
     let apart : (lane.flight ++ lost) ++ lane.todo ≡ Bell ∷ coming = front_apart lane.flight Bell rest lost lane.todo front in
-    record {
-      room = h.room;
-      frames = h.frames;
-      counts = h.counts;
-      receiver = h.receiver;
-      coming = record {
-        left = elim h.coming.left [
-          | inl none ↦ absurd (bell_in_front (drop lane.flagged lane.sent) lane.flagged coming (subst (AreLeft lane.flagged (drop lane.flagged lane.sent)) apart none))
-          | inr bell ↦
-              let same : bell.0 ≡ coming = cc (bell.1, apart) in
-              inl (subst (AreLeft lane.flagged (drop lane.flagged lane.sent)) same bell.3)
-        ];
-        last = h.coming.last;
-      };
-      none_lost = h.none_lost;
-      standing = record {
-        whole = h.standing.whole;
-        empty = h.standing.empty;
-        landed = λ n field low high among. elim (h.standing.landed n field low high among) [
-          | inl comes ↦ elim (contains_cases Bell coming (Data n field) (subst (λ w. Contains w (Data n field)) apart comes)) [
-            | inl e ↦ absurd (cc e)
-            | inr later ↦ inl later
-          ]
-          | inr stands ↦ inr stands
-        ];
-      };
-      back = h.back;
-    }
+    let left_now : AreLeftToLand lane.flagged lane.sent coming =
+    elim h.coming.left [
+      | inl none ↦ absurd (bell_in_front (drop lane.flagged lane.sent) lane.flagged coming (subst (AreLeft lane.flagged (drop lane.flagged lane.sent)) apart none))
+      | inr bell ↦
+          let same : bell.0 ≡ coming = cc (bell.1, apart) in
+          inl (subst (AreLeft lane.flagged (drop lane.flagged lane.sent)) same bell.3)
+    ] in
+    other_writes_keep lost lost lost_back lane rest lane.todo (record { left = left_now; last = h.coming.last }) h.none_lost
+    (λ n field comes. elim (contains_cases Bell coming (Data n field) (subst (λ w. Contains w (Data n field)) apart comes)) [
+      | inl e ↦ absurd (cc e)
+      | inr later ↦ later
+    ])
+    h
 
 -- flags in front are those of the first entry that has none
 pub flag_is_next : (lost : List Write) (lost_back : List ℕ) (lane : Lane) (n : ℕ) (rest : List Write) → lane.flight ≡ Flag n ∷ rest → RingLaw lost lost_back lane

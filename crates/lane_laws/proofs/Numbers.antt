@@ -1,9 +1,10 @@
 -- Remainders, the free entries of a ring, and numbers counted one after another.
-use Rattle.std.proofs.Common.{◌≡◌, ℕ, zero, suc, ◌+◌, ◌-◌, ◌%◌, ◌<◌, ◌≤◌, ◌≢◌, ◌⊎◌, List, [], ◌∷◌, ◌++◌, length, get_or, refl, sym, ap, ◌∙◌, inl, inr, arith, mod-eq_of_lt, mod-lt}
+use Rattle.std.proofs.Common.{◌≡◌, ℕ, zero, suc, ◌+◌, ◌-◌, ◌%◌, ◌<◌, ◌≤◌, ◌≢◌, ◌⊎◌, List, [], ◌∷◌, ◌++◌, sym, ap, ◌∙◌, inl, inr, arith, mod-eq_of_lt, mod-lt}
 use native.Mathlib.Nat.{mod-eq-sub-mod, mod-add-mod, add-mod_right}
 use Rattle.std.proofs.lemmas.Bool.{cases_lt, cond-true, cond-false, le-leb, lt-leb}
 use Rattle.lane_model.specs.Ring.{head_of, tail_of, free_entries, room_of}
 use Rattle.lane_model.specs.Lane.{count_from}
+pub use Rattle.lane_model.proofs.Counting.{length-count_from, get_or-count_from}
 
 -- a number below 2 N wraps once at most
 wraps_once : (N j : ℕ) → j < N + N → ((j < N) × (j % N ≡ j)) ⊎ ((N ≤ j) × (j % N ≡ j - N))
@@ -100,15 +101,6 @@ number_from N freed slot below =
         ]
       ],
     )
-
-pub length-count_from : (from more : ℕ) → length (count_from from more) ≡ more
-length-count_from from zero = refl
-length-count_from from (suc more) = ap suc (length-count_from (suc from) more)
-
-pub get_or-count_from : (from more k d : ℕ) → k < more → get_or (count_from from more) k d ≡ from + k
-get_or-count_from from zero k d below = absurd (omega arith)
-get_or-count_from from (suc more) zero d below = omega arith
-get_or-count_from from (suc more) (suc k) d below = get_or-count_from (suc from) more k d (omega arith) ∙ omega arith
 
 -- one more number at the end
 pub count_from-push : (from more last : ℕ) → last ≡ from + more → count_from from more ++ last ∷ [] ≡ count_from from (suc more)

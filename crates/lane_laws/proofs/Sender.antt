@@ -7,12 +7,12 @@ use Rattle.lane_model.specs.Ring.{head_of, free_entries, tail_of, room_of}
 use Rattle.lane_model.specs.Lane.{Entry, GoesDown, blank_slot, Lane, bytes_of, data_of, writes_of, count_from, copies_of, entry_of, slot_of, free_in}
 use Rattle.lane_model.specs.declared.Write.{Write}
 use Rattle.lane_model.specs.declared.Write.TheVariants.{Data, Flag, Bell}
-use Rattle.lane_model.specs.Law.{AreLeft, AreLeftToLand, PhaseCounts, Stands, StandsWhole, SlotsStand, RingLaw}
+use Rattle.lane_model.specs.Law.{AreLeft, AreLeftToLand, PhaseCounts, EndTheLast, Stands, StandsWhole, RingLaw}
 use Rattle.lane_model.specs.Steps.{after_begin, after_post}
 use Rattle.lane_laws.specs.Laws.{IsFresh, IsOpen}
 use Rattle.lane_model.specs.declared.Phase.TheVariants.{Copying}
 use Rattle.lane_laws.proofs.Numbers as numbers
-use Rattle.lane_laws.proofs.WritesToCome.{left_to_land_more}
+use Rattle.lane_laws.proofs.WritesToCome.{left_to_land_more, other_writes_keep}
 
 pub fresh_holds : (lane : Lane) → IsFresh lane → RingLaw [] [] lane
 fresh_holds lane fresh =
@@ -154,29 +154,13 @@ posted : (lost lost_now : List Write) (lost_back : List ℕ) (lane : Lane) (writ
     → ((after_post lane write rest).flight ++ lost_now) ++ rest ≡ (lane.flight ++ lost) ++ lane.todo → (lane.up ≡ true → (lost_now ≡ []) × (lost_back ≡ []))
     → RingLaw lost lost_back lane → RingLaw lost_now lost_back (after_post lane write rest)
 posted lost lost_now lost_back lane write rest front same none h =
-    record {
-      room = h.room;
-      frames = h.frames;
-      counts = h.counts;
-      receiver = h.receiver;
-      coming = record {
-        left = subst (AreLeftToLand lane.flagged lane.sent) (sym same) h.coming.left;
-        last = elim h.coming.last [
-          | inl nothing ↦ absurd (cc (nothing, front))
-          | inr ending ↦ inr (ending.0, ending.1 ++ write ∷ [], ending.2, ending.3 ∙ ap (λ w. ending.1 ++ w) front ∙ sym (append_assoc ending.1 (write ∷ []) rest))
-        ];
-      };
-      none_lost = none;
-      standing = record {
-        whole = h.standing.whole;
-        empty = h.standing.empty;
-        landed = λ n field low high among. elim (h.standing.landed n field low high among) [
-          | inl comes ↦ inl (subst (λ w. Contains w (Data n field)) (sym same) comes)
-          | inr stands ↦ inr stands
-        ];
-      };
-      back = h.back;
-    }
+    let last_now : EndTheLast lane.sent rest =
+    elim h.coming.last [
+      | inl nothing ↦ absurd (cc (nothing, front))
+      | inr ending ↦ inr (ending.0, ending.1 ++ write ∷ [], ending.2, ending.3 ∙ ap (λ w. ending.1 ++ w) front ∙ sym (append_assoc ending.1 (write ∷ []) rest))
+    ] in
+    other_writes_keep lost lost_now lost_back lane (after_post lane write rest).flight rest (record { left = subst (AreLeftToLand lane.flagged lane.sent) (sym same) h.coming.left; last = last_now }) none
+    (λ n field comes. subst (λ w. Contains w (Data n field)) (sym same) comes) h
 
 pub post_keeps : (lost : List Write) (lost_back : List ℕ) (lane : Lane) (write : Write) (rest : List Write) → lane.todo ≡ write ∷ rest → lane.up ≡ true
     → RingLaw lost lost_back lane → RingLaw lost lost_back (after_post lane write rest)
@@ -208,13 +192,6 @@ pub forget_keeps : (lost : List Write) (lost_back : List ℕ) (lane : Lane) → 
 forget_keeps lost lost_back lane down h =
     let same : (lane.flight ++ lost) ++ lane.todo ≡ (lane.flight ++ (lost ++ lane.todo)) ++ [] =
     append_assoc lane.flight lost lane.todo ∙ sym (append-nil (lane.flight ++ (lost ++ lane.todo))) in
-    record {
-      room = h.room;
-      frames = h.frames;
-      counts = h.counts;
-      receiver = h.receiver;
-      coming = record { left = subst (AreLeftToLand lane.flagged lane.sent) same h.coming.left; last = inl refl };
-      none_lost = λ up. absurd (true≢false (sym up ∙ down));
-      standing = subst (SlotsStand lane.entries lane.ring lane.sent lane.cleared lane.flagged) same h.standing;
-      back = h.back;
-    }
+    other_writes_keep lost (lost ++ lane.todo) lost_back lane lane.flight [] (record { left = subst (AreLeftToLand lane.flagged lane.sent) same h.coming.left; last = inl refl })
+    (λ up. absurd (true≢false (sym up ∙ down)))
+    (λ n field comes. subst (λ w. Contains w (Data n field)) same comes) h

@@ -1,12 +1,12 @@
 -- What is left to land of a lane: one entry more, one write less, and which write is in front.
-use Rattle.std.proofs.Common.{◌≡◌, ◌≢◌, ℕ, suc, ◌+◌, ◌-◌, ◌<◌, ◌≤◌, ◌⊎◌, List, [], ◌∷◌, ◌++◌, length, drop, get_or, refl, sym, ap, ◌∙◌, subst, inl, inr, arith, append_assoc, length-drop, get_or-drop, Contains}
+use Rattle.std.proofs.Common.{◌≡◌, ◌≢◌, true, ℕ, suc, ◌+◌, ◌-◌, ◌<◌, ◌≤◌, ◌⊎◌, List, [], ◌∷◌, ◌++◌, length, drop, get_or, refl, sym, ap, ◌∙◌, subst, inl, inr, arith, append_assoc, length-drop, get_or-drop, Contains}
 use Rattle.std.proofs.lemmas.List.{drop-append-le}
 use Rattle.std.proofs.lemmas.List.Elements.{Contains-append_cases}
 use Rattle.lane_model.specs.Lane.{Entry, GoesDown, Lane, data_of, writes_of, entry_of}
 use Rattle.lane_model.specs.declared.Field.{Field}
 use Rattle.lane_model.specs.declared.Write.{Write}
 use Rattle.lane_model.specs.declared.Write.TheVariants.{Data, Flag, Bell}
-use Rattle.lane_model.specs.Law.{IsPickedFrom, Nothing, Taken, Left, AreLeft, AreLeftToLand}
+use Rattle.lane_model.specs.Law.{IsPickedFrom, Nothing, Taken, Left, AreLeft, AreLeftToLand, WritesCome, RingLaw}
 use Rattle.lane_laws.proofs.Chunks.{contains_cases, contains_none, contains_later, field_of_data, field_among}
 
 -- two slots of one list, in either order or the same
@@ -209,3 +209,27 @@ cell_to_land lane writes k field first h among = elim h [
         let e : get_or (drop lane.flagged lane.sent) (k - lane.flagged) GoesDown ≡ entry_of lane k =
         get_or-drop lane.flagged lane.sent (k - lane.flagged) GoesDown ∙ ap (λ j. get_or lane.sent j GoesDown) (omega arith) in
         (low, omega arith, subst (λ entry. Contains (data_of k entry) (Data k field)) e c.2)
+
+-- a step that changes the writes to come alone keeps the law where they still come in order, and no field is lost
+pub other_writes_keep : (lost lost_now : List Write) (lost_back : List ℕ) (lane : Lane) (flight todo : List Write) → WritesCome lane.flagged lane.sent ((flight ++ lost_now) ++ todo) todo
+    → (lane.up ≡ true → (lost_now ≡ []) × (lost_back ≡ []))
+    → ((n : ℕ) (field : Field) → Contains ((lane.flight ++ lost) ++ lane.todo) (Data n field) → Contains ((flight ++ lost_now) ++ todo) (Data n field))
+    → RingLaw lost lost_back lane → RingLaw lost_now lost_back (record lane { flight = flight; todo = todo })
+other_writes_keep lost lost_now lost_back lane flight todo coming none still h =
+    record {
+      room = h.room;
+      frames = h.frames;
+      counts = h.counts;
+      receiver = h.receiver;
+      coming = coming;
+      none_lost = none;
+      standing = record {
+        whole = h.standing.whole;
+        empty = h.standing.empty;
+        landed = λ n field low high among. elim (h.standing.landed n field low high among) [
+          | inl comes ↦ inl (still n field comes)
+          | inr stands ↦ inr stands
+        ];
+      };
+      back = h.back;
+    }

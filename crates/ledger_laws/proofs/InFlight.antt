@@ -22,7 +22,7 @@ use Rattle.ledger_laws.proofs.Labels.{ReadsOneClass}
 use Rattle.step_kinds.specs.declared.names.Side.{Side}
 use Rattle.step_kinds.specs.declared.plan.PairPlan.{PairPlan}
 use Rattle.ledger_laws.proofs.AtStart.{down-not_up}
-use Rattle.ledger_laws.proofs.walk.Sight.{Sight, Role, Sender, Receiver, end_at, with_offered, with_ready, flight_with, posted}
+use Rattle.ledger_laws.proofs.walk.Sight.{Sight, Role, Sender, Receiver, end_at, flight_with, posted, with_number, ReadyQueues, OffersMade}
 use Rattle.ledger_laws.proofs.walk.News.{News}
 use Rattle.ledger_laws.proofs.walk.Turn.{MayLand, Turn, Trains, Breaks, Drops, Offers, Readies, Posts, PostsNext, picked, Says, LandsFlag, LandsField, LandsIndex, LandsBell, LandsPad, LandsAside, Acks, taken}
 
@@ -163,8 +163,8 @@ pub empty_kept : (plan : Plan) (lane : LaneName) (s : Sight) (made : Answered) (
 empty_kept plan lane s made news t (Trains may) h = λ down. absurd (false≢true down)
 empty_kept plan lane s made news t (Breaks may) h = λ down. absurd (false≢true down)
 empty_kept plan lane s made news t (Drops may) h = λ down. (refl, refl)
-empty_kept plan lane s made news t (Offers e label may) h = posted_empty e label (with_offered e ((end_at s e).offered + 1) s) h
-empty_kept plan lane s made news t (Readies e queue may) h = posted_empty e _ (with_ready e (with_bit (end_at s e).ready queue) s) h
+empty_kept plan lane s made news t (Offers e label may) h = posted_empty e label (with_number OffersMade e ((end_at s e).offered + 1) s) h
+empty_kept plan lane s made news t (Readies e queue may) h = posted_empty e _ (with_number ReadyQueues e (with_bit (end_at s e).ready queue) s) h
 empty_kept plan lane s made news t (Posts label rest may) h = posted_empty Sender label (record s { lane = record s.lane { todo = rest } }) h
 empty_kept plan lane s made news t (PostsNext entry others label rest may) h = posted_empty Sender label (record s { lane = record (picked lane.queue s.lane entry others) { todo = rest } }) h
 empty_kept plan lane s made news t (Says e label may) h = posted_empty e label s h

@@ -25,7 +25,7 @@ use Rattle.ledger_laws.proofs.CleanSides.{IsNew, SettledOf}
 use Rattle.ledger_laws.proofs.InFlight.{filter_map-remove, posted_unread, some_read, EmptyOf}
 use Rattle.step_kinds.specs.declared.names.Side.{Side}
 use Rattle.step_kinds.specs.declared.plan.PairPlan.{PairPlan}
-use Rattle.ledger_laws.proofs.walk.Sight.{Sight, End, Role, Sender, Receiver, end_at, with_flight, with_offered, posted}
+use Rattle.ledger_laws.proofs.walk.Sight.{Sight, End, Role, Sender, Receiver, end_at, with_flight, posted, with_number, OffersMade}
 use Rattle.ledger_laws.proofs.walk.News.{News}
 use Rattle.ledger_laws.proofs.walk.Turn.{Turn, MayLand, Trains, Breaks, Drops, Forgets, Offers, Checks, Readies, Joins, Posts, PostsNext, Says, LandsFlag, LandsField, LandsIndex, LandsBell, LandsPad, LandsAside, Acks, is_link_pad, is_handshake, on_queue}
 
@@ -180,7 +180,7 @@ joins_kept plan lane s made news t ordinary (Drops may) empty settled h live =
     let before = h (live_up s.state (closing-not_down s.state may.closing)) in (dropped_facts before.0, dropped_facts before.1)
 joins_kept plan lane s made news t ordinary (Forgets Sender may) empty settled h live = absurd (false≢true (sym (live may.down).0))
 joins_kept plan lane s made news t ordinary (Forgets Receiver may) empty settled h live = absurd (false≢true (sym (live may.down).1))
-joins_kept plan lane s made news t ordinary (Offers e label may) empty settled h live = links_posted e (with_offered e _ s) label (no_link label may.no_link) (h live)
+joins_kept plan lane s made news t ordinary (Offers e label may) empty settled h live = links_posted e (with_number OffersMade e _ s) label (no_link label may.no_link) (h live)
 joins_kept plan lane s made news t ordinary (Checks Sender may) empty settled h live = let before = h live in (own_up before.0, peer_up before.1)
 joins_kept plan lane s made news t ordinary (Checks Receiver may) empty settled h live = let before = h live in (peer_up before.0, own_up before.1)
 joins_kept plan lane s made news t ordinary (Readies Sender queue may) empty settled h live = let before = h live in (own_ready _ _ may.checked before.0, before.1)

@@ -4,6 +4,7 @@ use Rattle.step_kinds.specs.Sides.{other_side}
 use Rattle.step_kinds.specs.declared.names.Side.{Side}
 use Rattle.step_kinds.specs.declared.steps.Answer.{Answer}
 use Rattle.step_kinds.specs.declared.steps.Answer.TheVariants.{Ok as Done, OkSession, NotDown as AnswerNotDown, Dirty as AnswerDirty, NotEnabled as AnswerNotEnabled, Spent, NotUp as AnswerNotUp, NotClosing as AnswerNotClosing}
+use Rattle.lane_model.specs.Lane.{new_lane}
 use Rattle.lane_model.specs.declared.Phase.TheVariants.{Idle}
 use Rattle.plan_model.specs.Both.{Both, at_side, with_side, both_of}
 use Rattle.ledger_model.specs.Ledger.{LanePart, SidePart, DevPart, PairPart, side_of}
@@ -25,21 +26,22 @@ abbrev pub answer_of_refusal : Option LinkRefusal → Option Answer
 answer_of_refusal None = None
 answer_of_refusal (Some refusal) = Some (refusal_answer refusal)
 
--- a lane in which nothing was begun
+-- a lane in which nothing was begun: its counts and its phase are those of a new lane, whose ring doesn't matter here
 abbrev pub fresh_lane : LanePart
 fresh_lane =
+    let new = new_lane 0 0 [] 0 in
     record {
-      sent = [];
+      sent = new.sent;
       waiting = [];
       todo = [];
       told = 0;
-      flagged = 0;
-      got = 0;
-      cleared = 0;
-      acked = 0;
-      freed = 0;
-      phase = Idle;
-      part = 0;
+      flagged = new.flagged;
+      got = new.got;
+      cleared = new.cleared;
+      acked = new.acked;
+      freed = new.freed;
+      phase = new.phase;
+      part = new.part;
       len = 0;
       left = 0;
       gathered = [];

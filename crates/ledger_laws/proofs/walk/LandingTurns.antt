@@ -24,7 +24,7 @@ use Rattle.plan_model.specs.Plans.{pair_plan}
 use Rattle.order_rules.specs.Order.{may_land}
 use Rattle.plan_model.specs.Orders.{order_of}
 use Rattle.ledger_laws.proofs.walk.Cases.{landed}
-use Rattle.ledger_laws.proofs.walk.Sight.{Sight, Role, Sender, Receiver, peer_of, end_at, with_pending, with_pads, side_at, by_role, sight, OtherQueue, OtherWay, other_other, is_off, sight-side, sight-lane, sight-off}
+use Rattle.ledger_laws.proofs.walk.Sight.{Sight, Role, Sender, Receiver, peer_of, end_at, with_pads, side_at, by_role, sight, OtherQueue, OtherWay, other_other, is_off, sight-side, sight-lane, sight-off, with_number, PendingBells}
 use Rattle.ledger_laws.proofs.walk.Turn.{MayLand, IsForeign, is_handshake, taken, Turned, turned, LandsFlag, LandsField, LandsIndex, LandsBell, LandsPad, LandsAside}
 use Rattle.ledger_laws.proofs.walk.News.{no_news, Tells, pads_landed, ring_landed, ring_freed}
 use Rattle.ledger_laws.proofs.walk.Tells.{gives_landed, pads_heard, bell_in_ring, pad_in_ring, foreign_in_ring, tells_land}
@@ -103,7 +103,7 @@ module _ (plan : Plan) (lane : LaneName) (pair : PairPart) where
 
     -- a doorbell and a scratchpad
     bell-sight : (f : Side) (e : Role) (k : ℕ) → sight f lane.queue (landed pair (side_at f e) place (Bell k))
-        ≡ with_pending (peer_of e) (with_bit (end_at (sight f lane.queue pair) (peer_of e)).pending k) (taken e place (sight f lane.queue pair))
+        ≡ with_number PendingBells (peer_of e) (with_bit (end_at (sight f lane.queue pair) (peer_of e)).pending k) (taken e place (sight f lane.queue pair))
     bell-sight A Sender k = refl
     bell-sight A Receiver k = refl
     bell-sight B Sender k = refl

@@ -27,7 +27,7 @@ use Rattle.ledger_laws.proofs.Offers.{offer-is_pad, offer-no_link}
 use Rattle.ledger_laws.proofs.Outcomes.{passed, refused_passed}
 use Rattle.ledger_laws.proofs.walk.Cases.{trained, broken, dropped, cleaned, offering, next_offer, readied, ready_pad, joining}
 use Rattle.ledger_model.specs.Receiving.{closes}
-use Rattle.ledger_laws.proofs.walk.Sight.{Sight, each_way, with_up, with_ready, with_joined, with_offered, with_closed, with_masked, end-own, Role, end_at, with_enabled, with_pending, posted, side_at, by_role, sight, sight-posts}
+use Rattle.ledger_laws.proofs.walk.Sight.{Sight, each_way, with_up, end-own, Role, end_at, with_enabled, posted, side_at, by_role, sight, sight-posts, with_number, ReadyQueues, JoinedQueues, ClosedQueues, OffersMade, PendingBells, MaskedBells}
 use Rattle.ledger_laws.proofs.walk.Turn.{MayTrain, IsForeign, is_handshake, forgotten, dropped_end, turned, Enables, Trains, Breaks, Drops, Forgets, Offers, Checks, Readies, Joins, Shuts, Says, TakesBells, Masks}
 use Rattle.ledger_laws.proofs.walk.News.{Tells, looked_news}
 use Rattle.ledger_laws.proofs.walk.Tells.{is_read, tells_no, tells_train, tells_break, tells_check, tells_irq}
@@ -109,10 +109,10 @@ module _ (plan : Plan) (lane : LaneName) (pair : PairPart) where
           let s : Side = side_at lane.from e in
           let label : Label = next_offer (pair_plan plan lane.pair) pair s in
           let count = ap (λ own. own.offered) (end-own lane.from lane.queue pair e) in
-          shown_as plan lane pair (Offer p s) _ (posts (offering pair s) s label) (posted e label (with_offered e ((end_at Now e).offered + 1) Now))
+          shown_as plan lane pair (Offer p s) _ (posts (offering pair s) s label) (posted e label (with_number OffersMade e ((end_at Now e).offered + 1) Now))
           (sight-posts lane.from lane.queue (offering pair s) e label
           ∙ ap (posted e label)
-          (each_way (λ f r. sight f lane.queue (offering pair (side_at f r)) ≡ with_offered r ((end_at (sight f lane.queue pair) r).offered + 1) (sight f lane.queue pair)) refl refl refl refl lane.from e))
+          (each_way (λ f r. sight f lane.queue (offering pair (side_at f r)) ≡ with_number OffersMade r ((end_at (sight f lane.queue pair) r).offered + 1) (sight f lane.queue pair)) refl refl refl refl lane.from e))
           (turned (Offers e label (record {
             up = up;
             is_next = ap (λ n. slice_index_or (offers (side_plan (pair_plan plan lane.pair) s)) n (Pad 0 0)) (sym count);
@@ -155,14 +155,14 @@ module _ (plan : Plan) (lane : LaneName) (pair : PairPart) where
           let s : Side = side_at lane.from e in
           let is = end-own lane.from lane.queue pair e in
           shown_as plan lane pair (Ready p s queue) Done (posts (readied pair s queue) s (ready_pad pair s queue))
-          (posted e (Pad links_pad (with_bit (end_at Now e).ready queue)) (with_ready e (with_bit (end_at Now e).ready queue) Now))
+          (posted e (Pad links_pad (with_bit (end_at Now e).ready queue)) (with_number ReadyQueues e (with_bit (end_at Now e).ready queue) Now))
           (sight-posts lane.from lane.queue (readied pair s queue) e (ready_pad pair s queue)
           ∙ ap (λ bits. posted e (Pad links_pad (with_bit bits queue)) (sight lane.from lane.queue (readied pair s queue))) (sym (ap (λ own. own.ready) is))
           ∙ ap (posted e (Pad links_pad (with_bit (end_at Now e).ready queue))) (looks_so e))
           (turned (Readies e queue (record { up = up; checked = ap (λ own. own.up) is ∙ checked })) (tells_no plan lane Now.lane (Ready p s queue) Done refl))
         where
-          looks_so : (e : Role) → sight lane.from lane.queue (readied pair (side_at lane.from e) queue) ≡ with_ready e (with_bit (end_at Now e).ready queue) Now
-          looks_so = each_way (λ f r. sight f lane.queue (readied pair (side_at f r) queue) ≡ with_ready r (with_bit (end_at (sight f lane.queue pair) r).ready queue) (sight f lane.queue pair)) refl refl refl refl lane.from
+          looks_so : (e : Role) → sight lane.from lane.queue (readied pair (side_at lane.from e) queue) ≡ with_number ReadyQueues e (with_bit (end_at Now e).ready queue) Now
+          looks_so = each_way (λ f r. sight f lane.queue (readied pair (side_at f r) queue) ≡ with_number ReadyQueues r (with_bit (end_at (sight f lane.queue pair) r).ready queue) (sight f lane.queue pair)) refl refl refl refl lane.from
 
   pub join : (p : ℕ) (side : Side) (queue : ℕ) → link_up pair ≡ true → has_bit (side_of pair side).ready queue ≡ true → has_bit (pad_in (side_of pair side) links_pad) queue ≡ true
       → TurnAt plan lane pair (Join p side queue) (record { answer = Joined; after = joining pair side queue })
@@ -176,8 +176,8 @@ module _ (plan : Plan) (lane : LaneName) (pair : PairPart) where
       each e has asked =
           let s : Side = side_at lane.from e in
           let is = end-own lane.from lane.queue pair e in
-          shown_as plan lane pair (Join p s queue) Joined (joining pair s queue) (with_joined e (with_bit (end_at Now e).joined queue) Now)
-          (each_way (λ f r. sight f lane.queue (joining pair (side_at f r) queue) ≡ with_joined r (with_bit (end_at (sight f lane.queue pair) r).joined queue) (sight f lane.queue pair)) refl refl refl refl lane.from e)
+          shown_as plan lane pair (Join p s queue) Joined (joining pair s queue) (with_number JoinedQueues e (with_bit (end_at Now e).joined queue) Now)
+          (each_way (λ f r. sight f lane.queue (joining pair (side_at f r) queue) ≡ with_number JoinedQueues r (with_bit (end_at (sight f lane.queue pair) r).joined queue) (sight f lane.queue pair)) refl refl refl refl lane.from e)
           (turned (Joins e queue (record { up = up; ready = ap (λ own. has_bit own.ready queue) is ∙ has; asked = ap (λ own. has_bit (slice_index own.pads links_pad) queue) is ∙ asked }))
           (tells_no plan lane Now.lane (Join p s queue) Joined refl))
 
@@ -202,9 +202,9 @@ module _ (plan : Plan) (lane : LaneName) (pair : PairPart) where
       (end-own lane.from lane.queue pair e)
       (shown_as plan lane pair (Irq p (side_at lane.from e)) (IrqBits (without_bits (end_at Now e).pending (end_at Now e).masked))
       (with_side_part pair (side_at lane.from e) (record (side_of pair (side_at lane.from e)) { pending = bit_and (end_at Now e).pending (end_at Now e).masked }))
-      (with_pending e (bit_and (end_at Now e).pending (end_at Now e).masked) Now)
+      (with_number PendingBells e (bit_and (end_at Now e).pending (end_at Now e).masked) Now)
       (each_way (λ f r. sight f lane.queue (with_side_part pair (side_at f r) (record (side_of pair (side_at f r)) { pending = bit_and (end_at Now e).pending (end_at Now e).masked }))
-      ≡ with_pending r (bit_and (end_at Now e).pending (end_at Now e).masked) (sight f lane.queue pair)) refl refl refl refl lane.from e)
+      ≡ with_number PendingBells r (bit_and (end_at Now e).pending (end_at Now e).masked) (sight f lane.queue pair)) refl refl refl refl lane.from e)
       (turned (TakesBells e) (tells_irq plan lane Now.lane p same e (without_bits (end_at Now e).pending (end_at Now e).masked)))))
 
   pub mask : (step : Side → Step) → ((side : Side) → is_read (step side) Done ≡ false) → (masked : Side → ℕ) (side : Side)
@@ -212,8 +212,8 @@ module _ (plan : Plan) (lane : LaneName) (pair : PairPart) where
   mask step unread masked =
       by_role lane.from (λ s. TurnAt plan lane pair (step s) (record { answer = Done; after = with_side_part pair s (record (side_of pair s) { masked = masked s }) }))
       (λ e. shown_as plan lane pair (step (side_at lane.from e)) Done
-      (with_side_part pair (side_at lane.from e) (record (side_of pair (side_at lane.from e)) { masked = masked (side_at lane.from e) })) (with_masked e (masked (side_at lane.from e)) Now)
-      (each_way (λ f r. (bits : ℕ) → sight f lane.queue (with_side_part pair (side_at f r) (record (side_of pair (side_at f r)) { masked = bits })) ≡ with_masked r bits (sight f lane.queue pair))
+      (with_side_part pair (side_at lane.from e) (record (side_of pair (side_at lane.from e)) { masked = masked (side_at lane.from e) })) (with_number MaskedBells e (masked (side_at lane.from e)) Now)
+      (each_way (λ f r. (bits : ℕ) → sight f lane.queue (with_side_part pair (side_at f r) (record (side_of pair (side_at f r)) { masked = bits })) ≡ with_number MaskedBells r bits (sight f lane.queue pair))
       (λ bits. refl) (λ bits. refl) (λ bits. refl) (λ bits. refl) lane.from e (masked (side_at lane.from e)))
       (turned (Masks e (masked (side_at lane.from e))) (tells_no plan lane Now.lane (step (side_at lane.from e)) Done (unread (side_at lane.from e)))))
 
@@ -222,8 +222,8 @@ module _ (plan : Plan) (lane : LaneName) (pair : PairPart) where
       → (queue : ℕ) (side : Side) → TurnAt plan lane pair (step side) (record { answer = answer; after = closes pair side queue })
   shut step answer looked told queue =
       by_role lane.from (λ s. TurnAt plan lane pair (step s) (record { answer = answer; after = closes pair s queue }))
-      (λ e. shown_as plan lane pair (step (side_at lane.from e)) answer (closes pair (side_at lane.from e) queue) (with_closed e (with_bit (end_at Now e).closed queue) Now)
-      (each_way (λ f r. sight f lane.queue (closes pair (side_at f r) queue) ≡ with_closed r (with_bit (end_at (sight f lane.queue pair) r).closed queue) (sight f lane.queue pair)) refl refl refl refl lane.from e)
+      (λ e. shown_as plan lane pair (step (side_at lane.from e)) answer (closes pair (side_at lane.from e) queue) (with_number ClosedQueues e (with_bit (end_at Now e).closed queue) Now)
+      (each_way (λ f r. sight f lane.queue (closes pair (side_at f r) queue) ≡ with_number ClosedQueues r (with_bit (end_at (sight f lane.queue pair) r).closed queue) (sight f lane.queue pair)) refl refl refl refl lane.from e)
       (turned (Shuts e queue (looked (side_at lane.from e))) (told (side_at lane.from e))))
 
   -- a write by hand

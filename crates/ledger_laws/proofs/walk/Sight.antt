@@ -73,26 +73,36 @@ with_field get put e x s = record s {
 abbrev pub with_up : Role → Bool → Sight → Sight
 with_up = with_field (λ own. own.up) (λ up own. record own { part = record own.part { up = up } })
 
-abbrev pub with_ready : Role → ℕ → Sight → Sight
-with_ready = with_field (λ own. own.ready) (λ ready own. record own { part = record own.part { ready = ready } })
+-- the numbers of an end: sets of queues and of doorbells, as their bits, and how many offers were made
+pub data Number : Type 0 where
+  ReadyQueues : Number
+  JoinedQueues : Number
+  ClosedQueues : Number
+  OffersMade : Number
+  PendingBells : Number
+  MaskedBells : Number
 
-abbrev pub with_joined : Role → ℕ → Sight → Sight
-with_joined = with_field (λ own. own.joined) (λ joined own. record own { part = record own.part { joined = joined } })
+abbrev pub number_of : Number → End → ℕ
+number_of ReadyQueues own = own.ready
+number_of JoinedQueues own = own.joined
+number_of ClosedQueues own = own.closed
+number_of OffersMade own = own.offered
+number_of PendingBells own = own.pending
+number_of MaskedBells own = own.masked
 
-abbrev pub with_closed : Role → ℕ → Sight → Sight
-with_closed = with_field (λ own. own.closed) (λ closed own. record own { part = record own.part { closed = closed } })
+abbrev pub part_with : Number → ℕ → SidePart → SidePart
+part_with ReadyQueues ready part = record part { ready = ready }
+part_with JoinedQueues joined part = record part { joined = joined }
+part_with ClosedQueues closed part = record part { closed = closed }
+part_with OffersMade offered part = record part { offered = offered }
+part_with PendingBells pending part = record part { pending = pending }
+part_with MaskedBells masked part = record part { masked = masked }
 
-abbrev pub with_offered : Role → ℕ → Sight → Sight
-with_offered = with_field (λ own. own.offered) (λ offered own. record own { part = record own.part { offered = offered } })
+abbrev pub with_number : Number → Role → ℕ → Sight → Sight
+with_number which = with_field (number_of which) (λ number own. record own { part = part_with which number own.part })
 
 abbrev pub with_pads : Role → List ℕ → Sight → Sight
 with_pads = with_field (λ own. own.pads) (λ pads own. record own { part = record own.part { pads = pads } })
-
-abbrev pub with_pending : Role → ℕ → Sight → Sight
-with_pending = with_field (λ own. own.pending) (λ pending own. record own { part = record own.part { pending = pending } })
-
-abbrev pub with_masked : Role → ℕ → Sight → Sight
-with_masked = with_field (λ own. own.masked) (λ masked own. record own { part = record own.part { masked = masked } })
 
 abbrev pub with_flight : Role → List Label → Sight → Sight
 with_flight = with_field (λ own. own.flight) (λ flight own. record own { part = record own.part { flight = flight } })

@@ -36,7 +36,7 @@ use Rattle.plan_model.specs.Sizes.{Sizes, sizes_of, pieces_in}
 use Rattle.order_rules.specs.Order.{may_land}
 use Rattle.plan_model.specs.Orders.{order_of}
 use Rattle.ledger_laws.specs.Laws.{IsOrdinaryOn}
-use Rattle.ledger_laws.proofs.walk.Sight.{End, Sight, Role, Sender, Receiver, peer_of, end_at, on_sender, on_receiver, with_up, with_ready, with_joined, with_closed, with_offered, with_pads, with_pending, with_masked, with_flight, with_clean, with_enabled, side_at, posted}
+use Rattle.ledger_laws.proofs.walk.Sight.{End, Sight, Role, Sender, Receiver, peer_of, end_at, on_sender, on_receiver, with_up, with_pads, with_flight, with_clean, with_enabled, side_at, posted, with_number, ReadyQueues, JoinedQueues, ClosedQueues, OffersMade, PendingBells, MaskedBells}
 use Rattle.ledger_laws.proofs.walk.News.{News, no_news, Tells, looked_news, pads_landed, ring_landed, ring_freed, ring_checked, ring_cleared, sees_taken}
 
 -- What a step has passed
@@ -216,8 +216,8 @@ forgotten_lane e lane = record lane { todo = on_sender e [] lane.todo; waiting =
 
 abbrev pub forgotten : Role → Sight → Sight
 forgotten e s =
-    let less = with_closed e 0 (with_joined e 0 (with_ready e 0 (with_up e false s))) in
-    record (with_clean e true (with_pending e 0 (with_pads e (replicate 16 0) (with_offered e 0 less)))) { lane = forgotten_lane e s.lane }
+    let less = with_number ClosedQueues e 0 (with_number JoinedQueues e 0 (with_number ReadyQueues e 0 (with_up e false s))) in
+    record (with_clean e true (with_number PendingBells e 0 (with_pads e (replicate 16 0) (with_number OffersMade e 0 less)))) { lane = forgotten_lane e s.lane }
 
 abbrev pub dropped_end : End → End
 dropped_end own = record { part = record own.part { flight = [] }; clean = false; enabled = false }
@@ -253,10 +253,10 @@ pub data Turn (plan : Plan) (lane : LaneName) (s : Sight) (made : Answered) : Ne
   Forgets : (e : Role) → MayForget s → Turn plan lane s made no_news (forgotten e s)
   -- the handshake
   Offers : (e : Role) (label : Label) → MayOffer (side_plan (pair_plan plan lane.pair) (side_at lane.from e)) s e label
-      → Turn plan lane s made no_news (posted e label (with_offered e ((end_at s e).offered + 1) s))
+      → Turn plan lane s made no_news (posted e label (with_number OffersMade e ((end_at s e).offered + 1) s))
   Checks : (e : Role) → MayCheck (side_plan (pair_plan plan lane.pair) (side_at lane.from e)) s e → Turn plan lane s made (record no_news { ring = ring_checked e }) (with_up e true s)
-  Readies : (e : Role) (queue : ℕ) → MayReady s e → Turn plan lane s made no_news (posted e (Pad links_pad (with_bit (end_at s e).ready queue)) (with_ready e (with_bit (end_at s e).ready queue) s))
-  Joins : (e : Role) (queue : ℕ) → MayJoin s e queue → Turn plan lane s made no_news (with_joined e (with_bit (end_at s e).joined queue) s)
+  Readies : (e : Role) (queue : ℕ) → MayReady s e → Turn plan lane s made no_news (posted e (Pad links_pad (with_bit (end_at s e).ready queue)) (with_number ReadyQueues e (with_bit (end_at s e).ready queue) s))
+  Joins : (e : Role) (queue : ℕ) → MayJoin s e queue → Turn plan lane s made no_news (with_number JoinedQueues e (with_bit (end_at s e).joined queue) s)
   -- sending
   Begins : (bytes : List ℕ) (first : Entry) (others : List Entry)
       → MayBegin (IsRaw plan lane) (SizesOf plan lane) lane.queue s (length bytes) (pieces_in (SizesOf plan lane).largest (length bytes))
@@ -271,7 +271,7 @@ pub data Turn (plan : Plan) (lane : LaneName) (s : Sight) (made : Answered) : Ne
   -- a write of a raw pair is lost, whichever of the lane's ends it was to be posted by
   Strays : (after : LanePart) → MayStray (IsRaw plan lane) lane.queue s.lane after → Turn plan lane s made no_news (record s { lane = after })
   -- a queue is closed on an end, and a write that isn't the lane's is posted
-  Shuts : (e : Role) (queue : ℕ) (looked : Bool) → Turn plan lane s made (looked_news looked) (with_closed e (with_bit (end_at s e).closed queue) s)
+  Shuts : (e : Role) (queue : ℕ) (looked : Bool) → Turn plan lane s made (looked_news looked) (with_number ClosedQueues e (with_bit (end_at s e).closed queue) s)
   Says : (e : Role) (label : Label) → IsAside lane made e label → Turn plan lane s made no_news (posted e label s)
   -- landing
   LandsFlag : (place : ℕ) (label : Label) (n : ℕ) → MayLandWrite (pair_plan plan lane.pair) lane.from lane.queue s place label (EntryFlag n)
@@ -281,7 +281,7 @@ pub data Turn (plan : Plan) (lane : LaneName) (s : Sight) (made : Answered) : Ne
   LandsIndex : (place : ℕ) (n : ℕ) → MayLand (pair_plan plan lane.pair) (other_side lane.from) s Receiver place (Index lane.queue n)
       → Turn plan lane s made (record no_news { gives = true; ring = ring_freed n }) (record (taken Receiver place s) { lane = record s.lane { freed = n + 1 } })
   LandsBell : (e : Role) (place queue : ℕ) → MayLand (pair_plan plan lane.pair) (side_at lane.from e) s e place (Bell queue)
-      → Turn plan lane s made no_news (with_pending (peer_of e) (with_bit (end_at s (peer_of e)).pending queue) (taken e place s))
+      → Turn plan lane s made no_news (with_number PendingBells (peer_of e) (with_bit (end_at s (peer_of e)).pending queue) (taken e place s))
   LandsPad : (e : Role) (place i value : ℕ) → MayLand (pair_plan plan lane.pair) (side_at lane.from e) s e place (Pad i value)
       → Turn plan lane s made (record no_news { pads = pads_landed e i value }) (with_pads (peer_of e) (slice_set (end_at s (peer_of e)).pads i value) (taken e place s))
   LandsAside : (e : Role) (place : ℕ) (label : Label) → MayLandAside (pair_plan plan lane.pair) (side_at lane.from e) lane.queue s e place label
@@ -302,8 +302,8 @@ pub data Turn (plan : Plan) (lane : LaneName) (s : Sight) (made : Answered) : Ne
   Clears : MayClear s → Turn plan lane s made (record no_news { ring = ring_cleared s.lane.cleared }) (record s { lane = record s.lane { cleared = s.lane.cleared + 1; phase = Cleared } })
   Acks : MayAck s → Turn plan lane s made no_news (posted Receiver (Index lane.queue s.lane.acked) (record s { lane = record s.lane { acked = s.lane.acked + 1; phase = Idle } }))
   -- doorbells
-  TakesBells : (e : Role) → Turn plan lane s made (record no_news { sees = sees_taken lane.queue e (without_bits (end_at s e).pending (end_at s e).masked) }) (with_pending e (bit_and (end_at s e).pending (end_at s e).masked) s)
-  Masks : (e : Role) (masked : ℕ) → Turn plan lane s made no_news (with_masked e masked s)
+  TakesBells : (e : Role) → Turn plan lane s made (record no_news { sees = sees_taken lane.queue e (without_bits (end_at s e).pending (end_at s e).masked) }) (with_number PendingBells e (bit_and (end_at s e).pending (end_at s e).masked) s)
+  Masks : (e : Role) (masked : ℕ) → Turn plan lane s made no_news (with_number MaskedBells e masked s)
 
 -- a turn, with what the step tells
 pub record Turned (plan : Plan) (lane : LaneName) (s : Sight) (made : Answered) (t : Sight) : Type 0 where

@@ -1,0 +1,12 @@
+-- Numbers counted one after another, for the crates above.
+use Rattle.std.proofs.Common.{◌≡◌, ℕ, zero, suc, ◌+◌, ◌<◌, length, get_or, refl, ap, ◌∙◌, arith}
+use Rattle.lane_model.specs.Lane.{count_from}
+
+pub length-count_from : (from more : ℕ) → length (count_from from more) ≡ more
+length-count_from from zero = refl
+length-count_from from (suc more) = ap suc (length-count_from (suc from) more)
+
+pub get_or-count_from : (from more k d : ℕ) → k < more → get_or (count_from from more) k d ≡ from + k
+get_or-count_from from zero k d below = absurd (omega arith)
+get_or-count_from from (suc more) zero d below = omega arith
+get_or-count_from from (suc more) (suc k) d below = get_or-count_from (suc from) more k d (omega arith) ∙ omega arith
