@@ -2,6 +2,7 @@
 //! and the counters of its limits.
 #![tactic(auto)]
 
+mod declared;
 mod devices;
 mod names;
 mod pairs;
@@ -10,6 +11,7 @@ pub mod rings;
 pub mod steps;
 mod traffic;
 
+pub use declared::{Declared, Named};
 pub use devices::Devices;
 pub use names::Names;
 pub use pairs::Pairs;

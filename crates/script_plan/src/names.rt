@@ -1,6 +1,6 @@
 //! The names of one kind.
 
-ghost use Rattle.std.specs.Prelude.{◌≡◌, ◌∷◌, ◌++◌, ◌<◌, [], false, length, OnOk, IfSome};
+ghost use Rattle.std.specs.Prelude.{◌≡◌, ◌∷◌, ◌++◌, ◌<◌, [], false, length, OnOk, OnErr, IfSome};
 
 use indexmap::IndexSet;
 use std::alloc::{AllocError, Global};
@@ -47,11 +47,12 @@ impl Names {
         Some(place as u32)
     }
 
-    /// Adds a name that isn't there yet. The only error is want of memory.
+    /// Adds a name that isn't there yet. The only error is want of memory, and then nothing is added.
     pub fn push(&mut self, alloc: Global, name: &[u8]) -> Result<(), AllocError>
         requires new { has_name self.old name.now ≡ false }
         requires few { length self.old < 64 }
-        ensures { OnOk result (self.new ≡ self.old ++ name.now ∷ []) }
+        ensures ok { OnOk result (self.new ≡ self.old ++ name.now ∷ []) }
+        ensures err { OnErr result (self.new ≡ self.old) }
     {
         let kept = Vec::from_slice(alloc, name)?;
         self.names.insert(kept)?;

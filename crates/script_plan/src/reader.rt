@@ -1,6 +1,6 @@
 //! What the lines so far give.
 
-ghost use Rattle.std.specs.Prelude.{◌≡◌, ◌∷◌, [], ◌++◌, ◌+◌, ◌*◌, ◌<◌, ◌≤◌, false, length, map, sum, count_by, IfOk};
+ghost use Rattle.std.specs.Prelude.{◌≡◌, ◌∷◌, [], ◌++◌, ◌+◌, ◌*◌, ◌<◌, ◌≤◌, false, length, map, sum, count_by, OnOk};
 ghost use Rattle.std.specs.List.{list_any};
 ghost use Rattle.script_words.specs.Declarations.{is_queue};
 
@@ -13,7 +13,8 @@ use script_words::words::is_same_side;
 use script_words::{Given, Macro, Part, QueueName};
 use std::alloc::{AllocError, Global};
 use std::marker::Model;
-use step_kinds::{DevPlan, Frame, Items, LaneName, Line, Name, PairPlan, Plan};
+use std::mem;
+use step_kinds::{DevPlan, Items, Line, PairPlan, Plan};
 
 /// The part that the next line stands in, and the plan that the lines so far declare.
 #[derive(Drop)]
@@ -68,7 +69,8 @@ impl Reader {
 
     /// The pairs.
     pub fn pairs(&self) -> &Pairs
-        ensures { result.now ≡ self.now.plan.pairs }
+        ensures value { result.now ≡ self.now.plan.pairs }
+        ensures few { length result.now ≤ most_pairs }
     {
         &self.pairs
     }
@@ -120,129 +122,73 @@ impl Reader {
         self.classed.iter().any(|other| is_queue(name, other))
     }
 
-    /// The lines so far with one more host.
-    fn with_host(self, alloc: Global, name: Name) -> Result<Reader, AllocError>
-        requires new { has_name self.hosts name ≡ false }
-        requires few { length self.hosts < most_hosts }
-        ensures { IfOk result (λ more. more ≡ with_given 0 self (Host name)) }
-    {
-        let mut hosts = self.hosts;
-        hosts.push(alloc, name.bytes())?;
-        Ok(Reader { hosts, ..self })
-    }
-
-    /// The lines so far with one more pair.
-    fn with_pair(self, alloc: Global, pair: PairPlan) -> Result<Reader, AllocError>
-        requires new { has_name (pair_names self) pair.name ≡ false }
-        requires few { length self.plan.pairs < most_pairs }
+    /// Adds a pair.
+    fn add_pair(&mut self, alloc: Global, pair: PairPlan) -> Result<(), AllocError>
+        requires new { has_name (pair_names self.old) pair.name ≡ false }
+        requires few { length self.old.plan.pairs < most_pairs }
         requires fits { IsPair pair }
-        ensures { IfOk result (λ more. more ≡ with_given 0 self (APair pair)) }
+        ensures { OnOk result (self.new ≡ with_given 0 self.old (APair pair)) }
     {
-        let pairs = self.pairs.with(alloc, pair)?;
-        Ok(Reader { pairs, ..self })
+        self.pairs.push(alloc, pair)?;
+        Ok(())
     }
 
-    /// The lines so far with one more device.
-    fn with_device(self, alloc: Global, dev: DevPlan) -> Result<Reader, AllocError>
-        requires new { has_name (dev_names self) dev.name ≡ false }
-        requires few { length self.plan.devs < most_devices }
-        requires fits { IsDevice self.plan dev }
-        ensures { IfOk result (λ more. more ≡ with_given 0 self (ADevice dev)) }
+    /// Adds a device.
+    fn add_device(&mut self, alloc: Global, dev: DevPlan) -> Result<(), AllocError>
+        requires new { has_name (dev_names self.old) dev.name ≡ false }
+        requires few { length self.old.plan.devs < most_devices }
+        requires fits { IsDevice self.old.plan dev }
+        ensures { OnOk result (self.new ≡ with_given 0 self.old (ADevice dev)) }
     {
-        let devs = self.devs.with(alloc, dev)?;
-        Ok(Reader { devs, ..self })
+        self.devs.push(alloc, dev)?;
+        Ok(())
     }
 
-    /// The lines so far with the class of one more queue.
-    fn with_class(self, name: QueueName, class: u32) -> Result<Reader, AllocError>
-        requires queue { IsQueueOf self.plan name.pair name.side name.queue }
+    /// Adds the class of a queue.
+    fn add_class(&mut self, name: QueueName, class: u32) -> Result<(), AllocError>
+        requires queue { IsQueueOf self.old.plan name.pair name.side name.queue }
         requires class { IsClass class }
-        ensures { IfOk result (λ more. more ≡ with_given 0 self (AClass name class)) }
+        ensures { OnOk result (self.new ≡ with_given 0 self.old (AClass name class)) }
     {
-        let pairs = self
-            .pairs
-            .with_class(name.pair, name.side, name.queue, class);
-        let mut classed = self.classed;
-        classed.push(name)?;
-        Ok(Reader {
-            pairs,
-            classed,
-            ..self
-        })
+        self.classed.push(name)?;
+        self.pairs
+            .set_class(name.pair, name.side, name.queue, class);
+        Ok(())
     }
 
-    /// The lines so far in another part.
-    fn with_part(self, part: Part) -> Reader
-        ensures { result ≡ record self { part = part } }
+    /// Adds the steps of line `line`. Where memory is wanting, no steps are left.
+    fn add_steps(&mut self, alloc: Global, line: u32, more: Macro) -> Result<(), AllocError>
+        requires { length self.old.plan.steps + length (steps_of more) ≤ most_steps }
+        ensures { OnOk result (self.new ≡ with_given line self.old (MoreSteps (steps_of more))) }
     {
-        Reader { part, ..self }
-    }
-
-    /// The lines so far with the steps of line `line`.
-    fn with_steps(self, line: u32, more: Macro) -> Result<Reader, AllocError>
-        requires { length self.plan.steps + length (steps_of more) ≤ most_steps }
-        ensures { IfOk result (λ after. after ≡ with_given line self (MoreSteps (steps_of more))) }
-    {
-        let mut steps = self.steps;
+        let mut steps = mem::replace(&mut self.steps, Vec::new(alloc));
         push_steps(&mut steps, line, more)?;
-        Ok(Reader { steps, ..self })
+        self.steps = steps;
+        Ok(())
     }
 
-    /// The lines so far with one more frame of the traffic.
-    fn with_frame(self, lane: LaneName, frame: Frame) -> Result<Reader, AllocError>
-        requires frames { sum (map frames_in self.plan.traffic) + 1 ≤ most_traffic_frames }
-        requires bytes { sum (map bytes_in self.plan.traffic) + length frame ≤ most_traffic_bytes }
-        ensures { IfOk result (λ after. after ≡ with_given 0 self (MoreTraffic (Send lane frame ∷ []))) }
-    {
-        let traffic = self.traffic.with_frame(lane, frame)?;
-        Ok(Reader { traffic, ..self })
-    }
-
-    /// The lines so far with so many frames of the traffic, of so many bytes each.
-    fn with_flood(
-        self,
-        alloc: Global,
-        lane: LaneName,
-        count: u32,
-        len: u32,
-    ) -> Result<Reader, AllocError>
-        requires len { 0 < count → len ≤ 65536 }
-        requires frames { sum (map frames_in self.plan.traffic) + count ≤ most_traffic_frames }
-        requires bytes { sum (map bytes_in self.plan.traffic) + count * len ≤ most_traffic_bytes }
-        ensures { IfOk result (λ after. after ≡ with_given 0 self (MoreTraffic (flood_of lane count len))) }
-    {
-        let traffic = self.traffic.with_flood(alloc, lane, count, len)?;
-        Ok(Reader { traffic, ..self })
-    }
-
-    /// The lines so far with one more link loss of a pair.
-    fn with_break(self, pair: u32) -> Result<Reader, AllocError>
-        requires pair { pair < 16 }
-        requires few { count_by (is_break_of pair) self.plan.traffic < most_breaks }
-        ensures { IfOk result (λ after. after ≡ with_given 0 self (MoreTraffic (Break pair ∷ []))) }
-    {
-        let traffic = self.traffic.with_break(pair)?;
-        Ok(Reader { traffic, ..self })
-    }
-
-    /// The lines so far with one more, whose number is `line`. The only error is want of memory.
-    pub fn with(self, alloc: Global, line: u32, given: Given) -> Result<Reader, AllocError>
-        requires suits { Suits self given }
-        ensures { IfOk result (λ more. more ≡ with_given line self (given_of given)) }
+    /// Adds what a line gives, whose number is `line`. The only error is want of memory, and then no more is said of what
+    /// the lines so far give.
+    pub fn add(&mut self, alloc: Global, line: u32, given: Given) -> Result<(), AllocError>
+        requires suits { Suits self.old given }
+        ensures { OnOk result (self.new ≡ with_given line self.old (given_of given)) }
     {
         match given {
-            Given::Nothing => Ok(self),
-            Given::Host { name } => self.with_host(alloc, name),
-            Given::Pair { pair } => self.with_pair(alloc, pair),
-            Given::Device { dev } => self.with_device(alloc, dev),
-            Given::Class { queue, class } => self.with_class(queue, class),
-            Given::StepsBegin => Ok(self.with_part(Part::Steps)),
-            Given::TrafficBegins => Ok(self.with_part(Part::Traffic)),
-            Given::Steps { steps } => self.with_steps(line, steps),
-            Given::Frame { lane, frame } => self.with_frame(lane, frame),
-            Given::Flood { lane, count, len } => self.with_flood(alloc, lane, count, len),
-            Given::Break { pair } => self.with_break(pair),
+            Given::Nothing => {}
+            Given::Host { name } => self.hosts.push(alloc, name.bytes())?,
+            Given::Pair { pair } => self.add_pair(alloc, pair)?,
+            Given::Device { dev } => self.add_device(alloc, dev)?,
+            Given::Class { queue, class } => self.add_class(queue, class)?,
+            Given::StepsBegin => self.part = Part::Steps,
+            Given::TrafficBegins => self.part = Part::Traffic,
+            Given::Steps { steps } => self.add_steps(alloc, line, steps)?,
+            Given::Frame { lane, frame } => self.traffic.push_frame(lane, frame)?,
+            Given::Flood { lane, count, len } => {
+                self.traffic.push_flood(alloc, lane, count, len)?;
+            }
+            Given::Break { pair } => self.traffic.push_break(pair)?,
         }
+        Ok(())
     }
 
     /// The plan.

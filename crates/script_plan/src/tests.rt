@@ -4,7 +4,8 @@ use std::test::Fail;
 
 #[test]
 fn the_steps_begin(rt: HostRuntime) -> Result<(), Fail> {
-    let before = Reader::new(rt.alloc()).with(rt.alloc(), 2, Given::StepsBegin)?;
+    let mut before = Reader::new(rt.alloc());
+    before.add(rt.alloc(), 2, Given::StepsBegin)?;
     assert_eq!(rt; before.part(), Part::Steps);
     let plan = before.into_plan();
     assert_eq!(rt; plan.steps.len(), 0);

@@ -1,6 +1,6 @@
 //! The traffic that the lines so far give, with its counters.
 
-ghost use Rattle.std.specs.Prelude.{◌≡◌, ◌∷◌, [], ◌++◌, ◌+◌, ◌*◌, ◌%◌, ◌^◌, ◌<◌, ◌≤◌, ◌&&◌, length, map, sum, count_by, nat_le, IfOk};
+ghost use Rattle.std.specs.Prelude.{◌≡◌, ◌∷◌, [], ◌++◌, ◌+◌, ◌*◌, ◌%◌, ◌^◌, ◌<◌, ◌≤◌, ◌&&◌, length, map, sum, count_by, nat_le, IfOk, OnOk};
 ghost use Rattle.step_kinds.specs.Limits.{most_traffic_frames, most_traffic_bytes, most_breaks};
 ghost use Rattle.step_kinds.specs.declared.plan.Traffic.TheVariants.{Send, Break};
 ghost use Rattle.script_words.specs.Compact.{flood_of};
@@ -53,69 +53,48 @@ impl TrafficList {
         self.breaks[pair as usize]
     }
 
-    /// The traffic with one more frame. The only error is want of memory.
-    pub fn with_frame(self, lane: LaneName, frame: Frame) -> Result<TrafficList, AllocError>
-        requires frames { sum (map frames_in self) + 1 ≤ most_traffic_frames }
-        requires bytes { sum (map bytes_in self) + length frame ≤ most_traffic_bytes }
-        ensures { IfOk result (λ more. more ≡ self ++ Send lane frame ∷ []) }
+    /// Adds a frame. The only error is want of memory, and then nothing is added.
+    pub fn push_frame(&mut self, lane: LaneName, frame: Frame) -> Result<(), AllocError>
+        requires frames { sum (map frames_in self.old) + 1 ≤ most_traffic_frames }
+        requires bytes { sum (map bytes_in self.old) + length frame ≤ most_traffic_bytes }
+        ensures { OnOk result (self.new ≡ self.old ++ Send lane frame ∷ []) }
     {
-        let TrafficList {
-            mut items,
-            frames,
-            bytes,
-            breaks,
-        } = self;
         let len = frame.len() as u64;
-        items.push(Traffic::Send { lane, frame })?;
-        Ok(TrafficList {
-            items,
-            frames: frames + 1,
-            bytes: bytes + len,
-            breaks,
-        })
+        self.items.push(Traffic::Send { lane, frame })?;
+        self.frames += 1;
+        self.bytes += len;
+        Ok(())
     }
 
-    /// The traffic with one more link loss of a pair. The only error is want of memory.
-    pub fn with_break(self, pair: u32) -> Result<TrafficList, AllocError>
+    /// Adds a link loss of a pair. The only error is want of memory, and then nothing is added.
+    pub fn push_break(&mut self, pair: u32) -> Result<(), AllocError>
         requires pair { pair < 16 }
-        requires few { count_by (is_break_of pair) self < most_breaks }
-        ensures { IfOk result (λ more. more ≡ self ++ Break pair ∷ []) }
+        requires few { count_by (is_break_of pair) self.old < most_breaks }
+        ensures { OnOk result (self.new ≡ self.old ++ Break pair ∷ []) }
     {
-        let TrafficList {
-            mut items,
-            frames,
-            bytes,
-            mut breaks,
-        } = self;
-        items.push(Traffic::Break { pair })?;
-        breaks[pair as usize] += 1;
-        Ok(TrafficList {
-            items,
-            frames,
-            bytes,
-            breaks,
-        })
+        self.items.push(Traffic::Break { pair })?;
+        self.breaks[pair as usize] += 1;
+        Ok(())
     }
 
-    /// The traffic with so many frames of so many bytes each. The only error is want of memory.
-    pub fn with_flood(
-        self,
+    /// Adds so many frames of so many bytes each. The only error is want of memory, and then some of them may be added.
+    pub fn push_flood(
+        &mut self,
         alloc: Global,
         lane: LaneName,
         count: u32,
         len: u32,
-    ) -> Result<TrafficList, AllocError>
+    ) -> Result<(), AllocError>
         requires len { 0 < count → len ≤ 65536 }
-        requires frames { sum (map frames_in self) + count ≤ most_traffic_frames }
-        requires bytes { sum (map bytes_in self) + count * len ≤ most_traffic_bytes }
-        ensures { IfOk result (λ more. more ≡ self ++ flood_of lane count len) }
+        requires frames { sum (map frames_in self.old) + count ≤ most_traffic_frames }
+        requires bytes { sum (map bytes_in self.old) + count * len ≤ most_traffic_bytes }
+        ensures { OnOk result (self.new ≡ self.old ++ flood_of lane count len) }
     {
-        let mut more = self;
         for i in 0..count {
             let frame = flood_frame(alloc, len, i)?;
-            more = more.with_frame(lane, frame)?;
+            self.push_frame(lane, frame)?;
         }
-        Ok(more)
+        Ok(())
     }
 
     /// The traffic, in order.

@@ -7,6 +7,7 @@ ghost use Rattle.script_words.specs.Declarations as rules;
 ghost use Rattle.script_words.specs.Reads.{Reads, result_map};
 ghost use Rattle.script_words.specs.Words.{hex_of};
 
+use crate::lines::LineResult;
 use crate::lookups::{QueueWords, new_device, new_host, new_pair, read_host, read_queue_name};
 use script_plan::Reader;
 use script_words::options::{goes_together, pair_with, read_settings};
@@ -36,7 +37,7 @@ fn pair_line(
     host_a: &[u8],
     host_b: &[u8],
     options: &[&[u8]],
-) -> Result<Given, LineError>
+) -> LineResult
     ensures { Reads (result_map given_of result) (rules.pair_line before.now name.now host_a.now host_b.now (map (λ word. word.now) options.now)) }
 {
     let name = new_pair(before, name)?;
@@ -132,7 +133,7 @@ fn host_words(before: &Reader, words: &[&[u8]]) -> Result<Given, Cause>
 }
 
 /// The words behind `pair`.
-fn pair_words(alloc: Global, before: &Reader, words: &[&[u8]]) -> Result<Given, LineError>
+fn pair_words(alloc: Global, before: &Reader, words: &[&[u8]]) -> LineResult
     ensures { Reads (result_map given_of result) (rules.pair_words before.now (map (λ word. word.now) words.now)) }
 {
     match words {
@@ -183,12 +184,7 @@ fn lone_word(words: &[&[u8]], given: Given) -> Result<Given, Cause>
 }
 
 /// A line among the declarations.
-pub fn declaration_line(
-    alloc: Global,
-    before: &Reader,
-    word: &[u8],
-    words: &[&[u8]],
-) -> Result<Given, LineError>
+pub fn declaration_line(alloc: Global, before: &Reader, word: &[u8], words: &[&[u8]]) -> LineResult
     ensures { Reads (result_map given_of result) (rules.declaration_line before.now word.now (map (λ word. word.now) words.now)) }
 {
     if word == b"host".as_slice() {

@@ -1,11 +1,15 @@
 //! Lines of a script, and their words.
 
-ghost use Rattle.std.specs.Prelude.{◌≡◌, ◌∷◌, ◌==◌, ◌<◌, [], length, map, IfOk, IfSome};
+ghost use Rattle.std.specs.Prelude.{◌≡◌, ◌∷◌, ◌==◌, ◌<◌, [], length, map, OnOk, IfSome};
 ghost use Rattle.std.specs.List.{slice_split};
 ghost use Rattle.std.specs.Option.{option_map_or};
 ghost use Rattle.script_words.specs.Words as spelled;
 
-use std::alloc::{AllocError, Global};
+use script_words::{Given, LineError};
+use std::alloc::AllocError;
+
+/// What a line gives, or why it gives nothing.
+pub type LineResult = Result<Given, LineError>;
 
 /// What stands before the first of such bytes, and what stands behind it where there is one.
 pub fn cut(text: &[u8], at: u8) -> (&[u8], Option<&[u8]>)
@@ -54,11 +58,12 @@ pub fn is_text(line: &[u8]) -> bool
     line.iter().all(|byte| 32 <= *byte && *byte <= 126)
 }
 
-/// The words of a line: what stands between its spaces. The only error is want of memory.
-pub fn words_of(alloc: Global, line: &[u8]) -> Result<Vec<&[u8]>, AllocError>
-    ensures { IfOk result (λ words. map (λ word. word.now) words.items ≡ spelled.words_of line.now) }
+/// Reads the words of a line, what stands between its spaces, into `words` in place of what was there. The only error is
+/// want of memory.
+pub fn read_words<'a>(words: &mut Vec<&'a [u8]>, line: &'a [u8]) -> Result<(), AllocError>
+    ensures { OnOk result (map (λ word. word.now) words.new.items ≡ spelled.words_of line.now) }
 {
-    let mut words = Vec::new(alloc);
+    words.clear();
     let mut rest = Some(line);
     while let Some(text) = rest {
         let (word, more) = cut(text, b' ');
@@ -67,5 +72,5 @@ pub fn words_of(alloc: Global, line: &[u8]) -> Result<Vec<&[u8]>, AllocError>
         }
         rest = more;
     }
-    Ok(words)
+    Ok(())
 }

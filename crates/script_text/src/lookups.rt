@@ -109,7 +109,7 @@ fn read_queue(before: &Reader, pair: u32, side: Side, word: &[u8]) -> Result<u32
     ensures below { IfOk result (λ queue. queue < (side_plan (pair_plan before.now.plan pair) side).queues) }
 {
     let queue = read_number(word)?;
-    if queue >= side_of(before.pairs().get(pair), side).queues {
+    if queue >= side_of(before.pair(pair), side).queues {
         return Err(Cause::UnknownName);
     }
     Ok(queue)

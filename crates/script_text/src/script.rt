@@ -11,7 +11,7 @@ ghost use Rattle.script_text.specs.Script as rules;
 
 use crate::declarations::declaration_line;
 use crate::error::ParseError;
-use crate::lines::{cut, is_skipped, is_text, without_return, words_of};
+use crate::lines::{LineResult, cut, is_skipped, is_text, read_words, without_return};
 use crate::step_lines::step_line;
 use crate::traffic_lines::traffic_line;
 use script_plan::Reader;
@@ -20,14 +20,14 @@ use std::alloc::Global;
 use step_kinds::Plan;
 
 /// The first line.
-fn header_line(alloc: Global, line: &[u8]) -> Result<Given, LineError>
+fn header_line<'a>(words: &mut Vec<&'a [u8]>, line: &'a [u8]) -> LineResult
     ensures { Reads (result_map given_of result) (rules.header_line line.now) }
 {
     if !is_text(line) {
         return Err(LineError::Fault(Cause::NotText));
     }
-    let words = words_of(alloc, line)?;
-    if !is_header(words.as_slice()) {
+    read_words(words, line)?;
+    if !is_header(words) {
         return Err(LineError::Fault(Cause::BadHeader));
     }
     Ok(Given::Nothing)
@@ -44,7 +44,7 @@ fn is_header(words: &[&[u8]]) -> bool
 }
 
 /// The words of a line, in the part of the script that it stands in.
-fn words_line(alloc: Global, before: &Reader, words: &[&[u8]]) -> Result<Given, LineError>
+fn words_line(alloc: Global, before: &Reader, words: &[&[u8]]) -> LineResult
     ensures { Reads (result_map given_of result) (rules.words_line before.now before.now.part (map (λ word. word.now) words.now)) }
 {
     match words {
@@ -57,12 +57,18 @@ fn words_line(alloc: Global, before: &Reader, words: &[&[u8]]) -> Result<Given, 
     }
 }
 
-/// What line `number` gives.
-fn line_gives(alloc: Global, number: u32, before: &Reader, line: &[u8]) -> Result<Given, LineError>
+/// What line `number` gives. Its words are read into `words`.
+fn line_gives<'a>(
+    alloc: Global,
+    number: u32,
+    before: &Reader,
+    words: &mut Vec<&'a [u8]>,
+    line: &'a [u8],
+) -> LineResult
     ensures { Reads (result_map given_of result) (rules.line_gives number before.now line.now) }
 {
     if number == 1 {
-        return header_line(alloc, line);
+        return header_line(words, line);
     }
     if is_skipped(line) {
         return Ok(Given::Nothing);
@@ -70,18 +76,24 @@ fn line_gives(alloc: Global, number: u32, before: &Reader, line: &[u8]) -> Resul
     if !is_text(line) {
         return Err(LineError::Fault(Cause::NotText));
     }
-    let words = words_of(alloc, line)?;
-    words_line(alloc, before, words.as_slice())
+    read_words(words, line)?;
+    words_line(alloc, before, words)
 }
 
-/// The lines so far with line `number`.
-fn with_line(alloc: Global, number: u32, before: Reader, line: &[u8]) -> Result<Reader, ParseError>
-    requires { Held before }
-    ensures { Parses result (after_line number before (rules.line_gives number before line.now)) }
+/// Adds what line `number` gives to the lines so far. Its words are read into `words`.
+fn add_line<'a>(
+    alloc: Global,
+    number: u32,
+    before: &mut Reader,
+    words: &mut Vec<&'a [u8]>,
+    line: &'a [u8],
+) -> Result<(), ParseError>
+    requires { Held before.old }
+    ensures { Parses (result_map (λ _. before.new) result) (after_line number before.old (rules.line_gives number before.old line.now)) }
 {
-    match line_gives(alloc, number, &before, line) {
-        Ok(given) => match before.with(alloc, number, given) {
-            Ok(more) => Ok(more),
+    match line_gives(alloc, number, before, words, line) {
+        Ok(given) => match before.add(alloc, number, given) {
+            Ok(()) => Ok(()),
             Err(_) => Err(ParseError::OutOfMemory),
         },
         Err(LineError::Fault(cause)) => Err(ParseError::Fault(ScriptFault {
@@ -99,11 +111,12 @@ pub fn parse(alloc: Global, bytes: &[u8]) -> Result<Plan, ParseError>
     ensures { Parses result (rules.script_of bytes.now) }
 {
     let mut before = Reader::new(alloc);
+    let mut words = Vec::new(alloc);
     let mut number = 1;
     let mut rest = Some(bytes);
     while let Some(text) = rest {
         let (line, more) = cut(text, b'\n');
-        before = with_line(alloc, number, before, without_return(line))?;
+        add_line(alloc, number, &mut before, &mut words, without_return(line))?;
         number += 1;
         rest = more;
     }

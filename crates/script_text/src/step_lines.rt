@@ -10,6 +10,7 @@ ghost use Rattle.script_words.specs.Reads.{Reads, result_map};
 ghost use Rattle.script_words.specs.StepLines as rules;
 ghost use Rattle.script_words.specs.StepWords.{pair_step_of, side_steps_of, queue_steps_of, numbered_of, frame_steps_of};
 
+use crate::lines::LineResult;
 use crate::lookups::{
     QueueWords, SideWords, read_device, read_pair, read_queue_name, read_side_name,
 };
@@ -180,7 +181,7 @@ fn poke_line(
     window: &[u8],
     offset: &[u8],
     bytes: &[u8],
-) -> Result<Given, LineError>
+) -> LineResult
     ensures { Reads (result_map given_of result) (rules.poke_line before.now of.entry.pair.now of.entry.side.now window.now offset.now bytes.now) }
 {
     let SideName { pair, side } = read_side_name(before, of)?;
@@ -244,7 +245,7 @@ fn frame_line(
     word: FrameWord,
     on: QueueWords<'_>,
     frame: &[u8],
-) -> Result<Given, LineError>
+) -> LineResult
     ensures { Reads (result_map given_of result) (rules.frame_line before.now (frame_steps_of word) on.entry.pair.now on.entry.side.now on.entry.queue.now frame.now) }
 {
     let name = read_queue_name(before, on)?;
@@ -303,7 +304,7 @@ fn ethernet_line(
     address: &[u8],
     kind: &[u8],
     payload: &[u8],
-) -> Result<Given, LineError>
+) -> LineResult
     ensures { Reads (result_map given_of result) (rules.ethernet_line before.now is_macro dev.now address.now kind.now payload.now) }
 {
     let dev = read_device(before, dev)?;
@@ -364,7 +365,7 @@ fn line_of_four(
     b: &[u8],
     c: &[u8],
     d: &[u8],
-) -> Result<Given, LineError>
+) -> LineResult
     ensures { Reads (result_map given_of result) (rules.line_of_four before.now word.now a.now b.now c.now d.now) }
 {
     let (pair, side, queue) = (a, b, c);
@@ -389,28 +390,22 @@ fn line_of_five(
     alloc: Global,
     before: &Reader,
     word: &[u8],
-    a: &[u8],
-    b: &[u8],
-    c: &[u8],
-    d: &[u8],
-    e: &[u8],
-) -> Result<Given, LineError>
-    ensures { Reads (result_map given_of result) (rules.line_of_five before.now word.now a.now b.now c.now d.now e.now) }
+    of: SideWords<'_>,
+    window: &[u8],
+    offset: &[u8],
+    bytes: &[u8],
+) -> LineResult
+    ensures { Reads (result_map given_of result) (rules.line_of_five before.now word.now of.entry.pair.now of.entry.side.now window.now offset.now bytes.now) }
 {
     if word == b"poke".as_slice() {
-        poke_line(alloc, before, SideWords { pair: a, side: b }, c, d, e)
+        poke_line(alloc, before, of, window, offset, bytes)
     } else {
         Err(LineError::Fault(Cause::UnknownWord))
     }
 }
 
 /// A line among the steps.
-pub fn step_line(
-    alloc: Global,
-    before: &Reader,
-    word: &[u8],
-    words: &[&[u8]],
-) -> Result<Given, LineError>
+pub fn step_line(alloc: Global, before: &Reader, word: &[u8], words: &[&[u8]]) -> LineResult
     ensures { Reads (result_map given_of result) (rules.step_line before.now word.now (map (λ word. word.now) words.now)) }
 {
     match words {
@@ -420,7 +415,10 @@ pub fn step_line(
         [a, b] => Ok(line_of_two(before, word, a, b)?),
         [a, b, c] => Ok(line_of_three(before, word, a, b, c)?),
         [a, b, c, d] => line_of_four(alloc, before, word, a, b, c, d),
-        [a, b, c, d, e] => line_of_five(alloc, before, word, a, b, c, d, e),
+        [pair, side, window, offset, bytes] => {
+            let of = SideWords { pair, side };
+            line_of_five(alloc, before, word, of, window, offset, bytes)
+        }
         _ => Err(LineError::Fault(Cause::UnknownWord)),
     }
 }

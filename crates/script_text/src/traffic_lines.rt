@@ -10,6 +10,7 @@ ghost use Rattle.script_words.specs.Compact.{given_of};
 ghost use Rattle.script_words.specs.Reads.{Reads, result_map};
 ghost use Rattle.script_words.specs.TrafficLines as rules;
 
+use crate::lines::LineResult;
 use crate::lookups::{QueueWords, read_pair, read_queue_name};
 use script_plan::Reader;
 use script_plan::rings::ring_of;
@@ -75,12 +76,7 @@ fn lane_of(name: QueueName) -> LaneName
 }
 
 /// `frame PAIR SIDE QUEUE HEX`
-fn frame_line(
-    alloc: Global,
-    before: &Reader,
-    on: QueueWords<'_>,
-    frame: &[u8],
-) -> Result<Given, LineError>
+fn frame_line(alloc: Global, before: &Reader, on: QueueWords<'_>, frame: &[u8]) -> LineResult
     ensures { Reads (result_map given_of result) (rules.traffic_frame_line before.now on.entry.pair.now on.entry.side.now on.entry.queue.now frame.now) }
 {
     let name = read_queue_name(before, on)?;
@@ -104,12 +100,7 @@ fn flood_line(before: &Reader, on: QueueWords<'_>, count: &[u8], len: &[u8]) -> 
 }
 
 /// A line among the traffic.
-pub fn traffic_line(
-    alloc: Global,
-    before: &Reader,
-    word: &[u8],
-    words: &[&[u8]],
-) -> Result<Given, LineError>
+pub fn traffic_line(alloc: Global, before: &Reader, word: &[u8], words: &[&[u8]]) -> LineResult
     ensures { Reads (result_map given_of result) (rules.traffic_line before.now word.now (map (λ word. word.now) words.now)) }
 {
     match words {

@@ -17,7 +17,7 @@ loop-rest-preserved c =
     rw c.in-Some.is at c.loop-rest.invariant.counted in
     record {
       read = c.loop-rest.invariant.read ∙ (ap (λ o. read_lines n before (option_map_or (λ text. lines_of text.now) o [])) c.in-Some.is
-          ∙ (turn ∙ ap (then_lines n (option_map_or (λ text. lines_of text.now) rest [])) c.in_ok-before.ensures));
-      held = (after_held n before c.without_return.result.now c.loop-rest.invariant.held).holds c.in_ok-before.before c.in_ok-before.ensures;
+          ∙ (turn ∙ ap (then_lines n (option_map_or (λ text. lines_of text.now) rest [])) c.in_ok-add_line.ensures));
+      held = (after_held n before c.without_return.result.now c.loop-rest.invariant.held).holds c.add_line.new.before c.in_ok-add_line.ensures;
       counted = count_turn rest text n (length c.args.bytes.now + 2) c.cut.ensures.shorter few;
     }

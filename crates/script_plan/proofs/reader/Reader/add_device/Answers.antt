@@ -3,11 +3,11 @@ use Rattle.plan_model.specs.DeclaredPlans.{IsDevice}
 use Rattle.script_words.specs.Before.{Before}
 use Rattle.script_plan.specs.Seen.{before_with}
 use Rattle.script_plan.proofs.Soundness.{device_added}
-use Rattle.script_plan.proofs.reader.Reader.with_device.Goals as goal
+use Rattle.script_plan.proofs.reader.Reader.add_device.Goals as goal
 
-pub invariant_of-result : goal.invariant_of-result
-invariant_of-result c =
+pub invariant_of-self-2 : goal.invariant_of-self-2
+invariant_of-self-2 c =
     let i = c.self.inside in
     let b : Before = before_with i.part i.hosts i.pairs i.devs i.steps.items i.traffic i.classed.items in
     let P : Before → Type 0 = λ before. IsDevice before.plan c.args.dev in
-    device_added b c.in_ok-devs.devs c.args.dev c.self.invariant (subst P (sym c.self.view_is) c.requires.fits) c.in_ok-devs.ensures
+    device_added b c.push.new.self c.args.dev c.self.invariant (subst P (sym c.self.view_is) c.requires.fits) c.in_ok-push.ensures.ok

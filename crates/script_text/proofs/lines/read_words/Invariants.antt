@@ -2,7 +2,7 @@ use Rattle.std.proofs.Common.{◌≡◌, ◌++◌, ◌+◌, ◌==◌, [], map, f
 use Rattle.std.specs.List.{slice_split}
 use Rattle.std.specs.Option.{option_map_or}
 use Rattle.script_words.specs.Words as spelled
-use Rattle.script_text.proofs.lines.words_of.Given as goal
+use Rattle.script_text.proofs.lines.read_words.Given as goal
 
 abbrev pub invariant-loop-rest : goal.invariant-loop-rest
 invariant-loop-rest l =

@@ -3,12 +3,12 @@ use Rattle.step_kinds.specs.Limits.{most_pairs}
 use Rattle.script_words.specs.Before.{Before}
 use Rattle.script_plan.specs.Seen.{before_with}
 use Rattle.script_plan.proofs.Soundness.{pair_added}
-use Rattle.script_plan.proofs.reader.Reader.with_pair.Goals as goal
+use Rattle.script_plan.proofs.reader.Reader.add_pair.Goals as goal
 
-pub invariant_of-result : goal.invariant_of-result
-invariant_of-result c =
+pub invariant_of-self-2 : goal.invariant_of-self-2
+invariant_of-self-2 c =
     let i = c.self.inside in
     let b : Before = before_with i.part i.hosts i.pairs i.devs i.steps.items i.traffic i.classed.items in
-    let seen : length b.plan.pairs ≡ length c.args.self.plan.pairs = ap (λ before. length before.plan.pairs) c.self.view_is in
+    let seen : length b.plan.pairs ≡ length c.args.self.now.plan.pairs = ap (λ before. length before.plan.pairs) c.self.view_is in
     let few : length b.plan.pairs < most_pairs = let room = c.requires.few in omega arith in
-    pair_added b c.in_ok-pairs.pairs c.args.pair c.self.invariant c.requires.fits few c.in_ok-pairs.ensures
+    pair_added b c.push.new.self c.args.pair c.self.invariant c.requires.fits few c.in_ok-push.ensures.ok
