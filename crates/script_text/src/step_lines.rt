@@ -17,8 +17,7 @@ use crate::lookups::{
 use script_plan::Reader;
 use script_plan::rings::{posts_in, side_of};
 use script_words::step_words::{
-    FrameWord, NumberWord, PairWord, QueueWord, SideWord, frame_word_of, number_word_of,
-    pair_word_of, queue_word_of, side_word_of,
+    FrameWord, NumberWord, PairWord, QueueWord, SideWord, StepWord, step_word_of,
 };
 use script_words::words::{read_array, read_bytes, read_kind, read_number, read_number_between};
 use script_words::{Cause, Given, LineError, Macro, QueueName, Repeated, SideName};
@@ -326,9 +325,9 @@ fn line_of_one(before: &Reader, word: &[u8], a: &[u8]) -> Result<Given, Cause>
     if word == b"wake".as_slice() {
         return wake_line(before, a);
     }
-    match pair_word_of(word) {
-        Some(step) => pair_step_line(before, step, a),
-        None => Err(Cause::UnknownWord),
+    match step_word_of(word) {
+        Some(StepWord::Pair(step)) => pair_step_line(before, step, a),
+        _ => Err(Cause::UnknownWord),
     }
 }
 
@@ -336,9 +335,9 @@ fn line_of_one(before: &Reader, word: &[u8], a: &[u8]) -> Result<Given, Cause>
 fn line_of_two(before: &Reader, word: &[u8], a: &[u8], b: &[u8]) -> Result<Given, Cause>
     ensures { result_map given_of result ≡ rules.line_of_two before.now word.now a.now b.now }
 {
-    match side_word_of(word) {
-        Some(steps) => side_line(before, steps, SideWords { pair: a, side: b }),
-        None => Err(Cause::UnknownWord),
+    match step_word_of(word) {
+        Some(StepWord::Side(steps)) => side_line(before, steps, SideWords { pair: a, side: b }),
+        _ => Err(Cause::UnknownWord),
     }
 }
 
@@ -347,12 +346,10 @@ fn line_of_three(before: &Reader, word: &[u8], a: &[u8], b: &[u8], c: &[u8]) -> 
     ensures { result_map given_of result ≡ rules.line_of_three before.now word.now a.now b.now c.now }
 {
     let (pair, side, queue) = (a, b, c);
-    if let Some(numbered) = number_word_of(word) {
-        return numbered_line(before, numbered, SideWords { pair, side }, c);
-    }
-    match queue_word_of(word) {
-        Some(steps) => queue_line(before, steps, QueueWords { pair, side, queue }),
-        None => Err(Cause::UnknownWord),
+    match step_word_of(word) {
+        Some(StepWord::Number(steps)) => numbered_line(before, steps, SideWords { pair, side }, c),
+        Some(StepWord::Queue(steps)) => queue_line(before, steps, QueueWords { pair, side, queue }),
+        _ => Err(Cause::UnknownWord),
     }
 }
 
@@ -379,9 +376,10 @@ fn line_of_four(
         ethernet_line(alloc, before, false, a, b, c, d)
     } else if word == b"xmit".as_slice() {
         ethernet_line(alloc, before, true, a, b, c, d)
+    } else if let Some(StepWord::Frame(steps)) = step_word_of(word) {
+        frame_line(alloc, before, steps, QueueWords { pair, side, queue }, d)
     } else {
-        let frame = frame_word_of(word).ok_or(Cause::UnknownWord)?;
-        frame_line(alloc, before, frame, QueueWords { pair, side, queue }, d)
+        Err(LineError::Fault(Cause::UnknownWord))
     }
 }
 

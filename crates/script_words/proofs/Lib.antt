@@ -3,3 +3,4 @@ pub mod HexWords
 pub mod Keys
 pub mod NumberTexts
 pub mod Numbers
+pub mod StepTable

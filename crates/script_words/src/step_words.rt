@@ -1,10 +1,8 @@
 //! The first words of steps, by their arguments.
 
 ghost use Rattle.std.specs.Prelude.{◌≡◌, ◌≤◌};
-ghost use Rattle.std.specs.Option.{option_map};
 ghost use Rattle.script_words.specs.Compact.{steps_of};
-ghost use Rattle.script_words.specs.StepWords.{pair_step_of, side_steps_of, side_steps_with, queue_steps_of, numbered_of, frame_steps_of};
-ghost use Rattle.script_words.specs.StepLines as rules;
+ghost use Rattle.script_words.specs.StepWords.{pair_step_of, side_steps_of, side_steps_with, queue_steps_of, numbered_of, IsStepWord};
 
 use crate::macros::{Macro, Repeated};
 use step_kinds::{Side, Step};
@@ -62,69 +60,53 @@ pub enum FrameWord {
     Send,
 }
 
-/// The word of steps that have a pair, a side, a queue and bytes.
-pub fn frame_word_of(word: &[u8]) -> Option<FrameWord>
-    ensures { option_map frame_steps_of result ≡ rules.frame_steps word.now }
-{
-    value_of! { word:
-        b"begin" => FrameWord::Begin,
-        b"send" => FrameWord::Send,
-    }
+/// The first word of a line of steps, by what stands behind it.
+#[derive(Clone, Copy, Debug, PartialEq, Eq)]
+pub enum StepWord {
+    /// A pair.
+    Pair(PairWord),
+    /// A pair and a side.
+    Side(SideWord),
+    /// A pair, a side and a queue.
+    Queue(QueueWord),
+    /// A pair, a side and a number.
+    Number(NumberWord),
+    /// A pair, a side, a queue and bytes.
+    Frame(FrameWord),
 }
 
-/// The word of a step that has a pair.
-pub fn pair_word_of(word: &[u8]) -> Option<PairWord>
-    ensures { option_map pair_step_of result ≡ rules.pair_step word.now }
+/// The first word of a line of steps that a word spells; none where the word has a kind of line for itself, or none.
+#[tactic(auto, using(crate::proofs::StepTable::same_word))]
+pub fn step_word_of(word: &[u8]) -> Option<StepWord>
+    ensures { IsStepWord word.now result }
 {
     value_of! { word:
-        b"train" => PairWord::Train,
-        b"break" => PairWord::Break,
-        b"drop" => PairWord::Drop,
-    }
-}
-
-/// The word of steps that have a pair and a side.
-pub fn side_word_of(word: &[u8]) -> Option<SideWord>
-    ensures { option_map side_steps_of result ≡ rules.side_steps word.now }
-{
-    value_of! { word:
-        b"enable" => SideWord::Enable,
-        b"clean" => SideWord::Clean,
-        b"offer" => SideWord::Offer,
-        b"check" => SideWord::Check,
-        b"irq" => SideWord::Irq,
-        b"offerall" => SideWord::OfferAll,
-    }
-}
-
-/// The word of steps that have a pair, a side and a queue.
-pub fn queue_word_of(word: &[u8]) -> Option<QueueWord>
-    ensures { option_map queue_steps_of result ≡ rules.queue_steps word.now }
-{
-    value_of! { word:
-        b"ready" => QueueWord::Ready,
-        b"join" => QueueWord::Join,
-        b"qpdown" => QueueWord::QpDown,
-        b"post" => QueueWord::Post,
-        b"look" => QueueWord::Look,
-        b"copy" => QueueWord::Copy,
-        b"clear" => QueueWord::Clear,
-        b"ack" => QueueWord::Ack,
-        b"recv" => QueueWord::Recv,
-    }
-}
-
-/// The word of steps that have a pair, a side and a number.
-pub fn number_word_of(word: &[u8]) -> Option<NumberWord>
-    ensures { option_map numbered_of result ≡ rules.numbered_steps word.now }
-{
-    value_of! { word:
-        b"land" => NumberWord::Land,
-        b"landall" => NumberWord::LandAll,
-        b"mask" => NumberWord::Mask,
-        b"unmask" => NumberWord::Unmask,
-        b"showq" => NumberWord::ShowQueue,
-        b"showspad" => NumberWord::ShowPad,
+        b"train" => StepWord::Pair(PairWord::Train),
+        b"break" => StepWord::Pair(PairWord::Break),
+        b"drop" => StepWord::Pair(PairWord::Drop),
+        b"enable" => StepWord::Side(SideWord::Enable),
+        b"clean" => StepWord::Side(SideWord::Clean),
+        b"offer" => StepWord::Side(SideWord::Offer),
+        b"check" => StepWord::Side(SideWord::Check),
+        b"irq" => StepWord::Side(SideWord::Irq),
+        b"offerall" => StepWord::Side(SideWord::OfferAll),
+        b"ready" => StepWord::Queue(QueueWord::Ready),
+        b"join" => StepWord::Queue(QueueWord::Join),
+        b"qpdown" => StepWord::Queue(QueueWord::QpDown),
+        b"post" => StepWord::Queue(QueueWord::Post),
+        b"look" => StepWord::Queue(QueueWord::Look),
+        b"copy" => StepWord::Queue(QueueWord::Copy),
+        b"clear" => StepWord::Queue(QueueWord::Clear),
+        b"ack" => StepWord::Queue(QueueWord::Ack),
+        b"recv" => StepWord::Queue(QueueWord::Recv),
+        b"land" => StepWord::Number(NumberWord::Land),
+        b"landall" => StepWord::Number(NumberWord::LandAll),
+        b"mask" => StepWord::Number(NumberWord::Mask),
+        b"unmask" => StepWord::Number(NumberWord::Unmask),
+        b"showq" => StepWord::Number(NumberWord::ShowQueue),
+        b"showspad" => StepWord::Number(NumberWord::ShowPad),
+        b"begin" => StepWord::Frame(FrameWord::Begin),
+        b"send" => StepWord::Frame(FrameWord::Send),
     }
 }
 
@@ -147,27 +129,20 @@ impl SideWord {
         requires { windows ≤ 4 }
         ensures { steps_of result ≡ side_steps_with self windows pair side }
     {
-        match self {
-            SideWord::Enable => Macro::One {
-                step: Step::Enable { pair, side },
-            },
-            SideWord::Clean => Macro::One {
-                step: Step::Clean { pair, side },
-            },
-            SideWord::Offer => Macro::One {
-                step: Step::Offer { pair, side },
-            },
-            SideWord::Check => Macro::One {
-                step: Step::Check { pair, side },
-            },
-            SideWord::Irq => Macro::One {
-                step: Step::Irq { pair, side },
-            },
-            SideWord::OfferAll => Macro::Again {
-                repeated: Repeated::Offer { pair, side },
-                count: 2 * windows + 3,
-            },
-        }
+        let step = match self {
+            SideWord::Enable => Step::Enable { pair, side },
+            SideWord::Clean => Step::Clean { pair, side },
+            SideWord::Offer => Step::Offer { pair, side },
+            SideWord::Check => Step::Check { pair, side },
+            SideWord::Irq => Step::Irq { pair, side },
+            SideWord::OfferAll => {
+                return Macro::Again {
+                    repeated: Repeated::Offer { pair, side },
+                    count: 2 * windows + 3,
+                };
+            }
+        };
+        Macro::One { step }
     }
 }
 
@@ -224,38 +199,19 @@ impl NumberWord {
     pub fn steps(self, pair: u32, side: Side, number: u32) -> Macro
         ensures { steps_of result ≡ (numbered_of self).steps pair side number }
     {
+        let (place, bits, index) = (number, number, number);
         let step = match self {
-            NumberWord::Land => Step::Land {
-                pair,
-                side,
-                place: number,
-            },
-            NumberWord::Mask => Step::Mask {
-                pair,
-                side,
-                bits: number,
-            },
-            NumberWord::Unmask => Step::Unmask {
-                pair,
-                side,
-                bits: number,
-            },
-            NumberWord::ShowQueue => Step::ShowQueue {
-                pair,
-                side,
-                place: number,
-            },
-            NumberWord::ShowPad => Step::ShowPad {
-                pair,
-                side,
-                index: number,
-            },
+            NumberWord::Land => Step::Land { pair, side, place },
             NumberWord::LandAll => {
                 return Macro::Again {
                     repeated: Repeated::Land { pair, side },
                     count: number,
                 };
             }
+            NumberWord::Mask => Step::Mask { pair, side, bits },
+            NumberWord::Unmask => Step::Unmask { pair, side, bits },
+            NumberWord::ShowQueue => Step::ShowQueue { pair, side, place },
+            NumberWord::ShowPad => Step::ShowPad { pair, side, index },
         };
         Macro::One { step }
     }
