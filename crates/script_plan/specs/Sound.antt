@@ -20,7 +20,7 @@ pub record IsSound (before : Before) : Type 0 where
 abbrev pub Suits : Before → Given → Type 0
 Suits before Nothing = Unit {0}
 Suits before (Host name) = (has_name before.hosts name ≡ false) × (length before.hosts < most_hosts)
-Suits before (Pair pair) = (has_name (pair_names before) pair.name ≡ false) × (length before.plan.pairs < most_pairs) × IsPair pair
+Suits before (Pair pair) = (has_name (pair_names before) pair.value.name ≡ false) × (length before.plan.pairs < most_pairs) × IsPair pair.value
 Suits before (Device dev) = (has_name (dev_names before) dev.name ≡ false) × (length before.plan.devs < most_devices) × IsDevice before.plan dev
 Suits before (Class name class) = IsQueueOf before.plan name.pair name.side name.queue × IsClass class
 Suits before StepsBegin = Unit {0}

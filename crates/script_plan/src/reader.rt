@@ -176,7 +176,7 @@ impl Reader {
         match given {
             Given::Nothing => {}
             Given::Host { name } => self.hosts.push(alloc, name.bytes())?,
-            Given::Pair { pair } => self.add_pair(alloc, pair)?,
+            Given::Pair { pair } => self.add_pair(alloc, Box::into_inner(pair))?,
             Given::Device { dev } => self.add_device(alloc, dev)?,
             Given::Class { queue, class } => self.add_class(queue, class)?,
             Given::StepsBegin => self.part = Part::Steps,

@@ -1,7 +1,7 @@
 //! Declarations: hosts, pairs, devices and classes.
 #![tactic(auto, unfolding(script_words::specs::Tests::and_then))]
 
-ghost use Rattle.std.specs.Prelude.{◌≡◌, ◌∷◌, map, codes};
+ghost use Rattle.std.specs.Prelude.{◌≡◌, ◌∷◌, map, codes, IfOk};
 ghost use Rattle.script_words.specs.Compact.{given_of};
 ghost use Rattle.script_words.specs.Declarations as rules;
 ghost use Rattle.script_words.specs.Reads.{Reads, result_map};
@@ -14,9 +14,9 @@ use script_words::options::{goes_together, pair_with, read_settings};
 use script_words::settings::behind_key;
 use script_words::words::{read_array, read_number, read_number_between};
 use script_words::{Cause, Given, LineError};
-use std::alloc::Global;
-use step_kinds::DevPlan;
+use std::alloc::{AllocError, Global};
 use step_kinds::limits::{MOST_DEVICES, MOST_HOSTS, MOST_PAIRS};
+use step_kinds::{DevPlan, PairPlan};
 
 /// `host NAME`
 fn host_line(before: &Reader, name: &[u8]) -> Result<Given, Cause>
@@ -27,6 +27,13 @@ fn host_line(before: &Reader, name: &[u8]) -> Result<Given, Cause>
         return Err(Cause::TooMany);
     }
     Ok(Given::Host { name })
+}
+
+/// A pair in a box.
+fn boxed(alloc: Global, pair: PairPlan) -> Result<Box<PairPlan>, AllocError>
+    ensures { IfOk result (λ boxed. boxed.value ≡ pair) }
+{
+    Ok(Box::new(alloc, pair)?)
 }
 
 /// `pair NAME HOST HOST OPTION..`
@@ -54,7 +61,9 @@ fn pair_line(
     if before.pairs().len() >= MOST_PAIRS {
         return Err(LineError::Fault(Cause::TooMany));
     }
-    Ok(Given::Pair { pair })
+    Ok(Given::Pair {
+        pair: boxed(alloc, pair)?,
+    })
 }
 
 /// A device's threshold behind its key.

@@ -5,23 +5,39 @@ ghost use Rattle.std.specs.List.{slice_split};
 ghost use Rattle.std.specs.Option.{option_map_or};
 ghost use Rattle.script_words.specs.Words as spelled;
 
+use memchr::memchr;
 use script_words::{Given, LineError};
 use std::alloc::AllocError;
 
 /// What a line gives, or why it gives nothing.
 pub type LineResult = Result<Given, LineError>;
 
-/// What stands before the first of such bytes, and what stands behind it where there is one.
+/// What stands before the first of such bytes, and what stands behind it where there is one. A short text is read byte by
+/// byte, which takes less there than a search of many bytes at a time.
 pub fn cut(text: &[u8], at: u8) -> (&[u8], Option<&[u8]>)
     ensures parts { slice_split (λ b. b == at) text.now ≡ result.0.now ∷ option_map_or (λ rest. slice_split (λ b. b == at) rest.now) result.1 [] }
     ensures shorter { IfSome result.1 (λ rest. length rest.now < length text.now) }
 {
+    if text.len() >= 32 {
+        return cut_long(text, at);
+    }
     for (i, byte) in text.iter().enumerate() {
         if *byte == at {
             return (&text[..i], Some(&text[i + 1..]));
         }
     }
     (text, None)
+}
+
+/// The same by a search of many bytes at a time.
+fn cut_long(text: &[u8], at: u8) -> (&[u8], Option<&[u8]>)
+    ensures parts { slice_split (λ b. b == at) text.now ≡ result.0.now ∷ option_map_or (λ rest. slice_split (λ b. b == at) rest.now) result.1 [] }
+    ensures shorter { IfSome result.1 (λ rest. length rest.now < length text.now) }
+{
+    match memchr(at, text) {
+        Some(i) => (&text[..i], Some(&text[i + 1..])),
+        None => (text, None),
+    }
 }
 
 /// A line without the carriage return that may end it.
@@ -55,7 +71,11 @@ pub fn is_skipped(line: &[u8]) -> bool
 pub fn is_text(line: &[u8]) -> bool
     ensures { result ≡ spelled.is_text line.now }
 {
-    line.iter().all(|byte| 32 <= *byte && *byte <= 126)
+    let mut is_text = true;
+    for byte in line {
+        is_text &= 32 <= *byte && *byte <= 126;
+    }
+    is_text
 }
 
 /// Reads the words of a line, what stands between its spaces, into `words` in place of what was there. The only error is

@@ -42,7 +42,7 @@ flood_of lane count len = map (λ i. Send lane (flood_frame len i)) (count_from 
 abbrev pub given_of : Compact → Given
 given_of GivesNothing = Nothing
 given_of (GivesHost name) = Host name
-given_of (GivesPair pair) = APair pair
+given_of (GivesPair pair) = APair pair.value
 given_of (GivesDevice dev) = ADevice dev
 given_of (GivesClass queue class) = AClass queue class
 given_of BeginsSteps = StepsBegin

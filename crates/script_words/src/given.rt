@@ -13,9 +13,9 @@ pub enum Given {
     Host {
         name: Name,
     },
-    /// A pair.
+    /// A pair, in a box: it is far larger than what any other line gives.
     Pair {
-        pair: PairPlan,
+        pair: Box<PairPlan>,
     },
     /// A device.
     Device {
