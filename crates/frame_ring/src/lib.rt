@@ -24,31 +24,17 @@ pub use step_kinds::{Begun, LaneCopy};
 /// there, and LINK_DOWN beside it says that the peer's end of the queue goes down.
 #[derive(Clone, Copy, Debug, PartialEq, Eq)]
 pub enum RingLook {
-    /// An entry stands in the next slot.
-    Ready {
-        /// The number of the entry, counted from 0 in the session.
-        number: u64,
-        /// Its length, in bytes.
-        len: u32,
-    },
+    /// An entry stands in the next slot: its number, counted from 0 in the session, and its length in bytes.
+    Ready { number: u64, len: u32 },
     /// The flags lack DONE.
     Empty,
     /// The flags say LINK_DOWN.
     PeerDown,
-    /// The version isn't the next entry's.
-    VerDiffers {
-        /// The version that stands there.
-        seen: u32,
-        /// The number of the next entry in 32 bits.
-        own: u32,
-    },
-    /// The entry has more bytes than an entry may have, or makes its frame longer than a frame may be.
-    Long {
-        /// The entry's length, or that of its frame so far with it, in bytes.
-        len: u32,
-        /// The most that it may be.
-        max: u32,
-    },
+    /// The version isn't the next entry's: `seen` stands there, and `own` is the number of the next entry in 32 bits.
+    VerDiffers { seen: u32, own: u32 },
+    /// The entry has more bytes than an entry may have, or makes its frame longer than a frame may be: `len` is its length, or
+    /// that of its frame so far with it, and `max` the most that this may be, both in bytes.
+    Long { len: u32, max: u32 },
     /// The receiver is still at another entry: it has not copied, cleared or given back the one that it found.
     OutOfTurn,
 }

@@ -1,12 +1,15 @@
 ghost use Rattle.std.specs.Prelude.{◌≡◌, ◌<◌, ◌≤◌, IfOk, OnOk, length};
-ghost use Rattle.frame_ring.specs.Seen.{FitsRings, HasPagesIn, HasRoomIn};
+ghost use Rattle.frame_ring.specs.Needs.{HasNeedsIn, HasPorts};
+ghost use Rattle.frame_ring.specs.Seen.{HasRoomIn};
 ghost use Rattle.plan_model.specs.DeclaredPlans.{IsPair};
 ghost use Rattle.step_kinds.specs.Limits.{IsMtu, IsQueues, IsSize};
 
 use super::*;
 use bridge_pair::laws::landing_keeps_promises;
 use bridge_pair::{Pair, memory_bytes, own_address, side_plan};
+use call_tables::{one_window, plain_pair};
 use std::alloc::{AllocError, Global};
+use std::process::Abort;
 use std::test::Fail;
 use step_kinds::{Frame, Label, Name, PairPlan, Side, SidePlan};
 
@@ -18,31 +21,15 @@ fn plan(version: u32, queues: u32, size: u64, mtu: u32) -> PairPlan
     requires size { IsSize size }
     requires mtu { IsMtu mtu }
     requires least { 20 ≤ mtu }
-    ensures pair { IsPair result }
-    ensures fits { FitsRings result }
-    ensures a { 0 < result.a.queues }
-    ensures b { 0 < result.b.queues }
+    ensures plan { HasPorts result }
     ensures all_a { result.a.queues ≡ queues }
     ensures all_b { result.b.queues ≡ queues }
 {
     let side = SidePlan {
         version,
-        queues,
-        windows: 1,
-        size,
-        cap: size,
+        ..one_window!(queues, size)
     };
-    PairPlan {
-        name: Name::of_bytes(&[112]),
-        a: side,
-        b: side,
-        mtu,
-        up: true,
-        strict: false,
-        raw: false,
-        class_a: [0; 16],
-        class_b: [0; 16],
-    }
+    plain_pair! { a: side, b: side, mtu: mtu, up: true, strict: false, class_a: [0; 16] }
 }
 
 // How many entries a new ring has free.
@@ -95,13 +82,9 @@ fn sevens(alloc: Global, len: u32) -> Result<Frame, AllocError>
 
 // Posts all writes that are left, of which there are no more than 99: how many there were.
 fn post_all(pair: &mut Pair, port: &mut Port) -> u32
-    requires plan { pair.old.plan ≡ port.old.plan }
-    requires room { HasRoomIn port.old pair.old }
-    requires pages { HasPagesIn port.old pair.old }
+    requires { HasNeedsIn port.old pair.old }
+    ensures needs { HasNeedsIn port.new pair.new }
     ensures same { pair.new.plan ≡ pair.old.plan }
-    ensures plan { pair.new.plan ≡ port.new.plan }
-    ensures room { HasRoomIn port.new pair.new }
-    ensures pages { HasPagesIn port.new pair.new }
 {
     let mut posted = 0;
     for turn in 0..99 {
@@ -114,9 +97,7 @@ fn post_all(pair: &mut Pair, port: &mut Port) -> u32
 
 // The same, and lets them land.
 fn post_and_land(pair: &mut Pair, port: &mut Port) -> u32
-    requires plan { pair.old.plan ≡ port.old.plan }
-    requires room { HasRoomIn port.old pair.old }
-    requires pages { HasPagesIn port.old pair.old }
+    requires { HasNeedsIn port.old pair.old }
     ensures same { pair.new.plan ≡ pair.old.plan }
     ensures plan { pair.new.plan ≡ port.new.plan }
 {
@@ -152,6 +133,13 @@ fn word(pair: &Pair, side: Side, at: u64) -> u32 {
     pair.local_word(side, at)
 }
 
+// Asserts that these words stand at these addresses of a side's memory.
+fn assert_words(rt: &impl Abort, pair: &Pair, side: Side, words: &[(u64, u32)]) {
+    for (at, want) in words {
+        assert_eq!(rt; word(pair, side, *at), *want, "at {at}");
+    }
+}
+
 // A side writes a word into its own memory, where it lies in it.
 fn set_word(pair: &mut Pair, side: Side, at: u64, value: u32) -> Result<(), AllocError>
     ensures { pair.new.plan ≡ pair.old.plan }
@@ -165,16 +153,11 @@ fn set_word(pair: &mut Pair, side: Side, at: u64, value: u32) -> Result<(), Allo
 
 // A frame of so many bytes is begun.
 fn begin_one(alloc: Global, pair: &mut Pair, port: &mut Port, len: u32) -> Result<Begun, AllocError>
-    requires plan { pair.old.plan ≡ port.old.plan }
-    requires fits { FitsRings port.old.plan }
-    requires room { HasRoomIn port.old pair.old }
-    requires pages { HasPagesIn port.old pair.old }
+    requires needs { HasNeedsIn port.old pair.old }
     requires some { 0 < len }
     requires few { len ≤ 65536 }
-    ensures plan { OnOk result (pair.new.plan ≡ port.new.plan) }
+    ensures needs { OnOk result (HasNeedsIn port.new pair.new) }
     ensures same { OnOk result (pair.new.plan ≡ pair.old.plan) }
-    ensures room { OnOk result (HasRoomIn port.new pair.new) }
-    ensures pages { OnOk result (HasPagesIn port.new pair.new) }
 {
     let frame = sevens(alloc, len)?;
     port.begin(pair, frame)
@@ -182,23 +165,16 @@ fn begin_one(alloc: Global, pair: &mut Pair, port: &mut Port, len: u32) -> Resul
 
 // A link-down entry is begun.
 fn down_one(pair: &mut Pair, port: &mut Port) -> Result<Begun, AllocError>
-    requires plan { pair.old.plan ≡ port.old.plan }
-    requires fits { FitsRings port.old.plan }
-    requires room { HasRoomIn port.old pair.old }
-    requires pages { HasPagesIn port.old pair.old }
-    ensures plan { OnOk result (pair.new.plan ≡ port.new.plan) }
+    requires { HasNeedsIn port.old pair.old }
+    ensures needs { OnOk result (HasNeedsIn port.new pair.new) }
     ensures same { OnOk result (pair.new.plan ≡ pair.old.plan) }
-    ensures room { OnOk result (HasRoomIn port.new pair.new) }
-    ensures pages { OnOk result (HasPagesIn port.new pair.new) }
 {
     port.down(pair)
 }
 
 // A new pair, on which side A has sent a frame of so many bytes, and how many writes it took.
 fn sent(alloc: Global, plan: &PairPlan, len: u32) -> Result<(Pair, u32), AllocError>
-    requires pair { IsPair plan.now }
-    requires fits { FitsRings plan.now }
-    requires queue { 0 < plan.now.a.queues }
+    requires plan { HasPorts plan.now }
     requires some { 0 < len }
     requires few { len ≤ 65536 }
     ensures { IfOk result (λ sent. sent.0.plan ≡ plan.now) }
@@ -214,11 +190,8 @@ fn sent(alloc: Global, plan: &PairPlan, len: u32) -> Result<(Pair, u32), AllocEr
 fn an_entry_of_five_bytes(rt: HostRuntime) -> Result<(), Fail> {
     let (pair, posted) = sent(rt.alloc(), &plan(4, 1, 4096, 1023), 5)?;
     assert_eq!(rt; posted, 5);
-    assert_eq!(rt; word(&pair, Side::B, 0), 0x0707_0707);
-    assert_eq!(rt; word(&pair, Side::B, 4), 7);
-    assert_eq!(rt; word(&pair, Side::B, 1011), 0);
-    assert_eq!(rt; word(&pair, Side::B, 1015), 5);
-    assert_eq!(rt; word(&pair, Side::B, 1019), 1);
+    let entry = [(0, 0x0707_0707), (4, 7), (1011, 0), (1015, 5), (1019, 1)];
+    assert_words(&rt, &pair, Side::B, &entry);
     Ok(())
 }
 
@@ -227,13 +200,10 @@ fn two_entries_of_one_frame(rt: HostRuntime) -> Result<(), Fail> {
     let (pair, posted) = sent(rt.alloc(), &plan(5, 1, 4096, 1023), 1008)?;
     // Eight chunks and four writes, and one chunk and four.
     assert_eq!(rt; posted, 17);
-    assert_eq!(rt; word(&pair, Side::B, 1007), 1);
-    assert_eq!(rt; word(&pair, Side::B, 1011), 0);
-    assert_eq!(rt; word(&pair, Side::B, 1015), 1007);
-    assert_eq!(rt; word(&pair, Side::B, 1019), 1);
-    assert_eq!(rt; word(&pair, Side::B, 1023), 7);
-    assert_eq!(rt; word(&pair, Side::B, 2030), 0);
-    assert_eq!(rt; word(&pair, Side::B, 2034), 1);
+    let first = [(1007, 1), (1011, 0), (1015, 1007), (1019, 1)];
+    assert_words(&rt, &pair, Side::B, &first);
+    let second = [(1023, 7), (2030, 0), (2034, 1)];
+    assert_words(&rt, &pair, Side::B, &second);
     Ok(())
 }
 
@@ -251,49 +221,34 @@ fn copied(copy: LaneCopy) -> [u32; 3] {
 
 // The next entry is looked for.
 fn look_one(pair: &mut Pair, port: &mut Port) -> Result<RingLook, AllocError>
-    requires plan { pair.old.plan ≡ port.old.plan }
-    requires room { HasRoomIn port.old pair.old }
-    requires pages { HasPagesIn port.old pair.old }
-    requires fits { FitsRings port.old.plan }
-    ensures plan { OnOk result (pair.new.plan ≡ port.new.plan) }
+    requires { HasNeedsIn port.old pair.old }
+    ensures needs { OnOk result (HasNeedsIn port.new pair.new) }
     ensures same { OnOk result (pair.new.plan ≡ pair.old.plan) }
-    ensures room { OnOk result (HasRoomIn port.new pair.new) }
-    ensures pages { OnOk result (HasPagesIn port.new pair.new) }
 {
     port.look(pair)
 }
 
 // A part of it is copied.
 fn copy_one(pair: &mut Pair, port: &mut Port) -> [u32; 3]
-    requires plan { pair.old.plan ≡ port.old.plan }
-    requires room { HasRoomIn port.old pair.old }
-    requires pages { HasPagesIn port.old pair.old }
-    ensures plan { pair.new.plan ≡ port.new.plan }
+    requires { HasNeedsIn port.old pair.old }
+    ensures needs { HasNeedsIn port.new pair.new }
     ensures same { pair.new.plan ≡ pair.old.plan }
-    ensures room { HasRoomIn port.new pair.new }
-    ensures pages { HasPagesIn port.new pair.new }
 {
     copied(port.copy(pair))
 }
 
 // It is cleared.
 fn clear_one(pair: &mut Pair, port: &mut Port) -> Option<u64>
-    requires plan { pair.old.plan ≡ port.old.plan }
-    requires room { HasRoomIn port.old pair.old }
-    requires pages { HasPagesIn port.old pair.old }
-    ensures plan { pair.new.plan ≡ port.new.plan }
+    requires { HasNeedsIn port.old pair.old }
+    ensures needs { HasNeedsIn port.new pair.new }
     ensures same { pair.new.plan ≡ pair.old.plan }
-    ensures room { HasRoomIn port.new pair.new }
-    ensures pages { HasPagesIn port.new pair.new }
 {
     port.clear(pair)
 }
 
 // It is given back.
 fn ack_one(pair: &mut Pair, port: &mut Port) -> Option<u64>
-    requires plan { pair.old.plan ≡ port.old.plan }
-    requires room { HasRoomIn port.old pair.old }
-    requires pages { HasPagesIn port.old pair.old }
+    requires { HasNeedsIn port.old pair.old }
     ensures { pair.new.plan ≡ pair.old.plan }
 {
     port.ack(pair)
@@ -301,10 +256,8 @@ fn ack_one(pair: &mut Pair, port: &mut Port) -> Option<u64>
 
 // What side B sees, copies, clears and gives back of the next entry.
 fn received(alloc: Global, plan: &PairPlan, pair: &mut Pair) -> Result<String, AllocError>
-    requires plan { pair.old.plan ≡ plan.now }
-    requires pair { IsPair plan.now }
-    requires fits { FitsRings plan.now }
-    requires queue { 0 < plan.now.b.queues }
+    requires same { pair.old.plan ≡ plan.now }
+    requires plan { HasPorts plan.now }
     ensures { OnOk result (pair.new.plan ≡ pair.old.plan) }
 {
     let mut port = Port::new(alloc, plan, Side::B, 0);
@@ -321,8 +274,7 @@ fn an_entry_is_taken(rt: HostRuntime) -> Result<(), Fail> {
     let (mut pair, _posted) = sent(rt.alloc(), &plan, 5)?;
     let want = "Ready { number: 0, len: 5 } [1, 5, 7] Some(0) Some(0)";
     assert_eq!(rt; received(rt.alloc(), &plan, &mut pair)?.as_str(), want);
-    assert_eq!(rt; word(&pair, Side::B, 1015), 5);
-    assert_eq!(rt; word(&pair, Side::B, 1019), 0);
+    assert_words(&rt, &pair, Side::B, &[(1015, 5), (1019, 0)]);
     assert_eq!(rt; word(&pair, Side::A, 4092), 3);
     land_all(&mut pair, Side::B);
     assert_eq!(rt; word(&pair, Side::A, 4092), 0);
@@ -331,10 +283,7 @@ fn an_entry_is_taken(rt: HostRuntime) -> Result<(), Fail> {
 
 // How many entries the ring has free once a frame was begun, and once it was taken and given back.
 fn free_again(alloc: Global, plan: &PairPlan) -> Result<[u32; 2], AllocError>
-    requires pair { IsPair plan.now }
-    requires fits { FitsRings plan.now }
-    requires a { 0 < plan.now.a.queues }
-    requires b { 0 < plan.now.b.queues }
+    requires plan { HasPorts plan.now }
 {
     let mut pair = Pair::new(alloc, plan)?;
     let mut port = Port::new(alloc, plan, Side::A, 0);
@@ -354,9 +303,7 @@ fn an_entry_given_back_is_free(rt: HostRuntime) -> Result<(), Fail> {
 
 // A new pair, on which side A went down, what that answered, and how many writes it took.
 fn gone_down(alloc: Global, plan: &PairPlan) -> Result<(Pair, Begun, u32), AllocError>
-    requires pair { IsPair plan.now }
-    requires fits { FitsRings plan.now }
-    requires a { 0 < plan.now.a.queues }
+    requires plan { HasPorts plan.now }
     ensures { IfOk result (λ gone. gone.0.plan ≡ plan.now) }
 {
     let mut pair = Pair::new(alloc, plan)?;
@@ -372,8 +319,7 @@ fn a_side_goes_down(rt: HostRuntime) -> Result<(), Fail> {
     let (mut pair, begun, posted) = gone_down(rt.alloc(), &plan)?;
     assert_eq!(rt; begun, Begun::Ok { number: 0 });
     assert_eq!(rt; posted, 4);
-    assert_eq!(rt; word(&pair, Side::B, 1015), 0);
-    assert_eq!(rt; word(&pair, Side::B, 1019), 3);
+    assert_words(&rt, &pair, Side::B, &[(1015, 0), (1019, 3)]);
     let want = "PeerDown [2, 0, 0] None None";
     assert_eq!(rt; received(rt.alloc(), &plan, &mut pair)?.as_str(), want);
     Ok(())
@@ -391,9 +337,7 @@ fn reset_one(pair: &mut Pair, port: &mut Port) -> [bool; 2]
 
 // The same of a port that has begun a frame.
 fn refused_till_reset(alloc: Global, plan: &PairPlan) -> Result<[bool; 2], AllocError>
-    requires pair { IsPair plan.now }
-    requires fits { FitsRings plan.now }
-    requires a { 0 < plan.now.a.queues }
+    requires plan { HasPorts plan.now }
 {
     let mut pair = Pair::new(alloc, plan)?;
     let mut port = Port::new(alloc, plan, Side::A, 0);
@@ -412,11 +356,9 @@ fn a_port_is_reset(rt: HostRuntime) -> Result<(), Fail> {
 #[test]
 fn headers_of_other_rings(rt: HostRuntime) -> Result<(), Fail> {
     let (two, _posted) = sent(rt.alloc(), &plan(4, 1, 4096, 65536), 5)?;
-    assert_eq!(rt; word(&two, Side::B, 2038), 5);
-    assert_eq!(rt; word(&two, Side::B, 2042), 1);
+    assert_words(&rt, &two, Side::B, &[(2038, 5), (2042, 1)]);
     let (many, _posted) = sent(rt.alloc(), &plan(4, 1, 268_435_456, 65536), 5)?;
-    assert_eq!(rt; word(&many, Side::B, 65528), 5);
-    assert_eq!(rt; word(&many, Side::B, 65532), 1);
+    assert_words(&rt, &many, Side::B, &[(65528, 5), (65532, 1)]);
     Ok(())
 }
 
@@ -439,9 +381,7 @@ fn index_words_of_new_rings(rt: HostRuntime) -> Result<(), Fail> {
 
 // What a begin of 5 bytes answers on a new ring, where the word at this address says so.
 fn begun_where(alloc: Global, plan: &PairPlan, at: u64, tail: u32) -> Result<Begun, AllocError>
-    requires pair { IsPair plan.now }
-    requires fits { FitsRings plan.now }
-    requires queue { 0 < plan.now.a.queues }
+    requires plan { HasPorts plan.now }
 {
     let mut pair = Pair::new(alloc, plan)?;
     set_word(&mut pair, Side::A, at, tail)?;
@@ -449,14 +389,28 @@ fn begun_where(alloc: Global, plan: &PairPlan, at: u64, tail: u32) -> Result<Beg
     begin_one(alloc, &mut pair, &mut port, 5)
 }
 
+// Asserts that it answers that there is no room, for each of these words.
+fn assert_no_room(
+    rt: &impl Abort,
+    alloc: Global,
+    plan: &PairPlan,
+    at: u64,
+    tails: [u32; 2],
+) -> Result<(), Fail>
+    requires plan { HasPorts plan.now }
+{
+    for tail in tails {
+        let begun = begun_where(alloc, plan, at, tail)?;
+        assert_eq!(rt; begun, Begun::NoRoom { head: 0, tail });
+    }
+    Ok(())
+}
+
 // An index word that names no slot of the ring is no room.
 #[test]
 fn room_in_a_ring_of_four(rt: HostRuntime) -> Result<(), Fail> {
     let plan = plan(4, 1, 4096, 1023);
-    let none = begun_where(rt.alloc(), &plan, 4092, 0)?;
-    assert_eq!(rt; none, Begun::NoRoom { head: 0, tail: 0 });
-    let wild = begun_where(rt.alloc(), &plan, 4092, 4)?;
-    assert_eq!(rt; wild, Begun::NoRoom { head: 0, tail: 4 });
+    assert_no_room(&rt, rt.alloc(), &plan, 4092, [0, 4])?;
     let one = begun_where(rt.alloc(), &plan, 4092, 1)?;
     assert_eq!(rt; one, Begun::Ok { number: 0 });
     Ok(())
@@ -464,35 +418,18 @@ fn room_in_a_ring_of_four(rt: HostRuntime) -> Result<(), Fail> {
 
 #[test]
 fn room_in_a_ring_of_two(rt: HostRuntime) -> Result<(), Fail> {
-    let plan = plan(4, 1, 4096, 65536);
-    let none = begun_where(rt.alloc(), &plan, 4092, 0)?;
-    assert_eq!(rt; none, Begun::NoRoom { head: 0, tail: 0 });
-    let wild = begun_where(rt.alloc(), &plan, 4092, 2)?;
-    assert_eq!(rt; wild, Begun::NoRoom { head: 0, tail: 2 });
-    Ok(())
+    assert_no_room(&rt, rt.alloc(), &plan(4, 1, 4096, 65536), 4092, [0, 2])
 }
 
 #[test]
 fn room_in_a_ring_of_many(rt: HostRuntime) -> Result<(), Fail> {
     let plan = plan(4, 1, 268_435_456, 65536);
-    let none = begun_where(rt.alloc(), &plan, 268_435_452, 0)?;
-    assert_eq!(rt; none, Begun::NoRoom { head: 0, tail: 0 });
-    let wild = begun_where(rt.alloc(), &plan, 268_435_452, 4095)?;
-    assert_eq!(rt;
-        wild,
-        Begun::NoRoom {
-            head: 0,
-            tail: 4095
-        }
-    );
-    Ok(())
+    assert_no_room(&rt, rt.alloc(), &plan, 268_435_452, [0, 4095])
 }
 
 // What begins of 5 bytes answer: of the first frame, before its writes are posted, and after.
 fn begun_thrice(alloc: Global, plan: &PairPlan) -> Result<[Begun; 3], AllocError>
-    requires pair { IsPair plan.now }
-    requires fits { FitsRings plan.now }
-    requires queue { 0 < plan.now.a.queues }
+    requires plan { HasPorts plan.now }
 {
     let mut pair = Pair::new(alloc, plan)?;
     let mut port = Port::new(alloc, plan, Side::A, 0);
@@ -521,9 +458,7 @@ fn a_full_ring_takes_no_frame(rt: HostRuntime) -> Result<(), Fail> {
 
 // What a begin of so many bytes answers on a new ring.
 fn begun_at_once(alloc: Global, plan: &PairPlan, len: u32) -> Result<Begun, AllocError>
-    requires pair { IsPair plan.now }
-    requires fits { FitsRings plan.now }
-    requires queue { 0 < plan.now.a.queues }
+    requires plan { HasPorts plan.now }
     requires some { 0 < len }
     requires few { len ≤ 65536 }
 {
@@ -547,21 +482,15 @@ fn a_frame_that_is_too_long(rt: HostRuntime) -> Result<(), Fail> {
 
 // The next write is posted.
 fn post_one(pair: &mut Pair, port: &mut Port) -> Option<Label>
-    requires plan { pair.old.plan ≡ port.old.plan }
-    requires room { HasRoomIn port.old pair.old }
-    requires pages { HasPagesIn port.old pair.old }
-    ensures plan { pair.new.plan ≡ port.new.plan }
-    ensures room { HasRoomIn port.new pair.new }
-    ensures pages { HasPagesIn port.new pair.new }
+    requires { HasNeedsIn port.old pair.old }
+    ensures { HasNeedsIn port.new pair.new }
 {
     port.post(pair)
 }
 
 // The labels that are posted of a frame of 5 bytes, one after another, till none is left.
 fn labels_posted(alloc: Global, plan: &PairPlan) -> Result<[Option<Label>; 6], AllocError>
-    requires pair { IsPair plan.now }
-    requires fits { FitsRings plan.now }
-    requires queue { 0 < plan.now.a.queues }
+    requires plan { HasPorts plan.now }
 {
     let mut pair = Pair::new(alloc, plan)?;
     let mut port = Port::new(alloc, plan, Side::A, 0);
@@ -603,9 +532,7 @@ fn seen_where(
     at: u64,
     words: [u32; 3],
 ) -> Result<RingLook, AllocError>
-    requires pair { IsPair plan.now }
-    requires fits { FitsRings plan.now }
-    requires queue { 0 < plan.now.b.queues }
+    requires plan { HasPorts plan.now }
     requires near { at < 100000 }
 {
     let mut pair = Pair::new(alloc, plan)?;
@@ -653,10 +580,7 @@ fn an_entry_without_its_flag(rt: HostRuntime) -> Result<(), Fail> {
 
 // What three copies answer of a frame of so many bytes that side A has sent.
 fn copied_thrice(alloc: Global, plan: &PairPlan, len: u32) -> Result<[[u32; 3]; 3], AllocError>
-    requires pair { IsPair plan.now }
-    requires fits { FitsRings plan.now }
-    requires a { 0 < plan.now.a.queues }
-    requires b { 0 < plan.now.b.queues }
+    requires plan { HasPorts plan.now }
     requires some { 0 < len }
     requires few { len ≤ 65536 }
 {
