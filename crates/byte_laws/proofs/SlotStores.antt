@@ -57,6 +57,11 @@ abbrev pub with_word : LaterWord → ℕ → Slot → Slot
 with_word LengthWord len slot = record slot { len = len }
 with_word FlagsWord flags slot = record slot { flags = flags }
 
+-- version, length and flags stand behind one another
+header_order : (five : Bool) → (version_at five + 4 ≤ length_at five) × (length_at five + 4 ≤ flags_at five) × (flags_at five + 4 ≤ header_size five)
+header_order true = (omega arith, omega arith, omega arith)
+header_order false = (omega arith, omega arith, omega arith)
+
 -- what the write of a version fills, and brings
 abbrev pub version_size : Bool → ℕ
 version_size five = if five then 8 else 4
@@ -174,40 +179,30 @@ module _ (rings : Rings) (small : rings.size ≤ rings.cap) (queue : ℕ) (ring 
       let four : length store.bytes ≡ 4 = ap length is ∙ length-word_bytes value in
       word_stored store older 0 (spot_at rings (Header queue n offset 4)) value (omega arith) (omega arith) (ap (λ bytes. take 4 (drop 0 bytes)) is) less
 
+  -- how many entries follow is left by a word behind the version
+  left_kept : (five : Bool) (from : ℕ) (store : Store) (older : List Store) → rings.header ≡ header_size five → version_at five + 4 ≤ from → Fills rings (Header queue n from 4) store
+      → left_in five (word_at_spot rings (Header queue n 0 4) (store ∷ older)) ≡ left_in five (word_at_spot rings (Header queue n 0 4) older)
+  left_kept true from store older size behind fills = field_left from 4 0 store fills (omega arith) (inr (omega arith)) older
+  left_kept false from store older size behind fills = refl
+
   -- a word behind the version
   pub word_stands : (five : Bool) (word : LaterWord) (store : Store) (older : List Store) (slot : Slot) (value : ℕ) → rings.header ≡ header_size five → store.at ≡ spot_at rings (Header queue n (place_of five word) 4)
       → store.bytes ≡ word_bytes value → value < 2 ^ 32 → StandsIn rings five queue n older slot → StandsIn rings five queue n (store ∷ older) (with_word word value slot)
-  word_stands true LengthWord store older slot value size there is less stands =
-      let fills = word_fills 8 store value there is (omega arith) in record {
-        payload = payload_left 8 4 store fills older ∙ stands.payload;
-        left = field_left 8 4 0 store fills (omega arith) (inr (omega arith)) older ∙ stands.left;
-        ver = field_left 8 4 4 store fills (omega arith) (inr (omega arith)) older ∙ stands.ver;
-        len = word_is 8 store older value there is less;
-        flags = field_left 8 4 12 store fills (omega arith) (inl (omega arith)) older ∙ stands.flags;
+  word_stands five LengthWord store older slot value size there is less stands =
+      let fills = word_fills (length_at five) store value there is (omega (arith, header_order five)) in record {
+        payload = payload_left (length_at five) 4 store fills older ∙ stands.payload;
+        left = left_kept five (length_at five) store older size (header_order five).0 fills ∙ stands.left;
+        ver = field_left (length_at five) 4 (version_at five) store fills (omega (arith, header_order five)) (inr (header_order five).0) older ∙ stands.ver;
+        len = word_is (length_at five) store older value there is less;
+        flags = field_left (length_at five) 4 (flags_at five) store fills (omega (arith, header_order five)) (inl (header_order five).1) older ∙ stands.flags;
       }
-  word_stands false LengthWord store older slot value size there is less stands =
-      let fills = word_fills 4 store value there is (omega arith) in record {
-        payload = payload_left 4 4 store fills older ∙ stands.payload;
-        left = stands.left;
-        ver = field_left 4 4 0 store fills (omega arith) (inr (omega arith)) older ∙ stands.ver;
-        len = word_is 4 store older value there is less;
-        flags = field_left 4 4 8 store fills (omega arith) (inl (omega arith)) older ∙ stands.flags;
-      }
-  word_stands true FlagsWord store older slot value size there is less stands =
-      let fills = word_fills 12 store value there is (omega arith) in record {
-        payload = payload_left 12 4 store fills older ∙ stands.payload;
-        left = field_left 12 4 0 store fills (omega arith) (inr (omega arith)) older ∙ stands.left;
-        ver = field_left 12 4 4 store fills (omega arith) (inr (omega arith)) older ∙ stands.ver;
-        len = field_left 12 4 8 store fills (omega arith) (inr (omega arith)) older ∙ stands.len;
-        flags = word_is 12 store older value there is less;
-      }
-  word_stands false FlagsWord store older slot value size there is less stands =
-      let fills = word_fills 8 store value there is (omega arith) in record {
-        payload = payload_left 8 4 store fills older ∙ stands.payload;
-        left = stands.left;
-        ver = field_left 8 4 0 store fills (omega arith) (inr (omega arith)) older ∙ stands.ver;
-        len = field_left 8 4 4 store fills (omega arith) (inr (omega arith)) older ∙ stands.len;
-        flags = word_is 8 store older value there is less;
+  word_stands five FlagsWord store older slot value size there is less stands =
+      let fills = word_fills (flags_at five) store value there is (omega (arith, header_order five)) in record {
+        payload = payload_left (flags_at five) 4 store fills older ∙ stands.payload;
+        left = left_kept five (flags_at five) store older size (omega (arith, header_order five)) fills ∙ stands.left;
+        ver = field_left (flags_at five) 4 (version_at five) store fills (omega (arith, header_order five)) (inr (omega (arith, header_order five))) older ∙ stands.ver;
+        len = field_left (flags_at five) 4 (length_at five) store fills (omega (arith, header_order five)) (inr (header_order five).1) older ∙ stands.len;
+        flags = word_is (flags_at five) store older value there is less;
       }
 
   -- a version, with what follows

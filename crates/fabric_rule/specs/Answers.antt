@@ -35,33 +35,35 @@ abbrev pub of_link : Option LinkRefusal → Answer → Answer
 of_link None done = done
 of_link (Some refusal) done = of_refusal refusal
 
+-- The handshake's answers, in the order of its tests
+
 abbrev pub of_offer : OfferAnswer → Answer
-of_offer (offer.Offered index) = answer.Offered index
-of_offer offer.Already = answer.Already
 of_offer offer.LinkDown = answer.LinkDown
+of_offer offer.Already = answer.Already
+of_offer (offer.Offered index) = answer.Offered index
 
 abbrev pub of_check : CheckAnswer → Answer
-of_check check.Up = answer.Up
-of_check check.Already = answer.Already
 of_check check.LinkDown = answer.LinkDown
+of_check check.Already = answer.Already
 of_check check.NotYet = answer.NotYet
 of_check (check.Version seen own) = answer.Version seen own
 of_check (check.Queues seen own) = answer.Queues seen own
 of_check (check.Windows seen own) = answer.Windows seen own
 of_check (check.Size seen cap) = answer.Size seen cap
+of_check check.Up = answer.Up
 
 abbrev pub of_ready : ReadyAnswer → Answer
-of_ready ready.Ok = answer.Ok
-of_ready ready.Already = answer.Already
-of_ready ready.NotChecked = answer.NotChecked
 of_ready ready.LinkDown = answer.LinkDown
+of_ready ready.NotChecked = answer.NotChecked
+of_ready ready.Already = answer.Already
+of_ready ready.Ok = answer.Ok
 
 abbrev pub of_join : JoinAnswer → Answer
-of_join join.Joined = answer.Joined
-of_join join.Already = answer.Already
-of_join join.NotReady = answer.NotReady
-of_join join.NotYet = answer.NotYet
 of_join join.LinkDown = answer.LinkDown
+of_join join.NotReady = answer.NotReady
+of_join join.Already = answer.Already
+of_join join.NotYet = answer.NotYet
+of_join join.Joined = answer.Joined
 
 abbrev pub of_begin : BeginAnswer → Answer
 of_begin (begin.Ok number) = answer.OkNumber number

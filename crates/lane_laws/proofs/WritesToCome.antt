@@ -217,10 +217,6 @@ pub other_writes_keep : (lost lost_now : List Write) (lost_back : List ℕ) (lan
     → RingLaw lost lost_back lane → RingLaw lost_now lost_back (record lane { flight = flight; todo = todo })
 other_writes_keep lost lost_now lost_back lane flight todo coming none still h =
     record {
-      room = h.room;
-      frames = h.frames;
-      counts = h.counts;
-      receiver = h.receiver;
       coming = coming;
       none_lost = none;
       standing = record {
@@ -231,5 +227,9 @@ other_writes_keep lost lost_now lost_back lane flight todo coming none still h =
           | inr stands ↦ inr stands
         ];
       };
+      room = h.room;
+      frames = h.frames;
+      counts = h.counts;
+      receiver = h.receiver;
       back = h.back;
     }

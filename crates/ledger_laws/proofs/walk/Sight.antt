@@ -248,15 +248,16 @@ module _ (from : Side) (q : ℕ) (pair : PairPart) where
       go B Sender = refl
       go B Receiver = refl
 
-  -- a write that a side posts
-  pub sight-posts : (e : Role) (label : Label)
-      → sight from q (posts pair (side_at from e) label)
+  -- a write that a side posts; bytes that it posts past the transport aren't in sight
+  sight-posted : (e : Role) (label : Label) (poked : List (List ℕ))
+      → let part = side_of pair (side_at from e) in
+      sight from q (if is_up pair.link.state then with_side_part pair (side_at from e) (record part { flight = part.flight ++ label ∷ []; poked = poked }) else pair)
       ≡ posted e label (sight from q pair)
-  sight-posts e label = go (is_up pair.link.state) from e
+  sight-posted e label poked = go (is_up pair.link.state) from e
     where
       go : (up : Bool) (f : Side) (e : Role)
           → let part = side_of pair (side_at f e) in
-          sight f q (if up then with_side_part pair (side_at f e) (record part { flight = part.flight ++ label ∷ [] }) else pair)
+          sight f q (if up then with_side_part pair (side_at f e) (record part { flight = part.flight ++ label ∷ []; poked = poked }) else pair)
           ≡ with_flight e (if up then (end_at (sight f q pair) e).flight ++ label ∷ [] else (end_at (sight f q pair) e).flight) (sight f q pair)
       go true A Sender = refl
       go true A Receiver = refl
@@ -265,22 +266,15 @@ module _ (from : Side) (q : ℕ) (pair : PairPart) where
       go false f Sender = refl
       go false f Receiver = refl
 
-  -- bytes that a side posts past the transport
+  pub sight-posts : (e : Role) (label : Label)
+      → sight from q (posts pair (side_at from e) label)
+      ≡ posted e label (sight from q pair)
+  sight-posts e label = sight-posted e label (side_of pair (side_at from e)).poked
+
   pub sight-posts_raw : (e : Role) (label : Label) (bytes : List ℕ)
       → sight from q (posts_raw pair (side_at from e) label bytes)
       ≡ posted e label (sight from q pair)
-  sight-posts_raw e label bytes = go (is_up pair.link.state) from e
-    where
-      go : (up : Bool) (f : Side) (e : Role)
-          → let part = side_of pair (side_at f e) in
-          sight f q (if up then with_side_part pair (side_at f e) (record part { flight = part.flight ++ label ∷ []; poked = part.poked ++ bytes ∷ [] }) else pair)
-          ≡ with_flight e (if up then (end_at (sight f q pair) e).flight ++ label ∷ [] else (end_at (sight f q pair) e).flight) (sight f q pair)
-      go true A Sender = refl
-      go true A Receiver = refl
-      go true B Sender = refl
-      go true B Receiver = refl
-      go false f Sender = refl
-      go false f Receiver = refl
+  sight-posts_raw e label bytes = sight-posted e label ((side_of pair (side_at from e)).poked ++ bytes ∷ [])
 
   -- the lane's own part, and another lane's
   pub lane-own : (part : LanePart) → lane_of (with_lane pair from q part) from q ≡ part
