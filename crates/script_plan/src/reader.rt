@@ -1,6 +1,6 @@
 //! What the lines so far give.
 
-ghost use Rattle.std.specs.Prelude.{◌≡◌, ◌∷◌, [], ◌++◌, ◌+◌, ◌*◌, ◌<◌, ◌≤◌, false, length, map, sum, count_by, OnOk};
+ghost use Rattle.std.specs.Prelude.{◌≡◌, ◌+◌, ◌<◌, ◌≤◌, false, length, OnOk};
 ghost use Rattle.std.specs.List.{list_any};
 ghost use Rattle.script_words.specs.Declarations.{is_queue};
 
@@ -29,13 +29,11 @@ pub struct Reader {
 }
 
 impl Reader {
-    ghost use Rattle.script_words.specs.Before.{Before, Host, APair, ADevice, AClass, MoreSteps, MoreTraffic, nothing_before, with_given, has_name, pair_names, dev_names};
-    ghost use Rattle.step_kinds.specs.Limits.{most_hosts, most_pairs, most_devices, most_steps, most_traffic_frames, most_traffic_bytes, most_breaks, IsClass};
-    ghost use Rattle.step_kinds.specs.declared.plan.Traffic.TheVariants.{Send, Break};
+    ghost use Rattle.script_words.specs.Before.{Before, APair, ADevice, AClass, MoreSteps, nothing_before, with_given, has_name, pair_names, dev_names};
+    ghost use Rattle.step_kinds.specs.Limits.{most_pairs, most_devices, most_steps, IsClass};
     ghost use Rattle.plan_model.specs.DeclaredPlans.{IsPair, IsDevice, IsQueueOf};
     ghost use Rattle.plan_model.specs.Plans.{pair_plan, dev_plan};
-    ghost use Rattle.plan_model.specs.TrafficPlans.{frames_in, bytes_in, is_break_of};
-    ghost use Rattle.script_words.specs.Compact.{given_of, steps_of, flood_of};
+    ghost use Rattle.script_words.specs.Compact.{given_of, steps_of};
     ghost use Rattle.script_plan.specs.Sound.{Suits};
 
     /// No line was read.
