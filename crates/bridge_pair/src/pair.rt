@@ -3,7 +3,7 @@
 ghost use Rattle.std.specs.Prelude.{◌≡◌, ◌+◌, ◌<◌, ◌≤◌, IfOk, IsOk, OnErr, OnOk, [], length, option_map, slice_get, slice_index};
 ghost use Rattle.std.specs.Result.{result_err};
 ghost use Rattle.bridge_pair.specs.Flights.{Flying, Translates, arrival_of};
-ghost use Rattle.bridge_pair.specs.Pages.{PagesGrow};
+ghost use Rattle.bridge_pair.specs.Pages.{OnlyPagesGrow, PagesGrow};
 ghost use Rattle.bridge_regs.specs.Doorbell.{Doorbell};
 ghost use Rattle.bridge_pair.specs.Words.{AreFreshPages, AreIndexWordsPromised, TouchesIndexWord, WindowsFit};
 ghost use Rattle.host_memory.specs.Memory.{ArePromised, Touches, bytes_at, word_at, word_bytes, written};
@@ -302,8 +302,7 @@ impl Pair {
     /// changes.
     pub fn promise_index_words(&mut self, side: Side) -> Result<(), AllocError>
         requires { WindowsFit self.old.plan side }
-        ensures rest { self.new ≡ with_pages self.old side (pages_of self.new side) }
-        ensures pages { PagesGrow (TouchesIndexWord self.old.plan side) (pages_of self.old side) (pages_of self.new side) }
+        ensures grown { OnlyPagesGrow (TouchesIndexWord self.old.plan side) side self.old self.new }
         ensures ok { OnOk result (AreIndexWordsPromised self.old.plan side (pages_of self.new side)) }
     {
         let queues = side_plan(self.plan(), side).queues;

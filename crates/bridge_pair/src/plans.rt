@@ -157,8 +157,8 @@ pub fn class_among(classes: &[u32; 16], label: Label) -> u32
         | Label::Len { queue, .. }
         | Label::Ver { queue, .. }
         | Label::Flag { queue, .. }
-        | Label::Down { queue, .. }
         | Label::Bell { queue }
+        | Label::Down { queue, .. }
         | Label::Index { queue, .. } => classes.get(queue as usize).copied().unwrap_or(0),
         Label::Pad { .. } | Label::Raw { .. } => 0,
     }

@@ -10,7 +10,7 @@ use crate::laws::{
     landing_keeps_promises, link_steps_keep_promises, own_writes_keep_promises,
     posting_uses_one_promise,
 };
-use call_tables::{assert_answers, follow};
+use call_tables::{assert_answers, follow, one_window, plain_pair};
 use std::alloc::{AllocError, Global};
 use std::process::Abort;
 use std::test::Fail;
@@ -25,24 +25,9 @@ fn plan(up: bool, strict: bool, queues: u32) -> PairPlan
     ensures size { result.b.size ≡ 4096 }
     ensures cap { result.a.cap ≡ 4096 }
 {
-    let side = SidePlan {
-        version: 4,
-        queues,
-        windows: 1,
-        size: 4096,
-        cap: 4096,
-    };
-    PairPlan {
-        name: Name::of_bytes(&[112]),
-        a: side,
-        b: side,
-        mtu: 1023,
-        up,
-        strict,
-        raw: false,
-        class_a: [0, 3, 0, 0, 0, 0, 0, 0, 0, 0, 0, 0, 0, 0, 0, 0],
-        class_b: [0; 16],
-    }
+    let side = one_window!(queues, 4096);
+    let class_a = [0, 3, 0, 0, 0, 0, 0, 0, 0, 0, 0, 0, 0, 0, 0, 0];
+    plain_pair! { a: side, b: side, mtu: 1023, up: up, strict: strict, class_a: class_a }
 }
 
 // The address of so many bytes in the first window of a side's memory, where they lie in it.

@@ -4,49 +4,10 @@ ghost use Rattle.std.specs.Prelude.{◌≡◌, ◌<◌, ◌≤◌, length};
 ghost use Rattle.bridge_pair.specs.Writes.{bell_write, memory_write, most_write_bytes, pad_write};
 
 use std::marker::Model;
-use step_kinds::Label;
+use step_kinds::{InPlace, Label};
 
 /// The bytes of one write to memory, 1 to 128 of them, kept in place. Contracts see their list.
-#[derive(Drop)]
-pub struct WriteBytes {
-    bytes: [u8; 128],
-    len: usize,
-}
-
-impl WriteBytes {
-    /// These 1 to 128 bytes.
-    pub fn of_slice(bytes: &[u8]) -> WriteBytes
-        requires some { 1 ≤ length bytes.now }
-        requires fits { length bytes.now ≤ most_write_bytes }
-        ensures { result ≡ bytes.now }
-    {
-        let mut kept = [0u8; 128];
-        kept[..bytes.len()].copy_from_slice(bytes);
-        WriteBytes {
-            bytes: kept,
-            len: bytes.len(),
-        }
-    }
-
-    /// The bytes.
-    pub fn as_slice(&self) -> &[u8]
-        ensures value { result.now ≡ self.now }
-        ensures some { 1 ≤ length result.now }
-        ensures fits { length result.now ≤ most_write_bytes }
-    {
-        &self.bytes[..self.len]
-    }
-}
-
-impl Model for WriteBytes {
-    ghost use Rattle.std.specs.Prelude.{List, take, ℕ, ◌≤◌};
-
-    ghost Value = { List ℕ };
-
-    ghost view = { λ bytes. take bytes.len bytes.bytes };
-
-    ghost invariant = { λ bytes. (1 ≤ bytes.len) × (bytes.len ≤ 128) };
-}
+pub type WriteBytes = InPlace<128>;
 
 /// Where a posted write goes, by the numbers of the side that posts it.
 #[derive(Drop)]

@@ -2,9 +2,9 @@
 
 ghost use Rattle.std.specs.Prelude.{◌≡◌, ◌+◌, ◌<◌, ◌≤◌, OnOk, replicate};
 ghost use Rattle.std.specs.List.{flat_map};
-ghost use Rattle.bridge_pair.specs.Bridge.{bytes_of, memory_size, pages_of, with_bytes, with_pages};
+ghost use Rattle.bridge_pair.specs.Bridge.{bytes_of, memory_size, pages_of, with_bytes};
 ghost use Rattle.bridge_pair.specs.Ends.{bytes_after};
-ghost use Rattle.bridge_pair.specs.Pages.{PagesGrow};
+ghost use Rattle.bridge_pair.specs.Pages.{OnlyPagesGrow};
 ghost use Rattle.bridge_pair.specs.Words.{WindowsFit};
 ghost use Rattle.byte_model.specs.Addresses.{own_header};
 ghost use Rattle.hand_shake.specs.Headers.{AreHeadersOfPromised, AreHeadersPromised, TouchesHeader, TouchesHeaderOf, ring_stores};
@@ -22,8 +22,7 @@ use step_kinds::{PairPlan, Side};
 /// Promises the pages of all headers of the rings that a side receives in.
 pub fn promise_headers(pair: &mut Pair, side: Side) -> Result<(), AllocError>
     requires { WindowsFit pair.old.plan side }
-    ensures rest { pair.new ≡ with_pages pair.old side (pages_of pair.new side) }
-    ensures pages { PagesGrow (TouchesHeader pair.old.plan side) (pages_of pair.old side) (pages_of pair.new side) }
+    ensures grown { OnlyPagesGrow (TouchesHeader pair.old.plan side) side pair.old pair.new }
     ensures ok { OnOk result (AreHeadersPromised pair.old.plan side (pages_of pair.new side)) }
 {
     let queues = side_plan(pair.plan(), side).queues;
@@ -37,8 +36,7 @@ pub fn promise_headers(pair: &mut Pair, side: Side) -> Result<(), AllocError>
 fn promise_headers_of(pair: &mut Pair, side: Side, queue: u32) -> Result<(), AllocError>
     requires fit { WindowsFit pair.old.plan side }
     requires among { queue < (side_plan_of pair.old.plan side).queues }
-    ensures rest { pair.new ≡ with_pages pair.old side (pages_of pair.new side) }
-    ensures pages { PagesGrow (TouchesHeaderOf pair.old.plan side queue) (pages_of pair.old side) (pages_of pair.new side) }
+    ensures grown { OnlyPagesGrow (TouchesHeaderOf pair.old.plan side queue) side pair.old pair.new }
     ensures ok { OnOk result (AreHeadersOfPromised pair.old.plan side queue (pages_of pair.new side)) }
 {
     let entries = receiving_ring(pair.plan(), side, queue).entries();

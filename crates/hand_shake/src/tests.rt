@@ -4,20 +4,14 @@ ghost use Rattle.plan_model.specs.DeclaredPlans.{IsPair, IsSide};
 
 use super::*;
 use bridge_pair::{Pair, Write, own_address, side_plan};
-use call_tables::{assert_answers, follow};
+use call_tables::{assert_answers, follow, one_window, plain_pair};
 use std::alloc::{AllocError, Global};
 use std::process::Abort;
 use std::test::Fail;
 use step_kinds::{Name, PairPlan, Side, SidePlan};
 
 // A side with one queue and one window of 4,096 bytes.
-const ONE_QUEUE: SidePlan = SidePlan {
-    version: 4,
-    queues: 1,
-    windows: 1,
-    size: 4096,
-    cap: 4096,
-};
+const ONE_QUEUE: SidePlan = one_window!(1, 4096);
 
 const LATER_VERSION: SidePlan = SidePlan {
     version: 5,
@@ -35,20 +29,8 @@ fn plan_with(b: SidePlan) -> PairPlan
     requires size { b.size ≡ 4096 }
     ensures { IsPair result }
 {
-    PairPlan {
-        name: Name::of_bytes(&[112]),
-        a: SidePlan {
-            queues: b.queues,
-            ..ONE_QUEUE
-        },
-        b,
-        mtu: 1023,
-        up: false,
-        strict: true,
-        raw: false,
-        class_a: [0; 16],
-        class_b: [0; 16],
-    }
+    let a = one_window!(b.queues, 4096);
+    plain_pair! { a: a, b: b, mtu: 1023, up: false, strict: true, class_a: [0; 16] }
 }
 
 // A side's check, where the peer's windows fit.

@@ -13,10 +13,11 @@ use Rattle.lane_model.specs.Lane.{Entry}
 use Rattle.lane_model.specs.Tests.{is_cleared, is_copied, is_copying, is_idle}
 use Rattle.plan_model.specs.DeclaredPlans.{IsPair}
 use Rattle.plan_model.specs.Plans.{side_plan}
-use Rattle.bridge_pair.specs.Bridge.{Bridge, flight_of, with_pages}
+use Rattle.bridge_pair.specs.Bridge.{Bridge, flight_of, pages_of, with_pages}
+use Rattle.bridge_pair.specs.Laws.{KeepsPromises}
 use Rattle.frame_ring.specs.Calls.{acked_by, after_ack, after_begin as port_after_begin, after_clear, after_copy, after_down, after_look as port_after_look, after_post, begin_answer as port_begin_answer, cleared_by, down_answer, down_begun, first_posted, frame_begun, last_got, next_begun, posted_by, where_begun}
 use Rattle.frame_ring.specs.Port.{PortState, unused_of}
-use Rattle.frame_ring.specs.Seen.{FitsRings, HasPagesIn, flags_cleared, reaches, ring_posted, window_posted, with_room}
+use Rattle.frame_ring.specs.Seen.{FitsRings, HasPages, HasPagesIn, flags_cleared, reaches, ring_posted, window_posted, with_room}
 use Rattle.frame_ring.proofs.Spare.{unused_cleared, unused_copied}
 use Rattle.queue_pair.specs.Gates.{after_begin, after_look, after_look_answer, after_qpdown, closed_where_begun, look_answer, port_unless, qpdown_answer, sender_refusal}
 use Rattle.queue_pair.specs.Needs.{HasNeeds}
@@ -217,3 +218,17 @@ clear_needs old new before after needs is cleared ready =
       ap (λ (bridge : Bridge). (flight_of bridge old.port.side).spare) cleared,
       cleared_flight old.port before (flags_cleared before old.port.side old.port.queue (last_got old.port.receiving)) (is_copied old.port.receiving.phase) old.port.side refl,
     )) ready
+
+-- What keeps all promises of a pair keeps what a queue needs
+
+pub kept_needs : (queue : QueueState) (before after : Bridge) → KeepsPromises before after → HasNeeds queue before → HasNeeds queue after
+kept_needs queue before after kept needs =
+    let own = queue.port.side in
+    record {
+      plan = kept.plan ∙ needs.plan;
+      fits = needs.fits;
+      room = subst (λ spare. unused_of queue.port ≤ spare) (sym (kept.spare own)) needs.room;
+      pages =
+          subst (λ pages. HasPages queue.port pages (pages_of after (other_side own))) (sym (kept.pages own))
+          (subst (λ pages. HasPages queue.port (pages_of before own) pages) (sym (kept.pages (other_side own))) needs.pages);
+    }

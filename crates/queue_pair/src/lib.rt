@@ -14,37 +14,30 @@ pub use queue::{QueuePair, irq};
 #[derive(Clone, Copy, Debug, PartialEq, Eq)]
 pub enum BeginAnswer {
     /// It was begun, and has this number, counted from 0 in the session.
-    Ok {
-        /// The number.
-        number: u64,
-    },
+    Ok { number: u64 },
     /// The link isn't up.
     LinkDown,
     /// The queue isn't joined on this side.
     NotReady,
     /// The queue is closed on this side.
     Closed,
-    /// The frame is longer than any may be.
-    TooLong {
-        /// The frame's length, in bytes.
-        len: u32,
-        /// The most bytes that a frame may have.
-        max: u32,
-    },
+    /// The frame is longer than any may be: its length and the most that it may be, both in bytes.
+    TooLong { len: u32, max: u32 },
     /// The frame before has writes left to post.
     Busy,
-    /// The ring has fewer entries free than are needed.
-    NoRoom {
-        /// The slot of the next entry.
-        head: u32,
-        /// The index word.
-        tail: u32,
-    },
+    /// The ring has fewer entries free than are needed: `head` is the slot of the next entry, and `tail` the index word.
+    NoRoom { head: u32, tail: u32 },
 }
 
-/// The answer to a look. `NotReady` is tested first, then `Closed`, `OutOfTurn`, `Empty`, `PeerDown`, `VerDiffers`, `Long`.
+/// The answer to a look, in the order in which it is tested; [`LookAnswer::Ready`] comes where no other does.
 #[derive(Clone, Copy, Debug, PartialEq, Eq)]
 pub enum LookAnswer {
+    /// The queue isn't joined on this side.
+    NotReady,
+    /// The queue is closed on this side.
+    Closed,
+    /// Another entry is at hand.
+    OutOfTurn,
     /// An entry stands in the next slot.
     Ready {
         /// The number of the entry, counted from 0 in the session.
@@ -56,24 +49,15 @@ pub enum LookAnswer {
     Empty,
     /// The flags say LINK_DOWN: the queue is closed on this side now.
     PeerDown,
-    /// The version isn't the next entry's.
+    /// The version isn't the next entry's: `seen` stands there, and `own` is the number of the next entry in 32 bits.
     VerDiffers {
-        /// The version that stands there.
         seen: u32,
-        /// The number of the next entry in 32 bits.
         own: u32,
     },
-    /// The entry has more bytes than an entry may have, or makes its frame longer than a frame may be.
+    /// The entry has more bytes than an entry may have, or makes its frame longer than a frame may be: `len` bytes, where
+    /// `max` is the most.
     Long {
-        /// The length, in bytes.
         len: u32,
-        /// The most that it may be.
         max: u32,
     },
-    /// Another entry is at hand.
-    OutOfTurn,
-    /// The queue isn't joined on this side.
-    NotReady,
-    /// The queue is closed on this side.
-    Closed,
 }

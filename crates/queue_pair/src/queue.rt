@@ -35,8 +35,8 @@ impl QueuePair {
 
     /// The queue pair of one of a side's queues, open, with nothing sent and nothing received.
     pub fn new(alloc: Global, plan: &PairPlan, side: Side, queue: u32) -> QueuePair
-        requires declared { IsPair plan.now }
         requires among { queue < (side_plan_of plan.now side).queues }
+        requires declared { IsPair plan.now }
         ensures { result ≡ fresh_queue plan.now side queue }
     {
         QueuePair {
@@ -259,12 +259,12 @@ fn answer_of_look(look: RingLook) -> LookAnswer
     ensures { result ≡ answer_of_ring look }
 {
     match look {
+        RingLook::OutOfTurn => LookAnswer::OutOfTurn,
         RingLook::Ready { number, len } => LookAnswer::Ready { number, len },
         RingLook::Empty => LookAnswer::Empty,
         RingLook::PeerDown => LookAnswer::PeerDown,
         RingLook::VerDiffers { seen, own } => LookAnswer::VerDiffers { seen, own },
         RingLook::Long { len, max } => LookAnswer::Long { len, max },
-        RingLook::OutOfTurn => LookAnswer::OutOfTurn,
     }
 }
 

@@ -1,4 +1,5 @@
-ghost use Rattle.std.specs.Prelude.{◌≡◌, ◌<◌, ◌≤◌, IfOk, OnOk, length, true};
+ghost use Rattle.std.specs.Prelude.{◌≡◌, ◌+◌, ◌<◌, ◌≤◌, IfOk, OnOk, length, true};
+ghost use Rattle.bridge_pair.specs.Bridge.{bytes_of};
 ghost use Rattle.frame_ring.specs.Seen.{FitsRings};
 ghost use Rattle.plan_model.specs.DeclaredPlans.{IsPair};
 ghost use Rattle.queue_pair.specs.Gates.{refuses_answer};
@@ -9,36 +10,38 @@ ghost use Rattle.step_kinds.specs.Limits.{IsMtu};
 use super::*;
 use crate::laws::refuses_where_begin_would;
 use bridge_pair::{Pair, memory_bytes};
+use call_tables::{assert_answers, follow, one_window, plain_pair};
 use std::alloc::{AllocError, Global};
 use std::process::Abort;
 use std::test::Fail;
 use step_kinds::{Frame, Label, LaneCopy, Name, PairPlan, Side, SidePlan};
 
-// Two sides with one queue and one window of 4,096 bytes. With 1,023 bytes a slot they have rings of 4 entries of at most
-// 1,011 bytes, with 65,536 rings of 2 entries of at most 2,034.
-fn plan(up: bool, mtu: u32) -> PairPlan
-    requires mtu { IsMtu mtu }
-    requires least { 20 ≤ mtu }
+// How a pair starts, and its largest entry in bytes.
+#[derive(Clone, Copy)]
+struct Start {
+    up: bool,
+    mtu: u32,
+}
+
+// Rings of 4 entries of at most 1,011 bytes.
+const UP: Start = Start {
+    up: true,
+    mtu: 1023,
+};
+
+const DOWN: Start = Start { up: false, ..UP };
+
+// Rings of 2 entries of at most 2,034 bytes.
+const RINGS_OF_TWO: Start = Start { mtu: 65536, ..UP };
+
+// Two sides with one queue and one window of 4,096 bytes.
+fn plan(start: Start) -> PairPlan
+    requires mtu { IsMtu start.mtu }
+    requires least { 20 ≤ start.mtu }
     ensures { IsPair result }
 {
-    let side = SidePlan {
-        version: 4,
-        queues: 1,
-        windows: 1,
-        size: 4096,
-        cap: 4096,
-    };
-    PairPlan {
-        name: Name::of_bytes(&[112]),
-        a: side,
-        b: side,
-        mtu,
-        up,
-        strict: false,
-        raw: false,
-        class_a: [0; 16],
-        class_b: [0; 16],
-    }
+    let side = one_window!(1, 4096);
+    plain_pair! { a: side, b: side, mtu: start.mtu, up: start.up, strict: false, class_a: [0; 16] }
 }
 
 // A frame of the bytes 1 to 5, or more, all others of which are 7.
@@ -51,14 +54,18 @@ fn bytes(alloc: Global, len: u32) -> Result<Frame, AllocError>
     Ok(Frame::of_vec(bytes))
 }
 
-// What is asked of a queue. Frames have 5 bytes, those in parts 300, and long ones 1,012.
+type Text = Result<String, AllocError>;
+
+// What is asked of a queue. Frames have 5 bytes, those in parts 300, and long ones 1,012. Behind them what is done to the
+// pair: so many writes of a side land, and the link is trained and cut; and a new queue of a side that all calls behind it
+// are made on, where a word may have been written into the side's memory.
 #[derive(Clone, Copy)]
 enum Call {
     Begin,
     BeginParts,
     BeginLong,
     Down,
-    Post,
+    PostAll,
     Look,
     Copy,
     Clear,
@@ -67,6 +74,12 @@ enum Call {
     RefusesLong,
     Free,
     Reset,
+    Land(Side, u32),
+    Train,
+    Cut,
+    Word(Side, u64),
+    At(Side),
+    AtWith(Side, u64, u32),
 }
 
 fn begin(pair: &mut Pair, queue: &mut QueuePair, frame: Frame) -> Result<BeginAnswer, AllocError>
@@ -109,7 +122,7 @@ fn copy(pair: &Pair, queue: &mut QueuePair) -> LaneCopy
 }
 
 // Of a frame that was copied whole its number, its length, its first byte and its last.
-fn copied(alloc: Global, copy: LaneCopy) -> Result<String, AllocError> {
+fn copied(alloc: Global, copy: LaneCopy) -> Text {
     match copy {
         LaneCopy::Whole { number, frame } => {
             let (first, last) = (frame.bytes().first(), frame.bytes().last());
@@ -140,51 +153,18 @@ fn reset(pair: &mut Pair, queue: &mut QueuePair)
     queue.reset(pair);
 }
 
-// Calls that take memory.
-fn make(
-    alloc: Global,
-    pair: &mut Pair,
-    queue: &mut QueuePair,
-    call: Call,
-) -> Result<String, AllocError>
+// Posts all writes that are left, of which there are no more than nine: their labels.
+fn post_all(alloc: Global, pair: &mut Pair, queue: &mut QueuePair) -> Text
     requires { HasNeeds queue.old pair.old }
     ensures { OnOk result (HasNeeds queue.new pair.new) }
 {
-    let len = match call {
-        Call::Begin => 5,
-        Call::BeginParts => 300,
-        Call::BeginLong => 1012,
-        Call::Down => return format!(in alloc; "{:?}", qpdown(pair, queue)?),
-        Call::Look => return format!(in alloc; "{:?}", look(pair, queue)?),
-        _ => return make_more(alloc, pair, queue, call),
-    };
-    let frame = bytes(alloc, len)?;
-    format!(in alloc; "{:?}", begin(pair, queue, frame)?)
-}
-
-// All others.
-fn make_more(
-    alloc: Global,
-    pair: &mut Pair,
-    queue: &mut QueuePair,
-    call: Call,
-) -> Result<String, AllocError>
-    requires { HasNeeds queue.old pair.old }
-    ensures { OnOk result (HasNeeds queue.new pair.new) }
-{
-    match call {
-        Call::Post => format!(in alloc; "{:?}", post(pair, queue)),
-        Call::Copy => copied(alloc, copy(pair, queue)),
-        Call::Clear => format!(in alloc; "{:?}", clear(pair, queue)),
-        Call::Ack => format!(in alloc; "{:?}", ack(pair, queue)),
-        Call::Refuses => format!(in alloc; "{}", queue.refuses(pair, 5)),
-        Call::RefusesLong => format!(in alloc; "{}", queue.refuses(pair, 1012)),
-        Call::Free => format!(in alloc; "{}", queue.free(pair)),
-        _ => {
-            reset(pair, queue);
-            Ok(String::new(alloc))
+    let mut labels = Vec::new(alloc);
+    for _ in 0..9 {
+        if let Some(label) = post(pair, queue) {
+            labels.push(label)?;
         }
     }
+    format!(in alloc; "{:?}", labels)
 }
 
 // Whether the rings of a pair fit.
@@ -204,244 +184,290 @@ fn fresh(alloc: Global, pair: &Pair, side: Side) -> QueuePair
     QueuePair::new(alloc, pair.plan(), side, 0)
 }
 
-// Makes these calls one after another on a new queue of a side, each of which is to answer what stands beside it.
-fn follow(
-    rt: &impl Abort,
-    alloc: Global,
-    pair: &mut Pair,
-    side: Side,
-    calls: &[(Call, &str)],
-) -> Result<(), Fail> {
-    assert!(rt; fits(pair.plan()));
-    let mut queue = fresh(alloc, pair, side);
-    for (call, want) in calls {
-        let answer = make(alloc, pair, &mut queue, *call)?;
-        assert_eq!(rt; answer.as_str(), *want);
-    }
-    Ok(())
+// A new queue of a side is in the queue's place.
+fn restart(alloc: Global, pair: &Pair, queue: &mut QueuePair, side: Side)
+    requires { FitsRings pair.now.plan }
+    ensures { HasNeeds queue.new pair.now }
+{
+    *queue = fresh(alloc, pair, side);
 }
 
-// So many of a side's writes land.
-fn land(pair: &mut Pair, side: Side, count: u32) {
+// The first of a side's writes lands.
+fn land_one(pair: &mut Pair, queue: &QueuePair, side: Side)
+    requires { HasNeeds queue.now pair.old }
+    ensures { HasNeeds queue.now pair.new }
+{
+    let _queue = queue;
+    let _landed = pair.land(side, 0);
+}
+
+// So many of them land.
+fn land(pair: &mut Pair, queue: &QueuePair, side: Side, count: u32)
+    requires { HasNeeds queue.now pair.old }
+    ensures { HasNeeds queue.now pair.new }
+{
     for _ in 0..count {
-        let _landed = pair.land(side, 0);
+        land_one(pair, queue, side);
     }
 }
 
-// The four bytes at an address of a side's memory, where they lie in it.
+// Both sides enable the link, and it comes up.
+fn train(pair: &mut Pair, queue: &QueuePair)
+    requires { HasNeeds queue.now pair.old }
+    ensures { HasNeeds queue.now pair.new }
+{
+    let _queue = queue;
+    let _enabled = (pair.enable(Side::A), pair.enable(Side::B));
+    let _trained = pair.train();
+}
+
+fn cut(pair: &mut Pair, queue: &QueuePair)
+    requires { HasNeeds queue.now pair.old }
+    ensures { HasNeeds queue.now pair.new }
+{
+    let _queue = queue;
+    let _cut = pair.cut();
+}
+
+// Whether the four bytes at an address lie in a side's memory.
+fn has_word(pair: &Pair, side: Side, at: u64) -> bool
+    ensures { result ≡ true → at + 4 ≤ length (bytes_of pair.now side) }
+{
+    4 <= memory_bytes(pair.plan(), side) && at <= memory_bytes(pair.plan(), side) - 4
+}
+
+// What stands there.
 fn word(pair: &Pair, side: Side, at: u64) -> Option<u32> {
-    let few = memory_bytes(pair.plan(), side) < 4 || memory_bytes(pair.plan(), side) - 4 < at;
-    if few {
-        None
-    } else {
+    if has_word(pair, side, at) {
         Some(pair.local_word(side, at))
+    } else {
+        None
     }
 }
 
-// They are written there.
-fn set_word(pair: &mut Pair, side: Side, at: u64, value: u32) -> Result<(), AllocError> {
-    if 4 <= memory_bytes(pair.plan(), side) && at <= memory_bytes(pair.plan(), side) - 4 {
+// It is written there.
+fn set_word(pair: &mut Pair, side: Side, at: u64, value: u32) -> Result<(), AllocError>
+    ensures { pair.new.plan ≡ pair.old.plan }
+{
+    if has_word(pair, side, at) {
         pair.promise_range(side, at, 4)?;
         pair.set_local_word(side, at, value);
     }
     Ok(())
 }
 
-const CHUNK: &str = "Some(Chunk { queue: 0, number: 0, part: 0 })";
+// Calls that take memory.
+fn make(alloc: Global, pair: &mut Pair, queue: &mut QueuePair, call: Call) -> Text
+    requires { HasNeeds queue.old pair.old }
+    ensures { OnOk result (HasNeeds queue.new pair.new) }
+{
+    let len = match call {
+        Call::Begin => 5,
+        Call::BeginParts => 300,
+        Call::BeginLong => 1012,
+        Call::Down => return format!(in alloc; "{:?}", qpdown(pair, queue)?),
+        Call::Look => return format!(in alloc; "{:?}", look(pair, queue)?),
+        _ => return make_more(alloc, pair, queue, call),
+    };
+    let frame = bytes(alloc, len)?;
+    format!(in alloc; "{:?}", begin(pair, queue, frame)?)
+}
 
-const LEN: &str = "Some(Len { queue: 0, number: 0 })";
+// All others.
+fn make_more(alloc: Global, pair: &mut Pair, queue: &mut QueuePair, call: Call) -> Text
+    requires { HasNeeds queue.old pair.old }
+    ensures { OnOk result (HasNeeds queue.new pair.new) }
+{
+    match call {
+        Call::PostAll => post_all(alloc, pair, queue),
+        Call::Copy => copied(alloc, copy(pair, queue)),
+        Call::Clear => format!(in alloc; "{:?}", clear(pair, queue)),
+        Call::Ack => format!(in alloc; "{:?}", ack(pair, queue)),
+        Call::Refuses => format!(in alloc; "{}", queue.refuses(pair, 5)),
+        Call::RefusesLong => format!(in alloc; "{}", queue.refuses(pair, 1012)),
+        Call::Free => format!(in alloc; "{}", queue.free(pair)),
+        Call::Reset => {
+            reset(pair, queue);
+            Ok(String::new(alloc))
+        }
+        _ => on_pair(alloc, pair, queue, call),
+    }
+}
 
-const VER: &str = "Some(Ver { queue: 0, number: 0 })";
+// What is done to the pair, or on a new queue of it.
+fn on_pair(alloc: Global, pair: &mut Pair, queue: &mut QueuePair, call: Call) -> Text
+    requires { HasNeeds queue.old pair.old }
+    ensures { OnOk result (HasNeeds queue.new pair.new) }
+{
+    match call {
+        Call::Land(side, count) => land(pair, queue, side, count),
+        Call::Train => train(pair, queue),
+        Call::Cut => cut(pair, queue),
+        Call::Word(side, at) => return format!(in alloc; "{:?}", word(pair, side, at)),
+        Call::At(side) => restart(alloc, pair, queue, side),
+        Call::AtWith(side, at, value) => {
+            set_word(pair, side, at, value)?;
+            restart(alloc, pair, queue, side);
+        }
+        _ => {}
+    }
+    Ok(String::new(alloc))
+}
 
-const FLAG: &str = "Some(Flag { queue: 0, number: 0 })";
+// Makes these calls one after another on a new queue of side A of a new pair, each of which is to answer what stands beside
+// it.
+fn follow(rt: &impl Abort, alloc: Global, start: Start, calls: &[(Call, &str)]) -> Result<(), Fail>
+    requires mtu { IsMtu start.mtu }
+    requires least { 20 ≤ start.mtu }
+{
+    let mut pair = Pair::new(alloc, &plan(start))?;
+    assert!(rt; fits(pair.plan()));
+    let mut queue = fresh(alloc, &pair, Side::A);
+    assert_answers!(rt; calls, call => make(alloc, &mut pair, &mut queue, *call)?);
+    Ok(())
+}
 
-const DOWN: &str = "Some(Down { queue: 0, number: 0 })";
+// The writes of a frame of 5 bytes, of one of 300, and of a link-down entry.
+const FRAME_POSTED: &str =
+    "[Chunk { queue: 0, number: 0, part: 0 }, Len { queue: 0, number: 0 }, Ver { queue: 0, number: 0 }, Flag { queue: 0, number: 0 }, Bell { queue: 0 }]";
 
-const BELL: &str = "Some(Bell { queue: 0 })";
+const PARTS_POSTED: &str =
+    "[Chunk { queue: 0, number: 0, part: 0 }, Chunk { queue: 0, number: 0, part: 1 }, Chunk { queue: 0, number: 0, part: 2 }, Len { queue: 0, number: 0 }, Ver { queue: 0, number: 0 }, Flag { queue: 0, number: 0 }, Bell { queue: 0 }]";
+
+const DOWN_POSTED: &str =
+    "[Len { queue: 0, number: 0 }, Ver { queue: 0, number: 0 }, Down { queue: 0, number: 0 }, Bell { queue: 0 }]";
 
 #[test]
 fn a_frame_is_begun_and_posted(rt: HostRuntime) -> Result<(), Fail> {
-    let mut pair = Pair::new(rt.alloc(), &plan(true, 1023))?;
-    let calls = [
-        (Call::Free, "3"),
-        (Call::RefusesLong, "true"),
-        (Call::BeginLong, "TooLong { len: 1012, max: 1011 }"),
-        (Call::Refuses, "false"),
-        (Call::Begin, "Ok { number: 0 }"),
-        (Call::Refuses, "true"),
-        (Call::Begin, "Busy"),
-        (Call::Free, "2"),
-        (Call::Post, CHUNK),
-        (Call::Post, LEN),
-        (Call::Post, VER),
-        (Call::Post, FLAG),
-        (Call::Post, BELL),
-        (Call::Post, "None"),
-    ];
-    follow(&rt, rt.alloc(), &mut pair, Side::A, &calls)
-}
-// Side A sends a frame of 5 bytes.
-fn send(rt: &impl Abort, alloc: Global, pair: &mut Pair) -> Result<(), Fail> {
-    let sent = [
-        (Call::Begin, "Ok { number: 0 }"),
-        (Call::Post, CHUNK),
-        (Call::Post, LEN),
-        (Call::Post, VER),
-        (Call::Post, FLAG),
-        (Call::Post, BELL),
-    ];
-    follow(rt, alloc, pair, Side::A, &sent)
+    follow! { rt, UP;
+        Free => "3",
+        RefusesLong => "true",
+        BeginLong => "TooLong { len: 1012, max: 1011 }",
+        Refuses => "false",
+        Begin => "Ok { number: 0 }",
+        Refuses => "true",
+        Begin => "Busy",
+        Free => "2",
+        PostAll => FRAME_POSTED,
+    }
 }
 
 // The header of slot 0 and the index word that gives the entry back.
 #[test]
 fn a_frame_is_received(rt: HostRuntime) -> Result<(), Fail> {
-    let mut pair = Pair::new(rt.alloc(), &plan(true, 1023))?;
-    send(&rt, rt.alloc(), &mut pair)?;
-    land(&mut pair, Side::A, 4);
-    assert_eq!(rt; word(&pair, Side::B, 1011), Some(0));
-    assert_eq!(rt; word(&pair, Side::B, 1015), Some(5));
-    assert_eq!(rt; word(&pair, Side::B, 1019), Some(1));
-    let received = [
-        (Call::Look, "Ready { number: 0, len: 5 }"),
-        (Call::Look, "OutOfTurn"),
-        (Call::Ack, "None"),
-        (Call::Clear, "None"),
-        (Call::Copy, "0 5 Some(1) Some(5)"),
-        (Call::Copy, "OutOfTurn"),
-        (Call::Clear, "Some(0)"),
-        (Call::Clear, "None"),
-        (Call::Ack, "Some(0)"),
-        (Call::Ack, "None"),
-        (Call::Look, "Empty"),
-    ];
-    follow(&rt, rt.alloc(), &mut pair, Side::B, &received)?;
-    assert_eq!(rt; word(&pair, Side::B, 1019), Some(0));
-    assert_eq!(rt; word(&pair, Side::A, 4092), Some(3));
-    land(&mut pair, Side::B, 1);
-    assert_eq!(rt; word(&pair, Side::A, 4092), Some(0));
-    Ok(())
+    follow! { rt, UP;
+        Word(Side::B, 1019) => "Some(0)",
+        Begin => "Ok { number: 0 }",
+        PostAll => FRAME_POSTED,
+        Land(Side::A, 4) => "",
+        Word(Side::B, 1011) => "Some(0)",
+        Word(Side::B, 1015) => "Some(5)",
+        Word(Side::B, 1019) => "Some(1)",
+        At(Side::B) => "",
+        Look => "Ready { number: 0, len: 5 }",
+        Look => "OutOfTurn",
+        Ack => "None",
+        Clear => "None",
+        Copy => "0 5 Some(1) Some(5)",
+        Copy => "OutOfTurn",
+        Clear => "Some(0)",
+        Clear => "None",
+        Ack => "Some(0)",
+        Ack => "None",
+        Look => "Empty",
+        Word(Side::B, 1019) => "Some(0)",
+        Word(Side::A, 4092) => "Some(3)",
+        Land(Side::B, 1) => "",
+        Word(Side::A, 4092) => "Some(0)",
+    }
 }
 
 #[test]
 fn a_frame_of_three_parts(rt: HostRuntime) -> Result<(), Fail> {
-    let mut pair = Pair::new(rt.alloc(), &plan(true, 1023))?;
-    let sent = [
-        (Call::BeginParts, "Ok { number: 0 }"),
-        (Call::Post, CHUNK),
-        (Call::Post, "Some(Chunk { queue: 0, number: 0, part: 1 })"),
-        (Call::Post, "Some(Chunk { queue: 0, number: 0, part: 2 })"),
-        (Call::Post, LEN),
-        (Call::Post, VER),
-        (Call::Post, FLAG),
-    ];
-    follow(&rt, rt.alloc(), &mut pair, Side::A, &sent)?;
-    land(&mut pair, Side::A, 6);
-    let received = [
-        (Call::Look, "Ready { number: 0, len: 300 }"),
-        (Call::Copy, "Part { number: 0, part: 0 }"),
-        (Call::Copy, "Part { number: 0, part: 1 }"),
-        (Call::Copy, "0 300 Some(1) Some(7)"),
-        (Call::Clear, "Some(0)"),
-        (Call::Ack, "Some(0)"),
-    ];
-    follow(&rt, rt.alloc(), &mut pair, Side::B, &received)
+    follow! { rt, UP;
+        BeginParts => "Ok { number: 0 }",
+        PostAll => PARTS_POSTED,
+        Land(Side::A, 6) => "",
+        At(Side::B) => "",
+        Look => "Ready { number: 0, len: 300 }",
+        Copy => "Part { number: 0, part: 0 }",
+        Copy => "Part { number: 0, part: 1 }",
+        Copy => "0 300 Some(1) Some(7)",
+        Clear => "Some(0)",
+        Ack => "Some(0)",
+    }
 }
 
 #[test]
 fn a_link_down_entry_closes_the_queue(rt: HostRuntime) -> Result<(), Fail> {
-    let mut pair = Pair::new(rt.alloc(), &plan(true, 1023))?;
-    let sent = [
-        (Call::Down, "Ok { number: 0 }"),
-        (Call::Down, "Closed"),
-        (Call::Begin, "Closed"),
-        (Call::Refuses, "true"),
-        (Call::Look, "Closed"),
-        (Call::Post, LEN),
-        (Call::Post, VER),
-        (Call::Post, DOWN),
-        (Call::Post, BELL),
-        (Call::Post, "None"),
-        (Call::Reset, ""),
-        (Call::Free, "3"),
-        (Call::Begin, "Ok { number: 0 }"),
-        (Call::Reset, ""),
-    ];
-    follow(&rt, rt.alloc(), &mut pair, Side::A, &sent)?;
-    land(&mut pair, Side::A, 3);
-    let received = [
-        (Call::Look, "PeerDown"),
-        (Call::Look, "Closed"),
-        (Call::Begin, "Closed"),
-        (Call::Reset, ""),
-        (Call::Begin, "Ok { number: 0 }"),
-        (Call::Look, "PeerDown"),
-    ];
-    follow(&rt, rt.alloc(), &mut pair, Side::B, &received)?;
-    assert_eq!(rt; word(&pair, Side::B, 1019), Some(3));
-    Ok(())
+    follow! { rt, UP;
+        Down => "Ok { number: 0 }",
+        Down => "Closed",
+        Begin => "Closed",
+        Refuses => "true",
+        Look => "Closed",
+        PostAll => DOWN_POSTED,
+        Reset => "",
+        Free => "3",
+        Begin => "Ok { number: 0 }",
+        Reset => "",
+        Land(Side::A, 3) => "",
+        At(Side::B) => "",
+        Look => "PeerDown",
+        Look => "Closed",
+        Begin => "Closed",
+        Reset => "",
+        Begin => "Ok { number: 0 }",
+        Look => "PeerDown",
+        Word(Side::B, 1019) => "Some(3)",
+    }
 }
 
-// Rings of 2 entries, of which one stays free.
+// One entry of two stays free.
 #[test]
 fn a_ring_without_room(rt: HostRuntime) -> Result<(), Fail> {
-    let mut pair = Pair::new(rt.alloc(), &plan(true, 65536))?;
-    let sent = [
-        (Call::Free, "1"),
-        (Call::RefusesLong, "false"),
-        (Call::Begin, "Ok { number: 0 }"),
-        (Call::Post, CHUNK),
-        (Call::Post, LEN),
-        (Call::Post, VER),
-        (Call::Post, FLAG),
-        (Call::Post, BELL),
-        (Call::Free, "0"),
-        (Call::Begin, "NoRoom { head: 1, tail: 1 }"),
-        (Call::Down, "NoRoom { head: 1, tail: 1 }"),
-        (Call::Refuses, "false"),
-    ];
-    follow(&rt, rt.alloc(), &mut pair, Side::A, &sent)
+    follow! { rt, RINGS_OF_TWO;
+        Free => "1",
+        RefusesLong => "false",
+        Begin => "Ok { number: 0 }",
+        PostAll => FRAME_POSTED,
+        Free => "0",
+        Begin => "NoRoom { head: 1, tail: 1 }",
+        Down => "NoRoom { head: 1, tail: 1 }",
+        Refuses => "false",
+    }
 }
 
 // An index word that names no slot of the ring is no room.
 #[test]
 fn room_by_the_index_word(rt: HostRuntime) -> Result<(), Fail> {
-    let mut pair = Pair::new(rt.alloc(), &plan(true, 1023))?;
-    set_word(&mut pair, Side::A, 4092, 0)?;
-    let none = [
-        (Call::Free, "0"),
-        (Call::Begin, "NoRoom { head: 0, tail: 0 }"),
-    ];
-    follow(&rt, rt.alloc(), &mut pair, Side::A, &none)?;
-    set_word(&mut pair, Side::A, 4092, 4)?;
-    let wild = [
-        (Call::Free, "0"),
-        (Call::Begin, "NoRoom { head: 0, tail: 4 }"),
-    ];
-    follow(&rt, rt.alloc(), &mut pair, Side::A, &wild)?;
-    set_word(&mut pair, Side::A, 4092, 1)?;
-    let one = [(Call::Free, "1"), (Call::Begin, "Ok { number: 0 }")];
-    follow(&rt, rt.alloc(), &mut pair, Side::A, &one)
+    follow! { rt, UP;
+        AtWith(Side::A, 4092, 0) => "",
+        Free => "0",
+        Begin => "NoRoom { head: 0, tail: 0 }",
+        AtWith(Side::A, 4092, 4) => "",
+        Free => "0",
+        Begin => "NoRoom { head: 0, tail: 4 }",
+        AtWith(Side::A, 4092, 1) => "",
+        Free => "1",
+        Begin => "Ok { number: 0 }",
+    }
 }
 
 // Version, length and flags of slot 0 as anyone might have written them.
 #[test]
 fn an_entry_by_its_header(rt: HostRuntime) -> Result<(), Fail> {
-    let mut pair = Pair::new(rt.alloc(), &plan(true, 1023))?;
-    set_word(&mut pair, Side::B, 1011, 7)?;
-    set_word(&mut pair, Side::B, 1019, 1)?;
-    let other = [(Call::Look, "VerDiffers { seen: 7, own: 0 }")];
-    follow(&rt, rt.alloc(), &mut pair, Side::B, &other)?;
-    set_word(&mut pair, Side::B, 1011, 0)?;
-    set_word(&mut pair, Side::B, 1015, 1012)?;
-    let long = [(Call::Look, "Long { len: 1012, max: 1011 }")];
-    follow(&rt, rt.alloc(), &mut pair, Side::B, &long)?;
-    set_word(&mut pair, Side::B, 1015, 2)?;
-    let two = [
-        (Call::Look, "Ready { number: 0, len: 2 }"),
-        (Call::Copy, "0 2 Some(0) Some(0)"),
-    ];
-    follow(&rt, rt.alloc(), &mut pair, Side::B, &two)
+    follow! { rt, UP;
+        AtWith(Side::B, 1011, 7) => "",
+        AtWith(Side::B, 1019, 1) => "",
+        Look => "VerDiffers { seen: 7, own: 0 }",
+        AtWith(Side::B, 1011, 0) => "",
+        AtWith(Side::B, 1015, 1012) => "",
+        Look => "Long { len: 1012, max: 1011 }",
+        AtWith(Side::B, 1015, 2) => "",
+        Look => "Ready { number: 0, len: 2 }",
+        Copy => "0 2 Some(0) Some(0)",
+    }
 }
 
 // Whether a begin was refused for another reason than want of room.
@@ -462,9 +488,12 @@ fn is_refused(alloc: Global, pair: &mut Pair, queue: &mut QueuePair) -> Result<b
     Ok(is_refusal(answer))
 }
 
-// The same of a new queue of a pair that starts up or down.
-fn refused_at_once(rt: &impl Abort, alloc: Global, up: bool) -> Result<bool, Fail> {
-    let mut pair = Pair::new(alloc, &plan(up, 1023))?;
+// The same of a new queue of a pair that starts so.
+fn refused_at_once(rt: &impl Abort, alloc: Global, start: Start) -> Result<bool, Fail>
+    requires mtu { IsMtu start.mtu }
+    requires least { 20 ≤ start.mtu }
+{
+    let mut pair = Pair::new(alloc, &plan(start))?;
     assert!(rt; fits(pair.plan()));
     let mut queue = fresh(alloc, &pair, Side::A);
     Ok(is_refused(alloc, &mut pair, &mut queue)?)
@@ -472,40 +501,38 @@ fn refused_at_once(rt: &impl Abort, alloc: Global, up: bool) -> Result<bool, Fai
 
 #[test]
 fn a_refusal_is_said_before(rt: HostRuntime) -> Result<(), Fail> {
-    assert!(rt; refused_at_once(&rt, rt.alloc(), false)?);
-    assert!(rt; !refused_at_once(&rt, rt.alloc(), true)?);
+    assert!(rt; refused_at_once(&rt, rt.alloc(), DOWN)?);
+    assert!(rt; !refused_at_once(&rt, rt.alloc(), UP)?);
     Ok(())
 }
 
 #[test]
 fn a_link_that_is_not_up(rt: HostRuntime) -> Result<(), Fail> {
-    let mut pair = Pair::new(rt.alloc(), &plan(false, 1023))?;
-    let down = [
-        (Call::Begin, "LinkDown"),
-        (Call::Down, "LinkDown"),
-        (Call::Refuses, "true"),
-        (Call::Post, "None"),
-        (Call::Look, "NotReady"),
-    ];
-    follow(&rt, rt.alloc(), &mut pair, Side::A, &down)?;
-    let _enabled = (pair.enable(Side::A), pair.enable(Side::B));
-    assert!(rt; pair.train().is_ok());
-    let unready = [
-        (Call::BeginLong, "NotReady"),
-        (Call::Down, "NotReady"),
-        (Call::Look, "NotReady"),
-    ];
-    follow(&rt, rt.alloc(), &mut pair, Side::A, &unready)?;
-    let mut pair = Pair::new(rt.alloc(), &plan(true, 1023))?;
-    assert!(rt; pair.cut().is_ok());
-    let closing = [(Call::Begin, "LinkDown"), (Call::Look, "Empty")];
-    follow(&rt, rt.alloc(), &mut pair, Side::A, &closing)?;
-    Ok(())
+    follow! { rt, DOWN;
+        Begin => "LinkDown",
+        Down => "LinkDown",
+        Refuses => "true",
+        PostAll => "[]",
+        Look => "NotReady",
+        Train => "",
+        BeginLong => "NotReady",
+        Down => "NotReady",
+        Look => "NotReady",
+    }
+}
+
+#[test]
+fn a_link_that_is_closing(rt: HostRuntime) -> Result<(), Fail> {
+    follow! { rt, UP;
+        Cut => "",
+        Begin => "LinkDown",
+        Look => "Empty",
+    }
 }
 
 #[test]
 fn an_interrupt_takes_what_is_not_masked(rt: HostRuntime) -> Result<(), Fail> {
-    let mut pair = Pair::new(rt.alloc(), &plan(true, 1023))?;
+    let mut pair = Pair::new(rt.alloc(), &plan(UP))?;
     pair.bells(Side::B).ring(0);
     pair.bells(Side::B).ring(3);
     pair.bells(Side::B).mask(8);

@@ -2,8 +2,8 @@ use Rattle.std.proofs.Common.{◌≡◌, ℕ, ◌<◌}
 use Rattle.byte_model.specs.Addresses.{own_index_word}
 use Rattle.host_memory.specs.Memory.{ArePromised}
 use Rattle.plan_model.specs.Plans.{side_plan}
-use Rattle.bridge_pair.specs.Bridge.{pages_of, with_pages}
-use Rattle.bridge_pair.specs.Pages.{PagesGrow}
+use Rattle.bridge_pair.specs.Bridge.{pages_of}
+use Rattle.bridge_pair.specs.Pages.{OnlyPagesGrow}
 use Rattle.bridge_pair.specs.Words.{TouchesIndexWord}
 use Rattle.bridge_pair.proofs.pair.Pair.promise_index_words.Given as goal
 
@@ -11,7 +11,6 @@ abbrev pub invariant-loop-queue : goal.invariant-loop-queue
 invariant-loop-queue l =
     record {
       all : l.queues ≡ (side_plan l.initial.self.plan l.side).queues;
-      rest : l.self ≡ with_pages l.initial.self l.side (pages_of l.self l.side);
-      pages : PagesGrow (TouchesIndexWord l.initial.self.plan l.side) (pages_of l.initial.self l.side) (pages_of l.self l.side);
+      grown : OnlyPagesGrow (TouchesIndexWord l.initial.self.plan l.side) l.side l.initial.self l.self;
       done : (k : ℕ) → k < l.queue → ArePromised (own_index_word l.initial.self.plan l.side k) 4 (pages_of l.self l.side);
     }
