@@ -8,6 +8,7 @@ pub mod Keeping
 pub mod MorePages
 pub mod OneFlight
 pub mod Phases
+pub mod QueueCalls
 pub mod QueueParts
 pub mod SessionTallies
 pub mod Standing

@@ -75,33 +75,31 @@ pub checked_more : (old new : Bridge) (side : Side) → new ≡ with_pages (afte
 checked_more old new side is stay =
     more_pages (after_check old side) new side is (λ page had. stay page (subst (λ pages. Contains pages page) (checked-pages old side (check_answer old side)) had))
 
-pub by_register : (bridge : Bridge) (step : Step) → ((p : ℕ) (side : Side) → step ≡ Enable p side → ⊥) → ((p : ℕ) → step ≡ Train p → ⊥) → ((p : ℕ) → step ≡ Break p → ⊥)
-    → ((p : ℕ) → step ≡ DropDone p → ⊥) → ((p : ℕ) (side : Side) → step ≡ Offer p side → ⊥) → ((p : ℕ) (side : Side) → step ≡ Check p side → ⊥)
-    → ((p : ℕ) (side : Side) (queue : ℕ) → step ≡ Ready p side queue → ⊥) → ((p : ℕ) (side : Side) (queue : ℕ) → step ≡ Join p side queue → ⊥)
+pub by_register : (bridge : Bridge) (step : Step) → ((p : ℕ) (side : Side) → step ≡ Enable p side → ⊥) → ((p : ℕ) → step ≡ Train p → ⊥) → ((p : ℕ) → step ≡ Break p → ⊥) → ((p : ℕ) → step ≡ DropDone p → ⊥) → ((p : ℕ) (side : Side) → step ≡ Offer p side → ⊥) → ((p : ℕ) (side : Side) → step ≡ Check p side → ⊥) → ((p : ℕ) (side : Side) (queue : ℕ) → step ≡ Ready p side queue → ⊥) → ((p : ℕ) (side : Side) (queue : ℕ) → step ≡ Join p side queue → ⊥) → ((p : ℕ) (side : Side) (i value : ℕ) → step ≡ Spad p side i value → ⊥) → ((p : ℕ) (side : Side) (window offset : ℕ) (bytes : List ℕ) → step ≡ Poke p side window offset bytes → ⊥) → ((p : ℕ) (side : Side) (at len : ℕ) → step ≡ ShowMem p side at len → ⊥)
     → bridge_turn bridge step ≡ register_turn bridge step
-by_register bridge (Enable p side) enable train cut drop offer check ready join = absurd (enable p side refl)
-by_register bridge (Train p) enable train cut drop offer check ready join = absurd (train p refl)
-by_register bridge (Break p) enable train cut drop offer check ready join = absurd (cut p refl)
-by_register bridge (DropDone p) enable train cut drop offer check ready join = absurd (drop p refl)
-by_register bridge (Offer p side) enable train cut drop offer check ready join = absurd (offer p side refl)
-by_register bridge (Check p side) enable train cut drop offer check ready join = absurd (check p side refl)
-by_register bridge (Ready p side queue) enable train cut drop offer check ready join = absurd (ready p side queue refl)
-by_register bridge (Join p side queue) enable train cut drop offer check ready join = absurd (join p side queue refl)
-by_register bridge step enable train cut drop offer check ready join = refl
+by_register bridge (Enable p side) enable train cut drop offer check ready join spad poke mem = absurd (enable p side refl)
+by_register bridge (Train p) enable train cut drop offer check ready join spad poke mem = absurd (train p refl)
+by_register bridge (Break p) enable train cut drop offer check ready join spad poke mem = absurd (cut p refl)
+by_register bridge (DropDone p) enable train cut drop offer check ready join spad poke mem = absurd (drop p refl)
+by_register bridge (Offer p side) enable train cut drop offer check ready join spad poke mem = absurd (offer p side refl)
+by_register bridge (Check p side) enable train cut drop offer check ready join spad poke mem = absurd (check p side refl)
+by_register bridge (Ready p side queue) enable train cut drop offer check ready join spad poke mem = absurd (ready p side queue refl)
+by_register bridge (Join p side queue) enable train cut drop offer check ready join spad poke mem = absurd (join p side queue refl)
+by_register bridge (Spad p side i value) enable train cut drop offer check ready join spad poke mem = absurd (spad p side i value refl)
+by_register bridge (Poke p side window offset bytes) enable train cut drop offer check ready join spad poke mem = absurd (poke p side window offset bytes refl)
+by_register bridge (ShowMem p side at len) enable train cut drop offer check ready join spad poke mem = absurd (mem p side at len refl)
+by_register bridge step enable train cut drop offer check ready join spad poke mem = refl
 
 -- a step that is none of these does nothing here
-pub nothing_turned : (bridge : Bridge) (step : Step) → ((p : ℕ) (side : Side) (place : ℕ) → step ≡ Land p side place → ⊥) → ((p : ℕ) (side : Side) → step ≡ Irq p side → ⊥) → ((p : ℕ) (side : Side) (bits : ℕ) → step ≡ Mask p side bits → ⊥) → ((p : ℕ) (side : Side) (bits : ℕ) → step ≡ Unmask p side bits → ⊥) → ((p : ℕ) (side : Side) (i value : ℕ) → step ≡ Spad p side i value → ⊥) → ((p : ℕ) (side : Side) (window offset : ℕ) (bytes : List ℕ) → step ≡ Poke p side window offset bytes → ⊥) → ((p : ℕ) (side : Side) (at len : ℕ) → step ≡ ShowMem p side at len → ⊥) → ((p : ℕ) (side : Side) (i : ℕ) → step ≡ ShowPad p side i → ⊥) → ((p : ℕ) (side : Side) (place : ℕ) → step ≡ ShowQueue p side place → ⊥)
+pub nothing_turned : (bridge : Bridge) (step : Step) → ((p : ℕ) (side : Side) (place : ℕ) → step ≡ Land p side place → ⊥) → ((p : ℕ) (side : Side) → step ≡ Irq p side → ⊥) → ((p : ℕ) (side : Side) (bits : ℕ) → step ≡ Mask p side bits → ⊥) → ((p : ℕ) (side : Side) (bits : ℕ) → step ≡ Unmask p side bits → ⊥) → ((p : ℕ) (side : Side) (i : ℕ) → step ≡ ShowPad p side i → ⊥) → ((p : ℕ) (side : Side) (place : ℕ) → step ≡ ShowQueue p side place → ⊥)
     → register_turn bridge step ≡ record { answer = Done; bridge = bridge }
-nothing_turned bridge (Land p side place) land irq mask unmask spad poke mem pad queue = absurd (land p side place refl)
-nothing_turned bridge (Irq p side) land irq mask unmask spad poke mem pad queue = absurd (irq p side refl)
-nothing_turned bridge (Mask p side bits) land irq mask unmask spad poke mem pad queue = absurd (mask p side bits refl)
-nothing_turned bridge (Unmask p side bits) land irq mask unmask spad poke mem pad queue = absurd (unmask p side bits refl)
-nothing_turned bridge (Spad p side i value) land irq mask unmask spad poke mem pad queue = absurd (spad p side i value refl)
-nothing_turned bridge (Poke p side window offset bytes) land irq mask unmask spad poke mem pad queue = absurd (poke p side window offset bytes refl)
-nothing_turned bridge (ShowMem p side at len) land irq mask unmask spad poke mem pad queue = absurd (mem p side at len refl)
-nothing_turned bridge (ShowPad p side i) land irq mask unmask spad poke mem pad queue = absurd (pad p side i refl)
-nothing_turned bridge (ShowQueue p side place) land irq mask unmask spad poke mem pad queue = absurd (queue p side place refl)
-nothing_turned bridge step land irq mask unmask spad poke mem pad queue = refl
+nothing_turned bridge (Land p side place) land irq mask unmask pad queue = absurd (land p side place refl)
+nothing_turned bridge (Irq p side) land irq mask unmask pad queue = absurd (irq p side refl)
+nothing_turned bridge (Mask p side bits) land irq mask unmask pad queue = absurd (mask p side bits refl)
+nothing_turned bridge (Unmask p side bits) land irq mask unmask pad queue = absurd (unmask p side bits refl)
+nothing_turned bridge (ShowPad p side i) land irq mask unmask pad queue = absurd (pad p side i refl)
+nothing_turned bridge (ShowQueue p side place) land irq mask unmask pad queue = absurd (queue p side place refl)
+nothing_turned bridge step land irq mask unmask pad queue = refl
 
 -- a bridge has its own pages
 pub same_pages : (bridge : Bridge) → HasMorePages bridge bridge

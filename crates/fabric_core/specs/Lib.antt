@@ -8,6 +8,7 @@ pub mod Parts
 pub mod Pinned
 pub mod Promised
 pub mod QueueBoxes
+pub mod QueueCalls
 pub mod Sessions
 pub mod Stepped
 pub mod Turns

@@ -48,20 +48,17 @@ bare_pair bridge = record { bridge = bridge; queues = both_of [] }
 abbrev pub of_move : Move → BridgeTurn
 of_move move = record { answer = move.answer; bridge = move.after.bridge }
 
--- landings, registers and what is shown; other steps do nothing here
+-- landings, doorbells, and what is shown of scratchpads and lists in flight; other steps do nothing here
 abbrev pub register_turn : Bridge → Step → BridgeTurn
 register_turn bridge (Land p side place) = of_move (land_move (bare_pair bridge) side place)
 register_turn bridge (Irq p side) = of_move (irq_move (bare_pair bridge) side)
 register_turn bridge (Mask p side bits) = of_move (mask_move (bare_pair bridge) side bits)
 register_turn bridge (Unmask p side bits) = of_move (unmask_move (bare_pair bridge) side bits)
-register_turn bridge (Spad p side i value) = of_move (spad_move (bare_pair bridge) side i value)
-register_turn bridge (Poke p side window offset bytes) = of_move (poke_move (bare_pair bridge) side window offset bytes)
-register_turn bridge (ShowMem p side at len) = of_move (show_mem_move (bare_pair bridge) side at len)
 register_turn bridge (ShowPad p side i) = of_move (show_pad_move (bare_pair bridge) side i)
 register_turn bridge (ShowQueue p side place) = of_move (show_queue_move (bare_pair bridge) side place)
 register_turn bridge step = record { answer = Done; bridge = bridge }
 
--- the link and the handshake, and the others
+-- the link and the handshake, writes past the transport, what is shown of memories, and the others
 abbrev pub bridge_turn : Bridge → Step → BridgeTurn
 bridge_turn bridge (Enable p side) = of_move (enable_move (bare_pair bridge) side)
 bridge_turn bridge (Train p) = of_move (train_move (bare_pair bridge))
@@ -71,6 +68,9 @@ bridge_turn bridge (Offer p side) = of_move (offer_move (bare_pair bridge) side)
 bridge_turn bridge (Check p side) = of_move (check_move (bare_pair bridge) side)
 bridge_turn bridge (Ready p side queue) = of_move (ready_move (bare_pair bridge) side queue)
 bridge_turn bridge (Join p side queue) = of_move (join_move (bare_pair bridge) side queue)
+bridge_turn bridge (Spad p side i value) = of_move (spad_move (bare_pair bridge) side i value)
+bridge_turn bridge (Poke p side window offset bytes) = of_move (poke_move (bare_pair bridge) side window offset bytes)
+bridge_turn bridge (ShowMem p side at len) = of_move (show_mem_move (bare_pair bridge) side at len)
 bridge_turn bridge step = register_turn bridge step
 
 -- One queue

@@ -11,17 +11,23 @@ use posted_queue::LandAnswer;
 use queue_pair::{BeginAnswer, LookAnswer};
 use step_kinds::{Answer, Label, LaneCopy};
 
+/// The answer under the same name, for each of these variants; behind them, rows for those that a script knows under another name.
+macro_rules! same_name {
+    ($given:ident: $kind:ident; $($name:ident $({ $($number:ident),+ })?),+ $(; $other:pat => $answer:expr)*) => {
+        match $given {
+            $($kind::$name $({ $($number),+ })? => Answer::$name $({ $($number),+ })?,)+
+            $($other => $answer,)*
+        }
+    };
+}
+
 /// A refusal of the link.
 pub fn refusal_answer(refusal: LinkRefusal) -> Answer
     ensures { result ≡ of.of_refusal refusal }
 {
-    match refusal {
-        LinkRefusal::NotDown => Answer::NotDown,
-        LinkRefusal::Dirty => Answer::Dirty,
-        LinkRefusal::NotEnabled => Answer::NotEnabled,
-        LinkRefusal::NotUp => Answer::NotUp,
-        LinkRefusal::NotClosing => Answer::NotClosing,
-        LinkRefusal::SessionsSpent => Answer::Spent,
+    same_name! { refusal: LinkRefusal;
+        NotDown, Dirty, NotEnabled, NotUp, NotClosing;
+        LinkRefusal::SessionsSpent => Answer::Spent
     }
 }
 
@@ -39,26 +45,17 @@ pub fn link_answer(made: Result<(), LinkRefusal>) -> Answer
 pub fn offer_answer(offer: OfferAnswer) -> Answer
     ensures { result ≡ of.of_offer offer }
 {
-    match offer {
-        OfferAnswer::Offered { index } => Answer::Offered { index },
-        OfferAnswer::Already => Answer::Already,
-        OfferAnswer::LinkDown => Answer::LinkDown,
-    }
+    same_name!(offer: OfferAnswer; LinkDown, Already, Offered { index })
 }
 
 /// A check.
 pub fn check_answer(check: CheckAnswer) -> Answer
     ensures { result ≡ of.of_check check }
 {
-    match check {
-        CheckAnswer::Up => Answer::Up,
-        CheckAnswer::Already => Answer::Already,
-        CheckAnswer::LinkDown => Answer::LinkDown,
-        CheckAnswer::NotYet => Answer::NotYet,
-        CheckAnswer::Version { seen, own } => Answer::Version { seen, own },
-        CheckAnswer::Queues { seen, own } => Answer::Queues { seen, own },
-        CheckAnswer::Windows { seen, own } => Answer::Windows { seen, own },
-        CheckAnswer::Size { seen, cap } => Answer::Size { seen, cap },
+    same_name! { check: CheckAnswer;
+        LinkDown, Already, NotYet,
+        Version { seen, own }, Queues { seen, own }, Windows { seen, own }, Size { seen, cap },
+        Up
     }
 }
 
@@ -66,39 +63,24 @@ pub fn check_answer(check: CheckAnswer) -> Answer
 pub fn ready_answer(ready: ReadyAnswer) -> Answer
     ensures { result ≡ of.of_ready ready }
 {
-    match ready {
-        ReadyAnswer::Ok => Answer::Ok,
-        ReadyAnswer::Already => Answer::Already,
-        ReadyAnswer::NotChecked => Answer::NotChecked,
-        ReadyAnswer::LinkDown => Answer::LinkDown,
-    }
+    same_name!(ready: ReadyAnswer; LinkDown, NotChecked, Already, Ok)
 }
 
 /// A queue that is joined.
 pub fn join_answer(join: JoinAnswer) -> Answer
     ensures { result ≡ of.of_join join }
 {
-    match join {
-        JoinAnswer::Joined => Answer::Joined,
-        JoinAnswer::Already => Answer::Already,
-        JoinAnswer::NotReady => Answer::NotReady,
-        JoinAnswer::NotYet => Answer::NotYet,
-        JoinAnswer::LinkDown => Answer::LinkDown,
-    }
+    same_name!(join: JoinAnswer; LinkDown, NotReady, Already, NotYet, Joined)
 }
 
 /// A beginning.
 pub fn begin_answer(begun: BeginAnswer) -> Answer
     ensures { result ≡ of.of_begin begun }
 {
-    match begun {
-        BeginAnswer::Ok { number } => Answer::OkNumber { number },
-        BeginAnswer::LinkDown => Answer::LinkDown,
-        BeginAnswer::NotReady => Answer::NotReady,
-        BeginAnswer::Closed => Answer::Closed,
-        BeginAnswer::TooLong { len, max } => Answer::TooLong { len, max },
-        BeginAnswer::Busy => Answer::Busy,
-        BeginAnswer::NoRoom { head, tail } => Answer::Again { head, tail },
+    same_name! { begun: BeginAnswer;
+        LinkDown, NotReady, Closed, TooLong { len, max }, Busy;
+        BeginAnswer::NoRoom { head, tail } => Answer::Again { head, tail };
+        BeginAnswer::Ok { number } => Answer::OkNumber { number }
     }
 }
 
@@ -106,10 +88,7 @@ pub fn begin_answer(begun: BeginAnswer) -> Answer
 pub fn post_answer(posted: Option<Label>) -> Answer
     ensures { result ≡ of.of_post posted }
 {
-    match posted {
-        None => Answer::Idle,
-        Some(label) => Answer::Posted { label },
-    }
+    posted.map_or(Answer::Idle, |label| Answer::Posted { label })
 }
 
 /// A landing.
@@ -127,15 +106,9 @@ pub fn land_answer(landed: LandAnswer<Label>) -> Answer
 pub fn look_answer(look: LookAnswer) -> Answer
     ensures { result ≡ of.of_look look }
 {
-    match look {
-        LookAnswer::Ready { number, len } => Answer::ReadyFrame { number, len },
-        LookAnswer::Empty => Answer::Empty,
-        LookAnswer::PeerDown => Answer::PeerDown,
-        LookAnswer::VerDiffers { seen, own } => Answer::VerDiffers { seen, own },
-        LookAnswer::Long { len, max } => Answer::Long { len, max },
-        LookAnswer::OutOfTurn => Answer::OutOfTurn,
-        LookAnswer::NotReady => Answer::NotReady,
-        LookAnswer::Closed => Answer::Closed,
+    same_name! { look: LookAnswer;
+        Empty, PeerDown, VerDiffers { seen, own }, Long { len, max }, OutOfTurn, NotReady, Closed;
+        LookAnswer::Ready { number, len } => Answer::ReadyFrame { number, len }
     }
 }
 
@@ -154,18 +127,12 @@ pub fn copy_answer(copy: LaneCopy) -> Answer
 pub fn clear_answer(cleared: Option<u64>) -> Answer
     ensures { result ≡ of.of_clear cleared }
 {
-    match cleared {
-        None => Answer::OutOfTurn,
-        Some(number) => Answer::Cleared { number },
-    }
+    cleared.map_or(Answer::OutOfTurn, |number| Answer::Cleared { number })
 }
 
 /// An ack.
 pub fn ack_answer(acked: Option<u64>) -> Answer
     ensures { result ≡ of.of_ack acked }
 {
-    match acked {
-        None => Answer::OutOfTurn,
-        Some(number) => Answer::Acked { number },
-    }
+    acked.map_or(Answer::OutOfTurn, |number| Answer::Acked { number })
 }

@@ -52,25 +52,6 @@ pub fn bridge_step(pair: &mut Pair, alloc: Global, step: &Step) -> Result<Answer
         Step::Check { side, .. } => Ok(check_answer(check(pair, *side)?)),
         Step::Ready { side, queue, .. } => Ok(ready_answer(ready(pair, *side, *queue)?)),
         Step::Join { side, queue, .. } => Ok(join_answer(join(pair, *side, *queue))),
-        _ => register_step(pair, alloc, step),
-    }
-}
-
-// The other half of the steps.
-fn register_step(pair: &mut Pair, alloc: Global, step: &Step) -> Result<Answer, AllocError>
-    requires { CanTurn pair.old step.now }
-    ensures answer { IfOk result (λ answer. answer ≡ (register_turn pair.old step.now).answer) }
-    ensures after { OnOk result (HasMorePages (register_turn pair.old step.now).bridge pair.new) }
-    ensures err { OnErr result (HasMorePages pair.old pair.new) }
-    ensures wants { IsErr result → may_want_memory step.now ≡ true }
-{
-    match step {
-        Step::Land { side, place, .. } => Ok(land_answer(pair.land(*side, *place as usize))),
-        Step::Irq { side, .. } => Ok(Answer::Irq {
-            bits: irq(pair, *side),
-        }),
-        Step::Mask { side, bits, .. } => Ok(mask(pair, *side, *bits)),
-        Step::Unmask { side, bits, .. } => Ok(unmask(pair, *side, *bits)),
         Step::Spad {
             side,
             index,
@@ -85,11 +66,28 @@ fn register_step(pair: &mut Pair, alloc: Global, step: &Step) -> Result<Answer, 
             ..
         } => poke(pair, *side, *window, *offset, bytes),
         Step::ShowMem { side, at, len, .. } => shown_memory(pair, alloc, *side, *at, *len),
-        Step::ShowPad { side, index, .. } => Ok(Answer::PadValue {
+        _ => Ok(register_step(pair, step)),
+    }
+}
+
+// The steps that never want memory, but for those of the link.
+fn register_step(pair: &mut Pair, step: &Step) -> Answer
+    requires { CanTurn pair.old step.now }
+    ensures answer { result ≡ (register_turn pair.old step.now).answer }
+    ensures after { pair.new ≡ (register_turn pair.old step.now).bridge }
+{
+    match step {
+        Step::Land { side, place, .. } => land_answer(pair.land(*side, *place as usize)),
+        Step::Irq { side, .. } => Answer::Irq {
+            bits: irq(pair, *side),
+        },
+        Step::Mask { side, bits, .. } => mask(pair, *side, *bits),
+        Step::Unmask { side, bits, .. } => unmask(pair, *side, *bits),
+        Step::ShowPad { side, index, .. } => Answer::PadValue {
             value: pair.pad(*side, *index),
-        }),
-        Step::ShowQueue { side, place, .. } => Ok(shown_queue(pair, *side, *place)),
-        _ => Ok(Answer::Ok),
+        },
+        Step::ShowQueue { side, place, .. } => shown_queue(pair, *side, *place),
+        _ => Answer::Ok,
     }
 }
 

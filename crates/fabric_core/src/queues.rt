@@ -4,6 +4,7 @@ ghost use Rattle.std.specs.Prelude.{IfOk, IsErr, OnErr, OnOk, length, true, ◌<
 ghost use Rattle.fabric_core.specs.Numbers.{HasRoomToSend};
 ghost use Rattle.fabric_core.specs.Fabric.{may_want_memory};
 ghost use Rattle.fabric_core.specs.Parts.{CanTurnQueue, KeepsPort, fresh_part};
+ghost use Rattle.fabric_core.specs.QueueCalls.{CanBegin, CanPost, HasTurned, HasTurnedUnlessWanting};
 ghost use Rattle.fabric_core.specs.Turns.{ack_turn, begin_turn, clear_turn, copy_turn, counted_begun, frame_turn, look_turn, post_turn, qpdown_turn, queue_turn, wake_turn};
 ghost use Rattle.fabric_rule.specs.Moves.{forgotten_queue};
 ghost use Rattle.fabric_rule.specs.Parts.{count_in, plain_bridge};
@@ -110,14 +111,8 @@ impl QueueBox {
     // Begins a frame, and counts it where it was begun.
     fn begin(&mut self, pair: &mut Pair, frame: Frame) -> Result<Answer, AllocError>
         requires some { 0 < length frame }
-        requires plan { pair.old.plan ≡ self.old.queue.port.plan }
-        requires fits { is_joined self.old.queue pair.old ≡ true → FitsRings self.old.queue.port.plan }
-        requires pages { HasPagesIn self.old.queue.port pair.old }
-        ensures answer { IfOk result (λ answer. answer ≡ (begin_turn self.old pair.old frame).answer) }
-        ensures after { OnOk result (self.new ≡ (begin_turn self.old pair.old frame).part) }
-        ensures err { OnErr result (self.new ≡ self.old) }
-        ensures plain { plain_bridge pair.new ≡ plain_bridge pair.old }
-        ensures keeps { KeepsPort self.old.queue.port self.new.queue.port pair.old pair.new }
+        requires ready { CanBegin self.old.queue pair.old }
+        ensures { HasTurnedUnlessWanting (begin_turn self.old pair.old frame) result self.old self.new pair.old pair.new }
     {
         self.accepted.make_room()?;
         let begun = self.queue.begin(pair, frame)?;
@@ -130,14 +125,8 @@ impl QueueBox {
     // Begins a device's frame, counts it, and stops the device where it leaves too few entries free; or counts a refusal.
     fn xbegin(&mut self, pair: &mut Pair, frame: Frame) -> Result<Answer, AllocError>
         requires some { 0 < length frame }
-        requires plan { pair.old.plan ≡ self.old.queue.port.plan }
-        requires fits { is_joined self.old.queue pair.old ≡ true → FitsRings self.old.queue.port.plan }
-        requires pages { HasPagesIn self.old.queue.port pair.old }
-        ensures answer { IfOk result (λ answer. answer ≡ (frame_turn self.old pair.old frame).answer) }
-        ensures after { OnOk result (self.new ≡ (frame_turn self.old pair.old frame).part) }
-        ensures err { OnErr result (self.new ≡ self.old) }
-        ensures plain { plain_bridge pair.new ≡ plain_bridge pair.old }
-        ensures keeps { KeepsPort self.old.queue.port self.new.queue.port pair.old pair.new }
+        requires ready { CanBegin self.old.queue pair.old }
+        ensures { HasTurnedUnlessWanting (frame_turn self.old pair.old frame) result self.old self.new pair.old pair.new }
     {
         if !can_send(self.counters) {
             return Err(AllocError);
@@ -154,27 +143,16 @@ impl QueueBox {
 
     // Posts the next write.
     fn post(&mut self, pair: &mut Pair) -> Answer
-        requires plan { pair.old.plan ≡ self.old.queue.port.plan }
-        requires room { HasRoomIn self.old.queue.port pair.old }
-        requires pages { HasPagesIn self.old.queue.port pair.old }
-        ensures answer { result ≡ (post_turn self.old pair.old).answer }
-        ensures after { self.new ≡ (post_turn self.old pair.old).part }
-        ensures bridge { pair.new ≡ (post_turn self.old pair.old).bridge }
-        ensures keeps { KeepsPort self.old.queue.port self.new.queue.port pair.old pair.new }
+        requires { CanPost self.old.queue.port pair.old }
+        ensures { HasTurned (post_turn self.old pair.old) result self.old self.new pair.old pair.new }
     {
         post_answer(self.queue.post(pair))
     }
 
     // Begins a link-down entry.
     fn qpdown(&mut self, pair: &mut Pair) -> Result<Answer, AllocError>
-        requires plan { pair.old.plan ≡ self.old.queue.port.plan }
-        requires fits { is_joined self.old.queue pair.old ≡ true → FitsRings self.old.queue.port.plan }
-        requires pages { HasPagesIn self.old.queue.port pair.old }
-        ensures answer { IfOk result (λ answer. answer ≡ (qpdown_turn self.old pair.old).answer) }
-        ensures after { OnOk result (self.new ≡ (qpdown_turn self.old pair.old).part) }
-        ensures err { OnErr result (self.new ≡ self.old) }
-        ensures plain { plain_bridge pair.new ≡ plain_bridge pair.old }
-        ensures keeps { KeepsPort self.old.queue.port self.new.queue.port pair.old pair.new }
+        requires { CanBegin self.old.queue pair.old }
+        ensures { HasTurnedUnlessWanting (qpdown_turn self.old pair.old) result self.old self.new pair.old pair.new }
     {
         let begun = self.queue.qpdown(pair)?;
         Ok(begin_answer(begun))
@@ -182,14 +160,8 @@ impl QueueBox {
 
     // Looks for the next entry. Where one is found, the frame that it may be the last of can be counted.
     fn look(&mut self, pair: &mut Pair) -> Result<Answer, AllocError>
-        requires plan { pair.old.plan ≡ self.old.queue.port.plan }
-        requires fits { is_joined self.old.queue pair.old ≡ true → FitsRings self.old.queue.port.plan }
-        requires pages { HasPagesIn self.old.queue.port pair.old }
-        ensures answer { IfOk result (λ answer. answer ≡ (look_turn self.old pair.old).answer) }
-        ensures after { OnOk result (self.new ≡ (look_turn self.old pair.old).part) }
-        ensures err { OnErr result (self.new ≡ self.old) }
-        ensures plain { plain_bridge pair.new ≡ plain_bridge pair.old }
-        ensures keeps { KeepsPort self.old.queue.port self.new.queue.port pair.old pair.new }
+        requires { CanBegin self.old.queue pair.old }
+        ensures { HasTurnedUnlessWanting (look_turn self.old pair.old) result self.old self.new pair.old pair.new }
     {
         if !can_deliver(self.counters) {
             return Err(AllocError);
@@ -219,23 +191,15 @@ impl QueueBox {
     fn clear(&mut self, pair: &mut Pair) -> Answer
         requires plan { pair.old.plan ≡ self.old.queue.port.plan }
         requires pages { HasPagesIn self.old.queue.port pair.old }
-        ensures answer { result ≡ (clear_turn self.old pair.old).answer }
-        ensures after { self.new ≡ (clear_turn self.old pair.old).part }
-        ensures bridge { pair.new ≡ (clear_turn self.old pair.old).bridge }
-        ensures keeps { KeepsPort self.old.queue.port self.new.queue.port pair.old pair.new }
+        ensures { HasTurned (clear_turn self.old pair.old) result self.old self.new pair.old pair.new }
     {
         clear_answer(self.queue.clear(pair))
     }
 
     // Gives the entry back.
     fn ack(&mut self, pair: &mut Pair) -> Answer
-        requires plan { pair.old.plan ≡ self.old.queue.port.plan }
-        requires room { HasRoomIn self.old.queue.port pair.old }
-        requires pages { HasPagesIn self.old.queue.port pair.old }
-        ensures answer { result ≡ (ack_turn self.old pair.old).answer }
-        ensures after { self.new ≡ (ack_turn self.old pair.old).part }
-        ensures bridge { pair.new ≡ (ack_turn self.old pair.old).bridge }
-        ensures keeps { KeepsPort self.old.queue.port self.new.queue.port pair.old pair.new }
+        requires { CanPost self.old.queue.port pair.old }
+        ensures { HasTurned (ack_turn self.old pair.old) result self.old self.new pair.old pair.new }
     {
         ack_answer(self.queue.ack(pair))
     }

@@ -11,17 +11,18 @@ use Rattle.lane_core.specs.declared.write.PostedWrite.{PostedWrite}
 use Rattle.lane_core.specs.declared.write.IndexWrite.{IndexWrite}
 use Rattle.lane_core.specs.declared.lane.Lane.TheInside.{Inside}
 
+-- what stands in lists is seen by its elements, and each number as it is
 abbrev pub lane_seen : Inside → Lane
 lane_seen l =
     record {
-      entries = l.entries;
-      largest = l.largest;
-      up = l.up;
       sent = map entry_seen l.sent.items;
       todo = l.todo.items;
       flight = map (λ (write : PostedWrite). write.mark) l.flight.writes;
       returning = map (λ (write : IndexWrite). write.number) l.returning.writes;
       ring = map place_seen l.ring.items;
+      entries = l.entries;
+      largest = l.largest;
+      up = l.up;
       index_word = l.index_word;
       flagged = l.flagged;
       got = l.got;

@@ -1,7 +1,9 @@
-use Rattle.std.proofs.Common.{IfOk, OnOk, subst, sym, ◌≡◌}
+use Rattle.std.proofs.Common.{subst, sym, ◌≡◌}
+use Rattle.std.proofs.lemmas.Bool.{false≢true}
+use Rattle.bridge_pair.specs.Bridge.{Bridge}
 use Rattle.fabric_core.specs.Turns.{BridgeTurn}
 use Rattle.fabric_core.specs.Promised.{HasMorePages}
-use Rattle.fabric_core.proofs.MorePages.{by_register, checked_more, more_pages, on_err}
+use Rattle.fabric_core.proofs.MorePages.{by_register, checked_more, more_pages, on_err, same_pages}
 use Rattle.fabric_core.proofs.bridge_steps.bridge_step.Goals as goal
 
 pub returns-in_err-check-in-Check-clause-err : goal.returns-in_err-check-in-Check-clause-err
@@ -14,12 +16,13 @@ returns-in_ok-check-in-Check-clause-after c =
 
 pub returns-in_default : goal.returns-in_default
 returns-in_default c =
-    let others = by_register c.args.pair.now c.args.step.now c.in_default.not-Enable c.in_default.not-Train c.in_default.not-Break c.in_default.not-DropDone c.in_default.not-Offer c.in_default.not-Check
-    c.in_default.not-Ready c.in_default.not-Join in
+    let step = c.in_default in
+    let others = by_register c.args.pair.now c.args.step.now step.not-Enable step.not-Train step.not-Break step.not-DropDone step.not-Offer step.not-Check step.not-Ready step.not-Join step.not-Spad step.not-Poke step.not-ShowMem in
     let made = c.register_step.ensures in
+    let new = c.register_step.new.pair in
     record {
-      answer = subst (λ (turn : BridgeTurn). IfOk c.register_step.result (λ answer. answer ≡ turn.answer)) (sym others) made.answer;
-      after = subst (λ (turn : BridgeTurn). OnOk c.register_step.result (HasMorePages turn.bridge c.register_step.new.pair)) (sym others) made.after;
-      err = made.err;
-      wants = made.wants;
+      answer = subst (λ (turn : BridgeTurn). c.register_step.result ≡ turn.answer) (sym others) made.answer;
+      after = subst (λ (turn : BridgeTurn). HasMorePages turn.bridge new) (sym others) (subst (λ (bridge : Bridge). HasMorePages bridge new) made.after (same_pages new));
+      err = tt;
+      wants = λ no. absurd (false≢true no);
     }

@@ -1,10 +1,15 @@
+use Rattle.std.proofs.Common.{rules, arith}
+use Rattle.std.proofs.lemmas.Grind.{common_steps}
 use Rattle.fabric_core.proofs.OneFlight.{clear_keeps}
 use Rattle.fabric_core.proofs.Phases.{clear_goes_on}
 use Rattle.fabric_core.proofs.QueueParts.{box_kept}
+use Rattle.fabric_core.proofs.QueueCalls.{has_turned}
 use Rattle.fabric_core.proofs.queues.QueueBox.clear.Goals as goal
 
 pub invariant_of-self : goal.invariant_of-self
 invariant_of-self c = box_kept c.self.inside c.clear.new.self _ c.self.invariant c.clear.ensures.after (clear_goes_on c.self.inside.queue.port)
 
-pub returns-clause-keeps : goal.returns-clause-keeps
-returns-clause-keeps c = clear_keeps _ _ c.clear.new.self c.args.pair.now c.clear.new.pair c.self.view_is c.clear.ensures.after c.clear.ensures.pair c.clear.ensures.ready c.requires.pages
+pub returns : goal.returns
+returns c =
+    has_turned _ _ _ _ _ _ (first_of (search rules, grind (arith, common_steps))) (first_of (search rules, grind (arith, common_steps))) (first_of (search rules, grind (arith, common_steps)))
+    (clear_keeps _ _ c.clear.new.self c.args.pair.now c.clear.new.pair c.self.view_is c.clear.ensures.after c.clear.ensures.pair c.clear.ensures.ready c.requires.pages)

@@ -1,15 +1,19 @@
-use Rattle.std.proofs.Common.{IsTrue, ap, rules}
+use Rattle.std.proofs.Common.{IsTrue, ap, rules, arith}
+use Rattle.std.proofs.lemmas.Grind.{common_steps}
 use Rattle.fabric_core.specs.Sessions.{Tallied}
 use Rattle.fabric_core.proofs.Keeping.{look_wanted_keeps, looked_keeps, plain_grown_both}
 use Rattle.fabric_core.proofs.Phases.{look_place}
+use Rattle.fabric_core.proofs.QueueCalls.{turn_taken}
 use Rattle.fabric_core.proofs.queues.QueueBox.look.Goals as goal
 
-pub returns-in_err-look-clause-keeps : goal.returns-in_err-look-clause-keeps
-returns-in_err-look-clause-keeps c =
-    look_wanted_keeps _ _ c.look.new.self c.args.pair.now c.look.new.pair _ _ c.self.view_is c.in_err-look.ensures.err c.look.ensures.rest c.look.ensures.pages c.look.ensures.flags c.requires.pages
-
-pub returns-in_err-look-clause-plain : goal.returns-in_err-look-clause-plain
-returns-in_err-look-clause-plain c = plain_grown_both c.self.inside.queue.port c.look.new.self.port c.args.pair.now c.look.new.pair c.look.ensures.rest
+pub returns-in_err-look : goal.returns-in_err-look
+returns-in_err-look c = record {
+  answer = first_of (search rules, grind (arith, common_steps));
+  after = first_of (search rules, grind (arith, common_steps));
+  err = first_of (search rules, grind (arith, common_steps));
+  plain = plain_grown_both c.self.inside.queue.port c.look.new.self.port c.args.pair.now c.look.new.pair c.look.ensures.rest;
+  keeps = look_wanted_keeps _ _ c.look.new.self c.args.pair.now c.look.new.pair _ _ c.self.view_is c.in_err-look.ensures.err c.look.ensures.rest c.look.ensures.pages c.look.ensures.flags c.requires.pages;
+}
 
 -- room was taken for the frame that the entry may be the last of
 pub invariant_of-self-2 : goal.invariant_of-self-2
@@ -20,10 +24,9 @@ invariant_of-self-2 c =
       numbers = λ later. c.can_deliver.ensures.0 can;
     }
 
-pub returns-clause-plain : goal.returns-clause-plain
-returns-clause-plain c = plain_grown_both c.self.inside.queue.port c.look.new.self.port c.args.pair.now c.look.new.pair c.look.ensures.rest
-
-pub returns-clause-keeps : goal.returns-clause-keeps
-returns-clause-keeps c =
-    looked_keeps _ _ c.look.new.self _ c.args.pair.now c.look.new.pair _ _ c.self.view_is c.in_ok-look.ensures.after (look_place c.self.inside.queue c.args.pair.now) c.look.ensures.rest
-    c.look.ensures.pages c.look.ensures.flags c.in_ok-look.ensures.ready c.requires.pages
+pub returns : goal.returns
+returns c =
+    turn_taken _ _ _ _ _ _ (first_of (search rules, grind (arith, common_steps))) (first_of (search rules, grind (arith, common_steps)))
+    (plain_grown_both c.self.inside.queue.port c.look.new.self.port c.args.pair.now c.look.new.pair c.look.ensures.rest)
+    (looked_keeps _ _ c.look.new.self _ c.args.pair.now c.look.new.pair _ _ c.self.view_is c.in_ok-look.ensures.after (look_place c.self.inside.queue c.args.pair.now) c.look.ensures.rest
+    c.look.ensures.pages c.look.ensures.flags c.in_ok-look.ensures.ready c.requires.pages)

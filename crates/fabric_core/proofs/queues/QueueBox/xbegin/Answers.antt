@@ -1,4 +1,5 @@
-use Rattle.std.proofs.Common.{◌≡◌, ◌∙◌, IsTrue, false, rules, ap, length, refl, subst, sym, true}
+use Rattle.std.proofs.Common.{◌≡◌, ◌∙◌, IsTrue, false, rules, ap, length, refl, subst, sym, true, arith}
+use Rattle.std.proofs.lemmas.Grind.{common_steps}
 use Rattle.step_kinds.specs.declared.steps.Answer.TheVariants.{Stopped}
 use Rattle.plan_model.specs.Device.{count_refused}
 use Rattle.queue_pair.specs.Gates.{refuses_answer}
@@ -10,6 +11,7 @@ use Rattle.fabric_core.specs.Parts.{KeepsPort}
 use Rattle.fabric_core.specs.Turns.{counted_begun}
 use Rattle.fabric_core.proofs.FrameTurns.{FrameTurned, begin_counters, counted_queue, frame_counted, frame_stopped}
 use Rattle.fabric_core.proofs.QueueParts.{part_with, same_part}
+use Rattle.fabric_core.proofs.QueueCalls.{turn_taken}
 use Rattle.fabric_core.proofs.queues.QueueBox.xbegin.Goals as goal
 use Rattle.fabric_core.proofs.queues.QueueBox.xbegin.Goals.{After-count_begun, After-drop-frame-inside-then-not-refuses, else-stopped-via-then-stopped+else-not-refuses, else-stopped-via-else-stopped}
 
@@ -35,11 +37,11 @@ stopped c =
     (same_part inside.queue inside.queue inside.flow inside.flow c.refused-self-inside.result (count_refused inside.counters) inside.accepted.counts inside.accepted.counts inside.delivered.counts inside.delivered.counts
     refl refl c.refused-self-inside.ensures refl refl))
 
-pub returns-then-not-refuses-clause-answer : goal.returns-then-not-refuses-clause-answer
-returns-then-not-refuses-clause-answer c = (stopped c).answered
-
-pub returns-then-not-refuses-clause-after : goal.returns-then-not-refuses-clause-after
-returns-then-not-refuses-clause-after c = (stopped c).turned
+pub returns-then-not-refuses : goal.returns-then-not-refuses
+returns-then-not-refuses c =
+    turn_taken _ _ _ _ _ _ ((stopped c).answered) ((stopped c).turned)
+    refl
+    (first_of (search rules, grind (arith, common_steps)))
 
 turned : (c : After-count_begun) → FrameTurned c.args.self.now c.args.pair.now c.args.frame c.in_ok-answer.answer c.count_begun.new.self
 turned c =
@@ -56,15 +58,11 @@ turned c =
     c.begin.ensures.plain
     (c.count_begun.ensures ∙ ap (counted_begun c.in_ok-answer.answer c.begin.new.self (free_answer c.begin.new.self.queue.port c.begin.new.pair)) c.len-len.ensures.value)
 
-pub returns-clause-answer : goal.returns-clause-answer
-returns-clause-answer c = (turned c).answered
-
-pub returns-clause-after : goal.returns-clause-after
-returns-clause-after c = (turned c).turned
-
-pub returns-clause-keeps : goal.returns-clause-keeps
-returns-clause-keeps c =
-    let left : c.count_begun.new.self.queue ≡ c.begin.new.self.queue =
+pub returns : goal.returns
+returns c =
+    turn_taken _ _ _ _ _ _ ((turned c).answered) ((turned c).turned)
+    (first_of (search rules, grind (arith, common_steps)))
+    (let left : c.count_begun.new.self.queue ≡ c.begin.new.self.queue =
     ap (λ (part : QueuePart). part.queue) c.count_begun.ensures
     ∙ counted_queue c.in_ok-answer.answer c.begin.new.self (free_answer c.begin.new.self.queue.port c.begin.new.pair) c.len-len.result in
-    subst (λ (queue : QueueState). KeepsPort c.args.self.now.queue.port queue.port c.args.pair.now c.begin.new.pair) (sym left) c.begin.ensures.keeps
+    subst (λ (queue : QueueState). KeepsPort c.args.self.now.queue.port queue.port c.args.pair.now c.begin.new.pair) (sym left) c.begin.ensures.keeps)

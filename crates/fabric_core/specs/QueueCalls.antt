@@ -1,0 +1,39 @@
+-- What a call on a queue needs of the queue and of its pair, and what comes of it.
+use Rattle.std.specs.Prelude.{◌≡◌, true, IfOk, OnErr, OnOk, Result}
+use Rattle.step_kinds.specs.declared.steps.Answer.{Answer}
+use Rattle.bridge_pair.specs.Bridge.{Bridge}
+use Rattle.frame_ring.specs.Port.{PortState}
+use Rattle.frame_ring.specs.Seen.{FitsRings, HasPagesIn, HasRoomIn}
+use Rattle.queue_pair.specs.Gates.{is_joined}
+use Rattle.queue_pair.specs.Queue.{QueueState}
+use Rattle.fabric_rule.specs.Parts.{QueuePart, plain_bridge}
+use Rattle.fabric_core.specs.Parts.{KeepsPort}
+use Rattle.fabric_core.specs.Turns.{QueueTurn}
+
+-- before an entry is begun or looked for: the queue is one of this pair, its rings fit where it is joined, and the pages that its
+-- port was promised are there
+pub record CanBegin (queue : QueueState) (pair : Bridge) : Type 0 where
+  pub plan : pair.plan ≡ queue.port.plan
+  pub fits : is_joined queue pair ≡ true → FitsRings queue.port.plan
+  pub pages : HasPagesIn queue.port pair
+
+-- before a write is posted: the port has its room in flight too
+pub record CanPost (port : PortState) (pair : Bridge) : Type 0 where
+  pub plan : pair.plan ≡ port.plan
+  pub room : HasRoomIn port pair
+  pub pages : HasPagesIn port pair
+
+-- the queue took this turn, and so did the bridge
+pub record HasTurned (turn : QueueTurn) (result : Answer) (old new : QueuePart) (old_bridge new_bridge : Bridge) : Type 0 where
+  pub answer : result ≡ turn.answer
+  pub after : new ≡ turn.part
+  pub bridge : new_bridge ≡ turn.bridge
+  pub keeps : KeepsPort old.queue.port new.queue.port old_bridge new_bridge
+
+-- the queue took this turn, or nothing changed of it where memory is wanted; of the bridge only promises changed
+pub record HasTurnedUnlessWanting {E : Type 0} (turn : QueueTurn) (result : Result Answer E) (old new : QueuePart) (old_bridge new_bridge : Bridge) : Type 0 where
+  pub answer : IfOk result (λ answer. answer ≡ turn.answer)
+  pub after : OnOk result (new ≡ turn.part)
+  pub err : OnErr result (new ≡ old)
+  pub plain : plain_bridge new_bridge ≡ plain_bridge old_bridge
+  pub keeps : KeepsPort old.queue.port new.queue.port old_bridge new_bridge
