@@ -1,5 +1,5 @@
 -- What comes of a call on a queue, from its parts.
-use Rattle.std.proofs.Common.{◌≡◌, Result, Ok, Err}
+use Rattle.std.proofs.Common.{◌≡◌, Ok}
 use Rattle.step_kinds.specs.declared.steps.Answer.{Answer}
 use Rattle.bridge_pair.specs.Bridge.{Bridge}
 use Rattle.fabric_rule.specs.Parts.{QueuePart, plain_bridge}
@@ -15,8 +15,3 @@ has_turned turn answer old new before after says is bridge keeps = record { answ
 pub turn_taken : {E : Type 0} (turn : QueueTurn) (answer : Answer) (old new : QueuePart) (before after : Bridge) → answer ≡ turn.answer → new ≡ turn.part
     → plain_bridge after ≡ plain_bridge before → KeepsPort old.queue.port new.queue.port before after → HasTurnedUnlessWanting {E = E} turn (Ok answer) old new before after
 turn_taken turn answer old new before after says is plain keeps = record { answer = says; after = is; err = tt; plain = plain; keeps = keeps }
-
--- it wanted memory
-pub turn_wanting : {E : Type 0} (turn : QueueTurn) (error : E) (old new : QueuePart) (before after : Bridge) → new ≡ old → plain_bridge after ≡ plain_bridge before
-    → KeepsPort old.queue.port new.queue.port before after → HasTurnedUnlessWanting turn (Err error) old new before after
-turn_wanting turn error old new before after same plain keeps = record { answer = tt; after = tt; err = same; plain = plain; keeps = keeps }
