@@ -18,10 +18,10 @@ use Rattle.ledger_laws.proofs.Facade.{again_where_no_room, every_frame_comes_onc
 use Rattle.memory_model.specs.Memory.{memory_of}
 use Rattle.ntb_top.specs.Commands.{command_of, command_reads, reads_script}
 use Rattle.ntb_top.specs.Headline.{IsTrueLog}
-use Rattle.ntb_top.specs.Output.{Output, output_of, output_of_command, plan_of_command, replayed, too_long}
+use Rattle.ntb_top.specs.Output.{Output, output_of, output_of_command, plan_of_command, plan_run, replayed, too_long}
 use Rattle.ntb_top.specs.Replays.{steps_of}
 use Rattle.ntb_top.specs.Replies.{AtEnd, Comes, Given, HasRead, HasReplied, Tells, TellsOrWants}
-use Rattle.ntb_top.specs.Runs.{HasRun, IsAtEnd, Outside}
+use Rattle.ntb_top.specs.Runs.{Ends, HasReply, HasRun, IsAtEnd, Outside}
 use Rattle.ntb_top.specs.declared.command.Command.{Command}
 use Rattle.ntb_top.specs.declared.command.Command.TheVariants.{Load, Replay}
 use Rattle.ntb_top.specs.declared.program.Reply.{Reply}
@@ -179,62 +179,56 @@ true_run (Some (Load seed frames)) bytes zero = (load_of seed frames, refl, true
 abbrev pub source_of : Outside → Given
 source_of outside = record { left = outside.left; faults = outside.read_faults }
 
-pub run_whole : (words : List (List ℕ)) (before after : Outside) (reply : Reply) → HasReplied words (source_of before) (source_of after) (Ok reply) →
-    HoldsAll before.held after.held reply.text.items → HasRun words before after reply.status
-run_whole words before after reply replied wrote =
+-- a run that has its reply, whether all of the text is written or a part
+run_answered : (words : List (List ℕ)) (before after : Outside) (status : ℕ) (reply : Reply) (replied : HasReplied words (source_of before) (source_of after) (Ok reply)) →
+    Ends words before after (output_of words replied.bytes) status → (status ≡ 0 → (plan : Plan) × (plan_run words replied.bytes ≡ Some plan) × IsTrueLog plan) → HasRun words before after status
+run_answered words before after status reply replied ends headline =
     record {
       bytes = replied.bytes;
       taken = replied.taken;
       few = replied.few;
       unread = replied.unread;
       whole = λ reads answered. replied.whole reads;
-      ends = inl (record { status_is = replied.comes.status; text = subst (λ (text : List ℕ). HoldsAll before.held after.held text) replied.comes.text wrote });
-      headline = λ zero. true_run (command_of words) replied.bytes (sym replied.comes.status ∙ zero);
+      ends = ends;
+      headline = headline;
     }
+
+pub run_whole : (words : List (List ℕ)) (before after : Outside) (reply : Reply) → HasReplied words (source_of before) (source_of after) (Ok reply) →
+    HoldsAll before.held after.held reply.text.items → HasRun words before after reply.status
+run_whole words before after reply replied wrote =
+    run_answered words before after reply.status reply replied
+    (inl (record { status_is = replied.comes.status; text = subst (λ (text : List ℕ). HoldsAll before.held after.held text) replied.comes.text wrote }))
+    (λ zero. true_run (command_of words) replied.bytes (sym replied.comes.status ∙ zero))
 
 pub run_cut : (words : List (List ℕ)) (before after : Outside) (reply : Reply) → HasReplied words (source_of before) (source_of after) (Ok reply) →
     HoldsPart before.held after.held reply.text.items → Rose before.write_faults after.write_faults → HasRun words before after 5
 run_cut words before after reply replied wrote rose =
+    run_answered words before after 5 reply replied
+    (inr (inr (inl (record { status_is = refl; cause = rose; text = subst (λ (text : List ℕ). HoldsPart before.held after.held text) replied.comes.text wrote }))))
+    (λ zero. absurd (omega arith))
+
+-- a run that has none
+run_stopped : (words : List (List ℕ)) (before after : Outside) (status : ℕ) (stop : Stop) (replied : HasReplied words (source_of before) (source_of after) (Err stop)) →
+    (status ≡ 0 → ⊥) → (HasReply status → ⊥) → Ends words before after (output_of words replied.bytes) status → HasRun words before after status
+run_stopped words before after status stop replied failed silent ends =
     record {
       bytes = replied.bytes;
       taken = replied.taken;
       few = replied.few;
       unread = replied.unread;
-      whole = λ reads answered. replied.whole reads;
-      ends =
-          inr
-          (inr
-          (inl
-          (record {
-            status_is = refl;
-            cause = rose;
-            text = subst (λ (text : List ℕ). HoldsPart before.held after.held text) replied.comes.text wrote;
-          })));
-      headline = λ zero. absurd (omega arith);
+      whole = λ reads answered few. absurd (silent answered);
+      ends = ends;
+      headline = λ zero. absurd (failed zero);
     }
 
 pub run_unread : (words : List (List ℕ)) (before after : Outside) → HasReplied words (source_of before) (source_of after) (Err ReadFault) →
     after.held ≡ before.held → after.write_faults ≡ before.write_faults → HasRun words before after 4
 run_unread words before after replied held faults =
-    record {
-      bytes = replied.bytes;
-      taken = replied.taken;
-      few = replied.few;
-      unread = replied.unread;
-      whole = λ reads answered few. absurd (answered.0 refl);
-      ends = inr (inl (record { status_is = refl; reads = replied.reads refl; cause = replied.comes; silent = record { held = held; faults = faults } }));
-      headline = λ zero. absurd (omega arith);
-    }
+    run_stopped words before after 4 ReadFault replied (λ zero. omega arith) (λ answered. answered.0 refl)
+    (inr (inl (record { status_is = refl; reads = replied.reads refl; cause = replied.comes; silent = record { held = held; faults = faults } })))
 
 pub run_wanting : (words : List (List ℕ)) (before after : Outside) → HasReplied words (source_of before) (source_of after) (Err OutOfMemory) →
     after.held ≡ before.held → after.write_faults ≡ before.write_faults → HasRun words before after 6
 run_wanting words before after replied held faults =
-    record {
-      bytes = replied.bytes;
-      taken = replied.taken;
-      few = replied.few;
-      unread = replied.unread;
-      whole = λ reads answered few. absurd (answered.1 refl);
-      ends = inr (inr (inr (record { status_is = refl; silent = record { held = held; faults = faults } })));
-      headline = λ zero. absurd (omega arith);
-    }
+    run_stopped words before after 6 OutOfMemory replied (λ zero. omega arith) (λ answered. answered.1 refl)
+    (inr (inr (inr (record { status_is = refl; silent = record { held = held; faults = faults } }))))
