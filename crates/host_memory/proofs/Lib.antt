@@ -1,3 +1,3 @@
-pub mod Paged
+pub mod MemoryPages
 pub mod Pieces
 pub mod Writes

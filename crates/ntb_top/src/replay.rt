@@ -4,7 +4,7 @@ ghost use Rattle.std.specs.Prelude.{◌≡◌, ◌≤◌, ◌<◌, ◌∷◌, �
 ghost use Rattle.std.specs.List.{flat_map};
 ghost use Rattle.plan_model.specs.TrafficPlans.{IsWhole};
 ghost use Rattle.fabric_core.specs.Fabric.{plan_kept};
-ghost use Rattle.ntb_top.specs.Replayed.{AddsCounts, HasQueues, HasReplayed, IsLaneOf, filled, lanes_from};
+ghost use Rattle.ntb_top.specs.ReplaySteps.{AddsCounts, HasQueues, HasReplayed, IsLaneOf, filled, lanes_from};
 ghost use Rattle.ntb_top.specs.Replays.{
   answers_text,
   device_counts as counts_of_devices,

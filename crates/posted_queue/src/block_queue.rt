@@ -6,9 +6,9 @@ ghost use Rattle.posted_queue.specs.Rows.{is_held_back};
 ghost use Rattle.posted_queue.specs.Waiting.{class_awaited as awaited};
 
 use crate::block::Block;
-use crate::counted::Counted;
 use crate::level::Level;
 use crate::part::Part;
+use crate::part_counts::Counted;
 use crate::{LandAnswer, Ordered};
 use order_rules::{STRICT, posted_table};
 use std::alloc::{AllocError, Global};

@@ -1,8 +1,8 @@
 //! A part of a queue that is made of parts.
 
 use crate::Ordered;
-use crate::counted::Counted;
 use crate::part::Part;
+use crate::part_counts::Counted;
 use crate::row::{
     Taken, find_spot, first_with_room, move_last, push_at, reserve_from, room_from, take_from,
 };

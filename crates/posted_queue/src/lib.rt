@@ -18,10 +18,10 @@ use std::marker::Model;
 
 mod block;
 mod block_queue;
-mod counted;
 pub mod laws;
 mod level;
 mod part;
+mod part_counts;
 mod row;
 #[cfg(test)]
 mod tests;

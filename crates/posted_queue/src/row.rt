@@ -6,8 +6,8 @@ ghost use Rattle.posted_queue.specs.Rows.{is_held_back, writes_in, room_in, left
 
 use crate::Ordered;
 use crate::block::BLOCK_MOST;
-use crate::counted::Counted;
 use crate::part::Part;
+use crate::part_counts::Counted;
 use std::alloc::AllocError;
 
 /// How many parts a row has at most.

@@ -6,8 +6,8 @@ use Rattle.plan_model.specs.DeclaredPlans.{IsPair, IsDevice, IsQueueOf}
 use Rattle.plan_model.specs.TrafficPlans.{frames_in, bytes_in, is_break_of}
 use Rattle.script_words.specs.Before.{Before, has_name, pair_names, dev_names}
 use Rattle.script_words.specs.Compact.{steps_of}
-use Rattle.script_words.specs.declared.given.Given.{Given}
-use Rattle.script_words.specs.declared.given.Given.TheVariants.{Nothing, Host, Pair, Device, Class, StepsBegin, TrafficBegins, Steps, Frame, Flood, Break}
+use Rattle.script_words.specs.declared.line_gives.Given.{Given}
+use Rattle.script_words.specs.declared.line_gives.Given.TheVariants.{Nothing, Host, Pair, Device, Class, StepsBegin, TrafficBegins, Steps, Frame, Flood, Break}
 
 -- the pairs and devices are as a script can declare them, and pairs and steps are few
 pub record IsSound (before : Before) : Type 0 where

@@ -205,7 +205,7 @@ impl Reader {
 impl Model for Reader {
     ghost use Rattle.script_words.specs.Before.{Before};
     ghost use Rattle.script_plan.specs.Sound.{IsSound};
-    ghost use Rattle.script_plan.specs.Seen.{before_with};
+    ghost use Rattle.script_plan.specs.LinesSoFar.{before_with};
 
     ghost Value = { Before };
 

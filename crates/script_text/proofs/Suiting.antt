@@ -13,11 +13,11 @@ use Rattle.plan_model.specs.TrafficPlans.{is_break_of, IsTraffic}
 use Rattle.script_words.specs.Before.{Before}
 use Rattle.script_words.specs.Compact.{given_of, flood_of}
 use Rattle.script_words.specs.TrafficLines.{flood_frame}
-use Rattle.script_words.specs.declared.given.Given.{Given}
-use Rattle.script_words.specs.declared.given.Given.TheVariants.{Nothing, Host, Pair, Device, Class, StepsBegin, TrafficBegins, Steps, Frame, Flood, Break}
+use Rattle.script_words.specs.declared.line_gives.Given.{Given}
+use Rattle.script_words.specs.declared.line_gives.Given.TheVariants.{Nothing, Host, Pair, Device, Class, StepsBegin, TrafficBegins, Steps, Frame, Flood, Break}
 use Rattle.script_plan.specs.Sound.{Suits}
 use Rattle.script_plan.proofs.Floods.{flood_frames, flood_bytes, length_flood_frame}
-use Rattle.script_text.specs.Held.{Held}
+use Rattle.script_text.specs.SoundLines.{Held}
 use Rattle.script_text.proofs.Fits.{Fits, AddsTraffic}
 use Rattle.script_text.proofs.TrafficFits.{one_break}
 

@@ -5,8 +5,8 @@ ghost use Rattle.std.specs.Prelude.{◌≡◌, ◌≤◌, ◌+◌, ◌^◌, ◌<
 ghost use Rattle.step_kinds.specs.Limits.{most_script_bytes};
 ghost use Rattle.script_words.specs.Compact.{given_of};
 ghost use Rattle.script_words.specs.Reads.{Reads, result_map};
-ghost use Rattle.script_text.specs.Held.{Held};
-ghost use Rattle.script_text.specs.Parsed.{Parses, after_line};
+ghost use Rattle.script_text.specs.SoundLines.{Held};
+ghost use Rattle.script_text.specs.ParseClauses.{Parses, after_line};
 ghost use Rattle.script_text.specs.Script as rules;
 
 use crate::declarations::declaration_line;

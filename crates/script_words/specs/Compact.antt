@@ -13,8 +13,8 @@ use Rattle.script_words.specs.declared.macros.Repeated.{Repeated}
 use Rattle.script_words.specs.declared.macros.Repeated.TheVariants.{Post as Posts, Land as Lands, Copy as Copies, Offer as Offers}
 use Rattle.script_words.specs.declared.macros.Macro.{Macro}
 use Rattle.script_words.specs.declared.macros.Macro.TheVariants.{One, Posted, Again, Received}
-use Rattle.script_words.specs.declared.given.Given.{Given as Compact}
-use Rattle.script_words.specs.declared.given.Given.TheVariants.{Nothing as GivesNothing, Host as GivesHost, Pair as GivesPair, Device as GivesDevice, Class as GivesClass, StepsBegin as BeginsSteps, TrafficBegins as BeginsTraffic, Steps as GivesSteps, Frame as GivesFrame, Flood as GivesFlood, Break as GivesBreak}
+use Rattle.script_words.specs.declared.line_gives.Given.{Given as Compact}
+use Rattle.script_words.specs.declared.line_gives.Given.TheVariants.{Nothing as GivesNothing, Host as GivesHost, Pair as GivesPair, Device as GivesDevice, Class as GivesClass, StepsBegin as BeginsSteps, TrafficBegins as BeginsTraffic, Steps as GivesSteps, Frame as GivesFrame, Flood as GivesFlood, Break as GivesBreak}
 
 -- the step that is repeated
 abbrev pub step_again : Repeated → Step

@@ -1,6 +1,6 @@
 use Rattle.std.proofs.Common.{length, sym, ap, ◌∙◌}
 use Rattle.host_memory.specs.Memory.{Contents}
-use Rattle.host_memory.proofs.Paged.{length-bytes_in}
+use Rattle.host_memory.proofs.MemoryPages.{length-bytes_in}
 use Rattle.host_memory.proofs.memory.Memory.len.Goals as goal
 
 pub returns-clause-value : goal.returns-clause-value

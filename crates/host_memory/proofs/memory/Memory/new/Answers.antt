@@ -1,6 +1,6 @@
 use Rattle.std.proofs.Common.{◌≡◌, ℕ, List}
 use Rattle.host_memory.specs.Memory.{Contents}
-use Rattle.host_memory.proofs.Paged.{bytes_in-none, keys-none}
+use Rattle.host_memory.proofs.MemoryPages.{bytes_in-none, keys-none}
 use Rattle.host_memory.proofs.memory.Memory.new.Goals as goal
 
 made : (bytes bytes' promised promised' : List ℕ) → bytes ≡ bytes' → promised ≡ promised'

@@ -1,6 +1,6 @@
 use Rattle.std.proofs.Common.{subst}
 use Rattle.host_memory.specs.Memory.{Contents, NoRepeats}
-use Rattle.host_memory.proofs.Paged.{no_repeats}
+use Rattle.host_memory.proofs.MemoryPages.{no_repeats}
 use Rattle.host_memory.proofs.memory.Memory.page_count.Goals as goal
 
 pub returns-clause-distinct : goal.returns-clause-distinct

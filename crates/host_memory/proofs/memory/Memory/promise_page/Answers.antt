@@ -2,7 +2,7 @@ use Rattle.std.proofs.Common.{◌≡◌, Contains, rules, sym, ◌∙◌, ap, su
 use Rattle.std.specs.HashMap.{keys}
 use Rattle.host_memory.specs.Memory.{Contents}
 use Rattle.host_memory.specs.Pages.{bytes_in}
-use Rattle.host_memory.proofs.Paged.{zeros_added, added_is_among, others_stay, only_one_more, not_among, is_among}
+use Rattle.host_memory.proofs.MemoryPages.{zeros_added, added_is_among, others_stay, only_one_more, not_among, is_among}
 use Rattle.host_memory.proofs.memory.Memory.promise_page.Goals as goal
 
 pub returns-in_err-zeros-clause-had : goal.returns-in_err-zeros-clause-had

@@ -2,7 +2,7 @@ use borrow.Rule.Slice.PartMut.{mid_of}
 use Rattle.std.proofs.Common.{◌+◌, ◌-◌, ◌%◌, length, refl, ◌∙◌, ap}
 use Rattle.host_memory.specs.Memory.{Contents}
 use Rattle.host_memory.specs.Pages.{byte_on}
-use Rattle.host_memory.proofs.Paged.{read_shown, middle}
+use Rattle.host_memory.proofs.MemoryPages.{read_shown, middle}
 use Rattle.host_memory.proofs.memory.Memory.read_on_page.Goals as goal
 
 pub returns-in-Some : goal.returns-in-Some

@@ -4,7 +4,7 @@ use Rattle.std.specs.Box.{with_value}
 use Rattle.std.specs.HashMap.{keys}
 use Rattle.host_memory.specs.Memory.{Contents, page_of}
 use Rattle.host_memory.specs.Pages.{bytes_in}
-use Rattle.host_memory.proofs.Paged.{not_among, write_piece, length-bytes_in, middle_written}
+use Rattle.host_memory.proofs.MemoryPages.{not_among, write_piece, length-bytes_in, middle_written}
 use Rattle.host_memory.proofs.memory.Memory.write_on_page.Goals as goal
 
 pub returns-in-Some-clause-bytes : goal.returns-in-Some-clause-bytes

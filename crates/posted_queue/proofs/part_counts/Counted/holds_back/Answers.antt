@@ -1,7 +1,7 @@
 use Rattle.std.proofs.Common.{◌≡◌, nat_lt, get_or, ap, subst}
 use Rattle.posted_queue.specs.Rows.{is_held_back}
 use Rattle.posted_queue.proofs.CountLemmas.{tally-is_held_back}
-use Rattle.posted_queue.proofs.counted.Counted.holds_back.Goals as goal
+use Rattle.posted_queue.proofs.part_counts.Counted.holds_back.Goals as goal
 
 pub returns-in-Some : goal.returns-in-Some
 returns-in-Some g c =

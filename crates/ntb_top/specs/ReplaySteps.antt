@@ -11,7 +11,7 @@ use Rattle.plan_model.specs.DeclaredPlans.{IsPairOf, IsQueueOf}
 use Rattle.plan_model.specs.Plans.{pair_plan}
 use Rattle.ledger_model.specs.Log.{Answered}
 use Rattle.fabric_core.specs.Fabric.{FabricState, bare_plan, plan_kept}
-use Rattle.fabric_core.specs.Pinned.{HasMade, log_after}
+use Rattle.fabric_core.specs.LogClauses.{HasMade, log_after}
 use Rattle.report_text.specs.declared.whole.LaneCount.{LaneCount}
 
 -- the fabric has made the steps of these lines of a plan, and keeps the plan's pairs and devices

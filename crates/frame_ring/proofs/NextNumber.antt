@@ -7,7 +7,7 @@ use Rattle.bridge_pair.specs.Pages.{PagesGrow}
 use Rattle.bridge_pair.proofs.Promises.{grows_further, grows_nothing}
 use Rattle.frame_ring.specs.Calls.{TouchedByBegin, TouchedByDown, begin_answer, down_answer, down_begun, frame_begun, free_seen, head_seen, index_word_seen, sizes_seen}
 use Rattle.frame_ring.specs.Port.{PortState, is_busy, writes_left}
-use Rattle.frame_ring.specs.Seen.{TouchesLeft}
+use Rattle.frame_ring.specs.PortView.{TouchesLeft}
 
 told_by_room : (head tail told number : ℕ) (few : Bool) → BegunOk number ≡ (if few then NoRoom head tail else BegunOk told) → (if few then NoRoom head tail else BegunOk told) ≡ BegunOk told
 told_by_room head tail told number true e = absurd (cc e)

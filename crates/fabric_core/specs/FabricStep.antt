@@ -5,7 +5,7 @@ use Rattle.step_kinds.specs.declared.steps.Answer.{Answer}
 use Rattle.step_kinds.specs.declared.steps.Step.{Step}
 use Rattle.fabric_core.specs.Fabric.{FabricState, may_want_memory, plain, plan_kept}
 use Rattle.fabric_core.specs.Lawful.{IsLawful}
-use Rattle.fabric_core.specs.Pinned.{HasMade, IsAnswered, IsLikely}
+use Rattle.fabric_core.specs.LogClauses.{HasMade, IsAnswered, IsLikely}
 
 -- whatever steps of a plan it stood for before
 pub record HasStepped {E : Type 0} (old new : FabricState) (step : Step) (result : Result Answer E) : Type 0 where

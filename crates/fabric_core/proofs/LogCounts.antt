@@ -18,7 +18,7 @@ use Rattle.bridge_pair.specs.Bridge.{Bridge}
 use Rattle.fabric_rule.specs.Parts.{queue_of}
 use Rattle.fabric_rule.specs.StandsFor.{QueueStands, has_forgotten, view_of}
 use Rattle.fabric_core.specs.Fabric.{FabricState, accepted_of, delivered_of, pair_of, plan_kept}
-use Rattle.fabric_core.specs.Pinned.{HasMade, lane_of_device, log_after}
+use Rattle.fabric_core.specs.LogClauses.{HasMade, lane_of_device, log_after}
 use Rattle.fabric_core.proofs.Standing.{plan_of_standing, queue_of_bare}
 
 module _ (plan : Plan) (steps : List Step) (fabric : FabricState) (made : HasMade plan steps fabric) where

@@ -1,5 +1,5 @@
 use Rattle.posted_queue.proofs.CountLemmas.{counted-taken, counted-remove}
-use Rattle.posted_queue.proofs.counted.Counted.take.Goals as goal
+use Rattle.posted_queue.proofs.part_counts.Counted.take.Goals as goal
 
 pub overflow_sub-self-2 : goal.overflow_sub-self-2
 overflow_sub-self-2 g c =

@@ -5,7 +5,7 @@ use Rattle.std.proofs.lemmas.List.Elements.{All-get_or}
 use Rattle.step_kinds.specs.declared.plan.Line.{Line}
 use Rattle.step_kinds.specs.declared.plan.Plan.{Plan}
 use Rattle.plan_model.specs.DeclaredPlans.{IsPermitted}
-use Rattle.plan_model.proofs.Permitted.{permitted_by_other}
+use Rattle.plan_model.proofs.PermittedSteps.{permitted_by_other}
 use Rattle.fabric_core.specs.Fabric.{bare_plan}
 
 -- a fabric that keeps a plan's pairs and devices may make each of the plan's steps
