@@ -15,8 +15,8 @@ use Rattle.bridge_pair.specs.Ends.{after_posting}
 use Rattle.bridge_pair.specs.Flights.{Flying, flying_order, flying_of}
 use Rattle.bridge_pair.specs.Laws.{KeepsPromises, PostingUsesOnePromise, LandingKeepsPromises, LinkStepsKeepPromises, OwnWritesKeepPromises}
 use Rattle.bridge_pair.specs.Links.{after_step, dropped}
-use Rattle.bridge_pair.specs.declared.flying.Arrival.{Arrival}
-use Rattle.bridge_pair.specs.declared.flying.Arrival.TheVariants.{AtAddress, AtPad, AtBell}
+use Rattle.bridge_pair.specs.declared.flying_write.Arrival.{Arrival}
+use Rattle.bridge_pair.specs.declared.flying_write.Arrival.TheVariants.{AtAddress, AtPad, AtBell}
 
 pub keeps_all : (bridge : Bridge) → KeepsPromises bridge bridge
 keeps_all bridge = record { plan = refl; pages = λ side. refl; spare = λ side. refl }

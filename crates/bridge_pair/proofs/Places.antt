@@ -18,8 +18,8 @@ use Rattle.bridge_pair.specs.Calls.{HasPages}
 use Rattle.bridge_pair.specs.Ends.{HasPlace}
 use Rattle.bridge_pair.specs.Flights.{Flying, Translates, arrival_of}
 use Rattle.bridge_pair.specs.Writes.{IsTarget}
-use Rattle.bridge_pair.specs.declared.flying.Arrival.{Arrival}
-use Rattle.bridge_pair.specs.declared.flying.Arrival.TheVariants.{AtAddress, AtPad, AtBell}
+use Rattle.bridge_pair.specs.declared.flying_write.Arrival.{Arrival}
+use Rattle.bridge_pair.specs.declared.flying_write.Arrival.TheVariants.{AtAddress, AtPad, AtBell}
 use Rattle.bridge_pair.specs.declared.write.Target.{Target}
 use Rattle.bridge_pair.specs.declared.write.Target.TheVariants.{ThroughWindow, ToPad, ToBell}
 

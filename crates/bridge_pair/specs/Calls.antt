@@ -13,8 +13,8 @@ use Rattle.bridge_pair.specs.Bridge.{Bridge, pads_of, bells_of, bytes_of, flight
 use Rattle.bridge_pair.specs.Ends.{after_posting}
 use Rattle.bridge_pair.specs.Flights.{Flying, flying_order, flying_of}
 use Rattle.bridge_pair.specs.Writes.{PostedWrite}
-use Rattle.bridge_pair.specs.declared.flying.Arrival.{Arrival}
-use Rattle.bridge_pair.specs.declared.flying.Arrival.TheVariants.{AtAddress, AtPad, AtBell}
+use Rattle.bridge_pair.specs.declared.flying_write.Arrival.{Arrival}
+use Rattle.bridge_pair.specs.declared.flying_write.Arrival.TheVariants.{AtAddress, AtPad, AtBell}
 
 -- the pages that what arrives at a side writes to are promised; registers have none
 abbrev pub HasPages : List ℕ → Arrival → Type 0

@@ -10,8 +10,8 @@ use Rattle.posted_queue.specs.Flight.{Flight, nothing_in_flight, posted, given_b
 use Rattle.posted_queue.specs.declared.LandAnswer.{LandAnswer}
 use Rattle.posted_queue.specs.declared.LandAnswer.TheVariants.{Landed, Blocked, Nothing}
 use Rattle.bridge_pair.specs.Flights.{Flying}
-use Rattle.bridge_pair.specs.declared.flying.Arrival.{Arrival}
-use Rattle.bridge_pair.specs.declared.flying.Arrival.TheVariants.{AtAddress, AtPad, AtBell}
+use Rattle.bridge_pair.specs.declared.flying_write.Arrival.{Arrival}
+use Rattle.bridge_pair.specs.declared.flying_write.Arrival.TheVariants.{AtAddress, AtPad, AtBell}
 
 pub record End : Type 0 where
   pub pads : List ℕ

@@ -9,8 +9,8 @@ use Rattle.plan_model.specs.Orders.{order_of}
 use Rattle.plan_model.specs.Plans.{side_plan}
 use Rattle.byte_model.specs.Addresses.{peer_address}
 use Rattle.bridge_pair.specs.Writes.{PostedWrite}
-use Rattle.bridge_pair.specs.declared.flying.Arrival.{Arrival}
-use Rattle.bridge_pair.specs.declared.flying.Arrival.TheVariants.{AtAddress, AtPad, AtBell}
+use Rattle.bridge_pair.specs.declared.flying_write.Arrival.{Arrival}
+use Rattle.bridge_pair.specs.declared.flying_write.Arrival.TheVariants.{AtAddress, AtPad, AtBell}
 use Rattle.bridge_pair.specs.declared.write.Target.{Target}
 use Rattle.bridge_pair.specs.declared.write.Target.TheVariants.{ThroughWindow, ToPad, ToBell}
 

@@ -3,14 +3,14 @@
 ghost use Rattle.std.specs.Prelude.{◌≡◌, ◌+◌, ◌<◌, ◌≤◌, Contains, IfOk, IsOk, OnOk, OnErr, length, option_map, replicate, slice_get, slice_index, slice_set};
 ghost use Rattle.bridge_pair.specs.Ends.{HasPlace, IsEnd, after_answer, after_arrival, after_posting, fresh_end, label_landed, stored_at};
 ghost use Rattle.bridge_pair.specs.Flights.{Flying, flying_order};
-ghost use Rattle.bridge_pair.specs.declared.flying.Arrival.TheVariants.{AtAddress};
+ghost use Rattle.bridge_pair.specs.declared.flying_write.Arrival.TheVariants.{AtAddress};
 ghost use Rattle.bridge_pair.specs.Pages.{PagesGrow};
 ghost use Rattle.bridge_regs.specs.Doorbell.{with_pending};
 ghost use Rattle.host_memory.specs.Memory.{ArePromised, Touches, bytes_at, word_at, word_bytes};
 ghost use Rattle.posted_queue.specs.Flight.{discarded, given_back, promised};
 ghost use Rattle.posted_queue.specs.Landing.{after_landing, land_answer};
 
-use crate::flying::{Arrival, FlyingWrite};
+use crate::flying_write::{Arrival, FlyingWrite};
 use crate::write::WriteBytes;
 use bridge_regs::{Bells, Pads};
 use host_memory::Memory;

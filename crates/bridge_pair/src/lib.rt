@@ -13,7 +13,7 @@
 
 mod book;
 mod endpoint;
-mod flying;
+mod flying_write;
 mod fresh;
 pub mod laws;
 mod pair;

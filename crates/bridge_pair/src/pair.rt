@@ -20,7 +20,7 @@ ghost use Rattle.step_kinds.specs.Sides.{other_side};
 
 use crate::book::SideBook;
 use crate::endpoint::Endpoint;
-use crate::flying::FlyingWrite;
+use crate::flying_write::FlyingWrite;
 use crate::fresh::{fresh_book, fresh_endpoint};
 use crate::plans::{class_among, classes_of, copy_of, index_word_at, sending_ring, side_plan};
 use crate::write::Write;

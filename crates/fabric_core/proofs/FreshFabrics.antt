@@ -14,7 +14,7 @@ use Rattle.fabric_rule.specs.Parts.{PairState}
 use Rattle.fabric_rule.proofs.Facade.{fresh_pair_stands}
 use Rattle.fabric_core.specs.Fabric.{FabricState, no_state, pair_of, plan_kept}
 use Rattle.fabric_core.specs.Parts.{AreAlone}
-use Rattle.fabric_core.specs.Pinned.{HasMade}
+use Rattle.fabric_core.specs.LogClauses.{HasMade}
 use Rattle.fabric_core.proofs.Standing.{MadeSome, declared_bare, plan_of_standing}
 
 -- a pair before any step, with what is promised of its memories

@@ -13,7 +13,7 @@ use Rattle.bridge_pair.specs.Pages.{PagesGrow}
 use Rattle.fabric_rule.specs.Parts.{QueuePart, plain_bridge}
 use Rattle.frame_ring.specs.Calls.{begin_answer as port_begin_answer, down_answer, down_begun, frame_begun, where_begun}
 use Rattle.frame_ring.specs.Port.{Left, PortState, unused_of, writes_left}
-use Rattle.frame_ring.specs.Seen.{HasPages, HasPagesIn, IsLeftReady, IsReady, with_room}
+use Rattle.frame_ring.specs.PortView.{HasPages, HasPagesIn, IsLeftReady, IsReady, with_room}
 use Rattle.queue_pair.specs.Gates.{after_begin, after_qpdown, closed_where_begun, port_unless, qpdown_answer, sender_refusal}
 use Rattle.queue_pair.specs.Queue.{QueueState}
 use Rattle.queue_pair.specs.declared.BeginAnswer.{BeginAnswer}

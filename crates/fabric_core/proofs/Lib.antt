@@ -1,10 +1,10 @@
 pub mod CleanedPairs
-pub mod Counted
 pub mod Forgetting
 pub mod FrameTurns
 pub mod FreshFabrics
 pub mod FreshQueues
 pub mod Keeping
+pub mod LogCounts
 pub mod MorePages
 pub mod OneFlight
 pub mod Phases

@@ -13,7 +13,7 @@ use Rattle.hand_shake.specs.Offers.{with_posted}
 use Rattle.hand_shake.specs.declared.CheckAnswer.{CheckAnswer}
 use Rattle.hand_shake.specs.declared.CheckAnswer.TheVariants.{Up}
 use Rattle.plan_model.specs.Link.{is_up}
-use Rattle.fabric_core.specs.Promised.{HasMorePages, with_promised}
+use Rattle.fabric_core.specs.Promises.{HasMorePages, with_promised}
 use Rattle.fabric_core.specs.Turns.{bridge_turn, register_turn}
 
 pub on_err : {X E : Type 0} {P : Type 0} (result : Result X E) → P → OnErr result P

@@ -19,7 +19,7 @@ use Rattle.step_kinds.specs.declared.steps.Step.TheVariants.{Enable, Train, Brea
 use Rattle.plan_model.specs.Both.{Both, at_side}
 use Rattle.plan_model.specs.DeclaredPlans.{Agree, IsDeclared, IsPair, IsPairOf, IsPermitted, IsPoke, IsQueueOf, IsShown, IsSide, SizesFit}
 use Rattle.plan_model.specs.Plans.{no_pair, pair_plan, side_plan}
-use Rattle.plan_model.proofs.Permitted.{permitted_by_other, queue_of_other}
+use Rattle.plan_model.proofs.PermittedSteps.{permitted_by_other, queue_of_other}
 use Rattle.ledger_laws.proofs.Facade.{every_frame_comes_once, every_log_is_in_order, joined_means_agreement, lane_part_lands, log_of-last, no_ordinary_ver_differs_or_long, quiet_means_done, up_means_agreement, up_side_agrees}
 use Rattle.ledger_laws.specs.Laws.{HasSides, IsOrdinaryOn, IsSide as IsLawSide}
 use Rattle.ledger_model.specs.Ledger.{PairPart, side_of}
@@ -29,7 +29,7 @@ use Rattle.memory_model.specs.Memory.{Site, bytes_of_site, memory_of, site_of}
 use Rattle.byte_laws.proofs.Facade.{site_of-elsewhere, sites_are_the_ledger, steps_of_log, stored_pairs_are_separate}
 use Rattle.bridge_pair.specs.Bridge.{Bridge, book_of}
 use Rattle.bridge_pair.specs.Words.{WindowsFit}
-use Rattle.frame_ring.specs.Seen.{FitsRings}
+use Rattle.frame_ring.specs.PortView.{FitsRings}
 use Rattle.hand_shake.specs.Checks.{check_answer}
 use Rattle.hand_shake.specs.declared.CheckAnswer.TheVariants.{Up as ComesUp}
 use Rattle.fabric_rule.specs.Answers.{of_check}
@@ -42,8 +42,8 @@ use Rattle.fabric_core.specs.Fabrics.{IsFabric, fabric_seen}
 use Rattle.fabric_core.specs.Parts.{Agrees, CanMake}
 use Rattle.fabric_core.specs.declared.fabric.Fabric.TheInside.{Inside}
 use Rattle.fabric_core.specs.Lawful.{IsLawful, pair_after}
-use Rattle.fabric_core.specs.Stepped.{HasStepped}
-use Rattle.fabric_core.specs.Pinned.{HasMade, IsAnswered, IsLikely, log_after}
+use Rattle.fabric_core.specs.FabricStep.{HasStepped}
+use Rattle.fabric_core.specs.LogClauses.{HasMade, IsAnswered, IsLikely, log_after}
 
 -- A pair that differs in promises alone
 

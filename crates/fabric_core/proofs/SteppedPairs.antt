@@ -9,7 +9,7 @@ use Rattle.plan_model.specs.Plans.{side_plan}
 use Rattle.bridge_pair.specs.Bridge.{Bridge}
 use Rattle.fabric_rule.specs.Parts.{PairState, QueuePart, no_queue, plain_pair, with_bridge}
 use Rattle.fabric_core.specs.Parts.{IsWhole, KeepsPort}
-use Rattle.fabric_core.specs.Promised.{HasMorePages}
+use Rattle.fabric_core.specs.Promises.{HasMorePages}
 use Rattle.fabric_core.specs.Turns.{bridge_turn}
 use Rattle.fabric_core.proofs.Turning.{more_plain, more_promised, turn_promised}
 use Rattle.fabric_core.proofs.Whole.{SideIsWhole, both_whole, peer_kept, side_turned, side_whole, whole_kept}

@@ -32,7 +32,7 @@ use Rattle.hand_shake.specs.declared.ReadyAnswer.TheVariants.{Ok as IsReady}
 use Rattle.fabric_rule.specs.Moves.{Move, bridge_move, clean_move, posted_aside, xbegun}
 use Rattle.fabric_rule.specs.Parts.{PairState, QueuePart, plain_bridge, plain_pair, queue_of}
 use Rattle.fabric_rule.specs.Steps.{move_of}
-use Rattle.fabric_core.specs.Promised.{HasMorePages, KeepsPromised}
+use Rattle.fabric_core.specs.Promises.{HasMorePages, KeepsPromised}
 use Rattle.fabric_core.specs.Turns.{bare_pair, bridge_turn, place_of, queue_turn, turned}
 use Rattle.fabric_core.specs.declared.places.StepPlace.{StepPlace}
 use Rattle.fabric_core.specs.declared.places.StepPlace.TheVariants.{OnQueue, OnSide, OnBridge}

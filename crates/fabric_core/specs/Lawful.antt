@@ -16,7 +16,7 @@ use Rattle.ledger_laws.specs.States.{AgreesWith}
 use Rattle.ledger_model.specs.Ledger.{PairPart, side_of}
 use Rattle.ledger_model.specs.Log.{delivered, ledger_of}
 use Rattle.memory_model.specs.Memory.{memory_of}
-use Rattle.fabric_core.specs.Pinned.{log_after}
+use Rattle.fabric_core.specs.LogClauses.{log_after}
 
 -- a pair after these steps
 abbrev pub pair_after : Plan → List Step → ℕ → PairPart

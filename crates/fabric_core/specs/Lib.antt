@@ -1,14 +1,14 @@
 pub mod Counts
 pub mod Fabric
+pub mod FabricStep
 pub mod Fabrics
 pub mod Lawful
+pub mod LogClauses
 pub mod Numbers
 pub mod PairBoxes
 pub mod Parts
-pub mod Pinned
-pub mod Promised
+pub mod Promises
 pub mod QueueBoxes
 pub mod QueueCalls
 pub mod Sessions
-pub mod Stepped
 pub mod Turns

@@ -11,7 +11,7 @@ use Rattle.step_kinds.specs.declared.steps.Step.TheVariants.{Begin, Xbegin}
 use Rattle.bridge_pair.specs.Bridge.{Bridge, book_of, flight_of, pages_of, with_flight}
 use Rattle.bridge_pair.specs.Words.{WindowsFit}
 use Rattle.frame_ring.specs.Port.{PortState, unused_of}
-use Rattle.frame_ring.specs.Seen.{FitsRings, HasPagesIn}
+use Rattle.frame_ring.specs.PortView.{FitsRings, HasPagesIn}
 use Rattle.hand_shake.specs.Checks.{check_answer}
 use Rattle.hand_shake.specs.declared.CheckAnswer.TheVariants.{Up}
 use Rattle.plan_model.specs.DeclaredPlans.{IsPayload, SameQueue}
@@ -21,7 +21,7 @@ use Rattle.queue_pair.specs.Queue.{fresh_queue}
 use Rattle.fabric_rule.specs.Parts.{PairState, QueuePart, no_queue, queue_of, queues_of}
 use Rattle.fabric_rule.specs.Laws.{IsFreshQueue}
 use Rattle.fabric_rule.specs.StandsFor.{IsOn}
-use Rattle.fabric_core.specs.Promised.{CanTurn}
+use Rattle.fabric_core.specs.Promises.{CanTurn}
 use Rattle.fabric_core.specs.Turns.{place_of}
 use Rattle.fabric_core.specs.declared.places.StepPlace.{StepPlace}
 use Rattle.fabric_core.specs.declared.places.StepPlace.TheVariants.{OnQueue}

@@ -3,7 +3,7 @@ use Rattle.std.specs.Prelude.{◌≡◌, true, IfOk, OnErr, OnOk, Result}
 use Rattle.step_kinds.specs.declared.steps.Answer.{Answer}
 use Rattle.bridge_pair.specs.Bridge.{Bridge}
 use Rattle.frame_ring.specs.Port.{PortState}
-use Rattle.frame_ring.specs.Seen.{FitsRings, HasPagesIn, HasRoomIn}
+use Rattle.frame_ring.specs.PortView.{FitsRings, HasPagesIn, HasRoomIn}
 use Rattle.queue_pair.specs.Gates.{is_joined}
 use Rattle.queue_pair.specs.Queue.{QueueState}
 use Rattle.fabric_rule.specs.Parts.{QueuePart, plain_bridge}

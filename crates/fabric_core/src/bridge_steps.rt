@@ -8,7 +8,7 @@ ghost use Rattle.bridge_pair.specs.Links.{after_train};
 ghost use Rattle.bridge_pair.specs.Writes.{memory_write, pad_write};
 ghost use Rattle.bridge_regs.specs.Doorbell.{with_masked};
 ghost use Rattle.fabric_core.specs.Fabric.{may_want_memory};
-ghost use Rattle.fabric_core.specs.Promised.{CanTurn, HasMorePages};
+ghost use Rattle.fabric_core.specs.Promises.{CanTurn, HasMorePages};
 ghost use Rattle.fabric_core.specs.Turns.{bridge_turn, register_turn};
 ghost use Rattle.fabric_rule.specs.Answers.{of_link};
 ghost use Rattle.fabric_rule.specs.Moves.{posted_aside};

@@ -2,8 +2,8 @@
 
 ghost use Rattle.std.specs.Prelude.{IfOk, IsErr, List, OnErr, OnOk, [], length, true, ◌++◌, ◌<◌, ◌∷◌, ◌≡◌};
 ghost use Rattle.fabric_core.specs.Fabric.{StandsFor, bare_plan, may_want_memory, pair_of, plain, plan_kept};
-ghost use Rattle.fabric_core.specs.Pinned.{AreCounters, IsAccepted, IsDelivered, IsSession};
-ghost use Rattle.fabric_core.specs.Stepped.{HasStepped};
+ghost use Rattle.fabric_core.specs.LogClauses.{AreCounters, IsAccepted, IsDelivered, IsSession};
+ghost use Rattle.fabric_core.specs.FabricStep.{HasStepped};
 ghost use Rattle.fabric_rule.specs.Parts.{queue_of};
 ghost use Rattle.plan_model.specs.DeclaredPlans.{IsDeclared, IsPairOf, IsPermitted, IsQueueOf};
 ghost use Rattle.step_kinds.specs.Sides.{other_side};

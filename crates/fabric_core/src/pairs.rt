@@ -4,13 +4,13 @@ ghost use Rattle.std.specs.Prelude.{IfOk, IsErr, OnErr, OnOk, length, map, slice
 ghost use Rattle.bridge_pair.specs.Bridge.{pages_of};
 ghost use Rattle.fabric_core.specs.Fabric.{may_want_memory};
 ghost use Rattle.fabric_core.specs.Parts.{Agrees, AreAlone, AreFreshQueues, AreLimitsOn, CanForget, CanMake, CanTurnQueue, HasOtherRoom, KeepsPort};
-ghost use Rattle.fabric_core.specs.Promised.{CanTurn};
+ghost use Rattle.fabric_core.specs.Promises.{CanTurn};
 ghost use Rattle.fabric_core.specs.Turns.{bridge_turn, queue_turn, turned};
 ghost use Rattle.fabric_rule.specs.Laws.{IsFreshPair};
 ghost use Rattle.fabric_rule.specs.Moves.{bridge_move, clean_move, forgotten_queue};
 ghost use Rattle.fabric_rule.specs.Parts.{no_queue, plain_bridge, plain_pair, queue_of};
 ghost use Rattle.fabric_rule.specs.Steps.{move_of};
-ghost use Rattle.frame_ring.specs.Seen.{FitsRings, HasPagesIn, HasRoomIn};
+ghost use Rattle.frame_ring.specs.PortView.{FitsRings, HasPagesIn, HasRoomIn};
 ghost use Rattle.plan_model.specs.DeclaredPlans.{IsPair};
 ghost use Rattle.plan_model.specs.Plans.{side_plan as side_plan_of};
 ghost use Rattle.queue_pair.specs.Gates.{is_joined};

@@ -9,7 +9,7 @@ ghost use Rattle.fabric_core.specs.Turns.{ack_turn, begin_turn, clear_turn, copy
 ghost use Rattle.fabric_rule.specs.Moves.{forgotten_queue};
 ghost use Rattle.fabric_rule.specs.Parts.{count_in, plain_bridge};
 ghost use Rattle.frame_ring.specs.Calls.{free_answer, reset_by};
-ghost use Rattle.frame_ring.specs.Seen.{FitsRings, HasPagesIn, HasRoomIn};
+ghost use Rattle.frame_ring.specs.PortView.{FitsRings, HasPagesIn, HasRoomIn};
 ghost use Rattle.plan_model.specs.DeclaredPlans.{IsPair};
 ghost use Rattle.plan_model.specs.Plans.{side_plan as side_plan_of};
 ghost use Rattle.queue_pair.specs.Gates.{is_joined};

@@ -43,7 +43,7 @@ use Rattle.fabric_rule.specs.InPlace.{FitsSlot, sender_of}
 use Rattle.fabric_rule.specs.Moves.{Move, accepted_where_begun, begin_move, qpdown_move, xbegin_move, xbegun}
 use Rattle.fabric_rule.specs.Parts.{QueuePart, SessionCount, count_in, one_more, with_queue}
 use Rattle.fabric_rule.specs.StandsFor.{IsOn, PairStands, QueueStands, has_forgotten, view_of}
-use Rattle.fabric_rule.proofs.Begun.{begun_in_place, free_less, last-begun, length-begun, length-pieces, pieces_fit, some_pieces}
+use Rattle.fabric_rule.proofs.NewEntries.{begun_in_place, free_less, last-begun, length-begun, length-pieces, pieces_fit, some_pieces}
 use Rattle.fabric_rule.proofs.Counts.{counts_one_more}
 use Rattle.fabric_rule.proofs.Follows.{Follows, three_same, updated_same}
 use Rattle.fabric_rule.proofs.Gates.{NotOk, Passes, Refuses, gates, not_accepted, port_says, refusal_says, side_says}

@@ -23,7 +23,7 @@ use Rattle.step_kinds.specs.declared.steps.Label.TheVariants.{Index}
 use Rattle.ledger_model.specs.Receiving.{ack_step, clear_step}
 use Rattle.bridge_pair.specs.Bridge.{Bridge}
 use Rattle.frame_ring.specs.Calls.{ack_answer, acked_by, after_ack, after_clear, clear_answer, cleared_by}
-use Rattle.frame_ring.specs.Seen.{flags_cleared, index_posted}
+use Rattle.frame_ring.specs.PortView.{flags_cleared, index_posted}
 use Rattle.queue_pair.specs.Queue.{QueueState, with_port}
 use Rattle.fabric_rule.specs.Answers.{of_ack, of_clear}
 use Rattle.fabric_rule.specs.InPlace.{CountsOfPhase}

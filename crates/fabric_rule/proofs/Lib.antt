@@ -1,7 +1,6 @@
 pub mod Arrivals
 pub mod Aside
 pub mod Beginning
-pub mod Begun
 pub mod BothReadings
 pub mod Changes
 pub mod Copying
@@ -18,6 +17,7 @@ pub mod Handshake
 pub mod Landing
 pub mod Links
 pub mod Looking
+pub mod NewEntries
 pub mod OneQueue
 pub mod Posting
 pub mod PostingNext

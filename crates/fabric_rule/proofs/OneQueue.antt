@@ -15,7 +15,7 @@ use Rattle.ledger_model.specs.Ledger.{LanePart, lane_to, side_of, with_lane, Dev
 use Rattle.memory_model.specs.Memory.{Site, bytes_of_site}
 use Rattle.byte_model.specs.Headers.{index_word_in}
 use Rattle.ledger_model.specs.Reading.{Reading, by_bytes}
-use Rattle.frame_ring.specs.Seen.{bytes_seen}
+use Rattle.frame_ring.specs.PortView.{bytes_seen}
 use Rattle.queue_pair.specs.Queue.{QueueState, with_port}
 use Rattle.lane_model.specs.Lane.{Entry}
 use Rattle.bridge_pair.specs.Bridge.{Bridge, book_of}

@@ -23,14 +23,14 @@ use Rattle.ledger_model.specs.Sending.{next_begun as next_in_ledger, post_first,
 use Rattle.bridge_pair.specs.Bridge.{Bridge}
 use Rattle.frame_ring.specs.Port.{Sending, with_sending}
 use Rattle.frame_ring.specs.Calls.{after_post, first_label, rest_of, let_go, post_answer, posted_by}
-use Rattle.frame_ring.specs.Seen.{ring_posted}
+use Rattle.frame_ring.specs.PortView.{ring_posted}
 use Rattle.queue_pair.specs.Queue.{QueueState, with_port}
 use Rattle.fabric_rule.specs.Answers.{of_post}
 use Rattle.fabric_rule.specs.InPlace.{FitsSlot, IsWriteOf, SendingInPlace, last_entry, sender_of}
 use Rattle.fabric_rule.specs.Moves.{Move, post_move}
 use Rattle.fabric_rule.specs.Parts.{QueuePart, with_bridge, with_queue}
 use Rattle.fabric_rule.specs.StandsFor.{PairStands, QueueStands, has_forgotten, is_left, sent_of, view_of}
-use Rattle.fabric_rule.proofs.Begun.{begun_in_place, last-begun, length-begun}
+use Rattle.fabric_rule.proofs.NewEntries.{begun_in_place, last-begun, length-begun}
 use Rattle.step_kinds.specs.Bits.{has_bit}
 use Rattle.step_kinds.specs.Sides.{other_side}
 use Rattle.fabric_rule.proofs.Changes.{changes, none_closes, stays}

@@ -26,7 +26,7 @@ use Rattle.ledger_model.specs.Reading.{has_window}
 use Rattle.bridge_pair.specs.Bridge.{Bridge, flight_of, memory_size, with_flight}
 use Rattle.bridge_pair.specs.Flights.{flying_of}
 use Rattle.bridge_pair.specs.Writes.{PostedWrite, bell_write, memory_write}
-use Rattle.frame_ring.specs.Seen.{ring_posted, index_posted}
+use Rattle.frame_ring.specs.PortView.{ring_posted, index_posted}
 use Rattle.posted_queue.specs.Flight.{given_back, posted}
 use Rattle.fabric_rule.specs.InPlace.{HaveBytes, IsBegun, IsWriteOf, LiesIn}
 use Rattle.fabric_rule.specs.StandsFor.{PairStands, write_of, flying_labelled, raw_bytes, sent_of}

@@ -20,8 +20,8 @@ use Rattle.ledger_model.specs.Ledger.{LanePart}
 use Rattle.frame_ring.specs.Port.{Receiving}
 use Rattle.bridge_pair.specs.Bridge.{memory_size}
 use Rattle.bridge_pair.specs.Flights.{Flying}
-use Rattle.bridge_pair.specs.declared.flying.Arrival.{Arrival}
-use Rattle.bridge_pair.specs.declared.flying.Arrival.TheVariants.{AtAddress}
+use Rattle.bridge_pair.specs.declared.flying_write.Arrival.{Arrival}
+use Rattle.bridge_pair.specs.declared.flying_write.Arrival.TheVariants.{AtAddress}
 
 -- A lane from each of its ends
 

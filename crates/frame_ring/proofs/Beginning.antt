@@ -16,7 +16,7 @@ use Rattle.frame_ring.specs.Outgoing.{Outgoing, all_writes_in, entry_at, with_pr
 use Rattle.frame_ring.specs.Port.{Left, PortState, Sending, is_busy, left_of_entry, unused_of, with_sending, writes_from, writes_left}
 use Rattle.frame_ring.specs.Promises.{AreEntriesPromised, IsEntryPromised, TouchesEntries, TouchesEntry}
 use Rattle.frame_ring.specs.Rings.{QueueOf}
-use Rattle.frame_ring.specs.Seen.{HasPages, HasPagesIn, IsLeftReady, TouchesLeft, with_room}
+use Rattle.frame_ring.specs.PortView.{HasPages, HasPagesIn, IsLeftReady, TouchesLeft, with_room}
 use Rattle.frame_ring.proofs.Entries.{length-writes_from}
 use Rattle.frame_ring.proofs.Progress.{some_pieces}
 use Rattle.frame_ring.proofs.WritePages.{writes_ready, writes_touched}

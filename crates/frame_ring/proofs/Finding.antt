@@ -16,7 +16,7 @@ use Rattle.bridge_pair.specs.Pages.{PagesGrow}
 use Rattle.bridge_pair.proofs.Promises.{grows_further, grows_nothing, promised_still}
 use Rattle.frame_ring.specs.Calls.{FindsEntry, TouchedByFlags, TouchedByLook, found_seen, look_found}
 use Rattle.frame_ring.specs.Port.{Left, PortState, Receiving, with_receiving, writes_left}
-use Rattle.frame_ring.specs.Seen.{HasPages, IsLeftReady, IsReady, IsReadyToLand, TouchesWrite, with_room}
+use Rattle.frame_ring.specs.PortView.{HasPages, IsLeftReady, IsReady, IsReadyToLand, TouchesWrite, with_room}
 use Rattle.frame_ring.specs.declared.RingLook.TheVariants.{Ready}
 
 -- Pages of the two sides

@@ -1,9 +1,9 @@
-pub mod Answered
 pub mod Beginning
 pub mod Entries
 pub mod EntryPages
 pub mod Finding
 pub mod NextLabel
+pub mod NextNumber
 pub mod PostedBytes
 pub mod Progress
 pub mod Ready

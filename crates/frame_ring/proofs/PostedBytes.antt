@@ -11,7 +11,7 @@ use Rattle.bridge_pair.specs.Writes.{PostedWrite, memory_write}
 use Rattle.byte_model.specs.RingWrites.{queue_write}
 use Rattle.plan_model.specs.Sizes.{layout_of}
 use Rattle.ring_geometry.specs.Geometry.{window_of}
-use Rattle.frame_ring.specs.Seen.{IsReadyToLand, reaches}
+use Rattle.frame_ring.specs.PortView.{IsReadyToLand, reaches}
 
 pub ready_to_post : (plan seen : PairPlan) (side from : Side) (queue : ℕ) (bridge : Bridge) (label : Label) (window offset : ℕ) (bytes : List ℕ) (write : PostedWrite)
     → seen ≡ plan → from ≡ side → write ≡ memory_write label window offset bytes → window ≡ window_of (layout_of plan side queue)

@@ -16,7 +16,7 @@ use Rattle.plan_model.specs.Labels.{labels_of}
 use Rattle.bridge_pair.specs.Bridge.{Bridge, pages_of, with_bytes}
 use Rattle.frame_ring.specs.Calls.{after_post, first_label, first_posted, let_go, more_entries, more_parts, next_begun, part_copied, posted_by, rest_of}
 use Rattle.frame_ring.specs.Port.{Left, PortState, Receiving, Sending, is_busy, left_of_entry, with_receiving, writes_from}
-use Rattle.frame_ring.specs.Seen.{HasPages, HasPagesIn, IsLeftReady, IsReadyToLand, entry_at_hand, reaches, ring_posted, window_posted}
+use Rattle.frame_ring.specs.PortView.{HasPages, HasPagesIn, IsLeftReady, IsReadyToLand, entry_at_hand, reaches, ring_posted, window_posted}
 
 -- a port has its pages however it is seen
 pub pages_seen : (port seen : PortState) (pair : Bridge) → port ≡ seen → HasPagesIn seen pair → HasPagesIn port pair

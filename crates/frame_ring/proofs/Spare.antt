@@ -18,7 +18,7 @@ use Rattle.bridge_pair.specs.Writes.{PostedWrite, bell_write, memory_write}
 use Rattle.frame_ring.specs.Calls.{after_clear, after_copy, after_post, first_label, gathered_next, let_go, more_entries, more_parts, next_begun, part_copied, rest_of}
 use Rattle.frame_ring.specs.Outgoing.{IsLabelOf}
 use Rattle.frame_ring.specs.Port.{PortState, Receiving, Sending, unused_of, with_receiving, writes_left}
-use Rattle.frame_ring.specs.Seen.{reaches, ring_posted, window_posted}
+use Rattle.frame_ring.specs.PortView.{reaches, ring_posted, window_posted}
 use Rattle.frame_ring.proofs.Ready.{lefts, next_keeps}
 
 flight_with : (bridge : Bridge) (side : Side) (flight : Flight Flying) → flight_of (with_flight bridge side flight) side ≡ flight

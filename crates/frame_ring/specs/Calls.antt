@@ -21,7 +21,7 @@ use Rattle.host_memory.specs.Memory.{Touches}
 use Rattle.posted_queue.specs.Flight.{given_back}
 use Rattle.bridge_pair.specs.Bridge.{Bridge, memory_size, flight_of, with_flight}
 use Rattle.frame_ring.specs.Port.{PortState, Sending, Receiving, with_sending, with_receiving, is_busy, writes_left, unused_of}
-use Rattle.frame_ring.specs.Seen.{bytes_seen, ring_posted, index_posted, flags_cleared, TouchesLeft, TouchesWrite}
+use Rattle.frame_ring.specs.PortView.{bytes_seen, ring_posted, index_posted, flags_cleared, TouchesLeft, TouchesWrite}
 use Rattle.frame_ring.specs.declared.RingLook.{RingLook}
 use Rattle.frame_ring.specs.declared.RingLook.TheVariants.{Ready, Empty, PeerDown, VerDiffers, Long, OutOfTurn}
 

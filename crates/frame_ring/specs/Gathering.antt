@@ -1,7 +1,7 @@
 -- The bytes gathered of a frame, as the crate keeps them.
 use Rattle.std.specs.Prelude.{ℕ, ◌-◌, ◌≤◌, List, [], length, take}
 use Rattle.step_kinds.specs.Limits.{most_frame_bytes}
-use Rattle.frame_ring.specs.declared.gathered.Gathered.TheInside.{Inside as GatheredInside}
+use Rattle.frame_ring.specs.declared.frame_bytes.Gathered.TheInside.{Inside as GatheredInside}
 
 -- the bytes of a frame that were gathered, and for how many more there is room
 pub record Gathering : Type 0 where

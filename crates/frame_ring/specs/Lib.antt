@@ -4,7 +4,7 @@ pub mod Incoming
 pub mod Needs
 pub mod Outgoing
 pub mod Port
+pub mod PortView
 pub mod Ports
 pub mod Promises
 pub mod Rings
-pub mod Seen

@@ -4,7 +4,7 @@ use Rattle.step_kinds.specs.declared.plan.PairPlan.{PairPlan}
 use Rattle.plan_model.specs.DeclaredPlans.{IsPair}
 use Rattle.bridge_pair.specs.Bridge.{Bridge}
 use Rattle.frame_ring.specs.Port.{PortState}
-use Rattle.frame_ring.specs.Seen.{FitsRings, HasPagesIn, HasRoomIn}
+use Rattle.frame_ring.specs.PortView.{FitsRings, HasPagesIn, HasRoomIn}
 
 -- the pair is of the port's plan, its rings fit, and all that the port was promised and hasn't used is there
 abbrev pub HasNeedsIn : PortState → Bridge → Type 0

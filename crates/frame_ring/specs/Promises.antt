@@ -8,7 +8,7 @@ use Rattle.plan_model.specs.Sizes.{header_bytes, layout_of}
 use Rattle.ring_geometry.specs.Geometry.{window_of}
 use Rattle.frame_ring.specs.Outgoing.{entry_at}
 use Rattle.frame_ring.specs.Rings.{QueueOf}
-use Rattle.frame_ring.specs.Seen.{reaches}
+use Rattle.frame_ring.specs.PortView.{reaches}
 
 -- the peer has the window of the queue
 abbrev pub ReachesPeer : QueueOf → Type 0

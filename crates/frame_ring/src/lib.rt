@@ -6,7 +6,7 @@
 //! A begin or a look promises all room and all pages that what follows it needs, so that no other call takes memory.
 #![tactic(auto)]
 
-mod gathered;
+mod frame_bytes;
 mod port;
 mod posting;
 mod promises;

@@ -7,7 +7,7 @@ ghost use Rattle.byte_model.specs.Addresses.{own_header};
 ghost use Rattle.byte_model.specs.Headers.{flags_offset as offset_of_flags, len_offset as offset_of_len, version_bytes, word_bytes};
 ghost use Rattle.byte_model.specs.RingWrites.{header_offset, index_write, queue_write, slot_offset};
 ghost use Rattle.frame_ring.specs.Outgoing.{IsLabelOf};
-ghost use Rattle.frame_ring.specs.Seen.{IsLeftReady, flags_cleared, IsReadyToLand, index_posted, reaches as reaches_by, ring_posted, window_posted};
+ghost use Rattle.frame_ring.specs.PortView.{IsLeftReady, flags_cleared, IsReadyToLand, index_posted, reaches as reaches_by, ring_posted, window_posted};
 ghost use Rattle.host_memory.specs.Memory.{ArePromised};
 ghost use Rattle.lane_model.specs.Lane.{bytes_of, chunk_of, chunks_in};
 ghost use Rattle.plan_model.specs.DeclaredPlans.{SizesFit};

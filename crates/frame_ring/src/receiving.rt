@@ -8,7 +8,7 @@ ghost use Rattle.frame_ring.specs.Incoming.{next_part};
 ghost use Rattle.frame_ring.specs.Outgoing.{most_numbers};
 ghost use Rattle.frame_ring.specs.Rings.{header_of};
 ghost use Rattle.frame_ring.specs.Port.{nothing_received};
-ghost use Rattle.frame_ring.specs.Seen.{with_room};
+ghost use Rattle.frame_ring.specs.PortView.{with_room};
 ghost use Rattle.frame_ring.specs.declared.RingLook.TheVariants.{Ready};
 ghost use Rattle.host_memory.specs.Memory.{bytes_at};
 ghost use Rattle.lane_model.specs.Tests.{is_cleared, is_copied, is_copying, is_idle};
@@ -17,7 +17,7 @@ ghost use Rattle.plan_model.specs.Sizes.{sizes_in, layout_to};
 ghost use Rattle.step_kinds.specs.Limits.{most_frame_bytes};
 
 use crate::RingLook;
-use crate::gathered::Gathered;
+use crate::frame_bytes::Gathered;
 use crate::reading::HeaderWords;
 use crate::rings::QueueRings;
 use crate::sending::chunks_of;

@@ -1,6 +1,6 @@
 ghost use Rattle.std.specs.Prelude.{◌≡◌, ◌<◌, ◌≤◌, IfOk, OnOk, length};
 ghost use Rattle.frame_ring.specs.Needs.{HasNeedsIn, HasPorts};
-ghost use Rattle.frame_ring.specs.Seen.{HasRoomIn};
+ghost use Rattle.frame_ring.specs.PortView.{HasRoomIn};
 ghost use Rattle.plan_model.specs.DeclaredPlans.{IsPair};
 ghost use Rattle.step_kinds.specs.Limits.{IsMtu, IsQueues, IsSize};
 

@@ -1,3 +1,5 @@
-pub mod Paged
+pub mod MemoryPages
 pub mod Pieces
+pub mod Promised
+pub mod Table
 pub mod Writes

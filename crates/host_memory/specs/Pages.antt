@@ -1,12 +1,13 @@
--- How pages hold a memory's bytes: a page that isn't there reads as zeros.
-use Rattle.std.specs.Prelude.{ℕ, ◌/◌, ◌%◌, Option, Some, None, List, map, nat_eq, slice_index}
+-- How pages hold a memory's bytes: a page that isn't there reads as zeros. And how they stand in a table, by their numbers.
+use Rattle.std.specs.Prelude.{◌≡◌, ℕ, ◌/◌, ◌%◌, Option, Some, None, List, map, slice_get, slice_index, slice_index_or}
+use Rattle.std.specs.Box.{with_value}
 use Rattle.std.specs.List.{range_with_len}
-use Rattle.std.specs.HashMap.{HashMap, get}
-use Rattle.std.specs.Global.{Box}
+use Rattle.std.specs.Global.{Box, Vec}
+use Rattle.host_memory.specs.Memory.{written}
 
--- the pages that are there, by their numbers
-abbrev pub Pages : Type 0 → Type 0
-Pages Hasher = HashMap ℕ (Box (List ℕ)) Hasher
+-- the page at each number
+abbrev pub Found : Type 0
+Found = ℕ → Option (Box (List ℕ))
 
 -- the byte at a place of a page
 abbrev pub byte_on : Option (Box (List ℕ)) → ℕ → ℕ
@@ -14,9 +15,33 @@ byte_on None place = 0
 byte_on (Some page) place = slice_index page.value place
 
 -- the byte at an address
-abbrev pub byte_in : {Hasher : Type 0} → Pages Hasher → ℕ → ℕ
-byte_in pages address = byte_on (get nat_eq pages (address / 4096)) (address % 4096)
+abbrev pub byte_in : Found → ℕ → ℕ
+byte_in found address = byte_on (found (address / 4096)) (address % 4096)
 
 -- all bytes of a memory of this length
-abbrev pub bytes_in : {Hasher : Type 0} → Pages Hasher → ℕ → List ℕ
-bytes_in pages len = map (byte_in pages) (range_with_len 0 len)
+abbrev pub bytes_in : Found → ℕ → List ℕ
+bytes_in found len = map (byte_in found) (range_with_len 0 len)
+
+-- the pages of a group, by their places
+abbrev pub Group : Type 0
+Group = Vec (Option (Box (List ℕ)))
+
+-- a group that isn't there has no page
+abbrev pub place_in : Option Group → ℕ → Option (Box (List ℕ))
+place_in None place = None
+place_in (Some group) place = slice_index_or group.items place None
+
+-- the page of this number
+abbrev pub page_at : List Group → Found
+page_at groups number = place_in (slice_get groups (number / 512)) (number % 512)
+
+-- the same pages
+abbrev pub KeepsPages : List Group → List Group → Type 0
+KeepsPages old new = (number : ℕ) → page_at new number ≡ page_at old number
+
+abbrev pub KeepsPlaces : List (Option (Box (List ℕ))) → List (Option (Box (List ℕ))) → Type 0
+KeepsPlaces old new = (place : ℕ) → slice_index_or new place None ≡ slice_index_or old place None
+
+-- a page with these bytes from a place on
+abbrev pub with_bytes : ℕ → List ℕ → Box (List ℕ) → Box (List ℕ)
+with_bytes start bytes page = with_value page (written start bytes page.value)

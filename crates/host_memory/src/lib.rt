@@ -9,6 +9,7 @@
 
 pub mod laws;
 mod memory;
+mod pages;
 #[cfg(test)]
 mod tests;
 mod window;

@@ -3,15 +3,13 @@
 ghost use Rattle.std.specs.Prelude.{◌≡◌, ◌↔◌, ℕ, ◌+◌, ◌-◌, ◌%◌, ◌<◌, ◌≤◌, ◌^◌, ◌⊎◌, [], length, replicate, Contains, IfOk, IsOk, IsTrue, OnOk, OnErr};
 ghost use Rattle.host_memory.specs.Memory.{ArePromised, NoRepeats, Touches, bytes_at, page_of, word_at, word_bytes, written};
 
+use crate::pages::Pages;
 use byteorder::{ByteOrder, LittleEndian};
 use std::alloc::{AllocError, Global};
-use std::collections::HashMap;
 use std::marker::Model;
 
 /// The bytes of a page: page 0 begins at address 0, and each further one where the one before it ends.
 pub const PAGE_SIZE: u64 = 4096;
-
-type Page = Box<[u8; 4096]>;
 
 /// A host's memory: bytes at the addresses from 0 to its length. Contracts see its list of bytes, `bytes`, and the list
 /// of the numbers of the pages that were promised, `promised`, in which no number stands twice.
@@ -19,9 +17,9 @@ type Page = Box<[u8; 4096]>;
 /// A page is there from its promise on and stays. A page that isn't there reads as zeros.
 #[derive(Drop)]
 pub struct Memory {
-    pages: HashMap<u64, Page>,
+    pages: Pages,
+    promised: Vec<u64>,
     len: u64,
-    alloc: Global,
 }
 
 impl Memory {
@@ -38,13 +36,14 @@ impl Memory {
             return Err(AllocError);
         }
         Ok(Memory {
-            pages: HashMap::new(alloc),
+            pages: Pages::new(alloc),
+            promised: Vec::new(alloc),
             len,
-            alloc,
         })
     }
 
     /// How many bytes the memory has: fewer than 2^63.
+    #[inline]
     pub fn len(&self) -> u64
         ensures value { result ≡ length self.now.bytes }
         ensures bound { result < 2 ^ 63 }
@@ -60,32 +59,31 @@ impl Memory {
     }
 
     /// How many pages are there, which are those that were promised. Each takes [`PAGE_SIZE`] bytes of the machine's
-    /// memory, and the map of the pages some more.
+    /// memory, and the table of the pages some more.
     pub fn page_count(&self) -> usize
         ensures count { result ≡ length self.now.promised }
         ensures distinct { NoRepeats self.now.promised }
     {
-        self.pages.len()
+        self.promised.len()
     }
 
     /// Reads the bytes from the address `at` on into the whole of `out`. They have to lie in the memory: `at` and the
     /// length of `out` are together at most the memory's length. Bytes of pages that aren't there are 0.
+    #[inline]
     pub fn read(&self, at: u64, out: &mut [u8])
         requires { at + length out.old ≤ length self.now.bytes }
         ensures { out.new ≡ bytes_at at (length out.old) self.now.bytes }
     {
-        prove!(at <= self.len() - out.len() as u64);
-        let mut done = 0;
-        while done < out.len() {
-            let from = at + done as u64;
-            let count = room_on_page(from).min(out.len() - done);
-            self.read_on_page(from, &mut out[done..done + count]);
-            done += count;
+        if out.len() <= room_on_page(at) {
+            self.read_on_page(at, out);
+        } else {
+            self.read_over_pages(at, out);
         }
     }
 
     /// Writes `bytes` from the address `at` on. They have to lie in the memory, as for [`Memory::read`], and each page
     /// that they touch has to be promised; no bytes touch no page. It takes no memory.
+    #[inline]
     pub fn write(&mut self, at: u64, bytes: &[u8])
         requires within { at + length bytes.now ≤ length self.old.bytes }
         requires promised { ArePromised at (length bytes.now) self.old.promised }
@@ -93,18 +91,16 @@ impl Memory {
         ensures size { length self.new.bytes ≡ length self.old.bytes }
         ensures promised { self.new.promised ≡ self.old.promised }
     {
-        prove!(at <= self.len() - bytes.len() as u64);
-        let mut done = 0;
-        while done < bytes.len() {
-            let from = at + done as u64;
-            let count = room_on_page(from).min(bytes.len() - done);
-            self.write_on_page(from, &bytes[done..done + count]);
-            done += count;
+        if !bytes.is_empty() && bytes.len() <= room_on_page(at) {
+            self.write_on_page(at, bytes);
+        } else {
+            self.write_over_pages(at, bytes);
         }
     }
 
     /// Reads the little-endian word of four bytes at the address `at`. All four have to lie in the memory; they may lie
     /// on two pages.
+    #[inline]
     pub fn u32_at(&self, at: u64) -> u32
         requires { at + 4 ≤ length self.now.bytes }
         ensures { result ≡ word_at at self.now.bytes }
@@ -116,6 +112,7 @@ impl Memory {
 
     /// Writes `value` as a little-endian word of four bytes at the address `at`. All four have to lie in the memory, on
     /// pages that are promised. It takes no memory.
+    #[inline]
     pub fn set_u32(&mut self, at: u64, value: u32)
         requires within { at + 4 ≤ length self.old.bytes }
         requires promised { ArePromised at 4 self.old.promised }
@@ -135,7 +132,24 @@ impl Memory {
     /// # Errors
     ///
     /// [`AllocError`] from want of memory alone. Some of the pages may then be promised, and no others.
+    #[inline]
     pub fn promise(&mut self, at: u64, len: u64) -> Result<(), AllocError>
+        requires { at + len ≤ length self.old.bytes }
+        ensures bytes { self.new.bytes ≡ self.old.bytes }
+        ensures ok { OnOk result (ArePromised at len self.new.promised) }
+        ensures stay { (page : ℕ) → Contains self.old.promised page → Contains self.new.promised page }
+        ensures only { (page : ℕ) → Contains self.new.promised page → Contains self.old.promised page ⊎ Touches at len page }
+        ensures had { ArePromised at len self.old.promised → IsOk result × (self.new ≡ self.old) }
+    {
+        if len <= room_on_page(at) as u64 && self.pages.get(at / PAGE_SIZE).is_some() {
+            return Ok(());
+        }
+        self.promise_pages(at, len)
+    }
+
+    // Promises each of these pages.
+    #[inline(never)]
+    fn promise_pages(&mut self, at: u64, len: u64) -> Result<(), AllocError>
         requires { at + len ≤ length self.old.bytes }
         ensures bytes { self.new.bytes ≡ self.old.bytes }
         ensures ok { OnOk result (ArePromised at len self.new.promised) }
@@ -152,20 +166,57 @@ impl Memory {
         Ok(())
     }
 
+    // Reads bytes that may lie on several pages.
+    #[inline(never)]
+    fn read_over_pages(&self, at: u64, out: &mut [u8])
+        requires { at + length out.old ≤ length self.now.bytes }
+        ensures { out.new ≡ bytes_at at (length out.old) self.now.bytes }
+    {
+        prove!(at <= self.len() - out.len() as u64);
+        let mut done = 0;
+        while done < out.len() {
+            let from = at + done as u64;
+            let count = room_on_page(from).min(out.len() - done);
+            self.read_on_page(from, &mut out[done..done + count]);
+            done += count;
+        }
+    }
+
     // Reads bytes that lie on one page.
+    #[inline]
     fn read_on_page(&self, at: u64, out: &mut [u8])
         requires within { at + length out.old ≤ length self.now.bytes }
         requires one_page { at % 4096 + length out.old ≤ 4096 }
         ensures { out.new ≡ bytes_at at (length out.old) self.now.bytes }
     {
         let start = (at % PAGE_SIZE) as usize;
-        match self.pages.get(&(at / PAGE_SIZE)) {
+        match self.pages.get(at / PAGE_SIZE) {
             Some(page) => out.copy_from_slice(&page[start..start + out.len()]),
             None => out.fill(0),
         }
     }
 
+    // Writes bytes that may lie on several pages.
+    #[inline(never)]
+    fn write_over_pages(&mut self, at: u64, bytes: &[u8])
+        requires within { at + length bytes.now ≤ length self.old.bytes }
+        requires promised { ArePromised at (length bytes.now) self.old.promised }
+        ensures bytes { self.new.bytes ≡ written at bytes.now self.old.bytes }
+        ensures size { length self.new.bytes ≡ length self.old.bytes }
+        ensures promised { self.new.promised ≡ self.old.promised }
+    {
+        prove!(at <= self.len() - bytes.len() as u64);
+        let mut done = 0;
+        while done < bytes.len() {
+            let from = at + done as u64;
+            let count = room_on_page(from).min(bytes.len() - done);
+            self.write_on_page(from, &bytes[done..done + count]);
+            done += count;
+        }
+    }
+
     // Writes bytes that lie on one page, which is promised.
+    #[inline]
     fn write_on_page(&mut self, at: u64, bytes: &[u8])
         requires within { at + length bytes.now ≤ length self.old.bytes }
         requires one_page { at % 4096 + length bytes.now ≤ 4096 }
@@ -174,10 +225,9 @@ impl Memory {
         ensures promised { self.new.promised ≡ self.old.promised }
     {
         let start = (at % PAGE_SIZE) as usize;
-        if let Some(page) = self.pages.get_mut(&(at / PAGE_SIZE)) {
-            page[start..start + bytes.len()].copy_from_slice(bytes);
-        }
+        self.pages.write(at / PAGE_SIZE, start, bytes);
     }
+
     // Makes a page, if it isn't there.
     fn promise_page(&mut self, page: u64) -> Result<(), AllocError>
         ensures bytes { self.new.bytes ≡ self.old.bytes }
@@ -186,28 +236,41 @@ impl Memory {
         ensures only { (other : ℕ) → Contains self.new.promised other → Contains self.old.promised other ⊎ (other ≡ page) }
         ensures had { Contains self.old.promised page → IsOk result × (self.new ≡ self.old) }
     {
-        if !self.pages.contains_key(&page) {
-            let zeros = Box::new(self.alloc, [0u8; 4096])?;
-            self.pages.insert(page, zeros)?;
+        if self.pages.get(page).is_some() {
+            return Ok(());
         }
+        self.make_page(page)
+    }
+
+    // Makes a page that isn't there.
+    fn make_page(&mut self, page: u64) -> Result<(), AllocError>
+        requires { ¬ Contains self.old.promised page }
+        ensures bytes { self.new.bytes ≡ self.old.bytes }
+        ensures ok { OnOk result (Contains self.new.promised page) }
+        ensures stay { (other : ℕ) → Contains self.old.promised other → Contains self.new.promised other }
+        ensures only { (other : ℕ) → Contains self.new.promised other → Contains self.old.promised other ⊎ (other ≡ page) }
+    {
+        self.promised.reserve(1)?;
+        self.pages.put_zeros(page)?;
+        self.promised.push_reserved(page);
         Ok(())
     }
 }
 
 impl Model for Memory {
-    ghost use Rattle.std.specs.Prelude.{◌<◌, ◌^◌};
-    ghost use Rattle.std.specs.HashMap.{keys};
     ghost use Rattle.host_memory.specs.Memory.{Contents};
-    ghost use Rattle.host_memory.specs.Pages.{bytes_in};
 
     ghost Value = { Contents };
 
-    ghost view = { λ memory. record { bytes = bytes_in memory.pages memory.len; promised = keys memory.pages } };
+    ghost use Rattle.host_memory.specs.Inside.{IsMemory, contents_seen};
 
-    ghost invariant = { λ memory. memory.len < 2 ^ 63 };
+    ghost view = { contents_seen };
+
+    ghost invariant = { IsMemory };
 }
 
 // How many bytes of its page stand from an address on.
+#[inline]
 fn room_on_page(address: u64) -> usize
     ensures { result ≡ 4096 - address % 4096 }
 {

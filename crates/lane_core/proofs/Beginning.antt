@@ -9,7 +9,7 @@ use Rattle.lane_model.specs.declared.Write.{Write}
 use Rattle.lane_model.specs.declared.Phase.TheVariants.{Copying}
 use Rattle.lane_laws.proofs.Facade.{copy_sees}
 use Rattle.lane_core.specs.Parts.{entry_seen}
-use Rattle.lane_core.specs.Seen.{Buffers, IsKept, lane_seen}
+use Rattle.lane_core.specs.LaneView.{Buffers, IsKept, lane_seen}
 use Rattle.lane_core.specs.declared.entry.Entry.{Entry}
 use Rattle.lane_core.specs.declared.lane.Lane.TheInside.{Inside}
 

@@ -10,7 +10,7 @@ use Rattle.lane_laws.proofs.Facade.{copy_sees}
 use Rattle.lane_core.specs.Calls.{copy_answer, is_copying}
 use Rattle.lane_core.specs.Parts.{place_seen}
 use Rattle.step_kinds.specs.declared.lanes.LaneCopy.TheVariants.{Whole, OutOfTurn}
-use Rattle.lane_core.specs.Seen.{IsKept, lane_seen}
+use Rattle.lane_core.specs.LaneView.{IsKept, lane_seen}
 use Rattle.lane_core.specs.declared.lane.Lane.TheInside.{Inside}
 use Rattle.lane_core.specs.declared.slot.Slot.{Slot}
 

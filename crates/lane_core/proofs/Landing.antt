@@ -22,7 +22,7 @@ use Rattle.posted_queue.proofs.LandingLemmas.{may_land-past}
 use Rattle.posted_queue.proofs.LawLemmas.{split-at_place}
 use Rattle.lane_core.specs.Calls.{LaneValue, kind_of_mark, order_of_mark, may_land_in, land_answer, land_found, after_land, after_found, label_in}
 use Rattle.lane_core.specs.Parts.{BeginsWithin, CanStore, IsKnown, flags_landed, ring_after}
-use Rattle.lane_core.specs.Seen.{IsKept, lane_seen, value_seen}
+use Rattle.lane_core.specs.LaneView.{IsKept, lane_seen, value_seen}
 use Rattle.lane_core.specs.declared.answers.LaneLand.TheVariants.{Landed, Blocked, Nothing}
 use Rattle.lane_core.specs.declared.lane.Lane.TheInside.{Inside}
 use Rattle.lane_core.specs.declared.write.PostedWrite.{PostedWrite}

@@ -1,13 +1,13 @@
 pub mod Beginning
 pub mod Bytes
 pub mod Copying
+pub mod EntriesStay
 pub mod Landing
 pub mod Looking
 pub mod OneClass
 pub mod OnePiece
 pub mod Parts
 pub mod Returning
-pub mod Sent
 pub mod Starting
 pub mod Storing
 pub mod Writes

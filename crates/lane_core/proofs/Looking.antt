@@ -7,7 +7,7 @@ use Rattle.lane_model.specs.Law.{HoldsRingLaw}
 use Rattle.lane_model.specs.declared.Phase.TheVariants.{Idle}
 use Rattle.lane_laws.proofs.Facade.{look_sees}
 use Rattle.lane_core.specs.Parts.{place_seen}
-use Rattle.lane_core.specs.Seen.{lane_seen}
+use Rattle.lane_core.specs.LaneView.{lane_seen}
 use Rattle.lane_core.specs.declared.lane.Lane.TheInside.{Inside}
 use Rattle.lane_core.specs.declared.slot.Slot.{Slot}
 

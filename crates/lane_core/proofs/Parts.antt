@@ -6,7 +6,7 @@ use Rattle.std.proofs.lemmas.List.Elements.{All-append, All-drop, All-push, All-
 use Rattle.lane_model.specs.declared.Phase.{Phase}
 use Rattle.lane_model.specs.declared.Phase.TheVariants.{Copying}
 use Rattle.lane_model.specs.declared.Write.{Write}
-use Rattle.lane_core.specs.Seen.{Buffers}
+use Rattle.lane_core.specs.LaneView.{Buffers}
 use Rattle.lane_core.specs.declared.write.PostedWrite.{PostedWrite}
 
 -- where nothing is copied, nothing is asked of the buffer

@@ -12,7 +12,7 @@ use Rattle.posted_queue.specs.declared.LandAnswer.TheVariants.{Landed as QueueLa
 use Rattle.order_rules.specs.Order.{Order, may_land}
 use Rattle.step_kinds.specs.declared.steps.Label.TheVariants.{Index}
 use Rattle.lane_core.specs.Calls.{LaneValue, with_lane, index_order, may_land_index, land_index_answer, index_found, after_land_index, after_index_found}
-use Rattle.lane_core.specs.Seen.{lane_seen, value_seen}
+use Rattle.lane_core.specs.LaneView.{lane_seen, value_seen}
 use Rattle.lane_core.specs.declared.answers.LaneLand.{LaneLand}
 use Rattle.lane_core.specs.declared.answers.LaneLand.TheVariants.{Landed, Blocked, Nothing}
 use Rattle.lane_core.specs.declared.lane.Lane.TheInside.{Inside}

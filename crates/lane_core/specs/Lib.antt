@@ -1,4 +1,4 @@
 pub mod Calls
 pub mod Fresh
+pub mod LaneView
 pub mod Parts
-pub mod Seen

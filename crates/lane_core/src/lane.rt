@@ -372,7 +372,7 @@ impl Model for Lane {
 
     ghost Value = { LaneValue };
 
-    ghost use Rattle.lane_core.specs.Seen.{value_seen, IsKept};
+    ghost use Rattle.lane_core.specs.LaneView.{value_seen, IsKept};
 
     ghost view = { value_seen };
 

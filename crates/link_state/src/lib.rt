@@ -197,7 +197,7 @@ impl Model for Link {
 
     ghost Value = { PairLink };
 
-    ghost use Rattle.link_state.specs.Kept.{IsNumbered, inside_of, link_of};
+    ghost use Rattle.link_state.specs.LinkFields.{IsNumbered, inside_of, link_of};
 
     ghost view = { link_of };
 

@@ -15,10 +15,10 @@ use Rattle.step_kinds.specs.declared.plan.Plan.{Plan}
 use Rattle.plan_model.specs.Plans.{dev_plan, no_dev, no_pair, pair_plan}
 use Rattle.ledger_model.specs.Log.{Answered, counters_in}
 use Rattle.fabric_core.specs.Fabric.{bare_plan}
-use Rattle.fabric_core.specs.Pinned.{lane_of_device}
+use Rattle.fabric_core.specs.LogClauses.{lane_of_device}
 use Rattle.report_text.specs.Report.{count_line, count_lines}
 use Rattle.report_text.specs.declared.whole.LaneCount.{LaneCount}
-use Rattle.ntb_top.specs.Replayed.{HasQueues, counts_some, filled, lanes_from}
+use Rattle.ntb_top.specs.ReplaySteps.{HasQueues, counts_some, filled, lanes_from}
 use Rattle.ntb_top.specs.Replays.{last_session, lane_count, lane_counts, lanes_of_pair, sessions_of_lane}
 
 -- Counts of nothing have no line

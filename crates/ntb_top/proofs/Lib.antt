@@ -1,6 +1,6 @@
 pub mod Counting
 pub mod Digits
-pub mod Permitted
+pub mod PermittedSteps
 pub mod Replaying
 pub mod Replying
 pub mod Reports

@@ -13,9 +13,9 @@ use Rattle.ledger_model.specs.Log.{Answered, Memories, answered, log_from}
 use Rattle.ledger_model.specs.Next.{Ledger, ledger_after, start}
 use Rattle.memory_model.specs.Memory.{memory_of}
 use Rattle.fabric_core.specs.Fabric.{FabricState, StandsFor, bare_plan, plan_kept}
-use Rattle.fabric_core.specs.Pinned.{HasMade, IsAnswered, log_after}
+use Rattle.fabric_core.specs.LogClauses.{HasMade, IsAnswered, log_after}
 use Rattle.report_text.specs.Report.{answer_line}
-use Rattle.ntb_top.specs.Replayed.{HasReplayed}
+use Rattle.ntb_top.specs.ReplaySteps.{HasReplayed}
 use Rattle.ntb_top.specs.Replays.{answers_text, is_blocked, line_answers}
 
 abbrev pub step_in : Line → Step

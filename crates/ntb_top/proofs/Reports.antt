@@ -10,10 +10,10 @@ use Rattle.plan_model.specs.DeclaredPlans.{IsQueueOf}
 use Rattle.traffic_plan.specs.Load.{load_of}
 use Rattle.fabric_core.specs.Fabric.{bare_plan}
 use Rattle.ledger_model.specs.Log.{Answered, accepted, counters_in, delivered}
-use Rattle.fabric_core.specs.Pinned.{lane_of_device}
+use Rattle.fabric_core.specs.LogClauses.{lane_of_device}
 use Rattle.report_text.specs.Report.{device_lines, end_line, ending}
 use Rattle.report_text.specs.declared.whole.LaneCount.{LaneCount}
-use Rattle.ntb_top.specs.Replayed.{filled}
+use Rattle.ntb_top.specs.ReplaySteps.{filled}
 use Rattle.ntb_top.specs.Replays.{answers_text, device_counts, lane_counts, load_lane, load_text, log_of_plan, replay_text, summary_text}
 use Rattle.ntb_top.proofs.Counting.{all_known, lines_of_filled}
 use Rattle.ntb_top.proofs.Replaying.{blocked_in}

@@ -1,7 +1,7 @@
 pub mod Commands
 pub mod Headline
 pub mod Output
-pub mod Replayed
+pub mod ReplaySteps
 pub mod Replays
 pub mod Replies
 pub mod Runs

@@ -14,7 +14,7 @@ use Rattle.step_kinds.specs.declared.steps.Step.{Step}
 use Rattle.plan_model.specs.Plans.{pair_plan}
 use Rattle.ledger_model.specs.Log.{Answered, accepted, counters_in, delivered, first_session, log_of, trains}
 use Rattle.memory_model.specs.Memory.{memory_of}
-use Rattle.fabric_core.specs.Pinned.{lane_of_device}
+use Rattle.fabric_core.specs.LogClauses.{lane_of_device}
 use Rattle.report_text.specs.Report.{answer_line, line_of, report_of}
 use Rattle.report_text.specs.Texts.{numbers_text}
 use Rattle.report_text.specs.declared.whole.LaneCount.{LaneCount}

@@ -3,7 +3,7 @@
 ghost use Rattle.std.specs.Prelude.{◌≡◌, ◌≤◌, [], IfOk, count_by};
 ghost use Rattle.plan_model.specs.TrafficPlans.{IsWhole};
 ghost use Rattle.traffic_plan.specs.Load.{most_load_frames};
-ghost use Rattle.ntb_top.specs.Replayed.{HasReplayed};
+ghost use Rattle.ntb_top.specs.ReplaySteps.{HasReplayed};
 ghost use Rattle.ntb_top.specs.Replays.{is_blocked as is_blocked_answer, load_text as text_of_load, log_of_plan, summary_text};
 
 use fabric_core::Fabric;

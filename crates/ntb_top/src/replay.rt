@@ -4,7 +4,7 @@ ghost use Rattle.std.specs.Prelude.{◌≡◌, ◌≤◌, ◌<◌, ◌∷◌, �
 ghost use Rattle.std.specs.List.{flat_map};
 ghost use Rattle.plan_model.specs.TrafficPlans.{IsWhole};
 ghost use Rattle.fabric_core.specs.Fabric.{plan_kept};
-ghost use Rattle.ntb_top.specs.Replayed.{AddsCounts, HasQueues, HasReplayed, IsLaneOf, filled, lanes_from};
+ghost use Rattle.ntb_top.specs.ReplaySteps.{AddsCounts, HasQueues, HasReplayed, IsLaneOf, filled, lanes_from};
 ghost use Rattle.ntb_top.specs.Replays.{
   answers_text,
   device_counts as counts_of_devices,
@@ -28,7 +28,7 @@ pub fn replay_text(alloc: Global, plan: &Plan) -> Result<Vec<u8>, AllocError>
 {
     let mut fabric = Fabric::new(alloc, plan)?;
     let mut text = Vec::new(alloc);
-    push_answers(alloc, plan, &mut fabric, &mut text)?;
+    push_answers(plan, &mut fabric, &mut text)?;
     let lanes = lane_counts(alloc, plan, &fabric)?;
     let devs = device_counts(alloc, plan, &fabric)?;
     push_ending(&mut text, plan, &lanes, &devs)?;
@@ -36,12 +36,7 @@ pub fn replay_text(alloc: Global, plan: &Plan) -> Result<Vec<u8>, AllocError>
 }
 
 // Makes the steps of a plan on its fresh fabric, and adds the line of each answer as it comes.
-fn push_answers(
-    alloc: Global,
-    plan: &Plan,
-    fabric: &mut Fabric,
-    text: &mut Vec<u8>,
-) -> Result<(), AllocError>
+fn push_answers(plan: &Plan, fabric: &mut Fabric, text: &mut Vec<u8>) -> Result<(), AllocError>
     requires whole { IsWhole plan.now }
     requires fresh { HasReplayed plan.now [] fabric.old }
     ensures made { OnOk result (HasReplayed plan.now plan.now.steps fabric.new) }
@@ -53,7 +48,7 @@ fn push_answers(
             line: line.line,
             answer,
         };
-        push_answer_line(alloc, text, &made)?;
+        push_answer_line(text, &made)?;
     }
     Ok(())
 }

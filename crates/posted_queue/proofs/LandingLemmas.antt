@@ -59,13 +59,6 @@ none_within [] place within none = omega arith
 none_within (x ∷ xs) zero within none = none-some x none
 none_within (x ∷ xs) (suc place) within none = none_within xs place (omega arith) none
 
--- nothing lands past the end
-pub nothing_past : {W : Type 0} (order : W → Order) (flight : Flight W) (place : ℕ) → length flight.writes ≤ place → (Nothing ≡ land_answer order flight place) × (flight ≡ after_landing order flight place)
-nothing_past order flight place past = (
-  sym (ap (λ there. answer_for there (may_land (map order flight.writes) place)) (slice_get_past flight.writes place past)),
-  sym (ap (λ may. if may then record { writes = remove flight.writes place; spare = flight.spare } else flight) (may_land-past order flight.writes place past)),
-)
-
 -- a write that may land lands, and is taken out
 pub landed : {W : Type 0} (order : W → Order) (writes : List W) (spare place : ℕ) (write : W) (held_back : Bool) → not held_back ≡ may_land (map order writes) place → slice_get writes place ≡ Some write → false ≡ held_back → (Landed write ≡ land_answer order (record { writes = writes; spare = spare }) place) × (record { writes = remove writes place; spare = spare } ≡ after_landing order (record { writes = writes; spare = spare }) place)
 landed order writes spare place write held_back found taken free = (

@@ -1,5 +1,5 @@
 -- How the parts of a level stand after a write was found, pushed or taken out.
-use Rattle.std.proofs.Common.{◌≡◌, ℕ, ◌<◌, ◌≤◌, ◌+◌, ◌-◌, zero, suc, false, ◌||◌, List, [], ◌∷◌, ◌++◌, length, get_or, set, take, drop, Option, slice_get, refl, sym, ap, subst, ◌∙◌, arith, append-nil, length-append, length-set}
+use Rattle.std.proofs.Common.{◌≡◌, ℕ, ◌<◌, ◌≤◌, ◌+◌, ◌-◌, zero, suc, false, ◌||◌, List, [], ◌∷◌, ◌++◌, length, get_or, set, take, drop, Option, Some, slice_get, refl, sym, ap, subst, ◌∙◌, arith, append-nil, length-append, length-set}
 use Rattle.std.specs.List.{remove}
 use Rattle.std.proofs.lemmas.List.{get_or_default, drop-set-lt, drop-append-le, nil_from_length, length_push, drop_all, take-append-le}
 use Rattle.std.proofs.lemmas.List.Edits.{length-remove, remove-append_left, remove-append_right}
@@ -7,10 +7,10 @@ use Rattle.order_rules.specs.Order.{Order}
 use Rattle.posted_queue.specs.declared.row.Spot.{Spot}
 use Rattle.posted_queue.specs.Rows.{PartState, no_part, is_held_back, writes_in, room_in, part_at, IsSpot, TakesOut, MovesLast}
 use Rattle.posted_queue.specs.Levels.{IsLevel}
-use Rattle.posted_queue.proofs.RowLemmas.{writes_in-append, writes_in-drop_push, writes_in-at, writes_in-set, is_held_back-append, take-append_far, room_in-append}
+use Rattle.posted_queue.proofs.RowLemmas.{writes_in-append, writes_in-split, writes_in-drop_push, writes_in-at, writes_in-set, is_held_back-append, take-append_far, room_in-append}
 
 -- the element behind a list's front
-slice_get-append_far : {X : Type 0} (xs ys : List X) (n k : ℕ) → n ≡ length xs + k → slice_get (xs ++ ys) n ≡ slice_get ys k
+pub slice_get-append_far : {X : Type 0} (xs ys : List X) (n k : ℕ) → n ≡ length xs + k → slice_get (xs ++ ys) n ≡ slice_get ys k
 slice_get-append_far [] ys n k e = ap (slice_get ys) (omega arith)
 slice_get-append_far (x ∷ xs) ys zero k e = absurd (omega arith)
 slice_get-append_far (x ∷ xs) ys (suc n) k e = slice_get-append_far xs ys n k (omega arith)
@@ -77,6 +77,33 @@ spot-is_held_back order waits_for row place spot part is read free =
     ∙ is_held_back-append order waits_for before (take spot.place part.writes)
     ∙ ap (λ b. b || is_held_back order waits_for (take spot.place part.writes)) free
 
+-- a part is there where a write stands from it on
+within-some : {W : Type 0} (row : List (PartState W)) (n : ℕ) → 0 < length (writes_in (drop n row)) → n < length row
+within-some {W} [] n some =
+    let none : length (writes_in (drop n [])) ≡ 0 = ap (λ (rest : List (PartState W)). length (writes_in rest)) (drop_all n [] (omega arith)) in absurd (omega (arith, none))
+within-some (x ∷ xs) zero some = omega arith
+within-some (x ∷ xs) (suc n) some = let rest = within-some xs n some in omega arith
+
+-- the first write is at the start of the first part that has one
+pub first_spot : {W : Type 0} (row : List (PartState W)) (n : ℕ) (part : PartState W) → 0 < length (writes_in row) → part ≡ get_or row n part → 0 < length part.writes → writes_in (drop n row) ≡ writes_in row → IsSpot row 0 (record { part = n; place = 0 })
+first_spot {W} row n part all read some whole = record {
+  part_there = within;
+  place_there = subst (λ p. 0 < length p.writes) (sym (get_or_default row n no_part part within ∙ sym read)) some;
+  adds_up = (let sum = ap length (writes_in-split row n) ∙ length-append (writes_in (take n row)) (writes_in (drop n row)) in
+      let same = ap length whole in
+      omega arith);
+}
+  where
+    within : n < length row
+    within = within-some row n (subst (λ (writes : List W). 0 < length writes) (sym whole) all)
+
+-- the first write of a part is what stands at place 0, and the others are left
+pub first-slice_get : {W : Type 0} (writes rest : List W) (write : W) → writes ≡ write ∷ rest → slice_get writes 0 ≡ Some write
+first-slice_get writes rest write first = ap (λ all. slice_get all 0) first
+
+pub first-remove : {W : Type 0} (writes rest : List W) (write : W) → writes ≡ write ∷ rest → rest ≡ remove writes 0
+first-remove writes rest write first = sym (ap (λ all. remove all 0) first)
+
 -- no part behind the last one in use has a write
 pub behind-later : {W : Type 0} (row : List (PartState W)) (n m : ℕ) → n ≤ m → writes_in (drop n row) ≡ [] → writes_in (drop m row) ≡ []
 behind-later [] n m low none = ap writes_in (drop_all m [] (omega arith))
@@ -89,21 +116,13 @@ behind-later (x ∷ xs) zero (suc m) low none = behind-later xs zero m (omega ar
 behind-later (x ∷ xs) (suc n) zero low none = absurd (omega arith)
 behind-later (x ∷ xs) (suc n) (suc m) low none = behind-later xs n m (omega arith) none
 
--- a level after a push into the first part with room
-pub level-push : {W : Type 0} (row : List (PartState W)) (last room number : ℕ) (new : List (PartState W)) → IsLevel row last room → last ≤ number → number < length row → 0 < room → room_in (drop number row) ≡ room_in (drop last row) → length new ≡ length row → writes_in (drop (suc number) new) ≡ [] → room_in (drop number new) + 1 ≡ room_in (drop number row) → IsLevel new number (room - 1)
-level-push row last room number new level low high some same_room same_length none less = record {
-  in_row = omega arith;
-  behind = none;
-  room_there = (let there = level.room_there in omega arith);
-}
-
--- the room of the parts from one on, where a part is another
-room_in-drop_set : {W : Type 0} (row : List (PartState W)) (from n : ℕ) (new : PartState W) → from ≤ n → n < length row → room_in (drop from (set row n new)) + (part_at row n).spare ≡ room_in (drop from row) + new.spare
-room_in-drop_set [] from n new low within = absurd (omega arith)
-room_in-drop_set (x ∷ xs) zero zero new low within = omega arith
-room_in-drop_set (x ∷ xs) zero (suc n) new low within = let rest = room_in-drop_set xs zero n new (omega arith) (omega arith) in omega arith
-room_in-drop_set (x ∷ xs) (suc from) zero new low within = absurd (omega arith)
-room_in-drop_set (x ∷ xs) (suc from) (suc n) new low within = room_in-drop_set xs from n new (omega arith) (omega arith)
+-- the parts from one on have no less room, where a part has no less
+room_in-drop_set : {W : Type 0} (row : List (PartState W)) (from n : ℕ) (new : PartState W) → n < length row → (part_at row n).spare ≤ new.spare → room_in (drop from row) ≤ room_in (drop from (set row n new))
+room_in-drop_set [] from n new within more = absurd (omega arith)
+room_in-drop_set (x ∷ xs) zero zero new within more = omega arith
+room_in-drop_set (x ∷ xs) zero (suc n) new within more = let rest = room_in-drop_set xs zero n new (omega arith) more in omega arith
+room_in-drop_set (x ∷ xs) (suc from) zero new within more = omega arith
+room_in-drop_set (x ∷ xs) (suc from) (suc n) new within more = room_in-drop_set xs from n new (omega arith) more
 
 -- no more writes stand from a part on, where one part has no more
 length-writes_in-drop_set : {W : Type 0} (row : List (PartState W)) (from n : ℕ) (new : PartState W) → n < length row → length new.writes ≤ length (part_at row n).writes → length (writes_in (drop from (set row n new))) ≤ length (writes_in (drop from row))
@@ -166,17 +185,13 @@ moves_last row n part within read none = record {
     empty = ap (λ p. p.writes) (sym at) ∙ none
 
 -- a write that is taken out at its spot is taken out of the row
-pub spot-takes_out : {W : Type 0} (row : List (PartState W)) (place : ℕ) (spot : Spot) (part new : PartState W) → IsSpot row place spot → part ≡ get_or row spot.part part → new.writes ≡ remove part.writes spot.place → part.spare ≤ new.spare → TakesOut row (set row spot.part new) place spot.part (new.spare - part.spare)
+pub spot-takes_out : {W : Type 0} (row : List (PartState W)) (place : ℕ) (spot : Spot) (part new : PartState W) → IsSpot row place spot → part ≡ get_or row spot.part part → new.writes ≡ remove part.writes spot.place → part.spare ≤ new.spare → TakesOut row (set row spot.part new) place spot.part
 spot-takes_out row place spot part new is read taken more = record {
   writes = spot-remove row place spot part new is read taken;
   len = length-set row spot.part new;
   there = is.part_there;
   behind = λ number none. behind-taken row number spot.part spot.place part new is.part_there read there taken none;
-  room = λ number low.
-      let sum : room_in (drop number (set row spot.part new)) + part.spare ≡ room_in (drop number row) + new.spare =
-      subst (λ p. room_in (drop number (set row spot.part new)) + p.spare ≡ room_in (drop number row) + new.spare) at (room_in-drop_set row number spot.part new low is.part_there) in
-      omega arith;
-  others = λ number high. ap room_in (drop-set-lt number row spot.part new high);
+  room = λ number. room_in-drop_set row number spot.part new is.part_there (subst (λ p. p.spare ≤ new.spare) (sym at) more);
 }
   where
     at : part_at row spot.part ≡ part
@@ -185,33 +200,10 @@ spot-takes_out row place spot part new is read taken more = record {
     there : spot.place < length part.writes
     there = subst (λ p. spot.place < length p.writes) at is.place_there
 
--- a level after a taking out of the last part in use
-pub level-taken_last : {W : Type 0} (row new : List (PartState W)) (last room place part gained grown : ℕ) → IsLevel row last room → TakesOut row new place part gained → last ≤ part → grown ≤ room + gained → IsLevel new last grown
-level-taken_last row new last room place part gained grown level taken low bound = record {
+-- a level stays one where a write is taken out of a part
+pub level-taken : {W : Type 0} (row new : List (PartState W)) (last room place part : ℕ) → IsLevel row last room → TakesOut row new place part → IsLevel new last room
+level-taken row new last room place part level taken = record {
   in_row = (let i = level.in_row in let e = taken.len in omega arith);
   behind = taken.behind (suc last) level.behind;
-  room_there = (let r = level.room_there in let e = taken.room last low in omega arith);
+  room_there = (let r = level.room_there in let e = taken.room last in omega arith);
 }
-
--- a level after a taking out of a part before
-pub level-taken_before : {W : Type 0} (row new : List (PartState W)) (last room place part gained : ℕ) → IsLevel row last room → TakesOut row new place part gained → part < last → IsLevel new last room
-level-taken_before row new last room place part gained level taken before = record {
-  in_row = (let i = level.in_row in let e = taken.len in omega arith);
-  behind = taken.behind (suc last) level.behind;
-  room_there = (let r = level.room_there in let e = taken.others last before in omega arith);
-}
-
--- a level where a part before the last one in use was emptied and moved behind all others
-pub level-moved : {W : Type 0} (row new : List (PartState W)) (last room part more grown : ℕ) → IsLevel row last room → MovesLast row new part more → part < last → grown ≤ room + more → IsLevel new (last - 1) grown
-level-moved row new last room part more grown level moved before bound = record {
-  in_row = (let i = level.in_row in let e = moved.len in omega arith);
-  behind = ap (λ number. writes_in (drop number new)) same_last ∙ moved.behind last before ∙ level.behind;
-  room_there = (let i = level.in_row in
-      let r = level.room_there in
-      let e = moved.room_behind (last - 1) (omega arith) (omega arith) in
-      let f : room_in (drop (suc (last - 1)) row) ≡ room_in (drop last row) = ap (λ number. room_in (drop number row)) same_last in
-      omega arith);
-}
-  where
-    same_last : suc (last - 1) ≡ last
-    same_last = omega arith

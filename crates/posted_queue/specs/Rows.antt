@@ -1,5 +1,5 @@
 -- Rows of parts of a queue: the writes that stand in them, the room behind, and what holds a write back.
-use Rattle.std.specs.Prelude.{◌≡◌, ℕ, ◌<◌, ◌≤◌, ◌==◌, ◌+◌, Bool, false, List, [], ◌∷◌, Option, Some, None, zero, suc, length, take, drop, remove, slice_index_or}
+use Rattle.std.specs.Prelude.{◌≡◌, ℕ, ◌<◌, ◌≤◌, ◌==◌, ◌+◌, Bool, false, if◌then◌else◌, List, [], ◌∷◌, ◌++◌, Option, Some, None, zero, suc, length, take, drop, remove, slice_index_or}
 use Rattle.std.specs.List.{list_any, flat_map}
 use Rattle.order_rules.specs.Order.{Order}
 use Rattle.posted_queue.specs.declared.row.Spot.{Spot}
@@ -36,6 +36,14 @@ left_in most zero row = 0
 left_in {W} most (suc places) [] = most + left_in {W = W} most places []
 left_in most (suc places) (part ∷ rest) = part.left + left_in most places rest
 
+-- two parts, of which the first takes writes for as long as the second has none
+abbrev pub joined : {W : Type 0} → PartState W → PartState W → PartState W
+joined front rest = record {
+  writes = front.writes ++ rest.writes;
+  spare = if length rest.writes == 0 then front.spare + rest.spare else rest.spare;
+  left = if length rest.writes == 0 then front.left + rest.left else rest.left;
+}
+
 -- the part of this number in a row
 abbrev pub part_at : {W : Type 0} → List (PartState W) → ℕ → PartState W
 part_at row number = slice_index_or row number no_part
@@ -53,14 +61,13 @@ pub record KeepsWrites {W : Type 0} (most : ℕ) (old new : List (PartState W)) 
   pub left : (places number : ℕ) → left_in most places (drop number new) ≡ left_in most places (drop number old)
   pub len : length old ≤ length new
 
--- the write at a place is taken out of a part, which gains so much room; the other parts stay
-pub record TakesOut {W : Type 0} (old new : List (PartState W)) (place part gained : ℕ) : Type 0 where
+-- the write at a place is taken out of a part, and no room is lost
+pub record TakesOut {W : Type 0} (old new : List (PartState W)) (place part : ℕ) : Type 0 where
   pub writes : writes_in new ≡ remove (writes_in old) place
   pub len : length new ≡ length old
   pub there : part < length old
   pub behind : (number : ℕ) → writes_in (drop number old) ≡ [] → writes_in (drop number new) ≡ []
-  pub room : (number : ℕ) → number ≤ part → room_in (drop number new) ≡ room_in (drop number old) + gained
-  pub others : (number : ℕ) → part < number → room_in (drop number new) ≡ room_in (drop number old)
+  pub room : (number : ℕ) → room_in (drop number old) ≤ room_in (drop number new)
 
 -- a part with no write, but with so much room, is moved behind all others
 pub record MovesLast {W : Type 0} (old new : List (PartState W)) (part room : ℕ) : Type 0 where

@@ -19,7 +19,7 @@ pub struct Block<W: Ordered> {
 }
 
 impl<W: Ordered> Model for Block<W> {
-    ghost use Rattle.std.specs.Prelude.{◌-◌, min};
+    ghost use Rattle.std.specs.Prelude.{◌-◌, ◌≤◌, min};
     ghost use Rattle.std.specs.VecDeque.{deque_len, deque_capacity};
     ghost use Rattle.posted_queue.specs.Rows.{PartState};
 
@@ -30,6 +30,8 @@ impl<W: Ordered> Model for Block<W> {
       spare = min 256 (deque_capacity block.writes) - deque_len block.writes;
       left = 256 - deque_len block.writes;
     } };
+
+    ghost invariant = { λ block. deque_len block.writes ≤ 256 };
 }
 
 impl<W: Ordered> Part<W> for Block<W> {
@@ -45,10 +47,7 @@ impl<W: Ordered> Part<W> for Block<W> {
 
     #[inline]
     fn room(&self) -> usize {
-        self.writes
-            .capacity()
-            .min(BLOCK_MOST)
-            .saturating_sub(self.writes.len())
+        self.writes.capacity().min(BLOCK_MOST) - self.writes.len()
     }
 
     #[inline]
@@ -62,6 +61,14 @@ impl<W: Ordered> Part<W> for Block<W> {
     }
 
     #[inline]
+    fn take_first(&mut self) -> W {
+        match self.writes.pop_front() {
+            Some(write) => write,
+            None => unreachable!(),
+        }
+    }
+
+    #[inline]
     fn take(&mut self, place: usize, waits_for: Option<usize>) -> Option<W> {
         if has_class_before(&self.writes, place, waits_for) {
             return None;
@@ -71,7 +78,7 @@ impl<W: Ordered> Part<W> for Block<W> {
 
     fn reserve(&mut self, more: usize) -> Result<(), AllocError> {
         self.writes
-            .reserve(more.min(BLOCK_MOST.saturating_sub(self.writes.len())))
+            .reserve(more.min(BLOCK_MOST - self.writes.len()))
     }
 }
 

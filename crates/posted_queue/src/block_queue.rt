@@ -5,22 +5,16 @@ ghost use Rattle.order_rules.specs.Order.{may_land};
 ghost use Rattle.posted_queue.specs.Rows.{is_held_back};
 ghost use Rattle.posted_queue.specs.Waiting.{class_awaited as awaited};
 
-use crate::block::Block;
-use crate::counted::Counted;
-use crate::level::Level;
-use crate::part::Part;
+use crate::blocks::Blocks;
 use crate::{LandAnswer, Ordered};
 use order_rules::{STRICT, posted_table};
 use std::alloc::{AllocError, Global};
 use std::marker::Model;
 
-// Three levels of up to 64 parts over blocks of up to 256 writes: some 67 million writes.
-type Blocks<W> = Level<W, Level<W, Level<W, Block<W>>>>;
-
 /// Writes in the order in which they were posted, and the room that is promised for more.
 #[derive(Drop)]
 pub struct BlockQueue<W: Ordered> {
-    blocks: Counted<W, Blocks<W>>,
+    blocks: Blocks<W>,
     spare: usize,
 }
 
@@ -33,12 +27,13 @@ impl<W: Ordered> BlockQueue<W> {
         ensures { result ≡ nothing_in_flight }
     {
         BlockQueue {
-            blocks: Counted::empty(alloc),
+            blocks: Blocks::empty(alloc),
             spare: 0,
         }
     }
 
     /// How many writes are in flight.
+    #[inline]
     pub fn len(&self) -> usize
         ensures { result ≡ length self.now.writes }
     {
@@ -46,6 +41,7 @@ impl<W: Ordered> BlockQueue<W> {
     }
 
     /// How many more writes are promised.
+    #[inline]
     pub fn spare(&self) -> usize
         ensures { result ≡ self.now.spare }
     {
@@ -64,8 +60,9 @@ impl<W: Ordered> BlockQueue<W> {
     /// Promises room for `more` writes, on top of those that are promised already.
     ///
     /// An `Err` comes only from want of memory, never to a promise of 0 writes, and leaves the queue as it was. It comes
-    /// also where the blocks can't take so many: they take 67,108,864 writes at most, and fewer where landings out of
+    /// also where the blocks can't take so many: they take 67,109,120 writes at most, and fewer where landings out of
     /// order left most of each block empty. Where they can, and the machine gives the memory, it never comes.
+    #[inline]
     pub fn promise(&mut self, more: usize) -> Result<(), AllocError>
         ensures ok { OnOk result (self.new ≡ promised self.old more) }
         ensures err { OnErr result (self.new ≡ self.old) }
@@ -73,17 +70,15 @@ impl<W: Ordered> BlockQueue<W> {
     {
         let spare = self.spare.checked_add(more).ok_or(AllocError)?;
         self.blocks.len().checked_add(spare).ok_or(AllocError)?;
-        if self.blocks.room() < spare {
-            self.blocks.reserve(spare)?;
-        }
-        if self.blocks.room() < spare {
-            return Err(AllocError);
+        if !self.blocks.has_room(spare) {
+            make_room(&mut self.blocks, spare)?;
         }
         self.spare = spare;
         Ok(())
     }
 
     /// Gives back the promise of `count` writes, which are not posted after all. So many must be promised.
+    #[inline]
     pub fn give_back(&mut self, count: usize)
         requires { count ≤ self.old.spare }
         ensures { self.new ≡ given_back self.old count }
@@ -92,6 +87,7 @@ impl<W: Ordered> BlockQueue<W> {
     }
 
     /// Posts a write behind all others, into room that was promised for at least one more. It takes no memory.
+    #[inline]
     pub fn push(&mut self, write: W)
         requires { 0 < self.old.spare }
         ensures { self.new ≡ posted self.old write }
@@ -109,6 +105,7 @@ impl<W: Ordered> BlockQueue<W> {
     ///
     /// It takes a few hundred turns of loops at most, whatever the place and however many writes are in flight, and a
     /// few at the front.
+    #[inline]
     pub fn land(&mut self, place: usize) -> LandAnswer<W>
         ensures answer { result ≡ land_answer W.order self.old place }
         ensures after { self.new ≡ after_landing W.order self.old place }
@@ -116,11 +113,10 @@ impl<W: Ordered> BlockQueue<W> {
         if place >= self.blocks.len() {
             return LandAnswer::Nothing;
         }
-        let waits_for = class_awaited_at(&self.blocks, place);
-        let Some(write) = self.blocks.take(place, waits_for) else {
-            return LandAnswer::Blocked;
-        };
-        LandAnswer::Landed(write)
+        if place == 0 {
+            return LandAnswer::Landed(self.blocks.take_first());
+        }
+        self.land_behind(place)
     }
 
     /// Drops all writes in flight. What was promised stays promised.
@@ -130,8 +126,22 @@ impl<W: Ordered> BlockQueue<W> {
         ensures { self.new ≡ discarded self.old }
     {
         while self.blocks.len() > 0 {
-            let _write = self.blocks.take(0, None);
+            let _write = self.blocks.take_first();
         }
+    }
+
+    // Lands a write that may have others before it, which it has to pass.
+    #[inline(never)]
+    fn land_behind(&mut self, place: usize) -> LandAnswer<W>
+        requires { place < length self.old.writes }
+        ensures answer { result ≡ land_answer W.order self.old place }
+        ensures after { self.new ≡ after_landing W.order self.old place }
+    {
+        let waits_for = class_awaited_at(&self.blocks, place);
+        let Some(write) = self.blocks.take(place, waits_for) else {
+            return LandAnswer::Blocked;
+        };
+        LandAnswer::Landed(write)
     }
 }
 
@@ -146,15 +156,26 @@ impl<W: Ordered> Model for BlockQueue<W> {
     ghost invariant = { λ queue. (queue.spare ≤ queue.blocks.spare) × (length queue.blocks.writes + queue.spare < 2 ^ 64) };
 }
 
-// A class of which the write at this place passes no earlier one: none where it passes all, as it does at the front.
-fn class_awaited_at<W: Ordered>(blocks: &Counted<W, Blocks<W>>, place: usize) -> Option<usize>
+// Makes room for so many writes, or answers the error that it answers for want of memory.
+#[inline(never)]
+fn make_room<W: Ordered>(blocks: &mut Blocks<W>, count: usize) -> Result<(), AllocError>
+    ensures writes { blocks.new.writes ≡ blocks.old.writes }
+    ensures room { blocks.old.spare ≤ blocks.new.spare }
+    ensures ok { OnOk result (count ≤ blocks.new.spare) }
+{
+    blocks.reserve(count)?;
+    if !blocks.has_room(count) {
+        return Err(AllocError);
+    }
+    Ok(())
+}
+
+// The class of which the write at this place passes no earlier one: none where it passes all.
+fn class_awaited_at<W: Ordered>(blocks: &Blocks<W>, place: usize) -> Option<usize>
     requires { place < length blocks.now.writes }
     ensures lands { not (is_held_back W.order result (take place blocks.now.writes)) ≡ may_land (map W.order blocks.now.writes) place }
     ensures small { IfSome result (λ class. class < 8) }
 {
-    if place == 0 {
-        return None;
-    }
     match blocks.get(place) {
         Some(write) => class_awaited(write),
         None => None,

@@ -1,10 +1,11 @@
 //! A part of a queue that is made of parts.
 
 use crate::Ordered;
-use crate::counted::Counted;
 use crate::part::Part;
+use crate::part_counts::Counted;
 use crate::row::{
-    Taken, find_spot, first_with_room, move_last, push_at, reserve_from, room_from, take_from,
+    Taken, find_spot, first_with_room, move_last, push_at, reserve_from, room_from,
+    take_first_from, take_from,
 };
 use std::alloc::{AllocError, Global};
 use std::marker::Model;
@@ -15,6 +16,23 @@ pub struct Level<W: Ordered, P: Part<W>> {
     row: Vec<Counted<W, P>>,
     last: usize,
     room: usize,
+}
+
+impl<W: Ordered, P: Part<W>> Level<W, P> {
+    ghost use Rattle.std.specs.Prelude.{◌≡◌, ◌≤◌};
+
+    // Moves a part that has no write any more behind all others, where it stands before the last one in use.
+    #[inline]
+    fn move_emptied(&mut self, part: usize)
+        ensures writes { self.new.writes ≡ self.old.writes }
+        ensures room { self.old.spare ≤ self.new.spare }
+    {
+        if part < self.last && self.row[part].len() == 0 {
+            let room = move_last(&mut self.row, part);
+            self.room = self.room.saturating_add(room);
+            self.last -= 1;
+        }
+    }
 }
 
 impl<W: Ordered, P: Part<W>> Model for Level<W, P> {
@@ -68,22 +86,16 @@ impl<W: Ordered, P: Part<W>> Part<W> for Level<W, P> {
     }
 
     #[inline]
+    fn take_first(&mut self) -> W {
+        let Taken { write, part } = take_first_from(&mut self.row);
+        self.move_emptied(part);
+        write
+    }
+
+    #[inline]
     fn take(&mut self, place: usize, waits_for: Option<usize>) -> Option<W> {
-        let Taken {
-            write,
-            part,
-            gained,
-        } = take_from(&mut self.row, place, waits_for)?;
-        if part >= self.last {
-            self.room = self.room.saturating_add(gained);
-            return Some(write);
-        }
-        if self.row[part].len() > 0 {
-            return Some(write);
-        }
-        let room = move_last(&mut self.row, part);
-        self.room = self.room.saturating_add(room);
-        self.last -= 1;
+        let Taken { write, part } = take_from(&mut self.row, place, waits_for)?;
+        self.move_emptied(part);
         Some(write)
     }
 

@@ -18,10 +18,11 @@ use std::marker::Model;
 
 mod block;
 mod block_queue;
-mod counted;
+mod blocks;
 pub mod laws;
 mod level;
 mod part;
+mod part_counts;
 mod row;
 #[cfg(test)]
 mod tests;
@@ -77,6 +78,7 @@ impl<W: Ordered> Queue<W> {
     }
 
     /// How many writes are in flight.
+    #[inline]
     pub fn len(&self) -> usize
         ensures { result ≡ length self.now.writes }
     {
@@ -102,8 +104,9 @@ impl<W: Ordered> Queue<W> {
     /// Promises room for `more` writes, on top of those that are promised already.
     ///
     /// An `Err` comes only from want of memory, never to a promise of 0 writes, and leaves the queue as it was. It comes
-    /// also where the queue's blocks can't take so many: they take 67,108,864 writes at most, and fewer where landings
+    /// also where the queue's blocks can't take so many: they take 67,109,120 writes at most, and fewer where landings
     /// out of order left most of each block empty. Where they can, and the machine gives the memory, it never comes.
+    #[inline]
     pub fn promise(&mut self, more: usize) -> Result<(), AllocError>
         ensures ok { OnOk result (self.new ≡ promised self.old more) }
         ensures err { OnErr result (self.new ≡ self.old) }
@@ -115,6 +118,7 @@ impl<W: Ordered> Queue<W> {
     }
 
     /// Gives back the promise of `count` writes, which are not posted after all. So many must be promised.
+    #[inline]
     pub fn give_back(&mut self, count: usize)
         requires { count ≤ self.old.spare }
         ensures { self.new ≡ given_back self.old count }
@@ -123,6 +127,7 @@ impl<W: Ordered> Queue<W> {
     }
 
     /// Posts a write behind all others, into room that was promised for at least one more. It takes no memory.
+    #[inline]
     pub fn push(&mut self, write: W)
         requires { 0 < self.old.spare }
         ensures { self.new ≡ posted self.old write }
@@ -141,15 +146,17 @@ impl<W: Ordered> Queue<W> {
     ///
     /// It takes a few hundred turns of loops at most, whatever the place and however many writes are in flight, and a
     /// few at the front.
+    #[inline]
     pub fn land(&mut self, place: usize) -> LandAnswer<W>
         ensures answer { result ≡ land_answer W.order self.old place }
         ensures after { self.new ≡ after_landing W.order self.old place }
     {
-        match self.tickets.land(place) {
-            LandAnswer::Landed(ticket) => LandAnswer::Landed(self.writes.remove(ticket.key)),
-            LandAnswer::Blocked => LandAnswer::Blocked,
-            LandAnswer::Nothing => LandAnswer::Nothing,
-        }
+        let ticket = match self.tickets.land(place) {
+            LandAnswer::Landed(ticket) => ticket,
+            LandAnswer::Blocked => return LandAnswer::Blocked,
+            LandAnswer::Nothing => return LandAnswer::Nothing,
+        };
+        LandAnswer::Landed(self.writes.remove(ticket.key))
     }
 
     /// Drops all writes in flight. What was promised stays promised.

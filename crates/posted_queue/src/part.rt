@@ -34,6 +34,12 @@ pub trait Part<W: Ordered>: Sized {
         ensures writes { (state self.new).writes ≡ (state self.old).writes ++ write ∷ [] }
         ensures room { (state self.new).spare + 1 ≡ (state self.old).spare };
 
+    /// Takes out the first write.
+    fn take_first(&mut self) -> W
+        requires { 0 < length (state self.old).writes }
+        ensures writes { (state self.old).writes ≡ result ∷ (state self.new).writes }
+        ensures room { (state self.old).spare ≤ (state self.new).spare };
+
     /// Takes out the write at this place, unless it waits for a class and a write of that class stands before it.
     fn take(&mut self, place: usize, waits_for: Option<usize>) -> Option<W>
         requires there { place < length (state self.old).writes }

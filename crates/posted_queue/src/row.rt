@@ -6,8 +6,8 @@ ghost use Rattle.posted_queue.specs.Rows.{is_held_back, writes_in, room_in, left
 
 use crate::Ordered;
 use crate::block::BLOCK_MOST;
-use crate::counted::Counted;
 use crate::part::Part;
+use crate::part_counts::Counted;
 use std::alloc::AllocError;
 
 /// How many parts a row has at most.
@@ -47,6 +47,19 @@ pub fn find_spot<W: Ordered, P: Part<W>>(
         left -= part.len();
     }
     None
+}
+
+/// The first part that has a write.
+#[inline]
+pub fn first_with_write<W: Ordered, P: Part<W>>(row: &[Counted<W, P>]) -> usize
+    requires { 0 < length (writes_in row.now) }
+    ensures { IsSpot row.now 0 (record { part = result; place = 0 }) }
+{
+    let mut index = 0;
+    while row[index].len() == 0 {
+        index += 1;
+    }
+    index
 }
 
 /// The first part from this one on that has room.
@@ -92,11 +105,26 @@ pub fn push_at<W: Ordered, P: Part<W>>(row: &mut Vec<Counted<W, P>>, number: usi
     part.push(write);
 }
 
-/// A write that was taken out of a row, the number of the part that it stood in, and how much room that part gained.
+/// A write that was taken out of a row, and the number of the part that it stood in.
 pub struct Taken<W> {
     pub write: W,
     pub part: usize,
-    pub gained: usize,
+}
+
+/// Takes out the first write.
+#[inline]
+pub fn take_first_from<W: Ordered, P: Part<W>>(row: &mut Vec<Counted<W, P>>) -> Taken<W>
+    requires { 0 < length (writes_in row.old.items) }
+    ensures write { slice_get (writes_in row.old.items) 0 ≡ Some result.write }
+    ensures taken { TakesOut row.old.items row.new.items 0 result.part }
+{
+    let number = first_with_write(row);
+    let part = &mut row[number];
+    let write = part.take_first();
+    Taken {
+        write,
+        part: number,
+    }
 }
 
 /// Takes out the write at this place, unless it waits for a class and a write of that class stands before it.
@@ -111,17 +139,14 @@ pub fn take_from<W: Ordered, P: Part<W>>(
     ensures held_back { is_none result ≡ is_held_back W.order waits_for (take place (writes_in row.old.items)) }
     ensures rests { IfNone result (row.new.items ≡ row.old.items) }
     ensures write { IfSome result (λ taken. slice_get (writes_in row.old.items) place ≡ Some taken.write) }
-    ensures taken { IfSome result (λ taken. TakesOut row.old.items row.new.items place taken.part taken.gained) }
+    ensures taken { IfSome result (λ taken. TakesOut row.old.items row.new.items place taken.part) }
 {
     let spot = find_spot(row, place, waits_for)?;
     let part = &mut row[spot.part];
-    let before = part.room();
     let write = part.take(spot.place, waits_for)?;
-    let gained = part.room() - before;
     Some(Taken {
         write,
         part: spot.part,
-        gained,
     })
 }
 
@@ -147,7 +172,7 @@ pub fn reserve_from<W: Ordered, P: Part<W>>(
 }
 
 // Makes room for `more` writes in this part, or for as many as it can take, and says how much room it has. It is added
-// where it isn't there. Behind the first part, no block is made smaller than it can be.
+// where it isn't there. No block is made smaller than it can be.
 fn reserve_at<W: Ordered, P: Part<W>>(
     row: &mut Vec<Counted<W, P>>,
     number: usize,
@@ -160,13 +185,8 @@ fn reserve_at<W: Ordered, P: Part<W>>(
     ensures enough { IfOk result (λ room. min more (part_at row.new.items number).left ≤ room) }
 {
     add_missing_part(row, number)?;
-    let wanted = if number == 0 {
-        more
-    } else {
-        more.max(BLOCK_MOST)
-    };
     let part = &mut row[number];
-    part.reserve(wanted)?;
+    part.reserve(more.max(BLOCK_MOST))?;
     Ok(part.room())
 }
 
@@ -189,6 +209,7 @@ fn add_missing_part<W: Ordered, P: Part<W>>(
 }
 
 /// Moves a part with no write behind all others, and says how much room it has.
+#[inline(never)]
 pub fn move_last<W: Ordered, P: Part<W>>(row: &mut Vec<Counted<W, P>>, number: usize) -> usize
     requires there { number < length row.old.items }
     requires none { (part_at row.old.items number).writes ≡ [] }

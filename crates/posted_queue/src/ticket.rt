@@ -7,14 +7,15 @@ use crate::Ordered;
 /// The key of a write that is kept elsewhere, and how bridges order it.
 #[derive(Clone, Copy)]
 pub struct Ticket {
+    kind: u32,
+    class: u32,
     pub key: usize,
-    kind: u8,
-    class: u8,
     ghost small: { (kind < 2) × (class < 8) },
 }
 
 impl Ticket {
     /// The ticket of the write at this key, which has this kind and this traffic class.
+    #[inline]
     pub fn new(key: usize, kind: usize, class: u32) -> Self
         requires kind { kind < 2 }
         requires class { class < 8 }
@@ -23,9 +24,9 @@ impl Ticket {
         ensures class { result.class ≡ class }
     {
         Ticket {
+            kind: kind as u32,
+            class,
             key,
-            kind: kind as u8,
-            class: class as u8,
         }
     }
 }
@@ -40,6 +41,6 @@ impl Ordered for Ticket {
 
     #[inline]
     fn class(&self) -> u32 {
-        self.class as u32
+        self.class
     }
 }

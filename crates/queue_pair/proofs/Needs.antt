@@ -17,7 +17,7 @@ use Rattle.bridge_pair.specs.Bridge.{Bridge, flight_of, pages_of, with_pages}
 use Rattle.bridge_pair.specs.Laws.{KeepsPromises}
 use Rattle.frame_ring.specs.Calls.{acked_by, after_ack, after_begin as port_after_begin, after_clear, after_copy, after_down, after_look as port_after_look, after_post, begin_answer as port_begin_answer, cleared_by, down_answer, down_begun, first_posted, frame_begun, last_got, next_begun, posted_by, where_begun}
 use Rattle.frame_ring.specs.Port.{PortState, unused_of}
-use Rattle.frame_ring.specs.Seen.{FitsRings, HasPages, HasPagesIn, flags_cleared, reaches, ring_posted, window_posted, with_room}
+use Rattle.frame_ring.specs.PortView.{FitsRings, HasPages, HasPagesIn, flags_cleared, reaches, ring_posted, window_posted, with_room}
 use Rattle.frame_ring.proofs.Spare.{unused_cleared, unused_copied}
 use Rattle.queue_pair.specs.Gates.{after_begin, after_look, after_look_answer, after_qpdown, closed_where_begun, look_answer, port_unless, qpdown_answer, sender_refusal}
 use Rattle.queue_pair.specs.Needs.{HasNeeds}

@@ -2,7 +2,7 @@
 -- hasn't used is there.
 use Rattle.std.specs.Prelude.{◌≡◌}
 use Rattle.bridge_pair.specs.Bridge.{Bridge}
-use Rattle.frame_ring.specs.Seen.{FitsRings, HasPagesIn, HasRoomIn}
+use Rattle.frame_ring.specs.PortView.{FitsRings, HasPagesIn, HasRoomIn}
 use Rattle.queue_pair.specs.Queue.{QueueState}
 
 pub record HasNeeds (queue : QueueState) (bridge : Bridge) : Type 0 where

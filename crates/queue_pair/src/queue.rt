@@ -29,7 +29,7 @@ pub struct QueuePair {
 impl QueuePair {
     ghost use Rattle.frame_ring.specs.Calls.{TouchedByBegin, TouchedByDown, TouchedByFlags, TouchedByLook, ack_answer, acked_by, after_ack, after_clear, after_copy, after_post, clear_answer, cleared_by, copy_answer, free_answer, post_answer, posted_by, reset_by};
     ghost use Rattle.frame_ring.specs.Port.{unused_of};
-    ghost use Rattle.frame_ring.specs.Seen.{FitsRings, HasPagesIn, HasRoomIn, with_room};
+    ghost use Rattle.frame_ring.specs.PortView.{FitsRings, HasPagesIn, HasRoomIn, with_room};
     ghost use Rattle.queue_pair.specs.Gates.{after_begin, after_look, after_qpdown, begin_answer, is_joined, look_answer, qpdown_answer, refuses_answer, sender_refusal};
     ghost use Rattle.queue_pair.specs.Queue.{fresh_queue, with_port};
 

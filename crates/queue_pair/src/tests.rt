@@ -1,6 +1,6 @@
 ghost use Rattle.std.specs.Prelude.{◌≡◌, ◌+◌, ◌<◌, ◌≤◌, IfOk, OnOk, length, true};
 ghost use Rattle.bridge_pair.specs.Bridge.{bytes_of};
-ghost use Rattle.frame_ring.specs.Seen.{FitsRings};
+ghost use Rattle.frame_ring.specs.PortView.{FitsRings};
 ghost use Rattle.plan_model.specs.DeclaredPlans.{IsPair};
 ghost use Rattle.queue_pair.specs.Gates.{refuses_answer};
 ghost use Rattle.queue_pair.specs.Laws.{is_refusal as refusal};

@@ -93,3 +93,15 @@ answer_text (QueueShown count label) = with_one (codes "queue") count ++ 32 ∷ 
 -- an answer whose text is one word: it has no space
 abbrev pub IsOneWord : Answer → Type 0
 IsOneWord answer = IsTrue (not (list_any (λ byte. byte == 32) (answer_text answer)))
+
+-- the bytes that an answer ends with
+abbrev pub bytes_text : Answer → List ℕ
+bytes_text (Delivered n frame) = frame_text frame
+bytes_text (Mem bytes) = encode_lower bytes
+bytes_text answer = []
+
+-- the text of an answer before them
+abbrev pub start_text : Answer → List ℕ
+start_text (Delivered n frame) = with_one (codes "frame") n ++ 32 ∷ []
+start_text (Mem bytes) = codes "mem "
+start_text answer = answer_text answer

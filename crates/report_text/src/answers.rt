@@ -1,162 +1,176 @@
 //! The texts of labels and answers: a word, and then its numbers and bytes.
 
-ghost use Rattle.std.specs.Prelude.{◌≡◌, ◌++◌, IfOk, OnOk};
-ghost use Rattle.report_text.specs.Texts.{answer_text, label_text, numbers_text, with_two, IsOneWord};
+ghost use Rattle.std.specs.Prelude.{◌≡◌, ◌+◌, ◌*◌, ◌≤◌, ◌++◌, IfOk, OnOk, length};
+ghost use Rattle.report_text.specs.Texts.{answer_text, bytes_text, label_text, start_text, with_two, IsOneWord};
 ghost use Rattle.step_kinds.specs.declared.steps.Answer.{Answer};
 
-use crate::append::{push_frame, push_hex, push_numbers, push_word};
+use crate::append::{push_frame, push_hex};
+use crate::line::{LineText, ROOM, SPACED};
 use std::alloc::{AllocError, Global};
 use step_kinds::{Answer, Label};
+
+// The most bytes of a label's text: a word of five letters and three numbers.
+const LABEL_ROOM: usize = 68;
+
+// The most bytes of an answer's text before its bytes: a word of five letters, a number, a space and a label.
+const START_ROOM: usize = 95;
 
 /// The text of an answer, as it stands in a report behind the number of its line. The only error is want of memory.
 pub fn text_of(alloc: Global, answer: &Answer) -> Result<Vec<u8>, AllocError>
     ensures { IfOk result (λ text. text.items ≡ answer_text answer.now) }
 {
     let mut text = Vec::new(alloc);
-    push_answer(alloc, &mut text, answer)?;
+    push_answer(&mut text, answer)?;
     Ok(text)
 }
 
 /// Adds the text of an answer: a word, and then its numbers, its label or its bytes. The only error is want of memory,
 /// and then some part of the text may have been added.
-pub fn push_answer(alloc: Global, text: &mut Vec<u8>, answer: &Answer) -> Result<(), AllocError>
+pub fn push_answer(text: &mut Vec<u8>, answer: &Answer) -> Result<(), AllocError>
     ensures { OnOk result (text.new.items ≡ text.old.items ++ answer_text answer.now) }
 {
+    let mut line = LineText::new();
+    put_start(&mut line, answer);
+    text.extend_from_slice(line.as_slice())?;
+    push_bytes(text, answer)
+}
+
+/// Adds the bytes that an answer ends with, if it does.
+pub fn push_bytes(text: &mut Vec<u8>, answer: &Answer) -> Result<(), AllocError>
+    ensures { OnOk result (text.new.items ≡ text.old.items ++ bytes_text answer.now) }
+{
     match answer {
-        Answer::OkSession { session } => push_with(text, "ok", &[u64::from(*session)]),
-        Answer::OkNumber { number } => push_with(text, "ok", &[*number]),
-        Answer::Offered { index } => push_with(text, "offered", &[u64::from(*index)]),
-        Answer::Version { seen, own } => push_pair(text, "version", *seen, *own),
-        Answer::Queues { seen, own } => push_pair(text, "queues", *seen, *own),
-        Answer::Windows { seen, own } => push_pair(text, "windows", *seen, *own),
-        Answer::Size { seen, cap } => push_with(text, "size", &[*seen, *cap]),
-        Answer::TooLong { len, max } => push_pair(text, "toolong", *len, *max),
-        Answer::Again { head, tail } => push_pair(text, "again", *head, *tail),
-        Answer::Posted { label } => push_label(text, "posted ", label),
-        Answer::Landed { label } => push_label(text, "landed ", label),
-        Answer::VerDiffers { seen, own } => push_pair(text, "verdiffers", *seen, *own),
-        Answer::Long { len, max } => push_pair(text, "long", *len, *max),
-        Answer::ReadyFrame { number, len } => push_with(text, "ready", &[*number, u64::from(*len)]),
-        Answer::Copied { number, part } => push_with(text, "copied", &[*number, u64::from(*part)]),
-        Answer::Delivered { number, frame } => push_delivered(alloc, text, *number, frame.bytes()),
-        Answer::Cleared { number } => push_with(text, "cleared", &[*number]),
-        Answer::Acked { number } => push_with(text, "acked", &[*number]),
-        Answer::Irq { bits } => push_with(text, "irq", &[u64::from(*bits)]),
-        Answer::Mem { bytes } => push_memory(alloc, text, bytes.bytes()),
-        Answer::PadValue { value } => push_with(text, "pad", &[u64::from(*value)]),
-        Answer::QueueShown { count, label } => push_queue(text, *count, label),
-        _ => push_word(text, word_of(answer)),
+        Answer::Delivered { frame, .. } => push_frame(text, frame.bytes()),
+        Answer::Mem { bytes } => push_hex(text, bytes.bytes()),
+        _ => Ok(()),
     }
 }
 
-// The text of an answer of one word.
-fn word_of(answer: &Answer) -> &'static str
-    requires { IsOneWord answer.now }
-    ensures { result.now ≡ answer_text answer.now }
+/// Puts the text of an answer in front of a line, but for the bytes that the answer ends with.
+pub fn put_start(line: &mut LineText, answer: &Answer)
+    requires { START_ROOM + length line.old ≤ ROOM }
+    ensures text { line.new ≡ start_text answer.now ++ line.old }
+    ensures len { length line.new ≤ START_ROOM + length line.old }
 {
     match answer {
-        Answer::Ok => "ok",
-        Answer::NotDown => "notdown",
-        Answer::Dirty => "dirty",
-        Answer::NotEnabled => "notenabled",
-        Answer::Spent => "spent",
-        Answer::NotUp => "notup",
-        Answer::NotClosing => "notclosing",
-        Answer::LinkDown => "linkdown",
-        Answer::Already => "already",
-        Answer::NotYet => "notyet",
-        Answer::Up => "up",
-        Answer::NotChecked => "notchecked",
-        Answer::NotReady => "notready",
-        Answer::Joined => "joined",
-        Answer::Closed => "closed",
-        Answer::Busy => "busy",
-        Answer::Stopped => "stopped",
-        Answer::Idle => "idle",
-        Answer::Nothing => "nothing",
-        Answer::Blocked => "blocked",
-        Answer::OutOfTurn => "outofturn",
-        Answer::Empty => "empty",
-        Answer::PeerDown => "peerdown",
-        Answer::Awake => "awake",
+        Answer::OkSession { session } => line.put_one(b"ok", u64::from(*session)),
+        Answer::OkNumber { number } => line.put_one(b"ok", *number),
+        Answer::Offered { index } => line.put_one(b"offered", u64::from(*index)),
+        Answer::Version { seen, own } => put_pair(line, b"version", *seen, *own),
+        Answer::Queues { seen, own } => put_pair(line, b"queues", *seen, *own),
+        Answer::Windows { seen, own } => put_pair(line, b"windows", *seen, *own),
+        Answer::Size { seen, cap } => line.put_two(b"size", *seen, *cap),
+        Answer::TooLong { len, max } => put_pair(line, b"toolong", *len, *max),
+        Answer::Again { head, tail } => put_pair(line, b"again", *head, *tail),
+        Answer::Posted { label } => {
+            put_label(line, label);
+            line.put_word(b"posted ");
+        }
+        Answer::Landed { label } => {
+            put_label(line, label);
+            line.put_word(b"landed ");
+        }
+        Answer::VerDiffers { seen, own } => put_pair(line, b"verdiffers", *seen, *own),
+        Answer::Long { len, max } => put_pair(line, b"long", *len, *max),
+        Answer::ReadyFrame { number, len } => line.put_two(b"ready", *number, u64::from(*len)),
+        Answer::Copied { number, part } => line.put_two(b"copied", *number, u64::from(*part)),
+        Answer::Delivered { number, .. } => {
+            line.put_word(b" ");
+            line.put_one(b"frame", *number);
+        }
+        Answer::Cleared { number } => line.put_one(b"cleared", *number),
+        Answer::Acked { number } => line.put_one(b"acked", *number),
+        Answer::Irq { bits } => line.put_one(b"irq", u64::from(*bits)),
+        Answer::Mem { .. } => line.put_word(b"mem "),
+        Answer::PadValue { value } => line.put_one(b"pad", u64::from(*value)),
+        Answer::QueueShown { count, label } => put_queue(line, *count, label),
+        _ => put_one_word(line, answer),
+    }
+}
+
+// Puts the text of an answer of one word in front of a line.
+fn put_one_word(line: &mut LineText, answer: &Answer)
+    requires room { START_ROOM + length line.old ≤ ROOM }
+    requires word { IsOneWord answer.now }
+    ensures text { line.new ≡ answer_text answer.now ++ line.old }
+    ensures len { length line.new ≤ START_ROOM + length line.old }
+{
+    match answer {
+        Answer::Ok => line.put_word(b"ok"),
+        Answer::NotDown => line.put_word(b"notdown"),
+        Answer::Dirty => line.put_word(b"dirty"),
+        Answer::NotEnabled => line.put_word(b"notenabled"),
+        Answer::Spent => line.put_word(b"spent"),
+        Answer::NotUp => line.put_word(b"notup"),
+        Answer::NotClosing => line.put_word(b"notclosing"),
+        Answer::LinkDown => line.put_word(b"linkdown"),
+        Answer::Already => line.put_word(b"already"),
+        Answer::NotYet => line.put_word(b"notyet"),
+        Answer::Up => line.put_word(b"up"),
+        Answer::NotChecked => line.put_word(b"notchecked"),
+        Answer::NotReady => line.put_word(b"notready"),
+        Answer::Joined => line.put_word(b"joined"),
+        Answer::Closed => line.put_word(b"closed"),
+        Answer::Busy => line.put_word(b"busy"),
+        Answer::Stopped => line.put_word(b"stopped"),
+        Answer::Idle => line.put_word(b"idle"),
+        Answer::Nothing => line.put_word(b"nothing"),
+        Answer::Blocked => line.put_word(b"blocked"),
+        Answer::OutOfTurn => line.put_word(b"outofturn"),
+        Answer::Empty => line.put_word(b"empty"),
+        Answer::PeerDown => line.put_word(b"peerdown"),
+        Answer::Awake => line.put_word(b"awake"),
         _ => unreachable!(),
     }
 }
 
-// Adds a word and numbers.
-fn push_with(text: &mut Vec<u8>, word: &str, numbers: &[u64]) -> Result<(), AllocError>
-    ensures { OnOk result (text.new.items ≡ text.old.items ++ word.now ++ numbers_text numbers.now) }
+// Puts a word and two numbers in front of a line.
+#[inline]
+fn put_pair<const N: usize>(line: &mut LineText, word: &[u8; N], one: u32, other: u32)
+    requires { N + 2 * SPACED + length line.old ≤ ROOM }
+    ensures text { line.new ≡ with_two word.now one other ++ line.old }
+    ensures len { length line.new ≤ N + 2 * SPACED + length line.old }
 {
-    push_word(text, word)?;
-    push_numbers(text, numbers)
+    line.put_two(word, u64::from(one), u64::from(other))
 }
 
-// Adds a word and two numbers.
-fn push_pair(text: &mut Vec<u8>, word: &str, one: u32, other: u32) -> Result<(), AllocError>
-    ensures { OnOk result (text.new.items ≡ text.old.items ++ with_two word.now one other) }
+// Puts the text of the writes in flight in front of a line; a dash stands where none is at the place that was asked for.
+fn put_queue(line: &mut LineText, count: u64, label: &Option<Label>)
+    requires { START_ROOM + length line.old ≤ ROOM }
+    ensures text { line.new ≡ answer_text (Answer.QueueShown count label.now) ++ line.old }
+    ensures len { length line.new ≤ START_ROOM + length line.old }
 {
-    push_with(text, word, &[u64::from(one), u64::from(other)])
-}
-
-// Adds the text of a delivered frame.
-fn push_delivered(
-    alloc: Global,
-    text: &mut Vec<u8>,
-    number: u64,
-    frame: &[u8],
-) -> Result<(), AllocError>
-    ensures { OnOk result (text.new.items ≡ text.old.items ++ answer_text (Answer.Delivered number frame.now)) }
-{
-    push_with(text, "frame", &[number])?;
-    push_word(text, " ")?;
-    push_frame(alloc, text, frame)
-}
-
-// Adds the text of bytes of a memory.
-fn push_memory(alloc: Global, text: &mut Vec<u8>, bytes: &[u8]) -> Result<(), AllocError>
-    ensures { OnOk result (text.new.items ≡ text.old.items ++ answer_text (Answer.Mem bytes.now)) }
-{
-    push_word(text, "mem ")?;
-    push_hex(alloc, text, bytes)
-}
-
-// Adds the text of the writes in flight; a dash stands where none is at the place that was asked for.
-fn push_queue(text: &mut Vec<u8>, count: u64, label: &Option<Label>) -> Result<(), AllocError>
-    ensures { OnOk result (text.new.items ≡ text.old.items ++ answer_text (Answer.QueueShown count label.now)) }
-{
-    push_with(text, "queue", &[count])?;
     match label {
-        Some(label) => push_label(text, " ", label),
-        None => push_word(text, " -"),
+        Some(label) => put_label(line, label),
+        None => line.put_word(b"-"),
     }
+    line.put_word(b" ");
+    line.put_one(b"queue", count);
 }
 
-// Adds the text of a label behind a word.
-fn push_label(text: &mut Vec<u8>, before: &str, label: &Label) -> Result<(), AllocError>
-    ensures { OnOk result (text.new.items ≡ text.old.items ++ before.now ++ label_text label.now) }
+// Puts the text of a label in front of a line.
+fn put_label(line: &mut LineText, label: &Label)
+    requires { LABEL_ROOM + length line.old ≤ ROOM }
+    ensures text { line.new ≡ label_text label.now ++ line.old }
+    ensures len { length line.new ≤ LABEL_ROOM + length line.old }
 {
-    push_word(text, before)?;
     match label {
         Label::Chunk {
             queue,
             number,
             part,
-        } => push_with(
-            text,
-            "chunk",
-            &[u64::from(*queue), *number, u64::from(*part)],
-        ),
-        Label::Len { queue, number } => push_with(text, "len", &[u64::from(*queue), *number]),
-        Label::Ver { queue, number } => push_with(text, "ver", &[u64::from(*queue), *number]),
-        Label::Flag { queue, number } => push_with(text, "flag", &[u64::from(*queue), *number]),
-        Label::Down { queue, number } => push_with(text, "down", &[u64::from(*queue), *number]),
-        Label::Bell { queue } => push_with(text, "bell", &[u64::from(*queue)]),
-        Label::Index { queue, number } => push_with(text, "index", &[u64::from(*queue), *number]),
-        Label::Pad { index, value } => push_pair(text, "pad", *index, *value),
+        } => line.put_three(b"chunk", u64::from(*queue), *number, u64::from(*part)),
+        Label::Len { queue, number } => line.put_two(b"len", u64::from(*queue), *number),
+        Label::Ver { queue, number } => line.put_two(b"ver", u64::from(*queue), *number),
+        Label::Flag { queue, number } => line.put_two(b"flag", u64::from(*queue), *number),
+        Label::Down { queue, number } => line.put_two(b"down", u64::from(*queue), *number),
+        Label::Bell { queue } => line.put_one(b"bell", u64::from(*queue)),
+        Label::Index { queue, number } => line.put_two(b"index", u64::from(*queue), *number),
+        Label::Pad { index, value } => put_pair(line, b"pad", *index, *value),
         Label::Raw {
             window,
             offset,
             len,
-        } => push_with(text, "raw", &[u64::from(*window), *offset, u64::from(*len)]),
+        } => line.put_three(b"raw", u64::from(*window), *offset, u64::from(*len)),
     }
 }

@@ -5,7 +5,7 @@ ghost use Rattle.hex.specs.Hex.{encode_lower};
 ghost use Rattle.report_text.specs.Texts.{frame_text, numbers_text};
 
 use itoa::Buffer;
-use std::alloc::{AllocError, Global};
+use std::alloc::AllocError;
 
 /// Adds a word.
 pub fn push_word(text: &mut Vec<u8>, word: &str) -> Result<(), AllocError>
@@ -26,20 +26,24 @@ pub fn push_numbers(text: &mut Vec<u8>, numbers: &[u64]) -> Result<(), AllocErro
     Ok(())
 }
 
-/// Adds bytes in hexadecimal.
-pub fn push_hex(alloc: Global, text: &mut Vec<u8>, bytes: &[u8]) -> Result<(), AllocError>
+/// Adds bytes in hexadecimal. It stays a call, so that a line without bytes pays nothing for it.
+#[inline(never)]
+pub fn push_hex(text: &mut Vec<u8>, bytes: &[u8]) -> Result<(), AllocError>
     ensures { OnOk result (text.new.items ≡ text.old.items ++ encode_lower bytes.now) }
 {
-    let digits = hex::encode(alloc, bytes)?;
-    text.extend_from_slice(digits.as_bytes())
+    let start = text.len();
+    let end = start.checked_add(2 * bytes.len()).ok_or(AllocError)?;
+    text.resize(end, 0)?;
+    hex::encode_to_slice(bytes, &mut text.as_mut_slice()[start..]).unwrap();
+    Ok(())
 }
 
 /// Adds the bytes of a frame; one without bytes has a dash in their place.
-pub fn push_frame(alloc: Global, text: &mut Vec<u8>, bytes: &[u8]) -> Result<(), AllocError>
+pub fn push_frame(text: &mut Vec<u8>, bytes: &[u8]) -> Result<(), AllocError>
     ensures { OnOk result (text.new.items ≡ text.old.items ++ frame_text bytes.now) }
 {
     if bytes.is_empty() {
         return push_word(text, "-");
     }
-    push_hex(alloc, text, bytes)
+    push_hex(text, bytes)
 }

@@ -4,6 +4,7 @@
 
 mod answers;
 mod append;
+mod line;
 mod run;
 #[cfg(test)]
 mod tests;

@@ -28,59 +28,36 @@ pub fn record_text(alloc: Global, plan: &Plan, run: &RunRecord) -> Result<Vec<u8
     ensures { IfOk result (λ text. text.items ≡ record_of plan.now (run_shown run.now)) }
 {
     let mut text = Vec::new(alloc);
-    push_runs(
-        alloc,
-        &mut text,
-        plan.pairs.as_slice(),
-        run.lanes.as_slice(),
-    )?;
+    push_runs(&mut text, plan.pairs.as_slice(), run.lanes.as_slice())?;
     push_word(&mut text, "end\n")?;
     Ok(text)
 }
 
 // Adds the lines of all lanes.
-fn push_runs(
-    alloc: Global,
-    text: &mut Vec<u8>,
-    pairs: &[PairPlan],
-    lanes: &[LaneRun],
-) -> Result<(), AllocError>
+fn push_runs(text: &mut Vec<u8>, pairs: &[PairPlan], lanes: &[LaneRun]) -> Result<(), AllocError>
     requires { All (λ lane. lane.name.pair < length pairs.now) lanes.now }
     ensures { OnOk result (text.new.items ≡ text.old.items ++ flat_map (λ lane. run_lines pairs.now (lane_shown lane)) lanes.now) }
 {
     for lane in lanes {
-        push_run(alloc, text, pairs, lane)?;
+        push_run(text, pairs, lane)?;
     }
     Ok(())
 }
 
 // Adds the lines of a lane's sessions.
-fn push_run(
-    alloc: Global,
-    text: &mut Vec<u8>,
-    pairs: &[PairPlan],
-    lane: &LaneRun,
-) -> Result<(), AllocError>
+fn push_run(text: &mut Vec<u8>, pairs: &[PairPlan], lane: &LaneRun) -> Result<(), AllocError>
     requires { lane.now.name.pair < length pairs.now }
     ensures { OnOk result (text.new.items ≡ text.old.items ++ run_lines pairs.now (lane_shown lane.now)) }
 {
     let sessions = lane.sessions.as_slice();
     for place in 0..sessions.len() {
-        push_session(
-            alloc,
-            text,
-            pairs,
-            &lane.name,
-            place as u64 + 1,
-            &sessions[place],
-        )?;
+        push_session(text, pairs, &lane.name, place as u64 + 1, &sessions[place])?;
     }
     Ok(())
 }
 
 // Adds the lines of a session.
 fn push_session(
-    alloc: Global,
     text: &mut Vec<u8>,
     pairs: &[PairPlan],
     lane: &LaneName,
@@ -100,8 +77,8 @@ fn push_session(
         left,
     };
     push_counts(text, counts)?;
-    push_frames(alloc, text, "frame", 0, &run.delivered)?;
-    push_frames(alloc, text, "left", delivered, &run.left)
+    push_frames(text, "frame", 0, &run.delivered)?;
+    push_frames(text, "left", delivered, &run.left)
 }
 
 // Adds how many frames a session accepted, delivered and left, and ends the line.
@@ -120,7 +97,6 @@ fn push_counts(text: &mut Vec<u8>, counts: FrameCounts) -> Result<(), AllocError
 // Adds frames behind a word, numbered from `first` on.
 #[tactic(auto, using(crate::proofs::Runs::frame_lines_more))]
 fn push_frames(
-    alloc: Global,
     text: &mut Vec<u8>,
     word: &str,
     first: u64,
@@ -131,7 +107,6 @@ fn push_frames(
 {
     for place in 0..frames.len() {
         push_frame_line(
-            alloc,
             text,
             word,
             first + place as u64,
@@ -143,7 +118,6 @@ fn push_frames(
 
 // Adds a frame behind a word and its number.
 fn push_frame_line(
-    alloc: Global,
     text: &mut Vec<u8>,
     word: &str,
     number: u64,
@@ -154,6 +128,6 @@ fn push_frame_line(
     push_word(text, word)?;
     push_numbers(text, &[number])?;
     push_word(text, " ")?;
-    push_frame(alloc, text, frame)?;
+    push_frame(text, frame)?;
     push_word(text, "\n")
 }

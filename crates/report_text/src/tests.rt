@@ -141,6 +141,34 @@ fn frames_and_memory(rt: HostRuntime) -> Result<(), Fail> {
     Ok(())
 }
 
+#[test]
+fn lines_of_answers(rt: HostRuntime) -> Result<(), Fail> {
+    let mut text = Vec::new(rt.alloc());
+    let frame = Frame::of_vec([0x61u8, 0xff].to_vec(rt.alloc())?);
+    let delivered = LineAnswer {
+        line: 7,
+        answer: Answer::Delivered { number: 0, frame },
+    };
+    push_answer_line(&mut text, &delivered)?;
+    let (queue, number, part) = (u32::MAX, u64::MAX, u32::MAX);
+    let longest = LineAnswer {
+        line: u32::MAX,
+        answer: Answer::QueueShown {
+            count: u64::MAX,
+            label: Some(Label::Chunk {
+                queue,
+                number,
+                part,
+            }),
+        },
+    };
+    push_answer_line(&mut text, &longest)?;
+    let expected =
+        "7 frame 0 61ff\n4294967295 queue 18446744073709551615 chunk 4294967295 18446744073709551615 4294967295\n";
+    assert_eq!(rt; text.as_slice(), expected.as_bytes());
+    Ok(())
+}
+
 /// A plan of one pair, `p`, with one device, `d0`.
 fn plan(alloc: Global) -> Result<Plan, AllocError> {
     let window = 4096;

@@ -4,9 +4,9 @@ ghost use Rattle.std.specs.Prelude.{◌≡◌, ◌++◌, ◌<◌, IfOk, OnOk, Al
 ghost use Rattle.std.specs.List.{flat_map};
 ghost use Rattle.report_text.specs.Report.{answer_line, count_lines, device_line, device_lines, ending, lane_text, report_of, side_text};
 
-use crate::answers::push_answer;
+use crate::answers::{push_bytes, put_start};
 use crate::append::{push_numbers, push_word};
-use itoa::Buffer;
+use crate::line::LineText;
 use std::alloc::{AllocError, Global};
 use step_kinds::{Counters, DevPlan, LaneName, LineAnswer, PairPlan, Plan, Side};
 
@@ -40,7 +40,7 @@ pub fn report(
     ensures { IfOk result (λ text. text.items ≡ report_of plan.now lines.now lanes.now devs.now) }
 {
     let mut text = Vec::new(alloc);
-    push_answers(alloc, &mut text, lines)?;
+    push_answers(&mut text, lines)?;
     push_ending(&mut text, plan, lanes, devs)?;
     Ok(text)
 }
@@ -66,29 +66,28 @@ pub fn push_ending(
 }
 
 // Adds the lines of all answers.
-fn push_answers(alloc: Global, text: &mut Vec<u8>, lines: &[LineAnswer]) -> Result<(), AllocError>
+fn push_answers(text: &mut Vec<u8>, lines: &[LineAnswer]) -> Result<(), AllocError>
     ensures { OnOk result (text.new.items ≡ text.old.items ++ flat_map answer_line lines.now) }
 {
     for made in lines {
-        push_answer_line(alloc, text, made)?;
+        push_answer_line(text, made)?;
     }
     Ok(())
 }
 
 /// Adds the line of an answer: the number of its script line, a space, and the answer's text. The only error is want of
 /// memory, and then some part of the line may have been added.
-pub fn push_answer_line(
-    alloc: Global,
-    text: &mut Vec<u8>,
-    made: &LineAnswer,
-) -> Result<(), AllocError>
+pub fn push_answer_line(text: &mut Vec<u8>, made: &LineAnswer) -> Result<(), AllocError>
     ensures { OnOk result (text.new.items ≡ text.old.items ++ answer_line made.now) }
 {
-    let mut digits = Buffer::new();
-    push_word(text, digits.format(made.line))?;
-    push_word(text, " ")?;
-    push_answer(alloc, text, &made.answer)?;
-    push_word(text, "\n")
+    let mut line = LineText::new();
+    put_start(&mut line, &made.answer);
+    line.put_word(b" ");
+    line.put_number(u64::from(made.line));
+    text.extend_from_slice(line.as_slice())?;
+    push_bytes(text, &made.answer)?;
+    text.push(b'\n')?;
+    Ok(())
 }
 
 // Adds the lines of what lanes accepted and delivered.

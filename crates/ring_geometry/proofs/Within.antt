@@ -1,6 +1,6 @@
 -- What a `Geometry` keeps lies in its window.
 use Rattle.std.proofs.Common.{ℕ, ◌+◌, ◌*◌, ◌<◌, ◌≤◌}
-use Rattle.ring_geometry.specs.Kept.{IsKept, layout_of}
+use Rattle.ring_geometry.specs.GeometryFields.{IsKept, layout_of}
 use Rattle.ring_geometry.specs.declared.Geometry.TheInside.{Inside}
 use Rattle.ring_geometry.proofs.Areas.{area_in_window, slot_in_window}
 

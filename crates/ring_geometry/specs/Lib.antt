@@ -1,4 +1,4 @@
 pub mod Geometry
-pub mod Kept
+pub mod GeometryFields
 pub mod Laws
 pub mod Spots

@@ -200,7 +200,7 @@ impl Model for Geometry {
 
     ghost Value = { Layout };
 
-    ghost use Rattle.ring_geometry.specs.Kept.{inside_of, inside_of-layout_of, layout_of, IsKept};
+    ghost use Rattle.ring_geometry.specs.GeometryFields.{inside_of, inside_of-layout_of, layout_of, IsKept};
 
     ghost view = { layout_of };
 

@@ -37,9 +37,12 @@ module _ {K : Type 0} (text : K → List ℕ) (name : List ℕ) where
   zero-plus None = refl
   zero-plus (Some n) = ap Some (omega arith)
 
-  -- the place that a set finds is the name's number
+  -- the place that is found in turn is the name's number, and so is the one that a set finds
+  pub position_from-named : (keys : List K) → position_from (λ k. bytes_eq name (text k)) 0 keys ≡ number_named (map text keys) name
+  position_from-named keys = counted 0 keys ∙ zero-plus _
+
   pub position-named : (keys : List K) → position (λ k. bytes_eq name (text k)) keys ≡ number_named (map text keys) name
-  position-named keys = position_from-zero (λ k. bytes_eq name (text k)) keys ∙ (counted 0 keys ∙ zero-plus _)
+  position-named keys = position_from-zero (λ k. bytes_eq name (text k)) keys ∙ position_from-named keys
 
   -- a set has the name where the names have it
   pub list_any-named : (keys : List K) → list_any (λ k. bytes_eq name (text k)) keys ≡ has_name (map text keys) name

@@ -1,4 +1,4 @@
 pub mod Counts
+pub mod LinesSoFar
 pub mod NamesMatch
-pub mod Seen
 pub mod Sound

@@ -5,9 +5,8 @@ use Rattle.step_kinds.specs.Limits.{most_hosts, most_pairs, most_devices, most_s
 use Rattle.plan_model.specs.DeclaredPlans.{IsPair, IsDevice, IsQueueOf}
 use Rattle.plan_model.specs.TrafficPlans.{frames_in, bytes_in, is_break_of}
 use Rattle.script_words.specs.Before.{Before, has_name, pair_names, dev_names}
-use Rattle.script_words.specs.Compact.{steps_of}
-use Rattle.script_words.specs.declared.given.Given.{Given}
-use Rattle.script_words.specs.declared.given.Given.TheVariants.{Nothing, Host, Pair, Device, Class, StepsBegin, TrafficBegins, Steps, Frame, Flood, Break}
+use Rattle.script_words.specs.declared.line_gives.Given.{Given}
+use Rattle.script_words.specs.declared.line_gives.Given.TheVariants.{Nothing, Host, Pair, Device, Class, StepsBegin, TrafficBegins, Frame, Flood, Break}
 
 -- the pairs and devices are as a script can declare them, and pairs and steps are few
 pub record IsSound (before : Before) : Type 0 where
@@ -25,7 +24,6 @@ Suits before (Device dev) = (has_name (dev_names before) dev.name ≡ false) × 
 Suits before (Class name class) = IsQueueOf before.plan name.pair name.side name.queue × IsClass class
 Suits before StepsBegin = Unit {0}
 Suits before TrafficBegins = Unit {0}
-Suits before (Steps steps) = length before.plan.steps + length (steps_of steps) ≤ most_steps
 Suits before (Frame lane frame) =
     (sum (map frames_in before.plan.traffic) + 1 ≤ most_traffic_frames) × (sum (map bytes_in before.plan.traffic) + length frame ≤ most_traffic_bytes)
 Suits before (Flood lane count len) =

@@ -4,7 +4,7 @@ ghost use Rattle.std.specs.Prelude.{◌≡◌};
 ghost use Rattle.std.specs.List.{list_any};
 ghost use Rattle.script_words.specs.Declarations.{sits_on};
 
-use crate::declared::{Declared, Named};
+use crate::by_name::{Declared, Named};
 use script_words::QueueName;
 use script_words::words::is_same_side;
 use step_kinds::DevPlan;

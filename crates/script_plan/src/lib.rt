@@ -2,7 +2,7 @@
 //! and the counters of its limits.
 #![tactic(auto)]
 
-mod declared;
+mod by_name;
 mod devices;
 mod names;
 mod pairs;
@@ -11,7 +11,7 @@ pub mod rings;
 pub mod steps;
 mod traffic;
 
-pub use declared::{Declared, Named};
+pub use by_name::{Declared, Named};
 pub use devices::Devices;
 pub use names::Names;
 pub use pairs::Pairs;

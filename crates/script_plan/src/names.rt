@@ -1,10 +1,15 @@
 //! The names of one kind.
 
 ghost use Rattle.std.specs.Prelude.{◌≡◌, ◌∷◌, ◌++◌, ◌<◌, [], false, length, OnOk, OnErr, IfSome};
+ghost use Rattle.std.specs.List.{position_from};
+ghost use Rattle.std.specs.Str.{bytes_eq};
 
 use indexmap::IndexSet;
 use std::alloc::{AllocError, Global};
 use std::marker::Model;
+
+/// Among so many names at most one is found sooner by comparing them in turn than by its hash.
+const MOST_IN_TURN: usize = 16;
 
 /// The names of the hosts, the pairs or the devices, in the order of their declaration.
 #[derive(Drop)]
@@ -43,8 +48,21 @@ impl Names {
         ensures value { result ≡ number_named self.now name.now }
         ensures below { IfSome result (λ k. k < length self.now) }
     {
-        let place = self.names.get_index_of(name)?;
+        let place = self.place(name)?;
         Some(place as u32)
+    }
+
+    /// The same as a place: few names are compared in turn, many are found by hash.
+    fn place(&self, name: &[u8]) -> Option<usize>
+        ensures value { result ≡ number_named self.now name.now }
+        ensures below { IfSome result (λ k. k < length self.now) }
+        ensures few { IfSome result (λ k. k < 64) }
+    {
+        if self.names.len() <= MOST_IN_TURN {
+            place_in_turn(self.names.as_slice(), name)
+        } else {
+            self.names.get_index_of(name)
+        }
     }
 
     /// Adds a name that isn't there yet. The only error is want of memory, and then nothing is added.
@@ -68,4 +86,17 @@ impl Model for Names {
     ghost view = { λ all. map (λ name. name.items) all.names.keys };
 
     ghost invariant = { λ all. length all.names.keys ≤ 64 };
+}
+
+/// The place of the first of some names that is this one.
+fn place_in_turn(names: &[Vec<u8>], name: &[u8]) -> Option<usize>
+    ensures value { result ≡ position_from (λ other. bytes_eq name.now other.items) 0 names.now }
+    ensures below { IfSome result (λ k. k < length names.now) }
+{
+    for (place, other) in names.iter().enumerate() {
+        if name == other.as_slice() {
+            return Some(place);
+        }
+    }
+    None
 }

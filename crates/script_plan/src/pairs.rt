@@ -4,7 +4,7 @@ ghost use Rattle.std.specs.Prelude.{◌≡◌, ◌<◌, length, slice_set, slice
 ghost use Rattle.plan_model.specs.Plans.{no_pair};
 ghost use Rattle.script_words.specs.Before.{with_class};
 
-use crate::declared::{Declared, Named};
+use crate::by_name::{Declared, Named};
 use step_kinds::{PairPlan, Side};
 
 /// The pairs that are declared so far, in order. A pair is found by its name.

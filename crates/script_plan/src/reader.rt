@@ -1,20 +1,19 @@
 //! What the lines so far give.
 
-ghost use Rattle.std.specs.Prelude.{◌≡◌, ◌+◌, ◌<◌, ◌≤◌, false, length, OnOk};
+ghost use Rattle.std.specs.Prelude.{◌≡◌, ◌+◌, ◌<◌, ◌≤◌, ◌∷◌, [], false, length, OnOk};
 ghost use Rattle.std.specs.List.{list_any};
 ghost use Rattle.script_words.specs.Declarations.{is_queue};
 
 use crate::devices::Devices;
 use crate::names::Names;
 use crate::pairs::Pairs;
-use crate::steps::push_steps;
+use crate::steps::{put_step, put_steps};
 use crate::traffic::TrafficList;
 use script_words::words::is_same_side;
 use script_words::{Given, Macro, Part, QueueName};
 use std::alloc::{AllocError, Global};
 use std::marker::Model;
-use std::mem;
-use step_kinds::{DevPlan, Items, Line, PairPlan, Plan};
+use step_kinds::{DevPlan, Items, Line, PairPlan, Plan, Step};
 
 /// The part that the next line stands in, and the plan that the lines so far declare.
 #[derive(Drop)]
@@ -154,14 +153,23 @@ impl Reader {
         Ok(())
     }
 
-    /// Adds the steps of line `line`. Where memory is wanting, no steps are left.
-    fn add_steps(&mut self, alloc: Global, line: u32, more: Macro) -> Result<(), AllocError>
+    /// Adds the steps of line `line`. The only error is want of memory, and then nothing is added.
+    pub fn add_steps(&mut self, line: u32, more: Macro) -> Result<(), AllocError>
         requires { length self.old.plan.steps + length (steps_of more) ≤ most_steps }
         ensures { OnOk result (self.new ≡ with_given line self.old (MoreSteps (steps_of more))) }
     {
-        let mut steps = mem::replace(&mut self.steps, Vec::new(alloc));
-        push_steps(&mut steps, line, more)?;
-        self.steps = steps;
+        self.steps.reserve(more.count() as usize)?;
+        put_steps(&mut self.steps, line, more);
+        Ok(())
+    }
+
+    /// Adds the only step of line `line`. The only error is want of memory, and then nothing is added.
+    pub fn add_step(&mut self, line: u32, step: Step) -> Result<(), AllocError>
+        requires { length self.old.plan.steps < most_steps }
+        ensures { OnOk result (self.new ≡ with_given line self.old (MoreSteps (step ∷ []))) }
+    {
+        self.steps.reserve(1)?;
+        put_step(&mut self.steps, line, step);
         Ok(())
     }
 
@@ -179,7 +187,6 @@ impl Reader {
             Given::Class { queue, class } => self.add_class(queue, class)?,
             Given::StepsBegin => self.part = Part::Steps,
             Given::TrafficBegins => self.part = Part::Traffic,
-            Given::Steps { steps } => self.add_steps(alloc, line, steps)?,
             Given::Frame { lane, frame } => self.traffic.push_frame(lane, frame)?,
             Given::Flood { lane, count, len } => {
                 self.traffic.push_flood(alloc, lane, count, len)?;
@@ -205,7 +212,7 @@ impl Reader {
 impl Model for Reader {
     ghost use Rattle.script_words.specs.Before.{Before};
     ghost use Rattle.script_plan.specs.Sound.{IsSound};
-    ghost use Rattle.script_plan.specs.Seen.{before_with};
+    ghost use Rattle.script_plan.specs.LinesSoFar.{before_with};
 
     ghost Value = { Before };
 

@@ -13,7 +13,7 @@ use Rattle.script_words.specs.Words.{lines_of, without_return}
 use Rattle.script_words.specs.declared.fault.Cause.{Cause}
 use Rattle.script_words.specs.declared.fault.ScriptFault.{ScriptFault}
 use Rattle.script_text.specs.Laws.{FaultEndsAt}
-use Rattle.script_text.specs.Parsed.{after_line}
+use Rattle.script_text.specs.ParseClauses.{after_line}
 use Rattle.script_text.specs.Script.{line_gives, read_lines, plan_of, script_of}
 use Rattle.script_text.proofs.LinesRead.{then_lines, next_line}
 

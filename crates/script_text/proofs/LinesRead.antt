@@ -6,7 +6,7 @@ use Rattle.script_words.specs.Before.{Before, Given}
 use Rattle.script_words.specs.Words.{lines_of, without_return}
 use Rattle.script_words.specs.declared.fault.Cause.{Cause}
 use Rattle.script_words.specs.declared.fault.ScriptFault.{ScriptFault}
-use Rattle.script_text.specs.Parsed.{after_line}
+use Rattle.script_text.specs.ParseClauses.{after_line}
 use Rattle.script_text.specs.Script.{line_gives, read_lines}
 
 -- the lines behind line n

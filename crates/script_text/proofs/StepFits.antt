@@ -21,9 +21,10 @@ use Rattle.script_words.specs.StepLines.{NumberedSteps, largest_number, reach, e
 use Rattle.script_words.specs.Words.{number_word}
 use Rattle.script_words.specs.declared.fault.Cause.TheVariants.{UnknownWord, BadNumber, UnknownName, BadPair, TooMany}
 use Rattle.script_words.specs.declared.parts.Part.TheVariants.{Declarations}
+use Rattle.script_text.specs.SoundLines.{Filled}
 use Rattle.script_text.proofs.Fits.{Fits}
 use Rattle.script_text.proofs.Gives.{Gives, gives_ok, gives_fault, gives_then, gives_passed, gives_any, gives_if, gives_known, if_some, none_some}
-use Rattle.script_text.proofs.WordFacts.{Filled, pair_declared, dev_declared, side_declared, queue_declared, number_within, bytes_spelled, bytes_counted, kind_is_small}
+use Rattle.script_text.proofs.WordFacts.{pair_declared, dev_declared, side_declared, queue_declared, number_within, bytes_spelled, bytes_counted, kind_is_small}
 
 -- Lists of steps
 

@@ -13,11 +13,11 @@ use Rattle.plan_model.specs.TrafficPlans.{is_break_of, IsTraffic}
 use Rattle.script_words.specs.Before.{Before}
 use Rattle.script_words.specs.Compact.{given_of, flood_of}
 use Rattle.script_words.specs.TrafficLines.{flood_frame}
-use Rattle.script_words.specs.declared.given.Given.{Given}
-use Rattle.script_words.specs.declared.given.Given.TheVariants.{Nothing, Host, Pair, Device, Class, StepsBegin, TrafficBegins, Steps, Frame, Flood, Break}
+use Rattle.script_words.specs.declared.line_gives.Given.{Given}
+use Rattle.script_words.specs.declared.line_gives.Given.TheVariants.{Nothing, Host, Pair, Device, Class, StepsBegin, TrafficBegins, Frame, Flood, Break}
 use Rattle.script_plan.specs.Sound.{Suits}
 use Rattle.script_plan.proofs.Floods.{flood_frames, flood_bytes, length_flood_frame}
-use Rattle.script_text.specs.Held.{Held}
+use Rattle.script_text.specs.SoundLines.{Held}
 use Rattle.script_text.proofs.Fits.{Fits, AddsTraffic}
 use Rattle.script_text.proofs.TrafficFits.{one_break}
 
@@ -50,7 +50,6 @@ suits before (Device dev) held fits = (fits.is_new, fits.few, fits.fits)
 suits before (Class name class) held fits = (fits.queue, fits.small)
 suits before StepsBegin held fits = tt
 suits before TrafficBegins held fits = tt
-suits before (Steps steps) held fits = fits.few
 suits before (Frame lane frame) held fits = let frames = fits.few_frames in let bytes = fits.few_bytes in (omega arith, omega arith)
 suits before (Flood lane count len) held fits =
     let frames = fits.few_frames in

@@ -23,10 +23,11 @@ use Rattle.script_words.specs.TrafficLines.{may_have_traffic, is_little, traffic
 use Rattle.script_words.specs.declared.fault.Cause.TheVariants.{UnknownWord, BadGeometry, BadPair, TooMany}
 use Rattle.script_words.specs.declared.parts.Part.TheVariants.{Declarations}
 use Rattle.script_plan.proofs.Floods.{length_flood_frame}
+use Rattle.script_text.specs.SoundLines.{Filled}
 use Rattle.script_text.proofs.Fits.{Fits}
 use Rattle.script_text.proofs.Gives.{Gives, gives_ok, gives_fault, gives_then, gives_passed, gives_if}
 use Rattle.script_text.proofs.PairFits.{sides_agree}
-use Rattle.script_text.proofs.WordFacts.{below, Filled, pair_declared, queue_declared, number_within, bytes_spelled}
+use Rattle.script_text.proofs.WordFacts.{below, pair_declared, queue_declared, number_within, bytes_spelled}
 
 may_have : (pair : PairPlan) → may_have_traffic pair ≡ true → MayHaveTraffic pair
 may_have pair h = let parts = and_parts (not pair.raw) (agrees pair) h in record { ordinary = not-true pair.raw parts.0; agree = sides_agree pair parts.1 }

@@ -16,7 +16,7 @@ use Rattle.step_kinds.specs.declared.plan.Traffic.{Traffic}
 use Rattle.step_kinds.specs.declared.plan.Traffic.TheVariants.{Send, Break as LinkLoss}
 use Rattle.step_kinds.specs.declared.steps.Step.{Step}
 use Rattle.plan_model.specs.DeclaredPlans.{IsPair, IsDevice, IsDeclared, IsPermitted, SameQueue}
-use Rattle.plan_model.proofs.Permitted.{with_lists, queue_of_other, permitted_by_other}
+use Rattle.plan_model.proofs.PermittedSteps.{with_lists, queue_of_other, permitted_by_other}
 use Rattle.plan_model.specs.Plans.{pair_plan, dev_plan, no_pair, no_dev}
 use Rattle.plan_model.specs.TrafficPlans.{frames_in, bytes_in, is_break_of, IsTraffic, IsWhole}
 use Rattle.script_words.specs.Before.{Before, nothing_before, with_given, with_class, Given, Nothing, Host, APair, ADevice, AClass, StepsBegin, TrafficBegins, MoreSteps, MoreTraffic}
@@ -31,8 +31,8 @@ use Rattle.script_words.specs.declared.parts.QueueName.{QueueName}
 use Rattle.script_plan.proofs.Classes.{length-set_pairs}
 use Rattle.script_plan.proofs.Floods.{sum-map-append}
 use Rattle.script_plan.proofs.Soundness.{device_stays, queue_stays, class_fits, queue_classed}
-use Rattle.script_text.specs.Held.{Held}
-use Rattle.script_text.specs.Parsed.{after_line}
+use Rattle.script_text.specs.SoundLines.{Held, Filled}
+use Rattle.script_text.specs.ParseClauses.{after_line}
 use Rattle.script_text.specs.Script.{header_line, is_header, words_line, line_gives, read_lines, plan_of, script_of}
 use Rattle.script_text.proofs.DeclarationFits.{declaration_fits}
 use Rattle.script_text.proofs.Fits.{Fits, AddsPair, AddsDevice, AddsClass, AddsSteps, AddsTraffic}
@@ -40,7 +40,7 @@ use Rattle.script_text.proofs.Gives.{Gives, gives_ok, gives_then, gives_passed, 
 use Rattle.script_text.proofs.LinesRead.{then_lines, next_line}
 use Rattle.script_text.proofs.StepFits.{step_fits}
 use Rattle.script_text.proofs.TrafficFits.{traffic_fits}
-use Rattle.script_text.proofs.WordFacts.{Filled, filter_filled}
+use Rattle.script_text.proofs.WordFacts.{filter_filled}
 
 -- Other steps and traffic beside the same pairs and devices
 
@@ -267,7 +267,7 @@ nothing_held = record {
 all_devices : (before : Before) → Held before → All (IsDevice before.plan) before.plan.devs
 all_devices before held = All-from_get_or (IsDevice before.plan) before.plan.devs no_dev held.whole.declared.devices
 
-words_fit : (before : Before) → Held before → (part : Part) → before.part ≡ part → (words : List (List ℕ)) → Filled words → Gives (Fits before) (words_line before part words)
+pub words_fit : (before : Before) → Held before → (part : Part) → before.part ≡ part → (words : List (List ℕ)) → Filled words → Gives (Fits before) (words_line before part words)
 words_fit before held Declarations is [] h = gives_ok (Fits before) Nothing tt
 words_fit before held Steps is [] h = gives_ok (Fits before) Nothing tt
 words_fit before held TrafficPart is [] h = gives_ok (Fits before) Nothing tt

@@ -16,13 +16,10 @@ use Rattle.script_words.specs.Declarations.{new_name}
 use Rattle.script_words.specs.Tests.{found_or}
 use Rattle.script_words.specs.Words.{name_word, side_word, number_word, number_between, hex_word, hex_of, kind_word, high_low, is_filled}
 use Rattle.script_words.specs.declared.fault.Cause.TheVariants.{BadNumber, BadHex, Repeated, UnknownName}
+use Rattle.script_text.specs.SoundLines.{Filled}
 use Rattle.script_text.proofs.Gives.{Gives, gives_ok, gives_then, gives_passed, gives_found, gives_any}
 
 -- Words have bytes
-
-abbrev pub Filled : List (List ℕ) → Type 0
-Filled [] = Unit {0}
-Filled (word ∷ words) = (0 < length word) × Filled words
 
 pub filter_filled : (parts : List (List ℕ)) → Filled (filter is_filled parts)
 filter_filled [] = tt

@@ -1,4 +1,4 @@
-pub mod Held
 pub mod Laws
-pub mod Parsed
+pub mod ParseClauses
 pub mod Script
+pub mod SoundLines

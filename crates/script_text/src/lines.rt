@@ -1,6 +1,6 @@
 //! Lines of a script, and their words.
 
-ghost use Rattle.std.specs.Prelude.{◌≡◌, ◌∷◌, ◌==◌, ◌<◌, [], length, map, OnOk, IfSome};
+ghost use Rattle.std.specs.Prelude.{◌≡◌, ◌∷◌, ◌++◌, ◌==◌, ◌<◌, [], filter, length, map, IfOk, OnOk, IfSome, IsTrue};
 ghost use Rattle.std.specs.List.{slice_split};
 ghost use Rattle.std.specs.Option.{option_map_or};
 ghost use Rattle.script_words.specs.Words as spelled;
@@ -9,8 +9,14 @@ use memchr::memchr;
 use script_words::{Given, LineError};
 use std::alloc::AllocError;
 
+/// A line of fewer bytes is read byte by byte, a longer one by searches of many bytes at a time.
+const SHORT_LINE: usize = 64;
+
 /// What a line gives, or why it gives nothing.
 pub type LineResult = Result<Given, LineError>;
+
+/// Nothing where what a line gives is added, or why it isn't.
+pub type AddResult = Result<(), LineError>;
 
 /// What stands before the first of such bytes, and what stands behind it where there is one. A short text is read byte by
 /// byte, which takes less there than a search of many bytes at a time.
@@ -68,7 +74,7 @@ pub fn is_skipped(line: &[u8]) -> bool
 }
 
 /// Whether all bytes of a line are printed characters or spaces.
-pub fn is_text(line: &[u8]) -> bool
+fn is_text(line: &[u8]) -> bool
     ensures { result ≡ spelled.is_text line.now }
 {
     let mut is_text = true;
@@ -78,19 +84,62 @@ pub fn is_text(line: &[u8]) -> bool
     is_text
 }
 
-/// Reads the words of a line, what stands between its spaces, into `words` in place of what was there. The only error is
-/// want of memory.
-pub fn read_words<'a>(words: &mut Vec<&'a [u8]>, line: &'a [u8]) -> Result<(), AllocError>
-    ensures { OnOk result (map (λ word. word.now) words.new.items ≡ spelled.words_of line.now) }
+/// Reads the words of a line, what stands between its spaces, into `words` in place of what was there, and says whether
+/// the line is text. Where it isn't, its words may be any. The only error is want of memory.
+pub fn read_words<'a>(words: &mut Vec<&'a [u8]>, line: &'a [u8]) -> Result<bool, AllocError>
+    ensures text { IfOk result (λ text. text ≡ spelled.is_text line.now) }
+    ensures words { IfOk result (λ text. IsTrue text → map (λ word. word.now) words.new.items ≡ spelled.words_of line.now) }
 {
     words.clear();
+    if line.len() < SHORT_LINE {
+        return read_short(words, line);
+    }
+    if !is_text(line) {
+        return Ok(false);
+    }
+    read_long(words, line)?;
+    Ok(true)
+}
+
+/// Adds the words of a line, byte by byte, and says whether it is text.
+fn read_short<'a>(words: &mut Vec<&'a [u8]>, line: &'a [u8]) -> Result<bool, AllocError>
+    requires { words.old.items ≡ [] }
+    ensures text { IfOk result (λ text. text ≡ spelled.is_text line.now) }
+    ensures words { IfOk result (λ text. IsTrue text → map (λ word. word.now) words.new.items ≡ spelled.words_of line.now) }
+{
+    let mut start = 0;
+    for (i, byte) in line.iter().enumerate() {
+        if *byte == b' ' {
+            push_word(words, &line[start..i])?;
+            start = i + 1;
+        } else if *byte < 32 || 126 < *byte {
+            return Ok(false);
+        }
+    }
+    push_word(words, &line[start..])?;
+    Ok(true)
+}
+
+/// Adds the words of a line, each found by a search for the next space.
+fn read_long<'a>(words: &mut Vec<&'a [u8]>, line: &'a [u8]) -> Result<(), AllocError>
+    requires { words.old.items ≡ [] }
+    ensures { OnOk result (map (λ word. word.now) words.new.items ≡ spelled.words_of line.now) }
+{
     let mut rest = Some(line);
     while let Some(text) = rest {
         let (word, more) = cut(text, b' ');
-        if !word.is_empty() {
-            words.push(word)?;
-        }
+        push_word(words, word)?;
         rest = more;
+    }
+    Ok(())
+}
+
+/// Adds what stands between two spaces, where it has a byte.
+fn push_word<'a>(words: &mut Vec<&'a [u8]>, word: &'a [u8]) -> Result<(), AllocError>
+    ensures { OnOk result (map (λ word. word.now) words.new.items ≡ map (λ word. word.now) words.old.items ++ filter spelled.is_filled (word.now ∷ [])) }
+{
+    if !word.is_empty() {
+        words.push(word)?;
     }
     Ok(())
 }

@@ -8,7 +8,7 @@ ghost use Rattle.script_words.specs.Declarations.{host_word, new_name};
 
 use script_plan::rings::side_of;
 use script_plan::{Names, Reader};
-use script_words::words::{read_name, read_number, read_side};
+use script_words::words::{is_name, read_name, read_number, read_side};
 use script_words::{Cause, QueueName, SideName};
 use step_kinds::{Name, Side};
 
@@ -76,11 +76,10 @@ pub fn read_pair(before: &Reader, word: &[u8]) -> Result<u32, Cause>
     ensures declared { IfOk result (λ pair. pair < length before.now.plan.pairs) }
     ensures small { IfOk result (λ pair. pair < 16) }
 {
-    let name = read_name(word)?;
-    before
-        .pairs()
-        .number(name.bytes())
-        .ok_or(Cause::UnknownName)
+    if !is_name(word) {
+        return Err(Cause::BadName);
+    }
+    before.pairs().number(word).ok_or(Cause::UnknownName)
 }
 
 /// The number of the device that a word names.
@@ -88,8 +87,10 @@ pub fn read_device(before: &Reader, word: &[u8]) -> Result<u32, Cause>
     ensures value { result ≡ dev_word before.now word.now }
     ensures declared { IfOk result (λ dev. dev < length before.now.plan.devs) }
 {
-    let name = read_name(word)?;
-    before.devs().number(name.bytes()).ok_or(Cause::UnknownName)
+    if !is_name(word) {
+        return Err(Cause::BadName);
+    }
+    before.devs().number(word).ok_or(Cause::UnknownName)
 }
 
 /// The side of a pair that two words name.

@@ -3,34 +3,33 @@
 
 ghost use Rattle.std.specs.Prelude.{◌≡◌, ◌≤◌, ◌+◌, ◌^◌, ◌<◌, length, map};
 ghost use Rattle.step_kinds.specs.Limits.{most_script_bytes};
-ghost use Rattle.script_words.specs.Compact.{given_of};
+ghost use Rattle.script_words.specs.Before.{Nothing};
 ghost use Rattle.script_words.specs.Reads.{Reads, result_map};
-ghost use Rattle.script_text.specs.Held.{Held};
-ghost use Rattle.script_text.specs.Parsed.{Parses, after_line};
+ghost use Rattle.script_text.specs.SoundLines.{Held, Filled};
+ghost use Rattle.script_text.specs.ParseClauses.{Parses, Adds, after_line};
 ghost use Rattle.script_text.specs.Script as rules;
 
 use crate::declarations::declaration_line;
 use crate::error::ParseError;
-use crate::lines::{LineResult, cut, is_skipped, is_text, read_words, without_return};
+use crate::lines::{AddResult, cut, is_skipped, read_words, without_return};
 use crate::step_lines::step_line;
 use crate::traffic_lines::traffic_line;
 use script_plan::Reader;
-use script_words::{Cause, Given, LineError, Part, ScriptFault};
+use script_words::{Cause, LineError, Part, ScriptFault};
 use std::alloc::Global;
 use step_kinds::Plan;
 
 /// The first line.
-fn header_line<'a>(words: &mut Vec<&'a [u8]>, line: &'a [u8]) -> LineResult
-    ensures { Reads (result_map given_of result) (rules.header_line line.now) }
+fn header_line<'a>(words: &mut Vec<&'a [u8]>, line: &'a [u8]) -> AddResult
+    ensures { Reads (result_map (λ _. Nothing) result) (rules.header_line line.now) }
 {
-    if !is_text(line) {
+    if !read_words(words, line)? {
         return Err(LineError::Fault(Cause::NotText));
     }
-    read_words(words, line)?;
     if !is_header(words) {
         return Err(LineError::Fault(Cause::BadHeader));
     }
-    Ok(Given::Nothing)
+    Ok(())
 }
 
 /// Whether these are the words of the first line.
@@ -43,44 +42,54 @@ fn is_header(words: &[&[u8]]) -> bool
     }
 }
 
-/// The words of a line, in the part of the script that it stands in.
-fn words_line(alloc: Global, before: &Reader, words: &[&[u8]]) -> LineResult
-    ensures { Reads (result_map given_of result) (rules.words_line before.now before.now.part (map (λ word. word.now) words.now)) }
+/// Adds what the words of a line give in the part of the script that it stands in.
+fn words_line(alloc: Global, before: &mut Reader, line: u32, words: &[&[u8]]) -> AddResult
+    requires held { Held before.old }
+    requires filled { Filled (map (λ word. word.now) words.now) }
+    ensures { Adds line before.old before.new result (rules.words_line before.old before.old.part (map (λ word. word.now) words.now)) }
 {
-    match words {
-        [] => Ok(Given::Nothing),
-        [word, words @ ..] => match before.part() {
-            Part::Declarations => declaration_line(alloc, before, word, words),
-            Part::Steps => step_line(alloc, before, word, words),
-            Part::Traffic => traffic_line(alloc, before, word, words),
-        },
+    let [word, words @ ..] = words else {
+        return Ok(());
+    };
+    match before.part() {
+        Part::Declarations => {
+            let given = declaration_line(alloc, before, word, words)?;
+            before.add(alloc, line, given)?;
+            Ok(())
+        }
+        Part::Steps => step_line(alloc, before, line, word, words),
+        Part::Traffic => {
+            let given = traffic_line(alloc, before, word, words)?;
+            before.add(alloc, line, given)?;
+            Ok(())
+        }
     }
 }
 
-/// What line `number` gives. Its words are read into `words`.
-fn line_gives<'a>(
+/// Adds what line `number` gives to the lines so far. Its words are read into `words`.
+fn read_line<'a>(
     alloc: Global,
     number: u32,
-    before: &Reader,
+    before: &mut Reader,
     words: &mut Vec<&'a [u8]>,
     line: &'a [u8],
-) -> LineResult
-    ensures { Reads (result_map given_of result) (rules.line_gives number before.now line.now) }
+) -> AddResult
+    requires { Held before.old }
+    ensures { Adds number before.old before.new result (rules.line_gives number before.old line.now) }
 {
     if number == 1 {
         return header_line(words, line);
     }
     if is_skipped(line) {
-        return Ok(Given::Nothing);
+        return Ok(());
     }
-    if !is_text(line) {
+    if !read_words(words, line)? {
         return Err(LineError::Fault(Cause::NotText));
     }
-    read_words(words, line)?;
-    words_line(alloc, before, words)
+    words_line(alloc, before, number, words)
 }
 
-/// Adds what line `number` gives to the lines so far. Its words are read into `words`.
+/// The same, where the fault has its line.
 fn add_line<'a>(
     alloc: Global,
     number: u32,
@@ -91,11 +100,8 @@ fn add_line<'a>(
     requires { Held before.old }
     ensures { Parses (result_map (λ _. before.new) result) (after_line number before.old (rules.line_gives number before.old line.now)) }
 {
-    match line_gives(alloc, number, before, words, line) {
-        Ok(given) => match before.add(alloc, number, given) {
-            Ok(()) => Ok(()),
-            Err(_) => Err(ParseError::OutOfMemory),
-        },
+    match read_line(alloc, number, before, words, line) {
+        Ok(()) => Ok(()),
         Err(LineError::Fault(cause)) => Err(ParseError::Fault(ScriptFault {
             line: number,
             cause,

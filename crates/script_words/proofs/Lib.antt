@@ -3,4 +3,3 @@ pub mod HexWords
 pub mod Keys
 pub mod NumberTexts
 pub mod Numbers
-pub mod StepTable

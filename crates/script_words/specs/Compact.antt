@@ -7,14 +7,14 @@ use Rattle.step_kinds.specs.declared.plan.Traffic.TheVariants.{Send, Break as Li
 use Rattle.step_kinds.specs.declared.steps.Step.{Step}
 use Rattle.step_kinds.specs.declared.steps.Step.TheVariants.{Look, Copy, Clear, Ack, Post, Land, Offer}
 use Rattle.lane_model.specs.Lane.{count_from}
-use Rattle.script_words.specs.Before.{Given, Nothing, Host, APair, ADevice, AClass, StepsBegin, TrafficBegins, MoreSteps, MoreTraffic}
+use Rattle.script_words.specs.Before.{Given, Nothing, Host, APair, ADevice, AClass, StepsBegin, TrafficBegins, MoreTraffic}
 use Rattle.script_words.specs.TrafficLines.{flood_frame}
 use Rattle.script_words.specs.declared.macros.Repeated.{Repeated}
 use Rattle.script_words.specs.declared.macros.Repeated.TheVariants.{Post as Posts, Land as Lands, Copy as Copies, Offer as Offers}
 use Rattle.script_words.specs.declared.macros.Macro.{Macro}
 use Rattle.script_words.specs.declared.macros.Macro.TheVariants.{One, Posted, Again, Received}
-use Rattle.script_words.specs.declared.given.Given.{Given as Compact}
-use Rattle.script_words.specs.declared.given.Given.TheVariants.{Nothing as GivesNothing, Host as GivesHost, Pair as GivesPair, Device as GivesDevice, Class as GivesClass, StepsBegin as BeginsSteps, TrafficBegins as BeginsTraffic, Steps as GivesSteps, Frame as GivesFrame, Flood as GivesFlood, Break as GivesBreak}
+use Rattle.script_words.specs.declared.line_gives.Given.{Given as Compact}
+use Rattle.script_words.specs.declared.line_gives.Given.TheVariants.{Nothing as GivesNothing, Host as GivesHost, Pair as GivesPair, Device as GivesDevice, Class as GivesClass, StepsBegin as BeginsSteps, TrafficBegins as BeginsTraffic, Frame as GivesFrame, Flood as GivesFlood, Break as GivesBreak}
 
 -- the step that is repeated
 abbrev pub step_again : Repeated → Step
@@ -47,7 +47,6 @@ given_of (GivesDevice dev) = ADevice dev
 given_of (GivesClass queue class) = AClass queue class
 given_of BeginsSteps = StepsBegin
 given_of BeginsTraffic = TrafficBegins
-given_of (GivesSteps steps) = MoreSteps (steps_of steps)
 given_of (GivesFrame lane frame) = MoreTraffic (Send lane frame ∷ [])
 given_of (GivesFlood lane count len) = MoreTraffic (flood_of lane count len)
 given_of (GivesBreak pair) = MoreTraffic (LinkLoss pair ∷ [])

@@ -1,13 +1,12 @@
 -- The steps of each first word.
-use Rattle.std.specs.Prelude.{◌≡◌, ℕ, List, [], ◌∷◌, Option, Some, None}
-use Rattle.std.specs.Option.{option_map}
+use Rattle.std.specs.Prelude.{ℕ, List, [], ◌∷◌}
 use Rattle.step_kinds.specs.declared.names.Side.{Side}
 use Rattle.step_kinds.specs.declared.plan.PairPlan.{PairPlan}
 use Rattle.step_kinds.specs.declared.steps.Step.{Step}
 use Rattle.step_kinds.specs.declared.steps.Step.TheVariants as step
 use Rattle.plan_model.specs.Macros.{send, land_all, receive, offer_all}
 use Rattle.plan_model.specs.Plans.{side_plan}
-use Rattle.script_words.specs.StepLines.{NumberedSteps, largest_number, pair_step, side_steps, queue_steps, numbered_steps, frame_steps}
+use Rattle.script_words.specs.StepLines.{NumberedSteps, largest_number}
 use Rattle.script_words.specs.declared.step_words.PairWord.{PairWord}
 use Rattle.script_words.specs.declared.step_words.PairWord.TheVariants.{Train, Break, Drop}
 use Rattle.script_words.specs.declared.step_words.SideWord.{SideWord}
@@ -18,8 +17,6 @@ use Rattle.script_words.specs.declared.step_words.FrameWord.{FrameWord}
 use Rattle.script_words.specs.declared.step_words.FrameWord.TheVariants.{Begin, Send}
 use Rattle.script_words.specs.declared.step_words.NumberWord.{NumberWord}
 use Rattle.script_words.specs.declared.step_words.NumberWord.TheVariants.{Land, LandAll, Mask, Unmask, ShowQueue, ShowPad}
-use Rattle.script_words.specs.declared.step_words.StepWord.{StepWord}
-use Rattle.script_words.specs.declared.step_words.StepWord.TheVariants.{Pair, Side as OnSide, Queue, Number, Frame}
 
 abbrev pub pair_step_of : PairWord → ℕ → Step
 pair_step_of Train = λ pair. step.Train pair
@@ -65,30 +62,3 @@ numbered_of ShowPad = record { least = 0; most = 15; steps = λ pair side i. ste
 abbrev pub frame_steps_of : FrameWord → PairPlan → ℕ → Side → ℕ → List ℕ → List Step
 frame_steps_of Begin = λ plan pair side queue frame. step.Begin pair side queue frame ∷ []
 frame_steps_of Send = send
-
--- a word by the groups: it is of one of them, or of none
-pub record InGroups : Type 0 where
-  pub pair : Option PairWord
-  pub side : Option SideWord
-  pub queue : Option QueueWord
-  pub number : Option NumberWord
-  pub frame : Option FrameWord
-
-abbrev pub no_group : InGroups
-no_group = record { pair = None; side = None; queue = None; number = None; frame = None }
-
-abbrev pub in_groups : Option StepWord → InGroups
-in_groups None = no_group
-in_groups (Some (Pair word)) = record no_group { pair = Some word }
-in_groups (Some (OnSide word)) = record no_group { side = Some word }
-in_groups (Some (Queue word)) = record no_group { queue = Some word }
-in_groups (Some (Number word)) = record no_group { number = Some word }
-in_groups (Some (Frame word)) = record no_group { frame = Some word }
-
--- which steps a word stands for, by the definition of each group
-pub record IsStepWord (word : List ℕ) (found : Option StepWord) : Type 0 where
-  pub pair : option_map pair_step_of (in_groups found).pair ≡ pair_step word
-  pub side : option_map side_steps_of (in_groups found).side ≡ side_steps word
-  pub queue : option_map queue_steps_of (in_groups found).queue ≡ queue_steps word
-  pub number : option_map numbered_of (in_groups found).number ≡ numbered_steps word
-  pub frame : option_map frame_steps_of (in_groups found).frame ≡ frame_steps word

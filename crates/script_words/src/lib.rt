@@ -11,8 +11,8 @@ macro_rules! value_of {
 }
 
 mod fault;
-mod given;
 pub mod laws;
+mod line_gives;
 mod macros;
 pub mod options;
 mod parts;
@@ -21,7 +21,7 @@ pub mod step_words;
 pub mod words;
 
 pub use fault::{Cause, LineError, ScriptFault};
-pub use given::Given;
+pub use line_gives::Given;
 pub use macros::{Macro, Repeated};
 pub use parts::{Part, QueueName, SideName};
 

@@ -1,8 +1,10 @@
 //! The first words of steps, by their arguments.
 
 ghost use Rattle.std.specs.Prelude.{◌≡◌, ◌≤◌};
+ghost use Rattle.std.specs.Option.{option_map};
 ghost use Rattle.script_words.specs.Compact.{steps_of};
-ghost use Rattle.script_words.specs.StepWords.{pair_step_of, side_steps_of, side_steps_with, queue_steps_of, numbered_of, IsStepWord};
+ghost use Rattle.script_words.specs.StepLines.{pair_step, side_steps, queue_steps, numbered_steps, frame_steps};
+ghost use Rattle.script_words.specs.StepWords.{pair_step_of, side_steps_of, side_steps_with, queue_steps_of, numbered_of, frame_steps_of};
 
 use crate::macros::{Macro, Repeated};
 use step_kinds::{Side, Step};
@@ -60,53 +62,69 @@ pub enum FrameWord {
     Send,
 }
 
-/// The first word of a line of steps, by what stands behind it.
-#[derive(Clone, Copy, Debug, PartialEq, Eq)]
-pub enum StepWord {
-    /// A pair.
-    Pair(PairWord),
-    /// A pair and a side.
-    Side(SideWord),
-    /// A pair, a side and a queue.
-    Queue(QueueWord),
-    /// A pair, a side and a number.
-    Number(NumberWord),
-    /// A pair, a side, a queue and bytes.
-    Frame(FrameWord),
-}
-
-/// The first word of a line of steps that a word spells; none where the word has a kind of line for itself, or none.
-#[tactic(auto, using(crate::proofs::StepTable::same_word))]
-pub fn step_word_of(word: &[u8]) -> Option<StepWord>
-    ensures { IsStepWord word.now result }
+/// The first word of a line that has a pair, where it is one.
+pub fn pair_word_of(word: &[u8]) -> Option<PairWord>
+    ensures { option_map pair_step_of result ≡ pair_step word.now }
 {
     value_of! { word:
-        b"train" => StepWord::Pair(PairWord::Train),
-        b"break" => StepWord::Pair(PairWord::Break),
-        b"drop" => StepWord::Pair(PairWord::Drop),
-        b"enable" => StepWord::Side(SideWord::Enable),
-        b"clean" => StepWord::Side(SideWord::Clean),
-        b"offer" => StepWord::Side(SideWord::Offer),
-        b"check" => StepWord::Side(SideWord::Check),
-        b"irq" => StepWord::Side(SideWord::Irq),
-        b"offerall" => StepWord::Side(SideWord::OfferAll),
-        b"ready" => StepWord::Queue(QueueWord::Ready),
-        b"join" => StepWord::Queue(QueueWord::Join),
-        b"qpdown" => StepWord::Queue(QueueWord::QpDown),
-        b"post" => StepWord::Queue(QueueWord::Post),
-        b"look" => StepWord::Queue(QueueWord::Look),
-        b"copy" => StepWord::Queue(QueueWord::Copy),
-        b"clear" => StepWord::Queue(QueueWord::Clear),
-        b"ack" => StepWord::Queue(QueueWord::Ack),
-        b"recv" => StepWord::Queue(QueueWord::Recv),
-        b"land" => StepWord::Number(NumberWord::Land),
-        b"landall" => StepWord::Number(NumberWord::LandAll),
-        b"mask" => StepWord::Number(NumberWord::Mask),
-        b"unmask" => StepWord::Number(NumberWord::Unmask),
-        b"showq" => StepWord::Number(NumberWord::ShowQueue),
-        b"showspad" => StepWord::Number(NumberWord::ShowPad),
-        b"begin" => StepWord::Frame(FrameWord::Begin),
-        b"send" => StepWord::Frame(FrameWord::Send),
+        b"train" => PairWord::Train,
+        b"break" => PairWord::Break,
+        b"drop" => PairWord::Drop,
+    }
+}
+
+/// The first word of a line that has a pair and a side, where it is one.
+pub fn side_word_of(word: &[u8]) -> Option<SideWord>
+    ensures { option_map side_steps_of result ≡ side_steps word.now }
+{
+    value_of! { word:
+        b"enable" => SideWord::Enable,
+        b"clean" => SideWord::Clean,
+        b"offer" => SideWord::Offer,
+        b"check" => SideWord::Check,
+        b"irq" => SideWord::Irq,
+        b"offerall" => SideWord::OfferAll,
+    }
+}
+
+/// The first word of a line that has a pair, a side and a queue, where it is one.
+pub fn queue_word_of(word: &[u8]) -> Option<QueueWord>
+    ensures { option_map queue_steps_of result ≡ queue_steps word.now }
+{
+    value_of! { word:
+        b"ready" => QueueWord::Ready,
+        b"join" => QueueWord::Join,
+        b"qpdown" => QueueWord::QpDown,
+        b"post" => QueueWord::Post,
+        b"look" => QueueWord::Look,
+        b"copy" => QueueWord::Copy,
+        b"clear" => QueueWord::Clear,
+        b"ack" => QueueWord::Ack,
+        b"recv" => QueueWord::Recv,
+    }
+}
+
+/// The first word of a line that has a pair, a side and a number, where it is one.
+pub fn number_word_of(word: &[u8]) -> Option<NumberWord>
+    ensures { option_map numbered_of result ≡ numbered_steps word.now }
+{
+    value_of! { word:
+        b"land" => NumberWord::Land,
+        b"landall" => NumberWord::LandAll,
+        b"mask" => NumberWord::Mask,
+        b"unmask" => NumberWord::Unmask,
+        b"showq" => NumberWord::ShowQueue,
+        b"showspad" => NumberWord::ShowPad,
+    }
+}
+
+/// The first word of a line that has a pair, a side, a queue and bytes, where it is one.
+pub fn frame_word_of(word: &[u8]) -> Option<FrameWord>
+    ensures { option_map frame_steps_of result ≡ frame_steps word.now }
+{
+    value_of! { word:
+        b"begin" => FrameWord::Begin,
+        b"send" => FrameWord::Send,
     }
 }
 

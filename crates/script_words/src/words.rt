@@ -13,7 +13,7 @@ use std::alloc::Global;
 use step_kinds::{Items, Name, Side};
 
 /// Whether a word is a name: 1 to 16 small letters and digits, the first a letter.
-fn is_name(word: &[u8]) -> bool
+pub fn is_name(word: &[u8]) -> bool
     ensures { result ≡ spelled.is_name word.now }
 {
     match word {

@@ -2,7 +2,7 @@ use Rattle.std.proofs.Common.{subst, sym, ◌≡◌}
 use Rattle.std.proofs.lemmas.Bool.{false≢true}
 use Rattle.bridge_pair.specs.Bridge.{Bridge}
 use Rattle.fabric_core.specs.Turns.{BridgeTurn}
-use Rattle.fabric_core.specs.Promised.{HasMorePages}
+use Rattle.fabric_core.specs.Promises.{HasMorePages}
 use Rattle.fabric_core.proofs.MorePages.{by_register, checked_more, more_pages, on_err, same_pages}
 use Rattle.fabric_core.proofs.bridge_steps.bridge_step.Goals as goal
 

@@ -12,7 +12,7 @@ use Rattle.host_memory.specs.Memory.{ArePromised}
 use Rattle.plan_model.specs.Link.{is_up}
 use Rattle.plan_model.specs.Plans.{side_plan}
 use Rattle.fabric_rule.specs.Moves.{posted_aside}
-use Rattle.fabric_core.specs.Promised.{HasMorePages}
+use Rattle.fabric_core.specs.Promises.{HasMorePages}
 use Rattle.fabric_core.proofs.MorePages.{more_pages, on_err, posted_more}
 use Rattle.fabric_core.proofs.bridge_steps.poke.Goals as goal
 

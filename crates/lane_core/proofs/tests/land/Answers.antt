@@ -1,6 +1,6 @@
 use Rattle.std.proofs.Common.{ap, ◌∙◌}
 use Rattle.lane_core.specs.Calls.{LaneValue}
-use Rattle.lane_core.proofs.Sent.{sent-land}
+use Rattle.lane_core.proofs.EntriesStay.{sent-land}
 use Rattle.lane_core.proofs.tests.land.Goals as goal
 
 pub returns-in_err-format : goal.returns-in_err-format

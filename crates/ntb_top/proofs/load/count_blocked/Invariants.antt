@@ -1,6 +1,6 @@
 use Rattle.std.proofs.Common.{◌≡◌, ◌≤◌, map, take}
-use Rattle.fabric_core.specs.Pinned.{log_after}
-use Rattle.ntb_top.specs.Replayed.{HasReplayed}
+use Rattle.fabric_core.specs.LogClauses.{log_after}
+use Rattle.ntb_top.specs.ReplaySteps.{HasReplayed}
 use Rattle.ntb_top.proofs.Replaying.{blocked_in, step_in}
 use Rattle.ntb_top.proofs.load.count_blocked.Given as goal
 

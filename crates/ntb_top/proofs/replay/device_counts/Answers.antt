@@ -1,7 +1,7 @@
 use Rattle.std.proofs.Common.{[], ◌∷◌, ◌++◌, List, map, take, ap, ◌∙◌, arith}
 use Rattle.step_kinds.specs.declared.plan.Counters.{Counters}
 use Rattle.ledger_model.specs.Log.{counters_in}
-use Rattle.fabric_core.specs.Pinned.{lane_of_device}
+use Rattle.fabric_core.specs.LogClauses.{lane_of_device}
 use Rattle.ntb_top.specs.Replays.{log_of_plan, steps_of}
 use Rattle.ntb_top.proofs.Counting.{devices_more}
 use Rattle.ntb_top.proofs.replay.device_counts.Goals as goal

@@ -1,6 +1,6 @@
 use Rattle.std.proofs.Common.{◌≡◌, map, take}
 use Rattle.ledger_model.specs.Log.{counters_in}
-use Rattle.fabric_core.specs.Pinned.{lane_of_device}
+use Rattle.fabric_core.specs.LogClauses.{lane_of_device}
 use Rattle.ntb_top.specs.Replays.{log_of_plan}
 use Rattle.ntb_top.proofs.replay.device_counts.Given as goal
 

@@ -1,6 +1,6 @@
 use Rattle.std.proofs.Common.{◌≡◌}
 use Rattle.std.specs.List.{flat_map, range_with_len}
-use Rattle.ntb_top.specs.Replayed.{filled}
+use Rattle.ntb_top.specs.ReplaySteps.{filled}
 use Rattle.ntb_top.specs.Replays.{lanes_of_pair, log_of_plan, sessions_of_lane}
 use Rattle.ntb_top.proofs.replay.lane_counts.Given as goal
 

@@ -1,5 +1,5 @@
 use Rattle.std.proofs.Common.{length, map, take, ap, arith}
-use Rattle.ntb_top.proofs.Permitted.{permitted_by_kept}
+use Rattle.ntb_top.proofs.PermittedSteps.{permitted_by_kept}
 use Rattle.ntb_top.proofs.Replaying.{item_of, lines_more, replayed_more, step_in}
 use Rattle.ntb_top.proofs.replay.push_answers.Goals as goal
 

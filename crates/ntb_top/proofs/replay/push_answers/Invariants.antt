@@ -1,6 +1,6 @@
 use Rattle.std.proofs.Common.{◌≡◌, ◌++◌, map, take}
-use Rattle.fabric_core.specs.Pinned.{log_after}
-use Rattle.ntb_top.specs.Replayed.{HasReplayed}
+use Rattle.fabric_core.specs.LogClauses.{log_after}
+use Rattle.ntb_top.specs.ReplaySteps.{HasReplayed}
 use Rattle.ntb_top.specs.Replays.{answers_text}
 use Rattle.ntb_top.proofs.Replaying.{step_in}
 use Rattle.ntb_top.proofs.replay.push_answers.Given as goal

@@ -2,9 +2,9 @@ use Rattle.std.proofs.Common.{◌≡◌, ℕ, ◌++◌, List, ap, sym, ◌∙◌
 use Rattle.std.specs.List.{flat_map}
 use Rattle.step_kinds.specs.declared.names.LaneName.{LaneName}
 use Rattle.ledger_model.specs.Log.{Answered}
-use Rattle.fabric_core.specs.Pinned.{log_after}
+use Rattle.fabric_core.specs.LogClauses.{log_after}
 use Rattle.report_text.specs.declared.whole.LaneCount.{LaneCount}
-use Rattle.ntb_top.specs.Replayed.{filled, lanes_from}
+use Rattle.ntb_top.specs.ReplaySteps.{filled, lanes_from}
 use Rattle.ntb_top.specs.Replays.{sessions_of_lane}
 use Rattle.ntb_top.proofs.Counting.{adds_both, lanes_more}
 use Rattle.ntb_top.proofs.replay.push_lanes.Goals as goal

@@ -1,5 +1,5 @@
 use Rattle.std.specs.List.{flat_map}
-use Rattle.ntb_top.specs.Replayed.{AddsCounts, lanes_from}
+use Rattle.ntb_top.specs.ReplaySteps.{AddsCounts, lanes_from}
 use Rattle.ntb_top.specs.Replays.{sessions_of_lane}
 use Rattle.ntb_top.proofs.replay.push_lanes.Given as goal
 

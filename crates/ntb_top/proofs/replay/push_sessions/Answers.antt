@@ -1,9 +1,9 @@
 use Rattle.std.proofs.Common.{◌+◌, [], ◌∷◌, ◌++◌, List, map, ap, sym, ◌∙◌}
 use Rattle.std.specs.List.{range_with_len}
 use Rattle.ledger_model.specs.Log.{Answered}
-use Rattle.fabric_core.specs.Pinned.{log_after}
+use Rattle.fabric_core.specs.LogClauses.{log_after}
 use Rattle.report_text.specs.declared.whole.LaneCount.{LaneCount}
-use Rattle.ntb_top.specs.Replayed.{filled}
+use Rattle.ntb_top.specs.ReplaySteps.{filled}
 use Rattle.ntb_top.specs.Replays.{lane_count}
 use Rattle.ntb_top.proofs.Counting.{adds_both, sessions_more}
 use Rattle.ntb_top.proofs.replay.push_sessions.Goals as goal

@@ -1,6 +1,6 @@
 use Rattle.std.proofs.Common.{map}
 use Rattle.std.specs.List.{range_with_len}
-use Rattle.ntb_top.specs.Replayed.{AddsCounts}
+use Rattle.ntb_top.specs.ReplaySteps.{AddsCounts}
 use Rattle.ntb_top.specs.Replays.{lane_count}
 use Rattle.ntb_top.proofs.replay.push_sessions.Given as goal
 

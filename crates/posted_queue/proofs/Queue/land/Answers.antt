@@ -20,14 +20,14 @@ remove-requires g c =
     let is : IsKept g.W.Ordered.order c.self.inside.writes.slots c.in-Landed.ticket = landed-kept g.W.Ordered.order c.self.inside.writes.slots c.self.inside.tickets c.args.place c.in-Landed.ticket c.self.invariant.0 c.in-Landed.ensures.answer in
     subst IsSome (sym is.there) refl
 
-pub invariant_of-self : goal.invariant_of-self
-invariant_of-self g c =
+pub invariant_of-self-2 : goal.invariant_of-self-2
+invariant_of-self-2 g c =
     let lands : LandsKept g.W.Ordered.order c.self.inside.writes c.remove.new.self c.self.inside.tickets c.land.new.self c.args.place c.remove.result =
     lands_kept g.W.Ordered.order c.self.inside.writes c.remove.new.self c.self.inside.tickets c.land.new.self c.args.place c.in-Landed.ticket c.remove.result c.self.invariant.0 c.in-Landed.ensures.answer c.in-Landed.ensures.after c.remove.ensures.value c.remove.ensures.updates in
     (lands.kept, (let same = lands.spare in let room = c.self.invariant.1 in let len = c.remove.ensures.len in let whole = c.remove.ensures.capacity in omega arith))
 
-pub returns-in-Landed : goal.returns-in-Landed
-returns-in-Landed g c =
+pub returns : goal.returns
+returns g c =
     let lands : LandsKept g.W.Ordered.order c.self.inside.writes c.remove.new.self c.self.inside.tickets c.land.new.self c.args.place c.remove.result =
     lands_kept g.W.Ordered.order c.self.inside.writes c.remove.new.self c.self.inside.tickets c.land.new.self c.args.place c.in-Landed.ticket c.remove.result c.self.invariant.0 c.in-Landed.ensures.answer c.in-Landed.ensures.after c.remove.ensures.value c.remove.ensures.updates in
     as_shown g.W.Ordered.order c.args.place c.self.view_is lands.answer lands.after

@@ -27,5 +27,4 @@ returns-clause-write g c =
 pub returns-clause-taken : goal.returns-clause-taken
 returns-clause-taken g c =
     let is_spot = subst (λ row. IsSpot row c.args.place c.in_ok-spot.spot) c.deref.ensures.value c.in_ok-spot.ensures.spot in
-    rw (c.room.ensures, c.room-before.ensures)
-    (spot-takes_out c.args.row.now.items c.args.place c.in_ok-spot.spot c.index_mut-part.result.now c.take.new.self is_spot c.index_mut-part.ensures.value c.in_ok-write.ensures.writes c.in_ok-write.ensures.room)
+    spot-takes_out c.args.row.now.items c.args.place c.in_ok-spot.spot c.index_mut-part.result.now c.take.new.self is_spot c.index_mut-part.ensures.value c.in_ok-write.ensures.writes c.in_ok-write.ensures.room

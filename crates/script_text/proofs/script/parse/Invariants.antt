@@ -2,7 +2,7 @@ use Rattle.std.proofs.Common.{◌≡◌, ◌+◌, ◌≤◌, [], length}
 use Rattle.std.specs.Option.{option_map_or}
 use Rattle.script_words.specs.Before.{nothing_before}
 use Rattle.script_words.specs.Words.{lines_of}
-use Rattle.script_text.specs.Held.{Held}
+use Rattle.script_text.specs.SoundLines.{Held}
 use Rattle.script_text.specs.Script.{read_lines}
 use Rattle.script_text.proofs.script.parse.Given as goal
 

@@ -4,7 +4,7 @@ use Rattle.step_kinds.specs.declared.plan.DevPlan.{DevPlan}
 use Rattle.plan_model.specs.Plans.{dev_plan, no_dev}
 use Rattle.fabric_rule.specs.Parts.{QueuePart, queue_of}
 use Rattle.fabric_core.specs.Fabric.{FabricState, pair_of}
-use Rattle.fabric_core.proofs.Counted.{counters_counted}
+use Rattle.fabric_core.proofs.LogCounts.{counters_counted}
 use Rattle.fabric_core.proofs.fabric.Fabric.counters.Goals as goal
 
 pub returns : goal.returns

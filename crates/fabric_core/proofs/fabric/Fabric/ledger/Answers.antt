@@ -2,7 +2,7 @@ use Rattle.std.proofs.Common.{◌∙◌, ap}
 use Rattle.fabric_rule.specs.Parts.{QueuePart, count_in, queue_of}
 use Rattle.step_kinds.specs.declared.names.Side.{Side}
 use Rattle.fabric_core.specs.Fabric.{pair_of}
-use Rattle.fabric_core.proofs.Counted.{accepted_counted, delivered_counted}
+use Rattle.fabric_core.proofs.LogCounts.{accepted_counted, delivered_counted}
 use Rattle.fabric_core.proofs.fabric.Fabric.ledger.Goals as goal
 
 pub returns-clause-accepted : goal.returns-clause-accepted

@@ -1,6 +1,6 @@
 use Rattle.std.proofs.Common.{◌∙◌, ap}
 use Rattle.fabric_rule.specs.Parts.{PairState}
-use Rattle.fabric_core.proofs.Counted.{session_counted}
+use Rattle.fabric_core.proofs.LogCounts.{session_counted}
 use Rattle.fabric_core.proofs.fabric.Fabric.sessions.Goals as goal
 
 pub returns : goal.returns

@@ -9,7 +9,7 @@ use Rattle.fabric_rule.specs.Parts.{PairState}
 use Rattle.fabric_core.specs.Fabric.{FabricState, may_want_memory, no_state, pair_of, plan_kept}
 use Rattle.fabric_core.specs.Fabrics.{IsFabric, fabric_seen}
 use Rattle.fabric_core.specs.Parts.{Agrees, CanMake}
-use Rattle.fabric_core.specs.Stepped.{HasStepped}
+use Rattle.fabric_core.specs.FabricStep.{HasStepped}
 use Rattle.fabric_core.specs.declared.fabric.Fabric.TheInside.{Inside}
 use Rattle.fabric_core.proofs.Standing.{PairMoved, among_pairs, fabric_moved, from_some, made_itself, pair_agrees, pair_can, some, some_made, with_pair}
 use Rattle.fabric_core.proofs.fabric.Fabric.step.Goals as goal

@@ -4,7 +4,7 @@ use Rattle.lane_model.specs.Tests.{is_copying}
 use Rattle.plan_model.specs.Device.{count_delivered}
 use Rattle.plan_model.specs.Link.{Link}
 use Rattle.frame_ring.specs.Calls.{after_copy}
-use Rattle.frame_ring.specs.Seen.{HasPagesIn}
+use Rattle.frame_ring.specs.PortView.{HasPagesIn}
 use Rattle.queue_pair.specs.Queue.{QueueState, with_port}
 use Rattle.fabric_rule.specs.Moves.{delivered_where_whole}
 use Rattle.fabric_rule.specs.Parts.{QueuePart, one_more}

@@ -4,7 +4,7 @@ use Rattle.lane_model.specs.Tests.{is_cleared}
 use Rattle.step_kinds.specs.Sides.{other_side}
 use Rattle.bridge_pair.specs.Bridge.{pages_of}
 use Rattle.frame_ring.specs.Ports.{port_seen}
-use Rattle.frame_ring.specs.Seen.{IsReadyToLand}
+use Rattle.frame_ring.specs.PortView.{IsReadyToLand}
 use Rattle.frame_ring.proofs.Ready.{cleared_index_word, pages_seen}
 use Rattle.frame_ring.proofs.port.Port.ack.Goals as goal
 

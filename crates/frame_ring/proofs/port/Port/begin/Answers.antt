@@ -1,4 +1,4 @@
-use Rattle.frame_ring.proofs.Answered.{begin_touches}
+use Rattle.frame_ring.proofs.NextNumber.{begin_touches}
 use Rattle.frame_ring.proofs.port.Port.begin.Goals as goal
 
 pub returns-in_err-begin_frame-in-Ok-clause-pages : goal.returns-in_err-begin_frame-in-Ok-clause-pages

@@ -7,7 +7,7 @@ use Rattle.posted_queue.specs.Flight.{promised}
 use Rattle.frame_ring.specs.Calls.{down_begun}
 use Rattle.frame_ring.specs.Port.{PortState, Sending, is_busy, with_sending, writes_left}
 use Rattle.frame_ring.specs.Ports.{port_seen}
-use Rattle.frame_ring.specs.Seen.{HasPagesIn, TouchesLeft, with_room}
+use Rattle.frame_ring.specs.PortView.{HasPagesIn, TouchesLeft, with_room}
 use Rattle.lane_model.specs.Lane.{GoesDown}
 use Rattle.frame_ring.proofs.Beginning.{Begins, begins_pages, begins_ready, down_begins, down_grows, down_sent}
 use Rattle.frame_ring.proofs.port.Port.begin_down.Goals as goal

@@ -8,7 +8,7 @@ use Rattle.posted_queue.specs.Flight.{promised}
 use Rattle.frame_ring.specs.Calls.{frame_begun, sizes_seen}
 use Rattle.frame_ring.specs.Port.{PortState, Sending, is_busy, unused_of, with_sending, writes_left}
 use Rattle.frame_ring.specs.Ports.{port_seen}
-use Rattle.frame_ring.specs.Seen.{HasPagesIn, TouchesLeft, with_room}
+use Rattle.frame_ring.specs.PortView.{HasPagesIn, TouchesLeft, with_room}
 use Rattle.frame_ring.proofs.Beginning.{Begins, begins_pages, begins_ready, begins_rest, frame_begins, frame_grows, frame_sent, pieces_seen}
 use Rattle.frame_ring.proofs.port.Port.begin_frame.Goals as goal
 use Rattle.frame_ring.proofs.port.Port.begin_frame.Goals.{After-begin}

@@ -7,7 +7,7 @@ use Rattle.step_kinds.specs.Sides.{other_side}
 use Rattle.bridge_pair.specs.Bridge.{Bridge, pages_of}
 use Rattle.frame_ring.specs.Port.{Receiving, with_receiving}
 use Rattle.frame_ring.specs.Ports.{port_seen}
-use Rattle.frame_ring.specs.Seen.{HasPages}
+use Rattle.frame_ring.specs.PortView.{HasPages}
 use Rattle.frame_ring.proofs.Ready.{cleared_ready, copied_flags, pages_seen, pages_with_bytes}
 use Rattle.frame_ring.proofs.port.Port.clear.Goals as goal
 

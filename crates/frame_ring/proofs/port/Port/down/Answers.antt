@@ -1,4 +1,4 @@
-use Rattle.frame_ring.proofs.Answered.{down_touches}
+use Rattle.frame_ring.proofs.NextNumber.{down_touches}
 use Rattle.frame_ring.proofs.port.Port.down.Goals as goal
 
 pub returns-in_err-begin_down-in-Ok-clause-pages : goal.returns-in_err-begin_down-in-Ok-clause-pages

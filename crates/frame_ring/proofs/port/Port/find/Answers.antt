@@ -13,7 +13,7 @@ use Rattle.ring_geometry.specs.Geometry.{index_of}
 use Rattle.frame_ring.specs.Port.{PortState, Receiving, with_receiving}
 use Rattle.frame_ring.specs.Ports.{port_seen}
 use Rattle.frame_ring.specs.Promises.{TouchesRange}
-use Rattle.frame_ring.specs.Seen.{HasPagesIn, TouchesWrite, with_room}
+use Rattle.frame_ring.specs.PortView.{HasPagesIn, TouchesWrite, with_room}
 use Rattle.frame_ring.proofs.EntryPages.{ok_map}
 use Rattle.frame_ring.proofs.Finding.{either_pages, found_ready, peer_pages}
 use Rattle.frame_ring.proofs.port.Port.find.Goals as goal

@@ -7,7 +7,7 @@ use Rattle.frame_ring.specs.Calls.{FindsEntry}
 use Rattle.frame_ring.specs.Port.{PortState}
 use Rattle.frame_ring.specs.Ports.{port_seen}
 use Rattle.frame_ring.specs.Rings.{header_of}
-use Rattle.frame_ring.specs.Seen.{bytes_seen}
+use Rattle.frame_ring.specs.PortView.{bytes_seen}
 use Rattle.frame_ring.proofs.Finding.{finds, flags_touch, look_touches}
 use Rattle.frame_ring.proofs.port.Port.look.Goals as goal
 use Rattle.frame_ring.proofs.port.Port.look.Goals.{In-Ready}

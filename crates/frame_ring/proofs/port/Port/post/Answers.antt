@@ -6,7 +6,7 @@ use Rattle.frame_ring.specs.Calls.{after_post, first_label, let_go, next_begun, 
 use Rattle.frame_ring.specs.Outgoing.{Outgoing, with_progress}
 use Rattle.frame_ring.specs.Port.{PortState, Sending, unused_of, with_sending}
 use Rattle.frame_ring.specs.Ports.{port_seen}
-use Rattle.frame_ring.specs.Seen.{HasPages, IsLeftReady, ring_posted}
+use Rattle.frame_ring.specs.PortView.{HasPages, IsLeftReady, ring_posted}
 use Rattle.frame_ring.proofs.Ready.{first_posted_is, first_ready, none_posted_is, pages_posted, pages_seen, post_ready}
 use Rattle.frame_ring.proofs.Spare.{spare_of_write, unused_posted, unused_same}
 use Rattle.frame_ring.proofs.port.Port.post.Goals as goal

@@ -3,7 +3,7 @@ use Rattle.lane_model.specs.Law.{HoldsRingLaw}
 use Rattle.lane_model.specs.Steps.{after_ack}
 use Rattle.lane_model.specs.declared.Phase.TheVariants.{Idle}
 use Rattle.lane_laws.proofs.Facade.{ack_keeps}
-use Rattle.lane_core.specs.Seen.{lane_seen}
+use Rattle.lane_core.specs.LaneView.{lane_seen}
 use Rattle.lane_core.specs.declared.write.IndexWrite.{IndexWrite}
 use Rattle.lane_core.proofs.Parts.{not_copying, map-posted}
 use Rattle.lane_core.proofs.lane.Lane.ack.Goals as goal

@@ -1,5 +1,5 @@
 use Rattle.lane_laws.proofs.Facade.{cut_keeps}
-use Rattle.lane_core.specs.Seen.{lane_seen}
+use Rattle.lane_core.specs.LaneView.{lane_seen}
 use Rattle.lane_core.proofs.lane.Lane.cut.Goals as goal
 
 pub invariant_of-self : goal.invariant_of-self

@@ -1,7 +1,7 @@
 use Rattle.std.proofs.Common.{ap, ◌∙◌, arith}
 use Rattle.lane_laws.proofs.Facade.{drop_keeps}
 use Rattle.lane_core.specs.Calls.{LaneValue}
-use Rattle.lane_core.specs.Seen.{lane_seen}
+use Rattle.lane_core.specs.LaneView.{lane_seen}
 use Rattle.lane_core.proofs.lane.Lane.drop_all.Goals as goal
 
 pub invariant_of-self : goal.invariant_of-self

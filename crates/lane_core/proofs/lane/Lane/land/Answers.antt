@@ -9,7 +9,7 @@ use Rattle.lane_model.specs.Steps.{after_landing}
 use Rattle.plan_model.specs.Labels.{label_of}
 use Rattle.lane_core.specs.Calls.{LaneValue, with_lane, land_answer, after_land, number_of}
 use Rattle.lane_core.specs.Parts.{IsKnown, entry_in, entry_seen, place_seen, ring_after}
-use Rattle.lane_core.specs.Seen.{lane_seen, value_seen}
+use Rattle.lane_core.specs.LaneView.{lane_seen, value_seen}
 use Rattle.lane_core.specs.declared.answers.LaneLand.TheVariants.{Landed, Blocked, Nothing}
 use Rattle.lane_core.specs.declared.entry.Entry.{Entry}
 use Rattle.lane_core.specs.declared.slot.Slot.{Slot}

@@ -5,7 +5,7 @@ use Rattle.lane_model.specs.Steps.{after_post}
 use Rattle.lane_model.specs.declared.Write.{Write}
 use Rattle.lane_laws.proofs.Facade.{post_keeps}
 use Rattle.lane_core.specs.Parts.{IsKnown, entry_seen}
-use Rattle.lane_core.specs.Seen.{lane_seen}
+use Rattle.lane_core.specs.LaneView.{lane_seen}
 use Rattle.lane_core.specs.declared.write.PostedWrite.{PostedWrite}
 use Rattle.lane_core.proofs.Parts.{All-posted, map-posted}
 use Rattle.lane_core.proofs.Writes.{next_is_known}

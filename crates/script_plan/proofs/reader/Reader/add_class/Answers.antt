@@ -1,6 +1,6 @@
 use Rattle.std.proofs.Common.{◌≡◌, ◌<◌, length, ap, arith}
 use Rattle.script_words.specs.Before.{Before}
-use Rattle.script_plan.specs.Seen.{before_with}
+use Rattle.script_plan.specs.LinesSoFar.{before_with}
 use Rattle.script_plan.proofs.Soundness.{class_added}
 use Rattle.script_plan.proofs.reader.Reader.add_class.Goals as goal
 

@@ -1,7 +1,7 @@
 use Rattle.std.proofs.Common.{◌≡◌, ◌<◌, length, ap, arith}
 use Rattle.step_kinds.specs.Limits.{most_pairs}
 use Rattle.script_words.specs.Before.{Before}
-use Rattle.script_plan.specs.Seen.{before_with}
+use Rattle.script_plan.specs.LinesSoFar.{before_with}
 use Rattle.script_plan.proofs.Soundness.{pair_added}
 use Rattle.script_plan.proofs.reader.Reader.add_pair.Goals as goal
 

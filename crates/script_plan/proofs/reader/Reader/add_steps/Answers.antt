@@ -2,7 +2,7 @@ use Rattle.std.proofs.Common.{◌≡◌, ◌+◌, ◌≤◌, length, ap, arith}
 use Rattle.step_kinds.specs.Limits.{most_steps}
 use Rattle.script_words.specs.Before.{Before}
 use Rattle.script_words.specs.Compact.{steps_of}
-use Rattle.script_plan.specs.Seen.{before_with}
+use Rattle.script_plan.specs.LinesSoFar.{before_with}
 use Rattle.script_plan.proofs.Soundness.{steps_added}
 use Rattle.script_plan.proofs.reader.Reader.add_steps.Goals as goal
 
@@ -12,4 +12,4 @@ invariant_of-self-2 c =
     let b : Before = before_with i.part i.hosts i.pairs i.devs i.steps.items i.traffic i.classed.items in
     let seen : length b.plan.steps ≡ length c.args.self.now.plan.steps = ap (λ before. length before.plan.steps) c.self.view_is in
     let few : length b.plan.steps + length (steps_of c.args.more) ≤ most_steps = let room = c.requires in omega arith in
-    steps_added b c.push_steps.new.steps.items c.args.line (steps_of c.args.more) c.self.invariant few (rw c.replace-steps.ensures.value at c.in_ok-push_steps.ensures)
+    steps_added b c.put_steps.new.steps.items c.args.line (steps_of c.args.more) c.self.invariant few (rw c.reserve.ensures.items at c.put_steps.ensures)

@@ -1,0 +1,47 @@
+//! What one line of a script gives beside steps.
+
+use crate::parts::QueueName;
+use step_kinds::{DevPlan, Frame, LaneName, Name, PairPlan};
+
+/// What one line gives beside steps.
+#[derive(Drop)]
+pub enum Given {
+    /// The header, a comment or a line without words.
+    Nothing,
+    /// A host.
+    Host {
+        name: Name,
+    },
+    /// A pair, in a box: it is far larger than what any other line gives.
+    Pair {
+        pair: Box<PairPlan>,
+    },
+    /// A device.
+    Device {
+        dev: DevPlan,
+    },
+    /// The class of a queue.
+    Class {
+        queue: QueueName,
+        class: u32,
+    },
+    /// The steps begin.
+    StepsBegin,
+    /// The traffic begins.
+    TrafficBegins,
+    /// One frame of the traffic.
+    Frame {
+        lane: LaneName,
+        frame: Frame,
+    },
+    /// So many frames of the traffic, each of so many bytes.
+    Flood {
+        lane: LaneName,
+        count: u32,
+        len: u32,
+    },
+    /// One link loss beside the traffic.
+    Break {
+        pair: u32,
+    },
+}
