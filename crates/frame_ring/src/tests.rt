@@ -525,6 +525,15 @@ fn the_flag_comes_behind_the_fields(rt: HostRuntime) -> Result<(), Fail> {
     Ok(())
 }
 
+// What the first look of side B finds.
+fn look_first(alloc: Global, plan: &PairPlan, pair: &mut Pair) -> Result<RingLook, AllocError>
+    requires same { pair.old.plan ≡ plan.now }
+    requires plan { HasPorts plan.now }
+{
+    let mut port = Port::new(alloc, plan, Side::B, 0);
+    look_one(pair, &mut port)
+}
+
 // What a look of side B finds in slot 0, where its version, length and flags are these: the words from this address on.
 fn seen_where(
     alloc: Global,
@@ -539,8 +548,7 @@ fn seen_where(
     set_word(&mut pair, Side::B, at, words[0])?;
     set_word(&mut pair, Side::B, at + 4, words[1])?;
     set_word(&mut pair, Side::B, at + 8, words[2])?;
-    let mut port = Port::new(alloc, plan, Side::B, 0);
-    look_one(&mut pair, &mut port)
+    look_first(alloc, plan, &mut pair)
 }
 
 #[test]
@@ -578,24 +586,28 @@ fn an_entry_without_its_flag(rt: HostRuntime) -> Result<(), Fail> {
     Ok(())
 }
 
-// What three copies answer of a frame of so many bytes that side A has sent.
-fn copied_thrice(alloc: Global, plan: &PairPlan, len: u32) -> Result<[[u32; 3]; 3], AllocError>
+// What three copies of side B answer of the first entry.
+fn copied_thrice(
+    alloc: Global,
+    plan: &PairPlan,
+    pair: &mut Pair,
+) -> Result<[[u32; 3]; 3], AllocError>
+    requires same { pair.old.plan ≡ plan.now }
     requires plan { HasPorts plan.now }
-    requires some { 0 < len }
-    requires few { len ≤ 65536 }
 {
-    let (mut pair, _posted) = sent(alloc, plan, len)?;
     let mut port = Port::new(alloc, plan, Side::B, 0);
-    let _look = look_one(&mut pair, &mut port)?;
-    let first = copy_one(&mut pair, &mut port);
-    let second = copy_one(&mut pair, &mut port);
-    let third = copy_one(&mut pair, &mut port);
+    let _look = look_one(pair, &mut port)?;
+    let first = copy_one(pair, &mut port);
+    let second = copy_one(pair, &mut port);
+    let third = copy_one(pair, &mut port);
     Ok([first, second, third])
 }
 
 #[test]
 fn a_frame_of_three_parts(rt: HostRuntime) -> Result<(), Fail> {
-    let copies = copied_thrice(rt.alloc(), &plan(4, 1, 4096, 1023), 300)?;
+    let plan = plan(4, 1, 4096, 1023);
+    let (mut pair, _posted) = sent(rt.alloc(), &plan, 300)?;
+    let copies = copied_thrice(rt.alloc(), &plan, &mut pair)?;
     assert_eq!(rt; copies, [[0, 0, 0], [0, 1, 0], [1, 300, 7]]);
     Ok(())
 }
