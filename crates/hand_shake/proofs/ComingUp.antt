@@ -7,14 +7,12 @@ use Rattle.bridge_pair.specs.Bridge.{Bridge, book_of, bytes_of, pages_of, with_b
 use Rattle.bridge_pair.specs.Ends.{bytes_after}
 use Rattle.bridge_pair.specs.Pages.{PagesGrow}
 use Rattle.bridge_pair.specs.Words.{AreIndexWordsPromised, TouchesIndexWord}
-use Rattle.bridge_pair.proofs.Promises.{grows_further, grows_nothing, promised_still}
-use Rattle.byte_model.specs.Addresses.{own_header}
-use Rattle.plan_model.specs.Sizes.{header_bytes}
+use Rattle.bridge_pair.proofs.Promises.{grows_further, grows_nothing}
 use Rattle.step_kinds.specs.declared.plan.PairPlan.{PairPlan}
 use Rattle.hand_shake.specs.Checks.{TouchesAnyRing, TouchesRings, came_up, check_answer}
-use Rattle.hand_shake.specs.Headers.{AreHeadersPromised, AreRingsPromised, TouchesHeader}
+use Rattle.hand_shake.specs.Headers.{AreHeadersReady, AreRingsReady, TouchesHeader}
 use Rattle.hand_shake.specs.declared.CheckAnswer.TheVariants.{Up}
-use Rattle.hand_shake.proofs.HeaderPages.{bytes_after-append}
+use Rattle.hand_shake.proofs.HeaderPages.{bytes_after-append, ready_still}
 
 -- what each step makes of a bridge: headers are zeroed, index words are set, and the book says that the side is up
 abbrev with_zeroed : Bridge → Side → Bridge
@@ -71,25 +69,25 @@ came_up_is old headers words zeroed set new side comes = (together, same)
         ∙ ap (λ pages. with_pages (came_up old side) side pages) (sym same)
 
 -- the pages of the headers, and then of the index words
-pub rings_grow : (plan same : PairPlan) (side : Side) (old headers words : List ℕ) → same ≡ plan → PagesGrow (TouchesHeader plan side) old headers → PagesGrow (TouchesIndexWord same side) headers words
-    → PagesGrow (TouchesAnyRing plan side) old words
-rings_grow plan same side old headers words plans first second =
-    grows_further (TouchesAnyRing plan side) (TouchesIndexWord same side) old headers words
-    (grows_further (TouchesAnyRing plan side) (TouchesHeader plan side) old old headers (grows_nothing (TouchesAnyRing plan side) old) first (λ page touch. inl touch)) second
+pub rings_grow : (plan same : PairPlan) (side : Side) (bytes old headers words : List ℕ) → same ≡ plan → PagesGrow (TouchesHeader plan side bytes) old headers → PagesGrow (TouchesIndexWord same side) headers words
+    → PagesGrow (TouchesAnyRing plan side bytes) old words
+rings_grow plan same side bytes old headers words plans first second =
+    grows_further (TouchesAnyRing plan side bytes) (TouchesIndexWord same side) old headers words
+    (grows_further (TouchesAnyRing plan side bytes) (TouchesHeader plan side bytes) old old headers (grows_nothing (TouchesAnyRing plan side bytes) old) first (λ page touch. inl touch)) second
     (λ page touch. inr (subst (λ (plan : PairPlan). TouchesIndexWord plan side page) plans touch))
 
--- headers that are promised stay so
-pub headers_still : (plan same : PairPlan) (side : Side) (old new : List ℕ) → PagesGrow (TouchesIndexWord same side) old new → AreHeadersPromised plan side old → AreHeadersPromised plan side new
-headers_still plan same side old new grow promised = λ queue among n within. promised_still (TouchesIndexWord same side) old new (own_header plan side queue n) (header_bytes plan) grow (promised queue among n within)
+-- headers that are ready stay so
+pub headers_still : (plan same : PairPlan) (side : Side) (bytes old new : List ℕ) → PagesGrow (TouchesIndexWord same side) old new → AreHeadersReady plan side bytes old → AreHeadersReady plan side bytes new
+headers_still plan same side bytes old new grow ready = λ queue among n within. ready_still (TouchesIndexWord same side) plan side queue n bytes old new grow (ready queue among n within)
 
--- both are promised in the end
-pub rings_promised : (plan same : PairPlan) (side : Side) (headers words new : List ℕ) → same ≡ plan → PagesGrow (TouchesIndexWord same side) headers words → new ≡ words
-    → AreHeadersPromised plan side headers → AreIndexWordsPromised same side words → AreRingsPromised plan side new
-rings_promised plan same side headers words new plans grow pages first second =
-    subst (λ (pages : List ℕ). AreRingsPromised plan side pages) (sym pages)
-    (headers_still plan same side headers words grow first, subst (λ (plan : PairPlan). AreIndexWordsPromised plan side words) plans second)
+-- and the index words are promised in the end
+pub rings_ready : (plan same : PairPlan) (side : Side) (bytes headers words new : List ℕ) → same ≡ plan → PagesGrow (TouchesIndexWord same side) headers words → new ≡ words
+    → AreHeadersReady plan side bytes headers → AreIndexWordsPromised same side words → AreRingsReady plan side bytes new
+rings_ready plan same side bytes headers words new plans grow pages first second =
+    subst (λ (pages : List ℕ). AreRingsReady plan side bytes pages) (sym pages)
+    (headers_still plan same side bytes headers words grow first, subst (λ (plan : PairPlan). AreIndexWordsPromised plan side words) plans second)
 
 -- the pages that a check promises are those of a side that comes up
-pub where_up : (bridge : Bridge) (side : Side) (old new : List ℕ) → check_answer bridge side ≡ Up → PagesGrow (TouchesAnyRing bridge.plan side) old new → PagesGrow (TouchesRings bridge side) old new
+pub where_up : (bridge : Bridge) (side : Side) (old new : List ℕ) → check_answer bridge side ≡ Up → PagesGrow (TouchesAnyRing bridge.plan side (bytes_of bridge side)) old new → PagesGrow (TouchesRings bridge side) old new
 where_up bridge side old new up grow =
-    grows_further (TouchesRings bridge side) (TouchesAnyRing bridge.plan side) old old new (grows_nothing (TouchesRings bridge side) old) grow (λ page touch. (up, touch))
+    grows_further (TouchesRings bridge side) (TouchesAnyRing bridge.plan side (bytes_of bridge side)) old old new (grows_nothing (TouchesRings bridge side) old) grow (λ page touch. (up, touch))

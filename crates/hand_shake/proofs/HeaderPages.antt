@@ -1,5 +1,5 @@
 -- Headers: their pages are promised one after the other, and they are zeroed from the last one on.
-use Rattle.std.proofs.Common.{◌≡◌, ℕ, suc, ◌+◌, ◌*◌, ◌%◌, ◌<◌, ◌≤◌, List, [], ◌∷◌, ◌++◌, map, take, replicate, refl, sym, ap, ◌∙◌, subst, arith, Bool, true, false, ◌==◌, if◌then◌else◌}
+use Rattle.std.proofs.Common.{◌≡◌, ℕ, suc, ◌+◌, ◌*◌, ◌%◌, ◌<◌, ◌≤◌, List, [], ◌∷◌, ◌++◌, map, take, replicate, Result, Ok, Err, OnOk, inl, inr, refl, sym, ap, ◌∙◌, subst, arith, Bool, true, false, ◌==◌, if◌then◌else◌}
 use Rattle.std.proofs.Math.Nat.{mod-eq_of_lt}
 use Rattle.std.proofs.lemmas.List.{take-replicate}
 use Rattle.std.specs.List.{flat_map}
@@ -12,11 +12,13 @@ use Rattle.plan_model.specs.Plans.{side_plan}
 use Rattle.plan_model.specs.Sizes.{agreed_version, header_bytes, layout_to}
 use Rattle.ring_geometry.specs.Geometry.{Layout, entries_of, header_of, window_of}
 use Rattle.step_kinds.specs.declared.names.Side.{Side}
+use Rattle.step_kinds.specs.declared.names.Side.TheVariants.{A, B}
 use Rattle.step_kinds.specs.declared.plan.PairPlan.{PairPlan}
+use Rattle.bridge_pair.specs.Bridge.{Bridge, bytes_of, pages_of, with_bytes, with_pages}
 use Rattle.bridge_pair.specs.Ends.{bytes_after}
 use Rattle.bridge_pair.specs.Pages.{PagesGrow}
-use Rattle.bridge_pair.proofs.Promises.{grows_further, promised_still}
-use Rattle.hand_shake.specs.Headers.{AreHeadersOfPromised, TouchesHeader, TouchesHeaderOf, ring_stores}
+use Rattle.bridge_pair.proofs.Promises.{grows_further, grows_nothing, promised_still}
+use Rattle.hand_shake.specs.Headers.{AreHeadersOfReady, IsHeaderReady, IsZeroed, TouchesHeader, TouchesHeaderOf, ring_stores}
 use borrow.Author.Count.{below_more}
 
 pub at_header : (plan : PairPlan) (side : Side) (queue n window offset at : ℕ) (ring : Layout) → ring ≡ layout_to plan side queue → window ≡ window_of ring → offset ≡ header_of ring n
@@ -32,32 +34,67 @@ at_header plan side queue n window offset at ring is_ring is_window is_offset wi
 pub at_same : (plan same : PairPlan) (side : Side) (queue n at : ℕ) → same ≡ plan → at ≡ own_header same side queue n → at ≡ own_header plan side queue n
 at_same plan same side queue n at plans is_at = is_at ∙ ap (λ (plan : PairPlan). own_header plan side queue n) plans
 
-pub header_grows : (plan : PairPlan) (side : Side) (queue n at len : ℕ) (old now new : List ℕ) → at ≡ own_header plan side queue n → len ≡ header_bytes plan → n < entries_of (layout_to plan side queue)
-    → PagesGrow (TouchesHeaderOf plan side queue) old now → PagesGrow (Touches at len) now new → PagesGrow (TouchesHeaderOf plan side queue) old new
-header_grows plan side queue n at len old now new is_at is_len among so_far next =
-    grows_further (TouchesHeaderOf plan side queue) (Touches at len) old now new so_far next
-    (λ page touch. (n, among, subst (λ len. Touches (own_header plan side queue n) len page) is_len (subst (λ at. Touches at len page) is_at touch)))
+-- a fact of the plan and of a side's bytes, where only pages were promised since
+pub seen_again : (old new : Bridge) (side : Side) (P : PairPlan → List ℕ → Type 0) → new ≡ with_pages old side (pages_of new side) → P new.plan (bytes_of new side) → P old.plan (bytes_of old side)
+seen_again old new A P same fact = subst (λ (bridge : Bridge). P bridge.plan (bytes_of bridge A)) same fact
+seen_again old new B P same fact = subst (λ (bridge : Bridge). P bridge.plan (bytes_of bridge B)) same fact
 
-pub header_promised : (plan : PairPlan) (side : Side) (queue n at len : ℕ) (now new : List ℕ) → at ≡ own_header plan side queue n → len ≡ header_bytes plan
-    → ((k : ℕ) → k < n → ArePromised (own_header plan side queue k) (header_bytes plan) now) → PagesGrow (Touches at len) now new → ArePromised at len new
-    → (k : ℕ) → k < n + 1 → ArePromised (own_header plan side queue k) (header_bytes plan) new
-header_promised plan side queue n at len now new is_at is_len so_far next promised =
-    below_more (λ k. ArePromised (own_header plan side queue k) (header_bytes plan) new) n
-    (λ k below. promised_still (Touches at len) now new (own_header plan side queue k) (header_bytes plan) next (so_far k below))
-    (subst (λ len. ArePromised (own_header plan side queue n) len new) is_len (subst (λ at. ArePromised at len new) is_at promised))
+pub seen_since : (old new : Bridge) (side : Side) (P : PairPlan → List ℕ → Type 0) → new ≡ with_pages old side (pages_of new side) → P old.plan (bytes_of old side) → P new.plan (bytes_of new side)
+seen_since old new A P same fact = subst (λ (bridge : Bridge). P bridge.plan (bytes_of bridge A)) (sym same) fact
+seen_since old new B P same fact = subst (λ (bridge : Bridge). P bridge.plan (bytes_of bridge B)) (sym same) fact
 
-pub ring_grows : (plan same : PairPlan) (side : Side) (queue : ℕ) (old now new : List ℕ) → same ≡ plan → queue < (side_plan plan side).queues
-    → PagesGrow (TouchesHeader plan side) old now → PagesGrow (TouchesHeaderOf same side queue) now new → PagesGrow (TouchesHeader plan side) old new
-ring_grows plan same side queue old now new plans among so_far next =
-    grows_further (TouchesHeader plan side) (TouchesHeaderOf same side queue) old now new so_far next
-    (λ page touch. (queue, among, subst (λ (plan : PairPlan). TouchesHeaderOf plan side queue page) plans touch))
+-- a side with the bytes that it has
+pub bytes_same : (bridge : Bridge) (side : Side) → with_bytes bridge side (bytes_of bridge side) ≡ bridge
+bytes_same bridge A = refl
+bytes_same bridge B = refl
 
-pub ring_promised : (plan same : PairPlan) (side : Side) (queue : ℕ) (now new : List ℕ) → same ≡ plan → ((k : ℕ) → k < queue → AreHeadersOfPromised plan side k now)
-    → PagesGrow (TouchesHeaderOf same side queue) now new → AreHeadersOfPromised same side queue new → (k : ℕ) → k < queue + 1 → AreHeadersOfPromised plan side k new
-ring_promised plan same side queue now new plans so_far next promised =
-    below_more (λ k. AreHeadersOfPromised plan side k new) queue
-    (λ k below n within. promised_still (TouchesHeaderOf same side queue) now new (own_header plan side k n) (header_bytes plan) next (so_far k below n within))
-    (subst (λ (plan : PairPlan). AreHeadersOfPromised plan side queue new) plans promised)
+-- the pages of a header that isn't zero are promised
+pub one_grows : (plan : PairPlan) (side : Side) (queue n at len : ℕ) (bytes old new : List ℕ) → at ≡ own_header plan side queue n → len ≡ header_bytes plan → n < entries_of (layout_to plan side queue)
+    → ¬ IsZeroed plan side queue n bytes → PagesGrow (Touches at len) old new → PagesGrow (TouchesHeaderOf plan side queue bytes) old new
+one_grows plan side queue n at len bytes old new is_at is_len among unlike grow =
+    grows_further (TouchesHeaderOf plan side queue bytes) (Touches at len) old old new (grows_nothing (TouchesHeaderOf plan side queue bytes) old) grow
+    (λ page touch. (n, among, unlike, subst (λ len. Touches (own_header plan side queue n) len page) is_len (subst (λ at. Touches at len page) is_at touch)))
+
+pub one_ready : {X E : Type 0} (plan : PairPlan) (side : Side) (queue n at len : ℕ) (bytes new : List ℕ) (told : Result X E) → at ≡ own_header plan side queue n → len ≡ header_bytes plan
+    → OnOk told (ArePromised at len new) → OnOk told (IsHeaderReady plan side queue n bytes new)
+one_ready plan side queue n at len bytes new (Ok done) is_at is_len promised =
+    inr (subst (λ len. ArePromised (own_header plan side queue n) len new) is_len (subst (λ at. ArePromised at len new) is_at promised))
+one_ready plan side queue n at len bytes new (Err wants) is_at is_len promised = tt
+
+pub header_grows : (old now : Bridge) (side : Side) (queue : ℕ) (new : List ℕ) → now ≡ with_pages old side (pages_of now side)
+    → PagesGrow (TouchesHeaderOf old.plan side queue (bytes_of old side)) (pages_of old side) (pages_of now side)
+    → PagesGrow (TouchesHeaderOf now.plan side queue (bytes_of now side)) (pages_of now side) new → PagesGrow (TouchesHeaderOf old.plan side queue (bytes_of old side)) (pages_of old side) new
+header_grows old now side queue new same so_far next =
+    grows_further (TouchesHeaderOf old.plan side queue (bytes_of old side)) (TouchesHeaderOf now.plan side queue (bytes_of now side)) _ _ _ so_far next
+    (λ page touch. seen_again old now side (λ plan bytes. TouchesHeaderOf plan side queue bytes page) same touch)
+
+-- a header that is ready stays so
+pub ready_still : (touched : ℕ → Type 0) (plan : PairPlan) (side : Side) (queue n : ℕ) (bytes now new : List ℕ) → PagesGrow touched now new → IsHeaderReady plan side queue n bytes now → IsHeaderReady plan side queue n bytes new
+ready_still touched plan side queue n bytes now new grow (inl zero) = inl zero
+ready_still touched plan side queue n bytes now new grow (inr promised) = inr (promised_still touched now new (own_header plan side queue n) (header_bytes plan) grow promised)
+
+pub header_ready : (old now : Bridge) (side : Side) (queue n : ℕ) (new : List ℕ) → now ≡ with_pages old side (pages_of now side)
+    → ((k : ℕ) → k < n → IsHeaderReady old.plan side queue k (bytes_of old side) (pages_of now side)) → PagesGrow (TouchesHeaderOf now.plan side queue (bytes_of now side)) (pages_of now side) new
+    → IsHeaderReady now.plan side queue n (bytes_of now side) new → (k : ℕ) → k < n + 1 → IsHeaderReady old.plan side queue k (bytes_of old side) new
+header_ready old now side queue n new same so_far next ready =
+    below_more (λ k. IsHeaderReady old.plan side queue k (bytes_of old side) new) n
+    (λ k below. ready_still (TouchesHeaderOf now.plan side queue (bytes_of now side)) old.plan side queue k (bytes_of old side) _ new next (so_far k below))
+    (seen_again old now side (λ plan bytes. IsHeaderReady plan side queue n bytes new) same ready)
+
+pub ring_grows : (old now : Bridge) (side : Side) (queue : ℕ) (new : List ℕ) → now ≡ with_pages old side (pages_of now side) → queue < (side_plan old.plan side).queues
+    → PagesGrow (TouchesHeader old.plan side (bytes_of old side)) (pages_of old side) (pages_of now side)
+    → PagesGrow (TouchesHeaderOf now.plan side queue (bytes_of now side)) (pages_of now side) new → PagesGrow (TouchesHeader old.plan side (bytes_of old side)) (pages_of old side) new
+ring_grows old now side queue new same among so_far next =
+    grows_further (TouchesHeader old.plan side (bytes_of old side)) (TouchesHeaderOf now.plan side queue (bytes_of now side)) _ _ _ so_far next
+    (λ page touch. (queue, among, seen_again old now side (λ plan bytes. TouchesHeaderOf plan side queue bytes page) same touch))
+
+pub ring_ready : (old now : Bridge) (side : Side) (queue : ℕ) (new : List ℕ) → now ≡ with_pages old side (pages_of now side)
+    → ((k : ℕ) → k < queue → AreHeadersOfReady old.plan side k (bytes_of old side) (pages_of now side)) → PagesGrow (TouchesHeaderOf now.plan side queue (bytes_of now side)) (pages_of now side) new
+    → AreHeadersOfReady now.plan side queue (bytes_of now side) new → (k : ℕ) → k < queue + 1 → AreHeadersOfReady old.plan side k (bytes_of old side) new
+ring_ready old now side queue new same so_far next ready =
+    below_more (λ k. AreHeadersOfReady old.plan side k (bytes_of old side) new) queue
+    (λ k below n within. ready_still (TouchesHeaderOf now.plan side queue (bytes_of now side)) old.plan side k n (bytes_of old side) _ new next (so_far k below n within))
+    (seen_again old now side (λ plan bytes. AreHeadersOfReady plan side queue bytes new) same ready)
 
 -- Zeroing
 
@@ -76,7 +113,7 @@ ring_before plan same side queue later left more bytes plans next one_more =
     ap (λ (plan' : PairPlan). bytes_after (ring_stores plan' side queue) (bytes_after (flat_map (ring_stores plan side) (count_from later left)) bytes)) plans
     ∙ rw (next, one_more) (sym (bytes_after-append (ring_stores plan side queue) (flat_map (ring_stores plan side) (count_from (suc queue) left)) bytes))
 
-few_bytes : (plan : PairPlan) → header_bytes plan ≤ 16
+pub few_bytes : (plan : PairPlan) → header_bytes plan ≤ 16
 few_bytes plan = by_version (agreed_version plan == 5) where
   by_version : (five : Bool) → (if five then 16 else 12) ≤ 16
   by_version true = omega arith

@@ -4,3 +4,4 @@ pub mod HeaderPages
 pub mod OfferPlaces
 pub mod OwnOffers
 pub mod SizeSearch
+pub mod ZeroHeaders

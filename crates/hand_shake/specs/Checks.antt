@@ -60,10 +60,10 @@ after_answer bridge side answer = bridge
 abbrev pub after_check : Bridge → Side → Bridge
 after_check bridge side = after_answer bridge side (check_answer bridge side)
 
--- the page has a byte of a header of the side's rings or of its index words
-abbrev pub TouchesAnyRing : PairPlan → Side → ℕ → Type 0
-TouchesAnyRing plan side page = TouchesHeader plan side page ⊎ TouchesIndexWord plan side page
+-- the page has a byte of a header of the side's rings that isn't zero, or of its index words
+abbrev pub TouchesAnyRing : PairPlan → Side → List ℕ → ℕ → Type 0
+TouchesAnyRing plan side bytes page = TouchesHeader plan side bytes page ⊎ TouchesIndexWord plan side page
 
 -- the pages that a check promises, where it comes up
 abbrev pub TouchesRings : Bridge → Side → ℕ → Type 0
-TouchesRings bridge side page = (check_answer bridge side ≡ Up) × TouchesAnyRing bridge.plan side page
+TouchesRings bridge side page = (check_answer bridge side ≡ Up) × TouchesAnyRing bridge.plan side (bytes_of bridge side) page

@@ -1,5 +1,5 @@
 -- The headers of the rings that a side receives in.
-use Rattle.std.specs.Prelude.{ℕ, ◌<◌, List, map}
+use Rattle.std.specs.Prelude.{◌≡◌, ℕ, ◌+◌, ◌<◌, ◌⊎◌, List, map, slice_index_or}
 use Rattle.byte_model.specs.Stores.{Store}
 use Rattle.lane_model.specs.Lane.{count_from}
 use Rattle.byte_model.specs.FreshRings.{zeroed_header}
@@ -12,23 +12,32 @@ use Rattle.step_kinds.specs.declared.names.Side.{Side}
 use Rattle.step_kinds.specs.declared.plan.PairPlan.{PairPlan}
 use Rattle.bridge_pair.specs.Words.{AreIndexWordsPromised}
 
--- the page has a byte of a header of one queue's ring, and of one of all rings
-abbrev pub TouchesHeaderOf : PairPlan → Side → ℕ → ℕ → Type 0
-TouchesHeaderOf plan side queue page = (n : ℕ) × (n < entries_of (layout_to plan side queue)) × Touches (own_header plan side queue n) (header_bytes plan) page
+-- each byte of a header is zero
+abbrev pub IsZeroed : PairPlan → Side → ℕ → ℕ → List ℕ → Type 0
+IsZeroed plan side queue n bytes = (i : ℕ) → i < header_bytes plan → slice_index_or bytes (own_header plan side queue n + i) 0 ≡ 0
 
-abbrev pub TouchesHeader : PairPlan → Side → ℕ → Type 0
-TouchesHeader plan side page = (queue : ℕ) × (queue < (side_plan plan side).queues) × TouchesHeaderOf plan side queue page
+-- the page has a byte of a header that isn't zero, of one queue's ring, and of one of all rings
+abbrev pub TouchesHeaderOf : PairPlan → Side → ℕ → List ℕ → ℕ → Type 0
+TouchesHeaderOf plan side queue bytes page =
+    (n : ℕ) × (n < entries_of (layout_to plan side queue)) × (¬ IsZeroed plan side queue n bytes) × Touches (own_header plan side queue n) (header_bytes plan) page
 
--- the pages of all headers of one queue's ring are promised, and those of all rings
-abbrev pub AreHeadersOfPromised : PairPlan → Side → ℕ → List ℕ → Type 0
-AreHeadersOfPromised plan side queue pages = (n : ℕ) → n < entries_of (layout_to plan side queue) → ArePromised (own_header plan side queue n) (header_bytes plan) pages
+abbrev pub TouchesHeader : PairPlan → Side → List ℕ → ℕ → Type 0
+TouchesHeader plan side bytes page = (queue : ℕ) × (queue < (side_plan plan side).queues) × TouchesHeaderOf plan side queue bytes page
 
-abbrev pub AreHeadersPromised : PairPlan → Side → List ℕ → Type 0
-AreHeadersPromised plan side pages = (queue : ℕ) → queue < (side_plan plan side).queues → AreHeadersOfPromised plan side queue pages
+-- a header is zero, or its pages are promised: so it can be zeroed
+abbrev pub IsHeaderReady : PairPlan → Side → ℕ → ℕ → List ℕ → List ℕ → Type 0
+IsHeaderReady plan side queue n bytes pages = IsZeroed plan side queue n bytes ⊎ ArePromised (own_header plan side queue n) (header_bytes plan) pages
 
--- and those of the side's index words with them
-abbrev pub AreRingsPromised : PairPlan → Side → List ℕ → Type 0
-AreRingsPromised plan side pages = AreHeadersPromised plan side pages × AreIndexWordsPromised plan side pages
+-- all headers of one queue's ring are, and those of all rings
+abbrev pub AreHeadersOfReady : PairPlan → Side → ℕ → List ℕ → List ℕ → Type 0
+AreHeadersOfReady plan side queue bytes pages = (n : ℕ) → n < entries_of (layout_to plan side queue) → IsHeaderReady plan side queue n bytes pages
+
+abbrev pub AreHeadersReady : PairPlan → Side → List ℕ → List ℕ → Type 0
+AreHeadersReady plan side bytes pages = (queue : ℕ) → queue < (side_plan plan side).queues → AreHeadersOfReady plan side queue bytes pages
+
+-- and the pages of the side's index words are promised
+abbrev pub AreRingsReady : PairPlan → Side → List ℕ → List ℕ → Type 0
+AreRingsReady plan side bytes pages = AreHeadersReady plan side bytes pages × AreIndexWordsPromised plan side pages
 
 -- zeros for the headers of one queue's ring
 abbrev pub ring_stores : PairPlan → Side → ℕ → List Store

@@ -1,11 +1,11 @@
 //! Checking.
 
 ghost use Rattle.std.specs.Prelude.{◌≡◌, ◌≢◌, ◌≤◌, ◌<◌, IfOk, OnErr, OnOk, Option, Some, None, option_map};
-ghost use Rattle.bridge_pair.specs.Bridge.{pages_of, with_pages};
+ghost use Rattle.bridge_pair.specs.Bridge.{bytes_of, pages_of, with_pages};
 ghost use Rattle.bridge_pair.specs.Pages.{PagesGrow};
 ghost use Rattle.bridge_pair.specs.Words.{WindowsFit};
 ghost use Rattle.hand_shake.specs.Checks.{TouchesAnyRing, TouchesRings, after_check, came_up, check_answer as answer_by, first_larger as first_larger_by, size_answer as answer_by_sizes, size_at};
-ghost use Rattle.hand_shake.specs.Headers.{AreRingsPromised};
+ghost use Rattle.hand_shake.specs.Headers.{AreRingsReady};
 ghost use Rattle.hand_shake.specs.declared.CheckAnswer.TheVariants.{Up};
 ghost use Rattle.plan_model.specs.Plans.{side_plan as side_plan_of};
 ghost use Rattle.step_kinds.specs.Limits.{IsWindows};
@@ -34,14 +34,14 @@ const WINDOWS_PAD: u32 = 3;
 /// # Errors
 ///
 /// [`AllocError`] from want of memory alone, where the side was to come up. Some pages of those that it writes may then be
-/// promised, and nothing else changes.
+/// promised, and nothing else changes. A header that is zero already needs no page.
 pub fn check(pair: &mut Pair, side: Side) -> Result<CheckAnswer, AllocError>
     requires { answer_by pair.old side ≡ Up → WindowsFit pair.old.plan side }
     ensures answer { IfOk result (λ answer. answer ≡ answer_by pair.old side) }
     ensures after { OnOk result (pair.new ≡ with_pages (after_check pair.old side) side (pages_of pair.new side)) }
     ensures err { OnErr result (pair.new ≡ with_pages pair.old side (pages_of pair.new side)) }
     ensures pages { PagesGrow (TouchesRings pair.old side) (pages_of pair.old side) (pages_of pair.new side) }
-    ensures promised { OnOk result (answer_by pair.old side ≡ Up → AreRingsPromised pair.old.plan side (pages_of pair.new side)) }
+    ensures ready { OnOk result (answer_by pair.old side ≡ Up → AreRingsReady pair.old.plan side (bytes_of pair.old side) (pages_of pair.new side)) }
     ensures wants { OnErr result (answer_by pair.old side ≡ Up) }
     ensures same { answer_by pair.old side ≢ Up → pair.new ≡ pair.old }
 {
@@ -57,8 +57,8 @@ fn come_up(pair: &mut Pair, side: Side) -> Result<(), AllocError>
     requires { WindowsFit pair.old.plan side }
     ensures ok { OnOk result (pair.new ≡ with_pages (came_up pair.old side) side (pages_of pair.new side)) }
     ensures err { OnErr result (pair.new ≡ with_pages pair.old side (pages_of pair.new side)) }
-    ensures pages { PagesGrow (TouchesAnyRing pair.old.plan side) (pages_of pair.old side) (pages_of pair.new side) }
-    ensures promised { OnOk result (AreRingsPromised pair.old.plan side (pages_of pair.new side)) }
+    ensures pages { PagesGrow (TouchesAnyRing pair.old.plan side (bytes_of pair.old side)) (pages_of pair.old side) (pages_of pair.new side) }
+    ensures ready { OnOk result (AreRingsReady pair.old.plan side (bytes_of pair.old side) (pages_of pair.new side)) }
 {
     promise_headers(pair, side)?;
     pair.promise_index_words(side)?;

@@ -1,14 +1,14 @@
 //! The headers of the rings that a side receives in.
 
-ghost use Rattle.std.specs.Prelude.{◌≡◌, ◌+◌, ◌<◌, ◌≤◌, OnOk, replicate};
+ghost use Rattle.std.specs.Prelude.{◌≡◌, ◌↔◌, ◌+◌, ◌<◌, ◌≤◌, IsTrue, OnOk, length, replicate};
 ghost use Rattle.std.specs.List.{flat_map};
 ghost use Rattle.bridge_pair.specs.Bridge.{bytes_of, memory_size, pages_of, with_bytes};
 ghost use Rattle.bridge_pair.specs.Ends.{bytes_after};
 ghost use Rattle.bridge_pair.specs.Pages.{OnlyPagesGrow};
 ghost use Rattle.bridge_pair.specs.Words.{WindowsFit};
 ghost use Rattle.byte_model.specs.Addresses.{own_header};
-ghost use Rattle.hand_shake.specs.Headers.{AreHeadersOfPromised, AreHeadersPromised, TouchesHeader, TouchesHeaderOf, ring_stores};
-ghost use Rattle.host_memory.specs.Memory.{ArePromised, written};
+ghost use Rattle.hand_shake.specs.Headers.{AreHeadersOfReady, AreHeadersReady, IsHeaderReady, IsZeroed, TouchesHeader, TouchesHeaderOf, ring_stores};
+ghost use Rattle.host_memory.specs.Memory.{written};
 ghost use Rattle.byte_model.specs.FreshRings.{zeroed_headers};
 ghost use Rattle.plan_model.specs.DeclaredPlans.{IsPair};
 ghost use Rattle.plan_model.specs.Plans.{side_plan as side_plan_of};
@@ -19,11 +19,12 @@ use bridge_pair::{Pair, header_bytes, own_address, receiving_ring, side_plan};
 use std::alloc::AllocError;
 use step_kinds::{PairPlan, Side};
 
-/// Promises the pages of all headers of the rings that a side receives in.
+/// Promises the pages of the headers of the rings that a side receives in, but for headers that are zero already. So a ring
+/// that was never written to takes no memory.
 pub fn promise_headers(pair: &mut Pair, side: Side) -> Result<(), AllocError>
     requires { WindowsFit pair.old.plan side }
-    ensures grown { OnlyPagesGrow (TouchesHeader pair.old.plan side) side pair.old pair.new }
-    ensures ok { OnOk result (AreHeadersPromised pair.old.plan side (pages_of pair.new side)) }
+    ensures grown { OnlyPagesGrow (TouchesHeader pair.old.plan side (bytes_of pair.old side)) side pair.old pair.new }
+    ensures ok { OnOk result (AreHeadersReady pair.old.plan side (bytes_of pair.old side) (pages_of pair.new side)) }
 {
     let queues = side_plan(pair.plan(), side).queues;
     for queue in 0..queues {
@@ -36,22 +37,36 @@ pub fn promise_headers(pair: &mut Pair, side: Side) -> Result<(), AllocError>
 fn promise_headers_of(pair: &mut Pair, side: Side, queue: u32) -> Result<(), AllocError>
     requires fit { WindowsFit pair.old.plan side }
     requires among { queue < (side_plan_of pair.old.plan side).queues }
-    ensures grown { OnlyPagesGrow (TouchesHeaderOf pair.old.plan side queue) side pair.old pair.new }
-    ensures ok { OnOk result (AreHeadersOfPromised pair.old.plan side queue (pages_of pair.new side)) }
+    ensures grown { OnlyPagesGrow (TouchesHeaderOf pair.old.plan side queue (bytes_of pair.old side)) side pair.old pair.new }
+    ensures ok { OnOk result (AreHeadersOfReady pair.old.plan side queue (bytes_of pair.old side) (pages_of pair.new side)) }
 {
     let entries = receiving_ring(pair.plan(), side, queue).entries();
     for n in 0..entries {
-        let at = header_at(pair.plan(), side, queue, n);
-        let len = u64::from(header_bytes(pair.plan()));
-        pair.promise_range(side, at, len)?;
+        promise_header(pair, side, queue, n)?;
     }
     Ok(())
 }
 
-/// Zeroes all headers of the rings that a side receives in, whose pages have to be promised.
+// The same of one header.
+fn promise_header(pair: &mut Pair, side: Side, queue: u32, n: u32) -> Result<(), AllocError>
+    requires fit { WindowsFit pair.old.plan side }
+    requires among { queue < (side_plan_of pair.old.plan side).queues }
+    requires slot { n < entries_of (layout_to pair.old.plan side queue) }
+    ensures grown { OnlyPagesGrow (TouchesHeaderOf pair.old.plan side queue (bytes_of pair.old side)) side pair.old pair.new }
+    ensures ok { OnOk result (IsHeaderReady pair.old.plan side queue n (bytes_of pair.old side) (pages_of pair.new side)) }
+{
+    if is_zero(pair, side, queue, n) {
+        return Ok(());
+    }
+    let at = header_at(pair.plan(), side, queue, n);
+    let len = u64::from(header_bytes(pair.plan()));
+    pair.promise_range(side, at, len)
+}
+
+/// Zeroes all headers of the rings that a side receives in. The pages of those that aren't zero have to be promised.
 pub fn zero_headers(pair: &mut Pair, side: Side)
     requires fit { WindowsFit pair.old.plan side }
-    requires promised { AreHeadersPromised pair.old.plan side (pages_of pair.old side) }
+    requires ready { AreHeadersReady pair.old.plan side (bytes_of pair.old side) (pages_of pair.old side) }
     ensures { pair.new ≡ with_bytes pair.old side (bytes_after (zeroed_headers pair.old.plan side) (bytes_of pair.old side)) }
 {
     let queues = side_plan(pair.plan(), side).queues;
@@ -64,7 +79,7 @@ pub fn zero_headers(pair: &mut Pair, side: Side)
 fn zero_headers_of(pair: &mut Pair, side: Side, queue: u32)
     requires fit { WindowsFit pair.old.plan side }
     requires among { queue < (side_plan_of pair.old.plan side).queues }
-    requires promised { AreHeadersOfPromised pair.old.plan side queue (pages_of pair.old side) }
+    requires ready { AreHeadersOfReady pair.old.plan side queue (bytes_of pair.old side) (pages_of pair.old side) }
     ensures { pair.new ≡ with_bytes pair.old side (bytes_after (ring_stores pair.old.plan side queue) (bytes_of pair.old side)) }
 {
     let entries = receiving_ring(pair.plan(), side, queue).entries();
@@ -78,13 +93,31 @@ fn zero_header(pair: &mut Pair, side: Side, queue: u32, n: u32)
     requires fit { WindowsFit pair.old.plan side }
     requires among { queue < (side_plan_of pair.old.plan side).queues }
     requires slot { n < entries_of (layout_to pair.old.plan side queue) }
-    requires promised { ArePromised (own_header pair.old.plan side queue n) (bytes_of_header pair.old.plan) (pages_of pair.old side) }
+    requires ready { IsHeaderReady pair.old.plan side queue n (bytes_of pair.old side) (pages_of pair.old side) }
     ensures { pair.new ≡ with_bytes pair.old side (written (own_header pair.old.plan side queue n) (replicate (bytes_of_header pair.old.plan) 0) (bytes_of pair.old side)) }
 {
+    if is_zero(pair, side, queue, n) {
+        return;
+    }
     let zeros = [0u8; 16];
     let at = header_at(pair.plan(), side, queue, n);
     let len = header_bytes(pair.plan()) as usize;
     pair.local_write(side, at, &zeros[..len]);
+}
+
+// Whether each byte of a header is zero.
+fn is_zero(pair: &Pair, side: Side, queue: u32, n: u32) -> bool
+    requires fit { WindowsFit pair.now.plan side }
+    requires among { queue < (side_plan_of pair.now.plan side).queues }
+    requires slot { n < entries_of (layout_to pair.now.plan side queue) }
+    ensures zero { IsTrue result ↔ IsZeroed pair.now.plan side queue n (bytes_of pair.now side) }
+    ensures within { own_header pair.now.plan side queue n + bytes_of_header pair.now.plan ≤ length (bytes_of pair.now side) }
+{
+    let mut header = [0u8; 16];
+    let at = header_at(pair.plan(), side, queue, n);
+    let len = header_bytes(pair.plan()) as usize;
+    pair.local_read(side, at, &mut header[..len]);
+    header == [0u8; 16]
 }
 
 // The address of a header of the ring that a side receives in on a queue.

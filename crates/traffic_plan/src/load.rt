@@ -43,8 +43,9 @@ fn payload(alloc: Global, word: u64) -> Result<Frame, AllocError>
 {
     let len = 1 + (word % 300) as u32;
     let mut bytes = Vec::new(alloc);
+    bytes.reserve(len as usize)?;
     for j in 0..len {
-        bytes.push(((word >> (8 * (j % 8))) % 256) as u8)?;
+        bytes.push_reserved(((word >> (8 * (j % 8))) % 256) as u8);
     }
     Ok(Frame::of_vec(bytes))
 }

@@ -6,7 +6,6 @@ ghost use Rattle.script_words.specs.Compact.{steps_of, lines_with};
 ghost use Rattle.step_kinds.specs.declared.names.Side.TheVariants.{A, B};
 ghost use Rattle.traffic_plan.specs.Load.{load_pair, landings_of};
 
-use script_plan::steps::push_steps;
 use script_words::{Macro, Repeated};
 use std::alloc::AllocError;
 use step_kinds::{Frame, Line, Side, Step};
@@ -58,13 +57,14 @@ pub fn receive(copies: u32) -> Macro
 pub fn push_landings(lines: &mut Vec<Line>, line: u32, word: u64) -> Result<(), AllocError>
     ensures { OnOk result (lines.new.items ≡ lines.old.items ++ lines_with line (landings_of word)) }
 {
+    lines.reserve(8)?;
     for i in 0..8u32 {
-        let land = Step::Land {
+        let step = Step::Land {
             pair: 0,
             side: Side::A,
             place: ((word >> (8 * i)) % 4) as u32,
         };
-        push_steps(lines, line, Macro::One { step: land })?;
+        lines.push_reserved(Line { line, step });
     }
     Ok(())
 }

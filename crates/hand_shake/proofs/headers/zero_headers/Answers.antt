@@ -1,20 +1,18 @@
-use Rattle.std.proofs.Common.{◌≡◌, ℕ, ◌-◌, List, ap, ◌∙◌, sym, subst, arith}
-use Rattle.step_kinds.specs.declared.plan.PairPlan.{PairPlan}
+use Rattle.std.proofs.Common.{◌-◌, ap, ◌∙◌, arith}
 use Rattle.bridge_pair.specs.Bridge.{Bridge, bytes_of, pages_of, with_bytes}
 use Rattle.bridge_pair.specs.Ends.{bytes_after}
-use Rattle.bridge_pair.proofs.Sides.{bytes_again, pages_of-with_bytes}
-use Rattle.hand_shake.specs.Headers.{AreHeadersOfPromised, ring_stores}
+use Rattle.bridge_pair.proofs.Sides.{bytes_again}
+use Rattle.hand_shake.specs.Headers.{AreHeadersOfReady, ring_stores}
 use Rattle.hand_shake.proofs.HeaderPages.{ring_before}
+use Rattle.hand_shake.proofs.ZeroHeaders.{ready_after_rings, stored_again}
 use Rattle.hand_shake.proofs.headers.zero_headers.Goals as goal
 
-pub zero_headers_of-requires-clause-promised : goal.zero_headers_of-requires-clause-promised
-zero_headers_of-requires-clause-promised c =
-    let same = ap (λ (bridge : Bridge). bridge.plan) c.loop-queue.invariant.so_far in
-    let pages : pages_of c.loop-queue.pair c.args.side ≡ pages_of c.args.pair.now c.args.side =
-    ap (λ (bridge : Bridge). pages_of bridge c.args.side) c.loop-queue.invariant.so_far ∙ pages_of-with_bytes c.args.pair.now c.args.side _ in
-    subst (λ (plan : PairPlan). AreHeadersOfPromised plan c.args.side (c.loop-queue.queue - 1) (pages_of c.loop-queue.pair c.args.side)) (sym same)
-    (subst (λ (pages : List ℕ). AreHeadersOfPromised c.args.pair.now.plan c.args.side (c.loop-queue.queue - 1) pages) (sym pages)
-    (c.requires.promised (c.loop-queue.queue - 1) (omega (arith, c.loop-queue.invariant.all, c.loop-queue.auto.queue, c.loop-queue-test.true))))
+pub zero_headers_of-requires-clause-ready : goal.zero_headers_of-requires-clause-ready
+zero_headers_of-requires-clause-ready c =
+    let queue = c.loop-queue.queue - 1 in
+    stored_again c.args.pair.now c.loop-queue.pair c.args.side _ (λ plan bytes pages. AreHeadersOfReady plan c.args.side queue bytes pages) c.loop-queue.invariant.so_far
+    (ready_after_rings c.args.pair.now.plan c.args.side queue _ (bytes_of c.args.pair.now c.args.side) (pages_of c.args.pair.now c.args.side)
+    (c.requires.ready queue (omega (arith, c.loop-queue.invariant.all, c.loop-queue.auto.queue, c.loop-queue-test.true))))
 
 pub loop-queue-preserved : goal.loop-queue-preserved
 loop-queue-preserved c =

@@ -10,11 +10,11 @@ loop-j-preserved c =
 
 pub of_vec-requires : goal.of_vec-requires
 of_vec-requires c =
-    let e = ap length c.loop-j.invariant ∙ length-map-range_with_len (λ j. c.args.word / 2 ^ (8 * (j % 8)) % 256) 0 c.loop-j.j in
+    let e = ap length c.loop-j.invariant.items ∙ length-map-range_with_len (λ j. c.args.word / 2 ^ (8 * (j % 8)) % 256) 0 c.loop-j.j in
     let few = few_bytes c.args.word in
     grind (arith, e, few)
 
 pub returns-clause-len : goal.returns-clause-len
 returns-clause-len c =
-    let e = ap length c.loop-j.invariant ∙ length-map-range_with_len (λ j. c.args.word / 2 ^ (8 * (j % 8)) % 256) 0 c.loop-j.j in
+    let e = ap length c.loop-j.invariant.items ∙ length-map-range_with_len (λ j. c.args.word / 2 ^ (8 * (j % 8)) % 256) 0 c.loop-j.j in
     ap length c.of_vec.ensures ∙ (e ∙ omega arith)
