@@ -1,3 +1,4 @@
+pub mod Blocked
 pub mod Counting
 pub mod Digits
 pub mod PermittedSteps

@@ -1,110 +1,132 @@
--- One more step of a plan: the fabric that made it, the answers, and the landings that were blocked.
-use Rattle.std.proofs.Common.{◌≡◌, ◌∙◌, ℕ, suc, ◌+◌, ◌<◌, Bool, true, false, List, [], ◌∷◌, ◌++◌, cond, count_by, map, length, get_or, take, refl, sym, ap, subst, arith}
-use Rattle.std.proofs.lemmas.List.{flat_map_more, length-map, map-append, take_more}
-use Rattle.std.specs.List.{flat_map}
+-- Steps made one after another: the fabric that made them, their answers, and what is kept of these.
+use Rattle.std.proofs.Common.{◌≡◌, ◌∙◌, ℕ, suc, ◌+◌, ◌<◌, List, [], ◌∷◌, ◌++◌, length, get_or, take, refl, sym, ap, subst, arith, append_assoc, append-nil}
+use Rattle.std.specs.List.{All, flat_map, fold}
+use Rattle.std.proofs.lemmas.List.{length-append, length-map, map-append, take_more}
+use Rattle.std.proofs.lemmas.List.Concat.{flat_map-append, get_or-flat_map}
+use Rattle.std.proofs.lemmas.List.Folds.{length-flat_map-take}
 use Rattle.std.proofs.lemmas.List.Sums.{fold-append}
 use Rattle.step_kinds.specs.declared.plan.Line.{Line}
 use Rattle.step_kinds.specs.declared.plan.LineAnswer.{LineAnswer}
 use Rattle.step_kinds.specs.declared.plan.Plan.{Plan}
 use Rattle.step_kinds.specs.declared.steps.Answer.{Answer}
 use Rattle.step_kinds.specs.declared.steps.Step.{Step}
-use Rattle.plan_model.specs.TrafficPlans.{IsWhole}
 use Rattle.ledger_model.specs.Log.{Answered, Memories, answered, log_from}
 use Rattle.ledger_model.specs.Next.{Ledger, ledger_after, start}
 use Rattle.memory_model.specs.Memory.{memory_of}
 use Rattle.fabric_core.specs.Fabric.{FabricState, StandsFor, bare_plan, plan_kept}
 use Rattle.fabric_core.specs.LogClauses.{HasMade, IsAnswered, log_after}
-use Rattle.report_text.specs.Report.{answer_line}
-use Rattle.ntb_top.specs.ReplaySteps.{HasReplayed}
-use Rattle.ntb_top.specs.Replays.{answers_text, is_blocked, line_answers}
+use Rattle.plan_model.specs.DeclaredPlans.{IsDeclared}
+use Rattle.script_plan.specs.StepLists.{all_lines, lines_in}
+use Rattle.script_plan.specs.declared.step_list.Stretch.{Stretch}
+use Rattle.ntb_top.specs.ReplaySteps.{HasKept, HasReplayed, steps_in}
+use Rattle.ntb_top.specs.Replays.{line_answers}
 
 abbrev pub step_in : Line → Step
 step_in line = line.step
 
--- an item of a slice is one of the list that the slice is of
-pub item_of : (i : ℕ) (line : Line) {xs ys : List Line} → line ≡ get_or xs i line → xs ≡ ys → line ≡ get_or ys i line
-item_of i line is same = is ∙ ap (λ (zs : List Line). get_or zs i line) same
+-- A log has an answer for each step
 
--- a fresh fabric has made nothing
-pub replayed_none : (plan : Plan) (fabric : FabricState) → IsWhole plan → StandsFor plan [] fabric → plan_kept fabric ≡ bare_plan plan → HasReplayed plan [] fabric
-replayed_none plan fabric whole stands kept = record { made = record { declared = whole.declared; permitted = tt; stands = stands }; kept = kept }
-
--- the steps of one line more
-steps_more : (xs : List Line) (i : ℕ) (line : Line) → i < length xs → line ≡ get_or xs i line → map step_in (take i xs) ++ line.step ∷ [] ≡ map step_in (take (i + 1) xs)
-steps_more xs i line lt is =
-    ap (λ (own : Line). map step_in (take i xs) ++ own.step ∷ []) is ∙ sym (map-append step_in (take i xs) (get_or xs i line ∷ [])) ∙ ap (map step_in) (sym (take_more xs i line lt))
-
-pub replayed_more : (plan : Plan) (xs : List Line) (i : ℕ) (line : Line) (old new : FabricState) → i < length xs → line ≡ get_or xs i line →
-    HasReplayed plan (take i xs) old → HasMade plan (map step_in (take i xs) ++ line.step ∷ []) new → plan_kept new ≡ plan_kept old →
-    HasReplayed plan (take (i + 1) xs) new
-replayed_more plan xs i line old new lt is replayed made kept =
-    record {
-      made = subst (λ (steps : List Step). HasMade plan steps new) (steps_more xs i line lt is) made;
-      kept = kept ∙ replayed.kept;
-    }
-
--- a log has an answer for each step
 length-log_from : (plan : Plan) (memories : Memories) (before : List Answered) (ledger : Ledger) (steps : List Step) → length (log_from plan memories before ledger steps) ≡ length steps
 length-log_from plan memories before ledger [] = refl
 length-log_from plan memories before ledger (step ∷ steps) =
     ap suc
     (length-log_from plan memories (before ++ answered plan (memories before) ledger step ∷ []) (ledger_after plan (memories before) ledger step) steps)
 
-length-log_after : (plan : Plan) (lines : List Line) → length (log_after plan (map step_in lines)) ≡ length lines
-length-log_after plan lines = length-log_from plan (memory_of plan) [] (start plan) (map step_in lines) ∙ length-map lines step_in
+length-log_after : (plan : Plan) (lines : List Line) → length (log_after plan (steps_in lines)) ≡ length lines
+length-log_after plan lines = length-log_from plan (memory_of plan) [] (start plan) (steps_in lines) ∙ length-map lines step_in
 
-line_answers-more : (lines : List Line) (log : List Answered) (line : Line) (made : Answered) → length log ≡ length lines →
-    line_answers (lines ++ line ∷ []) (log ++ made ∷ []) ≡ line_answers lines log ++ record { line = line.line; answer = made.answer } ∷ []
-line_answers-more [] [] line made same = refl
-line_answers-more [] (first ∷ log) line made same = absurd (omega arith)
-line_answers-more (first ∷ lines) [] line made same = absurd (omega arith)
-line_answers-more (first ∷ lines) (head ∷ log) line made same =
-    ap (λ (rest : List LineAnswer). record { line = first.line; answer = head.answer } ∷ rest) (line_answers-more lines log line made (omega arith))
+-- so lines behind others have as many answers as they are
+pub length-answers : (plan : Plan) (before lines : List Line) (answers : List Answered) →
+    log_after plan (steps_in (before ++ lines)) ≡ log_after plan (steps_in before) ++ answers → length answers ≡ length lines
+length-answers plan before lines answers log =
+    let all = length-log_after plan (before ++ lines) in
+    let first = length-log_after plan before in
+    let both : length (log_after plan (steps_in (before ++ lines))) ≡ length (log_after plan (steps_in before)) + length answers =
+    ap length log ∙ length-append (log_after plan (steps_in before)) answers in
+    let stretches = length-append before lines in
+    omega arith
 
--- the log of one line more
-log_more : (plan : Plan) (xs : List Line) (i : ℕ) (line : Line) (answer : Answer) → i < length xs → line ≡ get_or xs i line →
-    IsAnswered plan (map step_in (take i xs)) line.step answer →
-    log_after plan (map step_in (take (i + 1) xs)) ≡ log_after plan (map step_in (take i xs)) ++ record { step = line.step; answer = answer } ∷ []
-log_more plan xs i line answer lt is answered = ap (log_after plan) (sym (steps_more xs i line lt is)) ∙ answered
+line_answers-append : (xs ys : List Line) (one two : List Answered) → length one ≡ length xs → line_answers (xs ++ ys) (one ++ two) ≡ line_answers xs one ++ line_answers ys two
+line_answers-append [] ys [] two same = refl
+line_answers-append [] ys (made ∷ one) two same = absurd (omega arith)
+line_answers-append (x ∷ xs) ys [] two same = absurd (omega arith)
+line_answers-append (x ∷ xs) ys (made ∷ one) two same =
+    ap (λ (rest : List LineAnswer). record { line = x.line; answer = made.answer } ∷ rest) (line_answers-append xs ys one two (omega arith))
 
--- the answers so far with one more
-answers_more : (plan : Plan) (xs : List Line) (i : ℕ) (line : Line) (answer : Answer) → i < length xs → line ≡ get_or xs i line →
-    IsAnswered plan (map step_in (take i xs)) line.step answer →
-    line_answers (take (i + 1) xs) (log_after plan (map step_in (take (i + 1) xs)))
-    ≡ line_answers (take i xs) (log_after plan (map step_in (take i xs))) ++ record { line = line.line; answer = answer } ∷ []
-answers_more plan xs i line answer lt is answered =
-    let lines : take i xs ++ line ∷ [] ≡ take (i + 1) xs = ap (λ (own : Line). take i xs ++ own ∷ []) is ∙ sym (take_more xs i line lt) in
-    ap (line_answers (take (i + 1) xs)) (log_more plan xs i line answer lt is answered)
-    ∙ sym (ap (λ (own : List Line). line_answers own (log_after plan (map step_in (take i xs)) ++ record { step = line.step; answer = answer } ∷ [])) lines)
-    ∙ line_answers-more (take i xs) (log_after plan (map step_in (take i xs))) line (record { step = line.step; answer = answer }) (length-log_after plan (take i xs))
+-- What is kept, of no lines, of one, and of lines behind lines
 
--- the lines of the answers so far, behind some text, with one more
-pub lines_more : (plan : Plan) (xs : List Line) (i : ℕ) (line : Line) (answer : Answer) (before text more : List ℕ) → i < length xs → line ≡ get_or xs i line →
-    text ≡ before ++ answers_text (take i xs) (log_after plan (map step_in (take i xs))) → more ≡ text ++ answer_line (record { line = line.line; answer = answer }) →
-    IsAnswered plan (map step_in (take i xs)) line.step answer →
-    more ≡ before ++ answers_text (take (i + 1) xs) (log_after plan (map step_in (take (i + 1) xs)))
-lines_more plan xs i line answer before text more lt is so_far added answered =
-    let answers : List LineAnswer = line_answers (take i xs) (log_after plan (map step_in (take i xs))) in
-    let last : LineAnswer = record { line = line.line; answer = answer } in
-    added
-    ∙ ap (λ (own : List ℕ). own ++ answer_line last) so_far
-    ∙ flat_map_more answer_line before answers last
-    ∙ ap (λ (own : List LineAnswer). before ++ flat_map answer_line own) (sym (answers_more plan xs i line answer lt is answered))
+module _ {K : Type 0} (with_answer : K → LineAnswer → K) (plan : Plan) (before : List Line) where
+  pub kept_none : (fabric : FabricState) (old : K) → HasReplayed plan before fabric → HasKept with_answer plan before [] fabric old old
+  kept_none fabric old replayed = record {
+    replayed = subst (λ (lines : List Line). HasReplayed plan lines fabric) (sym (append-nil before)) replayed;
+    answers = [];
+    log = ap (λ (lines : List Line). log_after plan (steps_in lines)) (append-nil before) ∙ sym (append-nil (log_after plan (steps_in before)));
+    kept = refl;
+  }
 
--- how many were blocked, with one more
-abbrev pub blocked_in : List Answered → ℕ
-blocked_in log = count_by (λ made. is_blocked made.answer) log
+  pub kept_one : (line : ℕ) (step : Step) (answer : Answer) (was fabric : FabricState) (old new : K) → HasReplayed plan before was →
+      HasMade plan (steps_in before ++ step ∷ []) fabric → plan_kept fabric ≡ plan_kept was → IsAnswered plan (steps_in before) step answer →
+      new ≡ with_answer old (record { line = line; answer = answer }) → HasKept with_answer plan before (record { line = line; step = step } ∷ []) fabric old new
+  kept_one line step answer was fabric old new replayed made same answered kept =
+      let last : Line = record { line = line; step = step } in
+      let more : steps_in (before ++ last ∷ []) ≡ steps_in before ++ step ∷ [] = map-append step_in before (last ∷ []) in
+      record {
+        replayed = record {
+          made = subst (λ (steps : List Step). HasMade plan steps fabric) (sym more) made;
+          kept = same ∙ replayed.kept;
+        };
+        answers = record { step = step; answer = answer } ∷ [];
+        log = ap (log_after plan) more ∙ answered;
+        kept = kept;
+      }
 
-one_more : (b : Bool) (n : ℕ) → n + cond b 1 0 ≡ cond b (n + 1) n
-one_more true n = refl
-one_more false n = omega arith
+  pub kept_both : (xs ys : List Line) (one two : FabricState) (old mid new : K) → HasKept with_answer plan before xs one old mid →
+      HasKept with_answer plan (before ++ xs) ys two mid new → HasKept with_answer plan before (xs ++ ys) two old new
+  kept_both xs ys one two old mid new first second =
+      let log : List Line → List Answered = λ lines. log_after plan (steps_in lines) in
+      let own : List LineAnswer → K → K = λ answers kept. fold with_answer kept answers in
+      let same = length-answers plan before xs first.answers first.log in
+      record {
+        replayed = subst (λ (lines : List Line). HasReplayed plan lines two) (append_assoc before xs ys) second.replayed;
+        answers = first.answers ++ second.answers;
+        log =
+            ap log (sym (append_assoc before xs ys)) ∙ second.log ∙ ap (λ (answers : List Answered). answers ++ second.answers) first.log
+            ∙ append_assoc (log before) first.answers second.answers;
+        kept =
+            second.kept ∙ ap (own (line_answers ys second.answers)) first.kept
+            ∙ sym (fold-append with_answer old (line_answers xs first.answers) (line_answers ys second.answers))
+            ∙ ap (λ (answers : List LineAnswer). fold with_answer old answers) (sym (line_answers-append xs ys first.answers second.answers same));
+      }
 
-count_last : (log : List Answered) (made : Answered) → blocked_in (log ++ made ∷ []) ≡ cond (is_blocked made.answer) (blocked_in log + 1) (blocked_in log)
-count_last log made =
-    fold-append (λ (a : ℕ) (x : Answered). a + cond (is_blocked x.answer) 1 0) 0 log (made ∷ []) ∙ one_more (is_blocked made.answer) (blocked_in log)
+-- A fresh fabric has made nothing, of any plan with its pairs and devices
 
-pub blocked_more : (plan : Plan) (xs : List Line) (i : ℕ) (line : Line) (answer : Answer) → i < length xs → line ≡ get_or xs i line →
-    IsAnswered plan (map step_in (take i xs)) line.step answer →
-    blocked_in (log_after plan (map step_in (take (i + 1) xs))) ≡ cond (is_blocked answer) (blocked_in (log_after plan (map step_in (take i xs))) + 1) (blocked_in (log_after plan (map step_in (take i xs))))
-blocked_more plan xs i line answer lt is answered =
-    ap blocked_in (log_more plan xs i line answer lt is answered) ∙ count_last (log_after plan (map step_in (take i xs))) (record { step = line.step; answer = answer })
+bare_stands : (plan : Plan) (fabric : FabricState) → StandsFor plan [] fabric → StandsFor (bare_plan plan) [] fabric
+bare_stands plan fabric stands = record { devs = stands.devs; all_pairs = stands.all_pairs; pairs = stands.pairs }
+
+stands_by_bare : (plan : Plan) (fabric : FabricState) → StandsFor (bare_plan plan) [] fabric → StandsFor plan [] fabric
+stands_by_bare plan fabric stands = record { devs = stands.devs; all_pairs = stands.all_pairs; pairs = stands.pairs }
+
+pub replayed_none : (plan declared : Plan) (fabric : FabricState) → IsDeclared plan → bare_plan declared ≡ bare_plan plan → StandsFor declared [] fabric →
+    plan_kept fabric ≡ bare_plan declared → HasReplayed plan [] fabric
+replayed_none plan declared fabric is same stands kept =
+    let bare : StandsFor (bare_plan plan) [] fabric = subst (λ (bare : Plan). StandsFor bare [] fabric) same (bare_stands declared fabric stands) in
+    record {
+      made = record { declared = is; permitted = tt; stands = stands_by_bare plan fabric bare };
+      kept = kept ∙ same;
+    }
+
+-- the steps of one stretch more
+pub stretches_more : (stretches : List Stretch) (i : ℕ) (stretch : Stretch) → i < length stretches → stretch ≡ get_or stretches i stretch →
+    all_lines (take (i + 1) stretches) ≡ all_lines (take i stretches) ++ lines_in stretch
+stretches_more stretches i stretch lt is =
+    ap all_lines (take_more stretches i stretch lt) ∙ flat_map-append lines_in (take i stretches) (get_or stretches i stretch ∷ [])
+    ∙ ap (λ (last : Stretch). all_lines (take i stretches) ++ (lines_in last ++ [])) (sym is)
+    ∙ ap (λ (last : List Line). all_lines (take i stretches) ++ last) (append-nil (lines_in stretch))
+
+-- what holds of all items of lists one after another holds of those of one list
+pub all_of_one : {X Y : Type 0} (P : Y → Type 0) (f : X → List Y) (xs : List X) (i : ℕ) (x : X) → i < length xs → x ≡ get_or xs i x → All P (flat_map f xs) → All P (f x)
+all_of_one P f xs i x lt is all = λ j d inside.
+    let within : j < length (f (get_or xs i x)) = subst (λ y. j < length (f y)) is inside in
+    let few = length-flat_map-take f xs i x lt in
+    let own : P (get_or (flat_map f xs) (length (flat_map f (take i xs)) + j) d) = all (length (flat_map f (take i xs)) + j) d (omega arith) in
+    subst (λ y. P (get_or (f y) j d)) (sym is) (subst P (get_or-flat_map f xs i j x d lt within) own)

@@ -1,6 +1,6 @@
 -- The report of a plan, made of what its functions give.
-use Rattle.std.proofs.Common.{◌≡◌, ◌∙◌, ℕ, ◌<◌, List, ◌++◌, Result, Ok, Err, IfOk, length, sym, ap, subst, arith, Global, Vec}
-use Rattle.std.specs.List.{All}
+use Rattle.std.proofs.Common.{◌≡◌, ◌∙◌, ℕ, ◌<◌, List, [], ◌∷◌, ◌++◌, append-nil, append_assoc, Result, Ok, Err, IfOk, length, sym, ap, subst, arith, Global, Vec}
+use Rattle.std.specs.List.{All, flat_map, fold}
 use Rattle.std.proofs.lemmas.List.{length-map}
 use Rattle.step_kinds.specs.declared.plan.Counters.{Counters}
 use Rattle.step_kinds.specs.declared.plan.Plan.{Plan}
@@ -11,12 +11,13 @@ use Rattle.traffic_plan.specs.Load.{load_of}
 use Rattle.fabric_core.specs.Fabric.{bare_plan}
 use Rattle.ledger_model.specs.Log.{Answered, accepted, counters_in, delivered}
 use Rattle.fabric_core.specs.LogClauses.{lane_of_device}
-use Rattle.report_text.specs.Report.{device_lines, end_line, ending}
+use Rattle.step_kinds.specs.declared.plan.LineAnswer.{LineAnswer}
+use Rattle.report_text.specs.Report.{answer_line, device_lines, end_line, ending}
 use Rattle.report_text.specs.declared.whole.LaneCount.{LaneCount}
 use Rattle.ntb_top.specs.ReplaySteps.{filled}
 use Rattle.ntb_top.specs.Replays.{answers_text, device_counts, lane_counts, load_lane, load_text, log_of_plan, replay_text, summary_text}
 use Rattle.ntb_top.proofs.Counting.{all_known, lines_of_filled}
-use Rattle.ntb_top.proofs.Replaying.{blocked_in}
+use Rattle.ntb_top.proofs.Blocked.{blocked_in}
 
 report_same : (plan : Plan) (lanes : List LaneCount) (devs : List Counters) → lanes ≡ filled (lane_counts plan (log_of_plan plan)) → devs ≡ device_counts plan (log_of_plan plan) →
     ending plan lanes devs ≡ ending plan (lane_counts plan (log_of_plan plan)) (device_counts plan (log_of_plan plan))
@@ -34,6 +35,11 @@ replay_text_is plan lanes devs answers text same_answers same_lanes same_devs h 
     h
     ∙ ap (λ (lines : List ℕ). lines ++ ending plan lanes devs) same_answers
     ∙ ap (λ (lines : List ℕ). answers_text plan.steps (log_of_plan plan) ++ lines) (report_same plan lanes devs same_lanes same_devs)
+
+-- the text of the answers, kept one after another, is that of all
+pub answers_kept : (answers : List LineAnswer) (text : List ℕ) → fold (λ text made. text ++ answer_line made) text answers ≡ text ++ flat_map answer_line answers
+answers_kept [] text = sym (append-nil text)
+answers_kept (made ∷ answers) text = answers_kept answers (text ++ answer_line made) ∙ append_assoc text (answer_line made) (flat_map answer_line answers)
 
 -- what the report asks of the counts
 

@@ -6,5 +6,6 @@ mod command;
 mod load;
 mod program;
 mod replay;
+mod steps;
 
 pub use program::run_program;

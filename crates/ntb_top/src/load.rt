@@ -1,15 +1,17 @@
 //! The summary of a generated load.
 
 ghost use Rattle.std.specs.Prelude.{◌≡◌, ◌≤◌, [], IfOk, count_by};
-ghost use Rattle.plan_model.specs.TrafficPlans.{IsWhole};
-ghost use Rattle.traffic_plan.specs.Load.{most_load_frames};
-ghost use Rattle.ntb_top.specs.ReplaySteps.{HasReplayed};
+ghost use Rattle.traffic_plan.specs.Load.{load_of, most_load_frames};
+ghost use Rattle.ntb_top.specs.ReplaySteps.{HasReplayed, with_blocked};
 ghost use Rattle.ntb_top.specs.Replays.{is_blocked as is_blocked_answer, load_text as text_of_load, log_of_plan, summary_text};
 
+use crate::steps::{KeepsAnswers, make_steps};
 use fabric_core::Fabric;
+use script_plan::StepList;
 use std::alloc::{AllocError, Global};
-use step_kinds::{Answer, LaneName, Plan, Side};
-use traffic_plan::generate;
+use std::marker::Model;
+use step_kinds::{Answer, LaneName, LineAnswer, Side};
+use traffic_plan::{LoadFrames, load_without_steps};
 
 /// The one lane of a load.
 const LANE: LaneName = LaneName {
@@ -21,6 +23,31 @@ const LANE: LaneName = LaneName {
 /// The session in which its pair starts, and stays.
 const SESSION: u32 = 1;
 
+/// How many answers so far are `blocked`, counted up to 2^64 - 1. Contracts see the number.
+#[derive(Drop)]
+struct BlockedCount {
+    count: u64,
+}
+
+impl Model for BlockedCount {
+    ghost use Rattle.std.specs.Prelude.{ℕ};
+
+    ghost Value = { ℕ };
+
+    ghost view = { λ blocked. blocked.count };
+}
+
+impl KeepsAnswers for BlockedCount {
+    ghost with_answer = { with_blocked };
+
+    fn keep(&mut self, made: &LineAnswer) -> Result<(), AllocError> {
+        if is_blocked(&made.answer) {
+            self.count = self.count.saturating_add(1);
+        }
+        Ok(())
+    }
+}
+
 /// The summary of a generated load of 1 to 30,000 frames: how many were accepted and delivered, and how many landings were
 /// refused by the order rules. The only error is want of memory.
 pub fn load_text(alloc: Global, seed: u64, frames: u32) -> Result<Vec<u8>, AllocError>
@@ -28,9 +55,9 @@ pub fn load_text(alloc: Global, seed: u64, frames: u32) -> Result<Vec<u8>, Alloc
     requires few { frames ≤ most_load_frames }
     ensures { IfOk result (λ text. text.items ≡ text_of_load seed frames) }
 {
-    let plan = generate(alloc, seed, frames)?;
+    let plan = load_without_steps(alloc)?;
     let mut fabric = Fabric::new(alloc, &plan)?;
-    let blocked = count_blocked(&plan, &mut fabric)?;
+    let blocked = count_blocked(alloc, seed, frames, &mut fabric)?;
     let (accepted, delivered) = fabric.ledger(LANE, SESSION);
     summary(alloc, seed, frames, accepted, delivered, blocked)
 }
@@ -52,20 +79,27 @@ fn summary(
     Ok(text.into_bytes())
 }
 
-// Makes the steps of a plan on its fresh fabric, and counts those that are answered `blocked`.
-fn count_blocked(plan: &Plan, fabric: &mut Fabric) -> Result<u64, AllocError>
-    requires whole { IsWhole plan.now }
-    requires fresh { HasReplayed plan.now [] fabric.old }
-    ensures made { IfOk result (λ _. HasReplayed plan.now plan.now.steps fabric.new) }
-    ensures blocked { IfOk result (λ blocked. blocked ≡ count_by (λ made. is_blocked_answer made.answer) (log_of_plan plan.now)) }
+// Makes the steps of a load on its fresh fabric, frame by frame, and counts those that are answered `blocked`.
+fn count_blocked(
+    alloc: Global,
+    seed: u64,
+    frames: u32,
+    fabric: &mut Fabric,
+) -> Result<u64, AllocError>
+    requires few { frames ≤ most_load_frames }
+    requires fresh { HasReplayed (load_of seed frames) [] fabric.old }
+    ensures made { IfOk result (λ _. HasReplayed (load_of seed frames) (load_of seed frames).steps fabric.new) }
+    ensures blocked { IfOk result (λ blocked. blocked ≡ count_by (λ made. is_blocked_answer made.answer) (log_of_plan (load_of seed frames))) }
 {
-    let mut blocked = 0u64;
-    for line in plan.steps.as_slice() {
-        if is_blocked(&fabric.step(&line.step)?) {
-            blocked += 1;
-        }
+    let mut load = LoadFrames::new(seed);
+    let mut steps = StepList::new(alloc);
+    let mut blocked = BlockedCount { count: 0 };
+    for _ in 0..frames {
+        steps.clear();
+        load.push_next(alloc, &mut steps)?;
+        make_steps(&steps, fabric, &mut blocked)?;
     }
-    Ok(blocked)
+    Ok(blocked.count)
 }
 
 // Whether an answer is `blocked`.

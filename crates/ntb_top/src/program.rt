@@ -14,7 +14,7 @@ use crate::command::{Command, command_of};
 use crate::load::load_text;
 use crate::replay::replay_text;
 use io_edges::{ReadError, Sink, Source, read_all, write_all};
-use script_text::{ParseError, ScriptFault, parse};
+use script_text::{ParseError, ScriptFault, read_script};
 use std::alloc::{AllocError, Global};
 use step_kinds::limits::MOST_SCRIPT_BYTES;
 
@@ -119,10 +119,10 @@ fn reply_to_script(alloc: Global, bytes: &[u8]) -> Result<Reply, Stop>
     requires { length bytes.now ≤ most_script_bytes }
     ensures { TellsOrWants (replayed (script_of bytes.now)) result }
 {
-    match parse(alloc, bytes) {
-        Ok(plan) => Ok(Reply {
+    match read_script(alloc, bytes) {
+        Ok(script) => Ok(Reply {
             status: 0,
-            text: replay_text(alloc, &plan)?,
+            text: replay_text(alloc, &script)?,
         }),
         Err(ParseError::Fault(fault)) => refusal(alloc, fault),
         Err(ParseError::OutOfMemory) => Err(Stop::OutOfMemory),

@@ -1,12 +1,13 @@
-//! The report of a plan.
+//! The report of a script.
 
-ghost use Rattle.std.specs.Prelude.{◌≡◌, ◌≤◌, ◌<◌, ◌∷◌, ◌++◌, [], IfOk, OnOk, length};
+ghost use Rattle.std.specs.Prelude.{◌≡◌, ◌∷◌, ◌++◌, [], IfOk, OnOk};
 ghost use Rattle.std.specs.List.{flat_map};
 ghost use Rattle.plan_model.specs.TrafficPlans.{IsWhole};
+ghost use Rattle.script_plan.specs.Scripts.{plan_in};
 ghost use Rattle.fabric_core.specs.Fabric.{plan_kept};
+ghost use Rattle.report_text.specs.Report.{answer_line};
 ghost use Rattle.ntb_top.specs.ReplaySteps.{AddsCounts, HasQueues, HasReplayed, IsLaneOf, filled, lanes_from};
 ghost use Rattle.ntb_top.specs.Replays.{
-  answers_text,
   device_counts as counts_of_devices,
   lane_count,
   lane_counts as counts_of_lanes,
@@ -15,52 +16,66 @@ ghost use Rattle.ntb_top.specs.Replays.{
   sessions_of_lane,
 };
 
+use crate::steps::{KeepsAnswers, make_steps};
 use fabric_core::Fabric;
 use report_text::{LaneCount, push_answer_line, push_ending};
+use script_plan::Script;
 use std::alloc::{AllocError, Global};
-use step_kinds::{Counters, LaneName, LineAnswer, Plan, Side};
+use std::marker::Model;
+use step_kinds::{Counters, LaneName, LineAnswer, Side};
 
-/// The report of a plan: the answers to its steps, what its lanes accepted and delivered in each session, and what its
+/// The lines of the answers so far. Contracts see their bytes.
+#[derive(Drop)]
+struct AnswerLines {
+    text: Vec<u8>,
+}
+
+impl Model for AnswerLines {
+    ghost use Rattle.std.specs.Prelude.{ℕ, List};
+
+    ghost Value = { List ℕ };
+
+    ghost view = { λ lines. lines.text.items };
+}
+
+impl KeepsAnswers for AnswerLines {
+    ghost with_answer = { λ text made. text ++ answer_line made };
+
+    fn keep(&mut self, made: &LineAnswer) -> Result<(), AllocError> {
+        push_answer_line(&mut self.text, made)
+    }
+}
+
+/// The report of a script: the answers to its steps, what its lanes accepted and delivered in each session, and what its
 /// devices counted. The only error is want of memory.
-pub fn replay_text(alloc: Global, plan: &Plan) -> Result<Vec<u8>, AllocError>
-    requires { IsWhole plan.now }
-    ensures { IfOk result (λ text. text.items ≡ text_of_plan plan.now) }
+pub fn replay_text(alloc: Global, script: &Script) -> Result<Vec<u8>, AllocError>
+    requires { IsWhole (plan_in script.now) }
+    ensures { IfOk result (λ text. text.items ≡ text_of_plan (plan_in script.now)) }
 {
-    let mut fabric = Fabric::new(alloc, plan)?;
-    let mut text = Vec::new(alloc);
-    push_answers(plan, &mut fabric, &mut text)?;
-    let lanes = lane_counts(alloc, plan, &fabric)?;
-    let devs = device_counts(alloc, plan, &fabric)?;
-    push_ending(&mut text, plan, &lanes, &devs)?;
+    let mut fabric = Fabric::new(alloc, &script.declared)?;
+    let mut lines = AnswerLines {
+        text: Vec::new(alloc),
+    };
+    make_steps(&script.steps, &mut fabric, &mut lines)?;
+    let lanes = lane_counts(alloc, script, &fabric)?;
+    let devs = device_counts(alloc, script, &fabric)?;
+    let mut text = lines.text;
+    push_ending(&mut text, &script.declared, &lanes, &devs)?;
     Ok(text)
 }
 
-// Makes the steps of a plan on its fresh fabric, and adds the line of each answer as it comes.
-fn push_answers(plan: &Plan, fabric: &mut Fabric, text: &mut Vec<u8>) -> Result<(), AllocError>
-    requires whole { IsWhole plan.now }
-    requires fresh { HasReplayed plan.now [] fabric.old }
-    ensures made { OnOk result (HasReplayed plan.now plan.now.steps fabric.new) }
-    ensures answers { OnOk result (text.new.items ≡ text.old.items ++ answers_text plan.now.steps (log_of_plan plan.now)) }
-{
-    for line in plan.steps.as_slice() {
-        let answer = fabric.step(&line.step)?;
-        let made = LineAnswer {
-            line: line.line,
-            answer,
-        };
-        push_answer_line(text, &made)?;
-    }
-    Ok(())
-}
-
 // What the lanes of all pairs accepted and delivered, in each session where either isn't 0.
-fn lane_counts(alloc: Global, plan: &Plan, fabric: &Fabric) -> Result<Vec<LaneCount>, AllocError>
-    requires whole { IsWhole plan.now }
-    requires made { HasReplayed plan.now plan.now.steps fabric.now }
-    ensures { IfOk result (λ counts. counts.items ≡ filled (counts_of_lanes plan.now (log_of_plan plan.now))) }
+fn lane_counts(
+    alloc: Global,
+    script: &Script,
+    fabric: &Fabric,
+) -> Result<Vec<LaneCount>, AllocError>
+    requires whole { IsWhole (plan_in script.now) }
+    requires made { HasReplayed (plan_in script.now) script.now.steps fabric.now }
+    ensures { IfOk result (λ counts. counts.items ≡ filled (counts_of_lanes (plan_in script.now) (log_of_plan (plan_in script.now)))) }
 {
     let mut counts = Vec::new(alloc);
-    for (pair, sides) in plan.pairs.as_slice().iter().enumerate() {
+    for (pair, sides) in script.declared.pairs.as_slice().iter().enumerate() {
         let queues = sides.a.queues.min(sides.b.queues);
         push_lanes(&mut counts, fabric, pair as u32, Side::A, queues)?;
         push_lanes(&mut counts, fabric, pair as u32, Side::B, queues)?;
@@ -122,14 +137,18 @@ fn push_session(
     Ok(())
 }
 
-// What the devices of a plan counted.
-fn device_counts(alloc: Global, plan: &Plan, fabric: &Fabric) -> Result<Vec<Counters>, AllocError>
-    requires whole { IsWhole plan.now }
-    requires made { HasReplayed plan.now plan.now.steps fabric.now }
-    ensures { IfOk result (λ counts. counts.items ≡ counts_of_devices plan.now (log_of_plan plan.now)) }
+// What the devices of a script counted.
+fn device_counts(
+    alloc: Global,
+    script: &Script,
+    fabric: &Fabric,
+) -> Result<Vec<Counters>, AllocError>
+    requires whole { IsWhole (plan_in script.now) }
+    requires made { HasReplayed (plan_in script.now) script.now.steps fabric.now }
+    ensures { IfOk result (λ counts. counts.items ≡ counts_of_devices (plan_in script.now) (log_of_plan (plan_in script.now))) }
 {
     let mut counts = Vec::new(alloc);
-    for dev in 0..plan.devs.len() {
+    for dev in 0..script.declared.devs.len() {
         counts.push(fabric.counters(dev as u32))?;
     }
     Ok(counts)

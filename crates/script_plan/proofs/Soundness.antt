@@ -16,7 +16,7 @@ use Rattle.plan_model.specs.Plans.{side_plan, pair_plan, no_pair}
 use Rattle.script_words.specs.Before.{Before, with_class}
 use Rattle.script_words.specs.Compact.{lines_with}
 use Rattle.script_words.specs.declared.parts.QueueName.{QueueName}
-use Rattle.script_plan.specs.Sound.{IsSound}
+use Rattle.script_plan.specs.Sound.{IsSound, IsKept}
 use Rattle.script_plan.proofs.Classes.{length-set_pairs}
 
 -- A device stays one where the queues do.
@@ -130,18 +130,21 @@ class_added before more classed pair side queue class sound lt small e =
     } in
     subst (λ pairs. IsSound (record before { plan = record before.plan { pairs = pairs }; classed = classed })) (sym e) all
 
--- more steps
-pub steps_added : (before : Before) (more : List Line) (line : ℕ) (steps : List Step) → IsSound before → length before.plan.steps + length steps ≤ most_steps
-    → more ≡ before.plan.steps ++ lines_with line steps → IsSound (record before { plan = record before.plan { steps = more } })
-steps_added before more line steps sound few e =
+-- more steps, counted
+pub steps_added : (before : Before) (more : List Line) (line count : ℕ) (steps : List Step) (n : ℕ) → IsKept count before → n ≡ length steps
+    → length before.plan.steps + length steps ≤ most_steps → more ≡ before.plan.steps ++ lines_with line steps → IsKept (count + n) (record before { plan = record before.plan { steps = more } })
+steps_added before more line count steps n kept own few e =
     let plan : Plan = record before.plan { steps = more } in
+    let sound = kept.sound in
+    let long : length more ≡ length before.plan.steps + length (lines_with line steps) = ap length e ∙ length-append before.plan.steps (lines_with line steps) in
+    let same : length (lines_with line steps) ≡ length steps = length-map steps (λ step. record { line = line; step = step }) in
     record {
-      pairs = sound.pairs;
-      few_pairs = sound.few_pairs;
-      devices = All-weaker (IsDevice before.plan) (IsDevice plan)
-          (device_stays before.plan plan (λ k side queue h. record { declared = h.declared; among = h.among })) before.plan.devs sound.devices;
-      few_steps =
-          let long : length more ≡ length before.plan.steps + length (lines_with line steps) = ap length e ∙ length-append before.plan.steps (lines_with line steps) in
-          let same : length (lines_with line steps) ≡ length steps = length-map steps (λ step. record { line = line; step = step }) in
-          omega arith;
+      sound = record {
+        pairs = sound.pairs;
+        few_pairs = sound.few_pairs;
+        devices = All-weaker (IsDevice before.plan) (IsDevice plan)
+            (device_stays before.plan plan (λ k side queue h. record { declared = h.declared; among = h.among })) before.plan.devs sound.devices;
+        few_steps = omega arith;
+      };
+      counted = let counted = kept.counted in omega arith;
     }

@@ -1,4 +1,6 @@
 pub mod Counts
 pub mod LinesSoFar
 pub mod NamesMatch
+pub mod Scripts
 pub mod Sound
+pub mod StepLists

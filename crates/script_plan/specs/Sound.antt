@@ -1,5 +1,5 @@
 -- What holds of the lines so far, and what a line gives beside them.
-use Rattle.std.specs.Prelude.{◌≡◌, ◌+◌, ◌*◌, ◌<◌, ◌≤◌, false, length, map, sum, count_by}
+use Rattle.std.specs.Prelude.{◌≡◌, ℕ, ◌+◌, ◌*◌, ◌<◌, ◌≤◌, false, length, map, sum, count_by}
 use Rattle.std.specs.List.{All}
 use Rattle.step_kinds.specs.Limits.{most_hosts, most_pairs, most_devices, most_steps, most_traffic_frames, most_traffic_bytes, most_breaks, IsClass}
 use Rattle.plan_model.specs.DeclaredPlans.{IsPair, IsDevice, IsQueueOf}
@@ -14,6 +14,11 @@ pub record IsSound (before : Before) : Type 0 where
   pub few_pairs : length before.plan.pairs ≤ most_pairs
   pub devices : All (IsDevice before.plan) before.plan.devs
   pub few_steps : length before.plan.steps ≤ most_steps
+
+-- the lines so far are sound, and their steps are counted
+pub record IsKept (step_count : ℕ) (before : Before) : Type 0 where
+  pub sound : IsSound before
+  pub counted : step_count ≡ length before.plan.steps
 
 -- what a line gives is new where it has a name, is as a script can declare it, and passes no limit
 abbrev pub Suits : Before → Given → Type 0

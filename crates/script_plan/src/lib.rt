@@ -8,7 +8,8 @@ mod names;
 mod pairs;
 mod reader;
 pub mod rings;
-pub mod steps;
+mod script;
+mod step_list;
 mod traffic;
 
 pub use by_name::{Declared, Named};
@@ -16,6 +17,8 @@ pub use devices::Devices;
 pub use names::Names;
 pub use pairs::Pairs;
 pub use reader::Reader;
+pub use script::Script;
+pub use step_list::{StepList, Stretch};
 pub use traffic::TrafficList;
 
 #[cfg(test)]

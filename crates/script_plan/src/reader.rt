@@ -1,19 +1,20 @@
 //! What the lines so far give.
 
-ghost use Rattle.std.specs.Prelude.{◌≡◌, ◌+◌, ◌<◌, ◌≤◌, ◌∷◌, [], false, length, OnOk};
+ghost use Rattle.std.specs.Prelude.{◌≡◌, ◌+◌, ◌<◌, ◌≤◌, ◌∷◌, [], false, length, OnErr, OnOk};
 ghost use Rattle.std.specs.List.{list_any};
 ghost use Rattle.script_words.specs.Declarations.{is_queue};
 
 use crate::devices::Devices;
 use crate::names::Names;
 use crate::pairs::Pairs;
-use crate::steps::{put_step, put_steps};
+use crate::script::Script;
+use crate::step_list::StepList;
 use crate::traffic::TrafficList;
 use script_words::words::is_same_side;
 use script_words::{Given, Macro, Part, QueueName};
 use std::alloc::{AllocError, Global};
 use std::marker::Model;
-use step_kinds::{DevPlan, Items, Line, PairPlan, Plan, Step};
+use step_kinds::{DevPlan, Items, PairPlan, Plan, Step};
 
 /// The part that the next line stands in, and the plan that the lines so far declare.
 #[derive(Drop)]
@@ -22,7 +23,8 @@ pub struct Reader {
     hosts: Names,
     pairs: Pairs,
     devs: Devices,
-    steps: Vec<Line>,
+    steps: StepList,
+    step_count: usize,
     traffic: TrafficList,
     classed: Vec<QueueName>,
 }
@@ -34,6 +36,7 @@ impl Reader {
     ghost use Rattle.plan_model.specs.Plans.{pair_plan, dev_plan};
     ghost use Rattle.script_words.specs.Compact.{given_of, steps_of};
     ghost use Rattle.script_plan.specs.Sound.{Suits};
+    ghost use Rattle.script_plan.specs.Scripts.{plan_in};
 
     /// No line was read.
     pub fn new(alloc: Global) -> Reader
@@ -44,7 +47,8 @@ impl Reader {
             hosts: Names::new(alloc),
             pairs: Pairs::new(alloc),
             devs: Devices::new(alloc),
-            steps: Vec::new(alloc),
+            steps: StepList::new(alloc),
+            step_count: 0,
             traffic: TrafficList::new(alloc),
             classed: Vec::new(alloc),
         }
@@ -102,7 +106,7 @@ impl Reader {
         ensures value { result ≡ length self.now.plan.steps }
         ensures few { result ≤ most_steps }
     {
-        self.steps.len()
+        self.step_count
     }
 
     /// The traffic.
@@ -156,20 +160,23 @@ impl Reader {
     /// Adds the steps of line `line`. The only error is want of memory, and then nothing is added.
     pub fn add_steps(&mut self, line: u32, more: Macro) -> Result<(), AllocError>
         requires { length self.old.plan.steps + length (steps_of more) ≤ most_steps }
-        ensures { OnOk result (self.new ≡ with_given line self.old (MoreSteps (steps_of more))) }
+        ensures ok { OnOk result (self.new ≡ with_given line self.old (MoreSteps (steps_of more))) }
+        ensures err { OnErr result (self.new ≡ self.old) }
     {
-        self.steps.reserve(more.count() as usize)?;
-        put_steps(&mut self.steps, line, more);
+        let count = more.count();
+        self.steps.push(line, more)?;
+        self.step_count += count as usize;
         Ok(())
     }
 
     /// Adds the only step of line `line`. The only error is want of memory, and then nothing is added.
     pub fn add_step(&mut self, line: u32, step: Step) -> Result<(), AllocError>
         requires { length self.old.plan.steps < most_steps }
-        ensures { OnOk result (self.new ≡ with_given line self.old (MoreSteps (step ∷ []))) }
+        ensures ok { OnOk result (self.new ≡ with_given line self.old (MoreSteps (step ∷ []))) }
+        ensures err { OnErr result (self.new ≡ self.old) }
     {
-        self.steps.reserve(1)?;
-        put_step(&mut self.steps, line, step);
+        self.steps.push_step(line, step)?;
+        self.step_count += 1;
         Ok(())
     }
 
@@ -196,29 +203,32 @@ impl Reader {
         Ok(())
     }
 
-    /// The plan.
-    pub fn into_plan(self) -> Plan
-        ensures { result ≡ self.plan }
+    /// What the lines declare.
+    pub fn into_script(self, alloc: Global) -> Script
+        ensures { plan_in result ≡ self.plan }
     {
-        Plan {
-            pairs: self.pairs.into_items(),
-            devs: self.devs.into_items(),
-            steps: Items::of_vec(self.steps),
-            traffic: self.traffic.into_items(),
+        Script {
+            declared: Plan {
+                pairs: self.pairs.into_items(),
+                devs: self.devs.into_items(),
+                steps: Items::new(alloc),
+                traffic: self.traffic.into_items(),
+            },
+            steps: self.steps,
         }
     }
 }
 
 impl Model for Reader {
     ghost use Rattle.script_words.specs.Before.{Before};
-    ghost use Rattle.script_plan.specs.Sound.{IsSound};
+    ghost use Rattle.script_plan.specs.Sound.{IsKept};
     ghost use Rattle.script_plan.specs.LinesSoFar.{before_with};
 
     ghost Value = { Before };
 
-    ghost view = { λ all. before_with all.part all.hosts all.pairs all.devs all.steps.items all.traffic all.classed.items };
+    ghost view = { λ all. before_with all.part all.hosts all.pairs all.devs all.steps all.traffic all.classed.items };
 
-    ghost invariant = { λ all. IsSound (before_with all.part all.hosts all.pairs all.devs all.steps.items all.traffic all.classed.items) };
+    ghost invariant = { λ all. IsKept all.step_count (before_with all.part all.hosts all.pairs all.devs all.steps all.traffic all.classed.items) };
 }
 
 /// Whether this is the same queue.

@@ -11,7 +11,8 @@ mod step_lines;
 mod traffic_lines;
 
 pub use error::ParseError;
-pub use script::parse;
+pub use script::{parse, read_script};
+pub use script_plan::Script;
 pub use script_words::{Cause, ScriptFault};
 
 #[cfg(test)]

@@ -5,6 +5,7 @@ ghost use Rattle.std.specs.Prelude.{◌≡◌, ◌≤◌, ◌+◌, ◌^◌, ◌<
 ghost use Rattle.step_kinds.specs.Limits.{most_script_bytes};
 ghost use Rattle.script_words.specs.Before.{Nothing};
 ghost use Rattle.script_words.specs.Reads.{Reads, result_map};
+ghost use Rattle.script_plan.specs.Scripts.{plan_in};
 ghost use Rattle.script_text.specs.SoundLines.{Held, Filled};
 ghost use Rattle.script_text.specs.ParseClauses.{Parses, Adds, after_line};
 ghost use Rattle.script_text.specs.Script as rules;
@@ -14,7 +15,7 @@ use crate::error::ParseError;
 use crate::lines::{AddResult, cut, is_skipped, read_words, without_return};
 use crate::step_lines::step_line;
 use crate::traffic_lines::traffic_line;
-use script_plan::Reader;
+use script_plan::{Reader, Script};
 use script_words::{Cause, LineError, Part, ScriptFault};
 use std::alloc::Global;
 use step_kinds::Plan;
@@ -110,11 +111,12 @@ fn add_line<'a>(
     }
 }
 
-/// The plan that a script of at most 16,777,216 bytes declares, or its fault: the first line that has one, and that
-/// line's first fault. `OutOfMemory` says that there is no memory for the plan, and nothing of the script.
-pub fn parse(alloc: Global, bytes: &[u8]) -> Result<Plan, ParseError>
+/// What a script of at most 16,777,216 bytes declares, with its steps as its lines have them, or its fault: the first line
+/// that has one, and that line's first fault. `OutOfMemory` says that there is no memory for what it declares, and nothing
+/// of the script.
+pub fn read_script(alloc: Global, bytes: &[u8]) -> Result<Script, ParseError>
     requires { length bytes.now ≤ most_script_bytes }
-    ensures { Parses result (rules.script_of bytes.now) }
+    ensures { Parses (result_map plan_in result) (rules.script_of bytes.now) }
 {
     let mut before = Reader::new(alloc);
     let mut words = Vec::new(alloc);
@@ -126,5 +128,15 @@ pub fn parse(alloc: Global, bytes: &[u8]) -> Result<Plan, ParseError>
         number += 1;
         rest = more;
     }
-    Ok(before.into_plan())
+    Ok(before.into_script(alloc))
+}
+
+/// The plan that a script of at most 16,777,216 bytes declares, in which each step stands by itself, or its fault as
+/// [`read_script`] gives it. `OutOfMemory` says that there is no memory for the plan, and nothing of the script.
+pub fn parse(alloc: Global, bytes: &[u8]) -> Result<Plan, ParseError>
+    requires { length bytes.now ≤ most_script_bytes }
+    ensures { Parses result (rules.script_of bytes.now) }
+{
+    let script = read_script(alloc, bytes)?;
+    Ok(script.into_plan(alloc)?)
 }

@@ -1,9 +1,10 @@
 -- The steps of a load, frame by frame: the words of a frame, one frame more, and how many steps there are.
-use Rattle.std.proofs.Common.{◌≡◌, ℕ, zero, suc, ◌+◌, ◌*◌, ◌%◌, ◌<◌, ◌≤◌, List, [], ◌∷◌, ◌++◌, length, map, replicate, refl, sym, ◌∙◌, ap, add-zero, add-one, append_assoc, append-nil, arith, length-append, lit<}
+use Rattle.std.proofs.Common.{◌≡◌, ℕ, zero, suc, ◌+◌, ◌*◌, ◌/◌, ◌%◌, ◌^◌, ◌<◌, ◌≤◌, List, [], ◌∷◌, ◌++◌, length, map, replicate, take, OnOk, Result, refl, sym, ◌∙◌, ap, subst, add-zero, zero-add, add-one, append_assoc, append-nil, arith, length-append, lit<}
 use Rattle.std.proofs.Math.Nat.{mod-lt}
 use Rattle.std.proofs.lemmas.List.{length-replicate, map-append}
 use Rattle.std.proofs.lemmas.List.FromFn.{length-map-range_with_len, map-range_with_len_more}
 use Rattle.std.specs.List.{flat_map, range_with_len}
+use Rattle.std.specs.Int.{byte_at, bytes_low_first}
 use Rattle.step_kinds.specs.declared.names.Side.TheVariants.{A, B}
 use Rattle.step_kinds.specs.declared.plan.Line.{Line}
 use Rattle.step_kinds.specs.declared.steps.Step.{Step}
@@ -11,7 +12,7 @@ use Rattle.step_kinds.specs.declared.steps.Step.TheVariants.{Post, Land, Copy, C
 use Rattle.lane_model.specs.Lane.{chunks_in}
 use Rattle.plan_model.specs.Macros.{send, receive}
 use Rattle.script_words.specs.Compact.{lines_with}
-use Rattle.traffic_plan.specs.Load.{word_at, state_past, state_after, word_of, load_pair, length_of, payload_of, landings_of, frame_steps, frame_lines, lines_of_frame}
+use Rattle.traffic_plan.specs.Load.{word_at, state_past, state_after, word_of, load_pair, length_of, payload_of, landings_of, frame_steps, frame_lines, lines_of_frame, LoadGiven, frames_given}
 
 -- the two words of a frame, and the state after it
 pub words_of_frame : (seed k state : ℕ) → state ≡ state_after seed (2 * k)
@@ -28,17 +29,25 @@ more-suc f a (suc n) =
     ap (λ lines. f a ++ lines) (more-suc f (a + 1) n)
     ∙ (sym (append_assoc (f a) (flat_map f (range_with_len (a + 1) n)) (f (a + 1 + n))) ∙ ap (λ k. f a ++ flat_map f (range_with_len (a + 1) n) ++ f k) (omega arith))
 
-frames_more : (f : ℕ → List Line) (n : ℕ) → flat_map f (range_with_len 0 (n + 1)) ≡ flat_map f (range_with_len 0 n) ++ f n
+pub frames_more : (f : ℕ → List Line) (n : ℕ) → flat_map f (range_with_len 0 (n + 1)) ≡ flat_map f (range_with_len 0 n) ++ f n
 frames_more f n =
     let first : 0 + n ≡ n = omega arith in
     ap (λ m. flat_map f (range_with_len 0 m)) (add-one n) ∙ (more-suc f 0 n ∙ ap (λ k. flat_map f (range_with_len 0 n) ++ f k) first)
 
-pub frame_more : (seed k word landings : ℕ) (old new : List Line) → word ≡ word_of seed (2 * k) → landings ≡ word_of seed (2 * k + 1) → old ≡ flat_map (lines_of_frame seed) (range_with_len 0 k)
-    → new ≡ old ++ frame_lines (k + 1) word landings → new ≡ flat_map (lines_of_frame seed) (range_with_len 0 (k + 1))
-frame_more seed k word landings old new first second was is =
-    let before = flat_map (lines_of_frame seed) (range_with_len 0 k) in
-    is ∙ (ap (λ lines. lines ++ frame_lines (k + 1) word landings) was ∙ (ap (λ w. before ++ frame_lines (k + 1) w landings) first
-    ∙ (ap (λ w. before ++ frame_lines (k + 1) (word_of seed (2 * k)) w) second ∙ sym (frames_more (lines_of_frame seed) k))))
+pub frame_more : (seed k : ℕ) (load : LoadGiven) (old new : List Line) → load ≡ frames_given seed k → old ≡ flat_map (lines_of_frame seed) (range_with_len 0 k)
+    → new ≡ old ++ lines_of_frame load.seed load.given → new ≡ flat_map (lines_of_frame seed) (range_with_len 0 (k + 1))
+frame_more seed k load old new given was is =
+    is ∙ (ap (λ (load : LoadGiven). old ++ lines_of_frame load.seed load.given) given ∙ (ap (λ lines. lines ++ lines_of_frame seed k) was
+    ∙ sym (frames_more (lines_of_frame seed) k)))
+
+-- the lines of the frame whose words were drawn
+pub frame_drawn : {X E : Type 0} (seed given word landings : ℕ) (load : LoadGiven) (old new : List Line) (result : Result X E) → frames_given seed given ≡ load
+    → word ≡ word_of seed (2 * given) → landings ≡ word_of seed (2 * given + 1) → OnOk result (new ≡ old ++ frame_lines (given + 1) word landings)
+    → OnOk result (new ≡ old ++ lines_of_frame load.seed load.given)
+frame_drawn seed given word landings load old new result same first second pushed =
+    subst (λ (load : LoadGiven). OnOk result (new ≡ old ++ lines_of_frame load.seed load.given)) same
+    (subst (λ (w : ℕ). OnOk result (new ≡ old ++ frame_lines (given + 1) (word_of seed (2 * given)) w)) second
+    (subst (λ (w : ℕ). OnOk result (new ≡ old ++ frame_lines (given + 1) w landings)) first pushed))
 
 -- one step more of those that a number says
 pub appended : (line : ℕ) (f : ℕ → Step) (i : ℕ) (before old new : List Line) → old ≡ before ++ lines_with line (map f (range_with_len 0 i)) → new ≡ old ++ lines_with line (f i ∷ [])
@@ -49,6 +58,52 @@ appended line f i before old new was is =
     let more : map f (range_with_len 0 (i + 1)) ≡ map f (range_with_len 0 i) ++ one = map-range_with_len_more f 0 i i (omega arith) in
     is ∙ (ap (λ lines. lines ++ lines_with line one) was ∙ (append_assoc before (lines_with line (map f (range_with_len 0 i))) (lines_with line one)
     ∙ ap (λ lines. before ++ lines) (sym (ap (map made) more ∙ map-append made (map f (range_with_len 0 i)) one))))
+
+-- A frame's bytes are eight bytes again and again
+
+abbrev pub byte_of : ℕ → ℕ → ℕ
+byte_of word j = word / 2 ^ (8 * (j % 8)) % 256
+
+range_both : (f : ℕ → ℕ) (a n m : ℕ) → map f (range_with_len a (n + m)) ≡ map f (range_with_len a n) ++ map f (range_with_len (a + n) m)
+range_both f a zero m = ap (λ n. map f (range_with_len a n)) (zero-add m) ∙ ap (λ b. map f (range_with_len b m)) (sym (add-zero a))
+range_both f a (suc n) m =
+    let on : a + 1 + n ≡ a + suc n = omega arith in
+    let size : suc n + m ≡ suc (n + m) = omega arith in
+    ap (λ n. map f (range_with_len a n)) size
+    ∙ ap (λ (rest : List ℕ). f a ∷ rest) (range_both f (a + 1) n m ∙ ap (λ b. map f (range_with_len (a + 1) n) ++ map f (range_with_len b m)) on)
+
+same_byte : (word i : ℕ) → i < 8 → word / 2 ^ (8 * i) % 256 ≡ byte_at i word
+same_byte word zero h = omega arith
+same_byte word (suc zero) h = refl
+same_byte word (suc (suc zero)) h = refl
+same_byte word (suc (suc (suc zero))) h = refl
+same_byte word (suc (suc (suc (suc zero)))) h = refl
+same_byte word (suc (suc (suc (suc (suc zero))))) h = refl
+same_byte word (suc (suc (suc (suc (suc (suc zero)))))) h = refl
+same_byte word (suc (suc (suc (suc (suc (suc (suc zero))))))) h = refl
+same_byte word (suc (suc (suc (suc (suc (suc (suc (suc i)))))))) h = absurd (omega arith)
+
+eight_bytes : (word k i n : ℕ) → i + n ≤ 8 → map (byte_of word) (range_with_len (8 * k + i) n) ≡ bytes_low_first i n word
+eight_bytes word k i zero few = refl
+eight_bytes word k i (suc n) few =
+    let place : (8 * k + i) % 8 ≡ i = omega arith in
+    let on : 8 * k + i + 1 ≡ 8 * k + suc i = omega arith in
+    ap (λ p. word / 2 ^ (8 * p) % 256 ∷ map (byte_of word) (range_with_len (8 * k + i + 1) n)) place
+    ∙ (ap (λ byte. byte ∷ map (byte_of word) (range_with_len (8 * k + i + 1) n)) (same_byte word i (omega arith))
+    ∙ ap (λ (rest : List ℕ). byte_at i word ∷ rest) (ap (λ b. map (byte_of word) (range_with_len b n)) on ∙ eight_bytes word k (suc i) n (omega arith)))
+
+pub bytes_more : (word k : ℕ) → map (byte_of word) (range_with_len 0 (8 * (k + 1))) ≡ map (byte_of word) (range_with_len 0 (8 * k)) ++ bytes_low_first 0 8 word
+bytes_more word k =
+    let size : 8 * (k + 1) ≡ 8 * k + 8 = omega arith in
+    let first : 0 + 8 * k ≡ 8 * k + 0 = omega arith in
+    ap (λ n. map (byte_of word) (range_with_len 0 n)) size ∙ (range_both (byte_of word) 0 (8 * k) 8
+    ∙ ap (λ (rest : List ℕ). map (byte_of word) (range_with_len 0 (8 * k)) ++ rest) (ap (λ b. map (byte_of word) (range_with_len b 8)) first ∙ eight_bytes word k 0 8 (omega arith)))
+
+-- of which the first are those of a shorter range
+pub first_bytes : (f : ℕ → ℕ) (a len all : ℕ) → len ≤ all → take len (map f (range_with_len a all)) ≡ map f (range_with_len a len)
+first_bytes f a zero all few = refl
+first_bytes f a (suc len) zero few = absurd (omega arith)
+first_bytes f a (suc len) (suc all) few = ap (λ (rest : List ℕ). f a ∷ rest) (first_bytes f (a + 1) len all (omega arith))
 
 -- a frame has 1 to 300 bytes
 pub length_payload : (word : ℕ) → length (payload_of word) ≡ length_of word

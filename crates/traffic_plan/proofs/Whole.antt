@@ -107,8 +107,8 @@ each_frame : (P : Line → Type 0) (f : ℕ → List Line) → ((k : ℕ) → Al
 each_frame P f each a zero = All-nil P
 each_frame P f each a (suc n) = All-append P (f a) (flat_map f (range_with_len (a + 1) n)) (each a) (each_frame P f each (a + 1) n)
 
-permitted : (lines : List Line) (seed k : ℕ) → All (λ line. IsPermitted (plan_of lines) line.step) (lines_of_frame seed k)
-permitted lines seed k =
+pub lines_permitted : (lines : List Line) (seed k : ℕ) → All (λ line. IsPermitted (plan_of lines) line.step) (lines_of_frame seed k)
+lines_permitted lines seed k =
     let steps = frame_steps (word_of seed (2 * k)) (word_of seed (2 * k + 1)) in
     All-map (λ line. IsPermitted (plan_of lines) line.step) (λ step. record { line = k + 1; step = step }) steps
     (frame_permitted lines (word_of seed (2 * k)) (word_of seed (2 * k + 1)))
@@ -127,7 +127,7 @@ load_is_whole seed frames most =
     let lines = flat_map (lines_of_frame seed) (range_with_len 0 frames) in
     record {
       declared = declared lines;
-      steps = each_frame (λ line. IsPermitted (plan_of lines) line.step) (lines_of_frame seed) (permitted lines seed) 0 frames;
+      steps = each_frame (λ line. IsPermitted (plan_of lines) line.step) (lines_of_frame seed) (lines_permitted lines seed) 0 frames;
       few_steps = omega (arith, few_lines (lines_of_frame seed) (few_of_frame seed) 0 frames, most);
       traffic = All-nil _;
       few_frames = lit≤ tt;

@@ -70,3 +70,11 @@ plan_of lines = record { pairs = load_pair ∷ []; devs = []; steps = lines; tra
 
 abbrev pub load_of : ℕ → ℕ → Plan
 load_of seed frames = plan_of (flat_map (lines_of_frame seed) (range_with_len 0 frames))
+
+-- a load whose frames are given one after another: its seed, and how many were given
+pub record LoadGiven : Type 0 where
+  pub seed : ℕ
+  pub given : ℕ
+
+abbrev pub frames_given : ℕ → ℕ → LoadGiven
+frames_given seed given = record { seed = seed; given = given }

@@ -10,7 +10,7 @@ mod load;
 mod steps;
 
 pub use lanes::{breaks, lane_traffic};
-pub use load::generate;
+pub use load::{LoadFrames, generate, load_without_steps};
 
 #[cfg(test)]
 mod tests;

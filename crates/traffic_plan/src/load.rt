@@ -1,18 +1,18 @@
 //! The plan of a generated load.
 
-ghost use Rattle.std.specs.Prelude.{◌≡◌, ◌∷◌, [], ◌++◌, ◌^◌, ◌<◌, ◌≤◌, length, IfOk, OnOk};
+ghost use Rattle.std.specs.Prelude.{◌≡◌, ◌∷◌, [], ◌++◌, ◌+◌, ◌^◌, ◌<◌, ◌≤◌, length, IfOk, OnOk};
 ghost use Rattle.lane_model.specs.Lane.{chunks_in};
-ghost use Rattle.traffic_plan.specs.Load.{word_at, state_past, load_pair, most_load_frames, length_of, payload_of, frame_lines, load_of};
+ghost use Rattle.traffic_plan.specs.Load.{word_at, state_past, load_pair, most_load_frames, length_of, payload_of, frame_lines, frames_given, lines_of_frame, load_of, plan_of};
 
 use crate::steps::{land_all, push_landings, receive, send};
 use rand_xoshiro::SplitMix64;
 use rand_xoshiro::rand_core::SeedableRng;
 use rand_xoshiro::rand_core::utils::NextWord;
-use script_plan::steps::push_steps;
-use script_words::Macro;
+use script_plan::StepList;
 use script_words::options::pair_with;
 use script_words::settings::{Setting, SideKey};
 use std::alloc::{AllocError, Global};
+use std::marker::Model;
 use step_kinds::{Frame, Items, Line, Name, PairPlan, Plan, Side, Step};
 
 /// The next word of the generator.
@@ -41,37 +41,84 @@ fn payload(alloc: Global, word: u64) -> Result<Frame, AllocError>
     ensures value { IfOk result (λ frame. frame ≡ payload_of word) }
     ensures len { IfOk result (λ frame. length frame ≡ length_of word) }
 {
-    let len = 1 + (word % 300) as u32;
+    let len = 1 + (word % 300) as usize;
     let mut bytes = Vec::new(alloc);
-    bytes.reserve(len as usize)?;
-    for j in 0..len {
-        bytes.push_reserved(((word >> (8 * (j % 8))) % 256) as u8);
+    bytes.reserve(len + 7)?;
+    for _ in 0..len.div_ceil(8) {
+        bytes.extend_from_slice(&word.to_le_bytes())?;
     }
+    bytes.truncate(len);
     Ok(Frame::of_vec(bytes))
 }
 
 /// Adds the steps of a frame, by its two words.
 fn push_frame(
     alloc: Global,
-    lines: &mut Vec<Line>,
+    steps: &mut StepList,
     line: u32,
     word: u64,
     landings: u64,
 ) -> Result<(), AllocError>
-    ensures { OnOk result (lines.new.items ≡ lines.old.items ++ frame_lines line word landings) }
+    ensures { OnOk result (steps.new ≡ steps.old ++ frame_lines line word landings) }
 {
     let frame = payload(alloc, word)?;
     let chunks = frame.len().div_ceil(128);
-    push_steps(lines, line, send(frame))?;
-    push_landings(lines, line, landings)?;
-    push_steps(lines, line, land_all(chunks + 4))?;
-    push_steps(lines, line, receive(chunks))?;
+    steps.push(line, send(frame))?;
+    push_landings(steps, line, landings)?;
+    steps.push(line, land_all(chunks + 4))?;
+    steps.push(line, receive(chunks))?;
     let step = Step::Land {
         pair: 0,
         side: Side::B,
         place: 0,
     };
-    push_steps(lines, line, Macro::One { step })
+    steps.push_step(line, step)?;
+    Ok(())
+}
+
+/// The frames of a load, one after another. Contracts see the seed and how many frames were given.
+#[derive(Drop)]
+pub struct LoadFrames {
+    seed: u64,
+    given: u32,
+    words: SplitMix64,
+}
+
+impl LoadFrames {
+    /// None was given yet.
+    pub fn new(seed: u64) -> LoadFrames
+        ensures { result ≡ frames_given seed 0 }
+    {
+        LoadFrames {
+            seed,
+            given: 0,
+            words: SplitMix64::seed_from_u64(seed),
+        }
+    }
+
+    /// Adds the steps of the next frame; the number of their line is that of the frame, from 1. A load has at most 30,000
+    /// frames. The only error is want of memory, and then nothing is said of the steps and the frames.
+    pub fn push_next(&mut self, alloc: Global, steps: &mut StepList) -> Result<(), AllocError>
+        requires { self.old.given < most_load_frames }
+        ensures steps { OnOk result (steps.new ≡ steps.old ++ lines_of_frame self.old.seed self.old.given) }
+        ensures given { OnOk result (self.new ≡ frames_given self.old.seed (self.old.given + 1)) }
+    {
+        let word = next_word(&mut self.words);
+        let landings = next_word(&mut self.words);
+        self.given += 1;
+        push_frame(alloc, steps, self.given, word, landings)
+    }
+}
+
+impl Model for LoadFrames {
+    ghost use Rattle.std.specs.Prelude.{◌≡◌, ◌*◌, ◌≤◌};
+    ghost use Rattle.traffic_plan.specs.Load.{LoadGiven, frames_given, most_load_frames, state_after};
+
+    ghost Value = { LoadGiven };
+
+    ghost view = { λ load. frames_given load.seed load.given };
+
+    ghost invariant = { λ load. (load.words ≡ state_after load.seed (2 * load.given)) × (load.given ≤ most_load_frames) };
 }
 
 /// The steps of all frames.
@@ -79,35 +126,42 @@ fn load_lines(alloc: Global, seed: u64, frames: u32) -> Result<Items<Line>, Allo
     requires { frames ≤ most_load_frames }
     ensures { IfOk result (λ lines. lines ≡ (load_of seed frames).steps) }
 {
-    let mut words = SplitMix64::seed_from_u64(seed);
-    let mut lines = Vec::new(alloc);
-    for frame in 0..frames {
-        let word = next_word(&mut words);
-        let landings = next_word(&mut words);
-        push_frame(alloc, &mut lines, frame + 1, word, landings)?;
+    let mut load = LoadFrames::new(seed);
+    let mut steps = StepList::new(alloc);
+    for _ in 0..frames {
+        load.push_next(alloc, &mut steps)?;
     }
-    Ok(Items::of_vec(lines))
+    steps.into_items(alloc)
 }
 
-/// The plan of a load of so many frames, 1 to 30,000, by a seed. The only error is want of memory.
-///
-/// There is one pair, named `p`, that starts up: version 4, one queue, one window of 4,096 bytes and an mtu of 1,023 on
-/// both sides, not strict, not raw, and each class 0. SplitMix64 (Steele, Lea and Flood) gives two words of 64 bits a
-/// frame. By the first a frame has 1 to 300 bytes, which are the word's own, the lowest first, again and again. It is
-/// sent on queue 0 of side A and all its writes are posted; eight landings at the places 0 to 3 that the second word
-/// says are tried; then the first write in flight lands, as often as the frame has writes; then side B receives it
-/// whole, and its index write lands. The number of a step's line is that of its frame, from 1.
-pub fn generate(alloc: Global, seed: u64, frames: u32) -> Result<Plan, AllocError>
-    requires some { 1 ≤ frames }
-    requires few { frames ≤ most_load_frames }
-    ensures { IfOk result (λ plan. plan ≡ load_of seed frames) }
+/// The plan of each load, but for its steps: its pair, named `p`, starts up with version 4, one queue, one window of 4,096
+/// bytes and an mtu of 1,023 on both sides, not strict, not raw, and each class 0. The only error is want of memory.
+pub fn load_without_steps(alloc: Global) -> Result<Plan, AllocError>
+    ensures { IfOk result (λ plan. plan ≡ plan_of []) }
 {
     let mut pairs = Items::new(alloc);
     pairs.push(load_pair())?;
     Ok(Plan {
         pairs,
         devs: Items::new(alloc),
-        steps: load_lines(alloc, seed, frames)?,
+        steps: Items::new(alloc),
         traffic: Items::new(alloc),
     })
+}
+
+/// The plan of a load of so many frames, 1 to 30,000, by a seed. The only error is want of memory.
+///
+/// Its pair is that of [`load_without_steps`]. SplitMix64 (Steele, Lea and Flood) gives two words of 64 bits a frame. By
+/// the first a frame has 1 to 300 bytes, which are the word's own, the lowest first, again and again. It is sent on queue
+/// 0 of side A and all its writes are posted; eight landings at the places 0 to 3 that the second word says are tried;
+/// then the first write in flight lands, as often as the frame has writes; then side B receives it whole, and its index
+/// write lands. The number of a step's line is that of its frame, from 1.
+pub fn generate(alloc: Global, seed: u64, frames: u32) -> Result<Plan, AllocError>
+    requires some { 1 ≤ frames }
+    requires few { frames ≤ most_load_frames }
+    ensures { IfOk result (λ plan. plan ≡ load_of seed frames) }
+{
+    let mut plan = load_without_steps(alloc)?;
+    plan.steps = load_lines(alloc, seed, frames)?;
+    Ok(plan)
 }

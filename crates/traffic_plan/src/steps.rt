@@ -6,9 +6,10 @@ ghost use Rattle.script_words.specs.Compact.{steps_of, lines_with};
 ghost use Rattle.step_kinds.specs.declared.names.Side.TheVariants.{A, B};
 ghost use Rattle.traffic_plan.specs.Load.{load_pair, landings_of};
 
+use script_plan::StepList;
 use script_words::{Macro, Repeated};
 use std::alloc::AllocError;
-use step_kinds::{Frame, Line, Side, Step};
+use step_kinds::{Frame, Side, Step};
 
 /// Side A begins a frame and posts all its writes.
 pub fn send(frame: Frame) -> Macro
@@ -54,17 +55,16 @@ pub fn receive(copies: u32) -> Macro
 }
 
 /// Adds the eight landings that a word says.
-pub fn push_landings(lines: &mut Vec<Line>, line: u32, word: u64) -> Result<(), AllocError>
-    ensures { OnOk result (lines.new.items ≡ lines.old.items ++ lines_with line (landings_of word)) }
+pub fn push_landings(steps: &mut StepList, line: u32, word: u64) -> Result<(), AllocError>
+    ensures { OnOk result (steps.new ≡ steps.old ++ lines_with line (landings_of word)) }
 {
-    lines.reserve(8)?;
     for i in 0..8u32 {
         let step = Step::Land {
             pair: 0,
             side: Side::A,
             place: ((word >> (8 * i)) % 4) as u32,
         };
-        lines.push_reserved(Line { line, step });
+        steps.push_step(line, step)?;
     }
     Ok(())
 }

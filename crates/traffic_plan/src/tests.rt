@@ -1,4 +1,5 @@
 use super::*;
+use script_plan::StepList;
 use std::alloc::{AllocError, Global};
 use std::test::Fail;
 use step_kinds::{Frame, Items, LaneName, Line, Plan, Side, Step, Traffic};
@@ -45,6 +46,24 @@ fn steps_of_seed_one(rt: HostRuntime) -> Result<(), Fail> {
     let steps = plan.steps.as_slice();
     for (place, number) in [(0usize, 1u32), (23, 1), (24, 2), (47, 2), (48, 3), (77, 3)] {
         assert_eq!(rt; steps.get(place).ok_or("no step")?.line, number);
+    }
+    Ok(())
+}
+
+// The same frames one after another: the second alone, with its line.
+#[test]
+fn the_second_frame_alone(rt: HostRuntime) -> Result<(), Fail> {
+    let mut load = LoadFrames::new(1);
+    let mut steps = StepList::new(rt.alloc());
+    load.push_next(rt.alloc(), &mut steps)?;
+    steps.clear();
+    load.push_next(rt.alloc(), &mut steps)?;
+    let mut plan = load_without_steps(rt.alloc())?;
+    plan.steps = steps.into_items(rt.alloc())?;
+    let marks = marks_of(rt.alloc(), &plan)?;
+    assert_eq!(rt; marks.as_slice(), b"bppppp3122021100000lczai".as_slice());
+    for line in plan.steps.as_slice() {
+        assert_eq!(rt; line.line, 2);
     }
     Ok(())
 }

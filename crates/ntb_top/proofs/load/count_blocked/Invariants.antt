@@ -1,12 +1,11 @@
-use Rattle.std.proofs.Common.{◌≡◌, ◌≤◌, map, take}
-use Rattle.fabric_core.specs.LogClauses.{log_after}
-use Rattle.ntb_top.specs.ReplaySteps.{HasReplayed}
-use Rattle.ntb_top.proofs.Replaying.{blocked_in, step_in}
+use Rattle.std.proofs.Common.{◌≡◌, []}
+use Rattle.std.specs.List.{flat_map, range_with_len}
+use Rattle.traffic_plan.specs.Load.{frames_given, lines_of_frame, load_of}
+use Rattle.ntb_top.specs.ReplaySteps.{HasKept, with_blocked}
 use Rattle.ntb_top.proofs.load.count_blocked.Given as goal
 
-abbrev pub invariant-loop-line : goal.invariant-loop-line
-invariant-loop-line l = record {
-  made : HasReplayed l.plan (take l.line-index l.plan.steps) l.fabric;
-  few : l.blocked ≤ l.line-index;
-  blocked : l.blocked ≡ blocked_in (log_after l.plan (map step_in (take l.line-index l.plan.steps)));
+abbrev pub invariant-loop : goal.invariant-loop
+invariant-loop l = record {
+  load : l.load ≡ frames_given l.seed l.counter;
+  kept : HasKept with_blocked (load_of l.seed l.frames) [] (flat_map (lines_of_frame l.seed) (range_with_len 0 l.counter)) l.fabric 0 l.blocked;
 }

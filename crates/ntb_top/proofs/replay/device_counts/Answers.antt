@@ -2,13 +2,14 @@ use Rattle.std.proofs.Common.{[], ◌∷◌, ◌++◌, List, map, take, ap, ◌�
 use Rattle.step_kinds.specs.declared.plan.Counters.{Counters}
 use Rattle.ledger_model.specs.Log.{counters_in}
 use Rattle.fabric_core.specs.LogClauses.{lane_of_device}
+use Rattle.script_plan.specs.Scripts.{plan_in}
 use Rattle.ntb_top.specs.Replays.{log_of_plan, steps_of}
 use Rattle.ntb_top.proofs.Counting.{devices_more}
 use Rattle.ntb_top.proofs.replay.device_counts.Goals as goal
 
 pub loop-dev-preserved : goal.loop-dev-preserved
 loop-dev-preserved c =
-    let plan = c.args.plan.now in
+    let plan = plan_in c.args.script.now in
     let log = log_of_plan plan in
     c.in_ok-push.ensures.items
     ∙ ap (λ (before : List Counters). before ++ c.counters.result ∷ []) c.loop-dev.invariant

@@ -1,4 +1,4 @@
-use Rattle.std.proofs.Common.{◌≡◌, ◌++◌, ◌+◌, [], ◌∷◌, filter, map, slice_range, sym, ◌∙◌, ap, append_assoc, arith}
+use Rattle.std.proofs.Common.{◌++◌, ◌+◌, [], ◌∷◌, filter, map, slice_range, sym, ◌∙◌, ap, append_assoc, arith}
 use Rattle.std.proofs.lemmas.Bool.{eq-eqb, ne_eqb}
 use Rattle.script_words.specs.Words.{is_filled}
 use Rattle.script_text.proofs.Splits.{words_from, text_byte, words_byte, words_space}

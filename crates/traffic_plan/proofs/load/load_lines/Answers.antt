@@ -1,15 +1,12 @@
-use Rattle.std.proofs.Common.{◌∙◌, ap}
-use Rattle.traffic_plan.specs.Load.{word_at, state_past}
-use Rattle.traffic_plan.proofs.Frames.{words_of_frame, frame_more}
+use Rattle.std.proofs.Common.{◌+◌, ◌∙◌, ap}
+use Rattle.traffic_plan.specs.Load.{LoadGiven, frames_given}
+use Rattle.traffic_plan.proofs.Frames.{frame_more}
 use Rattle.traffic_plan.proofs.load.load_lines.Goals as goal
 
-pub loop-frame-preserved : goal.loop-frame-preserved
-loop-frame-preserved c =
-    let words = words_of_frame c.args.seed c.loop-frame.frame c.loop-frame.words c.loop-frame.invariant.words in
-    let past = c.next_word-word.ensures.state in
-    record {
-      lines =
-          frame_more c.args.seed c.loop-frame.frame c.next_word-word.result c.next_word-landings.result c.loop-frame.lines.items c.push_frame.new.lines.items
-          (c.next_word-word.ensures.word ∙ words.0) (c.next_word-landings.ensures.word ∙ (ap word_at past ∙ words.1)) c.loop-frame.invariant.lines c.in_ok-push_frame.ensures;
-      words = c.next_word-landings.ensures.state ∙ (ap state_past past ∙ words.2);
-    }
+pub loop-preserved : goal.loop-preserved
+loop-preserved c = record {
+  steps =
+      frame_more c.args.seed c.loop.counter c.loop.load c.loop.steps c.push_next.new.steps c.loop.invariant.given c.loop.invariant.steps
+      c.in_ok-push_next.ensures.steps;
+  given = c.in_ok-push_next.ensures.given ∙ ap (λ (load : LoadGiven). frames_given load.seed (load.given + 1)) c.loop.invariant.given;
+}

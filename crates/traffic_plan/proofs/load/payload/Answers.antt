@@ -1,20 +1,25 @@
-use Rattle.std.proofs.Common.{◌*◌, ◌/◌, ◌%◌, ◌^◌, length, ◌∙◌, ap, arith}
-use Rattle.std.proofs.lemmas.List.FromFn.{length-map-range_with_len, map-range_with_len_more}
-use Rattle.traffic_plan.proofs.Frames.{few_bytes}
+use Rattle.std.proofs.Common.{◌∙◌, ◌*◌, ◌++◌, ◌≤◌, ℕ, List, length, map, take, ap, sym, arith}
+use Rattle.std.specs.List.{range_with_len}
+use Rattle.traffic_plan.specs.Load.{length_of}
+use Rattle.traffic_plan.proofs.Frames.{byte_of, bytes_more, first_bytes, length_payload}
 use Rattle.traffic_plan.proofs.load.payload.Goals as goal
 
-pub loop-j-preserved : goal.loop-j-preserved
-loop-j-preserved c =
-    let e = map-range_with_len_more (λ j. c.args.word / 2 ^ (8 * (j % 8)) % 256) 0 c.loop-j.j c.loop-j.j (omega arith) in
-    grind (arith, e)
+pub loop-preserved : goal.loop-preserved
+loop-preserved c =
+    let word = c.args.word in
+    c.in_ok-extend_from_slice.ensures.items
+    ∙ ap (λ (before : List ℕ). before ++ c.to_le_bytes.result) c.loop.invariant
+    ∙ ap (λ (last : List ℕ). map (byte_of word) (range_with_len 0 (8 * c.loop.counter)) ++ last) c.to_le_bytes.ensures
+    ∙ sym (bytes_more word c.loop.counter)
 
-pub of_vec-requires : goal.of_vec-requires
-of_vec-requires c =
-    let e = ap length c.loop-j.invariant.items ∙ length-map-range_with_len (λ j. c.args.word / 2 ^ (8 * (j % 8)) % 256) 0 c.loop-j.j in
-    let few = few_bytes c.args.word in
-    grind (arith, e, few)
+pub returns-clause-value : goal.returns-clause-value
+returns-clause-value c =
+    let word = c.args.word in
+    let enough : length_of word ≤ 8 * c.loop.counter = omega (arith, c.div_ceil-end.ensures, c.loop-test.false) in
+    c.of_vec.ensures
+    ∙ c.truncate.ensures.items
+    ∙ ap (take (length_of word)) c.loop.invariant
+    ∙ first_bytes (byte_of word) 0 (length_of word) (8 * c.loop.counter) enough
 
 pub returns-clause-len : goal.returns-clause-len
-returns-clause-len c =
-    let e = ap length c.loop-j.invariant.items ∙ length-map-range_with_len (λ j. c.args.word / 2 ^ (8 * (j % 8)) % 256) 0 c.loop-j.j in
-    ap length c.of_vec.ensures ∙ (e ∙ omega arith)
+returns-clause-len c = ap length (returns-clause-value c) ∙ length_payload c.args.word

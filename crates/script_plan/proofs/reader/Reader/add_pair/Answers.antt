@@ -8,7 +8,7 @@ use Rattle.script_plan.proofs.reader.Reader.add_pair.Goals as goal
 pub invariant_of-self-2 : goal.invariant_of-self-2
 invariant_of-self-2 c =
     let i = c.self.inside in
-    let b : Before = before_with i.part i.hosts i.pairs i.devs i.steps.items i.traffic i.classed.items in
+    let b : Before = before_with i.part i.hosts i.pairs i.devs i.steps i.traffic i.classed.items in
     let seen : length b.plan.pairs ≡ length c.args.self.now.plan.pairs = ap (λ before. length before.plan.pairs) c.self.view_is in
     let few : length b.plan.pairs < most_pairs = let room = c.requires.few in omega arith in
-    pair_added b c.push.new.self c.args.pair c.self.invariant c.requires.fits few c.in_ok-push.ensures.ok
+    record { sound = pair_added b c.push.new.self c.args.pair c.self.invariant.sound c.requires.fits few c.in_ok-push.ensures.ok; counted = c.self.invariant.counted }

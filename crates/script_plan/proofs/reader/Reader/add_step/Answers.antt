@@ -1,4 +1,4 @@
-use Rattle.std.proofs.Common.{◌≡◌, ◌+◌, ◌≤◌, [], ◌∷◌, length, ap, arith}
+use Rattle.std.proofs.Common.{◌≡◌, ◌+◌, ◌≤◌, [], ◌∷◌, length, refl, ap, arith}
 use Rattle.step_kinds.specs.Limits.{most_steps}
 use Rattle.script_words.specs.Before.{Before}
 use Rattle.script_plan.specs.LinesSoFar.{before_with}
@@ -8,7 +8,7 @@ use Rattle.script_plan.proofs.reader.Reader.add_step.Goals as goal
 pub invariant_of-self-2 : goal.invariant_of-self-2
 invariant_of-self-2 c =
     let i = c.self.inside in
-    let b : Before = before_with i.part i.hosts i.pairs i.devs i.steps.items i.traffic i.classed.items in
+    let b : Before = before_with i.part i.hosts i.pairs i.devs i.steps i.traffic i.classed.items in
     let seen : length b.plan.steps ≡ length c.args.self.now.plan.steps = ap (λ before. length before.plan.steps) c.self.view_is in
     let few : length b.plan.steps + length (c.args.step ∷ []) ≤ most_steps = let room = c.requires in omega arith in
-    steps_added b c.put_step.new.steps.items c.args.line (c.args.step ∷ []) c.self.invariant few (rw c.reserve.ensures.items at c.put_step.ensures.items)
+    steps_added b c.push_step.new.self c.args.line i.step_count (c.args.step ∷ []) 1 c.self.invariant refl few c.in_ok-push_step.ensures.ok

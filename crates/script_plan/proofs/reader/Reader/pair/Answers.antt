@@ -7,4 +7,4 @@ use Rattle.script_plan.proofs.reader.Reader.pair.Goals as goal
 pub returns-clause-declared : goal.returns-clause-declared
 returns-clause-declared c =
     let P : Before → Type 0 = λ before. c.args.number < length before.plan.pairs in
-    subst IsPair (sym (c.get.ensures no_pair)) (c.self.invariant.pairs c.args.number no_pair (subst P (sym c.self.view_is) c.requires))
+    subst IsPair (sym (c.get.ensures no_pair)) (c.self.invariant.sound.pairs c.args.number no_pair (subst P (sym c.self.view_is) c.requires))

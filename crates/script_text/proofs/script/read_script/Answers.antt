@@ -4,7 +4,7 @@ use Rattle.script_words.specs.Words.{lines_of}
 use Rattle.script_text.specs.Script.{read_lines}
 use Rattle.script_text.proofs.LinesRead.{then_lines, line_turn, count_turn}
 use Rattle.script_text.proofs.Whole.{after_held}
-use Rattle.script_text.proofs.script.parse.Goals as goal
+use Rattle.script_text.proofs.script.read_script.Goals as goal
 
 pub loop-rest-preserved : goal.loop-rest-preserved
 loop-rest-preserved c =

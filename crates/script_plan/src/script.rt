@@ -1,0 +1,29 @@
+//! What a script declares.
+
+ghost use Rattle.std.specs.Prelude.{◌≡◌, IfOk};
+ghost use Rattle.script_plan.specs.Scripts.{plan_in};
+
+use crate::step_list::StepList;
+use std::alloc::{AllocError, Global};
+use step_kinds::Plan;
+
+/// What a script declares, with its steps as its lines have them.
+#[derive(Drop)]
+pub struct Script {
+    /// The pairs, the devices and the traffic. Its own list of steps isn't read.
+    pub declared: Plan,
+    /// The steps.
+    pub steps: StepList,
+}
+
+impl Script {
+    /// The plan, in which each step stands by itself. The only error is want of memory.
+    pub fn into_plan(self, alloc: Global) -> Result<Plan, AllocError>
+        ensures { IfOk result (λ plan. plan ≡ plan_in self) }
+    {
+        let Script { declared, steps } = self;
+        let mut plan = declared;
+        plan.steps = steps.into_items(alloc)?;
+        Ok(plan)
+    }
+}

@@ -1,0 +1,198 @@
+//! The steps that the lines so far give, in which a step that a line repeats is kept once.
+
+ghost use Rattle.std.specs.Prelude.{◌≡◌, ◌∷◌, ◌++◌, ◌+◌, ◌≤◌, [], replicate, vec_len, vec_capacity, IfOk, OnErr, OnOk};
+ghost use Rattle.script_words.specs.Compact.{lines_with, step_again, steps_of};
+ghost use Rattle.script_plan.specs.StepLists.{all_lines, lines_in};
+
+use script_words::{Macro, Repeated};
+use std::alloc::{AllocError, Global};
+use std::marker::Model;
+use step_kinds::{Items, Line, Step};
+
+/// Steps of a line that stand in a row.
+#[derive(Drop)]
+pub enum Stretch {
+    /// One step.
+    One {
+        /// The line's number.
+        line: u32,
+        /// The step.
+        step: Step,
+    },
+    /// The same step, so many times.
+    Again {
+        /// The line's number.
+        line: u32,
+        /// The step.
+        repeated: Repeated,
+        /// How often it stands here.
+        count: u32,
+    },
+}
+
+/// Steps with their lines, macros as the lines have them: a step that a line repeats takes no more room than one. Contracts
+/// see the list of all steps.
+#[derive(Drop)]
+pub struct StepList {
+    stretches: Vec<Stretch>,
+}
+
+impl StepList {
+    /// No steps.
+    pub fn new(alloc: Global) -> StepList
+        ensures { result ≡ [] }
+    {
+        StepList {
+            stretches: Vec::new(alloc),
+        }
+    }
+
+    /// The steps as they are kept, in order.
+    pub fn stretches(&self) -> &[Stretch]
+        ensures { all_lines result.now ≡ self.now }
+    {
+        &self.stretches
+    }
+
+    /// Adds a step of line `line`. The only error is want of memory, and then nothing is added.
+    pub fn push_step(&mut self, line: u32, step: Step) -> Result<(), AllocError>
+        ensures ok { OnOk result (self.new ≡ self.old ++ lines_with line (step ∷ [])) }
+        ensures err { OnErr result (self.new ≡ self.old) }
+    {
+        self.stretches.push(Stretch::One { line, step })?;
+        Ok(())
+    }
+
+    /// Adds the steps of line `line`. The only error is want of memory, and then nothing is added.
+    pub fn push(&mut self, line: u32, more: Macro) -> Result<(), AllocError>
+        ensures ok { OnOk result (self.new ≡ self.old ++ lines_with line (steps_of more)) }
+        ensures err { OnErr result (self.new ≡ self.old) }
+    {
+        self.stretches.reserve(4)?;
+        put_stretches(&mut self.stretches, line, more);
+        Ok(())
+    }
+
+    /// Takes all steps out; the room stays.
+    pub fn clear(&mut self)
+        ensures { self.new ≡ [] }
+    {
+        self.stretches.clear();
+    }
+
+    /// All steps, one by one. The only error is want of memory.
+    pub fn into_items(self, alloc: Global) -> Result<Items<Line>, AllocError>
+        ensures { IfOk result (λ lines. lines ≡ self) }
+    {
+        let mut lines = Vec::new(alloc);
+        let mut stretches = self.stretches.into_iter();
+        while let Some(stretch) = stretches.next() {
+            push_lines(&mut lines, stretch)?;
+        }
+        Ok(Items::of_vec(lines))
+    }
+}
+
+impl Model for StepList {
+    ghost use Rattle.std.specs.Prelude.{List};
+    ghost use Rattle.step_kinds.specs.declared.plan.Line.{Line};
+    ghost use Rattle.script_plan.specs.StepLists.{all_lines};
+
+    ghost Value = { List Line };
+
+    ghost view = { λ list. all_lines list.stretches.items };
+}
+
+/// Adds the steps of a line, of which four stretches at most are kept. There is room for them.
+fn put_stretches(stretches: &mut Vec<Stretch>, line: u32, more: Macro)
+    requires { vec_len stretches.old + 4 ≤ vec_capacity stretches.old }
+    ensures { all_lines stretches.new.items ≡ all_lines stretches.old.items ++ lines_with line (steps_of more) }
+{
+    match more {
+        Macro::One { step } => put_one(stretches, line, step),
+        Macro::Posted {
+            begin,
+            repeated,
+            count,
+        } => {
+            put_one(stretches, line, begin);
+            put_again(stretches, line, repeated, count);
+        }
+        Macro::Again { repeated, count } => put_again(stretches, line, repeated, count),
+        Macro::Received {
+            pair,
+            side,
+            queue,
+            copies,
+        } => {
+            put_one(stretches, line, Step::Look { pair, side, queue });
+            put_again(
+                stretches,
+                line,
+                Repeated::Copy { pair, side, queue },
+                copies,
+            );
+            put_one(stretches, line, Step::Clear { pair, side, queue });
+            put_one(stretches, line, Step::Ack { pair, side, queue });
+        }
+    }
+}
+
+/// Adds one step of a line, for which there is room.
+fn put_one(stretches: &mut Vec<Stretch>, line: u32, step: Step)
+    requires { vec_len stretches.old + 1 ≤ vec_capacity stretches.old }
+    ensures lines { all_lines stretches.new.items ≡ all_lines stretches.old.items ++ lines_with line (step ∷ []) }
+    ensures len { vec_len stretches.new ≡ vec_len stretches.old + 1 }
+    ensures capacity { vec_capacity stretches.new ≡ vec_capacity stretches.old }
+{
+    stretches.push_reserved(Stretch::One { line, step });
+}
+
+/// Adds a step of a line so many times, for which there is room.
+fn put_again(stretches: &mut Vec<Stretch>, line: u32, repeated: Repeated, count: u32)
+    requires { vec_len stretches.old + 1 ≤ vec_capacity stretches.old }
+    ensures lines { all_lines stretches.new.items ≡ all_lines stretches.old.items ++ lines_with line (replicate count (step_again repeated)) }
+    ensures len { vec_len stretches.new ≡ vec_len stretches.old + 1 }
+    ensures capacity { vec_capacity stretches.new ≡ vec_capacity stretches.old }
+{
+    stretches.push_reserved(Stretch::Again {
+        line,
+        repeated,
+        count,
+    });
+}
+
+/// Adds the steps of a stretch, one by one.
+fn push_lines(lines: &mut Vec<Line>, stretch: Stretch) -> Result<(), AllocError>
+    ensures { OnOk result (lines.new.items ≡ lines.old.items ++ lines_in stretch) }
+{
+    match stretch {
+        Stretch::One { line, step } => {
+            lines.push(Line { line, step })?;
+            Ok(())
+        }
+        Stretch::Again {
+            line,
+            repeated,
+            count,
+        } => push_again(lines, line, repeated, count),
+    }
+}
+
+/// Adds a step of a line so many times.
+#[tactic(auto, using(crate::proofs::Repeats::repeats_more))]
+fn push_again(
+    lines: &mut Vec<Line>,
+    line: u32,
+    repeated: Repeated,
+    count: u32,
+) -> Result<(), AllocError>
+    ensures { OnOk result (lines.new.items ≡ lines.old.items ++ lines_with line (replicate count (step_again repeated))) }
+{
+    lines.reserve(count as usize)?;
+    for _ in 0..count {
+        let step = repeated.step();
+        lines.push_reserved(Line { line, step });
+    }
+    Ok(())
+}
