@@ -1,12 +1,12 @@
 //! One end of a bridge.
 
-ghost use Rattle.std.specs.Prelude.{◌≡◌, ◌+◌, ◌<◌, ◌≤◌, Contains, IfOk, IsOk, OnOk, OnErr, length, option_map, replicate, slice_get, slice_index, slice_set};
+ghost use Rattle.std.specs.Prelude.{◌≡◌, ◌↔◌, ◌+◌, ◌<◌, ◌≤◌, IsTrue, Contains, IfOk, IsOk, OnOk, OnErr, length, option_map, replicate, slice_get, slice_index, slice_set};
 ghost use Rattle.bridge_pair.specs.Ends.{HasPlace, IsEnd, after_answer, after_arrival, after_posting, fresh_end, label_landed, stored_at};
 ghost use Rattle.bridge_pair.specs.Flights.{Flying, flying_order};
 ghost use Rattle.bridge_pair.specs.declared.flying_write.Arrival.TheVariants.{AtAddress};
 ghost use Rattle.bridge_pair.specs.Pages.{PagesGrow};
 ghost use Rattle.bridge_regs.specs.Doorbell.{with_pending};
-ghost use Rattle.host_memory.specs.Memory.{ArePromised, Touches, bytes_at, word_at, word_bytes};
+ghost use Rattle.host_memory.specs.Memory.{AreAbsent, ArePromised, AreZero, Touches, bytes_at, word_at, word_bytes};
 ghost use Rattle.posted_queue.specs.Flight.{discarded, given_back, promised};
 ghost use Rattle.posted_queue.specs.Landing.{after_landing, land_answer};
 
@@ -147,6 +147,14 @@ impl Endpoint {
         ensures { out.new ≡ bytes_at at (length out.old) self.now.memory.bytes }
     {
         self.memory.read(at, out);
+    }
+
+    pub fn is_blank(&self, at: u64, len: u64) -> bool
+        requires { at + len ≤ length self.now.memory.bytes }
+        ensures absent { IsTrue result ↔ AreAbsent at len self.now.memory.promised }
+        ensures zeros { IsTrue result → AreZero at len self.now.memory.bytes }
+    {
+        self.memory.is_blank(at, len)
     }
 
     pub fn word_at(&self, at: u64) -> u32

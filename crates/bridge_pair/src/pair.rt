@@ -1,12 +1,12 @@
 //! A pair.
 
-ghost use Rattle.std.specs.Prelude.{◌≡◌, ◌+◌, ◌<◌, ◌≤◌, IfOk, IsOk, OnErr, OnOk, [], length, option_map, slice_get, slice_index};
+ghost use Rattle.std.specs.Prelude.{◌≡◌, ◌↔◌, ◌+◌, ◌<◌, ◌≤◌, IsTrue, IfOk, IsOk, OnErr, OnOk, [], length, option_map, slice_get, slice_index};
 ghost use Rattle.std.specs.Result.{result_err};
 ghost use Rattle.bridge_pair.specs.Flights.{Flying, Translates, arrival_of};
 ghost use Rattle.bridge_pair.specs.Pages.{OnlyPagesGrow, PagesGrow};
 ghost use Rattle.bridge_regs.specs.Doorbell.{Doorbell};
 ghost use Rattle.bridge_pair.specs.Words.{AreFreshPages, AreIndexWordsPromised, TouchesIndexWord, WindowsFit};
-ghost use Rattle.host_memory.specs.Memory.{ArePromised, Touches, bytes_at, word_at, word_bytes, written};
+ghost use Rattle.host_memory.specs.Memory.{AreAbsent, ArePromised, AreZero, Touches, bytes_at, word_at, word_bytes, written};
 ghost use Rattle.byte_model.specs.FreshRings.{fresh_index_words};
 ghost use Rattle.step_kinds.specs.declared.names.Side.TheVariants.{A, B};
 ghost use Rattle.plan_model.specs.Both.{at_side};
@@ -244,6 +244,19 @@ impl Pair {
         ensures { result ≡ order_class (plan_classes self.now.plan side) label }
     {
         class_among(classes_of(&self.plan, side), label)
+    }
+
+    /// Whether no page is there of those that the `len` bytes from the address `at` of a side's memory on touch, which then
+    /// are all 0. They have to lie in the memory; no bytes touch no page.
+    pub fn is_blank(&self, side: Side, at: u64, len: u64) -> bool
+        requires { at + len ≤ length (bytes_of self.now side) }
+        ensures absent { IsTrue result ↔ AreAbsent at len (pages_of self.now side) }
+        ensures zeros { IsTrue result → AreZero at len (bytes_of self.now side) }
+    {
+        match side {
+            Side::A => self.a.is_blank(at, len),
+            Side::B => self.b.is_blank(at, len),
+        }
     }
 
     /// Reads the bytes of a side's memory from the address `at` on into the whole of `out`. They have to lie in the memory.

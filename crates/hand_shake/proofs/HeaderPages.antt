@@ -1,6 +1,7 @@
 -- Headers: their pages are promised one after the other, and they are zeroed from the last one on.
 use Rattle.std.proofs.Common.{◌≡◌, ℕ, suc, ◌+◌, ◌*◌, ◌%◌, ◌<◌, ◌≤◌, List, [], ◌∷◌, ◌++◌, map, take, replicate, Result, Ok, Err, OnOk, inl, inr, refl, sym, ap, ◌∙◌, subst, arith, Bool, true, false, ◌==◌, if◌then◌else◌}
-use Rattle.std.proofs.Math.Nat.{mod-eq_of_lt}
+use Rattle.std.proofs.Math.Nat.{mod-eq_of_lt, mul-le-mul_right}
+use Rattle.std.proofs.lemmas.Bool.{cases_lt}
 use Rattle.std.proofs.lemmas.List.{take-replicate}
 use Rattle.std.specs.List.{flat_map}
 use Rattle.byte_model.specs.Addresses.{own_header}
@@ -10,7 +11,7 @@ use Rattle.lane_model.specs.Lane.{count_from}
 use Rattle.byte_model.specs.FreshRings.{zeroed_header}
 use Rattle.plan_model.specs.Plans.{side_plan}
 use Rattle.plan_model.specs.Sizes.{agreed_version, header_bytes, layout_to}
-use Rattle.ring_geometry.specs.Geometry.{Layout, entries_of, header_of, window_of}
+use Rattle.ring_geometry.specs.Geometry.{Layout, entries_of, frame_size, header_of, window_of}
 use Rattle.step_kinds.specs.declared.names.Side.{Side}
 use Rattle.step_kinds.specs.declared.names.Side.TheVariants.{A, B}
 use Rattle.step_kinds.specs.declared.plan.PairPlan.{PairPlan}
@@ -18,7 +19,7 @@ use Rattle.bridge_pair.specs.Bridge.{Bridge, bytes_of, pages_of, with_bytes, wit
 use Rattle.bridge_pair.specs.Ends.{bytes_after}
 use Rattle.bridge_pair.specs.Pages.{PagesGrow}
 use Rattle.bridge_pair.proofs.Promises.{grows_further, grows_nothing, promised_still}
-use Rattle.hand_shake.specs.Headers.{AreHeadersOfReady, IsHeaderReady, IsZeroed, TouchesHeader, TouchesHeaderOf, ring_stores}
+use Rattle.hand_shake.specs.Headers.{AreHeadersOfReady, AreSomeReady, IsHeaderReady, IsZeroed, TouchesHeader, TouchesHeaderOf, ring_stores}
 use borrow.Author.Count.{below_more}
 
 pub at_header : (plan : PairPlan) (side : Side) (queue n window offset at : ℕ) (ring : Layout) → ring ≡ layout_to plan side queue → window ≡ window_of ring → offset ≡ header_of ring n
@@ -29,6 +30,20 @@ at_header plan side queue n window offset at ring is_ring is_window is_offset wi
     ∙ ap (λ window. window * (side_plan plan side).cap + offset) (is_window ∙ ap window_of is_ring)
     ∙ ap (λ offset. window_of (layout_to plan side queue) * (side_plan plan side).cap + offset) (is_offset ∙ ap (λ (ring : Layout). header_of ring n) is_ring)
     ∙ ap (λ n. window_of (layout_to plan side queue) * (side_plan plan side).cap + header_of (layout_to plan side queue) n) (sym slot)
+
+-- headers stand in the order of their numbers
+header_place : (plan : PairPlan) (side : Side) (queue n : ℕ) → n < entries_of (layout_to plan side queue)
+    → own_header plan side queue n ≡ window_of (layout_to plan side queue) * (side_plan plan side).cap + header_of (layout_to plan side queue) n
+header_place plan side queue n within =
+    ap (λ n. window_of (layout_to plan side queue) * (side_plan plan side).cap + header_of (layout_to plan side queue) n) (mod-eq_of_lt within)
+
+pub header_order : (plan : PairPlan) (side : Side) (queue n m : ℕ) → n ≤ m → m < entries_of (layout_to plan side queue) → own_header plan side queue n ≤ own_header plan side queue m
+header_order plan side queue n m least within =
+    let l = layout_to plan side queue in
+    let one = header_place plan side queue n (omega (arith, least, within)) in
+    let other = header_place plan side queue m within in
+    let row : n * frame_size l ≤ m * frame_size l = mul-le-mul_right (frame_size l) least in
+    omega (arith, one, other, row)
 
 -- the header's place by a plan that is the same
 pub at_same : (plan same : PairPlan) (side : Side) (queue n at : ℕ) → same ≡ plan → at ≡ own_header same side queue n → at ≡ own_header plan side queue n
@@ -73,13 +88,22 @@ pub ready_still : (touched : ℕ → Type 0) (plan : PairPlan) (side : Side) (qu
 ready_still touched plan side queue n bytes now new grow (inl zero) = inl zero
 ready_still touched plan side queue n bytes now new grow (inr promised) = inr (promised_still touched now new (own_header plan side queue n) (header_bytes plan) grow promised)
 
-pub header_ready : (old now : Bridge) (side : Side) (queue n : ℕ) (new : List ℕ) → now ≡ with_pages old side (pages_of now side)
-    → ((k : ℕ) → k < n → IsHeaderReady old.plan side queue k (bytes_of old side) (pages_of now side)) → PagesGrow (TouchesHeaderOf now.plan side queue (bytes_of now side)) (pages_of now side) new
-    → IsHeaderReady now.plan side queue n (bytes_of now side) new → (k : ℕ) → k < n + 1 → IsHeaderReady old.plan side queue k (bytes_of old side) new
-header_ready old now side queue n new same so_far next ready =
-    below_more (λ k. IsHeaderReady old.plan side queue k (bytes_of old side) new) n
-    (λ k below. ready_still (TouchesHeaderOf now.plan side queue (bytes_of now side)) old.plan side queue k (bytes_of old side) _ new next (so_far k below))
-    (seen_again old now side (λ plan bytes. IsHeaderReady plan side queue n bytes new) same ready)
+pub header_ready : (old now : Bridge) (side : Side) (queue from n : ℕ) (new : List ℕ) → now ≡ with_pages old side (pages_of now side)
+    → ((k : ℕ) → from ≤ k → k < n → IsHeaderReady old.plan side queue k (bytes_of old side) (pages_of now side)) → PagesGrow (TouchesHeaderOf now.plan side queue (bytes_of now side)) (pages_of now side) new
+    → IsHeaderReady now.plan side queue n (bytes_of now side) new → (k : ℕ) → from ≤ k → k < n + 1 → IsHeaderReady old.plan side queue k (bytes_of old side) new
+header_ready old now side queue from n new same so_far next ready = λ k least below.
+    below_more (λ k. from ≤ k → IsHeaderReady old.plan side queue k (bytes_of old side) new) n
+    (λ k below least. ready_still (TouchesHeaderOf now.plan side queue (bytes_of now side)) old.plan side queue k (bytes_of old side) _ new next (so_far k least below))
+    (λ least. seen_again old now side (λ plan bytes. IsHeaderReady plan side queue n bytes new) same ready) k below least
+
+-- and so do all that were so before some others became it
+pub some_ready : (old now : Bridge) (side : Side) (queue from to : ℕ) (new : List ℕ) → now ≡ with_pages old side (pages_of now side)
+    → ((k : ℕ) → k < from → IsHeaderReady old.plan side queue k (bytes_of old side) (pages_of now side)) → PagesGrow (TouchesHeaderOf now.plan side queue (bytes_of now side)) (pages_of now side) new
+    → AreSomeReady now.plan side queue from to (bytes_of now side) new → (k : ℕ) → k < to → IsHeaderReady old.plan side queue k (bytes_of old side) new
+some_ready old now side queue from to new same so_far next ready = λ k below. elim (cases_lt k from) [
+  | inl before ↦ ready_still (TouchesHeaderOf now.plan side queue (bytes_of now side)) old.plan side queue k (bytes_of old side) _ new next (so_far k before)
+  | inr behind ↦ seen_again old now side (λ plan bytes. IsHeaderReady plan side queue k bytes new) same (ready k behind below)
+]
 
 pub ring_grows : (old now : Bridge) (side : Side) (queue : ℕ) (new : List ℕ) → now ≡ with_pages old side (pages_of now side) → queue < (side_plan old.plan side).queues
     → PagesGrow (TouchesHeader old.plan side (bytes_of old side)) (pages_of old side) (pages_of now side)

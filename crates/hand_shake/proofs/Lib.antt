@@ -4,4 +4,5 @@ pub mod HeaderPages
 pub mod OfferPlaces
 pub mod OwnOffers
 pub mod SizeSearch
+pub mod SomeHeaders
 pub mod ZeroHeaders

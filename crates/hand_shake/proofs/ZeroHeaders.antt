@@ -1,11 +1,11 @@
 -- Headers that are zero: how a test tells, that zeros written elsewhere leave them so, and that zeros written there change nothing.
-use Rattle.std.proofs.Common.{◌≡◌, ℕ, ◌+◌, ◌-◌, ◌<◌, ◌≤◌, Bool, true, false, List, [], ◌∷◌, ◌++◌, length, get_or, take, drop, map, replicate, nat_eq, IsTrue, inl, inr, refl, sym, ap, ◌∙◌, subst, arith}
+use Rattle.std.proofs.Common.{◌≡◌, ℕ, ◌+◌, ◌-◌, ◌≤◌, Bool, true, false, List, [], ◌∷◌, ◌++◌, length, get_or, take, drop, map, replicate, nat_eq, IsTrue, inl, inr, refl, sym, ap, ◌∙◌, subst, arith}
 use Rattle.std.proofs.lemmas.Bool.{cases_lt}
 use Rattle.std.specs.Cmp.Lexicographic.{pointwise, same_text, other_text}
 use Rattle.std.proofs.lemmas.Grind.{common_steps, same_number_lists}
 use Rattle.std.proofs.lemmas.List.{length-replicate, take-replicate}
 use Rattle.std.specs.List.{flat_map}
-use Rattle.host_memory.specs.Memory.{bytes_at, written}
+use Rattle.host_memory.specs.Memory.{AreZero, bytes_at, written}
 use Rattle.step_kinds.specs.declared.names.Side.{Side}
 use Rattle.step_kinds.specs.declared.names.Side.TheVariants.{A, B}
 use Rattle.step_kinds.specs.declared.plan.PairPlan.{PairPlan}
@@ -16,12 +16,8 @@ use Rattle.byte_model.specs.Addresses.{own_header}
 use Rattle.byte_model.specs.FreshRings.{zeroed_header}
 use Rattle.bridge_pair.specs.Bridge.{Bridge, bytes_of, pages_of, with_bytes}
 use Rattle.bridge_pair.specs.Ends.{bytes_after}
-use Rattle.hand_shake.specs.Headers.{AreHeadersOfReady, IsHeaderReady, ring_stores}
-use Rattle.hand_shake.proofs.HeaderPages.{bytes_after-append}
-
--- all bytes of a range are zero
-abbrev pub AreZero : ℕ → ℕ → List ℕ → Type 0
-AreZero at len mem = (i : ℕ) → i < len → get_or mem (at + i) 0 ≡ 0
+use Rattle.hand_shake.specs.Headers.{AreHeadersOfReady, AreSomeZeroed, IsHeaderReady, ring_stores}
+use Rattle.hand_shake.proofs.HeaderPages.{bytes_after-append, header_order}
 
 read_zero : (room at len : ℕ) (mem read : List ℕ) → len ≤ room → at + len ≤ length mem → read ≡ bytes_at at len mem → read ++ drop len (replicate {A = ℕ} room 0) ≡ replicate room 0 → AreZero at len mem
 read_zero room at len mem read few within is_read all i below =
@@ -36,18 +32,27 @@ zero_read room at len mem read few within is_read zero =
       | inr more ↦ grind (arith, common_steps)
     ])
 
-zero_told : (at len : ℕ) (mem read : List ℕ) (test : Bool) → len ≤ 16 → at + len ≤ length mem → read ≡ bytes_at at len mem
-    → test ≡ pointwise nat_eq (read ++ drop len (replicate 16 0)) (replicate 16 0) → (IsTrue test → AreZero at len mem) × (AreZero at len mem → IsTrue test)
-zero_told at len mem read true few within is_read told = (λ yes. read_zero 16 at len mem read few within is_read (same_text _ _ told), λ zero. refl)
-zero_told at len mem read false few within is_read told = (λ no. absurd (cc no), λ zero. absurd (other_text _ _ told (zero_read 16 at len mem read few within is_read zero)))
+zero_told : (room at len : ℕ) (mem read : List ℕ) (test : Bool) → len ≤ room → at + len ≤ length mem → read ≡ bytes_at at len mem
+    → test ≡ pointwise nat_eq (read ++ drop len (replicate room 0)) (replicate room 0) → (IsTrue test → AreZero at len mem) × (AreZero at len mem → IsTrue test)
+zero_told room at len mem read true few within is_read told = (λ yes. read_zero room at len mem read few within is_read (same_text _ _ told), λ zero. refl)
+zero_told room at len mem read false few within is_read told = (λ no. absurd (cc no), λ zero. absurd (other_text _ _ told (zero_read room at len mem read few within is_read zero)))
 
--- what a test says of the bytes that were read into the front of 16 zeros
-pub zeros_told : (at len from count : ℕ) (mem read : List ℕ) (test : Bool) → from ≡ at → count ≡ len → len ≤ 16 → at + len ≤ length mem → read ≡ bytes_at from (length (take count (replicate {A = ℕ} 16 0))) mem
-    → test ≡ pointwise nat_eq (read ++ drop count (replicate 16 0)) (replicate 16 0) → (IsTrue test → AreZero at len mem) × (AreZero at len mem → IsTrue test)
-zeros_told at len from count mem read test is_from is_count few within is_read told =
-    let size : length (take count (replicate {A = ℕ} 16 0)) ≡ len = ap length (take-replicate count 16 0 (omega (arith, few, is_count))) ∙ length-replicate count 0 ∙ is_count in
-    zero_told at len mem read test few within (is_read ∙ ap (λ size. bytes_at from size mem) size ∙ ap (λ at. bytes_at at len mem) is_from)
-    (told ∙ ap (λ count. pointwise nat_eq (read ++ drop count (replicate 16 0)) (replicate 16 0)) is_count)
+-- what a test says of the bytes that were read into the front of so many zeros
+pub zeros_told : (room at len from count : ℕ) (mem read : List ℕ) (test : Bool) → from ≡ at → count ≡ len → len ≤ room → at + len ≤ length mem → read ≡ bytes_at from (length (take count (replicate {A = ℕ} room 0))) mem
+    → test ≡ pointwise nat_eq (read ++ drop count (replicate room 0)) (replicate room 0) → (IsTrue test → AreZero at len mem) × (AreZero at len mem → IsTrue test)
+zeros_told room at len from count mem read test is_from is_count few within is_read told =
+    let size : length (take count (replicate {A = ℕ} room 0)) ≡ len = ap length (take-replicate count room 0 (omega (arith, few, is_count))) ∙ length-replicate count 0 ∙ is_count in
+    zero_told room at len mem read test few within (is_read ∙ ap (λ size. bytes_at from size mem) size ∙ ap (λ at. bytes_at at len mem) is_from)
+    (told ∙ ap (λ count. pointwise nat_eq (read ++ drop count (replicate room 0)) (replicate room 0)) is_count)
+
+-- where all bytes from a header's beginning to a later one's end are zero, all headers from the one to the other are
+pub some_zeroed : (plan : PairPlan) (side : Side) (queue from to len : ℕ) (mem : List ℕ) → len ≡ (own_header plan side queue (to - 1) - own_header plan side queue from) + header_bytes plan
+    → to ≤ entries_of (layout_to plan side queue) → AreZero (own_header plan side queue from) len mem → AreSomeZeroed plan side queue from to mem
+some_zeroed plan side queue from to len mem is_len slots zero n least below i inside =
+    let before = header_order plan side queue from n least (omega (arith, below, slots)) in
+    let behind = header_order plan side queue n (to - 1) (omega (arith, below)) (omega (arith, below, slots)) in
+    let at : own_header plan side queue from + (own_header plan side queue n + i - own_header plan side queue from) ≡ own_header plan side queue n + i = omega (arith, before) in
+    subst (λ (k : ℕ). get_or mem k 0 ≡ 0) at (zero (own_header plan side queue n + i - own_header plan side queue from) (omega (arith, before, behind, is_len, inside)))
 
 -- zeros that are written anywhere leave a zero
 pub zero_stays : (from count : ℕ) (mem : List ℕ) (k : ℕ) → get_or mem k 0 ≡ 0 → get_or (written from (replicate count 0) mem) k 0 ≡ 0

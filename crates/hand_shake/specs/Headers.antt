@@ -1,5 +1,5 @@
 -- The headers of the rings that a side receives in.
-use Rattle.std.specs.Prelude.{◌≡◌, ℕ, ◌+◌, ◌<◌, ◌⊎◌, List, map, slice_index_or}
+use Rattle.std.specs.Prelude.{◌≡◌, ℕ, ◌+◌, ◌<◌, ◌≤◌, ◌⊎◌, List, map, slice_index_or}
 use Rattle.byte_model.specs.Stores.{Store}
 use Rattle.lane_model.specs.Lane.{count_from}
 use Rattle.byte_model.specs.FreshRings.{zeroed_header}
@@ -28,6 +28,13 @@ TouchesHeader plan side bytes page = (queue : ℕ) × (queue < (side_plan plan s
 abbrev pub IsHeaderReady : PairPlan → Side → ℕ → ℕ → List ℕ → List ℕ → Type 0
 IsHeaderReady plan side queue n bytes pages = IsZeroed plan side queue n bytes ⊎ ArePromised (own_header plan side queue n) (header_bytes plan) pages
 
+-- the headers from one on up to another are zero, and can be zeroed
+abbrev pub AreSomeZeroed : PairPlan → Side → ℕ → ℕ → ℕ → List ℕ → Type 0
+AreSomeZeroed plan side queue from to bytes = (n : ℕ) → from ≤ n → n < to → IsZeroed plan side queue n bytes
+
+abbrev pub AreSomeReady : PairPlan → Side → ℕ → ℕ → ℕ → List ℕ → List ℕ → Type 0
+AreSomeReady plan side queue from to bytes pages = (n : ℕ) → from ≤ n → n < to → IsHeaderReady plan side queue n bytes pages
+
 -- all headers of one queue's ring are, and those of all rings
 abbrev pub AreHeadersOfReady : PairPlan → Side → ℕ → List ℕ → List ℕ → Type 0
 AreHeadersOfReady plan side queue bytes pages = (n : ℕ) → n < entries_of (layout_to plan side queue) → IsHeaderReady plan side queue n bytes pages
@@ -39,6 +46,9 @@ AreHeadersReady plan side bytes pages = (queue : ℕ) → queue < (side_plan pla
 abbrev pub AreRingsReady : PairPlan → Side → List ℕ → List ℕ → Type 0
 AreRingsReady plan side bytes pages = AreHeadersReady plan side bytes pages × AreIndexWordsPromised plan side pages
 
--- zeros for the headers of one queue's ring
+-- zeros for so many headers of one queue's ring from one on, and for all of them
+abbrev pub some_stores : PairPlan → Side → ℕ → ℕ → ℕ → List Store
+some_stores plan side queue from count = map (zeroed_header plan side queue) (count_from from count)
+
 abbrev pub ring_stores : PairPlan → Side → ℕ → List Store
-ring_stores plan side queue = map (zeroed_header plan side queue) (count_from 0 (entries_of (layout_to plan side queue)))
+ring_stores plan side queue = some_stores plan side queue 0 (entries_of (layout_to plan side queue))

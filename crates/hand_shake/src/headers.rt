@@ -1,13 +1,13 @@
 //! The headers of the rings that a side receives in.
 
-ghost use Rattle.std.specs.Prelude.{◌≡◌, ◌↔◌, ◌+◌, ◌<◌, ◌≤◌, IsTrue, OnOk, length, replicate};
+ghost use Rattle.std.specs.Prelude.{◌≡◌, ◌↔◌, ◌+◌, ◌-◌, ◌<◌, ◌≤◌, IsTrue, OnOk, length, replicate};
 ghost use Rattle.std.specs.List.{flat_map};
 ghost use Rattle.bridge_pair.specs.Bridge.{bytes_of, memory_size, pages_of, with_bytes};
 ghost use Rattle.bridge_pair.specs.Ends.{bytes_after};
 ghost use Rattle.bridge_pair.specs.Pages.{OnlyPagesGrow};
 ghost use Rattle.bridge_pair.specs.Words.{WindowsFit};
 ghost use Rattle.byte_model.specs.Addresses.{own_header};
-ghost use Rattle.hand_shake.specs.Headers.{AreHeadersOfReady, AreHeadersReady, IsHeaderReady, IsZeroed, TouchesHeader, TouchesHeaderOf, ring_stores};
+ghost use Rattle.hand_shake.specs.Headers.{AreHeadersOfReady, AreHeadersReady, AreSomeReady, AreSomeZeroed, IsHeaderReady, IsZeroed, TouchesHeader, TouchesHeaderOf, ring_stores, some_stores};
 ghost use Rattle.host_memory.specs.Memory.{written};
 ghost use Rattle.byte_model.specs.FreshRings.{zeroed_headers};
 ghost use Rattle.plan_model.specs.DeclaredPlans.{IsPair};
@@ -18,6 +18,9 @@ ghost use Rattle.ring_geometry.specs.Geometry.{entries_of};
 use bridge_pair::{Pair, header_bytes, own_address, receiving_ring, side_plan};
 use std::alloc::AllocError;
 use step_kinds::{PairPlan, Side};
+
+// Headers are looked at together where their slots have so many bytes, as long as none of those is on a page that is there.
+const TOGETHER_BYTES: u32 = 1 << 18;
 
 /// Promises the pages of the headers of the rings that a side receives in, but for headers that are zero already. So a ring
 /// that was never written to takes no memory.
@@ -33,15 +36,44 @@ pub fn promise_headers(pair: &mut Pair, side: Side) -> Result<(), AllocError>
     Ok(())
 }
 
-// The same of one queue's ring.
+// The same of one queue's ring, from the first header on.
 fn promise_headers_of(pair: &mut Pair, side: Side, queue: u32) -> Result<(), AllocError>
     requires fit { WindowsFit pair.old.plan side }
     requires among { queue < (side_plan_of pair.old.plan side).queues }
     ensures grown { OnlyPagesGrow (TouchesHeaderOf pair.old.plan side queue (bytes_of pair.old side)) side pair.old pair.new }
     ensures ok { OnOk result (AreHeadersOfReady pair.old.plan side queue (bytes_of pair.old side) (pages_of pair.new side)) }
 {
-    let entries = receiving_ring(pair.plan(), side, queue).entries();
-    for n in 0..entries {
+    let ring = receiving_ring(pair.plan(), side, queue);
+    let entries = ring.entries();
+    let together = headers_together(pair, side, queue, entries, ring.frame_size());
+    let mut from = 0;
+    while from < entries {
+        let to = from.saturating_add(together).min(entries);
+        promise_some(pair, side, queue, from, to)?;
+        from = to;
+    }
+    Ok(())
+}
+
+// The same of the headers from one on up to another.
+fn promise_some(
+    pair: &mut Pair,
+    side: Side,
+    queue: u32,
+    from: u32,
+    to: u32,
+) -> Result<(), AllocError>
+    requires fit { WindowsFit pair.old.plan side }
+    requires among { queue < (side_plan_of pair.old.plan side).queues }
+    requires some { from < to }
+    requires slots { to ≤ entries_of (layout_to pair.old.plan side queue) }
+    ensures grown { OnlyPagesGrow (TouchesHeaderOf pair.old.plan side queue (bytes_of pair.old side)) side pair.old pair.new }
+    ensures ok { OnOk result (AreSomeReady pair.old.plan side queue from to (bytes_of pair.old side) (pages_of pair.new side)) }
+{
+    if are_zero(pair, side, queue, from, to) {
+        return Ok(());
+    }
+    for n in from..to {
         promise_header(pair, side, queue, n)?;
     }
     Ok(())
@@ -75,15 +107,37 @@ pub fn zero_headers(pair: &mut Pair, side: Side)
     }
 }
 
-// The same of one queue's ring.
+// The same of one queue's ring, from the last header on.
 fn zero_headers_of(pair: &mut Pair, side: Side, queue: u32)
     requires fit { WindowsFit pair.old.plan side }
     requires among { queue < (side_plan_of pair.old.plan side).queues }
     requires ready { AreHeadersOfReady pair.old.plan side queue (bytes_of pair.old side) (pages_of pair.old side) }
     ensures { pair.new ≡ with_bytes pair.old side (bytes_after (ring_stores pair.old.plan side queue) (bytes_of pair.old side)) }
 {
-    let entries = receiving_ring(pair.plan(), side, queue).entries();
-    for n in (0..entries).rev() {
+    let ring = receiving_ring(pair.plan(), side, queue);
+    let entries = ring.entries();
+    let together = headers_together(pair, side, queue, entries, ring.frame_size());
+    let mut to = entries;
+    while to > 0 {
+        let from = to.saturating_sub(together);
+        zero_some(pair, side, queue, from, to);
+        to = from;
+    }
+}
+
+// The same of the headers from one on up to another.
+fn zero_some(pair: &mut Pair, side: Side, queue: u32, from: u32, to: u32)
+    requires fit { WindowsFit pair.old.plan side }
+    requires among { queue < (side_plan_of pair.old.plan side).queues }
+    requires some { from < to }
+    requires slots { to ≤ entries_of (layout_to pair.old.plan side queue) }
+    requires ready { AreSomeReady pair.old.plan side queue from to (bytes_of pair.old side) (pages_of pair.old side) }
+    ensures { pair.new ≡ with_bytes pair.old side (bytes_after (some_stores pair.old.plan side queue from (to - from)) (bytes_of pair.old side)) }
+{
+    if are_zero(pair, side, queue, from, to) {
+        return;
+    }
+    for n in (from..to).rev() {
         zero_header(pair, side, queue, n);
     }
 }
@@ -118,6 +172,39 @@ fn is_zero(pair: &Pair, side: Side, queue: u32, n: u32) -> bool
     let len = header_bytes(pair.plan()) as usize;
     pair.local_read(side, at, &mut header[..len]);
     header == [0u8; 16]
+}
+
+// How many headers of a ring with so many entries are looked at together, by the bytes of a slot: all where no page of the ring
+// is there.
+fn headers_together(pair: &Pair, side: Side, queue: u32, entries: u32, slot_bytes: u32) -> u32
+    requires fit { WindowsFit pair.now.plan side }
+    requires among { queue < (side_plan_of pair.now.plan side).queues }
+    requires all { entries ≡ entries_of (layout_to pair.now.plan side queue) }
+    ensures { 1 ≤ result }
+{
+    if entries > 0 {
+        if are_zero(pair, side, queue, 0, entries) {
+            return entries;
+        }
+    }
+    (TOGETHER_BYTES / slot_bytes.max(1)).max(1)
+}
+
+// Whether the headers from one on up to another are zero for sure: they are where no page is there of those that lie between the
+// first one's beginning and the last one's end.
+fn are_zero(pair: &Pair, side: Side, queue: u32, from: u32, to: u32) -> bool
+    requires fit { WindowsFit pair.now.plan side }
+    requires among { queue < (side_plan_of pair.now.plan side).queues }
+    requires some { from < to }
+    requires slots { to ≤ entries_of (layout_to pair.now.plan side queue) }
+    ensures zero { IsTrue result → AreSomeZeroed pair.now.plan side queue from to (bytes_of pair.now side) }
+    ensures within { own_header pair.now.plan side queue (to - 1) + bytes_of_header pair.now.plan ≤ length (bytes_of pair.now side) }
+{
+    let plan = pair.plan();
+    let first = header_at(plan, side, queue, from);
+    let last = header_at(plan, side, queue, to - 1);
+    let len = last.saturating_sub(first) + u64::from(header_bytes(plan));
+    pair.is_blank(side, first, len)
 }
 
 // The address of a header of the ring that a side receives in on a queue.

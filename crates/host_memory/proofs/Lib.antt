@@ -1,3 +1,4 @@
+pub mod Blank
 pub mod MemoryPages
 pub mod Pieces
 pub mod Promised

@@ -1,6 +1,6 @@
 -- A host's memory: its bytes as a list, in which a byte's address is its place from 0, and the pages that were
 -- promised.
-use Rattle.std.specs.Prelude.{◌≡◌, ◌≢◌, ℕ, ◌+◌, ◌<◌, ◌≤◌, ◌/◌, List, ◌++◌, Contains, length, take, drop, slice_index}
+use Rattle.std.specs.Prelude.{◌≡◌, ◌≢◌, ℕ, ◌+◌, ◌<◌, ◌≤◌, ◌/◌, List, ◌++◌, Contains, length, take, drop, slice_index, slice_index_or}
 use Rattle.byteorder.specs.Endian.{little_bytes, little_number}
 
 -- the bytes, and the numbers of the pages that were promised: these may be written
@@ -35,6 +35,14 @@ Touches at len page = (address : ℕ) × (at ≤ address) × (address < at + len
 -- each page that the range touches is promised
 abbrev pub ArePromised : ℕ → ℕ → List ℕ → Type 0
 ArePromised at len promised = (page : ℕ) → Touches at len page → Contains promised page
+
+-- no page that the range touches is promised
+abbrev pub AreAbsent : ℕ → ℕ → List ℕ → Type 0
+AreAbsent at len promised = (page : ℕ) → Touches at len page → ¬ Contains promised page
+
+-- all bytes of the range are zero
+abbrev pub AreZero : ℕ → ℕ → List ℕ → Type 0
+AreZero at len mem = (i : ℕ) → i < len → slice_index_or mem (at + i) 0 ≡ 0
 
 -- no page stands twice
 abbrev pub NoRepeats : List ℕ → Type 0

@@ -1,7 +1,7 @@
 //! The memory of a host, kept in pages.
 
 ghost use Rattle.std.specs.Prelude.{◌≡◌, ◌↔◌, ℕ, ◌+◌, ◌-◌, ◌%◌, ◌<◌, ◌≤◌, ◌^◌, ◌⊎◌, [], length, replicate, Contains, IfOk, IsOk, IsTrue, OnOk, OnErr};
-ghost use Rattle.host_memory.specs.Memory.{ArePromised, NoRepeats, Touches, bytes_at, page_of, word_at, word_bytes, written};
+ghost use Rattle.host_memory.specs.Memory.{AreAbsent, ArePromised, AreZero, NoRepeats, Touches, bytes_at, page_of, word_at, word_bytes, written};
 
 use crate::pages::Pages;
 use byteorder::{ByteOrder, LittleEndian};
@@ -65,6 +65,30 @@ impl Memory {
         ensures distinct { NoRepeats self.now.promised }
     {
         self.promised.len()
+    }
+
+    /// Whether no page is there of those that the `len` bytes from the address `at` on touch, which then are all 0. They
+    /// have to lie in the memory; no bytes touch no page.
+    pub fn is_blank(&self, at: u64, len: u64) -> bool
+        requires { at + len ≤ length self.now.bytes }
+        ensures absent { IsTrue result ↔ AreAbsent at len self.now.promised }
+        ensures zeros { IsTrue result → AreZero at len self.now.bytes }
+    {
+        if self.promised.is_empty() {
+            return true;
+        }
+        if len == 0 {
+            return true;
+        }
+        prove!(at <= self.len() - len);
+        let first = at / PAGE_SIZE;
+        let last = (at + len - 1) / PAGE_SIZE;
+        for number in first..last + 1 {
+            if self.pages.get(number).is_some() {
+                return false;
+            }
+        }
+        true
     }
 
     /// Reads the bytes from the address `at` on into the whole of `out`. They have to lie in the memory: `at` and the

@@ -85,6 +85,20 @@ fn pages_that_are_not_there_are_zeros(rt: HostRuntime) -> Result<(), Fail> {
     Ok(())
 }
 
+// Whether ranges of a memory of four pages are blank, where the page of address 5,000 is there alone.
+#[test]
+fn ranges_beside_a_page_are_blank(rt: HostRuntime) -> Result<(), Fail> {
+    let mut memory = fresh(rt.alloc(), 16_384)?;
+    assert!(rt; memory.is_blank(0, 16_384));
+    memory.promise(5_000, 1)?;
+    assert!(rt; memory.is_blank(0, 4_096));
+    assert!(rt; !memory.is_blank(0, 4_097));
+    assert!(rt; !memory.is_blank(8_191, 1));
+    assert!(rt; memory.is_blank(8_192, 8_192));
+    assert!(rt; memory.is_blank(5_000, 0));
+    Ok(())
+}
+
 #[test]
 fn words_are_little_endian(rt: HostRuntime) -> Result<(), Fail> {
     let memory = with_word(rt.alloc(), 8, 2, 0x0102_0304)?;

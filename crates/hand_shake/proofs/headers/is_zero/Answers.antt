@@ -13,5 +13,5 @@ returns-clause-zero c =
     let len : c.header_bytes-len.result ≡ header_bytes plan = c.header_bytes-len.ensures ∙ ap header_bytes c.plan-2.ensures.value in
     let within = rw c.plan.ensures.value at c.header_at-at.ensures.within in
     let size = c.plan.ensures.law.memories c.args.side in
-    zeros_told (own_header plan c.args.side c.args.queue c.args.n) (header_bytes plan) _ _ (bytes_of c.args.pair.now c.args.side) c.local_read.new.out c.eq.result at len (few_bytes plan) (omega (arith, at, within, size))
+    zeros_told 16 (own_header plan c.args.side c.args.queue c.args.n) (header_bytes plan) _ _ (bytes_of c.args.pair.now c.args.side) c.local_read.new.out c.eq.result at len (few_bytes plan) (omega (arith, at, within, size))
     c.local_read.ensures c.eq.ensures
