@@ -61,6 +61,12 @@ fn word(pair: &Pair, side: Side, offset: u64) -> u32 {
     }
 }
 
+// Whether a side's memory of one page is blank, where the page lies in it.
+fn blank(pair: &Pair, side: Side) -> Option<bool> {
+    let at = address(pair, side, 0, 4096)?;
+    Some(pair.is_blank(side, at, 4096))
+}
+
 // A side writes bytes into its own memory, where they lie in it.
 fn put(pair: &mut Pair, side: Side, offset: u64, bytes: &[u8]) -> Result<(), AllocError> {
     if let Some(at) = address(pair, side, offset, bytes.len() as u64) {
@@ -406,5 +412,15 @@ fn promises_stay(rt: HostRuntime) -> Result<(), Fail> {
     lose_and_mask(&mut pair);
     assert_eq!(rt; pair.bells(Side::B).pending(), 1);
     assert_eq!(rt; pair.bells(Side::B).masked(), 4);
+    Ok(())
+}
+
+#[test]
+fn a_page_is_of_one_side(rt: HostRuntime) -> Result<(), Fail> {
+    let mut pair = Pair::new(rt.alloc(), &plan(false, true, 1))?;
+    assert_eq!(rt; blank(&pair, Side::A), Some(true));
+    put(&mut pair, Side::A, 5, &[1])?;
+    assert_eq!(rt; blank(&pair, Side::A), Some(false));
+    assert_eq!(rt; blank(&pair, Side::B), Some(true));
     Ok(())
 }

@@ -1,5 +1,5 @@
 -- Headers: their pages are promised one after the other, and they are zeroed from the last one on.
-use Rattle.std.proofs.Common.{◌≡◌, ℕ, suc, ◌+◌, ◌*◌, ◌%◌, ◌<◌, ◌≤◌, List, [], ◌∷◌, ◌++◌, map, take, replicate, Result, Ok, Err, OnOk, inl, inr, refl, sym, ap, ◌∙◌, subst, arith, Bool, true, false, ◌==◌, if◌then◌else◌}
+use Rattle.std.proofs.Common.{◌≡◌, ℕ, suc, ◌+◌, ◌*◌, ◌%◌, ◌-◌, ◌<◌, ◌≤◌, List, [], ◌∷◌, ◌++◌, map, take, replicate, Result, Ok, Err, OnOk, inl, inr, refl, sym, ap, ◌∙◌, subst, arith, Bool, true, false, ◌==◌, if◌then◌else◌}
 use Rattle.std.proofs.Math.Nat.{mod-eq_of_lt, mul-le-mul_right}
 use Rattle.std.proofs.lemmas.Bool.{cases_lt}
 use Rattle.std.proofs.lemmas.List.{take-replicate}
@@ -19,7 +19,7 @@ use Rattle.bridge_pair.specs.Bridge.{Bridge, bytes_of, pages_of, with_bytes, wit
 use Rattle.bridge_pair.specs.Ends.{bytes_after}
 use Rattle.bridge_pair.specs.Pages.{PagesGrow}
 use Rattle.bridge_pair.proofs.Promises.{grows_further, grows_nothing, promised_still}
-use Rattle.hand_shake.specs.Headers.{AreHeadersOfReady, AreSomeReady, IsHeaderReady, IsZeroed, TouchesHeader, TouchesHeaderOf, ring_stores}
+use Rattle.hand_shake.specs.Headers.{AreHeadersOfReady, AreSomeZeroed, IsHeaderReady, IsReceivingRing, IsZeroed, TouchesHeader, TouchesHeaderOf, ring_stores}
 use borrow.Author.Count.{below_more}
 
 pub at_header : (plan : PairPlan) (side : Side) (queue n window offset at : ℕ) (ring : Layout) → ring ≡ layout_to plan side queue → window ≡ window_of ring → offset ≡ header_of ring n
@@ -70,11 +70,9 @@ one_grows plan side queue n at len bytes old new is_at is_len among unlike grow 
     grows_further (TouchesHeaderOf plan side queue bytes) (Touches at len) old old new (grows_nothing (TouchesHeaderOf plan side queue bytes) old) grow
     (λ page touch. (n, among, unlike, subst (λ len. Touches (own_header plan side queue n) len page) is_len (subst (λ at. Touches at len page) is_at touch)))
 
-pub one_ready : {X E : Type 0} (plan : PairPlan) (side : Side) (queue n at len : ℕ) (bytes new : List ℕ) (told : Result X E) → at ≡ own_header plan side queue n → len ≡ header_bytes plan
-    → OnOk told (ArePromised at len new) → OnOk told (IsHeaderReady plan side queue n bytes new)
-one_ready plan side queue n at len bytes new (Ok done) is_at is_len promised =
-    inr (subst (λ len. ArePromised (own_header plan side queue n) len new) is_len (subst (λ at. ArePromised at len new) is_at promised))
-one_ready plan side queue n at len bytes new (Err wants) is_at is_len promised = tt
+pub one_promised : {X E : Type 0} (at len from count : ℕ) (new : List ℕ) (told : Result X E) → from ≡ at → count ≡ len → OnOk told (ArePromised from count new) → OnOk told (ArePromised at len new)
+one_promised at len from count new (Ok done) is_at is_len promised = subst (λ len. ArePromised at len new) is_len (subst (λ at. ArePromised at count new) is_at promised)
+one_promised at len from count new (Err wants) is_at is_len promised = tt
 
 pub header_grows : (old now : Bridge) (side : Side) (queue : ℕ) (new : List ℕ) → now ≡ with_pages old side (pages_of now side)
     → PagesGrow (TouchesHeaderOf old.plan side queue (bytes_of old side)) (pages_of old side) (pages_of now side)
@@ -88,21 +86,25 @@ pub ready_still : (touched : ℕ → Type 0) (plan : PairPlan) (side : Side) (qu
 ready_still touched plan side queue n bytes now new grow (inl zero) = inl zero
 ready_still touched plan side queue n bytes now new grow (inr promised) = inr (promised_still touched now new (own_header plan side queue n) (header_bytes plan) grow promised)
 
-pub header_ready : (old now : Bridge) (side : Side) (queue from n : ℕ) (new : List ℕ) → now ≡ with_pages old side (pages_of now side)
-    → ((k : ℕ) → from ≤ k → k < n → IsHeaderReady old.plan side queue k (bytes_of old side) (pages_of now side)) → PagesGrow (TouchesHeaderOf now.plan side queue (bytes_of now side)) (pages_of now side) new
-    → IsHeaderReady now.plan side queue n (bytes_of now side) new → (k : ℕ) → from ≤ k → k < n + 1 → IsHeaderReady old.plan side queue k (bytes_of old side) new
-header_ready old now side queue from n new same so_far next ready = λ k least below.
-    below_more (λ k. from ≤ k → IsHeaderReady old.plan side queue k (bytes_of old side) new) n
-    (λ k below least. ready_still (TouchesHeaderOf now.plan side queue (bytes_of now side)) old.plan side queue k (bytes_of old side) _ new next (so_far k least below))
-    (λ least. seen_again old now side (λ plan bytes. IsHeaderReady plan side queue n bytes new) same ready) k below least
+-- the ring that was made for a queue is the one that the side receives in on it
+pub receiving : (plan : PairPlan) (side : Side) (queue : ℕ) (ring : Layout) → ring ≡ layout_to plan side queue → queue < (side_plan plan side).queues → IsReceivingRing plan side ring
+receiving plan side queue ring is among = subst (λ (l : Layout). IsReceivingRing plan side l) (sym is) (refl, among)
 
--- and so do all that were so before some others became it
-pub some_ready : (old now : Bridge) (side : Side) (queue from to : ℕ) (new : List ℕ) → now ≡ with_pages old side (pages_of now side)
-    → ((k : ℕ) → k < from → IsHeaderReady old.plan side queue k (bytes_of old side) (pages_of now side)) → PagesGrow (TouchesHeaderOf now.plan side queue (bytes_of now side)) (pages_of now side) new
-    → AreSomeReady now.plan side queue from to (bytes_of now side) new → (k : ℕ) → k < to → IsHeaderReady old.plan side queue k (bytes_of old side) new
-some_ready old now side queue from to new same so_far next ready = λ k below. elim (cases_lt k from) [
-  | inl before ↦ ready_still (TouchesHeaderOf now.plan side queue (bytes_of now side)) old.plan side queue k (bytes_of old side) _ new next (so_far k before)
-  | inr behind ↦ seen_again old now side (λ plan bytes. IsHeaderReady plan side queue k bytes new) same (ready k behind below)
+-- headers behind one are ready once it is promised, and so are those before it that are zero
+pub ready_down : (old now new : Bridge) (side : Side) (queue from count all : ℕ) → now ≡ with_pages old side (pages_of now side) → new ≡ with_pages old side (pages_of new side)
+    → ((k : ℕ) → count ≤ k → k < all → IsHeaderReady old.plan side queue k (bytes_of old side) (pages_of now side))
+    → PagesGrow (TouchesHeaderOf now.plan side queue (bytes_of now side)) (pages_of now side) (pages_of new side)
+    → ArePromised (own_header now.plan side queue (count - 1)) (header_bytes now.plan) (pages_of new side)
+    → AreSomeZeroed new.plan side queue from (count - 1) (bytes_of new side)
+    → (k : ℕ) → from ≤ k → k < all → IsHeaderReady old.plan side queue k (bytes_of old side) (pages_of new side)
+ready_down old now new side queue from count all same so so_far next promised zeroed k least below = elim (cases_lt k (count - 1)) [
+  | inl before ↦ inl (seen_again old new side (λ plan bytes. IsZeroed plan side queue k bytes) so (zeroed k least before))
+  | inr behind ↦ elim (cases_lt k count) [
+    | inl here ↦ (let is : count - 1 ≡ k = omega (arith, behind, here) in
+        inr (seen_again old now side (λ plan bytes. ArePromised (own_header plan side queue k) (header_bytes plan) (pages_of new side)) same
+        (subst (λ (n : ℕ). ArePromised (own_header now.plan side queue n) (header_bytes now.plan) (pages_of new side)) is promised)))
+    | inr after ↦ ready_still (TouchesHeaderOf now.plan side queue (bytes_of now side)) old.plan side queue k (bytes_of old side) _ (pages_of new side) next (so_far k after below)
+  ]
 ]
 
 pub ring_grows : (old now : Bridge) (side : Side) (queue : ℕ) (new : List ℕ) → now ≡ with_pages old side (pages_of now side) → queue < (side_plan old.plan side).queues

@@ -1,5 +1,6 @@
 -- Some headers of a ring that follow one another: zeros for them before those that were zeroed already, and over zeros.
-use Rattle.std.proofs.Common.{◌≡◌, ℕ, zero, suc, ◌+◌, ◌-◌, ◌≤◌, List, ◌∷◌, ◌++◌, length, map, replicate, refl, sym, ap, ◌∙◌, add-zero, zero-add, arith}
+use Rattle.std.proofs.Common.{◌≡◌, ℕ, zero, suc, ◌+◌, ◌-◌, ◌<◌, ◌≤◌, List, ◌∷◌, ◌++◌, length, map, replicate, inl, inr, refl, sym, ap, ◌∙◌, subst, add-zero, zero-add, arith}
+use Rattle.std.proofs.lemmas.Bool.{cases_lt}
 use Rattle.std.proofs.lemmas.List.{map-append}
 use Rattle.byte_model.specs.Addresses.{own_header}
 use Rattle.byte_model.specs.FreshRings.{zeroed_header}
@@ -10,10 +11,11 @@ use Rattle.plan_model.specs.Sizes.{header_bytes, layout_to}
 use Rattle.ring_geometry.specs.Geometry.{entries_of}
 use Rattle.step_kinds.specs.declared.names.Side.{Side}
 use Rattle.step_kinds.specs.declared.plan.PairPlan.{PairPlan}
+use Rattle.bridge_pair.specs.Bridge.{Bridge, bytes_of, with_bytes}
 use Rattle.bridge_pair.specs.Ends.{bytes_after}
-use Rattle.hand_shake.specs.Headers.{AreSomeZeroed, some_stores}
-use Rattle.hand_shake.proofs.HeaderPages.{bytes_after-append, header_order}
-use Rattle.hand_shake.proofs.ZeroHeaders.{written_zeros}
+use Rattle.hand_shake.specs.Headers.{AreSomeZeroed, IsZeroed, some_stores}
+use Rattle.hand_shake.proofs.HeaderPages.{at_same, bytes_after-append, header_order}
+use Rattle.hand_shake.proofs.ZeroHeaders.{stored_before, written_zeros}
 
 -- zeros for some headers before those that were zeroed already
 count_both : (from count more : ℕ) → count_from from (count + more) ≡ count_from from count ++ count_from (from + count) more
@@ -49,3 +51,46 @@ zeros_nothing plan side queue from (suc count) mem slots within zeroed =
     zeros_nothing plan side queue (suc from) count mem (omega (arith, slots)) (rw on within) (λ n least below. zeroed n (omega (arith, least)) (omega (arith, below))) in
     ap (written (own_header plan side queue from) (replicate (header_bytes plan) 0)) rest
     ∙ written_zeros (own_header plan side queue from) (header_bytes plan) mem (omega (arith, last, within)) (zeroed from (omega arith) (omega arith))
+
+-- headers that are zero before others that are
+pub zeroed_both : (plan : PairPlan) (side : Side) (queue from middle to : ℕ) (bytes : List ℕ) → AreSomeZeroed plan side queue from middle bytes → AreSomeZeroed plan side queue middle to bytes
+    → AreSomeZeroed plan side queue from to bytes
+zeroed_both plan side queue from middle to bytes front rest n least below = elim (cases_lt n middle) [
+  | inl before ↦ front n least before
+  | inr behind ↦ rest n behind below
+]
+
+pub zeroed_one : (plan : PairPlan) (side : Side) (queue n to : ℕ) (bytes : List ℕ) → to ≡ n + 1 → IsZeroed plan side queue n bytes → AreSomeZeroed plan side queue n to bytes
+zeroed_one plan side queue n to bytes one zeroed k least below =
+    let same : n ≡ k = omega (arith, one, least, below) in
+    subst (λ (m : ℕ). IsZeroed plan side queue m bytes) same zeroed
+
+-- so headers that are zero may be passed over
+pub passed_over : (old now : Bridge) (side : Side) (queue from to all : ℕ) → now ≡ with_bytes old side (bytes_after (some_stores old.plan side queue to (all - to)) (bytes_of old side))
+    → from ≤ to → to ≤ all → all ≤ entries_of (layout_to old.plan side queue) → AreSomeZeroed now.plan side queue from to (bytes_of now side)
+    → (0 < to → own_header now.plan side queue (to - 1) + header_bytes now.plan ≤ length (bytes_of now side))
+    → now ≡ with_bytes old side (bytes_after (some_stores old.plan side queue from (all - from)) (bytes_of old side))
+passed_over old now side queue from to all so_far least most slots zeroed within =
+    let later = bytes_after (some_stores old.plan side queue to (all - to)) (bytes_of old side) in
+    let all_of : to ≡ from + (to - from) = omega (arith, least) in
+    let zero : AreSomeZeroed old.plan side queue from (from + (to - from)) later =
+    subst (λ (m : ℕ). AreSomeZeroed old.plan side queue from m later) all_of (stored_before old now side later (λ plan bytes. AreSomeZeroed plan side queue from to bytes) so_far zeroed) in
+    let nothing : bytes_after (some_stores old.plan side queue from (to - from)) later ≡ later = elim (cases_lt from to) [
+      | inl some ↦ zeros_nothing old.plan side queue from (to - from) later (omega (arith, least, most, slots))
+          (subst (λ (m : ℕ). own_header old.plan side queue (m - 1) + header_bytes old.plan ≤ length later) all_of
+          (stored_before old now side later (λ plan bytes. own_header plan side queue (to - 1) + header_bytes plan ≤ length bytes) so_far (within (omega (arith, some))))) zero
+      | inr none ↦ (let empty : to - from ≡ 0 = omega (arith, none) in ap (λ (count : ℕ). bytes_after (some_stores old.plan side queue from count) later) empty)
+    ] in
+    so_far ∙ ap (λ bytes. with_bytes old side bytes) (sym nothing ∙ some_before old.plan old.plan side queue from to all (bytes_of old side) refl least most)
+
+-- the bytes from the first one's beginning to the last one's end, by a plan that is the same
+pub span_of : (plan same : PairPlan) (side : Side) (queue from to first last len header : ℕ) → same ≡ plan → from < to → to ≤ entries_of (layout_to plan side queue)
+    → first ≡ own_header same side queue from → last ≡ own_header same side queue (to - 1) → header ≡ header_bytes same → len ≡ last - first
+    → (first ≡ own_header plan side queue from) × (len + header ≡ (own_header plan side queue (to - 1) - own_header plan side queue from) + header_bytes plan)
+    × (first + (len + header) ≡ last + header_bytes plan)
+span_of plan same side queue from to first last len header plans some slots is_first is_last is_header is_len =
+    let begin = at_same plan same side queue from first plans is_first in
+    let end = at_same plan same side queue (to - 1) last plans is_last in
+    let bytes : header ≡ header_bytes plan = is_header ∙ ap header_bytes plans in
+    let order = header_order plan side queue from (to - 1) (omega (arith, some)) (omega (arith, some, slots)) in
+    (begin, omega (arith, is_len, begin, end, bytes), omega (arith, is_len, begin, end, bytes, order))

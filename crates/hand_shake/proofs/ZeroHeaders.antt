@@ -89,6 +89,10 @@ pub stored_again : (old new : Bridge) (side : Side) (bytes : List ℕ) (P : Pair
 stored_again old new A bytes P same fact = subst (λ (bridge : Bridge). P bridge.plan (bytes_of bridge A) (pages_of bridge A)) (sym same) fact
 stored_again old new B bytes P same fact = subst (λ (bridge : Bridge). P bridge.plan (bytes_of bridge B) (pages_of bridge B)) (sym same) fact
 
+pub stored_before : (old new : Bridge) (side : Side) (bytes : List ℕ) (P : PairPlan → List ℕ → Type 0) → new ≡ with_bytes old side bytes → P new.plan (bytes_of new side) → P old.plan bytes
+stored_before old new A bytes P same fact = subst (λ (bridge : Bridge). P bridge.plan (bytes_of bridge A)) same fact
+stored_before old new B bytes P same fact = subst (λ (bridge : Bridge). P bridge.plan (bytes_of bridge B)) same fact
+
 -- zeros that are written over zeros change nothing
 pub written_zeros : (at len : ℕ) (mem : List ℕ) → at + len ≤ length mem → AreZero at len mem → written at (replicate len 0) mem ≡ mem
 written_zeros at len mem within zero =

@@ -7,10 +7,14 @@ use Rattle.byte_model.specs.Addresses.{own_header}
 use Rattle.host_memory.specs.Memory.{ArePromised, Touches}
 use Rattle.plan_model.specs.Plans.{side_plan}
 use Rattle.plan_model.specs.Sizes.{header_bytes, layout_to}
-use Rattle.ring_geometry.specs.Geometry.{entries_of}
+use Rattle.ring_geometry.specs.Geometry.{Layout, entries_of}
 use Rattle.step_kinds.specs.declared.names.Side.{Side}
 use Rattle.step_kinds.specs.declared.plan.PairPlan.{PairPlan}
 use Rattle.bridge_pair.specs.Words.{AreIndexWordsPromised}
+
+-- the ring is the one that the side receives in on one of its queues
+abbrev pub IsReceivingRing : PairPlan → Side → Layout → Type 0
+IsReceivingRing plan side ring = (ring ≡ layout_to plan side ring.queue) × (ring.queue < (side_plan plan side).queues)
 
 -- each byte of a header is zero
 abbrev pub IsZeroed : PairPlan → Side → ℕ → ℕ → List ℕ → Type 0
@@ -28,14 +32,11 @@ TouchesHeader plan side bytes page = (queue : ℕ) × (queue < (side_plan plan s
 abbrev pub IsHeaderReady : PairPlan → Side → ℕ → ℕ → List ℕ → List ℕ → Type 0
 IsHeaderReady plan side queue n bytes pages = IsZeroed plan side queue n bytes ⊎ ArePromised (own_header plan side queue n) (header_bytes plan) pages
 
--- the headers from one on up to another are zero, and can be zeroed
+-- the headers from one on up to another are zero
 abbrev pub AreSomeZeroed : PairPlan → Side → ℕ → ℕ → ℕ → List ℕ → Type 0
 AreSomeZeroed plan side queue from to bytes = (n : ℕ) → from ≤ n → n < to → IsZeroed plan side queue n bytes
 
-abbrev pub AreSomeReady : PairPlan → Side → ℕ → ℕ → ℕ → List ℕ → List ℕ → Type 0
-AreSomeReady plan side queue from to bytes pages = (n : ℕ) → from ≤ n → n < to → IsHeaderReady plan side queue n bytes pages
-
--- all headers of one queue's ring are, and those of all rings
+-- all headers of one queue's ring can be zeroed, and those of all rings
 abbrev pub AreHeadersOfReady : PairPlan → Side → ℕ → List ℕ → List ℕ → Type 0
 AreHeadersOfReady plan side queue bytes pages = (n : ℕ) → n < entries_of (layout_to plan side queue) → IsHeaderReady plan side queue n bytes pages
 

@@ -1,26 +1,26 @@
 //! The headers of the rings that a side receives in.
+//!
+//! A ring may have millions of entries, of which few were written to: headers on pages that aren't there are passed over.
 
 ghost use Rattle.std.specs.Prelude.{◌≡◌, ◌↔◌, ◌+◌, ◌-◌, ◌<◌, ◌≤◌, IsTrue, OnOk, length, replicate};
-ghost use Rattle.std.specs.List.{flat_map};
 ghost use Rattle.bridge_pair.specs.Bridge.{bytes_of, memory_size, pages_of, with_bytes};
 ghost use Rattle.bridge_pair.specs.Ends.{bytes_after};
 ghost use Rattle.bridge_pair.specs.Pages.{OnlyPagesGrow};
 ghost use Rattle.bridge_pair.specs.Words.{WindowsFit};
 ghost use Rattle.byte_model.specs.Addresses.{own_header};
-ghost use Rattle.hand_shake.specs.Headers.{AreHeadersOfReady, AreHeadersReady, AreSomeReady, AreSomeZeroed, IsHeaderReady, IsZeroed, TouchesHeader, TouchesHeaderOf, ring_stores, some_stores};
-ghost use Rattle.host_memory.specs.Memory.{written};
+ghost use Rattle.hand_shake.specs.Headers.{AreHeadersOfReady, AreHeadersReady, AreSomeZeroed, IsHeaderReady, IsReceivingRing, IsZeroed, TouchesHeader, TouchesHeaderOf, ring_stores};
+ghost use Rattle.host_memory.specs.Memory.{ArePromised, written};
 ghost use Rattle.byte_model.specs.FreshRings.{zeroed_headers};
 ghost use Rattle.plan_model.specs.DeclaredPlans.{IsPair};
 ghost use Rattle.plan_model.specs.Plans.{side_plan as side_plan_of};
-ghost use Rattle.plan_model.specs.Sizes.{header_bytes as bytes_of_header, layout_to};
+ghost use Rattle.plan_model.specs.Sizes.{header_bytes as bytes_of_header};
 ghost use Rattle.ring_geometry.specs.Geometry.{entries_of};
 
 use bridge_pair::{Pair, header_bytes, own_address, receiving_ring, side_plan};
+use host_memory::PAGE_SIZE;
+use ring_geometry::Geometry;
 use std::alloc::AllocError;
 use step_kinds::{PairPlan, Side};
-
-// Headers are looked at together where their slots have so many bytes, as long as none of those is on a page that is there.
-const TOGETHER_BYTES: u32 = 1 << 18;
 
 /// Promises the pages of the headers of the rings that a side receives in, but for headers that are zero already. So a ring
 /// that was never written to takes no memory.
@@ -36,7 +36,7 @@ pub fn promise_headers(pair: &mut Pair, side: Side) -> Result<(), AllocError>
     Ok(())
 }
 
-// The same of one queue's ring, from the first header on.
+// The same of one queue's ring, from the last header on.
 fn promise_headers_of(pair: &mut Pair, side: Side, queue: u32) -> Result<(), AllocError>
     requires fit { WindowsFit pair.old.plan side }
     requires among { queue < (side_plan_of pair.old.plan side).queues }
@@ -44,53 +44,24 @@ fn promise_headers_of(pair: &mut Pair, side: Side, queue: u32) -> Result<(), All
     ensures ok { OnOk result (AreHeadersOfReady pair.old.plan side queue (bytes_of pair.old side) (pages_of pair.new side)) }
 {
     let ring = receiving_ring(pair.plan(), side, queue);
-    let entries = ring.entries();
-    let together = headers_together(pair, side, queue, entries, ring.frame_size());
-    let mut from = 0;
-    while from < entries {
-        let to = from.saturating_add(together).min(entries);
-        promise_some(pair, side, queue, from, to)?;
-        from = to;
+    let mut count = up_to_nonzero(pair, side, &ring, ring.entries());
+    while count > 0 {
+        promise_header(pair, side, &ring, count - 1)?;
+        count = up_to_nonzero(pair, side, &ring, count - 1);
     }
     Ok(())
 }
 
-// The same of the headers from one on up to another.
-fn promise_some(
-    pair: &mut Pair,
-    side: Side,
-    queue: u32,
-    from: u32,
-    to: u32,
-) -> Result<(), AllocError>
+// Promises the pages of a header that isn't zero.
+fn promise_header(pair: &mut Pair, side: Side, ring: &Geometry, n: u32) -> Result<(), AllocError>
     requires fit { WindowsFit pair.old.plan side }
-    requires among { queue < (side_plan_of pair.old.plan side).queues }
-    requires some { from < to }
-    requires slots { to ≤ entries_of (layout_to pair.old.plan side queue) }
-    ensures grown { OnlyPagesGrow (TouchesHeaderOf pair.old.plan side queue (bytes_of pair.old side)) side pair.old pair.new }
-    ensures ok { OnOk result (AreSomeReady pair.old.plan side queue from to (bytes_of pair.old side) (pages_of pair.new side)) }
+    requires ring { IsReceivingRing pair.old.plan side ring.now }
+    requires slot { n < entries_of ring.now }
+    requires nonzero { ¬ IsZeroed pair.old.plan side ring.now.queue n (bytes_of pair.old side) }
+    ensures grown { OnlyPagesGrow (TouchesHeaderOf pair.old.plan side ring.now.queue (bytes_of pair.old side)) side pair.old pair.new }
+    ensures ok { OnOk result (ArePromised (own_header pair.old.plan side ring.now.queue n) (bytes_of_header pair.old.plan) (pages_of pair.new side)) }
 {
-    if are_zero(pair, side, queue, from, to) {
-        return Ok(());
-    }
-    for n in from..to {
-        promise_header(pair, side, queue, n)?;
-    }
-    Ok(())
-}
-
-// The same of one header.
-fn promise_header(pair: &mut Pair, side: Side, queue: u32, n: u32) -> Result<(), AllocError>
-    requires fit { WindowsFit pair.old.plan side }
-    requires among { queue < (side_plan_of pair.old.plan side).queues }
-    requires slot { n < entries_of (layout_to pair.old.plan side queue) }
-    ensures grown { OnlyPagesGrow (TouchesHeaderOf pair.old.plan side queue (bytes_of pair.old side)) side pair.old pair.new }
-    ensures ok { OnOk result (IsHeaderReady pair.old.plan side queue n (bytes_of pair.old side) (pages_of pair.new side)) }
-{
-    if is_zero(pair, side, queue, n) {
-        return Ok(());
-    }
-    let at = header_at(pair.plan(), side, queue, n);
+    let at = header_at(pair.plan(), side, ring, n);
     let len = u64::from(header_bytes(pair.plan()));
     pair.promise_range(side, at, len)
 }
@@ -115,107 +86,117 @@ fn zero_headers_of(pair: &mut Pair, side: Side, queue: u32)
     ensures { pair.new ≡ with_bytes pair.old side (bytes_after (ring_stores pair.old.plan side queue) (bytes_of pair.old side)) }
 {
     let ring = receiving_ring(pair.plan(), side, queue);
-    let entries = ring.entries();
-    let together = headers_together(pair, side, queue, entries, ring.frame_size());
-    let mut to = entries;
-    while to > 0 {
-        let from = to.saturating_sub(together);
-        zero_some(pair, side, queue, from, to);
-        to = from;
+    let mut count = up_to_nonzero(pair, side, &ring, ring.entries());
+    while count > 0 {
+        zero_header(pair, side, &ring, count - 1);
+        count = up_to_nonzero(pair, side, &ring, count - 1);
     }
 }
 
-// The same of the headers from one on up to another.
-fn zero_some(pair: &mut Pair, side: Side, queue: u32, from: u32, to: u32)
+// Zeroes a header whose pages are promised.
+fn zero_header(pair: &mut Pair, side: Side, ring: &Geometry, n: u32)
     requires fit { WindowsFit pair.old.plan side }
-    requires among { queue < (side_plan_of pair.old.plan side).queues }
-    requires some { from < to }
-    requires slots { to ≤ entries_of (layout_to pair.old.plan side queue) }
-    requires ready { AreSomeReady pair.old.plan side queue from to (bytes_of pair.old side) (pages_of pair.old side) }
-    ensures { pair.new ≡ with_bytes pair.old side (bytes_after (some_stores pair.old.plan side queue from (to - from)) (bytes_of pair.old side)) }
+    requires ring { IsReceivingRing pair.old.plan side ring.now }
+    requires slot { n < entries_of ring.now }
+    requires promised { ArePromised (own_header pair.old.plan side ring.now.queue n) (bytes_of_header pair.old.plan) (pages_of pair.old side) }
+    ensures { pair.new ≡ with_bytes pair.old side (written (own_header pair.old.plan side ring.now.queue n) (replicate (bytes_of_header pair.old.plan) 0) (bytes_of pair.old side)) }
 {
-    if are_zero(pair, side, queue, from, to) {
-        return;
-    }
-    for n in (from..to).rev() {
-        zero_header(pair, side, queue, n);
-    }
-}
-
-// The same of one header.
-fn zero_header(pair: &mut Pair, side: Side, queue: u32, n: u32)
-    requires fit { WindowsFit pair.old.plan side }
-    requires among { queue < (side_plan_of pair.old.plan side).queues }
-    requires slot { n < entries_of (layout_to pair.old.plan side queue) }
-    requires ready { IsHeaderReady pair.old.plan side queue n (bytes_of pair.old side) (pages_of pair.old side) }
-    ensures { pair.new ≡ with_bytes pair.old side (written (own_header pair.old.plan side queue n) (replicate (bytes_of_header pair.old.plan) 0) (bytes_of pair.old side)) }
-{
-    if is_zero(pair, side, queue, n) {
-        return;
-    }
     let zeros = [0u8; 16];
-    let at = header_at(pair.plan(), side, queue, n);
+    let at = header_at(pair.plan(), side, ring, n);
     let len = header_bytes(pair.plan()) as usize;
     pair.local_write(side, at, &zeros[..len]);
 }
 
-// Whether each byte of a header is zero.
-fn is_zero(pair: &Pair, side: Side, queue: u32, n: u32) -> bool
+// Of the first `count` headers of a ring, how many there are up to the last one that isn't zero: none where all are zero. It
+// looks at the headers of a page's bytes one by one, or, as long as it finds no page there, at twice as many each time.
+fn up_to_nonzero(pair: &Pair, side: Side, ring: &Geometry, count: u32) -> u32
     requires fit { WindowsFit pair.now.plan side }
-    requires among { queue < (side_plan_of pair.now.plan side).queues }
-    requires slot { n < entries_of (layout_to pair.now.plan side queue) }
-    ensures zero { IsTrue result ↔ IsZeroed pair.now.plan side queue n (bytes_of pair.now side) }
-    ensures within { own_header pair.now.plan side queue n + bytes_of_header pair.now.plan ≤ length (bytes_of pair.now side) }
+    requires ring { IsReceivingRing pair.now.plan side ring.now }
+    requires slots { count ≤ entries_of ring.now }
+    ensures fewer { result ≤ count }
+    ensures zero { AreSomeZeroed pair.now.plan side ring.now.queue result count (bytes_of pair.now side) }
+    ensures nonzero { 0 < result → ¬ IsZeroed pair.now.plan side ring.now.queue (result - 1) (bytes_of pair.now side) }
+    ensures within { 0 < count → own_header pair.now.plan side ring.now.queue (count - 1) + bytes_of_header pair.now.plan ≤ length (bytes_of pair.now side) }
+{
+    let on_page = (PAGE_SIZE as u32 / ring.frame_size().max(1)).max(1);
+    let mut together = on_page;
+    let mut to = count;
+    while to > 0 {
+        let from = to.saturating_sub(together);
+        if are_blank(pair, side, ring, from, to) {
+            together = (to - from).saturating_mul(2);
+            to = from;
+        } else if together > on_page {
+            together /= 2;
+        } else {
+            let last = up_to_nonzero_from(pair, side, ring, from, to);
+            if last > from {
+                return last;
+            }
+            to = from;
+        }
+    }
+    0
+}
+
+// The same of the headers from one on up to another, looked at one by one: the first one's number where all are zero.
+fn up_to_nonzero_from(pair: &Pair, side: Side, ring: &Geometry, from: u32, to: u32) -> u32
+    requires fit { WindowsFit pair.now.plan side }
+    requires ring { IsReceivingRing pair.now.plan side ring.now }
+    requires some { from ≤ to }
+    requires slots { to ≤ entries_of ring.now }
+    ensures least { from ≤ result }
+    ensures fewer { result ≤ to }
+    ensures zero { AreSomeZeroed pair.now.plan side ring.now.queue result to (bytes_of pair.now side) }
+    ensures nonzero { from < result → ¬ IsZeroed pair.now.plan side ring.now.queue (result - 1) (bytes_of pair.now side) }
+{
+    for n in (from..to).rev() {
+        if !is_zero(pair, side, ring, n) {
+            return n + 1;
+        }
+    }
+    from
+}
+
+// Whether each byte of a header is zero.
+fn is_zero(pair: &Pair, side: Side, ring: &Geometry, n: u32) -> bool
+    requires fit { WindowsFit pair.now.plan side }
+    requires ring { IsReceivingRing pair.now.plan side ring.now }
+    requires slot { n < entries_of ring.now }
+    ensures { IsTrue result ↔ IsZeroed pair.now.plan side ring.now.queue n (bytes_of pair.now side) }
 {
     let mut header = [0u8; 16];
-    let at = header_at(pair.plan(), side, queue, n);
+    let at = header_at(pair.plan(), side, ring, n);
     let len = header_bytes(pair.plan()) as usize;
     pair.local_read(side, at, &mut header[..len]);
     header == [0u8; 16]
 }
 
-// How many headers of a ring with so many entries are looked at together, by the bytes of a slot: all where no page of the ring
-// is there.
-fn headers_together(pair: &Pair, side: Side, queue: u32, entries: u32, slot_bytes: u32) -> u32
+// Whether no page is there between the first one's beginning and the last one's end of the headers from one on up to another,
+// which then are zero.
+fn are_blank(pair: &Pair, side: Side, ring: &Geometry, from: u32, to: u32) -> bool
     requires fit { WindowsFit pair.now.plan side }
-    requires among { queue < (side_plan_of pair.now.plan side).queues }
-    requires all { entries ≡ entries_of (layout_to pair.now.plan side queue) }
-    ensures { 1 ≤ result }
-{
-    if entries > 0 {
-        if are_zero(pair, side, queue, 0, entries) {
-            return entries;
-        }
-    }
-    (TOGETHER_BYTES / slot_bytes.max(1)).max(1)
-}
-
-// Whether the headers from one on up to another are zero for sure: they are where no page is there of those that lie between the
-// first one's beginning and the last one's end.
-fn are_zero(pair: &Pair, side: Side, queue: u32, from: u32, to: u32) -> bool
-    requires fit { WindowsFit pair.now.plan side }
-    requires among { queue < (side_plan_of pair.now.plan side).queues }
+    requires ring { IsReceivingRing pair.now.plan side ring.now }
     requires some { from < to }
-    requires slots { to ≤ entries_of (layout_to pair.now.plan side queue) }
-    ensures zero { IsTrue result → AreSomeZeroed pair.now.plan side queue from to (bytes_of pair.now side) }
-    ensures within { own_header pair.now.plan side queue (to - 1) + bytes_of_header pair.now.plan ≤ length (bytes_of pair.now side) }
+    requires slots { to ≤ entries_of ring.now }
+    ensures zero { IsTrue result → AreSomeZeroed pair.now.plan side ring.now.queue from to (bytes_of pair.now side) }
+    ensures within { own_header pair.now.plan side ring.now.queue (to - 1) + bytes_of_header pair.now.plan ≤ length (bytes_of pair.now side) }
 {
     let plan = pair.plan();
-    let first = header_at(plan, side, queue, from);
-    let last = header_at(plan, side, queue, to - 1);
+    let first = header_at(plan, side, ring, from);
+    let last = header_at(plan, side, ring, to - 1);
     let len = last.saturating_sub(first) + u64::from(header_bytes(plan));
     pair.is_blank(side, first, len)
 }
 
-// The address of a header of the ring that a side receives in on a queue.
-fn header_at(plan: &PairPlan, side: Side, queue: u32, n: u32) -> u64
+// The address of a header of a ring that a side receives in.
+fn header_at(plan: &PairPlan, side: Side, ring: &Geometry, n: u32) -> u64
     requires declared { IsPair plan.now }
     requires fit { WindowsFit plan.now side }
-    requires among { queue < (side_plan_of plan.now side).queues }
-    requires slot { n < entries_of (layout_to plan.now side queue) }
-    ensures value { result ≡ own_header plan.now side queue n }
+    requires ring { IsReceivingRing plan.now side ring.now }
+    requires slot { n < entries_of ring.now }
+    ensures value { result ≡ own_header plan.now side ring.now.queue n }
     ensures within { result + bytes_of_header plan.now ≤ memory_size plan.now side }
 {
-    let ring = receiving_ring(plan, side, queue);
     own_address(plan, side, ring.window_of(), ring.header_at(n))
 }

@@ -23,13 +23,15 @@ const TWO_QUEUES: SidePlan = SidePlan {
     ..ONE_QUEUE
 };
 
-// A pair that starts down, whose side A has version 4, one window, and as many queues as this side B.
+// A side whose ring has 1,024 entries, on 256 pages.
+const LARGE: SidePlan = one_window!(1, 1_048_576);
+
+// A pair that starts down, whose side A has version 4, one window of the size of this side B's, and as many queues.
 fn plan_with(b: SidePlan) -> PairPlan
-    requires side { IsSide b }
-    requires size { b.size ≡ 4096 }
+    requires { IsSide b }
     ensures { IsPair result }
 {
-    let a = one_window!(b.queues, 4096);
+    let a = one_window!(b.queues, b.size);
     plain_pair! { a: a, b: b, mtu: 1023, up: false, strict: true, class_a: [0; 16] }
 }
 
@@ -140,8 +142,7 @@ fn make(alloc: Global, pair: &mut Pair, call: &Call) -> Result<String, AllocErro
 
 // Makes these calls one after another on a new pair with this side B, each of which is to answer what stands beside it.
 fn follow(rt: &impl Abort, alloc: Global, b: SidePlan, calls: &[(Call, &str)]) -> Result<(), Fail>
-    requires side { IsSide b }
-    requires size { b.size ≡ 4096 }
+    requires { IsSide b }
 {
     let mut pair = Pair::new(alloc, &plan_with(b))?;
     assert_answers!(rt; calls, call => make(alloc, &mut pair, call)?);
@@ -239,5 +240,27 @@ fn rings_of_two_entries_are_fresh(rt: HostRuntime) -> Result<(), Fail> {
         Word(3066) => "0",
         Word(2044) => "1",
         Word(4092) => "1",
+    }
+}
+
+// The first header, one in the middle and the last one were written to, and a payload, which stays.
+#[test]
+fn headers_pages_apart_are_zeroed(rt: HostRuntime) -> Result<(), Fail> {
+    follow! { rt, LARGE;
+        Train => "",
+        PutWord(1_019) => "",
+        PutWord(512_000) => "",
+        PutWord(512_519) => "",
+        PutWord(1_047_548) => "",
+        Told(2, 1) => "",
+        Told(3, 1) => "",
+        Told(5, 1_048_576) => "",
+        Told(0, 4) => "",
+        Check => "Some(Up)",
+        Word(1_019) => "0",
+        Word(512_000) => "1",
+        Word(512_519) => "0",
+        Word(1_047_548) => "0",
+        Word(1_048_572) => "1023",
     }
 }

@@ -36,6 +36,10 @@ Touches at len page = (address : ℕ) × (at ≤ address) × (address < at + len
 abbrev pub ArePromised : ℕ → ℕ → List ℕ → Type 0
 ArePromised at len promised = (page : ℕ) → Touches at len page → Contains promised page
 
+-- none of the pages from a first to a last one is promised
+abbrev pub AreNotAmong : ℕ → ℕ → List ℕ → Type 0
+AreNotAmong first last promised = (page : ℕ) → first ≤ page → page ≤ last → ¬ Contains promised page
+
 -- no page that the range touches is promised
 abbrev pub AreAbsent : ℕ → ℕ → List ℕ → Type 0
 AreAbsent at len promised = (page : ℕ) → Touches at len page → ¬ Contains promised page

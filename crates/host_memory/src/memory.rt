@@ -1,7 +1,7 @@
 //! The memory of a host, kept in pages.
 
 ghost use Rattle.std.specs.Prelude.{◌≡◌, ◌↔◌, ℕ, ◌+◌, ◌-◌, ◌%◌, ◌<◌, ◌≤◌, ◌^◌, ◌⊎◌, [], length, replicate, Contains, IfOk, IsOk, IsTrue, OnOk, OnErr};
-ghost use Rattle.host_memory.specs.Memory.{AreAbsent, ArePromised, AreZero, NoRepeats, Touches, bytes_at, page_of, word_at, word_bytes, written};
+ghost use Rattle.host_memory.specs.Memory.{AreAbsent, AreNotAmong, ArePromised, AreZero, NoRepeats, Touches, bytes_at, page_of, word_at, word_bytes, written};
 
 use crate::pages::Pages;
 use byteorder::{ByteOrder, LittleEndian};
@@ -74,21 +74,17 @@ impl Memory {
         ensures absent { IsTrue result ↔ AreAbsent at len self.now.promised }
         ensures zeros { IsTrue result → AreZero at len self.now.bytes }
     {
-        if self.promised.is_empty() {
-            return true;
-        }
         if len == 0 {
             return true;
         }
         prove!(at <= self.len() - len);
         let first = at / PAGE_SIZE;
         let last = (at + len - 1) / PAGE_SIZE;
-        for number in first..last + 1 {
-            if self.pages.get(number).is_some() {
-                return false;
-            }
+        if self.promised.len() as u64 <= last - first {
+            self.promises_none(first, last)
+        } else {
+            self.has_none(first, last)
         }
-        true
     }
 
     /// Reads the bytes from the address `at` on into the whole of `out`. They have to lie in the memory: `at` and the
@@ -169,6 +165,31 @@ impl Memory {
             return Ok(());
         }
         self.promise_pages(at, len)
+    }
+
+    // Whether none of the promised pages is one of the pages from `first` to `last`.
+    fn promises_none(&self, first: u64, last: u64) -> bool
+        ensures { IsTrue result ↔ AreNotAmong first last self.now.promised }
+    {
+        for &page in &self.promised {
+            if first <= page && page <= last {
+                return false;
+            }
+        }
+        true
+    }
+
+    // The same, asked of each of the pages from `first` to `last`.
+    fn has_none(&self, first: u64, last: u64) -> bool
+        requires { last < 2 ^ 63 }
+        ensures { IsTrue result ↔ AreNotAmong first last self.now.promised }
+    {
+        for number in first..last + 1 {
+            if self.pages.get(number).is_some() {
+                return false;
+            }
+        }
+        true
     }
 
     // Promises each of these pages.

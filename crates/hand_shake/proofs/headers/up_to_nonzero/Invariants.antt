@@ -1,0 +1,19 @@
+use Rattle.std.proofs.Common.{◌+◌, ◌*◌, ◌-◌, ◌<◌, ◌≤◌, length}
+use Rattle.byte_model.specs.Addresses.{own_header}
+use Rattle.plan_model.specs.Sizes.{header_bytes}
+use Rattle.bridge_pair.specs.Bridge.{bytes_of}
+use Rattle.hand_shake.specs.Headers.{AreSomeZeroed}
+use Rattle.hand_shake.proofs.headers.up_to_nonzero.Given as goal
+
+abbrev pub invariant-loop-to : goal.invariant-loop-to
+invariant-loop-to l =
+    record {
+      together : 1 ≤ l.together;
+      on_page : 1 ≤ l.on_page;
+      fewer : l.to ≤ l.count;
+      zero : AreSomeZeroed l.pair.plan l.side l.ring.queue l.to l.count (bytes_of l.pair l.side);
+      within : l.to < l.count → own_header l.pair.plan l.side l.ring.queue (l.count - 1) + header_bytes l.pair.plan ≤ length (bytes_of l.pair l.side);
+    }
+
+abbrev pub decreases-loop-to : goal.decreases-loop-to
+decreases-loop-to l = 2 * l.to + l.together
