@@ -95,8 +95,7 @@ fn count_blocked(
     let mut steps = StepList::new(alloc);
     let mut blocked = BlockedCount { count: 0 };
     for _ in 0..frames {
-        steps.clear();
-        load.push_next(alloc, &mut steps)?;
+        load.put_next(alloc, &mut steps)?;
         make_steps(&steps, fabric, &mut blocked)?;
     }
     Ok(blocked.count)

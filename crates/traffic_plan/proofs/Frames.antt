@@ -14,6 +14,15 @@ use Rattle.plan_model.specs.Macros.{send, receive}
 use Rattle.script_words.specs.Compact.{lines_with}
 use Rattle.traffic_plan.specs.Load.{word_at, state_past, state_after, word_of, load_pair, length_of, payload_of, landings_of, frame_steps, frame_lines, lines_of_frame, LoadGiven, frames_given}
 
+-- a state is a number of 64 bits
+past_small : (state : ℕ) → state_past state < 2 ^ 64
+unfolding state_past
+past_small state = mod-lt _ (lit< tt)
+
+pub state_small : (seed n : ℕ) → seed < 2 ^ 64 → state_after seed n < 2 ^ 64
+state_small seed zero small = small
+state_small seed (suc n) small = past_small (state_after seed n)
+
 -- the two words of a frame, and the state after it
 pub words_of_frame : (seed k state : ℕ) → state ≡ state_after seed (2 * k)
     → (word_at state ≡ word_of seed (2 * k)) × (word_at (state_past state) ≡ word_of seed (2 * k + 1)) × (state_past (state_past state) ≡ state_after seed (2 * (k + 1)))

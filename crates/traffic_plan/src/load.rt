@@ -1,6 +1,6 @@
 //! The plan of a generated load.
 
-ghost use Rattle.std.specs.Prelude.{◌≡◌, ◌∷◌, [], ◌++◌, ◌+◌, ◌^◌, ◌<◌, ◌≤◌, length, IfOk, OnOk};
+ghost use Rattle.std.specs.Prelude.{◌≡◌, ◌∷◌, [], ◌++◌, ◌+◌, ◌^◌, ◌<◌, ◌≤◌, length, IfOk, OnErr, OnOk};
 ghost use Rattle.lane_model.specs.Lane.{chunks_in};
 ghost use Rattle.traffic_plan.specs.Load.{word_at, state_past, load_pair, most_load_frames, length_of, payload_of, frame_lines, frames_given, lines_of_frame, load_of, plan_of};
 
@@ -15,12 +15,14 @@ use std::alloc::{AllocError, Global};
 use std::marker::Model;
 use step_kinds::{Frame, Items, Line, Name, PairPlan, Plan, Side, Step};
 
-/// The next word of the generator.
-fn next_word(words: &mut SplitMix64) -> u64
-    ensures word { result ≡ word_at words.old }
-    ensures state { words.new ≡ state_past words.old }
+/// The two words of the next frame.
+fn frame_words(words: &mut SplitMix64) -> (u64, u64)
+    ensures first { result.0 ≡ word_at words.old }
+    ensures second { result.1 ≡ word_at (state_past words.old) }
+    ensures state { words.new ≡ state_past (state_past words.old) }
 {
-    words.next_word()
+    let word = words.next_word();
+    (word, words.next_word())
 }
 
 /// The pair.
@@ -96,17 +98,25 @@ impl LoadFrames {
         }
     }
 
-    /// Adds the steps of the next frame; the number of their line is that of the frame, from 1. A load has at most 30,000
-    /// frames. The only error is want of memory, and then nothing is said of the steps and the frames.
-    pub fn push_next(&mut self, alloc: Global, steps: &mut StepList) -> Result<(), AllocError>
+    /// Puts the steps of the next frame in place of those in `steps`; the number of their line is that of the frame, from
+    /// 1. A load has at most 30,000 frames. The only error is want of memory: then `steps` is empty, and the same frame
+    /// is still the next one.
+    pub fn put_next(&mut self, alloc: Global, steps: &mut StepList) -> Result<(), AllocError>
         requires { self.old.given < most_load_frames }
-        ensures steps { OnOk result (steps.new ≡ steps.old ++ lines_of_frame self.old.seed self.old.given) }
+        ensures steps { OnOk result (steps.new ≡ lines_of_frame self.old.seed self.old.given) }
         ensures given { OnOk result (self.new ≡ frames_given self.old.seed (self.old.given + 1)) }
+        ensures err { OnErr result ((steps.new ≡ []) × (self.new ≡ self.old)) }
     {
-        let word = next_word(&mut self.words);
-        let landings = next_word(&mut self.words);
+        steps.clear();
+        let mut words = SplitMix64::from_seed(self.words.state());
+        let (word, landings) = frame_words(&mut words);
+        if let Err(error) = push_frame(alloc, steps, self.given + 1, word, landings) {
+            steps.clear();
+            return Err(error);
+        }
+        self.words = words;
         self.given += 1;
-        push_frame(alloc, steps, self.given, word, landings)
+        Ok(())
     }
 }
 
@@ -126,10 +136,11 @@ fn load_lines(alloc: Global, seed: u64, frames: u32) -> Result<Items<Line>, Allo
     requires { frames ≤ most_load_frames }
     ensures { IfOk result (λ lines. lines ≡ (load_of seed frames).steps) }
 {
-    let mut load = LoadFrames::new(seed);
+    let mut words = SplitMix64::seed_from_u64(seed);
     let mut steps = StepList::new(alloc);
-    for _ in 0..frames {
-        load.push_next(alloc, &mut steps)?;
+    for k in 0..frames {
+        let (word, landings) = frame_words(&mut words);
+        push_frame(alloc, &mut steps, k + 1, word, landings)?;
     }
     steps.into_items(alloc)
 }

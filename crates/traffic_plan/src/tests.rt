@@ -55,9 +55,8 @@ fn steps_of_seed_one(rt: HostRuntime) -> Result<(), Fail> {
 fn the_second_frame_alone(rt: HostRuntime) -> Result<(), Fail> {
     let mut load = LoadFrames::new(1);
     let mut steps = StepList::new(rt.alloc());
-    load.push_next(rt.alloc(), &mut steps)?;
-    steps.clear();
-    load.push_next(rt.alloc(), &mut steps)?;
+    load.put_next(rt.alloc(), &mut steps)?;
+    load.put_next(rt.alloc(), &mut steps)?;
     let mut plan = load_without_steps(rt.alloc())?;
     plan.steps = steps.into_items(rt.alloc())?;
     let marks = marks_of(rt.alloc(), &plan)?;

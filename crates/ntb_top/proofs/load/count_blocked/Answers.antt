@@ -1,4 +1,4 @@
-use Rattle.std.proofs.Common.{◌≡◌, ◌∙◌, ℕ, ◌+◌, [], ◌++◌, List, ap, sym, subst, arith}
+use Rattle.std.proofs.Common.{◌≡◌, ◌∙◌, ℕ, ◌+◌, [], List, ap, sym, subst, arith}
 use Rattle.std.specs.List.{All, flat_map, range_with_len}
 use Rattle.step_kinds.specs.declared.plan.Line.{Line}
 use Rattle.plan_model.specs.DeclaredPlans.{IsPermitted}
@@ -11,19 +11,18 @@ use Rattle.ntb_top.proofs.PermittedSteps.{steps_permitted}
 use Rattle.ntb_top.proofs.Replaying.{kept_both, length-answers}
 use Rattle.ntb_top.proofs.load.count_blocked.Goals as goal
 
--- the steps of the next frame, behind none
-next_lines : (seed k : ℕ) (load : LoadGiven) (old new : List Line) → load ≡ frames_given seed k → old ≡ [] → new ≡ old ++ lines_of_frame load.seed load.given → new ≡ lines_of_frame seed k
-next_lines seed k load old new given none is =
-    is ∙ ap (λ (before : List Line). before ++ lines_of_frame load.seed load.given) none ∙ ap (λ (load : LoadGiven). lines_of_frame load.seed load.given) given
+-- the steps of the next frame
+next_lines : (seed k : ℕ) (load : LoadGiven) (new : List Line) → load ≡ frames_given seed k → new ≡ lines_of_frame load.seed load.given → new ≡ lines_of_frame seed k
+next_lines seed k load new given is = is ∙ ap (λ (load : LoadGiven). lines_of_frame load.seed load.given) given
 
 pub make_steps-requires : goal.make_steps-requires
 make_steps-requires c =
     let seed = c.args.seed in
     let k = c.loop.counter in
-    let own = next_lines seed k c.loop.load c.clear.new.self c.push_next.new.steps c.loop.invariant.load c.clear.ensures c.in_ok-push_next.ensures.steps in
-    let may : All (λ line. IsPermitted (plan_of []) line.step) c.push_next.new.steps =
+    let own = next_lines seed k c.loop.load c.put_next.new.steps c.loop.invariant.load c.in_ok-put_next.ensures.steps in
+    let may : All (λ line. IsPermitted (plan_of []) line.step) c.put_next.new.steps =
     subst (λ (lines : List Line). All (λ line. IsPermitted (plan_of []) line.step) lines) (sym own) (lines_permitted [] seed k) in
-    steps_permitted (plan_of []) _ c.push_next.new.steps c.loop.invariant.kept.replayed.kept may
+    steps_permitted (plan_of []) _ c.put_next.new.steps c.loop.invariant.kept.replayed.kept may
 
 pub loop-preserved : goal.loop-preserved
 loop-preserved c =
@@ -31,13 +30,13 @@ loop-preserved c =
     let k = c.loop.counter in
     let plan = load_of seed c.args.frames in
     let before : List Line = flat_map (lines_of_frame seed) (range_with_len 0 k) in
-    let own = next_lines seed k c.loop.load c.clear.new.self c.push_next.new.steps c.loop.invariant.load c.clear.ensures c.in_ok-push_next.ensures.steps in
+    let own = next_lines seed k c.loop.load c.put_next.new.steps c.loop.invariant.load c.in_ok-put_next.ensures.steps in
     let so_far = c.loop.invariant.kept in
     let next : HasKept with_blocked plan before (lines_of_frame seed k) c.make_steps.new.fabric c.loop.blocked c.make_steps.new.kept =
     subst (λ (lines : List Line). HasKept with_blocked plan before lines c.make_steps.new.fabric c.loop.blocked c.make_steps.new.kept) own
     (c.in_ok-make_steps.ensures.kept plan before so_far.replayed) in
     record {
-      load = c.in_ok-push_next.ensures.given ∙ ap (λ (load : LoadGiven). frames_given load.seed (load.given + 1)) c.loop.invariant.load;
+      load = c.in_ok-put_next.ensures.given ∙ ap (λ (load : LoadGiven). frames_given load.seed (load.given + 1)) c.loop.invariant.load;
       kept =
           subst (λ (lines : List Line). HasKept with_blocked plan [] lines c.make_steps.new.fabric 0 c.make_steps.new.kept) (sym (frames_more (lines_of_frame seed) k))
           (kept_both with_blocked plan [] before (lines_of_frame seed k) c.loop.fabric c.make_steps.new.fabric 0 c.loop.blocked c.make_steps.new.kept so_far next);

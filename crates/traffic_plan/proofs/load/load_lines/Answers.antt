@@ -1,12 +1,19 @@
-use Rattle.std.proofs.Common.{◌+◌, ◌∙◌, ap}
-use Rattle.traffic_plan.specs.Load.{LoadGiven, frames_given}
-use Rattle.traffic_plan.proofs.Frames.{frame_more}
+use Rattle.std.proofs.Common.{◌∙◌, refl}
+use Rattle.traffic_plan.specs.Load.{frames_given}
+use Rattle.traffic_plan.proofs.Frames.{frame_drawn, frame_more, words_of_frame}
 use Rattle.traffic_plan.proofs.load.load_lines.Goals as goal
 
-pub loop-preserved : goal.loop-preserved
-loop-preserved c = record {
-  steps =
-      frame_more c.args.seed c.loop.counter c.loop.load c.loop.steps c.push_next.new.steps c.loop.invariant.given c.loop.invariant.steps
-      c.in_ok-push_next.ensures.steps;
-  given = c.in_ok-push_next.ensures.given ∙ ap (λ (load : LoadGiven). frames_given load.seed (load.given + 1)) c.loop.invariant.given;
-}
+pub loop-k-preserved : goal.loop-k-preserved
+loop-k-preserved c =
+    let seed = c.args.seed in
+    let k = c.loop-k.k in
+    let so_far = c.loop-k.invariant in
+    let drawn = c.frame_words-word.ensures in
+    let words = words_of_frame seed k c.loop-k.words so_far.words in
+    let pushed =
+    frame_drawn seed k c.frame_words-word.result.0 c.frame_words-word.result.1 (frames_given seed k) c.loop-k.steps c.push_frame.new.steps c.push_frame.result refl (drawn.first ∙ words.0) (drawn.second ∙ words.1)
+    c.push_frame.ensures in
+    record {
+      words = drawn.state ∙ words.2;
+      steps = frame_more seed k (frames_given seed k) c.loop-k.steps c.push_frame.new.steps refl so_far.steps (rw c.in_ok-push_frame.was at pushed);
+    }
