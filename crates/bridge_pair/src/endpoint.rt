@@ -11,7 +11,6 @@ ghost use Rattle.posted_queue.specs.Flight.{discarded, given_back, promised};
 ghost use Rattle.posted_queue.specs.Landing.{after_landing, land_answer};
 
 use crate::flying_write::{Arrival, FlyingWrite};
-use crate::write::WriteBytes;
 use bridge_regs::{Bells, Pads};
 use host_memory::Memory;
 use posted_queue::{LandAnswer, Queue};
@@ -70,6 +69,7 @@ impl Endpoint {
     }
 
     /// The peer posts a write, which is lost where the link is not up.
+    #[inline]
     pub fn post(&mut self, is_up: bool, write: FlyingWrite)
         requires promise { 0 < self.old.coming.spare }
         requires place { HasPlace self.old.memory write.arrival }
@@ -83,6 +83,7 @@ impl Endpoint {
     }
 
     /// Lands the write at a place of those that come.
+    #[inline]
     pub fn land(&mut self, place: usize) -> LandAnswer<Label>
         ensures answer { result ≡ label_landed (land_answer flying_order self.old.coming place) }
         ensures after { self.new ≡ after_answer (record self.old { coming = after_landing flying_order self.old.coming place }) (land_answer flying_order self.old.coming place) }
@@ -93,32 +94,24 @@ impl Endpoint {
             LandAnswer::Blocked => LandAnswer::Blocked,
             LandAnswer::Landed(write) => {
                 let label = write.label;
-                self.arrive(write);
+                self.arrive(&write);
                 LandAnswer::Landed(label)
             }
         }
     }
 
     // What arrives is stored, or sets its register.
-    fn arrive(&mut self, write: FlyingWrite)
-        requires { HasPlace self.old.memory write.arrival }
-        ensures after { self.new ≡ after_arrival self.old write.arrival }
+    #[inline]
+    fn arrive(&mut self, write: &FlyingWrite)
+        requires { HasPlace self.old.memory write.now.arrival }
+        ensures after { self.new ≡ after_arrival self.old write.now.arrival }
         ensures size { length self.new.memory.bytes ≡ length self.old.memory.bytes }
     {
-        match write.arrival {
-            Arrival::AtAddress { at, bytes } => self.store(at, bytes),
-            Arrival::AtPad { index, value } => self.pads.set(index, value),
-            Arrival::AtBell { bit } => self.bells.ring(bit),
+        match &write.arrival {
+            Arrival::AtAddress { at, bytes } => self.write(*at, bytes.as_slice()),
+            Arrival::AtPad { index, value } => self.pads.set(*index, *value),
+            Arrival::AtBell { bit } => self.bells.ring(*bit),
         }
-    }
-
-    // Bytes that arrived are stored.
-    fn store(&mut self, at: u64, bytes: WriteBytes)
-        requires { HasPlace self.old.memory (AtAddress at bytes) }
-        ensures after { self.new ≡ after_arrival self.old (AtAddress at bytes) }
-        ensures size { length self.new.memory.bytes ≡ length self.old.memory.bytes }
-    {
-        self.write(at, bytes.as_slice());
     }
 
     pub fn coming_count(&self) -> usize

@@ -48,6 +48,7 @@ impl Ordered for FlyingWrite {
 
 impl FlyingWrite {
     /// A side's write as it is posted, translated to where it arrives at the peer.
+    #[inline]
     pub fn of_write(plan: &PairPlan, side: Side, write: Write) -> FlyingWrite
         requires declared { IsPair plan.now }
         requires translates { Translates plan.now side write.target }
@@ -76,6 +77,7 @@ impl Model for FlyingWrite {
 }
 
 // Where a side's write arrives.
+#[inline]
 fn arrival_of_target(plan: &PairPlan, side: Side, target: Target) -> Arrival
     requires declared { IsPair plan.now }
     requires translates { Translates plan.now side target }

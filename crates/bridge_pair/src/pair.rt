@@ -188,6 +188,7 @@ impl Pair {
     ///
     /// While the link is up the write is in flight behind all others of the side. Else it is lost without a word, as posted
     /// writes are, and its promise is given back. It takes no memory.
+    #[inline]
     pub fn post(&mut self, side: Side, write: Write)
         requires promise { 0 < (flight_of self.old side).spare }
         requires translates { Translates self.old.plan side write.target }
@@ -208,6 +209,7 @@ impl Pair {
     /// [`LandAnswer::Blocked`] comes where the write may not pass one before it, by kind and traffic class (PCI Express
     /// Base 4.0, section 2.4), and [`LandAnswer::Nothing`] where no more than `place` writes are in flight. Both change
     /// nothing. It takes no memory.
+    #[inline]
     pub fn land(&mut self, side: Side, place: usize) -> LandAnswer<Label>
         ensures answer { result ≡ label_landed (landing self.old side place) }
         ensures after { self.new ≡ after_land self.old side place }

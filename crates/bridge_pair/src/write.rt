@@ -44,6 +44,7 @@ pub struct Write {
 
 impl Write {
     /// A write to the peer's memory: 1 to 128 bytes, through the window `window`, from the byte `offset` of it on.
+    #[inline]
     pub fn memory(label: Label, window: u32, offset: u64, bytes: &[u8]) -> Write
         requires some { 1 ≤ length bytes.now }
         requires fits { length bytes.now ≤ most_write_bytes }

@@ -78,8 +78,9 @@ fn make_groups(alloc: Global, groups: &mut Vec<Group>, count: usize) -> Result<(
     ensures pages { KeepsPages groups.old.items groups.new.items }
     ensures ok { OnOk result (count ≤ length groups.new.items) }
 {
+    groups.reserve(count.saturating_sub(groups.len()))?;
     while groups.len() < count {
-        groups.push(Vec::new(alloc))?;
+        groups.push_reserved(Vec::new(alloc));
     }
     Ok(())
 }
@@ -89,8 +90,9 @@ fn make_places(group: &mut Group, count: usize) -> Result<(), AllocError>
     ensures pages { KeepsPlaces group.old.items group.new.items }
     ensures ok { OnOk result (count ≤ length group.new.items) }
 {
+    group.reserve(count.saturating_sub(group.len()))?;
     while group.len() < count {
-        group.push(None)?;
+        group.push_reserved(None);
     }
     Ok(())
 }
