@@ -6,6 +6,7 @@ ghost use Rattle.step_kinds.specs.declared.plan.Line.{Line};
 ghost use Rattle.step_kinds.specs.declared.plan.LineAnswer.{LineAnswer as LineAnswerValue};
 ghost use Rattle.step_kinds.specs.declared.plan.Plan.{Plan};
 ghost use Rattle.plan_model.specs.DeclaredPlans.{IsPermitted};
+ghost use Rattle.plan_model.specs.Macros.{receive};
 ghost use Rattle.script_words.specs.Compact.{lines_with};
 ghost use Rattle.script_plan.specs.StepLists.{lines_in};
 ghost use Rattle.fabric_core.specs.Fabric.{plan_kept};
@@ -14,7 +15,7 @@ ghost use Rattle.ntb_top.specs.ReplaySteps.{HasKept, HasReplayed};
 use fabric_core::Fabric;
 use script_plan::{StepList, Stretch};
 use std::alloc::AllocError;
-use step_kinds::{LineAnswer, Step};
+use step_kinds::{LineAnswer, Side, Step};
 
 /// What is kept of the answers to steps.
 pub trait KeepsAnswers {
@@ -59,7 +60,40 @@ fn make_stretch<K: KeepsAnswers>(
             repeated,
             count,
         } => make_again(*line, &repeated.step(), *count, fabric, kept),
+        Stretch::Received {
+            line,
+            pair,
+            side,
+            queue,
+            copies,
+        } => make_received(*line, *pair, *side, *queue, *copies, fabric, kept),
     }
+}
+
+// Makes the steps of a line by which a side receives a frame in so many copies.
+fn make_received<K: KeepsAnswers>(
+    line: u32,
+    pair: u32,
+    side: Side,
+    queue: u32,
+    copies: u32,
+    fabric: &mut Fabric,
+    kept: &mut K,
+) -> Result<(), AllocError>
+    requires { All (λ line. IsPermitted (plan_kept fabric.old) line.step) (lines_with line (receive pair side queue copies)) }
+    ensures plan { OnOk result (plan_kept fabric.new ≡ plan_kept fabric.old) }
+    ensures kept { (plan : Plan) (before : List Line) → HasReplayed plan before fabric.old → OnOk result (HasKept K.with_answer plan before (lines_with line (receive pair side queue copies)) fabric.new kept.old kept.new) }
+{
+    make_step(line, &Step::Look { pair, side, queue }, fabric, kept)?;
+    make_again(
+        line,
+        &Step::Copy { pair, side, queue },
+        copies,
+        fabric,
+        kept,
+    )?;
+    make_step(line, &Step::Clear { pair, side, queue }, fabric, kept)?;
+    make_step(line, &Step::Ack { pair, side, queue }, fabric, kept)
 }
 
 // Makes one step of a line so many times.

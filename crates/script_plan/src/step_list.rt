@@ -7,7 +7,7 @@ ghost use Rattle.script_plan.specs.StepLists.{all_lines, lines_in};
 use script_words::{Macro, Repeated};
 use std::alloc::{AllocError, Global};
 use std::marker::Model;
-use step_kinds::{Items, Line, Step};
+use step_kinds::{Items, Line, Side, Step};
 
 /// Steps of a line that stand in a row.
 #[derive(Drop)]
@@ -27,6 +27,19 @@ pub enum Stretch {
         repeated: Repeated,
         /// How often it stands here.
         count: u32,
+    },
+    /// A frame is received: a look, so many copies, a clear and an ack.
+    Received {
+        /// The line's number.
+        line: u32,
+        /// The pair's number, from 0.
+        pair: u32,
+        /// The side that receives.
+        side: Side,
+        /// The queue.
+        queue: u32,
+        /// How many copies.
+        copies: u32,
     },
 }
 
@@ -68,7 +81,7 @@ impl StepList {
         ensures ok { OnOk result (self.new ≡ self.old ++ lines_with line (steps_of more)) }
         ensures err { OnErr result (self.new ≡ self.old) }
     {
-        self.stretches.reserve(4)?;
+        self.stretches.reserve(2)?;
         put_stretches(&mut self.stretches, line, more);
         Ok(())
     }
@@ -103,9 +116,9 @@ impl Model for StepList {
     ghost view = { λ list. all_lines list.stretches.items };
 }
 
-/// Adds the steps of a line, of which four stretches at most are kept. There is room for them.
+/// Adds the steps of a line, of which two stretches at most are kept. There is room for them.
 fn put_stretches(stretches: &mut Vec<Stretch>, line: u32, more: Macro)
-    requires { vec_len stretches.old + 4 ≤ vec_capacity stretches.old }
+    requires { vec_len stretches.old + 2 ≤ vec_capacity stretches.old }
     ensures { all_lines stretches.new.items ≡ all_lines stretches.old.items ++ lines_with line (steps_of more) }
 {
     match more {
@@ -124,17 +137,13 @@ fn put_stretches(stretches: &mut Vec<Stretch>, line: u32, more: Macro)
             side,
             queue,
             copies,
-        } => {
-            put_one(stretches, line, Step::Look { pair, side, queue });
-            put_again(
-                stretches,
-                line,
-                Repeated::Copy { pair, side, queue },
-                copies,
-            );
-            put_one(stretches, line, Step::Clear { pair, side, queue });
-            put_one(stretches, line, Step::Ack { pair, side, queue });
-        }
+        } => stretches.push_reserved(Stretch::Received {
+            line,
+            pair,
+            side,
+            queue,
+            copies,
+        }),
     }
 }
 
@@ -176,6 +185,22 @@ fn push_lines(lines: &mut Vec<Line>, stretch: Stretch) -> Result<(), AllocError>
             repeated,
             count,
         } => push_again(lines, line, repeated, count),
+        Stretch::Received {
+            line,
+            pair,
+            side,
+            queue,
+            copies,
+        } => {
+            let step = Step::Look { pair, side, queue };
+            lines.push(Line { line, step })?;
+            push_again(lines, line, Repeated::Copy { pair, side, queue }, copies)?;
+            let step = Step::Clear { pair, side, queue };
+            lines.push(Line { line, step })?;
+            let step = Step::Ack { pair, side, queue };
+            lines.push(Line { line, step })?;
+            Ok(())
+        }
     }
 }
 
