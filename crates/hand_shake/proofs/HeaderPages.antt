@@ -1,6 +1,6 @@
 -- Headers: their pages are promised one after the other, and they are zeroed from the last one on.
 use Rattle.std.proofs.Common.{◌≡◌, ℕ, suc, ◌+◌, ◌*◌, ◌%◌, ◌-◌, ◌<◌, ◌≤◌, List, [], ◌∷◌, ◌++◌, map, take, replicate, Result, Ok, Err, OnOk, inl, inr, refl, sym, ap, ◌∙◌, subst, arith, Bool, true, false, ◌==◌, if◌then◌else◌}
-use Rattle.std.proofs.Math.Nat.{mod-eq_of_lt, mul-le-mul_right}
+use Rattle.std.proofs.Math.Nat.{add-mul, mod-eq_of_lt, mul-le-mul_right}
 use Rattle.std.proofs.lemmas.Bool.{cases_lt}
 use Rattle.std.proofs.lemmas.List.{take-replicate}
 use Rattle.std.specs.List.{flat_map}
@@ -45,9 +45,31 @@ header_order plan side queue n m least within =
     let row : n * frame_size l ≤ m * frame_size l = mul-le-mul_right (frame_size l) least in
     omega (arith, one, other, row)
 
+-- from one to the next they are a slot apart
+pub header_row : (plan : PairPlan) (side : Side) (queue from n : ℕ) → (layout_to plan side queue).header ≤ frame_size (layout_to plan side queue) → from ≤ n → n < entries_of (layout_to plan side queue)
+    → own_header plan side queue n ≡ own_header plan side queue from + (n - from) * frame_size (layout_to plan side queue)
+header_row plan side queue from n fits least within =
+    let l = layout_to plan side queue in
+    let one = header_place plan side queue from (omega (arith, least, within)) in
+    let other = header_place plan side queue n within in
+    let apart : n ≡ from + (n - from) = omega (arith, least) in
+    let rows : n * frame_size l ≡ from * frame_size l + (n - from) * frame_size l = ap (λ (k : ℕ). k * frame_size l) apart ∙ add-mul from (n - from) (frame_size l) in
+    omega (arith, one, other, rows, fits)
+
 -- the header's place by a plan that is the same
 pub at_same : (plan same : PairPlan) (side : Side) (queue n at : ℕ) → same ≡ plan → at ≡ own_header same side queue n → at ≡ own_header plan side queue n
 at_same plan same side queue n at plans is_at = is_at ∙ ap (λ (plan : PairPlan). own_header plan side queue n) plans
+
+-- the place of a header before another one, as many slots back
+pub header_back : (plan same : PairPlan) (side : Side) (ring : Layout) (n later last slot gap : ℕ) → same ≡ plan → ring ≡ layout_to plan side ring.queue → ring.header ≤ frame_size ring → n ≤ later → later < entries_of ring
+    → last ≡ own_header same side ring.queue later → slot ≡ frame_size ring → gap ≡ later - n → (gap * slot ≤ last) × (last - gap * slot ≡ own_header plan side ring.queue n)
+header_back plan same side ring n later last slot gap plans is_ring fits least within is_last is_slot is_gap =
+    let l = layout_to plan side ring.queue in
+    let at = at_same plan same side ring.queue later last plans is_last in
+    let row = header_row plan side ring.queue n later (subst (λ (l : Layout). l.header ≤ frame_size l) is_ring fits) least (subst (λ (l : Layout). later < entries_of l) is_ring within) in
+    let size : slot ≡ frame_size l = is_slot ∙ ap frame_size is_ring in
+    let gaps : gap * slot ≡ (later - n) * frame_size l = ap (λ (g : ℕ). g * slot) is_gap ∙ ap (λ (s : ℕ). (later - n) * s) size in
+    (omega (arith, at, row, gaps), omega (arith, at, row, gaps))
 
 -- a fact of the plan and of a side's bytes, where only pages were promised since
 pub seen_again : (old new : Bridge) (side : Side) (P : PairPlan → List ℕ → Type 0) → new ≡ with_pages old side (pages_of new side) → P new.plan (bytes_of new side) → P old.plan (bytes_of old side)

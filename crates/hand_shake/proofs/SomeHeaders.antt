@@ -5,7 +5,7 @@ use Rattle.std.proofs.lemmas.List.{map-append}
 use Rattle.byte_model.specs.Addresses.{own_header}
 use Rattle.byte_model.specs.FreshRings.{zeroed_header}
 use Rattle.byte_model.specs.Stores.{Store}
-use Rattle.host_memory.specs.Memory.{written}
+use Rattle.host_memory.specs.Memory.{AreZero, written}
 use Rattle.lane_model.specs.Lane.{count_from}
 use Rattle.plan_model.specs.Sizes.{header_bytes, layout_to}
 use Rattle.ring_geometry.specs.Geometry.{entries_of}
@@ -15,7 +15,7 @@ use Rattle.bridge_pair.specs.Bridge.{Bridge, bytes_of, with_bytes}
 use Rattle.bridge_pair.specs.Ends.{bytes_after}
 use Rattle.hand_shake.specs.Headers.{AreSomeZeroed, IsZeroed, some_stores}
 use Rattle.hand_shake.proofs.HeaderPages.{at_same, bytes_after-append, header_order}
-use Rattle.hand_shake.proofs.ZeroHeaders.{stored_before, written_zeros}
+use Rattle.hand_shake.proofs.ZeroHeaders.{some_zeroed, stored_before, written_zeros}
 
 -- zeros for some headers before those that were zeroed already
 count_both : (from count more : ℕ) → count_from from (count + more) ≡ count_from from count ++ count_from (from + count) more
@@ -94,3 +94,19 @@ span_of plan same side queue from to first last len header plans some slots is_f
     let bytes : header ≡ header_bytes plan = is_header ∙ ap header_bytes plans in
     let order = header_order plan side queue from (to - 1) (omega (arith, some)) (omega (arith, some, slots)) in
     (begin, omega (arith, is_len, begin, end, bytes), omega (arith, is_len, begin, end, bytes, order))
+
+-- they lie in the memory where the last one does
+pub span_within : (plan same : PairPlan) (side : Side) (queue from to first last len header most : ℕ) → same ≡ plan → from < to → to ≤ entries_of (layout_to plan side queue)
+    → first ≡ own_header same side queue from → last ≡ own_header same side queue (to - 1) → header ≡ header_bytes same → len ≡ last - first → last + header_bytes plan ≤ most → first + (len + header) ≤ most
+span_within plan same side queue from to first last len header most plans some slots is_first is_last is_header is_len within =
+    let span = span_of plan same side queue from to first last len header plans some slots is_first is_last is_header is_len in
+    let end = span.2 in
+    omega (arith, end, within)
+
+-- where these bytes are zero, all headers from the first to the last one are
+pub span_zeroed : (plan same : PairPlan) (side : Side) (queue from to first last len header : ℕ) (mem : List ℕ) → same ≡ plan → from < to → to ≤ entries_of (layout_to plan side queue)
+    → first ≡ own_header same side queue from → last ≡ own_header same side queue (to - 1) → header ≡ header_bytes same → len ≡ last - first
+    → AreZero first (len + header) mem → AreSomeZeroed plan side queue from to mem
+span_zeroed plan same side queue from to first last len header mem plans some slots is_first is_last is_header is_len zeros =
+    let span = span_of plan same side queue from to first last len header plans some slots is_first is_last is_header is_len in
+    some_zeroed plan side queue from to (len + header) mem span.1 slots (subst (λ (at : ℕ). AreZero at (len + header) mem) span.0 zeros)

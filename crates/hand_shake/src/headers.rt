@@ -9,18 +9,20 @@ ghost use Rattle.bridge_pair.specs.Pages.{OnlyPagesGrow};
 ghost use Rattle.bridge_pair.specs.Words.{WindowsFit};
 ghost use Rattle.byte_model.specs.Addresses.{own_header};
 ghost use Rattle.hand_shake.specs.Headers.{AreHeadersOfReady, AreHeadersReady, AreSomeZeroed, IsHeaderReady, IsReceivingRing, IsZeroed, TouchesHeader, TouchesHeaderOf, ring_stores};
-ghost use Rattle.host_memory.specs.Memory.{ArePromised, written};
+ghost use Rattle.host_memory.specs.Memory.{ArePromised, AreZero, written};
 ghost use Rattle.byte_model.specs.FreshRings.{zeroed_headers};
 ghost use Rattle.plan_model.specs.DeclaredPlans.{IsPair};
 ghost use Rattle.plan_model.specs.Plans.{side_plan as side_plan_of};
 ghost use Rattle.plan_model.specs.Sizes.{header_bytes as bytes_of_header};
-ghost use Rattle.ring_geometry.specs.Geometry.{entries_of};
+ghost use Rattle.ring_geometry.specs.Geometry.{entries_of, frame_size};
 
 use bridge_pair::{Pair, header_bytes, own_address, receiving_ring, side_plan};
-use host_memory::PAGE_SIZE;
 use ring_geometry::Geometry;
 use std::alloc::AllocError;
 use step_kinds::{PairPlan, Side};
+
+// The headers whose slots have so many bytes are looked at together, and so are more of them where no page is there.
+const TOGETHER_BYTES: u32 = 1024;
 
 /// Promises the pages of the headers of the rings that a side receives in, but for headers that are zero already. So a ring
 /// that was never written to takes no memory.
@@ -108,7 +110,7 @@ fn zero_header(pair: &mut Pair, side: Side, ring: &Geometry, n: u32)
 }
 
 // Of the first `count` headers of a ring, how many there are up to the last one that isn't zero: none where all are zero. It
-// looks at the headers of a page's bytes one by one, or, as long as it finds no page there, at twice as many each time.
+// looks at a few together, or, as long as these are zero, at twice as many each time.
 fn up_to_nonzero(pair: &Pair, side: Side, ring: &Geometry, count: u32) -> u32
     requires fit { WindowsFit pair.now.plan side }
     requires ring { IsReceivingRing pair.now.plan side ring.now }
@@ -118,15 +120,15 @@ fn up_to_nonzero(pair: &Pair, side: Side, ring: &Geometry, count: u32) -> u32
     ensures nonzero { 0 < result → ¬ IsZeroed pair.now.plan side ring.now.queue (result - 1) (bytes_of pair.now side) }
     ensures within { 0 < count → own_header pair.now.plan side ring.now.queue (count - 1) + bytes_of_header pair.now.plan ≤ length (bytes_of pair.now side) }
 {
-    let on_page = (PAGE_SIZE as u32 / ring.frame_size().max(1)).max(1);
-    let mut together = on_page;
+    let few = (TOGETHER_BYTES / ring.frame_size().max(1)).max(1);
+    let mut together = few;
     let mut to = count;
     while to > 0 {
         let from = to.saturating_sub(together);
-        if are_blank(pair, side, ring, from, to) {
+        if are_zero(pair, side, ring, from, to) {
             together = (to - from).saturating_mul(2);
             to = from;
-        } else if together > on_page {
+        } else if together > few {
             together /= 2;
         } else {
             let last = up_to_nonzero_from(pair, side, ring, from, to);
@@ -143,38 +145,28 @@ fn up_to_nonzero(pair: &Pair, side: Side, ring: &Geometry, count: u32) -> u32
 fn up_to_nonzero_from(pair: &Pair, side: Side, ring: &Geometry, from: u32, to: u32) -> u32
     requires fit { WindowsFit pair.now.plan side }
     requires ring { IsReceivingRing pair.now.plan side ring.now }
-    requires some { from ≤ to }
+    requires some { from < to }
     requires slots { to ≤ entries_of ring.now }
     ensures least { from ≤ result }
     ensures fewer { result ≤ to }
     ensures zero { AreSomeZeroed pair.now.plan side ring.now.queue result to (bytes_of pair.now side) }
     ensures nonzero { from < result → ¬ IsZeroed pair.now.plan side ring.now.queue (result - 1) (bytes_of pair.now side) }
 {
+    let last = header_at(pair.plan(), side, ring, to - 1);
+    let slot = u64::from(ring.frame_size());
+    let len = header_bytes(pair.plan()) as usize;
     for n in (from..to).rev() {
-        if !is_zero(pair, side, ring, n) {
+        let at = last - u64::from(to - 1 - n) * slot;
+        if !is_zero::<16>(pair, side, at, len) {
             return n + 1;
         }
     }
     from
 }
 
-// Whether each byte of a header is zero.
-fn is_zero(pair: &Pair, side: Side, ring: &Geometry, n: u32) -> bool
-    requires fit { WindowsFit pair.now.plan side }
-    requires ring { IsReceivingRing pair.now.plan side ring.now }
-    requires slot { n < entries_of ring.now }
-    ensures { IsTrue result ↔ IsZeroed pair.now.plan side ring.now.queue n (bytes_of pair.now side) }
-{
-    let mut header = [0u8; 16];
-    let at = header_at(pair.plan(), side, ring, n);
-    let len = header_bytes(pair.plan()) as usize;
-    pair.local_read(side, at, &mut header[..len]);
-    header == [0u8; 16]
-}
-
-// Whether no page is there between the first one's beginning and the last one's end of the headers from one on up to another,
-// which then are zero.
-fn are_blank(pair: &Pair, side: Side, ring: &Geometry, from: u32, to: u32) -> bool
+// Whether the headers from one on up to another are zero for sure: they are where all bytes from the first one's beginning to
+// the last one's end are. A few bytes are read, and of more it is asked whether no page is there.
+fn are_zero(pair: &Pair, side: Side, ring: &Geometry, from: u32, to: u32) -> bool
     requires fit { WindowsFit pair.now.plan side }
     requires ring { IsReceivingRing pair.now.plan side ring.now }
     requires some { from < to }
@@ -186,7 +178,23 @@ fn are_blank(pair: &Pair, side: Side, ring: &Geometry, from: u32, to: u32) -> bo
     let first = header_at(plan, side, ring, from);
     let last = header_at(plan, side, ring, to - 1);
     let len = last.saturating_sub(first) + u64::from(header_bytes(plan));
-    pair.is_blank(side, first, len)
+    if len <= u64::from(TOGETHER_BYTES) {
+        is_zero::<1024>(pair, side, first, len as usize)
+    } else {
+        pair.is_blank(side, first, len)
+    }
+}
+
+// Whether each of so many bytes of a side's memory, `MOST` at most, is zero; `MOST` is 1,024 at most.
+fn is_zero<const MOST: usize>(pair: &Pair, side: Side, at: u64, len: usize) -> bool
+    requires within { at + len ≤ length (bytes_of pair.now side) }
+    requires few { len ≤ MOST }
+    requires small { MOST ≤ 1024 }
+    ensures { IsTrue result ↔ AreZero at len (bytes_of pair.now side) }
+{
+    let mut bytes = [0u8; MOST];
+    pair.local_read(side, at, &mut bytes[..len]);
+    bytes == [0u8; MOST]
 }
 
 // The address of a header of a ring that a side receives in.
@@ -197,6 +205,7 @@ fn header_at(plan: &PairPlan, side: Side, ring: &Geometry, n: u32) -> u64
     requires slot { n < entries_of ring.now }
     ensures value { result ≡ own_header plan.now side ring.now.queue n }
     ensures within { result + bytes_of_header plan.now ≤ memory_size plan.now side }
+    ensures fits { ring.now.header ≤ frame_size ring.now }
 {
     own_address(plan, side, ring.window_of(), ring.header_at(n))
 }

@@ -9,7 +9,7 @@ abbrev pub invariant-loop-to : goal.invariant-loop-to
 invariant-loop-to l =
     record {
       together : 1 ≤ l.together;
-      on_page : 1 ≤ l.on_page;
+      few : 1 ≤ l.few;
       fewer : l.to ≤ l.count;
       zero : AreSomeZeroed l.pair.plan l.side l.ring.queue l.to l.count (bytes_of l.pair l.side);
       within : l.to < l.count → own_header l.pair.plan l.side l.ring.queue (l.count - 1) + header_bytes l.pair.plan ≤ length (bytes_of l.pair l.side);
