@@ -15,7 +15,7 @@ use Rattle.step_kinds.specs.declared.names.Side.{Side}
 use Rattle.step_kinds.specs.declared.plan.PairPlan.{PairPlan}
 use Rattle.bridge_pair.specs.Bridge.{memory_size}
 use Rattle.bridge_pair.specs.Calls.{HasPages}
-use Rattle.bridge_pair.specs.Ends.{HasPlace}
+use Rattle.bridge_pair.specs.Ends.{HasPlace, IsRegister}
 use Rattle.bridge_pair.specs.Flights.{Flying, Translates, arrival_of}
 use Rattle.bridge_pair.specs.Writes.{IsTarget}
 use Rattle.bridge_pair.specs.declared.flying_write.Arrival.{Arrival}
@@ -53,6 +53,18 @@ pub rest_is : {W : Type 0} (P : W → Type 0) (flight : Flight W) (lands : Bool)
     → All P (if lands then record { writes = remove flight.writes place; spare = flight.spare } else flight).writes
 rest_is P flight true place each = All-append P (take place flight.writes) (drop (suc place) flight.writes) (All-take P place flight.writes each) (All-drop P (suc place) flight.writes each)
 rest_is P flight false place each = each
+
+-- as much is promised as before
+pub spare_is : {W : Type 0} {most : ℕ} (flight : Flight W) (lands : Bool) (place : ℕ) → flight.spare ≤ most
+    → (if lands then record { writes = remove flight.writes place; spare = flight.spare } else flight).spare ≤ most
+spare_is flight true place few = few
+spare_is flight false place few = few
+
+-- what arrives at a register has its place in each memory
+pub register_has_place : (memory : Contents) (arrival : Arrival) → IsRegister arrival → HasPlace memory arrival
+register_has_place memory (AtAddress at bytes) register = absurd register
+register_has_place memory (AtPad index value) register = register
+register_has_place memory (AtBell bit) register = register
 
 -- bytes that stay in their window stay in the memory
 in_memory : (windows cap window offset len : ℕ) → window < windows → offset + len ≤ cap → window * cap + offset + len ≤ windows * cap

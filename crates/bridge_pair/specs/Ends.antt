@@ -26,6 +26,12 @@ HasPlace memory (AtAddress at bytes) = (at + length bytes ≤ length memory.byte
 HasPlace memory (AtPad index value) = index < 16
 HasPlace memory (AtBell bit) = bit < 32
 
+-- what arrives sets a scratchpad or rings a bit, of those that there are
+abbrev pub IsRegister : Arrival → Type 0
+IsRegister (AtAddress at bytes) = ⊥
+IsRegister (AtPad index value) = index < 16
+IsRegister (AtBell bit) = bit < 32
+
 -- Each write in flight has its place, so that landing it asks for nothing.
 pub record IsEnd (end : End) : Type 0 where
   pub pads : length end.pads ≡ 16

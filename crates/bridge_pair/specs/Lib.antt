@@ -1,7 +1,9 @@
 pub mod Writes
+pub mod FlyingBytes
 pub mod Flights
 pub mod Pages
 pub mod Ends
+pub mod Endpoints
 pub mod Bridge
 pub mod Calls
 pub mod Links

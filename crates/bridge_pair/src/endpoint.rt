@@ -1,30 +1,37 @@
 //! One end of a bridge.
 
-ghost use Rattle.std.specs.Prelude.{◌≡◌, ◌↔◌, ◌+◌, ◌<◌, ◌≤◌, IsTrue, Contains, IfOk, IsOk, OnOk, OnErr, length, option_map, replicate, slice_get, slice_index, slice_set};
-ghost use Rattle.bridge_pair.specs.Ends.{HasPlace, IsEnd, after_answer, after_arrival, after_posting, fresh_end, label_landed, stored_at};
+ghost use Rattle.std.specs.Prelude.{◌≡◌, ◌↔◌, ◌+◌, ◌<◌, ◌≤◌, IsTrue, Contains, IfOk, IsOk, OnOk, OnErr, length, option_map, replicate, slice_get, slice_index, slice_set, vec_len};
+ghost use Rattle.bridge_pair.specs.Ends.{HasPlace, IsEnd, after_answer, after_arrival, fresh_end, label_landed, stored_at};
+ghost use Rattle.bridge_pair.specs.Writes.{most_write_bytes};
+ghost use Rattle.plan_model.specs.DeclaredPlans.{IsPair};
+ghost use Rattle.plan_model.specs.Orders.{order_of};
 ghost use Rattle.bridge_pair.specs.Flights.{Flying, flying_order};
 ghost use Rattle.bridge_pair.specs.declared.flying_write.Arrival.TheVariants.{AtAddress};
 ghost use Rattle.bridge_pair.specs.Pages.{PagesGrow};
 ghost use Rattle.bridge_regs.specs.Doorbell.{with_pending};
 ghost use Rattle.host_memory.specs.Memory.{AreAbsent, ArePromised, AreZero, Touches, bytes_at, word_at, word_bytes};
-ghost use Rattle.posted_queue.specs.Flight.{discarded, given_back, promised};
+ghost use Rattle.posted_queue.specs.Flight.{discarded, given_back, posted, promised};
 ghost use Rattle.posted_queue.specs.Landing.{after_landing, land_answer};
 
+use crate::flying_bytes::{Buffer, FEW, FlyingBytes};
 use crate::flying_write::{Arrival, FlyingWrite};
 use bridge_regs::{Bells, Pads};
 use host_memory::Memory;
 use posted_queue::{LandAnswer, Queue};
 use std::alloc::{AllocError, Global};
 use std::marker::Model;
-use step_kinds::Label;
+use step_kinds::{Label, PairPlan, Side};
 
-/// What lies at one side of a pair, its scratchpads, doorbell and memory, and what is in flight towards it.
+/// What lies at one side of a pair, its scratchpads, doorbell and memory, and what is in flight towards it. For each write that
+/// is promised there is a buffer, since it may have more bytes than stand in place.
 #[derive(Drop)]
 pub struct Endpoint {
     pads: Pads,
     bells: Bells,
     memory: Memory,
     coming: Queue<FlyingWrite>,
+    buffers: Vec<Buffer>,
+    alloc: Global,
 }
 
 impl Endpoint {
@@ -40,6 +47,8 @@ impl Endpoint {
             bells: Bells::new(),
             memory: Memory::new(alloc, len)?,
             coming: Queue::new(alloc),
+            buffers: Vec::new(alloc),
+            alloc,
         })
     }
 
@@ -58,6 +67,10 @@ impl Endpoint {
         ensures ok { OnOk result (self.new ≡ record self.old { coming = promised self.old.coming more }) }
         ensures err { OnErr result (self.new ≡ self.old) }
     {
+        let spare = self.coming.spare().checked_add(more).ok_or(AllocError)?;
+        if self.buffers.len() < spare {
+            make_buffers(self.alloc, &mut self.buffers, spare)?;
+        }
         self.coming.promise(more)
     }
 
@@ -68,18 +81,29 @@ impl Endpoint {
         self.coming.give_back(count);
     }
 
-    /// The peer posts a write, which is lost where the link is not up.
+    /// The peer posts a write to a register.
     #[inline]
-    pub fn post(&mut self, is_up: bool, write: FlyingWrite)
+    pub fn post(&mut self, write: FlyingWrite)
         requires promise { 0 < self.old.coming.spare }
         requires place { HasPlace self.old.memory write.arrival }
-        ensures { self.new ≡ record self.old { coming = after_posting is_up self.old.coming write } }
+        ensures { self.new ≡ record self.old { coming = posted self.old.coming write } }
     {
-        if is_up {
-            self.coming.push(write);
-        } else {
-            self.coming.give_back(1);
-        }
+        self.coming.push(write);
+    }
+
+    /// The peer posts bytes, which arrive from the address `at` on.
+    #[inline]
+    pub fn post_bytes(&mut self, plan: &PairPlan, side: Side, label: Label, at: u64, bytes: &[u8])
+        requires declared { IsPair plan.now }
+        requires promise { 0 < self.old.coming.spare }
+        requires few { length bytes.now ≤ most_write_bytes }
+        requires place { HasPlace self.old.memory (AtAddress at bytes.now) }
+        ensures { self.new ≡ record self.old { coming = posted self.old.coming (record { label = label; order = order_of plan.now side label; arrival = AtAddress at bytes.now }) } }
+    {
+        let bytes = flying_bytes(&mut self.buffers, bytes);
+        let arrival = Arrival::AtAddress { at, bytes };
+        self.coming
+            .push(FlyingWrite::new(plan, side, label, arrival));
     }
 
     /// Lands the write at a place of those that come.
@@ -93,24 +117,26 @@ impl Endpoint {
             LandAnswer::Nothing => LandAnswer::Nothing,
             LandAnswer::Blocked => LandAnswer::Blocked,
             LandAnswer::Landed(write) => {
-                let label = write.label;
-                self.arrive(&write);
-                LandAnswer::Landed(label)
+                self.arrive(write.arrival);
+                LandAnswer::Landed(write.label)
             }
         }
     }
 
     // What arrives is stored, or sets its register.
     #[inline]
-    fn arrive(&mut self, write: &FlyingWrite)
-        requires { HasPlace self.old.memory write.now.arrival }
-        ensures after { self.new ≡ after_arrival self.old write.now.arrival }
+    fn arrive(&mut self, arrival: Arrival)
+        requires { HasPlace self.old.memory arrival }
+        ensures after { self.new ≡ after_arrival self.old arrival }
         ensures size { length self.new.memory.bytes ≡ length self.old.memory.bytes }
     {
-        match &write.arrival {
-            Arrival::AtAddress { at, bytes } => self.write(*at, bytes.as_slice()),
-            Arrival::AtPad { index, value } => self.pads.set(*index, *value),
-            Arrival::AtBell { bit } => self.bells.ring(*bit),
+        match arrival {
+            Arrival::AtAddress { at, bytes } => {
+                self.write(at, bytes.as_slice());
+                keep_buffer(&mut self.buffers, bytes);
+            }
+            Arrival::AtPad { index, value } => self.pads.set(index, value),
+            Arrival::AtBell { bit } => self.bells.ring(bit),
         }
     }
 
@@ -216,13 +242,64 @@ impl Endpoint {
 }
 
 impl Model for Endpoint {
-    ghost use Rattle.std.specs.Prelude.{All};
-    ghost use Rattle.bridge_pair.specs.Ends.{End, HasPlace};
-    ghost use Rattle.bridge_pair.specs.Flights.{Flying};
+    ghost use Rattle.bridge_pair.specs.Ends.{End};
+    ghost use Rattle.bridge_pair.specs.Endpoints.{IsHeld, end_seen};
 
     ghost Value = { End };
 
-    ghost view = { λ end. record { pads = end.pads; bells = end.bells; memory = end.memory; coming = end.coming } };
+    ghost view = { end_seen };
 
-    ghost invariant = { λ end. All (λ (flying : Flying). HasPlace end.memory flying.arrival) end.coming.writes };
+    ghost invariant = { IsHeld };
+}
+
+// Makes so many buffers at least.
+fn make_buffers(alloc: Global, buffers: &mut Vec<Buffer>, count: usize) -> Result<(), AllocError>
+    ensures stay { vec_len buffers.old ≤ vec_len buffers.new }
+    ensures ok { OnOk result (count ≤ vec_len buffers.new) }
+{
+    buffers.reserve(count.saturating_sub(buffers.len()))?;
+    while buffers.len() < count {
+        let buffer = Box::new(alloc, [0u8; 128])?;
+        buffers.push_reserved(buffer);
+    }
+    Ok(())
+}
+
+// These bytes, in place or in one of the buffers.
+#[inline]
+fn flying_bytes(buffers: &mut Vec<Buffer>, bytes: &[u8]) -> FlyingBytes
+    requires some { 0 < vec_len buffers.old }
+    requires few { length bytes.now ≤ most_write_bytes }
+    ensures value { result ≡ bytes.now }
+    ensures one { vec_len buffers.old ≤ vec_len buffers.new + 1 }
+{
+    if bytes.len() <= FEW {
+        FlyingBytes::few(bytes)
+    } else {
+        FlyingBytes::many(take_buffer(buffers), bytes)
+    }
+}
+
+// Takes out one of the buffers.
+#[inline]
+fn take_buffer(buffers: &mut Vec<Buffer>) -> Buffer
+    requires { 0 < vec_len buffers.old }
+    ensures { vec_len buffers.new + 1 ≡ vec_len buffers.old }
+{
+    match buffers.pop() {
+        Some(buffer) => buffer,
+        None => unreachable!(),
+    }
+}
+
+// Keeps the buffer of bytes that arrived, where they had one, for later bytes; unless there is no room to keep it.
+#[inline]
+fn keep_buffer(buffers: &mut Vec<Buffer>, bytes: FlyingBytes)
+    ensures { vec_len buffers.old ≤ vec_len buffers.new }
+{
+    if let Some(buffer) = bytes.into_buffer()
+        && buffers.len() < buffers.capacity()
+    {
+        buffers.push_reserved(buffer);
+    }
 }

@@ -1,13 +1,11 @@
 //! Posted writes in flight.
 
 ghost use Rattle.std.specs.Prelude.{◌≡◌, ◌<◌};
-ghost use Rattle.bridge_pair.specs.Flights.{Translates, arrival_of, flying_of};
-ghost use Rattle.bridge_pair.specs.Writes.{IsTarget};
 ghost use Rattle.plan_model.specs.DeclaredPlans.{IsPair};
-ghost use Rattle.plan_model.specs.Plans.{side_plan as side_plan_of};
+ghost use Rattle.plan_model.specs.Orders.{order_of};
 
-use crate::plans::{class_among, classes_of, kind_of, side_plan};
-use crate::write::{Target, Write, WriteBytes};
+use crate::flying_bytes::FlyingBytes;
+use crate::plans::{class_among, classes_of, kind_of};
 use posted_queue::Ordered;
 use std::marker::Model;
 use step_kinds::{Label, PairPlan, Side};
@@ -16,7 +14,7 @@ use step_kinds::{Label, PairPlan, Side};
 #[derive(Drop)]
 pub enum Arrival {
     /// In the peer's memory, from an address on.
-    AtAddress { at: u64, bytes: WriteBytes },
+    AtAddress { at: u64, bytes: FlyingBytes },
     /// At a scratchpad of the peer.
     AtPad { index: u32, value: u32 },
     /// At a bit of the peer's doorbell.
@@ -27,7 +25,7 @@ pub enum Arrival {
 #[derive(Drop)]
 pub struct FlyingWrite {
     pub label: Label,
-    kind: usize,
+    kind: u32,
     class: u32,
     pub arrival: Arrival,
 }
@@ -37,30 +35,29 @@ impl Ordered for FlyingWrite {
 
     ghost order = { flying_order };
 
+    #[inline]
     fn kind(&self) -> usize {
-        self.kind
+        self.kind as usize
     }
 
+    #[inline]
     fn class(&self) -> u32 {
         self.class
     }
 }
 
 impl FlyingWrite {
-    /// A side's write as it is posted, translated to where it arrives at the peer.
+    /// A side's write with this label, which arrives there at its peer.
     #[inline]
-    pub fn of_write(plan: &PairPlan, side: Side, write: Write) -> FlyingWrite
-        requires declared { IsPair plan.now }
-        requires translates { Translates plan.now side write.target }
-        ensures value { result ≡ flying_of plan.now side write }
-        ensures target { IsTarget write.target }
+    pub fn new(plan: &PairPlan, side: Side, label: Label, arrival: Arrival) -> FlyingWrite
+        requires { IsPair plan.now }
+        ensures { result ≡ record { label = label; order = order_of plan.now side label; arrival = arrival } }
     {
-        let Write { label, target } = write;
         FlyingWrite {
             label,
-            kind: kind_of(plan.strict, label),
+            kind: kind_of(plan.strict, label) as u32,
             class: class_among(classes_of(plan, side), label),
-            arrival: arrival_of_target(plan, side, target),
+            arrival,
         }
     }
 }
@@ -74,25 +71,4 @@ impl Model for FlyingWrite {
     ghost view = { λ write. record { label = write.label; order = record { kind = write.kind; class = write.class }; arrival = write.arrival } };
 
     ghost invariant = { λ write. (write.kind < 2) × (write.class < 8) };
-}
-
-// Where a side's write arrives.
-#[inline]
-fn arrival_of_target(plan: &PairPlan, side: Side, target: Target) -> Arrival
-    requires declared { IsPair plan.now }
-    requires translates { Translates plan.now side target }
-    ensures { result ≡ arrival_of plan.now side target }
-{
-    match target {
-        Target::ThroughWindow {
-            window,
-            offset,
-            bytes,
-        } => Arrival::AtAddress {
-            at: u64::from(window) * side_plan(plan, side.other()).cap + offset,
-            bytes,
-        },
-        Target::ToPad { index, value } => Arrival::AtPad { index, value },
-        Target::ToBell { bit } => Arrival::AtBell { bit },
-    }
 }

@@ -13,6 +13,7 @@
 
 mod book;
 mod endpoint;
+mod flying_bytes;
 mod flying_write;
 mod fresh;
 pub mod laws;

@@ -10,9 +10,9 @@ ghost use Rattle.host_memory.specs.Memory.{AreAbsent, ArePromised, AreZero, Touc
 ghost use Rattle.byte_model.specs.FreshRings.{fresh_index_words};
 ghost use Rattle.step_kinds.specs.declared.names.Side.TheVariants.{A, B};
 ghost use Rattle.plan_model.specs.Both.{at_side};
-ghost use Rattle.plan_model.specs.Link.{clean_refusal, cut_refusal, drop_refusal, enable_refusal, train_refusal};
+ghost use Rattle.plan_model.specs.Link.{clean_refusal, cut_refusal, drop_refusal, enable_refusal, is_up, train_refusal};
 ghost use Rattle.plan_model.specs.DeclaredPlans.{IsPair};
-ghost use Rattle.plan_model.specs.Orders.{class_of as order_class, classes_of as plan_classes};
+ghost use Rattle.plan_model.specs.Orders.{class_of as order_class, classes_of as plan_classes, order_of};
 ghost use Rattle.plan_model.specs.Plans.{side_plan as side_plan_of};
 ghost use Rattle.step_kinds.specs.Limits.{most_queues};
 ghost use Rattle.posted_queue.specs.Flight.{given_back, promised};
@@ -20,10 +20,12 @@ ghost use Rattle.step_kinds.specs.Sides.{other_side};
 
 use crate::book::SideBook;
 use crate::endpoint::Endpoint;
-use crate::flying_write::FlyingWrite;
+use crate::flying_write::{Arrival, FlyingWrite};
 use crate::fresh::{fresh_book, fresh_endpoint};
-use crate::plans::{class_among, classes_of, copy_of, index_word_at, sending_ring, side_plan};
-use crate::write::Write;
+use crate::plans::{
+    class_among, classes_of, copy_of, index_word_at, own_address, sending_ring, side_plan,
+};
+use crate::write::{Target, Write};
 use bridge_regs::Bells;
 use link_state::{Link, LinkRefusal, LinkState};
 use posted_queue::LandAnswer;
@@ -46,7 +48,9 @@ pub struct Pair {
 impl Pair {
     ghost use Rattle.bridge_pair.specs.Bridge.{Bridge, IsBook, IsBridge, bells_of, book_of, bytes_of, flight_of, pads_of, pages_of, with_book, with_bytes, with_flight, with_memory, with_pages};
     ghost use Rattle.bridge_pair.specs.Calls.{HasPages, after_land, after_post, landing};
-    ghost use Rattle.bridge_pair.specs.Ends.{bytes_after, label_landed};
+    ghost use Rattle.bridge_pair.specs.Ends.{IsRegister, after_posting, bytes_after, label_landed};
+    ghost use Rattle.bridge_pair.specs.Writes.{memory_write, most_write_bytes};
+    ghost use Rattle.bridge_pair.specs.declared.write.Target.TheVariants.{ThroughWindow};
     ghost use Rattle.bridge_pair.specs.Fresh.{fresh_bridge, fresh_bridge_with, started_memory, zero_memory};
     ghost use Rattle.bridge_pair.specs.Lending.{LendsBellsOf};
     ghost use Rattle.std.specs.Borrow.{sem};
@@ -195,11 +199,62 @@ impl Pair {
         requires pages { HasPages (pages_of self.old (other_side side)) (arrival_of self.old.plan side write.target) }
         ensures { self.new ≡ after_post self.old side write }
     {
-        let is_up = self.link.state() == LinkState::Up;
-        let flying = FlyingWrite::of_write(&self.plan, side, write);
+        let Write { label, target } = write;
+        match target {
+            Target::ThroughWindow {
+                window,
+                offset,
+                bytes,
+            } => self.post_bytes(side, label, window, offset, bytes.as_slice()),
+            Target::ToPad { index, value } => {
+                self.post_register(side, label, Arrival::AtPad { index, value });
+            }
+            Target::ToBell { bit } => self.post_register(side, label, Arrival::AtBell { bit }),
+        }
+    }
+
+    /// A side posts 1 to 128 bytes through the window `window`, from the byte `offset` of it on: the same as
+    /// [`Pair::post`] of a [`Write::memory`], which isn't made. It takes no memory.
+    #[inline]
+    pub fn post_bytes(&mut self, side: Side, label: Label, window: u32, offset: u64, bytes: &[u8])
+        requires promise { 0 < (flight_of self.old side).spare }
+        requires some { 1 ≤ length bytes.now }
+        requires few { length bytes.now ≤ most_write_bytes }
+        requires translates { Translates self.old.plan side (ThroughWindow window offset bytes.now) }
+        requires pages { HasPages (pages_of self.old (other_side side)) (arrival_of self.old.plan side (ThroughWindow window offset bytes.now)) }
+        ensures { self.new ≡ after_post self.old side (memory_write label window offset bytes.now) }
+    {
+        if !self.is_up() {
+            return self.give_back(side, 1);
+        }
+        let at = own_address(&self.plan, side.other(), window, offset);
         match side {
-            Side::A => self.b.post(is_up, flying),
-            Side::B => self.a.post(is_up, flying),
+            Side::A => self.b.post_bytes(&self.plan, side, label, at, bytes),
+            Side::B => self.a.post_bytes(&self.plan, side, label, at, bytes),
+        }
+    }
+
+    // Whether the link is up.
+    #[inline]
+    fn is_up(&self) -> bool
+        ensures { result ≡ is_up self.now.link.state }
+    {
+        self.link.state() == LinkState::Up
+    }
+
+    // A side posts a write to a register of the peer.
+    fn post_register(&mut self, side: Side, label: Label, arrival: Arrival)
+        requires promise { 0 < (flight_of self.old side).spare }
+        requires register { IsRegister arrival }
+        ensures { self.new ≡ with_flight self.old side (after_posting (is_up self.old.link.state) (flight_of self.old side) (record { label = label; order = order_of self.old.plan side label; arrival = arrival })) }
+    {
+        if !self.is_up() {
+            return self.give_back(side, 1);
+        }
+        let write = FlyingWrite::new(&self.plan, side, label, arrival);
+        match side {
+            Side::A => self.b.post(write),
+            Side::B => self.a.post(write),
         }
     }
 

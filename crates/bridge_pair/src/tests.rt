@@ -109,14 +109,24 @@ fn post_bytes(
     };
     pair.promise_range(side.other(), at, len)?;
     pair.promise(side, 1)?;
-    pair.post(side, Write::memory(label, 0, offset, bytes));
+    pair.post_bytes(side, label, 0, offset, bytes);
     Ok(())
+}
+
+// The numbers from 1 to 128.
+fn many() -> [u8; 128] {
+    let mut bytes = [0; 128];
+    for place in 0..128 {
+        bytes[place] = place as u8 + 1;
+    }
+    bytes
 }
 
 // What is done to a pair or read of it.
 #[derive(Drop)]
 enum Call {
     Post(Side, Label, u64),
+    PostMany(Side, Label, u64),
     Bell(Side),
     Pad(Side, u32),
     Land(Side, usize),
@@ -180,6 +190,9 @@ fn land(alloc: Global, pair: &mut Pair, call: &Call) -> Result<String, AllocErro
 fn make(alloc: Global, pair: &mut Pair, call: &Call) -> Result<String, AllocError> {
     match call {
         Call::Post(side, label, offset) => post_bytes(pair, *side, *label, *offset, &[1, 2, 3, 4])?,
+        Call::PostMany(side, label, offset) => {
+            post_bytes(pair, *side, *label, *offset, &many())?;
+        }
         Call::Bell(side) => post_register(pair, *side, true, 0)?,
         Call::Pad(side, value) => post_register(pair, *side, false, *value)?,
         Call::Put(side, offset) => put(pair, *side, *offset, &[9, 0, 0, 0])?,
@@ -244,6 +257,47 @@ fn a_relaxed_write_overtakes(rt: HostRuntime) -> Result<(), Fail> {
         Bits(Side::B) => "0 0",
         Land(Side::A, 0) => "Landed(Bell { queue: 0 })",
         Bits(Side::B) => "1 0",
+    }
+}
+
+// Bytes that need a buffer, while it is lent to other writes and again when it is back; also where a lost link took it.
+#[test]
+fn many_bytes_land_whole(rt: HostRuntime) -> Result<(), Fail> {
+    let (queue, number) = (0, 0);
+    let first = Label::Chunk {
+        queue,
+        number,
+        part: 0,
+    };
+    let second = Label::Chunk {
+        queue,
+        number,
+        part: 1,
+    };
+    follow! { rt, &plan(true, false, 1);
+        PostMany(Side::A, first, 0) => "1",
+        PostMany(Side::A, second, 128) => "2",
+        Land(Side::A, 1) => "Landed(Chunk { queue: 0, number: 0, part: 1 })",
+        Word(Side::B, 128) => "67305985",
+        Word(Side::B, 252) => "2155839101",
+        Word(Side::B, 124) => "0",
+        Post(Side::A, second, 256) => "2",
+        PostMany(Side::A, second, 512) => "3",
+        Land(Side::A, 2) => "Landed(Chunk { queue: 0, number: 0, part: 1 })",
+        Land(Side::A, 0) => "Landed(Chunk { queue: 0, number: 0, part: 0 })",
+        Word(Side::B, 0) => "67305985",
+        Word(Side::B, 124) => "2155839101",
+        Word(Side::B, 636) => "2155839101",
+        Word(Side::B, 256) => "0",
+        PostMany(Side::A, first, 1024) => "2",
+        Cut => "None Closing 1",
+        PostMany(Side::A, first, 1536) => "2",
+        Land(Side::A, 0) => "Landed(Chunk { queue: 0, number: 0, part: 1 })",
+        Word(Side::B, 256) => "67305985",
+        Drop => "None Down 1",
+        Land(Side::A, 0) => "Nothing",
+        Word(Side::B, 1024) => "0",
+        Word(Side::B, 1536) => "0",
     }
 }
 

@@ -12,7 +12,7 @@ use Rattle.plan_model.specs.DeclaredPlans.{SizesFit}
 use Rattle.plan_model.specs.Pieces.{pieces_of}
 use Rattle.plan_model.specs.Plans.{side_plan}
 use Rattle.plan_model.specs.Sizes.{header_bytes, layout_of, pieces_in}
-use Rattle.ring_geometry.specs.Geometry.{Layout, window_of}
+use Rattle.ring_geometry.specs.Geometry.{window_of}
 use Rattle.bridge_pair.specs.Bridge.{Bridge, IsBridge, bytes_of as memory_of, memory_size, pages_of}
 use Rattle.bridge_pair.specs.Pages.{PagesGrow}
 use Rattle.bridge_pair.proofs.Promises.{grows_further, grows_nothing, promised_still}
@@ -40,10 +40,10 @@ lies_inside rings pair peer at offset len law plans sides fit within inside =
     let end = inside len (omega (arith, room, cap, within)) in
     omega (arith, end, size)
 
-pub at_offset : (rings : QueueOf) (peer : Side) (at window offset : ℕ) (out : Layout) → peer ≡ other_side rings.side → window ≡ window_of out → out ≡ layout_of rings.plan rings.side rings.queue
+pub at_offset : (rings : QueueOf) (peer : Side) (at window offset : ℕ) → peer ≡ other_side rings.side → window ≡ window_of (layout_of rings.plan rings.side rings.queue)
     → at ≡ window * (side_plan rings.plan peer).cap + offset → at ≡ queue_address rings.plan rings.side rings.queue offset
-at_offset rings peer at window offset out sides is_window is_out is_at =
-    is_at ∙ ap (λ window. window * (side_plan rings.plan peer).cap + offset) (is_window ∙ ap window_of is_out)
+at_offset rings peer at window offset sides is_window is_at =
+    is_at ∙ ap (λ window. window * (side_plan rings.plan peer).cap + offset) is_window
     ∙ ap (λ (side : Side). window_of (layout_of rings.plan rings.side rings.queue) * (side_plan rings.plan side).cap + offset) sides
 
 pub range_grows : (rings : QueueOf) (pair new : Bridge) (peer : Side) (at offset len : ℕ) → peer ≡ other_side rings.side → ReachesPeer rings → at ≡ queue_address rings.plan rings.side rings.queue offset

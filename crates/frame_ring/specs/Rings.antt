@@ -5,6 +5,7 @@ use Rattle.step_kinds.specs.declared.plan.PairPlan.{PairPlan}
 use Rattle.plan_model.specs.DeclaredPlans.{IsPair}
 use Rattle.plan_model.specs.Plans.{side_plan}
 use Rattle.plan_model.specs.Sizes.{layout_of, layout_to}
+use Rattle.ring_geometry.specs.Geometry.{window_of}
 use Rattle.byte_model.specs.Headers.{Header}
 use Rattle.frame_ring.specs.declared.reading.HeaderWords.{HeaderWords}
 use Rattle.frame_ring.specs.declared.rings.QueueRings.TheInside.{Inside as RingsInside}
@@ -22,6 +23,8 @@ pub record ArePlaced (rings : RingsInside) : Type 0 where
   pub among : rings.queue < (side_plan rings.plan rings.side).queues
   pub out : rings.out ≡ layout_of rings.plan rings.side rings.queue
   pub into : rings.into ≡ layout_to rings.plan rings.side rings.queue
+  pub out_window : rings.out_window ≡ window_of (layout_of rings.plan rings.side rings.queue)
+  pub into_window : rings.into_window ≡ window_of (layout_to rings.plan rings.side rings.queue)
 
 -- what is so of the rings of every port
 pub record IsQueueOf (rings : QueueOf) : Type 0 where

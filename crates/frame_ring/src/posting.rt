@@ -34,7 +34,7 @@ pub fn reaches(rings: &QueueRings) -> bool
     ensures { result ≡ reaches_by rings.now.plan rings.now.side (window_of (layout_of rings.now.plan rings.now.side rings.now.queue)) }
 {
     let peer = rings.side().other();
-    rings.out().window_of() < side_plan(rings.plan(), peer).windows
+    rings.out_window() < side_plan(rings.plan(), peer).windows
 }
 
 // Posts bytes into that window; where the peer lacks it they are lost, and their promise is given back.
@@ -50,8 +50,7 @@ fn post_bytes(rings: &QueueRings, pair: &mut Pair, label: Label, offset: u64, by
 {
     let side = rings.side();
     if reaches(rings) {
-        let window = rings.out().window_of();
-        pair.post(side, Write::memory(label, window, offset, bytes));
+        pair.post_bytes(side, label, rings.out_window(), offset, bytes);
     } else {
         pair.give_back(side, 1);
     }

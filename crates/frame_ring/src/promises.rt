@@ -38,7 +38,7 @@ impl QueueRings {
         }
         let _plan = pair.plan();
         let peer = self.side().other();
-        let at = own_address(self.plan(), peer, self.out().window_of(), offset);
+        let at = own_address(self.plan(), peer, self.out_window(), offset);
         pair.promise_range(peer, at, len)
     }
 

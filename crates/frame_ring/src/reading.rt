@@ -31,7 +31,7 @@ fn received_at(rings: &QueueRings, offset: u64) -> u64
     ensures within { (len : ℕ) → offset + len ≤ (side_plan_of rings.now.plan rings.now.side).cap → result + len ≤ memory_size rings.now.plan rings.now.side }
     ensures small { result < 2 ^ 62 }
 {
-    own_address(rings.plan(), rings.side(), rings.into().window_of(), offset)
+    own_address(rings.plan(), rings.side(), rings.into_window(), offset)
 }
 
 /// The address of the header of the slot in which the side receives entry `n`.
@@ -105,7 +105,7 @@ pub fn index_word_at(rings: &QueueRings) -> u64
 {
     let into = rings.into();
     let cap = side_plan(rings.plan(), rings.side()).cap;
-    u64::from(into.window_of()) * cap + into.index_at()
+    u64::from(rings.into_window()) * cap + into.index_at()
 }
 
 /// Whether the index word lies wholly in the side's memory.
@@ -131,8 +131,7 @@ pub fn tail(rings: &QueueRings, pair: &Pair) -> u32
     requires fit { SizesFit rings.now.plan }
     ensures { result ≡ index_word_in rings.now.plan (bytes_seen pair.now) rings.now.side rings.now.queue }
 {
-    let at = bridge_pair::index_word_at(rings.plan(), rings.side(), rings.queue());
-    word(rings, pair, at)
+    word(rings, pair, received_at(rings, rings.into().index_at()))
 }
 
 /// The free entries of the ring that the side sends to, by the slot of its next entry and an index word.

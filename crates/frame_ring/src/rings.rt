@@ -27,6 +27,8 @@ pub struct QueueRings {
     queue: u32,
     out: Geometry,
     into: Geometry,
+    out_window: u32,
+    into_window: u32,
 }
 
 impl QueueRings {
@@ -38,12 +40,16 @@ impl QueueRings {
         requires among { queue < (side_plan_of plan.now side).queues }
         ensures { result ≡ record { plan = plan.now; side = side; queue = queue } }
     {
+        let out = sending_ring(plan, side, queue);
+        let into = receiving_ring(plan, side, queue);
         QueueRings {
             plan: copy_of(plan),
             side,
             queue,
-            out: sending_ring(plan, side, queue),
-            into: receiving_ring(plan, side, queue),
+            out,
+            into,
+            out_window: out.window_of(),
+            into_window: into.window_of(),
         }
     }
 
@@ -86,6 +92,22 @@ impl QueueRings {
     {
         let _entries = self.into.entries();
         &self.into
+    }
+
+    /// The number of the window in which the side sends.
+    #[inline]
+    pub fn out_window(&self) -> u32
+        ensures { result ≡ window_of (layout_of self.now.plan self.now.side self.now.queue) }
+    {
+        self.out_window
+    }
+
+    /// The number of the window in which it receives.
+    #[inline]
+    pub fn into_window(&self) -> u32
+        ensures { result ≡ window_of (layout_to self.now.plan self.now.side self.now.queue) }
+    {
+        self.into_window
     }
 
     /// Whether the pair speaks version 5.

@@ -92,6 +92,14 @@ impl<W: Ordered> Queue<W> {
         self.len() == 0
     }
 
+    /// How many more writes are promised.
+    #[inline]
+    pub fn spare(&self) -> usize
+        ensures { result ≡ self.now.spare }
+    {
+        self.tickets.spare()
+    }
+
     /// The write at this place in flight, counted from 0 for the one that was posted first. `None` where no more
     /// than `place` writes are in flight.
     pub fn label_at(&self, place: usize) -> Option<&W>

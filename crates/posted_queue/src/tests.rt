@@ -67,6 +67,7 @@ fn random_below(state: &mut u64, bound: u64) -> u64
 fn relaxed_writes_land_out_of_order(rt: HostRuntime) -> Result<(), Fail> {
     let mut queue = Queue::new(rt.alloc());
     queue.promise(3)?;
+    assert_eq!(rt; queue.spare(), 3);
     queue.push(strict(1));
     queue.push(relaxed(2));
     queue.push(strict(3));

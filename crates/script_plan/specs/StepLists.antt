@@ -9,7 +9,7 @@ use Rattle.script_plan.specs.declared.step_list.Stretch.TheVariants.{One, Again,
 
 -- the steps of a stretch
 abbrev pub lines_in : Stretch → List Line
-lines_in (One line step) = lines_with line (step ∷ [])
+lines_in (One line step) = lines_with line (step.value ∷ [])
 lines_in (Again line repeated count) = lines_with line (replicate count (step_again repeated))
 lines_in (Received line pair side queue copies) = lines_with line (receive pair side queue copies)
 

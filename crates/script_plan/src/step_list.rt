@@ -1,6 +1,6 @@
 //! The steps that the lines so far give, in which a step that a line repeats is kept once.
 
-ghost use Rattle.std.specs.Prelude.{◌≡◌, ◌∷◌, ◌++◌, ◌+◌, ◌≤◌, [], replicate, vec_len, vec_capacity, IfOk, OnErr, OnOk};
+ghost use Rattle.std.specs.Prelude.{◌≡◌, ◌∷◌, ◌++◌, [], replicate, IfOk, OnErr, OnOk};
 ghost use Rattle.script_words.specs.Compact.{lines_with, step_again, steps_of};
 ghost use Rattle.script_plan.specs.StepLists.{all_lines, lines_in};
 
@@ -16,8 +16,8 @@ pub enum Stretch {
     One {
         /// The line's number.
         line: u32,
-        /// The step.
-        step: Step,
+        /// The step, which may have many numbers or bytes.
+        step: Box<Step>,
     },
     /// The same step, so many times.
     Again {
@@ -48,6 +48,7 @@ pub enum Stretch {
 #[derive(Drop)]
 pub struct StepList {
     stretches: Vec<Stretch>,
+    alloc: Global,
 }
 
 impl StepList {
@@ -57,6 +58,7 @@ impl StepList {
     {
         StepList {
             stretches: Vec::new(alloc),
+            alloc,
         }
     }
 
@@ -72,8 +74,13 @@ impl StepList {
         ensures ok { OnOk result (self.new ≡ self.old ++ lines_with line (step ∷ [])) }
         ensures err { OnErr result (self.new ≡ self.old) }
     {
-        self.stretches.push(Stretch::One { line, step })?;
-        Ok(())
+        match Repeated::of_step(&step) {
+            Some(repeated) => self.push_stretch(again(line, repeated, 1)),
+            None => {
+                let one = self.one(line, step)?;
+                self.push_stretch(one)
+            }
+        }
     }
 
     /// Adds the steps of line `line`. The only error is want of memory, and then nothing is added.
@@ -81,9 +88,50 @@ impl StepList {
         ensures ok { OnOk result (self.new ≡ self.old ++ lines_with line (steps_of more)) }
         ensures err { OnErr result (self.new ≡ self.old) }
     {
-        self.stretches.reserve(2)?;
-        put_stretches(&mut self.stretches, line, more);
+        match more {
+            Macro::One { step } => self.push_step(line, step),
+            Macro::Posted {
+                begin,
+                repeated,
+                count,
+            } => {
+                let one = self.one(line, begin)?;
+                self.stretches.reserve(2)?;
+                self.stretches.push_reserved(one);
+                self.stretches.push_reserved(again(line, repeated, count));
+                Ok(())
+            }
+            Macro::Again { repeated, count } => self.push_stretch(again(line, repeated, count)),
+            Macro::Received {
+                pair,
+                side,
+                queue,
+                copies,
+            } => self.push_stretch(Stretch::Received {
+                line,
+                pair,
+                side,
+                queue,
+                copies,
+            }),
+        }
+    }
+
+    // Adds a stretch. Want of memory adds nothing.
+    fn push_stretch(&mut self, stretch: Stretch) -> Result<(), AllocError>
+        ensures ok { OnOk result (self.new ≡ self.old ++ lines_in stretch) }
+        ensures err { OnErr result (self.new ≡ self.old) }
+    {
+        self.stretches.push(stretch)?;
         Ok(())
+    }
+
+    // A stretch of one step.
+    fn one(&self, line: u32, step: Step) -> Result<Stretch, AllocError>
+        ensures { IfOk result (λ stretch. lines_in stretch ≡ lines_with line (step ∷ [])) }
+    {
+        let step = Box::new(self.alloc, step)?;
+        Ok(Stretch::One { line, step })
     }
 
     /// Takes all steps out; the room stays.
@@ -116,59 +164,15 @@ impl Model for StepList {
     ghost view = { λ list. all_lines list.stretches.items };
 }
 
-/// Adds the steps of a line, of which two stretches at most are kept. There is room for them.
-fn put_stretches(stretches: &mut Vec<Stretch>, line: u32, more: Macro)
-    requires { vec_len stretches.old + 2 ≤ vec_capacity stretches.old }
-    ensures { all_lines stretches.new.items ≡ all_lines stretches.old.items ++ lines_with line (steps_of more) }
+// A step of a line, so many times.
+fn again(line: u32, repeated: Repeated, count: u32) -> Stretch
+    ensures { lines_in result ≡ lines_with line (replicate count (step_again repeated)) }
 {
-    match more {
-        Macro::One { step } => put_one(stretches, line, step),
-        Macro::Posted {
-            begin,
-            repeated,
-            count,
-        } => {
-            put_one(stretches, line, begin);
-            put_again(stretches, line, repeated, count);
-        }
-        Macro::Again { repeated, count } => put_again(stretches, line, repeated, count),
-        Macro::Received {
-            pair,
-            side,
-            queue,
-            copies,
-        } => stretches.push_reserved(Stretch::Received {
-            line,
-            pair,
-            side,
-            queue,
-            copies,
-        }),
-    }
-}
-
-/// Adds one step of a line, for which there is room.
-fn put_one(stretches: &mut Vec<Stretch>, line: u32, step: Step)
-    requires { vec_len stretches.old + 1 ≤ vec_capacity stretches.old }
-    ensures lines { all_lines stretches.new.items ≡ all_lines stretches.old.items ++ lines_with line (step ∷ []) }
-    ensures len { vec_len stretches.new ≡ vec_len stretches.old + 1 }
-    ensures capacity { vec_capacity stretches.new ≡ vec_capacity stretches.old }
-{
-    stretches.push_reserved(Stretch::One { line, step });
-}
-
-/// Adds a step of a line so many times, for which there is room.
-fn put_again(stretches: &mut Vec<Stretch>, line: u32, repeated: Repeated, count: u32)
-    requires { vec_len stretches.old + 1 ≤ vec_capacity stretches.old }
-    ensures lines { all_lines stretches.new.items ≡ all_lines stretches.old.items ++ lines_with line (replicate count (step_again repeated)) }
-    ensures len { vec_len stretches.new ≡ vec_len stretches.old + 1 }
-    ensures capacity { vec_capacity stretches.new ≡ vec_capacity stretches.old }
-{
-    stretches.push_reserved(Stretch::Again {
+    Stretch::Again {
         line,
         repeated,
         count,
-    });
+    }
 }
 
 /// Adds the steps of a stretch, one by one.
@@ -177,6 +181,7 @@ fn push_lines(lines: &mut Vec<Line>, stretch: Stretch) -> Result<(), AllocError>
 {
     match stretch {
         Stretch::One { line, step } => {
+            let step = Box::into_inner(step);
             lines.push(Line { line, step })?;
             Ok(())
         }

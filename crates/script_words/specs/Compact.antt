@@ -10,7 +10,7 @@ use Rattle.lane_model.specs.Lane.{count_from}
 use Rattle.script_words.specs.Before.{Given, Nothing, Host, APair, ADevice, AClass, StepsBegin, TrafficBegins, MoreTraffic}
 use Rattle.script_words.specs.TrafficLines.{flood_frame}
 use Rattle.script_words.specs.declared.macros.Repeated.{Repeated}
-use Rattle.script_words.specs.declared.macros.Repeated.TheVariants.{Post as Posts, Land as Lands, Copy as Copies, Offer as Offers}
+use Rattle.script_words.specs.declared.macros.Repeated.TheVariants.{Post as Posts, Land as Lands, Look as Looks, Copy as Copies, Clear as Clears, Ack as Acks, Offer as Offers}
 use Rattle.script_words.specs.declared.macros.Macro.{Macro}
 use Rattle.script_words.specs.declared.macros.Macro.TheVariants.{One, Posted, Again, Received}
 use Rattle.script_words.specs.declared.line_gives.Given.{Given as Compact}
@@ -19,8 +19,11 @@ use Rattle.script_words.specs.declared.line_gives.Given.TheVariants.{Nothing as 
 -- the step that is repeated
 abbrev pub step_again : Repeated → Step
 step_again (Posts pair side queue) = Post pair side queue
-step_again (Lands pair side) = Land pair side 0
+step_again (Lands pair side place) = Land pair side place
+step_again (Looks pair side queue) = Look pair side queue
 step_again (Copies pair side queue) = Copy pair side queue
+step_again (Clears pair side queue) = Clear pair side queue
+step_again (Acks pair side queue) = Ack pair side queue
 step_again (Offers pair side) = Offer pair side
 
 -- the steps of a line

@@ -1,19 +1,25 @@
 //! The steps of a line, kept short until their number is tested.
 
-ghost use Rattle.std.specs.Prelude.{◌≡◌, ◌^◌, ◌≤◌, length};
+ghost use Rattle.std.specs.Prelude.{◌≡◌, ◌^◌, ◌≤◌, length, IfSome};
 ghost use Rattle.script_words.specs.Compact.{step_again, steps_of};
 
 use step_kinds::{Side, Step};
 
-/// A step that a macro repeats.
+/// A step of few numbers, which a line may repeat.
 #[derive(Clone, Copy, Debug, PartialEq, Eq)]
 pub enum Repeated {
     /// One write is posted.
     Post { pair: u32, side: Side, queue: u32 },
-    /// The first write in flight lands.
-    Land { pair: u32, side: Side },
+    /// The write at this place in flight lands.
+    Land { pair: u32, side: Side, place: u32 },
+    /// The next entry is looked for.
+    Look { pair: u32, side: Side, queue: u32 },
     /// One part of a frame is copied.
     Copy { pair: u32, side: Side, queue: u32 },
+    /// The flags of the entry that was copied are cleared.
+    Clear { pair: u32, side: Side, queue: u32 },
+    /// The entry that was cleared is given back.
+    Ack { pair: u32, side: Side, queue: u32 },
     /// One number of the side's offer is posted.
     Offer { pair: u32, side: Side },
 }
@@ -52,13 +58,28 @@ impl Repeated {
     {
         match self {
             Repeated::Post { pair, side, queue } => Step::Post { pair, side, queue },
-            Repeated::Land { pair, side } => Step::Land {
-                pair,
-                side,
-                place: 0,
-            },
+            Repeated::Land { pair, side, place } => Step::Land { pair, side, place },
+            Repeated::Look { pair, side, queue } => Step::Look { pair, side, queue },
             Repeated::Copy { pair, side, queue } => Step::Copy { pair, side, queue },
+            Repeated::Clear { pair, side, queue } => Step::Clear { pair, side, queue },
+            Repeated::Ack { pair, side, queue } => Step::Ack { pair, side, queue },
             Repeated::Offer { pair, side } => Step::Offer { pair, side },
+        }
+    }
+
+    /// The step of few numbers that this step is, if it is one.
+    pub fn of_step(step: &Step) -> Option<Repeated>
+        ensures { IfSome result (λ repeated. step_again repeated ≡ step.now) }
+    {
+        match *step {
+            Step::Post { pair, side, queue } => Some(Repeated::Post { pair, side, queue }),
+            Step::Land { pair, side, place } => Some(Repeated::Land { pair, side, place }),
+            Step::Look { pair, side, queue } => Some(Repeated::Look { pair, side, queue }),
+            Step::Copy { pair, side, queue } => Some(Repeated::Copy { pair, side, queue }),
+            Step::Clear { pair, side, queue } => Some(Repeated::Clear { pair, side, queue }),
+            Step::Ack { pair, side, queue } => Some(Repeated::Ack { pair, side, queue }),
+            Step::Offer { pair, side } => Some(Repeated::Offer { pair, side }),
+            _ => None,
         }
     }
 }

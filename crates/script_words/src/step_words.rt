@@ -222,7 +222,11 @@ impl NumberWord {
             NumberWord::Land => Step::Land { pair, side, place },
             NumberWord::LandAll => {
                 return Macro::Again {
-                    repeated: Repeated::Land { pair, side },
+                    repeated: Repeated::Land {
+                        pair,
+                        side,
+                        place: 0,
+                    },
                     count: number,
                 };
             }

@@ -1,7 +1,8 @@
+use crate::Repeated;
 use crate::laws::{bytes_are_hex, numbers_are_decimal};
 use crate::words::{read_number, read_side};
 use std::test::Fail;
-use step_kinds::Side;
+use step_kinds::{Side, Step};
 
 #[test]
 fn a_number_is_read(rt: HostRuntime) -> Result<(), Fail> {
@@ -10,4 +11,12 @@ fn a_number_is_read(rt: HostRuntime) -> Result<(), Fail> {
     numbers_are_decimal();
     bytes_are_hex();
     Ok(())
+}
+
+#[test]
+fn a_step_of_few_numbers(rt: HostRuntime) {
+    let (pair, side, place) = (1, Side::B, 7);
+    let landing = Repeated::of_step(&Step::Land { pair, side, place });
+    assert_eq!(rt; landing, Some(Repeated::Land { pair, side, place }));
+    assert_eq!(rt; Repeated::of_step(&Step::Irq { pair, side }), None);
 }

@@ -37,6 +37,7 @@ pub fn land_all(count: u32) -> Macro
         repeated: Repeated::Land {
             pair: 0,
             side: Side::A,
+            place: 0,
         },
         count,
     }

@@ -10,7 +10,7 @@ use Rattle.ntb_top.proofs.steps.make_stretch.Goals as goal
 pub make_step-requires : goal.make_step-requires
 make_step-requires g c =
     let P : Line → Type 0 = λ line. IsPermitted (plan_kept c.args.fabric.now) line.step in
-    subst (λ (stretch : Stretch). All P (lines_in stretch)) c.in-One.is c.requires 0 (record { line = c.in-One.line; step = c.in-One.step }) (omega arith)
+    rw c.deref.ensures (subst (λ (stretch : Stretch). All P (lines_in stretch)) c.in-One.is c.requires 0 (record { line = c.in-One.line; step = c.in-One.step.value }) (omega arith))
 
 pub make_received-requires : goal.make_received-requires
 make_received-requires g c =

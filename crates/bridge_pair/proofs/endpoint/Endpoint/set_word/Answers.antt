@@ -5,5 +5,7 @@ pub set_u32-requires-clause-promised : goal.set_u32-requires-clause-promised
 set_u32-requires-clause-promised c = rw (← c.self.view_is) at c.requires.promised
 
 pub invariant_of-self : goal.invariant_of-self
-invariant_of-self c =
-    still_have_places c.self.inside.memory c.set_u32.new.self c.self.inside.coming.writes c.set_u32.ensures.size (λ page there. rw c.set_u32.ensures.promised there) c.self.invariant
+invariant_of-self c = record {
+  places = still_have_places c.self.inside.memory c.set_u32.new.self c.self.inside.coming.writes c.set_u32.ensures.size (λ page there. rw c.set_u32.ensures.promised there) c.self.invariant.places;
+  buffers = c.self.invariant.buffers;
+}

@@ -5,5 +5,7 @@ pub write-requires-clause-promised : goal.write-requires-clause-promised
 write-requires-clause-promised c = rw (← c.self.view_is) at c.requires.promised
 
 pub invariant_of-self : goal.invariant_of-self
-invariant_of-self c =
-    still_have_places c.self.inside.memory c.write.new.self c.self.inside.coming.writes c.write.ensures.size (λ page there. rw c.write.ensures.promised there) c.self.invariant
+invariant_of-self c = record {
+  places = still_have_places c.self.inside.memory c.write.new.self c.self.inside.coming.writes c.write.ensures.size (λ page there. rw c.write.ensures.promised there) c.self.invariant.places;
+  buffers = c.self.invariant.buffers;
+}
