@@ -1,6 +1,6 @@
 //! The steps of a line, kept short until their number is tested.
 
-ghost use Rattle.std.specs.Prelude.{◌≡◌, ◌^◌, ◌≤◌, length, IfSome};
+ghost use Rattle.std.specs.Prelude.{◌≡◌, ◌≢◌, ◌^◌, ◌≤◌, length, IfNone, IfSome};
 ghost use Rattle.script_words.specs.Compact.{step_again, steps_of};
 
 use step_kinds::{Side, Step};
@@ -67,9 +67,10 @@ impl Repeated {
         }
     }
 
-    /// The step of few numbers that this step is, if it is one.
+    /// The step of few numbers that this step is; `None` exactly where it is none.
     pub fn of_step(step: &Step) -> Option<Repeated>
-        ensures { IfSome result (λ repeated. step_again repeated ≡ step.now) }
+        ensures some { IfSome result (λ repeated. step_again repeated ≡ step.now) }
+        ensures none { IfNone result ((repeated : Repeated) → step_again repeated ≢ step.now) }
     {
         match *step {
             Step::Post { pair, side, queue } => Some(Repeated::Post { pair, side, queue }),

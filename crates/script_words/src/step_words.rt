@@ -1,8 +1,8 @@
 //! The first words of steps, by their arguments.
 
-ghost use Rattle.std.specs.Prelude.{◌≡◌, ◌≤◌};
+ghost use Rattle.std.specs.Prelude.{◌≡◌, ◌≤◌, ◌∷◌, []};
 ghost use Rattle.std.specs.Option.{option_map};
-ghost use Rattle.script_words.specs.Compact.{steps_of};
+ghost use Rattle.script_words.specs.Compact.{step_again, steps_of};
 ghost use Rattle.script_words.specs.StepLines.{pair_step, side_steps, queue_steps, numbered_steps, frame_steps};
 ghost use Rattle.script_words.specs.StepWords.{pair_step_of, side_steps_of, side_steps_with, queue_steps_of, numbered_of, frame_steps_of};
 
@@ -166,28 +166,26 @@ impl SideWord {
 
 impl QueueWord {
     /// The steps.
+    #[inline]
     pub fn steps(self, pair: u32, side: Side, queue: u32) -> Macro
         ensures { steps_of result ≡ queue_steps_of self pair side queue }
     {
-        let step = match self {
-            QueueWord::Ready => Step::Ready { pair, side, queue },
-            QueueWord::Join => Step::Join { pair, side, queue },
-            QueueWord::QpDown => Step::QpDown { pair, side, queue },
-            QueueWord::Post => Step::Post { pair, side, queue },
-            QueueWord::Look => Step::Look { pair, side, queue },
-            QueueWord::Copy => Step::Copy { pair, side, queue },
-            QueueWord::Clear => Step::Clear { pair, side, queue },
-            QueueWord::Ack => Step::Ack { pair, side, queue },
-            QueueWord::Recv => {
-                return Macro::Received {
-                    pair,
-                    side,
-                    queue,
-                    copies: 1,
-                };
-            }
-        };
-        Macro::One { step }
+        match self {
+            QueueWord::Ready => one(Step::Ready { pair, side, queue }),
+            QueueWord::Join => one(Step::Join { pair, side, queue }),
+            QueueWord::QpDown => one(Step::QpDown { pair, side, queue }),
+            QueueWord::Post => once(Repeated::Post { pair, side, queue }),
+            QueueWord::Look => once(Repeated::Look { pair, side, queue }),
+            QueueWord::Copy => once(Repeated::Copy { pair, side, queue }),
+            QueueWord::Clear => once(Repeated::Clear { pair, side, queue }),
+            QueueWord::Ack => once(Repeated::Ack { pair, side, queue }),
+            QueueWord::Recv => Macro::Received {
+                pair,
+                side,
+                queue,
+                copies: 1,
+            },
+        }
     }
 }
 
@@ -214,27 +212,39 @@ impl NumberWord {
     }
 
     /// The steps.
+    #[inline]
     pub fn steps(self, pair: u32, side: Side, number: u32) -> Macro
         ensures { steps_of result ≡ (numbered_of self).steps pair side number }
     {
         let (place, bits, index) = (number, number, number);
-        let step = match self {
-            NumberWord::Land => Step::Land { pair, side, place },
-            NumberWord::LandAll => {
-                return Macro::Again {
-                    repeated: Repeated::Land {
-                        pair,
-                        side,
-                        place: 0,
-                    },
-                    count: number,
-                };
-            }
-            NumberWord::Mask => Step::Mask { pair, side, bits },
-            NumberWord::Unmask => Step::Unmask { pair, side, bits },
-            NumberWord::ShowQueue => Step::ShowQueue { pair, side, place },
-            NumberWord::ShowPad => Step::ShowPad { pair, side, index },
-        };
-        Macro::One { step }
+        match self {
+            NumberWord::Land => once(Repeated::Land { pair, side, place }),
+            NumberWord::LandAll => Macro::Again {
+                repeated: Repeated::Land {
+                    pair,
+                    side,
+                    place: 0,
+                },
+                count: number,
+            },
+            NumberWord::Mask => one(Step::Mask { pair, side, bits }),
+            NumberWord::Unmask => one(Step::Unmask { pair, side, bits }),
+            NumberWord::ShowQueue => one(Step::ShowQueue { pair, side, place }),
+            NumberWord::ShowPad => one(Step::ShowPad { pair, side, index }),
+        }
     }
+}
+
+// A step of its own.
+fn one(step: Step) -> Macro
+    ensures { steps_of result ≡ step ∷ [] }
+{
+    Macro::One { step }
+}
+
+// A step of few numbers that stands once.
+fn once(repeated: Repeated) -> Macro
+    ensures { steps_of result ≡ step_again repeated ∷ [] }
+{
+    Macro::Again { repeated, count: 1 }
 }
