@@ -158,6 +158,7 @@ impl Reader {
     }
 
     /// Adds the steps of line `line`. The only error is want of memory, and then nothing is added.
+    #[inline(always)]
     pub fn add_steps(&mut self, line: u32, more: Macro) -> Result<(), AllocError>
         requires { length self.old.plan.steps + length (steps_of more) ≤ most_steps }
         ensures ok { OnOk result (self.new ≡ with_given line self.old (MoreSteps (steps_of more))) }

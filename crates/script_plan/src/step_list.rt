@@ -84,6 +84,7 @@ impl StepList {
     }
 
     /// Adds the steps of line `line`. The only error is want of memory, and then nothing is added.
+    #[inline(always)]
     pub fn push(&mut self, line: u32, more: Macro) -> Result<(), AllocError>
         ensures ok { OnOk result (self.new ≡ self.old ++ lines_with line (steps_of more)) }
         ensures err { OnErr result (self.new ≡ self.old) }

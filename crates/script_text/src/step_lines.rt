@@ -27,6 +27,7 @@ use step_kinds::limits::{MOST_FRAME_BYTES, MOST_STEPS};
 use step_kinds::{Frame, PairPlan, Side, Step};
 
 /// Adds the steps of a line, where they don't pass the script's limit.
+#[inline(always)]
 fn add_steps(before: &mut Reader, line: u32, steps: Macro) -> AddResult
     ensures { Adds line before.old before.new result (rules.steps_within before.old (steps_of steps)) }
 {
