@@ -4,7 +4,7 @@ ghost use Rattle.std.specs.Prelude.{◌≡◌, ◌∷◌, [], ◌++◌, ◌+◌,
 ghost use Rattle.lane_model.specs.Lane.{chunks_in};
 ghost use Rattle.traffic_plan.specs.Load.{word_at, state_past, load_pair, most_load_frames, length_of, payload_of, frame_lines, frames_given, lines_of_frame, load_of, plan_of};
 
-use crate::steps::{land_all, push_landings, receive, send};
+use crate::steps::{land, land_all, push_landings, receive, send};
 use rand_xoshiro::SplitMix64;
 use rand_xoshiro::rand_core::SeedableRng;
 use rand_xoshiro::rand_core::utils::NextWord;
@@ -13,7 +13,7 @@ use script_words::options::pair_with;
 use script_words::settings::{Setting, SideKey};
 use std::alloc::{AllocError, Global};
 use std::marker::Model;
-use step_kinds::{Frame, Items, Line, Name, PairPlan, Plan, Side, Step};
+use step_kinds::{Frame, Items, Line, Name, PairPlan, Plan, Side};
 
 /// The two words of the next frame.
 fn frame_words(words: &mut SplitMix64) -> (u64, u64)
@@ -69,13 +69,7 @@ fn push_frame(
     push_landings(steps, line, landings)?;
     steps.push(line, land_all(chunks + 4))?;
     steps.push(line, receive(chunks))?;
-    let step = Step::Land {
-        pair: 0,
-        side: Side::B,
-        place: 0,
-    };
-    steps.push_step(line, step)?;
-    Ok(())
+    steps.push(line, land(Side::B, 0))
 }
 
 /// The frames of a load, one after another. Contracts see the seed and how many frames were given.

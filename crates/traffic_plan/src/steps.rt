@@ -1,9 +1,10 @@
 //! Steps of a frame of a load, as the macros of a script.
 
-ghost use Rattle.std.specs.Prelude.{◌≡◌, ◌++◌, OnOk};
+ghost use Rattle.std.specs.Prelude.{◌≡◌, ◌∷◌, ◌++◌, [], OnOk};
 ghost use Rattle.plan_model.specs.Macros.{send, land_all, receive};
 ghost use Rattle.script_words.specs.Compact.{steps_of, lines_with};
 ghost use Rattle.step_kinds.specs.declared.names.Side.TheVariants.{A, B};
+ghost use Rattle.step_kinds.specs.declared.steps.Step.TheVariants.{Land};
 ghost use Rattle.traffic_plan.specs.Load.{load_pair, landings_of};
 
 use script_plan::StepList;
@@ -26,6 +27,21 @@ pub fn send(frame: Frame) -> Macro
         },
         repeated: Repeated::Post { pair, side, queue },
         count,
+    }
+}
+
+/// The write of a side that stands at a place in flight lands once.
+#[inline]
+pub fn land(side: Side, place: u32) -> Macro
+    ensures { steps_of result ≡ Land 0 side place ∷ [] }
+{
+    Macro::Again {
+        repeated: Repeated::Land {
+            pair: 0,
+            side,
+            place,
+        },
+        count: 1,
     }
 }
 
@@ -60,12 +76,8 @@ pub fn push_landings(steps: &mut StepList, line: u32, word: u64) -> Result<(), A
     ensures { OnOk result (steps.new ≡ steps.old ++ lines_with line (landings_of word)) }
 {
     for i in 0..8u32 {
-        let step = Step::Land {
-            pair: 0,
-            side: Side::A,
-            place: ((word >> (8 * i)) % 4) as u32,
-        };
-        steps.push_step(line, step)?;
+        let place = ((word >> (8 * i)) % 4) as u32;
+        steps.push(line, land(Side::A, place))?;
     }
     Ok(())
 }
