@@ -10,6 +10,7 @@ pub mod OneFlight
 pub mod Phases
 pub mod QueueCalls
 pub mod QueueParts
+pub mod RefusedAgain
 pub mod SessionTallies
 pub mod Standing
 pub mod SteppedPairs

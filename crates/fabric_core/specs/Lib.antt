@@ -10,5 +10,6 @@ pub mod Parts
 pub mod Promises
 pub mod QueueBoxes
 pub mod QueueCalls
+pub mod Refusals
 pub mod Sessions
 pub mod Turns

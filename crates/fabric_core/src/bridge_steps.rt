@@ -36,6 +36,7 @@ use step_kinds::{Answer, Frame, Label, Side, Step};
 /// # Errors
 ///
 /// [`AllocError`] from want of memory alone. Further pages may then be promised, and nothing else changes.
+#[inline(always)]
 pub fn bridge_step(pair: &mut Pair, alloc: Global, step: &Step) -> Result<Answer, AllocError>
     requires { CanTurn pair.old step.now }
     ensures answer { IfOk result (λ answer. answer ≡ (bridge_turn pair.old step.now).answer) }
@@ -71,6 +72,7 @@ pub fn bridge_step(pair: &mut Pair, alloc: Global, step: &Step) -> Result<Answer
 }
 
 // The steps that never want memory, but for those of the link.
+#[inline(always)]
 fn register_step(pair: &mut Pair, step: &Step) -> Answer
     requires { CanTurn pair.old step.now }
     ensures answer { result ≡ (register_turn pair.old step.now).answer }

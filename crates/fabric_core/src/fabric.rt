@@ -52,6 +52,7 @@ impl Fabric {
     ///
     /// [`AllocError`] from want of memory alone: of a step that posts, promises or hands out bytes. The fabric stands for the
     /// same steps as before then, and the step can be made again.
+    #[inline(always)]
     pub fn step(&mut self, step: &Step) -> Result<Answer, AllocError>
         requires { IsPermitted (plan_kept self.old) step.now }
         ensures { HasStepped self.old self.new step.now result }

@@ -9,5 +9,7 @@ mod fabric;
 mod pairs;
 mod places;
 mod queues;
+mod refusals;
 
 pub use fabric::Fabric;
+pub use refusals::{is_refusal, refused_again};

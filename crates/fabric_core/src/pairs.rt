@@ -63,6 +63,7 @@ impl PairBox {
     /// # Errors
     ///
     /// [`AllocError`] from want of memory alone. Further pages may then be promised, and nothing else changes.
+    #[inline(always)]
     pub fn make(&mut self, devs: &[DevPlan], step: &Step) -> Result<Answer, AllocError>
         requires agrees { Agrees self.old.bridge }
         requires can { CanMake devs.now self.old.bridge step.now }
@@ -79,6 +80,7 @@ impl PairBox {
     }
 
     // Makes a step on the bridge alone.
+    #[inline(always)]
     fn step_aside(&mut self, step: &Step) -> Result<Answer, AllocError>
         requires { CanTurn self.old.bridge step.now }
         ensures answer { IfOk result (λ answer. answer ≡ (bridge_turn self.old.bridge step.now).answer) }
@@ -91,6 +93,7 @@ impl PairBox {
     }
 
     // Makes a step on one of a side's queues.
+    #[inline(always)]
     fn queue_step(
         &mut self,
         side: Side,
@@ -162,6 +165,7 @@ impl Model for PairBox {
 }
 
 // Makes a step on one of these queues, which are those of one side.
+#[inline(always)]
 fn make_at(
     pair: &mut Pair,
     queues: &mut Vec<QueueBox>,
