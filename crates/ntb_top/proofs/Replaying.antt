@@ -1,7 +1,7 @@
 -- Steps made one after another: the fabric that made them, their answers, and what is kept of these.
-use Rattle.std.proofs.Common.{◌≡◌, ◌∙◌, ℕ, suc, ◌+◌, ◌<◌, List, [], ◌∷◌, ◌++◌, length, get_or, take, refl, sym, ap, subst, arith, append_assoc, append-nil}
+use Rattle.std.proofs.Common.{◌≡◌, ◌∙◌, ℕ, suc, ◌+◌, ◌<◌, List, [], ◌∷◌, ◌++◌, length, get_or, take, replicate, refl, sym, ap, subst, arith, append_assoc, append-nil}
 use Rattle.std.specs.List.{All, flat_map, fold}
-use Rattle.std.proofs.lemmas.List.{length-append, length-map, map-append, take_more}
+use Rattle.std.proofs.lemmas.List.{length-append, length-map, map-append, replicate-append-replicate, take_more}
 use Rattle.std.proofs.lemmas.List.Concat.{flat_map-append, get_or-flat_map}
 use Rattle.std.proofs.lemmas.List.Folds.{length-flat_map-take}
 use Rattle.std.proofs.lemmas.List.Sums.{fold-append}
@@ -52,6 +52,11 @@ line_answers-append [] ys (made ∷ one) two same = absurd (omega arith)
 line_answers-append (x ∷ xs) ys [] two same = absurd (omega arith)
 line_answers-append (x ∷ xs) ys (made ∷ one) two same =
     ap (λ (rest : List LineAnswer). record { line = x.line; answer = made.answer } ∷ rest) (line_answers-append xs ys one two (omega arith))
+
+-- a list of the same item is folded item by item
+pub fold_more : {K X : Type 0} (with_item : K → X → K) (old : K) (count : ℕ) (x : X) → fold with_item old (replicate (count + 1) x) ≡ with_item (fold with_item old (replicate count x)) x
+fold_more with_item old count x =
+    ap (fold with_item old) (sym (replicate-append-replicate count 1 x)) ∙ fold-append with_item old (replicate count x) (replicate 1 x)
 
 -- What is kept, of no lines, of one, and of lines behind lines
 

@@ -46,6 +46,13 @@ impl KeepsAnswers for BlockedCount {
         }
         Ok(())
     }
+
+    fn keep_times(&mut self, made: &LineAnswer, count: u32) -> Result<(), AllocError> {
+        if is_blocked(&made.answer) {
+            self.count = self.count.saturating_add(u64::from(count));
+        }
+        Ok(())
+    }
 }
 
 /// The summary of a generated load of 1 to 30,000 frames: how many were accepted and delivered, and how many landings were

@@ -24,10 +24,11 @@ use std::alloc::{AllocError, Global};
 use std::marker::Model;
 use step_kinds::{Counters, LaneName, LineAnswer, Side};
 
-/// The lines of the answers so far. Contracts see their bytes.
+/// The lines of the answers so far, and room for one line that comes again and again. Contracts see the bytes of the lines.
 #[derive(Drop)]
 struct AnswerLines {
     text: Vec<u8>,
+    line: Vec<u8>,
 }
 
 impl Model for AnswerLines {
@@ -44,6 +45,15 @@ impl KeepsAnswers for AnswerLines {
     fn keep(&mut self, made: &LineAnswer) -> Result<(), AllocError> {
         push_answer_line(&mut self.text, made)
     }
+
+    fn keep_times(&mut self, made: &LineAnswer, count: u32) -> Result<(), AllocError> {
+        self.line.clear();
+        push_answer_line(&mut self.line, made)?;
+        for _ in 0..count {
+            self.text.extend_from_slice(&self.line)?;
+        }
+        Ok(())
+    }
 }
 
 /// The report of a script: the answers to its steps, what its lanes accepted and delivered in each session, and what its
@@ -55,6 +65,7 @@ pub fn replay_text(alloc: Global, script: &Script) -> Result<Vec<u8>, AllocError
     let mut fabric = Fabric::new(alloc, &script.declared)?;
     let mut lines = AnswerLines {
         text: Vec::new(alloc),
+        line: Vec::new(alloc),
     };
     make_steps(&script.steps, &mut fabric, &mut lines)?;
     let lanes = lane_counts(alloc, script, &fabric)?;

@@ -6,9 +6,9 @@ use Rattle.fabric_core.specs.Fabric.{plan_kept}
 use Rattle.ntb_top.specs.ReplaySteps.{HasKept, HasReplayed}
 use Rattle.ntb_top.proofs.steps.make_again.Given as goal
 
-abbrev pub invariant-loop : goal.invariant-loop
-invariant-loop g l = record {
+abbrev pub invariant-loop-made : goal.invariant-loop-made
+invariant-loop-made g l = record {
   plan : plan_kept l.fabric ≡ plan_kept l.fn.fabric;
   kept : (plan : Plan) (before : List Line) → HasReplayed plan before l.fn.fabric →
-      HasKept g.K.KeepsAnswers.with_answer plan before (lines_with l.line (replicate l.counter l.step)) l.fabric l.fn.kept l.kept;
+      HasKept g.K.KeepsAnswers.with_answer plan before (lines_with l.line (replicate l.made l.step)) l.fabric l.fn.kept l.kept;
 }
