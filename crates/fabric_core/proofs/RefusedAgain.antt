@@ -9,9 +9,9 @@ use Rattle.step_kinds.specs.declared.names.Side.TheVariants.{A, B}
 use Rattle.step_kinds.specs.declared.plan.PairPlan.{PairPlan}
 use Rattle.step_kinds.specs.declared.plan.Plan.{Plan}
 use Rattle.step_kinds.specs.declared.steps.Answer.{Answer}
-use Rattle.step_kinds.specs.declared.steps.Answer.TheVariants.{Ok as Done, OkSession, OkNumber, Offered, Up, Joined, Posted, Landed, ReadyFrame, PeerDown, Copied, Delivered, Cleared, Acked, Awake, Irq as IrqBits, Mem, PadValue, QueueShown}
+use Rattle.step_kinds.specs.declared.steps.Answer.TheVariants.{Up, Landed, Cleared}
 use Rattle.step_kinds.specs.declared.steps.Step.{Step}
-use Rattle.step_kinds.specs.declared.steps.Step.TheVariants.{Enable, Train, Break, DropDone, Clean, Offer, Check, Ready, Join, Begin, QpDown, Xbegin, Post, Land, Look, Copy, Clear, Ack, Wake, Irq, Mask, Unmask, Spad, Poke, ShowMem, ShowPad, ShowQueue}
+use Rattle.step_kinds.specs.declared.steps.Step.TheVariants.{Check, Clear, Land, Xbegin}
 use Rattle.plan_model.specs.Both.{Both}
 use Rattle.plan_model.specs.DeclaredPlans.{IsPermitted}
 use Rattle.plan_model.specs.Plans.{pair_plan}
@@ -29,68 +29,10 @@ use Rattle.byte_laws.proofs.Sites.{same_outcome, site_of-here, site_outcome}
 use Rattle.fabric_rule.specs.StandsFor.{PairStands}
 use Rattle.fabric_core.specs.Fabric.{pair_of}
 use Rattle.fabric_core.specs.LogClauses.{IsAnswered}
-use Rattle.fabric_core.specs.Refusals.{RefusedAgain, counts_refusals, is_refusal}
+use Rattle.fabric_core.specs.Refusals.{RefusedAgain, counts_refusals}
 use Rattle.fabric_core.proofs.Standing.{all_last, goes_on}
 
 -- What a refusal leaves
-
-not_made : (step : Step) (answer : Answer) → is_refusal answer ≡ true → is_made step answer ≡ false
-not_made (Enable p side) Done refused = absurd (true≢false (sym refused))
-not_made (Enable p side) answer refused = refl
-not_made (Train p) (OkSession n) refused = absurd (true≢false (sym refused))
-not_made (Train p) answer refused = refl
-not_made (Break p) Done refused = absurd (true≢false (sym refused))
-not_made (Break p) answer refused = refl
-not_made (DropDone p) Done refused = absurd (true≢false (sym refused))
-not_made (DropDone p) answer refused = refl
-not_made (Clean p side) Done refused = absurd (true≢false (sym refused))
-not_made (Clean p side) answer refused = refl
-not_made (Offer p side) (Offered n) refused = absurd (true≢false (sym refused))
-not_made (Offer p side) answer refused = refl
-not_made (Check p side) Up refused = absurd (true≢false (sym refused))
-not_made (Check p side) answer refused = refl
-not_made (Ready p side queue) Done refused = absurd (true≢false (sym refused))
-not_made (Ready p side queue) answer refused = refl
-not_made (Join p side queue) Joined refused = absurd (true≢false (sym refused))
-not_made (Join p side queue) answer refused = refl
-not_made (Begin p side queue frame) (OkNumber n) refused = absurd (true≢false (sym refused))
-not_made (Begin p side queue frame) answer refused = refl
-not_made (QpDown p side queue) (OkNumber n) refused = absurd (true≢false (sym refused))
-not_made (QpDown p side queue) answer refused = refl
-not_made (Xbegin p side queue dev dst kind payload) (OkNumber n) refused = absurd (true≢false (sym refused))
-not_made (Xbegin p side queue dev dst kind payload) answer refused = refl
-not_made (Post p side queue) (Posted label) refused = absurd (true≢false (sym refused))
-not_made (Post p side queue) answer refused = refl
-not_made (Land p side place) (Landed label) refused = absurd (true≢false (sym refused))
-not_made (Land p side place) answer refused = refl
-not_made (Look p side queue) (ReadyFrame n len) refused = absurd (true≢false (sym refused))
-not_made (Look p side queue) PeerDown refused = absurd (true≢false (sym refused))
-not_made (Look p side queue) answer refused = refl
-not_made (Copy p side queue) (Copied n part) refused = absurd (true≢false (sym refused))
-not_made (Copy p side queue) (Delivered n frame) refused = absurd (true≢false (sym refused))
-not_made (Copy p side queue) answer refused = refl
-not_made (Clear p side queue) (Cleared n) refused = absurd (true≢false (sym refused))
-not_made (Clear p side queue) answer refused = refl
-not_made (Ack p side queue) (Acked n) refused = absurd (true≢false (sym refused))
-not_made (Ack p side queue) answer refused = refl
-not_made (Wake p side queue dev) Awake refused = absurd (true≢false (sym refused))
-not_made (Wake p side queue dev) answer refused = refl
-not_made (Irq p side) (IrqBits n) refused = absurd (true≢false (sym refused))
-not_made (Irq p side) answer refused = refl
-not_made (Mask p side bits) Done refused = absurd (true≢false (sym refused))
-not_made (Mask p side bits) answer refused = refl
-not_made (Unmask p side bits) Done refused = absurd (true≢false (sym refused))
-not_made (Unmask p side bits) answer refused = refl
-not_made (Spad p side i value) Done refused = absurd (true≢false (sym refused))
-not_made (Spad p side i value) answer refused = refl
-not_made (Poke p side window offset bytes) Done refused = absurd (true≢false (sym refused))
-not_made (Poke p side window offset bytes) answer refused = refl
-not_made (ShowMem p side at len) (Mem shown) refused = absurd (true≢false (sym refused))
-not_made (ShowMem p side at len) answer refused = refl
-not_made (ShowPad p side i) (PadValue n) refused = absurd (true≢false (sym refused))
-not_made (ShowPad p side i) answer refused = refl
-not_made (ShowQueue p side place) (QueueShown n label) refused = absurd (true≢false (sym refused))
-not_made (ShowQueue p side place) answer refused = refl
 
 -- the pair
 same_part : (part : PairPart) (step : Step) → counts_refusals step ≡ false → after_refusal part step ≡ part
@@ -98,13 +40,13 @@ same_part part (Xbegin p side queue dev dst kind payload) counts = absurd (true�
 same_part part step counts = refl
 
 -- and what was stored
-no_stores : (plan : PairPlan) (part : PairPart) (side : Side) (step : Step) (answer : Answer) → is_refusal answer ≡ true → stores_by plan part side step answer ≡ []
-no_stores plan part side (Land p from place) (Landed label) refused = absurd (true≢false (sym refused))
-no_stores plan part side (Check p on) Up refused = absurd (true≢false (sym refused))
-no_stores plan part side (Clear p on queue) (Cleared n) refused = absurd (true≢false (sym refused))
+no_stores : (plan : PairPlan) (part : PairPart) (side : Side) (step : Step) (answer : Answer) → is_made step answer ≡ false → stores_by plan part side step answer ≡ []
+no_stores plan part side (Land p from place) (Landed label) refused = absurd (true≢false refused)
+no_stores plan part side (Check p on) Up refused = absurd (true≢false refused)
+no_stores plan part side (Clear p on queue) (Cleared n) refused = absurd (true≢false refused)
 no_stores plan part side step answer refused = refl
 
-module _ (plan : Plan) (steps : List Step) (step : Step) (answer : Answer) (goes : IsAnswered plan steps step answer) (refused : is_refusal answer ≡ true) (counts : counts_refusals step ≡ false) where
+module _ (plan : Plan) (steps : List Step) (step : Step) (answer : Answer) (goes : IsAnswered plan steps step answer) (refused : is_made step answer ≡ false) (counts : counts_refusals step ≡ false) where
   -- the answer by what is stored
   answer_there : answer ≡ (site_outcome plan (subject_of step) steps step).answer
   answer_there =
@@ -113,7 +55,7 @@ module _ (plan : Plan) (steps : List Step) (step : Step) (answer : Answer) (goes
 
   same_ledger : (k : ℕ) → ledger_of plan (memory_of plan) (steps ++ step ∷ []) k ≡ ledger_of plan (memory_of plan) steps k
   same_ledger k =
-      refusals_change_nothing plan (memory_of plan) steps step answer k goes (not_made step answer refused)
+      refusals_change_nothing plan (memory_of plan) steps step answer k goes refused
       ∙ ap (λ (part : PairPart). if k == subject_of step then part else ledger_of plan (memory_of plan) steps k) (same_part (ledger_of plan (memory_of plan) steps k) step counts)
       ∙ both (k == subject_of step)
     where

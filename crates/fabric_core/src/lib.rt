@@ -12,4 +12,4 @@ mod queues;
 mod refusals;
 
 pub use fabric::Fabric;
-pub use refusals::{is_refusal, refused_again};
+pub use refusals::{is_made, refused_again};

@@ -1,5 +1,5 @@
 -- A step that was refused is answered the same each further time, without being made.
-use Rattle.std.proofs.Common.{◌≡◌, ◌∙◌, ℕ, zero, suc, ◌+◌, ◌-◌, ◌<◌, arith, true, false, List, [], ◌∷◌, ◌++◌, refl, sym, ap, subst, replicate}
+use Rattle.std.proofs.Common.{◌≡◌, ◌∙◌, ℕ, zero, suc, ◌+◌, ◌-◌, ◌<◌, arith, false, List, [], ◌∷◌, ◌++◌, refl, sym, ap, subst, replicate}
 use Rattle.std.specs.List.{fold}
 use Rattle.std.proofs.lemmas.List.{map-append, replicate-append-replicate}
 use Rattle.step_kinds.specs.declared.plan.Line.{Line}
@@ -7,12 +7,13 @@ use Rattle.step_kinds.specs.declared.plan.LineAnswer.{LineAnswer}
 use Rattle.step_kinds.specs.declared.plan.Plan.{Plan}
 use Rattle.step_kinds.specs.declared.steps.Answer.{Answer}
 use Rattle.step_kinds.specs.declared.steps.Step.{Step}
+use Rattle.ledger_laws.specs.Laws.{is_made}
 use Rattle.script_words.specs.Compact.{lines_with, step_again}
 use Rattle.script_words.specs.declared.macros.Repeated.{Repeated}
 use Rattle.script_words.specs.declared.macros.Repeated.TheVariants.{Post, Land, Look, Copy, Clear, Ack, Offer}
 use Rattle.fabric_core.specs.Fabric.{FabricState, bare_plan, plan_kept}
 use Rattle.fabric_core.specs.LogClauses.{HasMade, IsAnswered}
-use Rattle.fabric_core.specs.Refusals.{RefusedAgain, counts_refusals, is_refusal}
+use Rattle.fabric_core.specs.Refusals.{RefusedAgain, counts_refusals}
 use Rattle.ntb_top.specs.ReplaySteps.{HasKept, steps_in}
 use Rattle.ntb_top.proofs.Replaying.{kept_both, kept_none, kept_one, step_in}
 
@@ -26,7 +27,7 @@ repeated_counts (Clear pair side queue) = refl
 repeated_counts (Ack pair side queue) = refl
 repeated_counts (Offer pair side) = refl
 
-module _ (again : RefusedAgain) {K : Type 0} (with_answer : K → LineAnswer → K) (plan : Plan) (line : ℕ) (step : Step) (answer : Answer) (fabric : FabricState) (refused : is_refusal answer ≡ true)
+module _ (again : RefusedAgain) {K : Type 0} (with_answer : K → LineAnswer → K) (plan : Plan) (line : ℕ) (step : Step) (answer : Answer) (fabric : FabricState) (refused : is_made step answer ≡ false)
     (counts : counts_refusals step ≡ false) (kept : plan_kept fabric ≡ bare_plan plan) where
   abbrev last : Line
   last = record { line = line; step = step }
@@ -47,7 +48,7 @@ module _ (again : RefusedAgain) {K : Type 0} (with_answer : K → LineAnswer →
       (kept_refused count (steps ++ step ∷ []) (before ++ last ∷ []) new (map-append step_in before (last ∷ []) ∙ ap (λ (steps : List Step). steps ++ step ∷ []) same) next.0 next.1)
 
 -- what a line's steps so far keep, the next one refused, and the rest kept as that one
-module _ (again : RefusedAgain) {K : Type 0} (with_answer : K → LineAnswer → K) (plan : Plan) (line : ℕ) (step : Step) (answer : Answer) (refused : is_refusal answer ≡ true)
+module _ (again : RefusedAgain) {K : Type 0} (with_answer : K → LineAnswer → K) (plan : Plan) (line : ℕ) (step : Step) (answer : Answer) (refused : is_made step answer ≡ false)
     (counts : counts_refusals step ≡ false) (before : List Line) where
   abbrev made_by : ℕ → List Line
   made_by count = lines_with line (replicate count step)

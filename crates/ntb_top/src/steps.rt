@@ -13,7 +13,7 @@ ghost use Rattle.fabric_core.specs.Fabric.{plan_kept};
 ghost use Rattle.fabric_core.specs.Refusals.{counts_refusals};
 ghost use Rattle.ntb_top.specs.ReplaySteps.{HasKept, HasReplayed};
 
-use fabric_core::{Fabric, is_refusal, refused_again};
+use fabric_core::{Fabric, is_made, refused_again};
 use script_plan::{StepList, Stretch};
 use script_words::Repeated;
 use std::alloc::AllocError;
@@ -142,7 +142,7 @@ fn make_again<K: KeepsAnswers>(
     for made in 0..count {
         let answer = fabric.step(step)?;
         let answered = LineAnswer { line, answer };
-        if made + 1 < count && is_refusal(&answered.answer) {
+        if made + 1 < count && !is_made(step, &answered.answer) {
             refused_again();
             return kept.keep_times(&answered, count - made);
         }

@@ -31,18 +31,18 @@ loop-made-preserved g c = record {
       (c.in_ok-answer.ensures.answered plan (steps_in (before ++ lines)) so_far.replayed.made).0 c.in_ok-keep.ensures));
 }
 
-pub returns-then-is_refusal-clause-plan : goal.returns-then-is_refusal-clause-plan
-returns-then-is_refusal-clause-plan g c = on_ok_weaker c.keep_times.result (λ _. c.in_ok-answer.ensures.plan ∙ c.loop-made.invariant.plan) c.keep_times.ensures
+pub returns-then-not-is_made-clause-plan : goal.returns-then-not-is_made-clause-plan
+returns-then-not-is_made-clause-plan g c = on_ok_weaker c.keep_times.result (λ _. c.in_ok-answer.ensures.plan ∙ c.loop-made.invariant.plan) c.keep_times.ensures
 
-pub returns-then-is_refusal-clause-kept : goal.returns-then-is_refusal-clause-kept
-returns-then-is_refusal-clause-kept g c =
+pub returns-then-not-is_made-clause-kept : goal.returns-then-not-is_made-clause-kept
+returns-then-not-is_made-clause-kept g c =
     λ plan before replayed.
     let with_answer = g.K.KeepsAnswers.with_answer in
     let lines : List Line = lines_with c.args.line (replicate c.loop-made.made c.args.step.now) in
     let so_far = c.loop-made.invariant.kept plan before replayed in
     on_ok_weaker c.keep_times.result
     (λ is.
-    kept_rest c.refused_again.ensures with_answer plan c.args.line c.args.step.now c.in_ok-answer.answer (sym c.is_refusal.ensures ∙ c.if-is_refusal.true) c.requires.uncounted
+    kept_rest c.refused_again.ensures with_answer plan c.args.line c.args.step.now c.in_ok-answer.answer (sym c.is_made.ensures ∙ c.if-not-is_made.true) c.requires.uncounted
     before c.loop-made.made c.args.count (omega arith) c.loop-made.fabric c.step.new.self c.args.kept.now c.loop-made.kept c.keep_times.new.self so_far
     (c.in_ok-answer.ensures.stands plan (steps_in (before ++ lines)) so_far.replayed.made) c.in_ok-answer.ensures.plan
     (c.in_ok-answer.ensures.answered plan (steps_in (before ++ lines)) so_far.replayed.made).0 is)
