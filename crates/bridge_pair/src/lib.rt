@@ -19,8 +19,6 @@ mod fresh;
 pub mod laws;
 mod pair;
 mod plans;
-#[cfg(test)]
-mod tests;
 mod write;
 
 pub use book::SideBook;

@@ -14,8 +14,6 @@ mod reading;
 mod receiving;
 mod rings;
 mod sending;
-#[cfg(test)]
-mod tests;
 
 pub use port::Port;
 pub use step_kinds::{Begun, LaneCopy};

@@ -9,8 +9,6 @@ mod checks;
 mod headers;
 mod offers;
 mod queues;
-#[cfg(test)]
-mod tests;
 
 pub use checks::check;
 pub use offers::offer;

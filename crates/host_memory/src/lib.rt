@@ -10,8 +10,6 @@
 pub mod laws;
 mod memory;
 mod pages;
-#[cfg(test)]
-mod tests;
 mod window;
 
 pub use memory::{Memory, PAGE_SIZE};

@@ -24,8 +24,6 @@ mod level;
 mod part;
 mod part_counts;
 mod row;
-#[cfg(test)]
-mod tests;
 mod ticket;
 
 /// A posted write that has a kind and a traffic class, by which bridges order it.

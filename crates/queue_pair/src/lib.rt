@@ -5,8 +5,6 @@
 
 pub mod laws;
 mod queue;
-#[cfg(test)]
-mod tests;
 
 pub use queue::{QueuePair, irq};
 

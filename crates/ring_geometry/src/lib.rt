@@ -27,8 +27,6 @@ use std::marker::Model;
 use thiserror::Error;
 
 pub mod laws;
-#[cfg(test)]
-mod tests;
 
 /// The numbers make no ring: there is no window, the queue is none of the side's, its area has no room for the index
 /// word, or an entry would have no room for its header and four bytes more.

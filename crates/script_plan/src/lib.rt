@@ -21,5 +21,3 @@ pub use script::Script;
 pub use step_list::{StepList, Stretch};
 pub use traffic::TrafficList;
 
-#[cfg(test)]
-mod tests;

@@ -15,5 +15,3 @@ pub use script::{parse, read_script};
 pub use script_plan::Script;
 pub use script_words::{Cause, ScriptFault};
 
-#[cfg(test)]
-mod tests;

@@ -25,5 +25,3 @@ pub use line_gives::Given;
 pub use macros::{Macro, Repeated};
 pub use parts::{Part, QueueName, SideName};
 
-#[cfg(test)]
-mod tests;
