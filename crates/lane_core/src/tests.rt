@@ -2,7 +2,6 @@ ghost use Rattle.std.specs.Prelude.{◌≡◌, ◌+◌, ◌<◌, ◌≤◌, ◌^
 ghost use Rattle.lane_laws.specs.Laws.{IsOpen};
 
 use super::*;
-use call_tables::follow;
 use std::alloc::{AllocError, Global};
 use std::process::Abort;
 use std::test::Fail;
@@ -189,117 +188,172 @@ fn follow(rt: &impl Abort, alloc: Global, ring: Ring, calls: &[(Call, &str)]) ->
 
 #[test]
 fn a_frame_there_and_back(rt: HostRuntime) -> Result<(), Fail> {
-    follow! { rt, STRICT;
-        Begin(1) => "Ok { number: 0 }",
-        Begin(1) => "Busy",
-        Post => "Some(Chunk { queue: 0, number: 0, part: 0 })",
-        Post => "Some(Len { queue: 0, number: 0 })",
-        Post => "Some(Ver { queue: 0, number: 0 })",
-        Post => "Some(Flag { queue: 0, number: 0 })",
-        Post => "Some(Bell { queue: 0 })",
-        Post => "None",
-        Land(0) => "Landed(Chunk { queue: 0, number: 0, part: 0 })",
-        Land(0) => "Landed(Len { queue: 0, number: 0 })",
-        Land(0) => "Landed(Ver { queue: 0, number: 0 })",
-        Land(0) => "Landed(Flag { queue: 0, number: 0 })",
-        Land(0) => "Landed(Bell { queue: 0 })",
-        Look => "Ready { number: 0, len: 1 }",
-        Look => "OutOfTurn",
-        Ack => "None",
-        Copy => "0 with 1",
-        Copy => "out of turn",
-        Clear => "Some(0)",
-        Ack => "Some(0)",
-        LandIndex(0) => "Landed(Index { queue: 0, number: 0 })",
-    }
+    follow(
+        &rt,
+        rt.alloc(),
+        STRICT,
+        &[
+            (Call::Begin(1), "Ok { number: 0 }"),
+            (Call::Begin(1), "Busy"),
+            (Call::Post, "Some(Chunk { queue: 0, number: 0, part: 0 })"),
+            (Call::Post, "Some(Len { queue: 0, number: 0 })"),
+            (Call::Post, "Some(Ver { queue: 0, number: 0 })"),
+            (Call::Post, "Some(Flag { queue: 0, number: 0 })"),
+            (Call::Post, "Some(Bell { queue: 0 })"),
+            (Call::Post, "None"),
+            (
+                Call::Land(0),
+                "Landed(Chunk { queue: 0, number: 0, part: 0 })",
+            ),
+            (Call::Land(0), "Landed(Len { queue: 0, number: 0 })"),
+            (Call::Land(0), "Landed(Ver { queue: 0, number: 0 })"),
+            (Call::Land(0), "Landed(Flag { queue: 0, number: 0 })"),
+            (Call::Land(0), "Landed(Bell { queue: 0 })"),
+            (Call::Look, "Ready { number: 0, len: 1 }"),
+            (Call::Look, "OutOfTurn"),
+            (Call::Ack, "None"),
+            (Call::Copy, "0 with 1"),
+            (Call::Copy, "out of turn"),
+            (Call::Clear, "Some(0)"),
+            (Call::Ack, "Some(0)"),
+            (Call::LandIndex(0), "Landed(Index { queue: 0, number: 0 })"),
+        ],
+    )
 }
 
 #[test]
 fn one_entry_stays_free(rt: HostRuntime) -> Result<(), Fail> {
-    follow! { rt, STRICT;
-        Begin(1) => "Ok { number: 0 }",
-        Posts(5) => "Some(Bell { queue: 0 })",
-        Begin(1) => "Ok { number: 1 }",
-        Posts(5) => "Some(Bell { queue: 0 })",
-        Begin(1) => "Ok { number: 2 }",
-        Posts(5) => "Some(Bell { queue: 0 })",
-        Begin(1) => "NoRoom { head: 3, tail: 3 }",
-        Lands(15) => "Landed(Bell { queue: 0 })",
-        Receive => "0 with 1, Some(0)",
-        LandIndex(0) => "Landed(Index { queue: 0, number: 0 })",
-        Begin(1) => "Ok { number: 3 }",
-        Posts(5) => "Some(Bell { queue: 0 })",
-        Begin(1) => "NoRoom { head: 0, tail: 0 }",
-    }?;
-    follow! { rt, SHORT;
-        Begin(1) => "Ok { number: 0 }",
-        Posts(5) => "Some(Bell { queue: 0 })",
-        Begin(1) => "NoRoom { head: 1, tail: 1 }",
-        Lands(5) => "Landed(Bell { queue: 0 })",
-        Receive => "0 with 1, Some(0)",
-        LandIndex(0) => "Landed(Index { queue: 0, number: 0 })",
-        Begin(1) => "Ok { number: 1 }",
-        Posts(5) => "Some(Bell { queue: 0 })",
-        Begin(1) => "NoRoom { head: 0, tail: 0 }",
-    }
+    follow(
+        &rt,
+        rt.alloc(),
+        STRICT,
+        &[
+            (Call::Begin(1), "Ok { number: 0 }"),
+            (Call::Posts(5), "Some(Bell { queue: 0 })"),
+            (Call::Begin(1), "Ok { number: 1 }"),
+            (Call::Posts(5), "Some(Bell { queue: 0 })"),
+            (Call::Begin(1), "Ok { number: 2 }"),
+            (Call::Posts(5), "Some(Bell { queue: 0 })"),
+            (Call::Begin(1), "NoRoom { head: 3, tail: 3 }"),
+            (Call::Lands(15), "Landed(Bell { queue: 0 })"),
+            (Call::Receive, "0 with 1, Some(0)"),
+            (Call::LandIndex(0), "Landed(Index { queue: 0, number: 0 })"),
+            (Call::Begin(1), "Ok { number: 3 }"),
+            (Call::Posts(5), "Some(Bell { queue: 0 })"),
+            (Call::Begin(1), "NoRoom { head: 0, tail: 0 }"),
+        ],
+    )?;
+    follow(
+        &rt,
+        rt.alloc(),
+        SHORT,
+        &[
+            (Call::Begin(1), "Ok { number: 0 }"),
+            (Call::Posts(5), "Some(Bell { queue: 0 })"),
+            (Call::Begin(1), "NoRoom { head: 1, tail: 1 }"),
+            (Call::Lands(5), "Landed(Bell { queue: 0 })"),
+            (Call::Receive, "0 with 1, Some(0)"),
+            (Call::LandIndex(0), "Landed(Index { queue: 0, number: 0 })"),
+            (Call::Begin(1), "Ok { number: 1 }"),
+            (Call::Posts(5), "Some(Bell { queue: 0 })"),
+            (Call::Begin(1), "NoRoom { head: 0, tail: 0 }"),
+        ],
+    )
 }
 
 #[test]
 fn the_largest_frame(rt: HostRuntime) -> Result<(), Fail> {
-    follow! { rt, STRICT;
-        Begin(1011) => "Ok { number: 0 }",
-        Begin(1012) => "TooLong { len: 1012, max: 1011 }",
-    }
+    follow(
+        &rt,
+        rt.alloc(),
+        STRICT,
+        &[
+            (Call::Begin(1011), "Ok { number: 0 }"),
+            (Call::Begin(1012), "TooLong { len: 1012, max: 1011 }"),
+        ],
+    )
 }
 
 #[test]
 fn relaxed_fields_pass_others(rt: HostRuntime) -> Result<(), Fail> {
-    follow! { rt, RELAXED;
-        Begin(300) => "Ok { number: 0 }",
-        Posts(7) => "Some(Bell { queue: 0 })",
-        Land(2) => "Landed(Chunk { queue: 0, number: 0, part: 2 })",
-        Land(0) => "Landed(Chunk { queue: 0, number: 0, part: 0 })",
-        Land(0) => "Landed(Chunk { queue: 0, number: 0, part: 1 })",
-        Land(0) => "Landed(Len { queue: 0, number: 0 })",
-        Land(0) => "Landed(Ver { queue: 0, number: 0 })",
-        Land(0) => "Landed(Flag { queue: 0, number: 0 })",
-        Look => "Ready { number: 0, len: 300 }",
-        Copy => "part 0 of 0",
-        Copy => "part 1 of 0",
-        Copy => "0 with 300",
-    }?;
-    follow! { rt, RELAXED;
-        Begin(1) => "Ok { number: 0 }",
-        Posts(5) => "Some(Bell { queue: 0 })",
-        Land(3) => "Blocked",
-        Land(1) => "Landed(Len { queue: 0, number: 0 })",
-        Land(9) => "Nothing",
-    }?;
-    follow! { rt, RELAXED;
-        Begin(3) => "Ok { number: 0 }",
-        Posts(5) => "Some(Bell { queue: 0 })",
-        Begin(2) => "Ok { number: 1 }",
-        Posts(5) => "Some(Bell { queue: 0 })",
-        Land(5) => "Landed(Chunk { queue: 0, number: 1, part: 0 })",
-        Lands(4) => "Landed(Flag { queue: 0, number: 0 })",
-        Receive => "0 with 3, Some(0)",
-        Look => "Empty",
-    }
+    follow(
+        &rt,
+        rt.alloc(),
+        RELAXED,
+        &[
+            (Call::Begin(300), "Ok { number: 0 }"),
+            (Call::Posts(7), "Some(Bell { queue: 0 })"),
+            (
+                Call::Land(2),
+                "Landed(Chunk { queue: 0, number: 0, part: 2 })",
+            ),
+            (
+                Call::Land(0),
+                "Landed(Chunk { queue: 0, number: 0, part: 0 })",
+            ),
+            (
+                Call::Land(0),
+                "Landed(Chunk { queue: 0, number: 0, part: 1 })",
+            ),
+            (Call::Land(0), "Landed(Len { queue: 0, number: 0 })"),
+            (Call::Land(0), "Landed(Ver { queue: 0, number: 0 })"),
+            (Call::Land(0), "Landed(Flag { queue: 0, number: 0 })"),
+            (Call::Look, "Ready { number: 0, len: 300 }"),
+            (Call::Copy, "part 0 of 0"),
+            (Call::Copy, "part 1 of 0"),
+            (Call::Copy, "0 with 300"),
+        ],
+    )?;
+    follow(
+        &rt,
+        rt.alloc(),
+        RELAXED,
+        &[
+            (Call::Begin(1), "Ok { number: 0 }"),
+            (Call::Posts(5), "Some(Bell { queue: 0 })"),
+            (Call::Land(3), "Blocked"),
+            (Call::Land(1), "Landed(Len { queue: 0, number: 0 })"),
+            (Call::Land(9), "Nothing"),
+        ],
+    )?;
+    follow(
+        &rt,
+        rt.alloc(),
+        RELAXED,
+        &[
+            (Call::Begin(3), "Ok { number: 0 }"),
+            (Call::Posts(5), "Some(Bell { queue: 0 })"),
+            (Call::Begin(2), "Ok { number: 1 }"),
+            (Call::Posts(5), "Some(Bell { queue: 0 })"),
+            (
+                Call::Land(5),
+                "Landed(Chunk { queue: 0, number: 1, part: 0 })",
+            ),
+            (Call::Lands(4), "Landed(Flag { queue: 0, number: 0 })"),
+            (Call::Receive, "0 with 3, Some(0)"),
+            (Call::Look, "Empty"),
+        ],
+    )
 }
 
 #[test]
 fn index_writes_land_in_order(rt: HostRuntime) -> Result<(), Fail> {
-    follow! { rt, RELAXED;
-        Begin(1) => "Ok { number: 0 }",
-        Posts(5) => "Some(Bell { queue: 0 })",
-        Begin(2) => "Ok { number: 1 }",
-        Posts(5) => "Some(Bell { queue: 0 })",
-        Lands(10) => "Landed(Bell { queue: 0 })",
-        Receive => "0 with 1, Some(0)",
-        Receive => "1 with 2, Some(1)",
-        LandIndex(1) => "Blocked",
-        LandIndex(0) => "Landed(Index { queue: 0, number: 0 })",
-    }
+    follow(
+        &rt,
+        rt.alloc(),
+        RELAXED,
+        &[
+            (Call::Begin(1), "Ok { number: 0 }"),
+            (Call::Posts(5), "Some(Bell { queue: 0 })"),
+            (Call::Begin(2), "Ok { number: 1 }"),
+            (Call::Posts(5), "Some(Bell { queue: 0 })"),
+            (Call::Lands(10), "Landed(Bell { queue: 0 })"),
+            (Call::Receive, "0 with 1, Some(0)"),
+            (Call::Receive, "1 with 2, Some(1)"),
+            (Call::LandIndex(1), "Blocked"),
+            (Call::LandIndex(0), "Landed(Index { queue: 0, number: 0 })"),
+        ],
+    )
 }
 
 #[test]
