@@ -1,5 +1,4 @@
 use super::*;
-use script_plan::StepList;
 use std::alloc::{AllocError, Global};
 use std::test::Fail;
 use step_kinds::{Frame, Items, LaneName, Line, Plan, Side, Step, Traffic};
@@ -40,29 +39,9 @@ fn steps_of_seed_one(rt: HostRuntime) -> Result<(), Fail> {
     let expected =
         b"bppppp3021113200000lczaibppppp3122021100000lczaibppppppp021033130000000lccczai";
     assert_eq!(rt; marks.as_slice(), expected.as_slice());
-    assert_eq!(rt; plan.pairs.len(), 1);
-    assert_eq!(rt; plan.devs.len(), 0);
-    assert_eq!(rt; plan.traffic.len(), 0);
     let steps = plan.steps.as_slice();
     for (place, number) in [(0usize, 1u32), (23, 1), (24, 2), (47, 2), (48, 3), (77, 3)] {
         assert_eq!(rt; steps.get(place).ok_or("no step")?.line, number);
-    }
-    Ok(())
-}
-
-// The same frames one after another: the second alone, with its line.
-#[test]
-fn the_second_frame_alone(rt: HostRuntime) -> Result<(), Fail> {
-    let mut load = LoadFrames::new(1);
-    let mut steps = StepList::new(rt.alloc());
-    load.put_next(rt.alloc(), &mut steps)?;
-    load.put_next(rt.alloc(), &mut steps)?;
-    let mut plan = load_without_steps(rt.alloc())?;
-    plan.steps = steps.into_items(rt.alloc())?;
-    let marks = marks_of(rt.alloc(), &plan)?;
-    assert_eq!(rt; marks.as_slice(), b"bppppp3122021100000lczai".as_slice());
-    for line in plan.steps.as_slice() {
-        assert_eq!(rt; line.line, 2);
     }
     Ok(())
 }
@@ -80,20 +59,6 @@ fn bytes_of_seed_one(rt: HostRuntime) -> Result<(), Fail> {
     for (j, byte) in frame.bytes().iter().enumerate() {
         assert_eq!(rt; *byte, word[j % 8]);
     }
-    Ok(())
-}
-
-#[test]
-fn the_pair_is_as_declared(rt: HostRuntime) -> Result<(), Fail> {
-    let plan = generate(rt.alloc(), 7, 1)?;
-    let pair = plan.pairs.as_slice().first().ok_or("no pair")?;
-    assert_eq!(rt; pair.name.bytes(), b"p".as_slice());
-    assert_eq!(rt; pair.a, pair.b);
-    assert_eq!(rt; pair.a.version, 4);
-    assert_eq!(rt; pair.a.size, 4096);
-    assert_eq!(rt; pair.a.cap, 4096);
-    assert_eq!(rt; pair.mtu, 1023);
-    assert!(rt; pair.up && !pair.strict && !pair.raw);
     Ok(())
 }
 
@@ -136,7 +101,7 @@ fn first_bytes(alloc: Global, plan: &Plan, lane: LaneName) -> Result<Vec<u8>, Al
 }
 
 #[test]
-fn frames_by_lane(rt: HostRuntime) -> Result<(), Fail> {
+fn frames_by_lane_and_breaks_by_pair(rt: HostRuntime) -> Result<(), Fail> {
     let plan = with_traffic(rt.alloc())?;
     for (name, expected) in [
         (lane(0, Side::A, 0), [1u8, 5].as_slice()),
@@ -148,12 +113,6 @@ fn frames_by_lane(rt: HostRuntime) -> Result<(), Fail> {
         let bytes = first_bytes(rt.alloc(), &plan, name)?;
         assert_eq!(rt; bytes.as_slice(), expected);
     }
-    Ok(())
-}
-
-#[test]
-fn breaks_by_pair(rt: HostRuntime) -> Result<(), Fail> {
-    let plan = with_traffic(rt.alloc())?;
     if plan.traffic.len() > 8 {
         return Err("more than eight items".into());
     }
@@ -161,10 +120,4 @@ fn breaks_by_pair(rt: HostRuntime) -> Result<(), Fail> {
     assert_eq!(rt; breaks(&plan, 1), 2);
     assert_eq!(rt; breaks(&plan, 2), 0);
     Ok(())
-}
-
-#[test]
-fn laws_may_be_cited(_rt: HostRuntime) {
-    laws::frame_has_few_steps();
-    laws::load_is_whole();
 }
