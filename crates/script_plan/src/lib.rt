@@ -20,4 +20,3 @@ pub use reader::Reader;
 pub use script::Script;
 pub use step_list::{StepList, Stretch};
 pub use traffic::TrafficList;
-

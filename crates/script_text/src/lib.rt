@@ -14,4 +14,3 @@ pub use error::ParseError;
 pub use script::{parse, read_script};
 pub use script_plan::Script;
 pub use script_words::{Cause, ScriptFault};
-

@@ -24,4 +24,3 @@ pub use fault::{Cause, LineError, ScriptFault};
 pub use line_gives::Given;
 pub use macros::{Macro, Repeated};
 pub use parts::{Part, QueueName, SideName};
-
