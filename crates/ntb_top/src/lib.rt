@@ -3,9 +3,8 @@
 #![tactic(auto)]
 
 mod command;
-mod load;
+mod input;
+pub mod laws;
 mod program;
-mod replay;
-mod steps;
 
 pub use program::run_program;
