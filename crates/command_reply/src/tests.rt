@@ -15,7 +15,10 @@ fn each_reply_has_its_status_and_text(rt: HostRuntime) -> Result<(), Fail> {
         cause: Cause::UnknownWord,
     });
     assert_eq!(rt; refused.status(), 3);
-    assert_eq!(rt; refused.text(), b"refused line 4294967295 unknownword\n".as_slice());
+    assert_eq!(rt;
+        refused.text(),
+        b"refused line 4294967295 unknownword\n".as_slice()
+    );
     assert_eq!(rt; Reply::too_long().status(), 7);
     assert_eq!(rt; Reply::too_long().text(), b"too long\n".as_slice());
     Ok(())

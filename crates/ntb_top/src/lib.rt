@@ -2,9 +2,11 @@
 //! answers the exit status.
 #![tactic(auto)]
 
+mod arguments;
 mod command;
 mod input;
 pub mod laws;
 mod program;
 
+pub use arguments::run_arguments;
 pub use program::run_program;
