@@ -17,9 +17,3 @@ pub summary_is : (seed frames taken given blocked : ℕ) →
     ≡ summary_text seed frames taken given blocked
 summary_is seed frames taken given blocked =
     regrouped (32 ∷ []) (codes "load") (codes " accepted") (codes " delivered") (codes " blocked") (decimal seed) (decimal frames) (decimal taken) (decimal given) (decimal blocked) (10 ∷ [])
-
-rejoined : (a b sp c end : List ℕ) → a ++ (b ++ (sp ++ (c ++ end))) ≡ ((a ++ b) ++ (sp ++ c)) ++ end
-rejoined a b sp c end = simp append_assoc
-
-pub refused_is : (line : ℕ) (word : List ℕ) → codes "refused line " ++ (decimal line ++ (codes " " ++ (word ++ 10 ∷ []))) ≡ line_of (codes "refused line " ++ decimal line ++ 32 ∷ word)
-refused_is line word = rejoined (codes "refused line ") (decimal line) (32 ∷ []) word (10 ∷ [])
