@@ -1,0 +1,6 @@
+//! The run of a plan's traffic by threads: sessions of its lanes, in rounds of workers.
+#![tactic(auto)]
+
+mod run;
+
+pub use run::run_plan;
