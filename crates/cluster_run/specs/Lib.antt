@@ -1,2 +1,4 @@
 pub mod Lanes
 pub mod Runs
+pub mod WorkerFields
+pub mod Workers

@@ -2,5 +2,6 @@
 #![tactic(auto)]
 
 mod run;
+mod workers;
 
 pub use run::run_plan;
