@@ -1,4 +1,6 @@
 pub mod Lanes
 pub mod Runs
+pub mod SessionFields
+pub mod Sessions
 pub mod WorkerFields
 pub mod Workers

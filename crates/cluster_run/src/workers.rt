@@ -1,41 +1,13 @@
 //! The four workers of a lane in a session, each with the end or the ends that it makes its turns with.
 
-ghost use Rattle.std.specs.Prelude.{◌≡◌, ◌≤◌, ◌<◌, ◌+◌, ◌^◌, true, length, IsTrue, ◌↔◌};
+ghost use Rattle.std.specs.Prelude.{◌≡◌, ◌≤◌, true, length};
 
+use crate::clock::Clock;
 use io_edges::Gate;
 use lane_workers::{cut_pass, move_pass, recv_pass, send_pass};
 use std::marker::Model;
 use step_kinds::FrameList;
 use table_lane::{BackEnd, CutEnd, MoveEnd, RecvEnd, SendEnd};
-
-/// The number of a worker, and that of its next turn, which counts from 0 in each session.
-#[derive(Clone, Copy, Debug, Drop)]
-pub(crate) struct Clock {
-    worker: u32,
-    turn: u64,
-}
-
-impl Clock {
-    /// The clock of a worker with this number, in a new session.
-    pub(crate) fn new(worker: u32) -> Clock {
-        Clock { worker, turn: 0 }
-    }
-
-    // The number of the next turn. It stands still where so many turns would pass the last number.
-    fn first(&self, turns: u32) -> u64
-        ensures { result + turns < 2 ^ 64 }
-    {
-        self.turn.min(u64::MAX - u64::from(turns))
-    }
-
-    // After so many turns.
-    fn after(&self, first: u64, turns: u32) -> Clock {
-        Clock {
-            worker: self.worker,
-            turn: first.saturating_add(u64::from(turns)),
-        }
-    }
-}
 
 /// The worker that sends the frames of a session.
 #[derive(Drop)]
