@@ -7,6 +7,7 @@ use io_edges::Gate;
 use rand_xoshiro::SplitMix64;
 use rand_xoshiro::rand_core::SeedableRng;
 use rand_xoshiro::rand_core::utils::NextWord;
+use table_lane::laws::{each_move_is_a_try, each_step_back_is_a_load};
 use table_lane::{BackAnswer, BackEnd, MoveAnswer, MoveEnd};
 
 /// One turn: one step of the mover, by this choice, and one of the way back.
@@ -18,6 +19,9 @@ fn move_turn(mover: &mut MoveEnd, back: &mut BackEnd, choice: u64) -> Turn
     ensures tries { tries mover.old.part + 1 ≤ tries mover.new.part }
     ensures back_tries { back.new.part.loads ≡ back.old.part.loads + 1 }
 {
+    // Each of both steps is a try.
+    each_move_is_a_try();
+    each_step_back_is_a_load();
     let moved = mover.step(choice);
     let returned = back.step();
     if moved == MoveAnswer::Idle && returned == BackAnswer::Idle {

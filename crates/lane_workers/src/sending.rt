@@ -14,6 +14,7 @@ fn send_turn(end: &mut SendEnd, todo: &mut FrameList) -> Turn
     ensures lane { end.new.lane ≡ end.old.lane }
     ensures entries { end.new.part.entries ≡ end.old.part.entries }
     ensures order { end.new.part.sent ++ todo.new.frames ≡ end.old.part.sent ++ todo.old.frames }
+    ensures count { length end.new.part.sent + length todo.new.frames ≡ length end.old.part.sent + length todo.old.frames }
     ensures grows { length end.old.part.sent ≤ length end.new.part.sent }
     ensures bytes { HaveBytes todo.new.frames }
     ensures room { todo.new.spare + length todo.new.frames ≡ todo.old.spare + length todo.old.frames }
@@ -61,6 +62,7 @@ pub fn send_pass<G: Gate>(
     ensures lane { end.new.lane ≡ end.old.lane }
     ensures entries { end.new.part.entries ≡ end.old.part.entries }
     ensures order { end.new.part.sent ++ todo.new.frames ≡ end.old.part.sent ++ todo.old.frames }
+    ensures count { length end.new.part.sent + length todo.new.frames ≡ length end.old.part.sent + length todo.old.frames }
     ensures grows { length end.old.part.sent ≤ length end.new.part.sent }
     ensures bytes { HaveBytes todo.new.frames }
     ensures room { todo.new.spare + length todo.new.frames ≡ todo.old.spare + length todo.old.frames }
