@@ -1,3 +1,5 @@
+pub mod LaneFields
+pub mod LaneKeys
 pub mod Lanes
 pub mod Runs
 pub mod SessionFields

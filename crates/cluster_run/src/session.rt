@@ -1,10 +1,13 @@
 //! A session of a lane: the life of one table lane, from `make` to `finish`.
 
-ghost use Rattle.std.specs.Prelude.{◌≡◌, ◌≤◌, ◌<◌, ◌^◌, ◌++◌, [], length, IfOk};
+ghost use Rattle.std.specs.Prelude.{◌≡◌, ◌≤◌, ◌<◌, ◌^◌, ◌++◌, ◌==◌, [], length, IfOk};
 ghost use Rattle.lane_workers.specs.Passes.{HaveBytes};
 ghost use Rattle.cluster_run.specs.Sessions.{new_session, EndsWith};
 
+use crate::aim::Aim;
+use crate::beside::pass_beside;
 use crate::clock::Clock;
+use crate::in_turn::pass_in_turn;
 use crate::workers::{Cutting, Moving, Receiving, Sending};
 use io_edges::Gate;
 use std::alloc::{AllocError, Global};
@@ -20,6 +23,8 @@ pub(crate) struct Session {
     moving: Moving,
     receiving: Receiving,
     cutting: Cutting,
+    entries: u32,
+    total: usize,
 }
 
 /// What a session leaves.
@@ -35,6 +40,9 @@ pub(crate) struct SessionEnd {
 
 /// For so many frames more than a session has there is room to receive: a pass then makes as many turns at least.
 const SPARE_ROOM: usize = 1_024;
+
+/// At most so many turns a pass has where one thread makes those of all workers in turn.
+const MOST_TURNS: usize = 1_024;
 
 // The frames of a list, moved into a list of their own length.
 fn trimmed(alloc: Global, mut list: FrameList) -> Result<FrameList, AllocError>
@@ -72,7 +80,8 @@ impl Session {
         requires few { length todo.frames < 2 ^ 62 }
         ensures { IfOk result (λ s. s ≡ new_session entries todo.frames) }
     {
-        let room = todo.len() + SPARE_ROOM;
+        let total = todo.len();
+        let room = total + SPARE_ROOM;
         let got = room_for(alloc, room)?;
         let (send, mover, recv, back, cut) = make(alloc, entries)?;
         let first = 4 * number;
@@ -98,14 +107,71 @@ impl Session {
                 is_cut: false,
                 clock: Clock::new(first + 3),
             },
+            entries,
+            total,
         })
     }
 
-    /// How many frames were received.
-    pub(crate) fn received(&self) -> usize
-        ensures { result ≡ length self.now.got }
+    /// A round of the session in which each worker has a thread of its own.
+    pub(crate) fn pass_beside<R: Threads + Sync, G: Gate>(
+        &mut self,
+        rt: &R,
+        gate: &G,
+        cut_after: Option<usize>,
+    )
+        ensures entries { self.new.entries ≡ self.old.entries }
+        ensures frames { self.new.frames ≡ self.old.frames }
     {
-        self.receiving.count()
+        let aim = self.aim(cut_after);
+        pass_beside(
+            rt,
+            gate,
+            &mut self.sending,
+            &mut self.moving,
+            &mut self.receiving,
+            &mut self.cutting,
+            aim,
+        );
+    }
+
+    /// A round of the session in which this thread makes the passes of all workers in turn.
+    pub(crate) fn pass_in_turn<G: Gate>(&mut self, gate: &G, cut_after: Option<usize>)
+        ensures entries { self.new.entries ≡ self.old.entries }
+        ensures frames { self.new.frames ≡ self.old.frames }
+    {
+        let aim = self.aim(cut_after);
+        let turns = (self.entries - 1).min(self.total.clamp(1, MOST_TURNS) as u32);
+        pass_in_turn(
+            gate,
+            &mut self.sending,
+            &mut self.moving,
+            &mut self.receiving,
+            &mut self.cutting,
+            aim,
+            turns,
+        );
+    }
+
+    // What a round is to come to.
+    fn aim(&self, cut_after: Option<usize>) -> Aim {
+        Aim {
+            total: self.total,
+            cut_after,
+        }
+    }
+
+    /// How many frames the session may accept.
+    pub(crate) fn total(&self) -> usize
+        ensures { result ≡ length self.now.frames }
+    {
+        self.total
+    }
+
+    /// Whether all its frames were received.
+    pub(crate) fn is_whole(&self) -> bool
+        ensures { result ≡ (length self.now.got == length self.now.frames) }
+    {
+        self.receiving.count() == self.total
     }
 
     /// Whether the link was cut.
@@ -124,6 +190,7 @@ impl Session {
             moving,
             receiving,
             cutting,
+            ..
         } = self;
         let Sending { end: send, todo, .. } = sending;
         let Moving { mover, back, .. } = moving;
