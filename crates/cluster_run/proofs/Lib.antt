@@ -1,1 +1,2 @@
 mod FramesOfSession
+mod LaneEnds
