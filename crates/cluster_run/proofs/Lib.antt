@@ -1,2 +1,3 @@
 mod FramesOfSession
 mod LaneEnds
+mod LaneLists

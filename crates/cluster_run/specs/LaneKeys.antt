@@ -1,5 +1,5 @@
 -- What a lane's work comes to, whatever its workers do: it is the same from the first round to the last.
-use Rattle.std.specs.Prelude.{◌≡◌, ℕ, ◌+◌, ◌==◌, ◌&&◌, Bool, true, List, [], ◌∷◌, ◌++◌, length, map}
+use Rattle.std.specs.Prelude.{◌≡◌, ℕ, ◌+◌, ◌<◌, Bool, true, List, [], ◌∷◌, ◌++◌, length, map, slice_index_or}
 use Rattle.step_kinds.specs.declared.names.LaneName.{LaneName}
 use Rattle.step_kinds.specs.declared.runs.SessionRun.{SessionRun}
 use Rattle.step_kinds.specs.declared.plan.Plan.{Plan}
@@ -29,6 +29,14 @@ pub record LaneState : Type 0 where
 abbrev pub cut_proofs : ℕ → List SessionShown → List Shown
 cut_proofs entries sessions = map (session_proof entries true) sessions
 
+-- the keys of lanes at work
+abbrev pub keys_of : List LaneState → List LaneKey
+keys_of lanes = map (λ (lane : LaneState). lane.key) lanes
+
+-- the lanes come to the same after a round as before it, place by place
+abbrev pub KeepKeys : List LaneState → List LaneState → Type 0
+KeepKeys before after = (i : ℕ) (lane : LaneState) → i < length before → (slice_index_or after i lane).key ≡ (slice_index_or before i lane).key
+
 -- the record of a lane comes to its key, and these are the proofs of its sessions
 pub record ComesTo (key : LaneKey) (lane : LaneShown) (proofs : List Shown) : Type 0 where
   pub name : lane.name ≡ key.name
@@ -36,3 +44,10 @@ pub record ComesTo (key : LaneKey) (lane : LaneShown) (proofs : List Shown) : Ty
   pub traffic : accepted_over lane.sessions ≡ key.traffic
   pub nothing_left : left_at_last lane.sessions ≡ []
   pub shown : proofs ≡ lane_proofs key.entries lane.sessions
+
+-- the records of lanes come to their keys, one by one, and these are the proofs of their sessions, lane by lane
+abbrev pub ComeTo : List LaneKey → List LaneShown → List Shown → Type 0
+ComeTo [] [] proofs = proofs ≡ []
+ComeTo (key ∷ keys) (lane ∷ lanes) proofs = (first : List Shown) × (rest : List Shown) × (proofs ≡ first ++ rest) × ComesTo key lane first × ComeTo keys lanes rest
+ComeTo [] (lane ∷ lanes) proofs = ⊥
+ComeTo (key ∷ keys) [] proofs = ⊥

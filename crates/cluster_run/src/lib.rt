@@ -4,9 +4,12 @@
 mod aim;
 mod beside;
 mod clock;
+mod group;
 mod in_turn;
-mod progress;
 mod lanes;
+mod parts;
+mod progress;
+mod rounds;
 mod run;
 mod session;
 mod tasks;

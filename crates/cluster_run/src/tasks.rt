@@ -1,6 +1,6 @@
 //! Lanes that wait to be run.
 
-ghost use Rattle.std.specs.Prelude.{◌≡◌, IfOk};
+ghost use Rattle.std.specs.Prelude.{◌≡◌, ◌≤◌, IfOk};
 
 use crate::lanes::LaneWork;
 use crate::session::Session;
@@ -26,7 +26,8 @@ pub(crate) struct LaneTask {
 impl LaneTask {
     /// The entries of its ring.
     pub(crate) fn entries(&self) -> u32
-        ensures { result ≡ self.now.entries }
+        ensures value { result ≡ self.now.entries }
+        ensures fits { result ≤ 65535 }
     {
         self.entries
     }
