@@ -1,3 +1,5 @@
 mod FramesOfSession
 mod LaneEnds
 mod LaneLists
+mod PlacesOfLanes
+mod TrafficByLane

@@ -1,3 +1,4 @@
+pub mod ByLane
 pub mod LaneFields
 pub mod LaneKeys
 pub mod Lanes

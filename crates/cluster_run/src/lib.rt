@@ -3,6 +3,7 @@
 
 mod aim;
 mod beside;
+mod by_lane;
 mod clock;
 mod group;
 mod in_turn;
