@@ -5,5 +5,6 @@ pub mod Lanes
 pub mod Runs
 pub mod SessionFields
 pub mod Sessions
+pub mod Tasks
 pub mod WorkerFields
 pub mod Workers

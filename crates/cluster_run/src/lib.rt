@@ -14,6 +14,7 @@ mod rounds;
 mod run;
 mod session;
 mod tasks;
+mod waiting;
 mod workers;
 
 pub use run::run_plan;
