@@ -90,8 +90,8 @@ can_be_run plan can lane is_empty full tells frames =
       bytes = subst HaveBytes (sym frames) (bytes_on plan lane.name plan.traffic can.traffic);
       few = omega arith;
     } where
-  not_empty : (b : Bool) → b ≡ false → IsTrue b → ⊥
-  not_empty b full empty = false≢true (sym full ∙ empty)
+      not_empty : (b : Bool) → b ≡ false → IsTrue b → ⊥
+      not_empty b full empty = false≢true (sym full ∙ empty)
 
 -- the queue of a lane with traffic is one of its sender's
 pub among_sides : (plan : Plan) (lane : LaneName) → IsTrafficLane plan lane → lane.queue < (side_plan (pair_plan plan lane.pair) lane.from).queues
