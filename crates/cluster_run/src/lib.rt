@@ -8,6 +8,7 @@ mod clock;
 mod group;
 mod in_turn;
 mod lanes;
+pub mod laws;
 mod parts;
 mod progress;
 mod rounds;
