@@ -1,59 +1,46 @@
--- What a run comes to, by what reading, the reply and writing come to.
-use Rattle.std.proofs.Common.{◌≡◌, ◌∙◌, ℕ, ◌+◌, ◌≤◌, ◌<◌, Bool, true, false, Option, Some, None, Result, Ok, Err, List, [], IfSome, length, take, drop, replicate, nat_lt, cond, inl, inr, refl, sym, ap, subst, arith}
-use Rattle.std.specs.Prelude.{IsErrOf}
-use Rattle.std.specs.Result.{result_ok}
+-- What a run comes to, by what reading, the reply and writing come to. All of it holds for any command and any relation between
+-- bytes and outputs.
+use Rattle.std.proofs.Common.{◌≡◌, ◌∙◌, ◌⊎◌, ℕ, ◌+◌, ◌≤◌, ◌<◌, Bool, true, false, Option, Some, None, Result, Ok, Err, List, [], IfOk, IfSome, OnOk, length, take, drop, replicate, nat_lt, inl, inr, refl, sym, ap, subst, arith, Global, Vec}
+use Rattle.std.specs.Prelude.{IsErrOf, MatchBool}
 use Rattle.std.proofs.lemmas.Bool.{lt-ltb, true≢false}
 use Rattle.std.proofs.lemmas.Bool.Decides.{nat_tests}
 use Rattle.std.proofs.lemmas.List.{append-nil, length-replicate, length-take-le, take-append-drop}
 use Rattle.step_kinds.specs.Limits.{most_script_bytes}
-use Rattle.step_kinds.specs.declared.plan.Plan.{Plan}
-use Rattle.script_text.specs.Script.{script_of}
-use Rattle.script_words.specs.declared.fault.ScriptFault.{ScriptFault}
-use Rattle.traffic_plan.specs.Load.{load_of}
+use Rattle.command_reply.specs.Output.{Output, too_long, usage}
 use Rattle.io_edges.specs.Causes.{Rose}
 use Rattle.io_edges.specs.Whole.{HasGiven, HasGivenAtMost, HoldsAll, HoldsPart}
 use Rattle.io_edges.specs.declared.whole.ReadError.{ReadError}
-use Rattle.io_edges.specs.declared.whole.ReadError.TheVariants.{TooLong}
-use Rattle.ledger_laws.proofs.Facade.{again_where_no_room, every_frame_comes_once, every_log_is_in_order, link_down_where_not_up}
-use Rattle.memory_model.specs.Memory.{memory_of}
-use Rattle.ntb_top.specs.Commands.{command_of, command_reads, reads_script}
-use Rattle.ntb_top.specs.Headline.{IsTrueLog}
-use Rattle.ntb_top.specs.Output.{Output, output_of, output_of_command, plan_of_command, plan_run, replayed, too_long}
-use Rattle.ntb_top.specs.Replays.{steps_of}
-use Rattle.ntb_top.specs.Replies.{AtEnd, Comes, Given, HasRead, HasReplied, Tells, TellsOrWants}
-use Rattle.ntb_top.specs.Runs.{Ends, HasReply, HasRun, IsAtEnd, Outside}
+use Rattle.io_edges.specs.declared.whole.ReadError.TheVariants.{TooLong as ReadTooLong}
+use Rattle.ntb_top.specs.Answers.{IsAnswerTo, IsReplyOf}
+use Rattle.ntb_top.specs.Commands.{command_of, command_reads, is_reading, reads_script}
+use Rattle.ntb_top.specs.Inputs.{Given, HasInput, HasRead, HasReplied, HasWritten, Held, IsInput}
+use Rattle.ntb_top.specs.Runs.{Ends, HasAnswered, HasReply, IsAtEnd, Outside}
 use Rattle.ntb_top.specs.declared.command.Command.{Command}
-use Rattle.ntb_top.specs.declared.command.Command.TheVariants.{Load, Replay}
-use Rattle.ntb_top.specs.declared.program.Reply.{Reply}
-use Rattle.ntb_top.specs.declared.program.Stop.{Stop}
-use Rattle.ntb_top.specs.declared.program.Stop.TheVariants.{OutOfMemory, ReadFault}
-
--- Replies
-
-tells_comes : (before after : Given) (output due : Output) (reply : Result Reply Stop) → output ≡ due → TellsOrWants output reply → Comes before after due reply
-tells_comes before after output due (Ok reply) same h = subst (λ (output : Output). Tells output reply) same h
-tells_comes before after output due (Err ReadFault) same h = absurd h
-tells_comes before after output due (Err OutOfMemory) same h = tt
-
-at_end : (after : Given) (bytes : List ℕ) (reply : Result Reply Stop) → IsAtEnd after.left → AtEnd after bytes reply
-at_end after bytes (Ok reply) h = λ _. h
-at_end after bytes (Err stop) h = tt
-
-past_end : (after : Given) (bytes : List ℕ) (reply : Result Reply Stop) → most_script_bytes < length bytes → AtEnd after bytes reply
-past_end after bytes (Ok reply) long = λ few. absurd (omega arith)
-past_end after bytes (Err stop) long = tt
+use Rattle.ntb_top.specs.declared.input.Input.{Input}
+use Rattle.ntb_top.specs.declared.input.Input.TheVariants.{TooLong, Whole}
+use Rattle.ntb_top.specs.declared.input.Stop.{Stop}
+use Rattle.ntb_top.specs.declared.input.Stop.TheVariants.{OutOfMemory, SourceFailed}
 
 -- Reading
 
-short_test : (bytes : List ℕ) → length bytes ≤ most_script_bytes → nat_lt most_script_bytes (length bytes) ≡ false
-short_test bytes few = grind (arith, nat_tests)
+nothing_given : (left : Option (List ℕ)) → HasGiven left left []
+nothing_given None = refl
+nothing_given (Some content) = (content, refl, refl)
 
--- the output for bytes that aren't too many
-short_output : (bytes : List ℕ) → length bytes ≤ most_script_bytes → replayed (script_of bytes) ≡ output_of_command (Some Replay) bytes
-short_output bytes few = ap (λ (long : Bool). cond long too_long (replayed (script_of bytes))) (sym (short_test bytes few))
+-- a result without a reading has taken nothing
+read_none : {T : Type 0} (reading : Bool) (source : Given) (value : T) → reading ≡ false → HasRead reading source source [] (Ok value)
+read_none reading source value quiet =
+    record {
+      taken = nothing_given source.left;
+      few = omega arith;
+      unread = λ _. refl;
+      whole = λ reads. absurd (true≢false (sym reads ∙ quiet));
+      failed = λ (is : Ok value ≡ Err SourceFailed). cc;
+      kept = λ _. refl;
+    }
 
-long_output : (bytes : List ℕ) → most_script_bytes < length bytes → too_long ≡ output_of_command (Some Replay) bytes
-long_output bytes long = ap (λ (b : Bool). cond b too_long (replayed (script_of bytes))) (sym (lt-ltb _ _ long))
+pub input_none : (reading : Bool) (source : Given) (read : Vec ℕ Global) → reading ≡ false → read.items ≡ [] → HasInput reading source source (Ok (Whole read))
+input_none reading source read quiet none = record { bytes = []; read = read_none reading source (Whole read) quiet; input = (none, omega arith) }
 
 all_taken : (left left' : Option (List ℕ)) (bytes : List ℕ) (most : ℕ) → IfSome left (λ content. bytes ≡ content) → IfSome left (λ _. left' ≡ Some []) →
     HasGivenAtMost most left left' → HasGiven left left' bytes
@@ -64,16 +51,22 @@ ended : (left left' : Option (List ℕ)) (most : ℕ) → IfSome left (λ _. lef
 ended None left' most ends rest = subst (λ (left : Option (List ℕ)). IsAtEnd left) (sym rest.2) tt
 ended (Some content) left' most ends rest = subst (λ (left : Option (List ℕ)). IsAtEnd left) (sym ends) refl
 
-pub read_whole : (before after : Given) (bytes : List ℕ) (most : ℕ) (reply : Result Reply Stop) → length bytes ≤ most_script_bytes →
-    IfSome before.left (λ content. bytes ≡ content) → IfSome before.left (λ _. after.left ≡ Some []) → HasGivenAtMost most before.left after.left →
-    TellsOrWants (replayed (script_of bytes)) reply → HasRead before after reply
-read_whole before after bytes most reply few all ends rest tells =
+pub input_whole : (reading : Bool) (before after : Given) (read : Vec ℕ Global) (most : ℕ) → reading ≡ true → length read.items ≤ most_script_bytes →
+    IfSome before.left (λ content. read.items ≡ content) → IfSome before.left (λ _. after.left ≡ Some []) → HasGivenAtMost most before.left after.left →
+    after.faults ≡ before.faults → HasInput reading before after (Ok (Whole read))
+input_whole reading before after read most reads few all ends rest kept =
     record {
-      bytes = bytes;
-      taken = all_taken before.left after.left bytes most all ends rest;
-      few = omega arith;
-      whole = at_end after bytes reply (ended before.left after.left most ends rest);
-      comes = tells_comes before after (replayed (script_of bytes)) (output_of_command (Some Replay) bytes) reply (short_output bytes few) tells;
+      bytes = read.items;
+      read =
+          record {
+            taken = all_taken before.left after.left read.items most all ends rest;
+            few = omega arith;
+            unread = λ quiet. absurd (true≢false (sym reads ∙ quiet));
+            whole = λ _ _. ended before.left after.left most ends rest;
+            failed = λ (is : Ok (Whole read) ≡ Err SourceFailed). cc;
+            kept = λ _. kept;
+          };
+      input = (refl, few);
     }
 
 -- a list of each length
@@ -87,148 +80,214 @@ long_taken limit None left' long taken rest = let bytes = list_of (limit + 1) in
 long_taken limit (Some content) left' long taken rest =
     (take (limit + 1) content, length-take-le (limit + 1) content (omega arith), (drop (limit + 1) content, sym (take-append-drop (limit + 1) content), taken))
 
-pub read_too_long : (before after : Given) (reply : Result Reply Stop) → IfSome before.left (λ content. most_script_bytes < length content) →
-    IfSome before.left (λ content. after.left ≡ Some (drop (most_script_bytes + 1) content)) → HasGivenAtMost (most_script_bytes + 1) before.left after.left →
-    TellsOrWants too_long reply → HasRead before after reply
-read_too_long before after reply long taken rest tells =
-    let found = long_taken most_script_bytes before.left after.left long taken rest in
-    let most : length found.0 ≡ most_script_bytes + 1 = found.1 in
-    let longer : most_script_bytes < length found.0 = omega arith in
-    record {
-      bytes = found.0;
-      taken = found.2;
-      few = omega arith;
-      whole = past_end after found.0 reply longer;
-      comes = tells_comes before after too_long (output_of_command (Some Replay) found.0) reply (long_output found.0 longer) tells;
-    }
-
 -- what reading says of an input that is too long
-pub err_known : {X : Type 0} (P : List ℕ → Type 0) (left : Option (List ℕ)) (read : Result X ReadError) → read ≡ Err TooLong →
-    IfSome left (λ content. IsErrOf read TooLong → P content) → IfSome left P
+pub err_known : {X : Type 0} (P : List ℕ → Type 0) (left : Option (List ℕ)) (read : Result X ReadError) → read ≡ Err ReadTooLong →
+    IfSome left (λ content. IsErrOf read ReadTooLong → P content) → IfSome left P
 err_known P None read is h = tt
 err_known P (Some content) read is h = h is
 
-pub read_failed : (before after : Given) → HasGivenAtMost (most_script_bytes + 1) before.left after.left → Rose before.faults after.faults → HasRead before after (Err ReadFault)
-read_failed before after rest rose = record { bytes = rest.0; taken = rest.2; few = rest.1; whole = tt; comes = rose }
-
-pub read_wanting : (before after : Given) → HasGivenAtMost (most_script_bytes + 1) before.left after.left → HasRead before after (Err OutOfMemory)
-read_wanting before after rest = record { bytes = rest.0; taken = rest.2; few = rest.1; whole = tt; comes = tt }
-
--- The reply to words
-
-nothing_given : (left : Option (List ℕ)) → HasGiven left left []
-nothing_given None = refl
-nothing_given (Some content) = (content, refl, refl)
-
-no_fault : (output : Output) (reply : Result Reply Stop) → TellsOrWants output reply → reply ≡ Err ReadFault → ⊥
-no_fault output reply tells is = subst (λ (reply : Result Reply Stop). TellsOrWants output reply) is tells
-
-pub replied_without : (words : List (List ℕ)) (command : Option Command) (before : Given) (reply : Result Reply Stop) → command_of words ≡ command → command_reads command ≡ false →
-    TellsOrWants (output_of_command command []) reply → HasReplied words before before reply
-replied_without words command before reply is quiet tells =
-    let unread : reads_script words ≡ false = ap command_reads is ∙ quiet in
+pub input_too_long : (reading : Bool) (before after : Given) → reading ≡ true → IfSome before.left (λ content. most_script_bytes < length content) →
+    IfSome before.left (λ content. after.left ≡ Some (drop (most_script_bytes + 1) content)) → HasGivenAtMost (most_script_bytes + 1) before.left after.left →
+    after.faults ≡ before.faults → HasInput reading before after (Ok TooLong)
+input_too_long reading before after reads long taken rest kept =
+    let found = long_taken most_script_bytes before.left after.left long taken rest in
+    let most : length found.0 ≡ most_script_bytes + 1 = found.1 in
     record {
-      bytes = [];
-      taken = nothing_given before.left;
-      few = omega arith;
-      unread = λ _. (refl, refl);
-      whole = λ reads. absurd (true≢false (sym reads ∙ unread));
-      reads = λ fault. absurd (no_fault (output_of_command command []) reply tells fault);
-      comes =
-          tells_comes before before (output_of_command command []) (output_of words []) reply (ap (λ (given : Option Command). output_of_command given []) (sym is)) tells;
+      bytes = found.0;
+      read =
+          record {
+            taken = found.2;
+            few = omega arith;
+            unread = λ quiet. absurd (true≢false (sym reads ∙ quiet));
+            whole = λ _ short. absurd (omega arith);
+            failed = λ (is : Ok TooLong ≡ Err SourceFailed). cc;
+            kept = λ _. kept;
+          };
+      input = omega arith;
     }
 
-pub replied_reading : (words : List (List ℕ)) (before after : Given) (reply : Result Reply Stop) → command_of words ≡ Some Replay → HasRead before after reply →
-    HasReplied words before after reply
-replied_reading words before after reply is read =
-    let reading : reads_script words ≡ true = ap command_reads is in
+-- what was taken before a reading stopped
+stopped : (reading : Bool) (before after : Given) (stop : Stop) (rest : HasGivenAtMost (most_script_bytes + 1) before.left after.left) → reading ≡ true →
+    (stop ≡ SourceFailed → Rose before.faults after.faults) → ((stop ≡ SourceFailed → ⊥) → after.faults ≡ before.faults) → HasInput reading before after (Err stop)
+stopped reading before after stop rest reads rose kept =
     record {
-      bytes = read.bytes;
+      bytes = rest.0;
+      read =
+          record {
+            taken = rest.2;
+            few = rest.1;
+            unread = λ quiet. absurd (true≢false (sym reads ∙ quiet));
+            whole = λ _. tt;
+            failed = λ (is : Err stop ≡ Err SourceFailed). (reads, rose (cc));
+            kept = λ none. kept (λ is. none (ap Err is));
+          };
+      input = tt;
+    }
+
+pub input_failed : (reading : Bool) (before after : Given) → reading ≡ true → HasGivenAtMost (most_script_bytes + 1) before.left after.left →
+    Rose before.faults after.faults → HasInput reading before after (Err SourceFailed)
+input_failed reading before after reads rest rose = stopped reading before after SourceFailed rest reads (λ _. rose) (λ none. absurd (none refl))
+
+pub input_wanting : (reading : Bool) (before after : Given) → reading ≡ true → HasGivenAtMost (most_script_bytes + 1) before.left after.left →
+    after.faults ≡ before.faults → HasInput reading before after (Err OutOfMemory)
+input_wanting reading before after reads rest kept = stopped reading before after OutOfMemory rest reads (λ (is : OutOfMemory ≡ SourceFailed). cc) (λ _. kept)
+
+-- The reply
+
+-- what was read stays so, whatever comes of it afterwards
+read_on : {T U : Type 0} (reading : Bool) (before after : Given) (bytes : List ℕ) (value : T) (result : Result U Stop) → (result ≡ Err SourceFailed → ⊥) →
+    HasRead reading before after bytes (Ok value) → HasRead reading before after bytes result
+read_on reading before after bytes value result going read =
+    record {
       taken = read.taken;
       few = read.few;
-      unread = λ quiet. absurd (true≢false (sym reading ∙ quiet));
-      whole = λ _. read.whole;
-      reads = λ _. reading;
-      comes = subst (λ (command : Option Command). Comes before after (output_of_command command read.bytes) reply) (sym is) read.comes;
+      unread = read.unread;
+      whole = λ reads. on_ok result (read.whole reads);
+      failed = λ is. absurd (going is);
+      kept = λ _. read.kept (λ (is : Ok value ≡ Err SourceFailed). cc);
     }
+    where
+      on_ok : {U : Type 0} {P : Type 0} (result : Result U Stop) → P → OnOk result P
+      on_ok (Ok value) p = p
+      on_ok (Err stop) p = tt
 
--- The log of each plan is true
-
-true_log : (plan : Plan) → IsTrueLog plan
-true_log plan =
+-- words that are no command
+pub replied_usage : (words : List (List ℕ)) (source : Given) (output : Output) → command_of words ≡ None → output ≡ usage →
+    HasReplied (reads_script words) (IsAnswerTo (command_of words)) source source (Ok output)
+replied_usage words source output none same =
     record {
-      in_order = λ lane session ordinary. every_log_is_in_order plan (memory_of plan) (steps_of plan) lane session ordinary;
-      once = λ lane session n ordinary. every_frame_comes_once plan (memory_of plan) (steps_of plan) lane session n ordinary;
-      again = λ before behind step answer lane made ordinary begun. again_where_no_room plan (memory_of plan) before step answer lane ordinary begun made.goes_on;
-      link_down = λ before behind step answer made. link_down_where_not_up plan (memory_of plan) before step answer made.goes_on;
+      bytes = [];
+      read = read_none (reads_script words) source output (ap is_reading none);
+      answers = subst (λ (command : Option Command). IsAnswerTo command [] output) (sym none) same;
     }
 
-true_replay : (long : Bool) (read : Result Plan ScriptFault) → (cond long too_long (replayed read)).status ≡ 0 → (plan : Plan) × (result_ok read ≡ Some plan) × IsTrueLog plan
-true_replay true read zero = absurd (omega arith)
-true_replay false (Ok plan) zero = (plan, refl, true_log plan)
-true_replay false (Err fault) zero = absurd (omega arith)
+short_test : (bytes : List ℕ) → length bytes ≤ most_script_bytes → nat_lt most_script_bytes (length bytes) ≡ false
+short_test bytes few = grind (arith, nat_tests)
 
-true_run : (command : Option Command) (bytes : List ℕ) → (output_of_command command bytes).status ≡ 0 →
-    (plan : Plan) × (plan_of_command command bytes ≡ Some plan) × IsTrueLog plan
-true_run None bytes zero = absurd (omega arith)
-true_run (Some Replay) bytes zero = true_replay (nat_lt most_script_bytes (length bytes)) (script_of bytes) zero
-true_run (Some (Load seed frames)) bytes zero = (load_of seed frames, refl, true_log (load_of seed frames))
+-- the answer of a command, and of one whose input is too long
+own_answer : (command : Command) (bytes : List ℕ) (output : Output) → length bytes ≤ most_script_bytes → IsReplyOf command bytes output → IsAnswerTo (Some command) bytes output
+own_answer command bytes output few own =
+    subst (λ (long : Bool). MatchBool long (output ≡ too_long) (IsReplyOf command bytes output)) (sym (short_test bytes few)) own
+
+long_answer : (command : Command) (bytes : List ℕ) (output : Output) → most_script_bytes < length bytes → output ≡ too_long → IsAnswerTo (Some command) bytes output
+long_answer command bytes output long same =
+    subst (λ (long : Bool). MatchBool long (output ≡ too_long) (IsReplyOf command bytes output)) (sym (lt-ltb _ _ long)) same
+
+-- a reply by a command's input
+replied_by : (words : List (List ℕ)) (command : Command) (before after : Given) (result : Result Output Stop) (bytes : List ℕ) → command_of words ≡ Some command →
+    HasRead (command_reads command) before after bytes result → IfOk result (IsAnswerTo (Some command) bytes) →
+    HasReplied (reads_script words) (IsAnswerTo (command_of words)) before after result
+replied_by words command before after result bytes is read answers =
+    record {
+      bytes = bytes;
+      read = subst (λ (given : Option Command). HasRead (is_reading given) before after bytes result) (sym is) read;
+      answers = subst (λ (given : Option Command). IfOk result (IsAnswerTo given bytes)) (sym is) answers;
+    }
+
+pub replied_whole : (words : List (List ℕ)) (command : Command) (before after : Given) (read : Vec ℕ Global) (output : Output) → command_of words ≡ Some command →
+    HasInput (command_reads command) before after (Ok (Whole read)) → IsReplyOf command read.items output →
+    HasReplied (reads_script words) (IsAnswerTo (command_of words)) before after (Ok output)
+replied_whole words command before after read output is input own =
+    let same : IsReplyOf command input.bytes output = subst (λ (bytes : List ℕ). IsReplyOf command bytes output) input.input.0 own in
+    replied_by words command before after (Ok output) input.bytes is
+    (read_on (command_reads command) before after input.bytes (Whole read) (Ok output) (λ (is : Ok output ≡ Err SourceFailed). cc) input.read)
+    (own_answer command input.bytes output input.input.1 same)
+
+pub replied_too_long : (words : List (List ℕ)) (command : Command) (before after : Given) (output : Output) → command_of words ≡ Some command →
+    HasInput (command_reads command) before after (Ok TooLong) → output ≡ too_long →
+    HasReplied (reads_script words) (IsAnswerTo (command_of words)) before after (Ok output)
+replied_too_long words command before after output is input same =
+    replied_by words command before after (Ok output) input.bytes is
+    (read_on (command_reads command) before after input.bytes TooLong (Ok output) (λ (is : Ok output ≡ Err SourceFailed). cc) input.read)
+    (long_answer command input.bytes output input.input same)
+
+-- there was no memory for the reply
+pub replied_wanting : (words : List (List ℕ)) (command : Command) (before after : Given) (input : Input) → command_of words ≡ Some command →
+    HasInput (command_reads command) before after (Ok input) → HasReplied (reads_script words) (IsAnswerTo (command_of words)) before after (Err OutOfMemory)
+replied_wanting words command before after input is has =
+    replied_by words command before after (Err OutOfMemory) has.bytes is
+    (read_on (command_reads command) before after has.bytes input (Err OutOfMemory) (λ (is : Err OutOfMemory ≡ Err SourceFailed). cc) has.read) tt
+
+-- the input didn't come
+pub replied_stopped : (words : List (List ℕ)) (command : Command) (before after : Given) (stop : Stop) → command_of words ≡ Some command →
+    HasInput (command_reads command) before after (Err stop) → HasReplied (reads_script words) (IsAnswerTo (command_of words)) before after (Err stop)
+replied_stopped words command before after stop is has =
+    replied_by words command before after (Err stop) has.bytes is
+    (record {
+      taken = has.read.taken;
+      few = has.read.few;
+      unread = has.read.unread;
+      whole = λ _. tt;
+      failed = λ (is : Err stop ≡ Err SourceFailed). has.read.failed (cc);
+      kept = λ none. has.read.kept (λ (is : Err stop ≡ Err SourceFailed). none (cc));
+    })
+    tt
 
 -- The run
 
 abbrev pub source_of : Outside → Given
 source_of outside = record { left = outside.left; faults = outside.read_faults }
 
+abbrev pub sink_of : Outside → Held
+sink_of outside = record { held = outside.held; faults = outside.write_faults }
+
 -- a run that has its reply, whether all of the text is written or a part
-run_answered : (words : List (List ℕ)) (before after : Outside) (status : ℕ) (reply : Reply) (replied : HasReplied words (source_of before) (source_of after) (Ok reply)) →
-    Ends words before after (output_of words replied.bytes) status → (status ≡ 0 → (plan : Plan) × (plan_run words replied.bytes ≡ Some plan) × IsTrueLog plan) → HasRun words before after status
-run_answered words before after status reply replied ends headline =
+pub run_answered : (reading : Bool) (IsAnswer : List ℕ → Output → Type 0) (before after : Outside) (output : Output) (status : ℕ) →
+    HasReplied reading IsAnswer (source_of before) (source_of after) (Ok output) → HasWritten (sink_of before) (sink_of after) output status →
+    HasAnswered reading IsAnswer before after status
+run_answered reading IsAnswer before after output status replied written =
+    let kept : after.read_faults ≡ before.read_faults = replied.read.kept (λ (is : Ok output ≡ Err SourceFailed). cc) in
     record {
       bytes = replied.bytes;
-      taken = replied.taken;
-      few = replied.few;
-      unread = replied.unread;
-      whole = λ reads answered. replied.whole reads;
-      ends = ends;
-      headline = headline;
+      taken = replied.read.taken;
+      few = replied.read.few;
+      unread = λ quiet. (replied.read.unread quiet, kept);
+      whole = λ reads answered. replied.read.whole reads;
+      ends =
+          elim written
+            [ inl w ↦ inl (record { output = output; answers = replied.answers; status_is = w.status_is; text = w.text })
+            | inr w ↦ inr (inr (inl (record { output = output; answers = replied.answers; status_is = w.status_is; cause = w.cause; text = w.text })))
+            ];
+      source_kept = λ _. kept;
+      sink_kept = λ calm. elim written [ inl w ↦ w.kept | inr w ↦ absurd (calm w.status_is) ];
+      headline = λ zero. elim written
+            [ inl w ↦ record { output = output; answers = replied.answers; status_is = w.status_is; text = w.text }
+            | inr w ↦ absurd (omega (arith, zero, w.status_is))
+            ];
     }
 
-pub run_whole : (words : List (List ℕ)) (before after : Outside) (reply : Reply) → HasReplied words (source_of before) (source_of after) (Ok reply) →
-    HoldsAll before.held after.held reply.text.items → HasRun words before after reply.status
-run_whole words before after reply replied wrote =
-    run_answered words before after reply.status reply replied
-    (inl (record { status_is = replied.comes.status; text = subst (λ (text : List ℕ). HoldsAll before.held after.held text) replied.comes.text wrote }))
-    (λ zero. true_run (command_of words) replied.bytes (sym replied.comes.status ∙ zero))
-
-pub run_cut : (words : List (List ℕ)) (before after : Outside) (reply : Reply) → HasReplied words (source_of before) (source_of after) (Ok reply) →
-    HoldsPart before.held after.held reply.text.items → Rose before.write_faults after.write_faults → HasRun words before after 5
-run_cut words before after reply replied wrote rose =
-    run_answered words before after 5 reply replied
-    (inr (inr (inl (record { status_is = refl; cause = rose; text = subst (λ (text : List ℕ). HoldsPart before.held after.held text) replied.comes.text wrote }))))
-    (λ zero. absurd (omega arith))
-
 -- a run that has none
-run_stopped : (words : List (List ℕ)) (before after : Outside) (status : ℕ) (stop : Stop) (replied : HasReplied words (source_of before) (source_of after) (Err stop)) →
-    (status ≡ 0 → ⊥) → (HasReply status → ⊥) → Ends words before after (output_of words replied.bytes) status → HasRun words before after status
-run_stopped words before after status stop replied failed silent ends =
+run_stopped : (reading : Bool) (IsAnswer : List ℕ → Output → Type 0) (before after : Outside) (stop : Stop) (status : ℕ)
+    (replied : HasReplied reading IsAnswer (source_of before) (source_of after) (Err stop)) → (status ≡ 0 → ⊥) → (HasReply status → ⊥) →
+    ((status ≡ 4 → ⊥) → after.read_faults ≡ before.read_faults) → after.write_faults ≡ before.write_faults →
+    (reading ≡ false → after.read_faults ≡ before.read_faults) →
+    Ends reading (IsAnswer replied.bytes) before after status → HasAnswered reading IsAnswer before after status
+run_stopped reading IsAnswer before after stop status replied failed silent source_kept sink_kept quiet_kept ends =
     record {
       bytes = replied.bytes;
-      taken = replied.taken;
-      few = replied.few;
-      unread = replied.unread;
+      taken = replied.read.taken;
+      few = replied.read.few;
+      unread = λ quiet. (replied.read.unread quiet, quiet_kept quiet);
       whole = λ reads answered few. absurd (silent answered);
       ends = ends;
+      source_kept = source_kept;
+      sink_kept = λ _. sink_kept;
       headline = λ zero. absurd (failed zero);
     }
 
-pub run_unread : (words : List (List ℕ)) (before after : Outside) → HasReplied words (source_of before) (source_of after) (Err ReadFault) →
-    after.held ≡ before.held → after.write_faults ≡ before.write_faults → HasRun words before after 4
-run_unread words before after replied held faults =
-    run_stopped words before after 4 ReadFault replied (λ zero. omega arith) (λ answered. answered.0 refl)
-    (inr (inl (record { status_is = refl; reads = replied.reads refl; cause = replied.comes; silent = record { held = held; faults = faults } })))
+pub run_unread : (reading : Bool) (IsAnswer : List ℕ → Output → Type 0) (before after : Outside) →
+    HasReplied reading IsAnswer (source_of before) (source_of after) (Err SourceFailed) → after.held ≡ before.held → after.write_faults ≡ before.write_faults →
+    HasAnswered reading IsAnswer before after 4
+run_unread reading IsAnswer before after replied held faults =
+    let failed = replied.read.failed refl in
+    run_stopped reading IsAnswer before after SourceFailed 4 replied (λ zero. omega arith) (λ answered. answered.0 refl) (λ calm. absurd (calm refl)) faults
+    (λ quiet. absurd (true≢false (sym failed.0 ∙ quiet)))
+    (inr (inl (record { status_is = refl; reads = failed.0; cause = failed.1; silent = record { held = held; faults = faults } })))
 
-pub run_wanting : (words : List (List ℕ)) (before after : Outside) → HasReplied words (source_of before) (source_of after) (Err OutOfMemory) →
-    after.held ≡ before.held → after.write_faults ≡ before.write_faults → HasRun words before after 6
-run_wanting words before after replied held faults =
-    run_stopped words before after 6 OutOfMemory replied (λ zero. omega arith) (λ answered. answered.1 refl)
+pub run_wanting : (reading : Bool) (IsAnswer : List ℕ → Output → Type 0) (before after : Outside) →
+    HasReplied reading IsAnswer (source_of before) (source_of after) (Err OutOfMemory) → after.held ≡ before.held → after.write_faults ≡ before.write_faults →
+    HasAnswered reading IsAnswer before after 6
+run_wanting reading IsAnswer before after replied held faults =
+    let kept : after.read_faults ≡ before.read_faults = replied.read.kept (λ (is : Err OutOfMemory ≡ Err SourceFailed). cc) in
+    run_stopped reading IsAnswer before after OutOfMemory 6 replied (λ zero. omega arith) (λ answered. answered.1 refl) (λ _. kept) faults (λ _. kept)
     (inr (inr (inr (record { status_is = refl; silent = record { held = held; faults = faults } }))))
