@@ -10,7 +10,7 @@ use Rattle.command_reply.specs.Output.{Output, too_long, usage}
 use Rattle.io_edges.specs.Causes.{Rose}
 use Rattle.io_edges.specs.Whole.{HasGiven, HasGivenAtMost, HoldsAll, HoldsPart}
 use Rattle.io_edges.specs.declared.whole.ReadError.{ReadError}
-use Rattle.io_edges.specs.declared.whole.ReadError.TheVariants.{TooLong as ReadTooLong}
+use Rattle.io_edges.specs.declared.whole.ReadError.TheVariants.{ReadFault, TooLong as ReadTooLong}
 use Rattle.ntb_top.specs.Answers.{IsAnswerTo, IsReplyOf}
 use Rattle.ntb_top.specs.Commands.{command_of, command_reads, is_reading, reads_script}
 use Rattle.ntb_top.specs.Inputs.{Given, HasInput, HasRead, HasReplied, HasWritten, Held, IsInput}
@@ -85,6 +85,10 @@ pub err_known : {X : Type 0} (P : List ℕ → Type 0) (left : Option (List ℕ)
     IfSome left (λ content. IsErrOf read ReadTooLong → P content) → IfSome left P
 err_known P None read is h = tt
 err_known P (Some content) read is h = h is
+
+-- and its source didn't fail
+pub not_failed : {X : Type 0} (read : Result X ReadError) → read ≡ Err ReadTooLong → IsErrOf read ReadFault → ⊥
+not_failed read long failed = absurd (cc (long, failed))
 
 pub input_too_long : (reading : Bool) (before after : Given) → reading ≡ true → IfSome before.left (λ content. most_script_bytes < length content) →
     IfSome before.left (λ content. after.left ≡ Some (drop (most_script_bytes + 1) content)) → HasGivenAtMost (most_script_bytes + 1) before.left after.left →
@@ -291,3 +295,22 @@ run_wanting reading IsAnswer before after replied held faults =
     let kept : after.read_faults ≡ before.read_faults = replied.read.kept (λ (is : Err OutOfMemory ≡ Err SourceFailed). cc) in
     run_stopped reading IsAnswer before after OutOfMemory 6 replied (λ zero. omega arith) (λ answered. answered.1 refl) (λ _. kept) faults (λ _. kept)
     (inr (inr (inr (record { status_is = refl; silent = record { held = held; faults = faults } }))))
+
+-- there was no memory before anything was done
+pub run_nothing : (reading : Bool) (IsAnswer : List ℕ → Output → Type 0) (outside : Outside) → HasAnswered reading IsAnswer outside outside 6
+run_nothing reading IsAnswer outside =
+    run_wanting reading IsAnswer outside outside
+    (record {
+      bytes = [];
+      read =
+          record {
+            taken = nothing_given outside.left;
+            few = omega arith;
+            unread = λ _. refl;
+            whole = λ _. tt;
+            failed = λ (is : Err OutOfMemory ≡ Err SourceFailed). cc;
+            kept = λ _. refl;
+          };
+      answers = tt;
+    })
+    refl refl

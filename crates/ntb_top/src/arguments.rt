@@ -1,7 +1,8 @@
 //! The arguments of a process.
 
-ghost use Rattle.std.specs.Prelude.{◌≡◌, IfOk, IsErr, map};
+ghost use Rattle.std.specs.Prelude.{◌≡◌, IfOk, IsErr, drop, map};
 ghost use Rattle.std.specs.String.{string_bytes};
+ghost use Rattle.std.specs.Vec.Iter.{into_iter_items};
 ghost use Rattle.command_reply.specs.Statuses.{number_of};
 ghost use Rattle.command_reply.specs.declared.status.Status.TheVariants.{OutOfMemory};
 ghost use Rattle.ntb_top.specs.Arguments.{AreWanting, words_of};
@@ -35,7 +36,7 @@ pub fn run_arguments<S: Source, K: Sink>(
     }
 }
 
-// All arguments but the first.
+// The words of a process's arguments. The only error is want of memory.
 fn words_after_name(
     alloc: Global,
     arguments: io::Result<Args>,
@@ -44,8 +45,15 @@ fn words_after_name(
     ensures wanting { AreWanting arguments → IsErr result }
 {
     match arguments {
-        Ok(arguments) => arguments.skip(1).collect(alloc),
+        Ok(arguments) => all_but_first(alloc, arguments),
         Err(error) if error.kind() == io::ErrorKind::OutOfMemory => Err(AllocError),
         Err(_) => Ok(Vec::new(alloc)),
     }
+}
+
+// All arguments but the first.
+fn all_but_first(alloc: Global, arguments: Args) -> Result<Vec<String>, AllocError>
+    ensures { IfOk result (λ words. words.items ≡ drop 1 (into_iter_items arguments)) }
+{
+    arguments.skip(1).collect(alloc)
 }

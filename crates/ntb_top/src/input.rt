@@ -1,6 +1,6 @@
 //! What a command reads.
 
-ghost use Rattle.io_edges.specs.Whole.{HasGiven};
+ghost use Rattle.std.specs.Prelude.{◌≡◌};
 ghost use Rattle.ntb_top.specs.Inputs.{HasInput};
 
 use io_edges::{ReadError, Source, read_all};
