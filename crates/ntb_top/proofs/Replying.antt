@@ -139,7 +139,7 @@ input_wanting reading before after reads rest kept = stopped reading before afte
 -- The reply
 
 -- what was read stays so, whatever comes of it afterwards
-read_on : {T U : Type 0} (reading : Bool) (before after : Given) (bytes : List ℕ) (value : T) (result : Result U Stop) → (result ≡ Err SourceFailed → ⊥) →
+pub read_on : {T U : Type 0} (reading : Bool) (before after : Given) (bytes : List ℕ) (value : T) (result : Result U Stop) → (result ≡ Err SourceFailed → ⊥) →
     HasRead reading before after bytes (Ok value) → HasRead reading before after bytes result
 read_on reading before after bytes value result going read =
     record {
@@ -236,7 +236,7 @@ abbrev pub sink_of : Outside → Held
 sink_of outside = record { held = outside.held; faults = outside.write_faults }
 
 -- a run that has its reply, whether all of the text is written or a part
-pub run_answered : (reading : Bool) (IsAnswer : List ℕ → Output → Type 0) (before after : Outside) (output : Output) (status : ℕ) →
+unfoldable pub run_answered : (reading : Bool) (IsAnswer : List ℕ → Output → Type 0) (before after : Outside) (output : Output) (status : ℕ) →
     HasReplied reading IsAnswer (source_of before) (source_of after) (Ok output) → HasWritten (sink_of before) (sink_of after) output status →
     HasAnswered reading IsAnswer before after status
 run_answered reading IsAnswer before after output status replied written =
