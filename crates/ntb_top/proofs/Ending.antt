@@ -88,12 +88,12 @@ run_ended before after run status carried replied written told alone =
     record {
       run = run_answered true (IsAnswerTo (Some Run)) before after run.reply status (reply_told (source_of before) (source_of after) run replied) written;
       headline = λ _ zero.
-          elim written
-            [ inl w ↦
+          elim written [
+            | inl w ↦
                 subst (λ (carried : Carried). IsTrueRun replied.bytes before after carried) (sym (told zero))
                 (true_run (nat_lt most_script_bytes (length replied.bytes)) replied.bytes before after run.reply (carried_by run) replied.answers (sym w.status_is ∙ zero) w.text)
             | inr w ↦ absurd (omega (arith, zero, w.status_is))
-            ];
+          ];
       alone = λ other. alone (λ zero. other refl zero);
     }
 

@@ -150,10 +150,10 @@ read_on reading before after bytes value result going read =
       failed = λ is. absurd (going is);
       kept = λ _. read.kept (λ (is : Ok value ≡ Err SourceFailed). cc);
     }
-    where
-      on_ok : {U : Type 0} {P : Type 0} (result : Result U Stop) → P → OnOk result P
-      on_ok (Ok value) p = p
-      on_ok (Err stop) p = tt
+  where
+    on_ok : {U : Type 0} {P : Type 0} (result : Result U Stop) → P → OnOk result P
+    on_ok (Ok value) p = p
+    on_ok (Err stop) p = tt
 
 -- words that are no command
 pub replied_usage : (words : List (List ℕ)) (source : Given) (output : Output) → command_of words ≡ None → output ≡ usage →
@@ -248,16 +248,16 @@ run_answered reading IsAnswer before after output status replied written =
       unread = λ quiet. (replied.read.unread quiet, kept);
       whole = λ reads answered. replied.read.whole reads;
       ends =
-          elim written
-            [ inl w ↦ inl (record { output = output; answers = replied.answers; status_is = w.status_is; text = w.text })
+          elim written [
+            | inl w ↦ inl (record { output = output; answers = replied.answers; status_is = w.status_is; text = w.text })
             | inr w ↦ inr (inr (inl (record { output = output; answers = replied.answers; status_is = w.status_is; cause = w.cause; text = w.text })))
-            ];
+          ];
       source_kept = λ _. kept;
       sink_kept = λ calm. elim written [ inl w ↦ w.kept | inr w ↦ absurd (calm w.status_is) ];
-      headline = λ zero. elim written
-            [ inl w ↦ record { output = output; answers = replied.answers; status_is = w.status_is; text = w.text }
-            | inr w ↦ absurd (omega (arith, zero, w.status_is))
-            ];
+      headline = λ zero. elim written [
+        | inl w ↦ record { output = output; answers = replied.answers; status_is = w.status_is; text = w.text }
+        | inr w ↦ absurd (omega (arith, zero, w.status_is))
+      ];
     }
 
 -- a run that has none

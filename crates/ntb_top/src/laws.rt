@@ -7,11 +7,9 @@ ghost use Rattle.ntb_top.specs.Laws.{LoadsAreTrue, ReplaysAreTrue};
 /// premise.
 pub fn replays_are_true()
     ensures { ReplaysAreTrue }
-{
-}
+{}
 
 /// Where `load` ends with status 0, the log of the plan that it generates is true. No premise.
 pub fn loads_are_true()
     ensures { LoadsAreTrue }
-{
-}
+{}

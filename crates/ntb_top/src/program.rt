@@ -124,6 +124,5 @@ fn written<K: Sink>(alloc: Global, sink: &mut K, run: RunReply) -> Ended
     Ended::alone(alloc, status)
 }
 
-
 #[cfg(test)]
 mod tests;

@@ -18,7 +18,11 @@ const CALLS: u64 = 1_000;
 
 /// Whether a source that fails at a call is answered with status 4 and nothing is written, for each call that is made, and the whole text
 /// comes where the call isn't made.
-pub fn read_faults_are_told<R: Threads + Wait + Sync>(rt: &R, alloc: Global, case: &Case) -> Result<bool, AllocError> {
+pub fn read_faults_are_told<R: Threads + Wait + Sync>(
+    rt: &R,
+    alloc: Global,
+    case: &Case,
+) -> Result<bool, AllocError> {
     let mut told = 0u64;
     for call in 0..CALLS {
         let mut source = source_of(alloc, &case.script, PIECE, Some(call))?;
@@ -37,7 +41,11 @@ pub fn read_faults_are_told<R: Threads + Wait + Sync>(rt: &R, alloc: Global, cas
 
 /// Whether a sink that fails at a call is answered with status 5 and keeps a front of the text, a piece for each call before, for each
 /// call that is made, and the whole text comes where the call isn't made.
-pub fn write_faults_are_told<R: Threads + Wait + Sync>(rt: &R, alloc: Global, case: &Case) -> Result<bool, AllocError> {
+pub fn write_faults_are_told<R: Threads + Wait + Sync>(
+    rt: &R,
+    alloc: Global,
+    case: &Case,
+) -> Result<bool, AllocError> {
     let whole = text_of(rt, alloc, case)?;
     let mut kept = 0usize;
     for call in 0..CALLS {
@@ -56,7 +64,11 @@ pub fn write_faults_are_told<R: Threads + Wait + Sync>(rt: &R, alloc: Global, ca
 }
 
 /// Whether the case's script, cut behind each of its line feeds, is a script, and gives the same text without its last line feed.
-pub fn cuts_are_told<R: Threads + Wait + Sync>(rt: &R, alloc: Global, case: &Case) -> Result<bool, AllocError> {
+pub fn cuts_are_told<R: Threads + Wait + Sync>(
+    rt: &R,
+    alloc: Global,
+    case: &Case,
+) -> Result<bool, AllocError> {
     let mut passed = true;
     for (place, byte) in case.script.iter().enumerate() {
         if *byte == b'\n' {
@@ -69,7 +81,10 @@ pub fn cuts_are_told<R: Threads + Wait + Sync>(rt: &R, alloc: Global, case: &Cas
 }
 
 /// Whether words that are no command are answered with `usage` and status 2.
-pub fn other_words_are_told<R: Threads + Wait + Sync>(rt: &R, alloc: Global) -> Result<bool, AllocError> {
+pub fn other_words_are_told<R: Threads + Wait + Sync>(
+    rt: &R,
+    alloc: Global,
+) -> Result<bool, AllocError> {
     let mut source = PlainSource::new(Vec::new(alloc));
     let mut sink = sink_of(alloc, 100, None)?;
     let status = status_of(rt, alloc, "reply", &mut source, &mut sink)?;
@@ -77,7 +92,10 @@ pub fn other_words_are_told<R: Threads + Wait + Sync>(rt: &R, alloc: Global) -> 
 }
 
 /// Whether an input of a byte too many is answered with `too long` and status 7.
-pub fn long_input_is_told<R: Threads + Wait + Sync>(rt: &R, alloc: Global) -> Result<bool, AllocError> {
+pub fn long_input_is_told<R: Threads + Wait + Sync>(
+    rt: &R,
+    alloc: Global,
+) -> Result<bool, AllocError> {
     let mut source = PlainSource::new(comment_of(alloc, TOO_MANY)?);
     let mut sink = sink_of(alloc, 100, None)?;
     let status = status_of(rt, alloc, "replay", &mut source, &mut sink)?;
@@ -90,12 +108,20 @@ fn comment_of(alloc: Global, len: usize) -> Result<Vec<u8>, AllocError> {
 }
 
 // The text of a case, by streams that never fail.
-fn text_of<R: Threads + Wait + Sync>(rt: &R, alloc: Global, case: &Case) -> Result<Vec<u8>, AllocError> {
+fn text_of<R: Threads + Wait + Sync>(
+    rt: &R,
+    alloc: Global,
+    case: &Case,
+) -> Result<Vec<u8>, AllocError> {
     answer_to(rt, alloc, &case.script)
 }
 
 // What is written to a script.
-fn answer_to<R: Threads + Wait + Sync>(rt: &R, alloc: Global, script: &[u8]) -> Result<Vec<u8>, AllocError> {
+fn answer_to<R: Threads + Wait + Sync>(
+    rt: &R,
+    alloc: Global,
+    script: &[u8],
+) -> Result<Vec<u8>, AllocError> {
     let mut source = source_of(alloc, script, PIECE, None)?;
     let mut sink = sink_of(alloc, PIECE, None)?;
     let _status = status_of(rt, alloc, "replay", &mut source, &mut sink)?;

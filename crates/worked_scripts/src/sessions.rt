@@ -61,16 +61,30 @@ fn lane_is_right(alloc: Global, text: &str, words: &[&str]) -> Result<bool, Allo
         let line: Vec<&str> = line.split(' ').collect(alloc)?;
         take_line(&mut seen, &flood, &[pair, side, queue], &line);
     }
-    Ok(seen.is_right
-        && seen.sessions == flood.sessions
-        && seen.frames == flood.frames
-        && seen.left == 0)
+    Ok(
+        seen.is_right
+            && seen.sessions == flood.sessions
+            && seen.frames == flood.frames
+            && seen.left == 0,
+    )
 }
 
 // Takes a line of the text.
 fn take_line(seen: &mut LaneSeen, flood: &LaneFlood, lane: &[&str], line: &[&str]) {
     match line {
-        ["lane", pair, side, queue, session, "accepted", accepted, "delivered", delivered, "left", left] => {
+        [
+            "lane",
+            pair,
+            side,
+            queue,
+            session,
+            "accepted",
+            accepted,
+            "delivered",
+            delivered,
+            "left",
+            left,
+        ] => {
             seen.is_open = lane == [*pair, *side, *queue].as_slice();
             if seen.is_open {
                 take_session(seen, [session, accepted, delivered, left]);

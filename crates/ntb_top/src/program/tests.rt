@@ -110,6 +110,7 @@ const READS_TO_YIELD: u32 = 1_024;
 
 /// The gate at which the sending and the receiving worker of lane 0 meet: each sets a flag before its first turn, and reads the
 /// other's until it is set.
+#[derive(Drop)]
 struct Meeting {
     sender_came: AtomicBool,
     receiver_came: AtomicBool,
