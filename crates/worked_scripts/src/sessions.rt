@@ -3,6 +3,7 @@
 use std::alloc::{AllocError, Global};
 
 /// What a lane has to come to: its sessions accept a flood of frames, and the last one leaves none.
+#[derive(Drop)]
 struct LaneFlood {
     sessions: u64,
     frames: u64,
@@ -10,6 +11,7 @@ struct LaneFlood {
 }
 
 /// What of a lane was read so far.
+#[derive(Drop)]
 struct LaneSeen {
     /// Whether the lines belong to the lane.
     is_open: bool,
