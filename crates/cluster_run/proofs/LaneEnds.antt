@@ -42,9 +42,9 @@ is_over ahead got all cut h =
     let none = counts.0 in
     let many = counts.1 in
     (grind (arith, nat_tests), grind (arith, nat_tests), not_cut cut tests.1) where
-  not_cut : (b : Bool) → not b ≡ true → b ≡ false
-  not_cut true h = sym h
-  not_cut false _ = refl
+      not_cut : (b : Bool) → not b ≡ true → b ≡ false
+      not_cut true h = sym h
+      not_cut false _ = refl
 
 -- the record and the proofs of a lane that is over
 pub comes_to : (w : Inside) (run : SessionRun) (proof : Shown) (rest : Frames) (runs : List SessionRun) (proofs : List Shown) → IsWork w → (state_of w).over ≡ true
@@ -63,6 +63,6 @@ comes_to w run proof rest runs proofs holds over ends runs_are proofs_are =
       traffic = ap accepted_over shown ∙ (flat_map-append accepted_in (ended_of w) (last ∷ []) ∙ ap (λ frames. accepted_over (ended_of w) ++ frames) (append-nil (accepted_in last) ∙ sym accepted));
       nothing_left = ap left_at_last shown ∙ (left_at_last-push (ended_of w) last ∙ nothing.0);
       shown = proofs_are ∙ (ap (λ proofs. proofs ++ proof ∷ []) holds.shown
-        ∙ (ap (λ one. cut_proofs w.entries (ended_of w) ++ one ∷ []) (ends.shown ∙ (ap (λ entries. session_proof entries w.session.cut last) (sym holds.ring.0) ∙ ap (λ cut. session_proof w.entries cut last) tests.2))
-        ∙ (sym (lane_proofs-push w.entries (ended_of w) last) ∙ ap (lane_proofs w.entries) (sym shown))));
+          ∙ (ap (λ one. cut_proofs w.entries (ended_of w) ++ one ∷ []) (ends.shown ∙ (ap (λ entries. session_proof entries w.session.cut last) (sym holds.ring.0) ∙ ap (λ cut. session_proof w.entries cut last) tests.2))
+          ∙ (sym (lane_proofs-push w.entries (ended_of w) last) ∙ ap (lane_proofs w.entries) (sym shown))));
     }

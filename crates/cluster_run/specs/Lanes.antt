@@ -9,7 +9,7 @@ use Rattle.step_kinds.specs.declared.plan.Traffic.{Traffic}
 use Rattle.plan_model.specs.DeclaredPlans.{IsPair}
 use Rattle.plan_model.specs.Plans.{pair_plan}
 use Rattle.plan_model.specs.Sizes.{sizes_of}
-use Rattle.plan_model.specs.TrafficPlans.{frames_in, bytes_in, is_break_of, IsTraffic}
+use Rattle.plan_model.specs.TrafficPlans.{frames_in, bytes_in, is_break_of, IsTraffic, IsWhole}
 use Rattle.traffic_plan.specs.Lanes.{frames_on}
 
 -- the pairs and the traffic are as a script can declare them, and the traffic keeps its limits
@@ -45,3 +45,7 @@ entries_on plan lane = (sizes_of (pair_plan plan lane.pair) lane.from lane.queue
 -- how many losses of its pair's link a lane sees
 abbrev pub losses_on : Plan → LaneName → ℕ
 losses_on plan lane = count_by (is_break_of lane.pair) plan.traffic
+
+-- a plan that a script declares can be run
+abbrev pub EachWholePlanCanRun : Type 0
+EachWholePlanCanRun = (plan : Plan) → IsWhole plan → CanRun plan

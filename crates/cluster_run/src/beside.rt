@@ -10,6 +10,7 @@ use std::thread::{Threads, join_mut};
 
 /// At most so many passes a worker makes in a round, of so many turns each.
 const PASSES: u32 = 64;
+
 const TURNS: u32 = 4_096;
 
 // The sender's part of a round.

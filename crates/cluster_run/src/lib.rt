@@ -3,16 +3,22 @@
 
 mod aim;
 mod beside;
+mod by_lane;
 mod clock;
 mod group;
 mod in_turn;
 mod lanes;
+pub mod laws;
 mod parts;
 mod progress;
 mod rounds;
 mod run;
 mod session;
 mod tasks;
+mod waiting;
 mod workers;
 
 pub use run::run_plan;
+
+#[cfg(test)]
+mod tests;

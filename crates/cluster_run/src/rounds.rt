@@ -30,18 +30,24 @@ fn thread_count<R: Threads>(rt: &R) -> usize
 fn round_beside<R: Threads + Sync, G: Gate>(rt: &R, gate: &G, works: &mut [LaneWork])
     ensures { KeepKeys works.old works.new }
 {
-    thread::for_each_mut(rt, works, FEW_LANES, &|_, work: &mut LaneWork| {
-        work.pass_beside(rt, gate)
-    });
+    thread::for_each_mut(
+        rt,
+        works,
+        FEW_LANES,
+        &|_, work: &mut LaneWork| { work.pass_beside(rt, gate) },
+    );
 }
 
 // A round in which a thread makes the passes of several lanes' workers in turn.
 fn round_in_turn<R: Threads + Sync, G: Gate>(rt: &R, gate: &G, works: &mut [LaneWork])
     ensures { KeepKeys works.old works.new }
 {
-    thread::for_each_mut(rt, works, thread_count(rt), &|_, work: &mut LaneWork| {
-        work.pass_in_turn(gate)
-    });
+    thread::for_each_mut(
+        rt,
+        works,
+        thread_count(rt),
+        &|_, work: &mut LaneWork| { work.pass_in_turn(gate) },
+    );
 }
 
 // A round of the lanes that are not over.

@@ -192,7 +192,11 @@ impl Session {
             cutting,
             ..
         } = self;
-        let Sending { end: send, todo, .. } = sending;
+        let Sending {
+            end: send,
+            todo,
+            ..
+        } = sending;
         let Moving { mover, back, .. } = moving;
         let Receiving { end: recv, got, .. } = receiving;
         let Cutting { end: cut, .. } = cutting;
