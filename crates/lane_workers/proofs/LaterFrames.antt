@@ -19,7 +19,7 @@ is_later first next last begins goes_on =
     let whole : last ≡ first ++ (one ++ two) = begins_with next last goes_on ∙ ap (λ xs. xs ++ two) (begins_with first next begins) ∙ append_assoc first one two in
     record {
       begins = ap (λ xs. take (length first) xs) whole ∙ take-append_seam first (one ++ two);
-      came = ap (λ xs. drop (length first) xs) whole ∙ drop-append_seam first (one ++ two)
+      came = ap (λ xs. drop (length first) xs) whole ∙ drop-append_seam first (one ++ two);
     }
 
 -- frames that were put after others as they came are all that came, in order

@@ -1,1 +1,2 @@
 pub mod LaterFrames
+pub mod OneByte

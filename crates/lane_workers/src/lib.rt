@@ -16,3 +16,6 @@ pub use cut::cut_pass;
 pub use moving::move_pass;
 pub use receiving::recv_pass;
 pub use sending::send_pass;
+
+#[cfg(test)]
+mod tests;

@@ -10,7 +10,7 @@ invariant-loop-made g l = record {
   entries : l.mover.part.entries ≡ l.initial.mover.part.entries;
   back_entries : l.back.part.entries ≡ l.initial.back.part.entries;
   tries : tries l.initial.mover.part + l.made ≤ tries l.mover.part;
-  back_tries : l.back.part.loads ≡ l.initial.back.part.loads + l.made
+  back_tries : l.back.part.loads ≡ l.initial.back.part.loads + l.made;
 }
 
 abbrev pub decreases-loop-made : goal.decreases-loop-made

@@ -1,4 +1,4 @@
-use Rattle.std.proofs.Common.{◌≡◌, ◌+◌, ◌≤◌, ◌++◌, length, take, drop, arith, rules}
+use Rattle.std.proofs.Common.{arith}
 use Rattle.lane_workers.proofs.LaterFrames.{is_later, got_later}
 use Rattle.lane_workers.proofs.receiving.recv_pass.Goals as goal
 
@@ -15,7 +15,7 @@ loop-made-preserved g c =
       room = cc;
       left = omega arith;
       tries = omega arith;
-      idle = λ some. turn.idle
+      idle = λ some. turn.idle;
     }
 
 pub returns-after-loop-made-clause-idle : goal.returns-after-loop-made-clause-idle

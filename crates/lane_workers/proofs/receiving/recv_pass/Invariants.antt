@@ -12,7 +12,7 @@ invariant-loop-made g l = record {
   room : l.got.spare + length l.got.frames ≡ l.initial.got.spare + length l.initial.got.frames;
   left : l.turns ≤ l.got.spare + l.made;
   tries : l.end.part.loads ≡ l.initial.end.part.loads + l.made;
-  idle : 1 ≤ l.made → l.end.part.phase ≡ Idle
+  idle : 1 ≤ l.made → l.end.part.phase ≡ Idle;
 }
 
 abbrev pub decreases-loop-made : goal.decreases-loop-made

@@ -13,7 +13,7 @@ invariant-loop-made g l = record {
   bytes : HaveBytes l.todo.frames;
   room : l.todo.spare + length l.todo.frames ≡ l.initial.todo.spare + length l.initial.todo.frames;
   one_each : l.end.part.link_loads ≤ l.initial.end.part.link_loads + l.made;
-  tries : l.todo.frames ≢ [] → l.end.part.link_loads ≡ l.initial.end.part.link_loads + l.made
+  tries : l.todo.frames ≢ [] → l.end.part.link_loads ≡ l.initial.end.part.link_loads + l.made;
 }
 
 abbrev pub decreases-loop-made : goal.decreases-loop-made
