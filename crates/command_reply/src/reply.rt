@@ -1,9 +1,7 @@
 //! A reply: the exit status and the text that a command answers.
 
 ghost use Rattle.std.specs.Prelude.{◌≡◌, ◌<◌, length};
-ghost use Rattle.report_text.specs.Report.{line_of};
-ghost use Rattle.command_reply.specs.Output.{done, refused, too_long, usage};
-ghost use Rattle.command_reply.specs.Statuses.{number_of};
+ghost use Rattle.command_reply.specs.Output.{done, one_line, refused, too_long, usage};
 
 use crate::Status;
 use arrayvec::ArrayString;
@@ -54,7 +52,7 @@ impl Reply {
     /// A reply of one line, kept in place: a text of less than 64 bytes, and a line feed.
     pub fn line(status: Status, text: &str) -> Reply
         requires { length text.now < 64 }
-        ensures { result ≡ record { status = number_of status; text = line_of text.now } }
+        ensures { result ≡ one_line status text.now }
     {
         let mut line = ArrayString::new();
         line.push_str(text);

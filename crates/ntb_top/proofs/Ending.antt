@@ -10,7 +10,7 @@ use Rattle.run_command.specs.Replies.{carried_by}
 use Rattle.run_command.specs.declared.command.RunReply.{RunReply}
 use Rattle.script_text.specs.Script.{script_of}
 use Rattle.script_words.specs.declared.fault.ScriptFault.{ScriptFault}
-use Rattle.ntb_top.proofs.Replying.{read_on, run_answered, run_nothing, run_unread, run_wanting, sink_of, source_of}
+use Rattle.ntb_top.proofs.Replying.{run_answered, run_nothing, run_unread, run_wanting, sink_of, source_of}
 use Rattle.ntb_top.specs.Answers.{IsAnswerTo, IsRunAnswerTo}
 use Rattle.ntb_top.specs.Commands.{IsPlain, is_reading}
 use Rattle.ntb_top.specs.Ends.{HasEnded, IsTrueRun}
@@ -20,6 +20,18 @@ use Rattle.ntb_top.specs.declared.command.Command.{Command}
 use Rattle.ntb_top.specs.declared.command.Command.TheVariants.{Run}
 use Rattle.ntb_top.specs.declared.input.Stop.{Stop}
 use Rattle.ntb_top.specs.declared.input.Stop.TheVariants.{OutOfMemory, SourceFailed}
+
+-- what was read stays so, whatever comes of it afterwards
+read_on : {T U : Type 0} (before after : Given) (bytes : List ℕ) (value : T) (reply : U) → HasRead true before after bytes (Ok value) → HasRead true before after bytes (Ok reply)
+read_on before after bytes value reply read =
+    record {
+      taken = read.taken;
+      few = read.few;
+      unread = read.unread;
+      whole = read.whole;
+      failed = λ (is : Ok reply ≡ Err SourceFailed). cc;
+      kept = λ _. read.kept (λ (is : Ok value ≡ Err SourceFailed). cc);
+    }
 
 -- the reply of `run` to what was read
 abbrev pub HasRunReply : Given → Given → Result RunReply Stop → Type 0
@@ -36,7 +48,7 @@ abbrev reply_told : (before after : Given) (run : RunReply) → HasRunReply befo
 reply_told before after run replied =
     record {
       bytes = replied.bytes;
-      read = read_on true before after replied.bytes run (Ok run.reply) (λ (is : Ok run.reply ≡ Err SourceFailed). cc) replied.read;
+      read = read_on before after replied.bytes run run.reply replied.read;
       answers = as_answer (nat_lt most_script_bytes (length replied.bytes)) replied.bytes run.reply (carried_by run) replied.answers;
     }
 

@@ -3,7 +3,6 @@ use Rattle.std.proofs.Common.{◌≡◌, ℕ, List, [], ◌∷◌, ◌++◌, app
 use Rattle.std.specs.Prelude.{codes}
 use Rattle.std.specs.Fmt.{decimal}
 use Rattle.std.proofs.lemmas.List.{append-nil}
-use Rattle.report_text.specs.Report.{line_of}
 use Rattle.replay_command.specs.Replays.{summary_text}
 
 -- words and numbers between them, joined from the right, are those joined from the left

@@ -1,6 +1,5 @@
 -- The log of each plan is true, and so the answers of `replay` and `load` carry it.
 use Rattle.std.proofs.Common.{◌≡◌, ℕ, Result, Ok, Err, List, refl, subst, arith}
-use Rattle.std.proofs.lemmas.List.{append-nil}
 use Rattle.command_reply.specs.Output.{Output, done}
 use Rattle.step_kinds.specs.declared.plan.Plan.{Plan}
 use Rattle.script_text.specs.Script.{script_of}

@@ -7,6 +7,3 @@ mod replay;
 mod steps;
 
 pub use command::{load_reply, replay_reply};
-
-#[cfg(test)]
-mod tests;

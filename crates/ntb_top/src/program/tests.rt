@@ -83,6 +83,18 @@ fn one_frame_there_and_back(rt: HostRuntime) -> Result<(), Fail> {
     Ok(())
 }
 
+// The landings that the order rules blocked are the generator's business.
+#[test]
+fn load_of_one_frame(rt: HostRuntime) -> Result<(), Fail> {
+    let (ended, sink) = answer_to(&rt, rt.alloc(), &["load", "1", "1"], "", &NoGate)?;
+    assert_eq!(rt; ended.status, 0);
+    assert!(rt;
+        sink.held()
+            .starts_with(b"load 1 1 accepted 1 delivered 1 blocked ")
+    );
+    Ok(())
+}
+
 #[test]
 fn more_frames_than_a_load_has(rt: HostRuntime) -> Result<(), Fail> {
     let (ended, sink) = answer_to(&rt, rt.alloc(), &["load", "1", "30001"], "", &NoGate)?;
