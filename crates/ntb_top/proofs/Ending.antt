@@ -10,7 +10,7 @@ use Rattle.run_command.specs.Replies.{carried_by}
 use Rattle.run_command.specs.declared.command.RunReply.{RunReply}
 use Rattle.script_text.specs.Script.{script_of}
 use Rattle.script_words.specs.declared.fault.ScriptFault.{ScriptFault}
-use Rattle.ntb_top.proofs.Replying.{run_answered, run_nothing, run_unread, run_wanting, sink_of, source_of}
+use Rattle.ntb_top.proofs.Replying.{run_answered, run_nothing, sink_of, source_of}
 use Rattle.ntb_top.specs.Answers.{IsAnswerTo, IsRunAnswerTo}
 use Rattle.ntb_top.specs.Commands.{IsPlain, is_reading}
 use Rattle.ntb_top.specs.Ends.{HasEnded, IsTrueRun}
@@ -52,22 +52,6 @@ reply_told before after run replied =
       answers = as_answer (nat_lt most_script_bytes (length replied.bytes)) replied.bytes run.reply (carried_by run) replied.answers;
     }
 
-reply_stopped : (before after : Given) (stop : Stop) → HasRunReply before after (Err stop) → HasReplied true (IsAnswerTo (Some Run)) before after (Err stop)
-reply_stopped before after stop replied =
-    record {
-      bytes = replied.bytes;
-      read =
-          record {
-            taken = replied.read.taken;
-            few = replied.read.few;
-            unread = replied.read.unread;
-            whole = λ _. tt;
-            failed = λ (is : Err stop ≡ Err SourceFailed). replied.read.failed (cc);
-            kept = λ none. replied.read.kept (λ (is : Err stop ≡ Err SourceFailed). none (cc));
-          };
-      answers = tt;
-    }
-
 -- an answer with status 0 is the text of a record of the plan that the bytes declare
 true_run_of : (bytes : List ℕ) (before after : Outside) (output : Output) (carried : Carried) (read : Result Plan ScriptFault) → script_of bytes ≡ read →
     IsRunOfScript read output carried → output.status ≡ 0 → HoldsAll before.held after.held output.text → IsTrueRun bytes before after carried
@@ -107,25 +91,6 @@ run_ended before after run status carried replied written told alone =
             | inr w ↦ absurd (omega (arith, zero, w.status_is))
           ];
       alone = λ other. alone (λ zero. other refl zero);
-    }
-
--- a run whose source failed, and one that wanted memory
-pub run_ended_unread : (before after : Outside) (carried : Carried) → HasRunReply (source_of before) (source_of after) (Err SourceFailed) →
-    after.held ≡ before.held → after.write_faults ≡ before.write_faults → carried ≡ nothing_carried → HasEnded (Some Run) before after 4 carried
-run_ended_unread before after carried replied held faults none =
-    record {
-      run = run_unread true (IsAnswerTo (Some Run)) before after (reply_stopped (source_of before) (source_of after) SourceFailed replied) held faults;
-      headline = λ _ zero. absurd (omega (arith, zero));
-      alone = λ _. none;
-    }
-
-pub run_ended_wanting : (before after : Outside) (carried : Carried) → HasRunReply (source_of before) (source_of after) (Err OutOfMemory) →
-    after.held ≡ before.held → after.write_faults ≡ before.write_faults → carried ≡ nothing_carried → HasEnded (Some Run) before after 6 carried
-run_ended_wanting before after carried replied held faults none =
-    record {
-      run = run_wanting true (IsAnswerTo (Some Run)) before after (reply_stopped (source_of before) (source_of after) OutOfMemory replied) held faults;
-      headline = λ _ zero. absurd (omega (arith, zero));
-      alone = λ _. none;
     }
 
 -- on all other words
