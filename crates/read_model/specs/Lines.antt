@@ -34,7 +34,7 @@ write_step side_text at_text hex_text order_text = do
   at ← number_word at_text
   bytes ← hex_word hex_text
   relaxed ← found_or (order_of order_text) UnknownWord
-  _ ← fault_if (nat_lt most_write_bytes (length bytes) || leaves_memory at (length bytes)) BadNumber
+  _ ← fault_if (length bytes == 0 || (nat_lt most_write_bytes (length bytes) || leaves_memory at (length bytes))) BadNumber
   Ok (Write side at bytes relaxed)
 
 -- `read S AT LEN`
