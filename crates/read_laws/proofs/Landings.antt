@@ -18,7 +18,7 @@ use Rattle.read_model.specs.declared.PathStep.TheVariants.{Land}
 use Rattle.read_model.specs.declared.PathAnswer.TheVariants.{Landed}
 use Rattle.read_laws.proofs.Ahead.{AllAhead, ahead_append, IsWrite, flies_left, Waits}
 use Rattle.read_laws.proofs.Holds.{RequestFact, LastFact, SentFact, whats, SideHolds, Holds}
-use Rattle.read_laws.proofs.SidesHold.{Within, all_within, by_side, side_same, side_sends, side_loses, side_stores, landed_before, fact_there}
+use Rattle.read_laws.proofs.SidesHold.{Within, all_within, by_side, side_same, side_sends, side_loses, side_stores, landed_before, fact_there, request_waits}
 
 -- a step that changes nothing but the log
 pub nothing_changes : (log : List Entry) (e : Entry) (path : PathState) → Holds log (told_of log) path → Holds (log ++ e ∷ []) (with_step (told_of log)) path
@@ -152,7 +152,7 @@ answered log side peer state peer_state place p number at len others there passe
       session = asked.session;
       own_writes =
           λ w posted.
-          landed_before landed (Request number at len) (told_side log side).flight state.flight place w (λ relaxed. elim relaxed [ true ↦ refl | false ↦ refl ]) holds.flight passes (asked.pushes w posted);
+          landed_before landed (Request number at len) (told_side log side).flight state.flight place w (request_waits number at len) holds.flight passes (asked.pushes w posted);
       held = refl;
       pushes = λ w posted. waits_left w (peer_holds.writes w posted);
     } where
@@ -162,3 +162,111 @@ answered log side peer state peer_state place p number at len others there passe
 
     last_fact : LastFact (log ++ request_entry side place number ∷ []) dropped landed (other_side peer) peer (told.flight ++ tagged (told_of log).made parts) number bytes
     last_fact = subst (λ (reader : Side). LastFact (log ++ request_entry side place number ∷ []) dropped landed reader peer (told.flight ++ tagged (told_of log).made parts) number bytes) (sym others) fact
+
+-- What landed, and both sides after it
+
+-- the path with this link
+abbrev path_with : LinkState → ℕ → Both SideState → PathState
+path_with link session sides = record { link = link; session = session; sides = sides }
+
+-- what it says of something at a place that landed
+abbrev landing_entry : Side → ℕ → Flying → Entry
+landing_entry side place what = record { step = Land side place; answer = Landed (landing_of what) }
+
+-- what a log tells after a request landed where the link is up, or isn't
+abbrev told_answered : Bool → Told → Side → ℕ → ℕ → ℕ → Told
+told_answered up told peer number at len = if up then with_more told peer (completions number (bytes_at at len (at_side told.sides peer).memory)) else told
+
+-- what a log tells where what stood at a place is gone
+abbrev told_gone : List Entry → Side → ℕ → Told
+told_gone log side place = with_told (told_of log) side (told_without (told_side log side) place)
+
+landed_holds : (log : List Entry) (link : LinkState) (session : ℕ) (sides : Both SideState) (side : Side) (place p : ℕ) (what : Flying)
+    → Holds log (told_of log) (path_with link session sides)
+    → slice_get (told_side log side).flight place ≡ Some (record { place = p; what = what })
+    → may_pass_all what (take place (at_side sides side).flight) ≡ true
+    → Holds (log ++ landing_entry side place what ∷ []) (with_step (told_taken (told_of log) side place (Some (record { place = p; what = what })))) (taken (path_with link session sides) side place (Some what))
+landed_holds log link session sides A place p (Write at bytes relaxed) holds there passes =
+    let both = stored log (landing_entry A place (Write at bytes relaxed)) A B sides.a sides.b place p at bytes relaxed there (holds.sides A) (holds.sides B) in
+    record { up = holds.up; sides = by_side _ both.from both.to }
+landed_holds log link session sides B place p (Write at bytes relaxed) holds there passes =
+    let both = stored log (landing_entry B place (Write at bytes relaxed)) B A sides.b sides.a place p at bytes relaxed there (holds.sides B) (holds.sides A) in
+    record { up = holds.up; sides = by_side _ both.to both.from }
+landed_holds log link session sides A place p (Part number part) holds there passes =
+    let both = moved log (landing_entry A place (Part number part)) A B sides.a sides.b place (record { place = p; what = Part number part }) (λ write. write) there (holds.sides A) (holds.sides B) in
+    record { up = holds.up; sides = by_side _ both.from both.to }
+landed_holds log link session sides B place p (Part number part) holds there passes =
+    let both = moved log (landing_entry B place (Part number part)) B A sides.b sides.a place (record { place = p; what = Part number part }) (λ write. write) there (holds.sides B) (holds.sides A) in
+    record { up = holds.up; sides = by_side _ both.to both.from }
+landed_holds log link session sides A place p (Last number bytes) holds there passes =
+    let both = moved log (landing_entry A place (Last number bytes)) A B sides.a sides.b place (record { place = p; what = Last number bytes }) (λ write. write) there (holds.sides A) (holds.sides B) in
+    record { up = holds.up; sides = by_side _ both.from both.to }
+landed_holds log link session sides B place p (Last number bytes) holds there passes =
+    let both = moved log (landing_entry B place (Last number bytes)) B A sides.b sides.a place (record { place = p; what = Last number bytes }) (λ write. write) there (holds.sides B) (holds.sides A) in
+    record { up = holds.up; sides = by_side _ both.to both.from }
+landed_holds log Up session sides A place p (Request number at len) holds there passes =
+    let both = answered log A B sides.a sides.b place p number at len refl there passes (holds.sides A) (holds.sides B) in
+    subst (λ (up : Bool). Holds (log ++ request_entry A place number ∷ []) (with_step (told_answered up (told_gone log A place) B number at len)) (taken (path_with Up session sides) A place (Some (Request number at len))))
+    (sym holds.up) (record { up = holds.up; sides = by_side _ both.from both.to })
+landed_holds log Up session sides B place p (Request number at len) holds there passes =
+    let both = answered log B A sides.b sides.a place p number at len refl there passes (holds.sides B) (holds.sides A) in
+    subst (λ (up : Bool). Holds (log ++ request_entry B place number ∷ []) (with_step (told_answered up (told_gone log B place) A number at len)) (taken (path_with Up session sides) B place (Some (Request number at len))))
+    (sym holds.up) (record { up = holds.up; sides = by_side _ both.to both.from })
+landed_holds log Down session sides A place p (Request number at len) holds there passes =
+    let both = moved log (request_entry A place number) A B sides.a sides.b place (record { place = p; what = Request number at len }) (λ write. write) there (holds.sides A) (holds.sides B) in
+    subst (λ (up : Bool). Holds (log ++ request_entry A place number ∷ []) (with_step (told_answered up (told_gone log A place) B number at len)) (taken (path_with Down session sides) A place (Some (Request number at len))))
+    (sym holds.up) (record { up = holds.up; sides = by_side _ both.from both.to })
+landed_holds log Down session sides B place p (Request number at len) holds there passes =
+    let both = moved log (request_entry B place number) B A sides.b sides.a place (record { place = p; what = Request number at len }) (λ write. write) there (holds.sides B) (holds.sides A) in
+    subst (λ (up : Bool). Holds (log ++ request_entry B place number ∷ []) (with_step (told_answered up (told_gone log B place) A number at len)) (taken (path_with Down session sides) B place (Some (Request number at len))))
+    (sym holds.up) (record { up = holds.up; sides = by_side _ both.to both.from })
+landed_holds log Closing session sides A place p (Request number at len) holds there passes =
+    let both = moved log (request_entry A place number) A B sides.a sides.b place (record { place = p; what = Request number at len }) (λ write. write) there (holds.sides A) (holds.sides B) in
+    subst (λ (up : Bool). Holds (log ++ request_entry A place number ∷ []) (with_step (told_answered up (told_gone log A place) B number at len)) (taken (path_with Closing session sides) A place (Some (Request number at len))))
+    (sym holds.up) (record { up = holds.up; sides = by_side _ both.from both.to })
+landed_holds log Closing session sides B place p (Request number at len) holds there passes =
+    let both = moved log (request_entry B place number) B A sides.b sides.a place (record { place = p; what = Request number at len }) (λ write. write) there (holds.sides B) (holds.sides A) in
+    subst (λ (up : Bool). Holds (log ++ request_entry B place number ∷ []) (with_step (told_answered up (told_gone log B place) A number at len)) (taken (path_with Closing session sides) B place (Some (Request number at len))))
+    (sym holds.up) (record { up = holds.up; sides = by_side _ both.to both.from })
+
+-- The step
+
+-- what a landing has to keep, where this stands at the place and may land or not
+abbrev LandingHolds : List Entry → PathState → Side → ℕ → Option Sent → Option Flying → Bool → Type 0
+LandingHolds log path side place sent flying lands =
+    Holds (log ++ record { step = Land side place; answer = Landed (answer_for flying lands) } ∷ [])
+    (with_step (if is_landing (answer_for flying lands) then told_taken (told_of log) side place sent else told_of log))
+    (if lands then taken path side place flying else path)
+
+is_landed : (what : Flying) → is_landing (landing_of what) ≡ true
+is_landed (Write at bytes relaxed) = refl
+is_landed (Request number at len) = refl
+is_landed (Part number part) = refl
+is_landed (Last number bytes) = refl
+
+pub landing_holds : (log : List Entry) (path : PathState) (side : Side) (place : ℕ) → Holds log (told_of log) path
+    → Holds (log ++ record { step = Land side place; answer = Landed (land_answer path side place) } ∷ [])
+    (told_after (told_of log) (record { step = Land side place; answer = Landed (land_answer path side place) })) (after_land path side place)
+landing_holds log path side place holds =
+    subst (λ (flying : Option Flying). LandingHolds log path side place (slice_get flight place) flying (lands_after flying (take place state)))
+    (sym (slice_get-map (λ (sent : Sent). sent.what) flight place) ∙ ap (λ (l : List Flying). slice_get l place) (holds.sides side).flight)
+    (by_sent (slice_get flight place) refl)
+  where
+    flight : List Sent
+    flight = (told_side log side).flight
+
+    state : List Flying
+    state = (at_side path.sides side).flight
+
+    where_it_may : (sent : Sent) → slice_get flight place ≡ Some sent → (lands : Bool) → may_pass_all sent.what (take place state) ≡ lands → LandingHolds log path side place (Some sent) (Some sent.what) lands
+    where_it_may sent there false passes = nothing_changes log _ path holds
+    where_it_may sent there true passes =
+        subst
+        (λ (landed : Bool).
+        Holds (log ++ landing_entry side place sent.what ∷ []) (with_step (if landed then told_taken (told_of log) side place (Some sent) else told_of log)) (taken path side place (Some sent.what)))
+        (sym (is_landed sent.what))
+        (landed_holds log path.link path.session path.sides side place sent.place sent.what holds there passes)
+
+    by_sent : (sent : Option Sent) → slice_get flight place ≡ sent → LandingHolds log path side place sent (option_map (λ (x : Sent). x.what) sent) (lands_after (option_map (λ (x : Sent). x.what) sent) (take place state))
+    by_sent None there = nothing_changes log _ path holds
+    by_sent (Some sent) there = where_it_may sent there (may_pass_all sent.what (take place state)) refl

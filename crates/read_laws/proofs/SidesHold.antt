@@ -232,8 +232,20 @@ pub side_stores : (log : List Entry) (dropped : ℕ) (landed : List ℕ) (side :
 side_stores log dropped landed side told state at bytes holds =
     record { memory = ap (λ (mem : List ℕ). written at bytes mem) holds.memory; flight = holds.flight; facts = holds.facts; writes = holds.writes }
 
+-- it passes no posted write
+abbrev pub WaitsForWrites : Flying → Type 0
+WaitsForWrites what = (relaxed : Bool) → may_overtake (kind_of what) (if relaxed then relaxed_kind else strict_kind) ≡ false
+
+pub request_waits : (number at len : ℕ) → WaitsForWrites (Request number at len)
+request_waits number at len true = refl
+request_waits number at len false = refl
+
+pub last_waits : (number : ℕ) (bytes : List ℕ) → WaitsForWrites (Last number bytes)
+last_waits number bytes true = refl
+last_waits number bytes false = refl
+
 -- what waits for the writes before it has none before it where it may land
-no_write_ahead : (what : Flying) (ahead : List Sent) (w : ℕ) → ((relaxed : Bool) → may_overtake (kind_of what) (if relaxed then relaxed_kind else strict_kind) ≡ false)
+no_write_ahead : (what : Flying) (ahead : List Sent) (w : ℕ) → WaitsForWrites what
     → may_pass_all what (whats ahead) ≡ true → ¬ Flies w ahead
 no_write_ahead what [] w waits passes flies = flies
 no_write_ahead what (x ∷ ahead) w waits passes flies = each x.what passes flies (λ rest later. no_write_ahead what ahead w waits rest later) where
@@ -249,8 +261,7 @@ no_write_ahead what (x ∷ ahead) w waits passes flies = each x.what passes flie
 
 -- so each write that it waited for has landed
 pub landed_before : (landed : List ℕ) (what : Flying) (flight : List Sent) (state : List Flying) (place w : ℕ)
-    → ((relaxed : Bool) → may_overtake (kind_of what) (if relaxed then relaxed_kind else strict_kind) ≡ false)
-    → whats flight ≡ state → may_pass_all what (take place state) ≡ true → Waits landed (take place flight) w → Contains landed w
+    → WaitsForWrites what → whats flight ≡ state → may_pass_all what (take place state) ≡ true → Waits landed (take place flight) w → Contains landed w
 landed_before landed what flight state place w waits same passes (inl has) = has
 landed_before landed what flight state place w waits same passes (inr flies) =
     absurd (no_write_ahead what (take place flight) w waits
