@@ -1,5 +1,5 @@
 -- Lists in which each item has a fact about those before it.
-use Rattle.std.proofs.Common.{◌≡◌, ℕ, ◌⊎◌, Option, Some, None, List, [], ◌∷◌, ◌++◌, map, take, drop, remove, slice_get, refl, sym, ap, subst, ◌∙◌, inl, inr, ⊎_elim, append_assoc, append-nil, Contains}
+use Rattle.std.proofs.Common.{◌≡◌, ℕ, ◌⊎◌, List, [], ◌∷◌, ◌++◌, sym, subst, inl, inr, append_assoc, append-nil, Contains}
 use Rattle.read_model.specs.InFlight.{Flying, Write, Request, Part, Last}
 use Rattle.read_model.specs.Pushed.{Sent}
 

@@ -1,5 +1,5 @@
 -- A landing keeps what holds of the log and the path.
-use Rattle.std.proofs.Common.{◌≡◌, ℕ, zero, suc, ◌+◌, ◌-◌, ◌/◌, ◌<◌, Bool, true, false, Option, Some, None, List, [], ◌∷◌, ◌++◌, map, take, remove, slice_get, length, option_map, refl, sym, ap, subst, ◌∙◌, inl, inr, Contains, if◌then◌else◌, arith}
+use Rattle.std.proofs.Common.{◌≡◌, ℕ, zero, suc, ◌+◌, ◌-◌, ◌/◌, Bool, true, false, Option, Some, None, List, [], ◌∷◌, ◌++◌, map, take, remove, slice_get, length, option_map, refl, sym, ap, subst, ◌∙◌, inl, inr, if◌then◌else◌, arith}
 use Rattle.std.proofs.lemmas.List.{map-append}
 use Rattle.std.proofs.lemmas.List.Elements.{Contains-append_left, Contains-append_right}
 use Rattle.std.proofs.lemmas.Option.{slice_get-map}
@@ -17,7 +17,7 @@ use Rattle.read_model.specs.Pushed.{Sent, SideTold, Told, told_of, told_taken, t
 use Rattle.read_model.specs.declared.PathStep.TheVariants.{Land}
 use Rattle.read_model.specs.declared.PathAnswer.TheVariants.{Landed}
 use Rattle.read_laws.proofs.Ahead.{AllAhead, ahead_append, IsWrite, flies_left, Waits}
-use Rattle.read_laws.proofs.Holds.{RequestFact, LastFact, SentFact, whats, SideHolds, Holds}
+use Rattle.read_laws.proofs.Holds.{RequestFact, LastFact, SentFact, SideHolds, Holds}
 use Rattle.read_laws.proofs.SidesHold.{Within, all_within, by_side, side_same, side_sends, side_loses, side_stores, landed_before, fact_there, request_waits}
 
 -- a step that changes nothing but the log

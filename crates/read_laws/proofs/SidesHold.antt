@@ -1,29 +1,21 @@
 -- What a step does to one side keeps what holds of it.
-use Rattle.std.proofs.Common.{◌≡◌, ℕ, zero, suc, ◌+◌, ◌<◌, ◌⊎◌, Bool, true, false, ◌&&◌, Option, Some, None, List, [], ◌∷◌, ◌++◌, map, take, drop, remove, slice_get, slice_index_or, length, option_map, unwrap_or, refl, sym, ap, subst, ◌∙◌, inl, inr, append_assoc, append-nil, Contains, if◌then◌else◌, arith}
+use Rattle.std.proofs.Common.{◌≡◌, ℕ, zero, suc, ◌+◌, ◌<◌, ◌⊎◌, Bool, true, false, ◌&&◌, Option, Some, None, List, [], ◌∷◌, ◌++◌, map, take, drop, remove, slice_get, slice_index_or, unwrap_or, refl, sym, ap, subst, ◌∙◌, inl, inr, append_assoc, Contains, if◌then◌else◌, arith}
 use Rattle.std.proofs.lemmas.Bool.{false≢true}
 use Rattle.std.proofs.lemmas.List.{take-map, drop-map, map-append}
-use Rattle.std.proofs.lemmas.List.Elements.{Contains-append_left, Contains-append_right, Contains-append_cases}
-use Rattle.std.proofs.lemmas.Option.{slice_get-map}
-use Rattle.std.specs.List.{list_all}
-use Rattle.host_memory.specs.Memory.{written, bytes_at}
+use Rattle.std.proofs.lemmas.List.Elements.{Contains-append_cases}
+use Rattle.host_memory.specs.Memory.{written}
 use Rattle.order_rules.specs.Order.{relaxed as relaxed_kind, strict as strict_kind}
 use Rattle.order_rules.specs.Transactions.{may_overtake}
 use Rattle.step_kinds.specs.Sides.{other_side}
 use Rattle.step_kinds.specs.declared.names.Side.{Side}
 use Rattle.step_kinds.specs.declared.names.Side.TheVariants.{A, B}
-use Rattle.plan_model.specs.Both.{Both, at_side}
-use Rattle.plan_model.specs.declared.LinkState.{LinkState}
-use Rattle.plan_model.specs.declared.LinkState.TheVariants.{Down, Up, Closing}
-use Rattle.read_model.specs.InFlight.{Flying, Write, Request, Part, Last, kind_of, may_pass_all, lands_after, may_land, parts_from, completions}
-use Rattle.read_model.specs.Path.{PathState, SideState, with_flight, with_memory, landing_of, answer_for, taken}
-use Rattle.read_model.specs.PathLog.{Entry, answer_to, after_step}
-use Rattle.read_model.specs.Pushed.{Sent, SideTold, Told, told_of, told_taken, with_step, told_after, posted_in, landed_in, memory_in, read_entry, request_entry, is_landing}
-use Rattle.read_model.specs.declared.PathStep.{PathStep}
-use Rattle.read_model.specs.declared.PathStep.TheVariants.{Write as WriteStep, Read, Land, Show, Break, DropDone, Relink}
-use Rattle.read_model.specs.declared.PathAnswer.TheVariants.{Landed}
-use Rattle.read_model.specs.declared.PathLand.TheVariants.{Nothing, Blocked}
+use Rattle.plan_model.specs.Both.{at_side}
+use Rattle.read_model.specs.InFlight.{Flying, Write, Request, Part, Last, kind_of, may_pass_all}
+use Rattle.read_model.specs.Path.{SideState, with_flight, with_memory}
+use Rattle.read_model.specs.PathLog.{Entry}
+use Rattle.read_model.specs.Pushed.{Sent, SideTold, told_of, read_entry, request_entry}
 use Rattle.read_laws.proofs.Ahead.{AllAhead, ahead_append, ahead_map, ahead_at, ahead_without, IsWrite, Flies, flies_left, flies_right, flies_without, Waits}
-use Rattle.read_laws.proofs.Holds.{RequestFact, LastFact, Fact, SentFact, whats, SideHolds, Holds}
+use Rattle.read_laws.proofs.Holds.{RequestFact, Fact, SentFact, whats, SideHolds}
 
 abbrev is_there : {X : Type 0} → Option X → Bool
 is_there None = false
