@@ -1,9 +1,8 @@
 -- A side of a path, as the definitions see it, and what is kept of both.
 use Rattle.std.specs.Prelude.{◌≡◌, ℕ, ◌+◌, ◌-◌, ◌≤◌, ◌/◌, Bool, Option, Some, None, List, [], ◌∷◌, ◌++◌, All, length, replicate, remove, slice_get, sum_by, if◌then◌else◌}
 use Rattle.host_memory.specs.Memory.{ArePromised, written, bytes_at}
-use Rattle.plan_model.specs.Both.{Both}
 use Rattle.read_model.specs.InFlight.{Flying, Write, Request, Part, Last, completion_bytes, completions, may_land}
-use Rattle.read_model.specs.Path.{PathState, SideState, memory_bytes, with_flight, with_memory}
+use Rattle.read_model.specs.Path.{PathState, SideState, memory_bytes}
 use Rattle.read_path.specs.Flights.{FlightState}
 use Rattle.read_path.specs.declared.end.End.{End}
 use Rattle.read_path.specs.declared.path.Path.TheInside.{Inside}
@@ -82,18 +81,28 @@ brings end number at len up =
       spare = end.flight.spare - completions_of len;
     })
 
--- a side after what stood at a place of its list has left it, where it may
-abbrev pub from_after : SideState → ℕ → SideState
-from_after from place = if may_land from.flight place then with_flight from (remove from.flight place) else from
+-- a write's bytes are stored
+abbrev pub stores : End → ℕ → List ℕ → End
+stores end at bytes = record { memory = record { bytes = written at bytes end.memory.bytes; promised = end.memory.promised }; flight = end.flight; reads = end.reads }
 
--- a side after this reached it
-abbrev pub reached : Bool → SideState → Option Flying → SideState
-reached up to None = to
-reached up to (Some (Write at bytes relaxed)) = with_memory to (written at bytes to.memory)
-reached up to (Some (Request number at len)) = if up then with_flight to (to.flight ++ completions number (bytes_at at len to.memory)) else to
-reached up to (Some (Part number part)) = to
-reached up to (Some (Last number bytes)) = to
+-- this reaches a side
+abbrev pub reached : Bool → End → Flying → End
+reached up end (Write at bytes relaxed) = stores end at bytes
+reached up end (Request number at len) = brings end number at len up
+reached up end (Part number part) = end
+reached up end (Last number bytes) = end
 
--- the peer after what stood at a place of a side's list reached it, where it may
-abbrev pub to_after : Bool → SideState → SideState → ℕ → SideState
-to_after up from to place = if may_land from.flight place then reached up to (slice_get from.flight place) else to
+abbrev pub reached_by : Bool → End → Option Flying → End
+reached_by up end None = end
+reached_by up end (Some flying) = reached up end flying
+
+-- what stood at a place of a side's list is gone
+abbrev pub without_place : End → ℕ → End
+without_place end place = with_flight_state end (record { flying = remove end.flight.flying place; spare = end.flight.spare })
+
+-- both sides after a landing at a place of the first one's list
+abbrev pub from_after : End → ℕ → End
+from_after from place = if may_land from.flight.flying place then without_place from place else from
+
+abbrev pub to_after : Bool → End → End → ℕ → End
+to_after up from to place = if may_land from.flight.flying place then reached_by up to (slice_get from.flight.flying place) else to

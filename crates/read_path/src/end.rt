@@ -1,10 +1,11 @@
 //! One side of a path: its memory, what it has in flight to its peer, and how many reads it made.
 
 ghost use Rattle.std.specs.Prelude.{◌≡◌, ◌+◌, ◌≤◌, length, IfOk, OnOk, OnErr, slice_get};
-ghost use Rattle.host_memory.specs.Memory.{bytes_at, written};
+ghost use Rattle.host_memory.specs.Memory.{bytes_at};
 ghost use Rattle.read_model.specs.InFlight.{may_land};
-ghost use Rattle.read_model.specs.Path.{answer_for, memory_bytes};
-ghost use Rattle.read_path.specs.Ends.{AreEnds, IsEnd, asks, brings, completions_of, fresh_end, from_after, posts, promises, to_after, end_seen};
+ghost use Rattle.read_model.specs.Path.{answer_for, landing_of, memory_bytes};
+ghost use Rattle.read_path.specs.Flights.{flying_of};
+ghost use Rattle.read_path.specs.Ends.{AreEnds, IsEnd, IsInRange, asks, brings, completions_due, completions_of, end_seen, fresh_end, from_after, posts, promises, reached, stores, to_after};
 
 use crate::flight::{Flight, InFlight};
 use host_memory::Memory;
@@ -71,11 +72,7 @@ impl End {
     fn store(&mut self, at: u32, bytes: &[u8])
         requires whole { IsEnd self.old }
         requires within { at + length bytes.now ≤ memory_bytes }
-        ensures bytes { self.new.memory.bytes ≡ written at bytes.now self.old.memory.bytes }
-        ensures promised { self.new.memory.promised ≡ self.old.memory.promised }
-        ensures flight { self.new.flight ≡ self.old.flight }
-        ensures reads { self.new.reads ≡ self.old.reads }
-        ensures still_whole { IsEnd self.new }
+        ensures { self.new ≡ stores self.old at bytes.now }
     {
         self.memory.write(u64::from(at), bytes);
     }
@@ -145,8 +142,8 @@ pub fn ask(
 pub fn land_between(from: &mut End, to: &mut End, up: bool, place: usize) -> PathLand
     requires { AreEnds from.old to.old }
     ensures answer { result ≡ answer_for (slice_get from.old.flight.flying place) (may_land from.old.flight.flying place) }
-    ensures from { end_seen from.new ≡ from_after (end_seen from.old) place }
-    ensures to { end_seen to.new ≡ to_after up (end_seen from.old) (end_seen to.old) place }
+    ensures from { from.new ≡ from_after from.old place }
+    ensures to { to.new ≡ to_after up from.old to.old place }
     ensures whole { AreEnds from.new to.new }
 {
     if place >= from.flight.len() {
@@ -162,7 +159,13 @@ pub fn land_between(from: &mut End, to: &mut End, up: bool, place: usize) -> Pat
 }
 
 /// What came off a side's list reaches the peer.
-fn arrive(to: &mut End, up: bool, item: InFlight) -> PathLand {
+fn arrive(to: &mut End, up: bool, item: InFlight) -> PathLand
+    requires whole { IsEnd to.old }
+    requires in_range { IsInRange (flying_of item) }
+    requires spare { completions_due (flying_of item) ≤ to.old.flight.spare }
+    ensures answer { result ≡ landing_of (flying_of item) }
+    ensures to { to.new ≡ reached up to.old (flying_of item) }
+{
     match item {
         InFlight::Write { at, bytes, .. } => {
             let len = bytes.as_slice().len() as u32;

@@ -1,12 +1,12 @@
 //! What a side has in flight to its peer, and the room that is promised for more.
 
-ghost use Rattle.std.specs.Prelude.{◌≡◌, ◌+◌, ◌-◌, ◌<◌, ◌≤◌, [], ◌∷◌, ◌++◌, length, remove, slice_get, option_map, take, OnOk, OnErr};
+ghost use Rattle.std.specs.Prelude.{◌≡◌, ◌+◌, ◌-◌, ◌<◌, ◌≤◌, [], ◌∷◌, ◌++◌, length, remove, slice_get, option_map, take, IfNone, OnOk, OnErr, OnSome};
 ghost use Rattle.std.specs.List.{list_all};
 ghost use Rattle.order_rules.specs.Transactions.{may_overtake};
 ghost use Rattle.read_model.specs.InFlight.{kind_of, may_land, parts_from};
 ghost use Rattle.read_path.specs.Flights.{flying_of, nothing_flying};
 
-use order_rules::{COMPLETION, OrderTable, READ_REQUEST, RELAXED, STRICT, full_table};
+use order_rules::{COMPLETION, READ_REQUEST, RELAXED, STRICT, full_table};
 use std::alloc::{AllocError, Global};
 use std::collections::VecDeque;
 use std::marker::Model;
@@ -115,7 +115,8 @@ impl Flight {
     /// Takes out what stands at this place. The room that it leaves isn't promised.
     pub fn take(&mut self, place: usize) -> Option<InFlight>
         ensures item { option_map flying_of result ≡ slice_get self.old.flying place }
-        ensures rest { self.new ≡ record self.old { flying = remove self.old.flying place } }
+        ensures rest { OnSome result (self.new ≡ record self.old { flying = remove self.old.flying place }) }
+        ensures none { IfNone result (self.new ≡ self.old) }
     {
         self.items.remove(place)
     }
@@ -149,8 +150,8 @@ impl Flight {
         ensures { result ≡ list_all (λ earlier. may_overtake kind (kind_of earlier)) (take count self.now.flying) }
     {
         let table = full_table();
-        for earlier in self.items.iter().take(count) {
-            if !table.may_pass(kind, earlier.kind()) {
+        for place in 0..count {
+            if !table.may_pass(kind, self.items[place].kind()) {
                 return false;
             }
         }

@@ -2,6 +2,7 @@
 
 ghost use Rattle.std.specs.Prelude.{◌≡◌, ◌+◌, ◌≤◌, length, IfOk, OnOk, OnErr, alloc_error};
 ghost use Rattle.std.specs.Result.{result_err};
+ghost use Rattle.plan_model.specs.Link.{is_up};
 ghost use Rattle.read_model.specs.Path.{after_cut, after_drop, after_land, after_post, after_read, after_relink, cut_refusal, drop_refusal, fresh_path, land_answer, memory_bytes, post_answer, read_answer, relink_refusal, shown};
 
 use crate::end::{End, ask, land_between};
@@ -186,7 +187,9 @@ impl Path {
     }
 
     // Whether the link is up.
-    fn is_up(&self) -> bool {
+    fn is_up(&self) -> bool
+        ensures { result ≡ is_up self.now.link }
+    {
         self.link.state() == LinkState::Up
     }
 }
