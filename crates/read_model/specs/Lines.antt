@@ -76,12 +76,19 @@ range_step word side_text at_text len_text =
     else if bytes_eq word (codes "show") then show_step side_text at_text len_text
     else Err UnknownWord
 
--- the step of a line's words, of which there is one at least
+abbrev pub place_step : List ℕ → List ℕ → List ℕ → Result PathStep Cause
+place_step word side_text place_text = if bytes_eq word (codes "land") then land_step side_text place_text else Err UnknownWord
+
+abbrev pub bytes_step : List ℕ → List ℕ → List ℕ → List ℕ → List ℕ → Result PathStep Cause
+bytes_step word side_text at_text hex_text order_text =
+    if bytes_eq word (codes "write") then write_step side_text at_text hex_text order_text else Err UnknownWord
+
+-- the step of a line's words
 abbrev pub step_of : List (List ℕ) → Result PathStep Cause
 step_of (word ∷ []) = link_step word
-step_of (word ∷ side ∷ place ∷ []) = if bytes_eq word (codes "land") then land_step side place else Err UnknownWord
+step_of (word ∷ side ∷ place ∷ []) = place_step word side place
 step_of (word ∷ side ∷ at ∷ len ∷ []) = range_step word side at len
-step_of (word ∷ side ∷ at ∷ bytes ∷ order ∷ []) = if bytes_eq word (codes "write") then write_step side at bytes order else Err UnknownWord
+step_of (word ∷ side ∷ at ∷ bytes ∷ order ∷ []) = bytes_step word side at bytes order
 step_of words = Err UnknownWord
 
 abbrev pub is_header : List (List ℕ) → Bool

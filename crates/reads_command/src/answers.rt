@@ -5,6 +5,7 @@ ghost use Rattle.std.specs.Fmt.{decimal};
 ghost use Rattle.read_model.specs.PathLog.{after_step, answer_to};
 ghost use Rattle.read_model.specs.Report.{made_line};
 ghost use Rattle.read_model.specs.Texts.{answer_text, land_text, link_text, post_text, read_text, refusal_text};
+ghost use Rattle.report_text.specs.Texts.{with_one, with_two};
 ghost use Rattle.reads_command.specs.Steps.{Fits};
 
 use itoa::Buffer;
@@ -91,10 +92,7 @@ fn push_read(text: &mut Vec<u8>, answer: &ReadAnswer) -> Result<(), AllocError>
     ensures { OnOk result (text.new.items ≡ text.old.items ++ read_text answer.now) }
 {
     match answer {
-        ReadAnswer::Posted { number } => {
-            push_word(text, "read")?;
-            push_numbers(text, &[*number])
-        }
+        ReadAnswer::Posted { number } => push_one(text, "read", *number),
         ReadAnswer::LinkDown => push_word(text, "linkdown"),
     }
 }
@@ -107,20 +105,12 @@ fn push_landing(text: &mut Vec<u8>, answer: &PathLand) -> Result<(), AllocError>
         PathLand::Nothing => push_word(text, "nothing"),
         PathLand::Blocked => push_word(text, "blocked"),
         PathLand::Write { at, len } => {
-            push_word(text, "landed write")?;
-            push_numbers(text, &[u64::from(*at), u64::from(*len)])
+            push_two(text, "landed write", u64::from(*at), u64::from(*len))
         }
-        PathLand::Request { number } => {
-            push_word(text, "landed read")?;
-            push_numbers(text, &[*number])
-        }
-        PathLand::Part { number, part } => {
-            push_word(text, "part")?;
-            push_numbers(text, &[*number, u64::from(*part)])
-        }
+        PathLand::Request { number } => push_one(text, "landed read", *number),
+        PathLand::Part { number, part } => push_two(text, "part", *number, u64::from(*part)),
         PathLand::Whole { number, frame } => {
-            push_word(text, "data")?;
-            push_numbers(text, &[*number])?;
+            push_one(text, "data", *number)?;
             push_word(text, " ")?;
             push_hex(text, frame.bytes())
         }
@@ -149,6 +139,22 @@ fn refusal_word(refusal: LinkRefusal) -> &'static str
         LinkRefusal::Dirty => "dirty",
         LinkRefusal::NotEnabled => "notenabled",
     }
+}
+
+// Adds a word and a number.
+fn push_one(text: &mut Vec<u8>, word: &str, one: u64) -> Result<(), AllocError>
+    ensures { OnOk result (text.new.items ≡ text.old.items ++ with_one word.now one) }
+{
+    push_word(text, word)?;
+    push_numbers(text, &[one])
+}
+
+// Adds a word and two numbers.
+fn push_two(text: &mut Vec<u8>, word: &str, one: u64, two: u64) -> Result<(), AllocError>
+    ensures { OnOk result (text.new.items ≡ text.old.items ++ with_two word.now one two) }
+{
+    push_word(text, word)?;
+    push_numbers(text, &[one, two])
 }
 
 // Adds a number.

@@ -138,18 +138,48 @@ fn range_step(word: &[u8], side: &[u8], at: &[u8], len: &[u8]) -> Result<PathSte
     }
 }
 
+/// A step with a side and a place.
+fn place_step(word: &[u8], side: &[u8], place: &[u8]) -> Result<PathStep, LineError>
+    ensures step { Reads result (rules.place_step word.now side.now place.now) }
+    ensures fits { IfOk result Fits }
+{
+    if word == b"land".as_slice() {
+        land_step(side, place)
+    } else {
+        Err(LineError::Fault(Cause::UnknownWord))
+    }
+}
+
+/// A step with a side, an address, bytes and an order.
+fn bytes_step(
+    alloc: Global,
+    word: &[u8],
+    side: &[u8],
+    at: &[u8],
+    hex: &[u8],
+    order: &[u8],
+) -> Result<PathStep, LineError>
+    ensures step { Reads result (rules.bytes_step word.now side.now at.now hex.now order.now) }
+    ensures fits { IfOk result Fits }
+{
+    if word == b"write".as_slice() {
+        write_step(alloc, side, at, hex, order)
+    } else {
+        Err(LineError::Fault(Cause::UnknownWord))
+    }
+}
+
 /// The step of a line's words.
 fn step_of(alloc: Global, words: &[&[u8]]) -> Result<PathStep, LineError>
     ensures step { Reads result (rules.step_of (map (λ word. word.now) words.now)) }
     ensures fits { IfOk result Fits }
 {
     match words {
+        [] | [_, _] => Err(LineError::Fault(Cause::UnknownWord)),
         [word] => link_step(word),
-        [word, side, place] if *word == b"land".as_slice() => land_step(side, place),
+        [word, side, place] => place_step(word, side, place),
         [word, side, at, len] => range_step(word, side, at, len),
-        [word, side, at, bytes, order] if *word == b"write".as_slice() => {
-            write_step(alloc, side, at, bytes, order)
-        }
+        [word, side, at, hex, order] => bytes_step(alloc, word, side, at, hex, order),
         _ => Err(LineError::Fault(Cause::UnknownWord)),
     }
 }
