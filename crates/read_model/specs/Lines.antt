@@ -118,18 +118,21 @@ pub record LineStep : Type 0 where
   pub line : ℕ
   pub step : PathStep
 
+-- a step of line n before those of the lines after it
+abbrev pub before_more : ℕ → PathStep → Result (List LineStep) ℕ → Result (List LineStep) ℕ
+before_more n step (Ok more) = Ok (record { line = n; step = step } ∷ more)
+before_more n step (Err bad) = Err bad
+
+-- what line n gives and the lines after it give, where it gives no step and where it gives one
+abbrev pub go_on : ℕ → Result (Option PathStep) Cause → Result (List LineStep) ℕ → Result (List LineStep) ℕ → Result (List LineStep) ℕ
+go_on n (Err cause) without with_one = Err n
+go_on n (Ok None) without with_one = without
+go_on n (Ok (Some step)) without with_one = before_more n step with_one
+
 -- the steps of the lines from number n on, where so many steps stand before them, or the number of the first bad line
 abbrev pub read_lines : ℕ → ℕ → List (List ℕ) → Result (List LineStep) ℕ
 read_lines n steps [] = Ok []
-read_lines n steps (line ∷ lines) = go_on (line_gives n steps line) (read_lines (n + 1) steps lines) (read_lines (n + 1) (steps + 1) lines) where
-  with_step : PathStep → Result (List LineStep) ℕ → Result (List LineStep) ℕ
-  with_step step (Ok more) = Ok (record { line = n; step = step } ∷ more)
-  with_step step (Err bad) = Err bad
-
-  go_on : Result (Option PathStep) Cause → Result (List LineStep) ℕ → Result (List LineStep) ℕ → Result (List LineStep) ℕ
-  go_on (Err cause) same more = Err n
-  go_on (Ok None) same more = same
-  go_on (Ok (Some step)) same more = with_step step more
+read_lines n steps (line ∷ lines) = go_on n (line_gives n steps line) (read_lines (n + 1) steps lines) (read_lines (n + 1) (steps + 1) lines)
 
 -- the steps of a text, or the number of its first bad line
 abbrev pub steps_of : List ℕ → Result (List LineStep) ℕ

@@ -1,7 +1,7 @@
 //! Lines of a text of reads, each a step.
 #![tactic(auto, unfolding(script_words::specs::Tests::and_then))]
 
-ghost use Rattle.std.specs.Prelude.{◌≡◌, IfOk, map};
+ghost use Rattle.std.specs.Prelude.{◌≡◌, ◌≢◌, IfOk, IsSome, map};
 ghost use Rattle.script_words.specs.Reads.{Reads};
 ghost use Rattle.read_model.specs.Lines as rules;
 ghost use Rattle.reads_command.specs.Steps.{Fits, FitsIfThere};
@@ -200,7 +200,7 @@ fn header_line<'a>(
     line: &'a [u8],
 ) -> Result<Option<PathStep>, LineError>
     ensures step { Reads result (rules.header_line line.now) }
-    ensures fits { IfOk result (λ step. FitsIfThere step) }
+    ensures none { IfOk result (λ step. step ≡ None) }
 {
     if !read_words(words, line)? {
         return Err(LineError::Fault(Cause::NotText));
@@ -222,6 +222,7 @@ pub fn read_line<'a>(
 ) -> Result<Option<PathStep>, LineError>
     ensures step { Reads result (rules.line_gives number steps line.now) }
     ensures fits { IfOk result (λ step. FitsIfThere step) }
+    ensures few { IfOk result (λ step. IsSome step → steps ≢ 1000000) }
 {
     if number == 1 {
         return header_line(words, line);

@@ -58,7 +58,8 @@ impl Reply {
         line: &'a [u8],
     ) -> Result<(), ReadsError>
         requires { self.old.steps ≤ 1000000 }
-        ensures { Adds number (reply_seen self.old) (reply_seen self.new) result (line_gives number self.old.steps line.now) }
+        ensures few { self.new.steps ≤ 1000000 }
+        ensures adds { Adds number (reply_seen self.old) (reply_seen self.new) result (line_gives number self.old.steps line.now) }
     {
         let step = match read_line(alloc, number, self.steps, words, line) {
             Ok(None) => return Ok(()),
