@@ -5,3 +5,4 @@ pub mod Pushed
 pub mod Texts
 pub mod Lines
 pub mod Report
+pub mod Examples

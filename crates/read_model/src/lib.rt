@@ -6,6 +6,8 @@
 //! so of a log; that it holds of every log is a law of `read_laws`.
 #![tactic(auto)]
 
+pub mod examples;
+
 use plan_model::LinkRefusal;
 use step_kinds::{Frame, Items, Side};
 
