@@ -6,3 +6,6 @@ mod lines;
 mod reply;
 
 pub use reply::{ReadsError, reads_text};
+
+#[cfg(test)]
+mod tests;
