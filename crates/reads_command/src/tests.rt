@@ -1,9 +1,9 @@
+ghost use Rattle.std.specs.Prelude.{◌≤◌, length};
+
 use super::*;
 use std::alloc::Global;
 use std::process::Abort;
 use std::test::Fail;
-
-ghost use Rattle.std.specs.Prelude.{◌≤◌, length};
 
 // Whether a text has this reply.
 fn assert_reply(rt: &impl Abort, alloc: Global, text: &str, reply: &str) -> Result<(), ReadsError>
@@ -19,7 +19,10 @@ fn assert_bad(rt: &impl Abort, alloc: Global, text: &str, line: u32)
     requires { length text.now ≤ 16777216 }
 {
     let given = reads_text(alloc, text.as_bytes());
-    assert!(rt; matches!(given, Err(ReadsError::BadLine { line: bad }) if bad == line), "{text}");
+    assert!(rt;
+        matches!(given, Err(ReadsError::BadLine { line: bad }) if bad == line),
+        "{text}"
+    );
 }
 
 // A read waits for the write before it, and its data for the write that the peer posted before the request landed.
