@@ -27,14 +27,14 @@ fn thread_count<R: Threads>(rt: &R) -> usize
 }
 
 // A round in which each worker has a thread of its own.
-fn round_beside<R: Threads + Sync, G: Gate>(rt: &R, gate: &G, works: &mut [LaneWork])
+fn round_in_threads<R: Threads + Sync, G: Gate>(rt: &R, gate: &G, works: &mut [LaneWork])
     ensures { KeepKeys works.old works.new }
 {
     thread::for_each_mut(
         rt,
         works,
         FEW_LANES,
-        &|_, work: &mut LaneWork| { work.pass_beside(rt, gate) },
+        &|_, work: &mut LaneWork| { work.pass_in_threads(rt, gate) },
     );
 }
 
@@ -62,7 +62,7 @@ fn round<R: Threads + Sync, G: Gate>(rt: &R, gate: &G, threads: usize, works: &m
     ensures { keys_of works.new ≡ keys_of works.old }
 {
     if works.len() <= FEW_LANES {
-        round_beside(rt, gate, works);
+        round_in_threads(rt, gate, works);
     } else {
         round_in_turn(rt, gate, threads, works);
     }
