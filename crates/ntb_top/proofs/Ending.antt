@@ -1,5 +1,5 @@
 -- What `run` comes to, with the record and the proofs that it answers, and what all other words come to.
-use Rattle.std.proofs.Common.{◌≡◌, ◌∙◌, ◌⊎◌, ℕ, Bool, true, false, Option, Some, None, Result, Ok, Err, List, length, nat_lt, inl, inr, refl, sym, subst, arith}
+use Rattle.std.proofs.Common.{◌≡◌, ◌∙◌, ℕ, Bool, true, false, Option, Some, Result, Ok, Err, List, length, nat_lt, inl, inr, refl, sym, subst, arith}
 use Rattle.std.specs.Prelude.{MatchBool}
 use Rattle.step_kinds.specs.Limits.{most_script_bytes}
 use Rattle.step_kinds.specs.declared.plan.Plan.{Plan}
@@ -12,14 +12,14 @@ use Rattle.script_text.specs.Script.{script_of}
 use Rattle.script_words.specs.declared.fault.ScriptFault.{ScriptFault}
 use Rattle.ntb_top.proofs.Replying.{run_answered, run_nothing, sink_of, source_of}
 use Rattle.ntb_top.specs.Answers.{IsAnswerTo, IsRunAnswerTo}
-use Rattle.ntb_top.specs.Commands.{IsPlain, is_reading}
+use Rattle.ntb_top.specs.Commands.{is_reading}
 use Rattle.ntb_top.specs.Ends.{HasEnded, IsTrueRun}
 use Rattle.ntb_top.specs.Inputs.{Given, HasRead, HasReplied, HasWritten}
 use Rattle.ntb_top.specs.Runs.{HasAnswered, Outside}
 use Rattle.ntb_top.specs.declared.command.Command.{Command}
 use Rattle.ntb_top.specs.declared.command.Command.TheVariants.{Run}
 use Rattle.ntb_top.specs.declared.input.Stop.{Stop}
-use Rattle.ntb_top.specs.declared.input.Stop.TheVariants.{OutOfMemory, SourceFailed}
+use Rattle.ntb_top.specs.declared.input.Stop.TheVariants.{SourceFailed}
 
 -- what was read stays so, whatever comes of it afterwards
 read_on : {T U : Type 0} (before after : Given) (bytes : List ℕ) (value : T) (reply : U) → HasRead true before after bytes (Ok value) → HasRead true before after bytes (Ok reply)
@@ -92,12 +92,6 @@ run_ended before after run status carried replied written told alone =
           ];
       alone = λ other. alone (λ zero. other refl zero);
     }
-
--- on all other words
-pub plain_ended : (command : Option Command) (before after : Outside) (status : ℕ) (carried : Carried) → IsPlain command →
-    HasAnswered (is_reading command) (IsAnswerTo command) before after status → carried ≡ nothing_carried → HasEnded command before after status carried
-plain_ended command before after status carried plain run none =
-    record { run = run; headline = λ is. absurd (plain is); alone = λ _. none }
 
 -- there was no memory before anything was done
 pub nothing_ended : (command : Option Command) (outside : Outside) (status : ℕ) (carried : Carried) → status ≡ 6 → carried ≡ nothing_carried → HasEnded command outside outside status carried
