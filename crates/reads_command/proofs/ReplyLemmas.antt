@@ -1,5 +1,5 @@
 -- The lines of a text, one after another.
-use Rattle.std.proofs.Common.{◌≡◌, ℕ, ◌+◌, ◌-◌, ◌==◌, ◌≤◌, ◌<◌, Bool, true, false, Option, Some, None, IfSome, Result, Ok, Err, List, [], ◌∷◌, ◌++◌, length, map, refl, sym, ap, subst, ◌∙◌, append_assoc, append-nil, Bor, arith}
+use Rattle.std.proofs.Common.{◌≡◌, ℕ, ◌+◌, ◌==◌, ◌≤◌, ◌<◌, Bool, true, false, Option, Some, None, IfSome, Result, Ok, Err, List, [], ◌∷◌, ◌++◌, length, map, refl, sym, ap, ◌∙◌, append_assoc, append-nil, Bor, arith}
 use Rattle.std.proofs.lemmas.Bool.{false≢true}
 use Rattle.std.specs.List.{slice_split}
 use Rattle.std.specs.Option.{option_map_or}
@@ -7,7 +7,7 @@ use Rattle.script_words.specs.Words.{lines_of, without_return}
 use Rattle.script_words.specs.Reads.{result_map}
 use Rattle.script_words.specs.declared.fault.Cause.{Cause}
 use Rattle.read_model.specs.Lines.{LineStep, before_more, go_on, line_gives, read_lines, steps_of}
-use Rattle.read_model.specs.Path.{PathState, fresh_path}
+use Rattle.read_model.specs.Path.{fresh_path}
 use Rattle.read_model.specs.PathLog.{answer_to, after_step}
 use Rattle.read_model.specs.Report.{made_line, made_lines, report_of, end_line}
 use Rattle.read_model.specs.declared.PathStep.{PathStep}
