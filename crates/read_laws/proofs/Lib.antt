@@ -4,3 +4,5 @@ pub mod SidesHold
 pub mod Landings
 pub mod StepsHold
 pub mod ReadsPush
+pub mod ReadNumbers
+pub mod NumbersInLogs

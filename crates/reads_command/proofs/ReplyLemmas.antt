@@ -1,15 +1,13 @@
 -- The lines of a text, one after another.
-use Rattle.std.proofs.Common.{◌≡◌, ℕ, ◌+◌, ◌-◌, ◌==◌, ◌≤◌, ◌<◌, Bool, true, false, Option, Some, None, IfSome, Result, Ok, Err, List, [], ◌∷◌, ◌++◌, length, map, refl, sym, ap, subst, ◌∙◌, append_assoc, append-nil, Bor, arith}
-use Rattle.std.proofs.lemmas.Bool.{false≢true}
+use Rattle.std.proofs.Common.{◌≡◌, ℕ, ◌+◌, ◌==◌, ◌≤◌, ◌<◌, Option, Some, None, IfSome, Result, Ok, Err, List, [], ◌∷◌, ◌++◌, length, map, refl, sym, ap, ◌∙◌, append_assoc, Bor, arith}
 use Rattle.std.specs.List.{slice_split}
 use Rattle.std.specs.Option.{option_map_or}
 use Rattle.script_words.specs.Words.{lines_of, without_return}
 use Rattle.script_words.specs.Reads.{result_map}
 use Rattle.script_words.specs.declared.fault.Cause.{Cause}
-use Rattle.read_model.specs.Lines.{LineStep, before_more, go_on, line_gives, read_lines, steps_of}
-use Rattle.read_model.specs.Path.{PathState, fresh_path}
+use Rattle.read_model.specs.Lines.{LineStep, before_more, go_on, line_gives, read_lines}
 use Rattle.read_model.specs.PathLog.{answer_to, after_step}
-use Rattle.read_model.specs.Report.{made_line, made_lines, report_of, end_line}
+use Rattle.read_model.specs.Report.{made_line, made_lines}
 use Rattle.read_model.specs.declared.PathStep.{PathStep}
 use Rattle.reads_command.specs.Replies.{ReplyState, with_line}
 
@@ -36,11 +34,6 @@ line_added reply n line lines given gives =
     by_given None more is = refl
     by_given (Some step) more is = with_step step (read_lines (n + 1) (reply.steps + 1) lines)
 
--- a bad line
-pub line_bad : (reply : ReplyState) (n : ℕ) (line : List ℕ) (lines : List (List ℕ)) (cause : Cause) → line_gives n reply.steps line ≡ Err cause → lines_left reply n (line ∷ lines) ≡ Err n
-line_bad reply n line lines cause gives =
-    ap (λ (r : Result (Option PathStep) Cause). result_map (λ steps. reply.text ++ made_lines reply.path steps) (go_on n r (read_lines (n + 1) reply.steps lines) (read_lines (n + 1) (reply.steps + 1) lines))) gives
-
 -- The text that is left, line by line
 
 abbrev pub text_left : Option (Bor (List ℕ)) → List (List ℕ)
@@ -63,35 +56,7 @@ line_turn reply new n text line full rest given split cut gives is =
     ap (lines_left reply n) (first_line text line full rest split cut)
     ∙ (line_added reply n line (text_left rest) given gives ∙ ap (λ (r : ReplyState). lines_left r (n + 1) (text_left rest)) (sym is))
 
-pub bad_turn : (reply : ReplyState) (n : ℕ) (text line full : List ℕ) (rest : Option (Bor (List ℕ))) (cause : Cause)
-    → slice_split (λ b. b == 10) text ≡ full ∷ option_map_or (λ rest. slice_split (λ b. b == 10) rest.now) rest [] → line ≡ without_return full
-    → line_gives n reply.steps line ≡ Err cause → lines_left reply n (lines_of text) ≡ Err n
-bad_turn reply n text line full rest cause split cut gives =
-    ap (lines_left reply n) (first_line text line full rest split cut) ∙ line_bad reply n line (text_left rest) cause gives
-
 -- one line more, with what is left of it, is no more than the bytes
 pub count_turn : (rest : Option (Bor (List ℕ))) (text : List ℕ) (n most : ℕ) → IfSome rest (λ more. length more.now < length text) → n + (length text + 1) ≤ most → n + 1 + option_map_or (λ text. length text.now + 1) rest 0 ≤ most
 count_turn None text n most shorter few = omega (arith, few)
 count_turn (Some more) text n most shorter few = omega (arith, few, shorter)
-
--- with all lines read, the reply is what is due
-abbrev ok_or_none : Result (List ℕ) ℕ → List ℕ
-ok_or_none (Ok text) = text
-ok_or_none (Err bad) = []
-
-abbrev is_reply : Result (List ℕ) ℕ → Bool
-is_reply (Ok text) = true
-is_reply (Err bad) = false
-
-pub all_read : (bytes text : List ℕ) → result_map (made_lines fresh_path) (steps_of bytes) ≡ Ok (text ++ []) → result_map report_of (steps_of bytes) ≡ Ok (text ++ end_line)
-all_read bytes text is = by_steps (steps_of bytes) is where
-  by_steps : (steps : Result (List LineStep) ℕ) → result_map (made_lines fresh_path) steps ≡ Ok (text ++ []) → result_map report_of steps ≡ Ok (text ++ end_line)
-  by_steps (Ok steps) is = ap (λ (l : List ℕ). Ok (l ++ end_line)) (ap ok_or_none is ∙ append-nil text)
-  by_steps (Err bad) is = absurd (false≢true (ap is_reply is))
-
--- with a bad line, the number of that line is
-pub none_read : (bytes : List ℕ) (n : ℕ) → result_map (made_lines fresh_path) (steps_of bytes) ≡ Err n → result_map report_of (steps_of bytes) ≡ Err n
-none_read bytes n is = by_steps (steps_of bytes) is where
-  by_steps : (steps : Result (List LineStep) ℕ) → result_map (made_lines fresh_path) steps ≡ Err n → result_map report_of steps ≡ Err n
-  by_steps (Ok steps) is = absurd (false≢true (sym (ap is_reply is)))
-  by_steps (Err bad) is = is

@@ -1,5 +1,4 @@
-use Rattle.std.proofs.Common.{◌≡◌, ◌+◌, ◌≤◌, length, ap, ◌∙◌}
-use Rattle.read_model.specs.Lines.{steps_of}
+use Rattle.std.proofs.Common.{◌+◌, ◌≤◌, length, ap, ◌∙◌}
 use Rattle.reads_command.specs.Replies.{reply_seen}
 use Rattle.reads_command.proofs.ReplyLemmas.{lines_left, text_left, line_turn, count_turn}
 use Rattle.reads_command.proofs.reply.reads_text.Goals as goal

@@ -1,4 +1,4 @@
-use Rattle.std.proofs.Common.{◌≡◌, ◌+◌, ◌≤◌, [], length}
+use Rattle.std.proofs.Common.{◌≡◌, ◌+◌, ◌≤◌, length}
 use Rattle.std.specs.Option.{option_map_or}
 use Rattle.script_words.specs.Reads.{result_map}
 use Rattle.read_model.specs.Lines.{steps_of}
