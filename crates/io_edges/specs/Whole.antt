@@ -32,3 +32,9 @@ abbrev pub HoldsPart : Option (List ℕ) → Option (List ℕ) → List ℕ → 
 HoldsPart None held piece = held ≡ None
 HoldsPart (Some content) held piece =
     (count : ℕ) × (count < length piece) × (held ≡ Some (content ++ take count piece))
+
+-- A part from the front of the piece, and not all of it, stands behind what was held, and each write but the last one
+-- took a byte of it.
+abbrev pub HoldsPartAtWrites : Option (List ℕ) → Option (List ℕ) → List ℕ → ℕ → ℕ → Type 0
+HoldsPartAtWrites before held piece writes writes' =
+    (count : ℕ) × (count < length piece) × (writes' ≤ writes + count + 1) × HoldsAll before held (take count piece)

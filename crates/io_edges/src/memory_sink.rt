@@ -1,5 +1,5 @@
 //! A sink in memory with a fixed room, which takes small pieces and fails where it is told to.
-ghost use Rattle.std.specs.Prelude.{◌≡◌, ◌<◌, ◌≤◌, [], length, IfOk, Some};
+ghost use Rattle.std.specs.Prelude.{◌≡◌, ◌+◌, ◌<◌, ◌≤◌, [], length, IfOk, Some};
 ghost use Rattle.io_edges.specs.Causes.{HasCause};
 ghost use Rattle.io_edges.specs.Streams.{Writes};
 ghost use Rattle.io_edges.specs.MemorySink.{WritesExactly};
@@ -78,12 +78,15 @@ impl Sink for MemorySink {
 
     ghost faults = { λ sink. sink.plan.faults };
 
+    ghost writes = { λ sink. sink.plan.calls };
+
     /// Takes no memory: the room was reserved by `new`.
     fn write(&mut self, bytes: &[u8]) -> Result<usize, Failed>
         ensures bound { IfOk result (λ count. count ≤ length bytes.now) }
         ensures some { IfOk result (λ count. 0 < length bytes.now → 0 < count) }
         ensures bytes { Writes (Some self.old.held) (Some self.new.held) result bytes.now }
         ensures cause { HasCause self.old.plan.faults self.new.plan.faults result }
+        ensures writes { self.new.plan.calls ≤ self.old.plan.calls + 1 }
         ensures exact { WritesExactly self.old self.new bytes.now result }
     {
         let count = bytes

@@ -26,7 +26,8 @@ pub trait Source {
     ///
     /// # Errors
     ///
-    /// `Failed` where the source failed, which raises its count. Nothing of what is left is lost then.
+    /// `Failed` where the source failed, which raises its count of faults; else that stays. Nothing of what is left is
+    /// lost then.
     fn read(&mut self, out: &mut [u8]) -> Result<usize, Failed>
         ensures bound { IfOk result (λ count. count ≤ length out.new) }
         ensures bytes { Reads (left self.old) (left self.new) result out.new }
@@ -42,14 +43,19 @@ pub trait Sink {
     /// How often the sink has failed, up to the last value of a `u64`.
     ghost faults: { Self → ℕ };
 
+    /// How often it was written to, where it counts that; else always 0.
+    ghost writes: { Self → ℕ } = { λ _. 0 };
+
     /// Takes some bytes from the front of the piece and returns their number: at least one of a piece that isn't empty.
     ///
     /// # Errors
     ///
-    /// `Failed` where the sink failed, which raises its count. It took nothing of the piece then.
+    /// `Failed` where the sink failed, which raises its count of faults; else that stays. It took nothing of the piece
+    /// then.
     fn write(&mut self, bytes: &[u8]) -> Result<usize, Failed>
         ensures bound { IfOk result (λ count. count ≤ length bytes.now) }
         ensures some { IfOk result (λ count. 0 < length bytes.now → 0 < count) }
         ensures bytes { Writes (held self.old) (held self.new) result bytes.now }
-        ensures cause { HasCause (faults self.old) (faults self.new) result };
+        ensures cause { HasCause (faults self.old) (faults self.new) result }
+        ensures writes { writes self.new ≤ writes self.old + 1 };
 }

@@ -2,7 +2,7 @@
 ghost use Rattle.std.specs.Prelude.{◌≡◌, ◌+◌, ◌-◌, ◌^◌, ◌<◌, ◌≤◌, [], length, drop, vec_len, IfOk, OnOk, OnErr, IfSome, IsErrOf};
 ghost use Rattle.io_edges.specs.Causes.{Rose};
 ghost use Rattle.io_edges.specs.declared.whole.ReadError.TheVariants.{ReadFault, OutOfMemory};
-ghost use Rattle.io_edges.specs.Whole.{HasGivenAtMost, HasGivenAtReads, AddsPiece, HoldsAll, HoldsPart};
+ghost use Rattle.io_edges.specs.Whole.{HasGivenAtMost, HasGivenAtReads, AddsPiece, HoldsAll, HoldsPart, HoldsPartAtWrites};
 
 use crate::{Failed, Sink, Source};
 use std::alloc::{AllocError, Global};
@@ -64,7 +64,8 @@ const PIECE: usize = 65_536;
 ///
 /// [`ReadError::TooLong`] exactly where more than `limit` bytes were taken, which are then `limit + 1`.
 /// [`ReadError::ReadFault`] only where a read failed, and [`ReadError::OutOfMemory`] from want of memory alone: at most
-/// `limit` bytes from the front of the source are taken then.
+/// `limit` bytes from the front of the source are taken then. In every case but `ReadFault` the source's count of faults
+/// stays.
 pub fn read_all<S: Source>(
     alloc: Global,
     source: &mut S,
@@ -83,6 +84,7 @@ pub fn read_all<S: Source>(
 
     ensures fault { IsErrOf result ReadError.ReadFault → Rose (S.faults source.old) (S.faults source.new) }
     ensures later { S.faults source.old ≤ S.faults source.new }
+    ensures calm { (IsErrOf result ReadError.ReadFault → ⊥) → S.faults source.new ≡ S.faults source.old }
 
     // In every outcome.
     ensures rest { HasGivenAtMost (limit + 1) (S.left source.old) (S.left source.new) }
@@ -126,6 +128,7 @@ fn read_piece<S: Source>(
     ensures fault { IsErrOf result ReadError.ReadFault → Rose (S.faults source.old) (S.faults source.new) }
     ensures not_long { IsErrOf result ReadError.TooLong → ⊥ }
     ensures later { S.faults source.old ≤ S.faults source.new }
+    ensures calm { (IsErrOf result ReadError.ReadFault → ⊥) → S.faults source.new ≡ S.faults source.old }
     ensures reads { S.reads source.new ≤ S.reads source.old + 1 }
 {
     bytes.reserve(buffer.len())?;
@@ -134,7 +137,10 @@ fn read_piece<S: Source>(
     Ok(count)
 }
 
-/// Writes all the bytes to a sink. It takes no memory.
+/// Writes all the bytes to a sink. It takes no memory. Each write is of bytes that are left, and after a failed one no
+/// other is made: each write but a failed last one took a byte.
+///
+/// After `Ok` the sink's count of faults is as it was.
 ///
 /// # Errors
 ///
@@ -144,6 +150,10 @@ pub fn write_all<K: Sink>(sink: &mut K, bytes: &[u8]) -> Result<(), WriteFault>
     ensures part { OnErr result (HoldsPart (K.held sink.old) (K.held sink.new) bytes.now) }
     ensures fault { OnErr result (Rose (K.faults sink.old) (K.faults sink.new)) }
     ensures later { K.faults sink.old ≤ K.faults sink.new }
+    ensures calm { OnOk result (K.faults sink.new ≡ K.faults sink.old) }
+
+    ensures writes { OnOk result (K.writes sink.new ≤ K.writes sink.old + length bytes.now) }
+    ensures last_write { OnErr result (HoldsPartAtWrites (K.held sink.old) (K.held sink.new) bytes.now (K.writes sink.old) (K.writes sink.new)) }
 {
     let mut rest = bytes;
     while !rest.is_empty() {

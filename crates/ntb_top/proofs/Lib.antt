@@ -1,9 +1,2 @@
-pub mod Blocked
-pub mod Counting
 pub mod Digits
-pub mod PermittedSteps
-pub mod RefusedSteps
-pub mod Replaying
 pub mod Replying
-pub mod Reports
-pub mod Texts

@@ -1,5 +1,5 @@
 -- The words of a command line, and the command that they are.
-use Rattle.std.specs.Prelude.{ℕ, ◌^◌, ◌&&◌, Bool, true, false, Option, Some, None, List, [], ◌∷◌, codes, nat_le, nat_lt, if◌then◌else◌}
+use Rattle.std.specs.Prelude.{ℕ, ◌^◌, ◌≤◌, ◌&&◌, Bool, true, false, Option, Some, None, List, [], ◌∷◌, codes, nat_le, nat_lt, if◌then◌else◌}
 use Rattle.std.specs.List.{list_all}
 use Rattle.std.specs.Str.{bytes_eq}
 use Rattle.script_words.specs.Words.{is_digit, is_plain, value_from}
@@ -22,10 +22,20 @@ command_of (word ∷ []) = if bytes_eq word (codes "replay") then Some Replay el
 command_of (word ∷ seed ∷ frames ∷ []) = if bytes_eq word (codes "load") then load_command (number_below (2 ^ 64) seed) (number_below (2 ^ 32) frames) else None
 command_of words = None
 
--- whether the words are a command that reads a script
-abbrev pub command_reads : Option Command → Bool
-command_reads (Some Replay) = true
-command_reads command = false
+-- the numbers of a command are in their ranges, where it has any
+abbrev pub IsInRange : Command → Type 0
+IsInRange (Load seed frames) = (1 ≤ frames) × (frames ≤ most_load_frames)
+IsInRange command = Unit {0}
+
+-- whether a command reads a script
+abbrev pub command_reads : Command → Bool
+command_reads Replay = true
+command_reads (Load seed frames) = false
+
+-- whether words are a command that reads a script
+abbrev pub is_reading : Option Command → Bool
+is_reading None = false
+is_reading (Some command) = command_reads command
 
 abbrev pub reads_script : List (List ℕ) → Bool
-reads_script words = command_reads (command_of words)
+reads_script words = is_reading (command_of words)

@@ -1,7 +1,6 @@
+pub mod Answers
+pub mod Arguments
 pub mod Commands
-pub mod Headline
-pub mod Output
-pub mod ReplaySteps
-pub mod Replays
-pub mod Replies
+pub mod Inputs
+pub mod Laws
 pub mod Runs

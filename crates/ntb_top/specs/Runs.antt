@@ -1,12 +1,13 @@
 -- What a run of the program comes to: what it took from its source, what it wrote to its sink, and its exit status.
-use Rattle.std.specs.Prelude.{◌≡◌, ◌⊎◌, ℕ, ◌+◌, ◌≤◌, true, false, Option, Some, None, List, [], length}
+use Rattle.std.specs.Prelude.{◌≡◌, ◌⊎◌, ℕ, ◌+◌, ◌≤◌, Bool, true, false, Option, Some, None, List, [], length}
 use Rattle.io_edges.specs.Causes.{Rose}
 use Rattle.io_edges.specs.Whole.{HasGiven, HoldsAll, HoldsPart}
 use Rattle.step_kinds.specs.Limits.{most_script_bytes}
-use Rattle.step_kinds.specs.declared.plan.Plan.{Plan}
-use Rattle.ntb_top.specs.Commands.{reads_script}
-use Rattle.ntb_top.specs.Headline.{IsTrueLog}
-use Rattle.ntb_top.specs.Output.{Output, output_of, plan_run}
+use Rattle.command_reply.specs.Output.{Output}
+use Rattle.command_reply.specs.Statuses.{number_of}
+use Rattle.command_reply.specs.declared.status.Status.TheVariants.{Done, OutOfMemory, SinkFailed, SourceFailed}
+use Rattle.ntb_top.specs.Answers.{IsAnswerTo}
+use Rattle.ntb_top.specs.Commands.{command_of, reads_script}
 
 -- the source and the sink at one moment: what is left and what is held, where they tell it, and how often each has failed
 pub record Outside : Type 0 where
@@ -22,31 +23,36 @@ pub record IsSilent (before after : Outside) : Type 0 where
 
 -- The four ends of a run
 
--- the output: its status, and its text written whole
-pub record EndsWhole (before after : Outside) (output : Output) (status : ℕ) : Type 0 where
+-- an answer: its status, and its text written whole
+pub record EndsWhole (IsAnswer : Output → Type 0) (before after : Outside) (status : ℕ) : Type 0 where
+  pub output : Output
+  pub answers : IsAnswer output
   pub status_is : status ≡ output.status
   pub text : HoldsAll before.held after.held output.text
 
 -- a failed read, of a command that reads
-pub record EndsUnread (words : List (List ℕ)) (before after : Outside) (status : ℕ) : Type 0 where
-  pub status_is : status ≡ 4
-  pub reads : reads_script words ≡ true
+pub record EndsUnread (reading : Bool) (before after : Outside) (status : ℕ) : Type 0 where
+  pub status_is : status ≡ number_of SourceFailed
+  pub reads : reading ≡ true
   pub cause : Rose before.read_faults after.read_faults
   pub silent : IsSilent before after
 
--- a failed write: a part from the front of the output's text, and not all of it, was written
-pub record EndsCut (before after : Outside) (output : Output) (status : ℕ) : Type 0 where
-  pub status_is : status ≡ 5
+-- a failed write: a part from the front of an answer's text, and not all of it, was written
+pub record EndsCut (IsAnswer : Output → Type 0) (before after : Outside) (status : ℕ) : Type 0 where
+  pub output : Output
+  pub answers : IsAnswer output
+  pub status_is : status ≡ number_of SinkFailed
   pub cause : Rose before.write_faults after.write_faults
   pub text : HoldsPart before.held after.held output.text
 
 -- want of memory
 pub record EndsWanting (before after : Outside) (status : ℕ) : Type 0 where
-  pub status_is : status ≡ 6
+  pub status_is : status ≡ number_of OutOfMemory
   pub silent : IsSilent before after
 
-abbrev pub Ends : List (List ℕ) → Outside → Outside → Output → ℕ → Type 0
-Ends words before after output status = EndsWhole before after output status ⊎ (EndsUnread words before after status ⊎ (EndsCut before after output status ⊎ EndsWanting before after status))
+abbrev pub Ends : Bool → (Output → Type 0) → Outside → Outside → ℕ → Type 0
+Ends reading IsAnswer before after status =
+    EndsWhole IsAnswer before after status ⊎ (EndsUnread reading before after status ⊎ (EndsCut IsAnswer before after status ⊎ EndsWanting before after status))
 
 -- a source that tells its bytes has none left
 abbrev pub IsAtEnd : Option (List ℕ) → Type 0
@@ -55,19 +61,27 @@ IsAtEnd (Some left) = left ≡ []
 
 -- the run neither failed to read nor wanted memory
 abbrev pub HasReply : ℕ → Type 0
-HasReply status = (status ≡ 4 → ⊥) × (status ≡ 6 → ⊥)
+HasReply status = (status ≡ number_of SourceFailed → ⊥) × (status ≡ number_of OutOfMemory → ⊥)
 
--- The whole contract of a run, with the bytes that were read.
-pub record HasRun (words : List (List ℕ)) (before after : Outside) (status : ℕ) : Type 0 where
+-- The whole contract of a run, with the bytes that were read, where `IsAnswer` says which outputs answer them.
+pub record HasAnswered (reading : Bool) (IsAnswer : List ℕ → Output → Type 0) (before after : Outside) (status : ℕ) : Type 0 where
   pub bytes : List ℕ
   -- they are what was taken from the source, never more than one byte past the limit
   pub taken : HasGiven before.left after.left bytes
   pub few : length bytes ≤ most_script_bytes + 1
   -- a command that reads no script takes nothing
-  pub unread : reads_script words ≡ false → (bytes ≡ []) × (after.read_faults ≡ before.read_faults)
+  pub unread : reading ≡ false → (bytes ≡ []) × (after.read_faults ≡ before.read_faults)
   -- one that does reads the source to its end, unless it is too long
-  pub whole : reads_script words ≡ true → HasReply status → length bytes ≤ most_script_bytes → IsAtEnd after.left
-  -- it ends with the output for the words and these bytes, or fails outside, or wants memory
-  pub ends : Ends words before after (output_of words bytes) status
-  -- status 0 means that a plan was replayed, and that its log, whose report was written, is true
-  pub headline : status ≡ 0 → (plan : Plan) × (plan_run words bytes ≡ Some plan) × IsTrueLog plan
+  pub whole : reading ≡ true → HasReply status → length bytes ≤ most_script_bytes → IsAtEnd after.left
+  -- it ends with an answer to these bytes, or fails outside, or wants memory
+  pub ends : Ends reading (IsAnswer bytes) before after status
+  -- no fault is swallowed: the source's count rose only with status 4, and the sink's only with 5
+  pub source_kept : (status ≡ number_of SourceFailed → ⊥) → after.read_faults ≡ before.read_faults
+  pub sink_kept : (status ≡ number_of SinkFailed → ⊥) → after.write_faults ≡ before.write_faults
+  -- with status 0 an answer of that status was written whole, and what is true of such an answer is true: of `replay` and `load`
+  -- that the log of the plan that was replayed is in order, and refuses where it should (`IsTrueLog`)
+  pub headline : status ≡ number_of Done → EndsWhole (IsAnswer bytes) before after status
+
+-- the run of these words
+abbrev pub HasRun : List (List ℕ) → Outside → Outside → ℕ → Type 0
+HasRun words before after status = HasAnswered (reads_script words) (IsAnswerTo (command_of words)) before after status

@@ -1,10 +1,10 @@
 //! The words of a command line.
 
-ghost use Rattle.std.specs.Prelude.{◌≡◌, ◌&&◌, ◌^◌, Some, None, if◌then◌else◌, map, nat_lt};
+ghost use Rattle.std.specs.Prelude.{◌≡◌, ◌&&◌, ◌^◌, Some, None, IfSome, if◌then◌else◌, map, nat_lt};
 ghost use Rattle.std.specs.List.{list_all};
 ghost use Rattle.std.specs.String.{string_bytes};
 ghost use Rattle.script_words.specs.Words.{is_digit, value_from};
-ghost use Rattle.ntb_top.specs.Commands.{command_of as command_by_words, load_command, number_below};
+ghost use Rattle.ntb_top.specs.Commands.{IsInRange, command_of as command_by_words, command_reads, load_command, number_below};
 
 use script_words::words::read_number;
 
@@ -25,9 +25,22 @@ pub enum Command {
     },
 }
 
+impl Command {
+    /// Whether the command reads a script.
+    pub fn reads(self) -> bool
+        ensures { result ≡ command_reads self }
+    {
+        match self {
+            Command::Replay => true,
+            Command::Load { .. } => false,
+        }
+    }
+}
+
 /// The command that the words of a command line are: `replay`, or `load SEED FRAMES`.
 pub fn command_of(words: &[String]) -> Option<Command>
-    ensures { result ≡ command_by_words (map string_bytes words.now) }
+    ensures words { result ≡ command_by_words (map string_bytes words.now) }
+    ensures range { IfSome result IsInRange }
 {
     match words {
         [word] if word.as_bytes() == b"replay".as_slice() => Some(Command::Replay),
@@ -40,7 +53,8 @@ pub fn command_of(words: &[String]) -> Option<Command>
 
 // The load that a seed and a number of frames say.
 fn load_of(seed: &[u8], frames: &[u8]) -> Option<Command>
-    ensures { result ≡ load_command (number_below (2 ^ 64) seed.now) (number_below (2 ^ 32) frames.now) }
+    ensures words { result ≡ load_command (number_below (2 ^ 64) seed.now) (number_below (2 ^ 32) frames.now) }
+    ensures range { IfSome result IsInRange }
 {
     let seed = seed_of(seed)?;
     let frames = read_number(frames).ok()?;

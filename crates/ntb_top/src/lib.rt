@@ -2,10 +2,11 @@
 //! answers the exit status.
 #![tactic(auto)]
 
+mod arguments;
 mod command;
-mod load;
+mod input;
+pub mod laws;
 mod program;
-mod replay;
-mod steps;
 
+pub use arguments::run_arguments;
 pub use program::run_program;

@@ -1,61 +1,34 @@
 //! The top call.
 
-ghost use Rattle.std.specs.Prelude.{◌≡◌, ◌≤◌, IfOk, Some, length, map};
+ghost use Rattle.std.specs.Prelude.{◌≤◌, IfOk, length, map};
 ghost use Rattle.std.specs.String.{string_bytes};
 ghost use Rattle.step_kinds.specs.Limits.{most_script_bytes};
-ghost use Rattle.script_text.specs.Script.{script_of};
-ghost use Rattle.traffic_plan.specs.Load.{most_load_frames};
-ghost use Rattle.ntb_top.specs.Output.{refused, replayed};
-ghost use Rattle.ntb_top.specs.Replays.{load_text as text_of_load};
-ghost use Rattle.ntb_top.specs.Replies.{HasRead, HasReplied, TellsOrWants};
+ghost use Rattle.ntb_top.specs.Answers.{IsAnswerTo, IsReplyOf};
+ghost use Rattle.ntb_top.specs.Commands.{IsInRange, command_of as command_by_words, reads_script};
+ghost use Rattle.ntb_top.specs.Inputs.{HasReplied, HasWritten};
 ghost use Rattle.ntb_top.specs.Runs.{HasRun};
 
 use crate::command::{Command, command_of};
-use crate::load::load_text;
-use crate::replay::replay_text;
-use io_edges::{ReadError, Sink, Source, read_all, write_all};
-use script_text::{ParseError, ScriptFault, read_script};
+use crate::input::{Input, Stop, read_input};
+use command_reply::{Reply, Status};
+use io_edges::{Sink, Source, WriteFault, write_all};
+use replay_command::{load_reply, replay_reply};
 use std::alloc::{AllocError, Global};
-use step_kinds::limits::MOST_SCRIPT_BYTES;
-
-/// What a run came to, where nothing outside failed: an exit status and the text that is written.
-#[derive(Drop)]
-struct Reply {
-    status: u8,
-    text: Vec<u8>,
-}
-
-/// Why a run has no reply.
-#[derive(Clone, Copy, Debug, PartialEq, Eq)]
-enum Stop {
-    /// The source failed.
-    ReadFault,
-    /// Want of memory.
-    OutOfMemory,
-}
-
-impl From<AllocError> for Stop {
-    ghost use Rattle.ntb_top.specs.declared.program.Stop.TheVariants.{OutOfMemory};
-
-    ghost from_gives = { λ _ stop. stop ≡ OutOfMemory };
-
-    fn from(_: AllocError) -> Stop {
-        Stop::OutOfMemory
-    }
-}
 
 /// Does all that the program does: reads its input from the source where the words are a command that reads a script, writes
 /// one text to the sink, and answers the exit status.
 ///
 /// | status | cause | text |
 /// |---|---|---|
-/// | 0 | none of the others | the report, or the summary of a load |
+/// | 0 | none of the others | `replay`: the report; `load`: the summary of a load |
 /// | 2 | the words are no command | `usage` |
 /// | 3 | a line of the script has a fault | `refused line L CAUSE` |
 /// | 4 | the source failed | nothing |
 /// | 5 | the sink failed | a part from the front of the text |
 /// | 6 | want of memory | nothing |
 /// | 7 | the input has more than 16,777,216 bytes | `too long` |
+///
+/// The order is words, reading, parsing, work, writing: the text is whole before its first byte is written.
 pub fn run_program<S: Source, K: Sink>(
     alloc: Global,
     words: &[String],
@@ -68,88 +41,48 @@ pub fn run_program<S: Source, K: Sink>(
         result }
 {
     match reply_to(alloc, words, source) {
-        Ok(reply) => match write_all(sink, &reply.text) {
-            Ok(()) => reply.status,
-            Err(_) => 5,
-        },
-        Err(Stop::ReadFault) => 4,
-        Err(Stop::OutOfMemory) => 6,
+        Ok(reply) => write_reply(sink, &reply),
+        Err(Stop::SourceFailed) => Status::SourceFailed.number(),
+        Err(Stop::OutOfMemory) => Status::OutOfMemory.number(),
     }
 }
 
 // The reply to these words over this source.
 fn reply_to<S: Source>(alloc: Global, words: &[String], source: &mut S) -> Result<Reply, Stop>
-    ensures { HasReplied (map string_bytes words.now) (record { left = S.left source.old; faults = S.faults source.old })
+    ensures { HasReplied (reads_script (map string_bytes words.now)) (IsAnswerTo (command_by_words (map string_bytes words.now)))
+        (record { left = S.left source.old; faults = S.faults source.old })
         (record { left = S.left source.new; faults = S.faults source.new }) result }
 {
     match command_of(words) {
-        None => fixed_reply(alloc, 2, "usage\n"),
-        Some(Command::Replay) => reply_to_source(alloc, source),
-        Some(Command::Load { seed, frames }) => reply_to_load(alloc, seed, frames),
+        None => Ok(Reply::usage()),
+        Some(command) => match read_input(alloc, command.reads(), source)? {
+            Input::Whole(bytes) => Ok(reply_of(alloc, command, &bytes)?),
+            Input::TooLong => Ok(Reply::too_long()),
+        },
     }
 }
 
-// The reply to a generated load.
-fn reply_to_load(alloc: Global, seed: u64, frames: u32) -> Result<Reply, Stop>
-    requires some { 1 ≤ frames }
-    requires few { frames ≤ most_load_frames }
-    ensures { TellsOrWants (record { status = 0; text = text_of_load seed frames }) result }
+// The reply of a command to the bytes that it read. The only error is want of memory.
+fn reply_of(alloc: Global, command: Command, bytes: &[u8]) -> Result<Reply, AllocError>
+    requires range { IsInRange command }
+    requires few { length bytes.now ≤ most_script_bytes }
+    ensures { IfOk result (λ reply. IsReplyOf command bytes.now reply) }
 {
-    Ok(Reply {
-        status: 0,
-        text: load_text(alloc, seed, frames)?,
-    })
-}
-
-// The reply to the script that a source has.
-fn reply_to_source<S: Source>(alloc: Global, source: &mut S) -> Result<Reply, Stop>
-    ensures { HasRead (record { left = S.left source.old; faults = S.faults source.old })
-        (record { left = S.left source.new; faults = S.faults source.new }) result }
-{
-    match read_all(alloc, source, MOST_SCRIPT_BYTES) {
-        Ok(bytes) => reply_to_script(alloc, &bytes),
-        Err(ReadError::TooLong) => fixed_reply(alloc, 7, "too long\n"),
-        Err(ReadError::ReadFault) => Err(Stop::ReadFault),
-        Err(ReadError::OutOfMemory) => Err(Stop::OutOfMemory),
+    match command {
+        Command::Replay => replay_reply(alloc, bytes),
+        Command::Load { seed, frames } => load_reply(alloc, seed, frames),
     }
 }
 
-// The reply to a script.
-fn reply_to_script(alloc: Global, bytes: &[u8]) -> Result<Reply, Stop>
-    requires { length bytes.now ≤ most_script_bytes }
-    ensures { TellsOrWants (replayed (script_of bytes.now)) result }
+// Writes a reply, and answers its status, or that the sink failed.
+fn write_reply<K: Sink>(sink: &mut K, reply: &Reply) -> u8
+    ensures { HasWritten (record { held = K.held sink.old; faults = K.faults sink.old })
+        (record { held = K.held sink.new; faults = K.faults sink.new }) reply.now result }
 {
-    match read_script(alloc, bytes) {
-        Ok(script) => Ok(Reply {
-            status: 0,
-            text: replay_text(alloc, &script)?,
-        }),
-        Err(ParseError::Fault(fault)) => refusal(alloc, fault),
-        Err(ParseError::OutOfMemory) => Err(Stop::OutOfMemory),
+    match write_all(sink, reply.text()) {
+        Ok(()) => reply.status(),
+        Err(WriteFault) => Status::SinkFailed.number(),
     }
-}
-
-// The reply to a script with a fault.
-fn refusal(alloc: Global, fault: ScriptFault) -> Result<Reply, Stop>
-    ensures { TellsOrWants (refused fault) result }
-{
-    let line = fault.line;
-    let word = fault.cause.word();
-    let text = format!(in alloc; "refused line {line} {word}\n")?;
-    Ok(Reply {
-        status: 3,
-        text: text.into_bytes(),
-    })
-}
-
-// A reply of this status and text.
-fn fixed_reply(alloc: Global, status: u8, text: &str) -> Result<Reply, Stop>
-    ensures { TellsOrWants (record { status = status; text = text.now }) result }
-{
-    Ok(Reply {
-        status,
-        text: String::from_str(alloc, text)?.into_bytes(),
-    })
 }
 
 #[cfg(test)]

@@ -77,6 +77,18 @@ fn no_such_command(rt: HostRuntime) -> Result<(), Fail> {
     Ok(())
 }
 
+// The landings that the order rules blocked are the generator's business.
+#[test]
+fn load_of_one_frame(rt: HostRuntime) -> Result<(), Fail> {
+    let (status, sink) = answer_to(rt.alloc(), &["load", "1", "1"], Vec::new(rt.alloc()))?;
+    assert_eq!(rt; status, 0);
+    assert!(rt;
+        sink.held()
+            .starts_with(b"load 1 1 accepted 1 delivered 1 blocked ")
+    );
+    Ok(())
+}
+
 #[test]
 fn more_frames_than_a_load_has(rt: HostRuntime) -> Result<(), Fail> {
     let (status, sink) = answer_to(rt.alloc(), &["load", "1", "30001"], Vec::new(rt.alloc()))?;

@@ -8,7 +8,7 @@ invariant-loop-buffer g l = record {
   short : vec_len l.bytes ≤ l.limit + 1;
   room : vec_len l.buffer ≡ min 65536 (l.limit + 1);
   reads : g.S.Source.reads l.source ≤ g.S.Source.reads l.initial.source + vec_len l.bytes;
-  later : g.S.Source.faults l.initial.source ≤ g.S.Source.faults l.source;
+  calm : g.S.Source.faults l.source ≡ g.S.Source.faults l.initial.source;
 }
 
 abbrev pub decreases-loop-buffer : goal.decreases-loop-buffer

@@ -1,0 +1,8 @@
+-- The bytes of a reply's text, whether they are kept in place or were put together.
+use Rattle.std.specs.Prelude.{ℕ, List}
+use Rattle.command_reply.specs.declared.reply.ReplyText.{ReplyText}
+use Rattle.command_reply.specs.declared.reply.ReplyText.TheVariants.{Built, Line}
+
+abbrev pub bytes_of : ReplyText → List ℕ
+bytes_of (Line line) = line.bytes
+bytes_of (Built bytes) = bytes.items

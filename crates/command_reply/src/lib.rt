@@ -1,0 +1,11 @@
+//! What a command of the program answers: an exit status and a text.
+#![tactic(auto)]
+
+mod reply;
+mod status;
+
+pub use reply::Reply;
+pub use status::Status;
+
+#[cfg(test)]
+mod tests;

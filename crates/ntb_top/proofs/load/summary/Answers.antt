@@ -1,6 +1,0 @@
-use Rattle.std.proofs.Common.{◌∙◌, ℕ, ap, Global, Vec}
-use Rattle.ntb_top.proofs.Texts.{summary_is}
-use Rattle.ntb_top.proofs.load.summary.Goals as goal
-
-pub returns : goal.returns
-returns c = ap (λ (bytes : Vec ℕ Global). bytes.items) c.into_bytes.ensures.value ∙ c.in_ok-text.ensures.ok ∙ summary_is c.args.seed c.args.frames c.args.accepted c.args.delivered c.args.blocked

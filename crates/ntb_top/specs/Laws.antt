@@ -1,0 +1,23 @@
+-- What status 0 means of each command that replays a plan.
+use Rattle.std.specs.Prelude.{◌≡◌, ℕ, Some, Ok, List}
+use Rattle.io_edges.specs.Whole.{HoldsAll}
+use Rattle.step_kinds.specs.declared.plan.Plan.{Plan}
+use Rattle.script_text.specs.Script.{script_of}
+use Rattle.traffic_plan.specs.Load.{load_of}
+use Rattle.replay_command.specs.Headline.{IsTrueLog}
+use Rattle.replay_command.specs.Replays.{load_text, replay_text}
+use Rattle.ntb_top.specs.Commands.{command_of}
+use Rattle.ntb_top.specs.Runs.{HasRun, Outside}
+use Rattle.ntb_top.specs.declared.command.Command.TheVariants.{Load, Replay}
+
+-- `replay`: the bytes that were read declare a plan, its report was written whole, and its log is true
+abbrev pub ReplaysAreTrue : Type 0
+ReplaysAreTrue =
+    (words : List (List ℕ)) (before after : Outside) → command_of words ≡ Some Replay → (run : HasRun words before after 0) →
+    (plan : Plan) × (script_of run.bytes ≡ Ok plan) × HoldsAll before.held after.held (replay_text plan) × IsTrueLog plan
+
+-- `load`: the summary was written whole, and the log of the generated plan is true
+abbrev pub LoadsAreTrue : Type 0
+LoadsAreTrue =
+    (words : List (List ℕ)) (before after : Outside) (seed frames : ℕ) → command_of words ≡ Some (Load seed frames) → HasRun words before after 0 →
+    HoldsAll before.held after.held (load_text seed frames) × IsTrueLog (load_of seed frames)

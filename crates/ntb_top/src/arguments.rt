@@ -1,0 +1,56 @@
+//! The arguments of a process.
+
+ghost use Rattle.std.specs.Prelude.{◌≡◌, IfOk, IsErr, drop, map};
+ghost use Rattle.std.specs.String.{string_bytes};
+ghost use Rattle.std.specs.Vec.Iter.{into_iter_items};
+ghost use Rattle.command_reply.specs.Statuses.{number_of};
+ghost use Rattle.command_reply.specs.declared.status.Status.TheVariants.{OutOfMemory};
+ghost use Rattle.ntb_top.specs.Arguments.{AreWanting, words_of};
+ghost use Rattle.ntb_top.specs.Runs.{HasRun};
+
+use crate::run_program;
+use command_reply::Status;
+use io_edges::{Sink, Source};
+use std::alloc::{AllocError, Global};
+use std::env::Args;
+use std::io;
+
+/// Does all that the program does as a process: [`run_program`] on its arguments but the first, which is its name, and
+/// answers the exit status. Arguments that aren't all text are no command, as no words are. Where there is no memory for
+/// the arguments it answers 6, and neither reads nor writes.
+pub fn run_arguments<S: Source, K: Sink>(
+    alloc: Global,
+    arguments: io::Result<Args>,
+    source: &mut S,
+    sink: &mut K,
+) -> u8
+    ensures run { HasRun (words_of arguments)
+        (record { left = S.left source.old; read_faults = S.faults source.old; held = K.held sink.old; write_faults = K.faults sink.old })
+        (record { left = S.left source.new; read_faults = S.faults source.new; held = K.held sink.new; write_faults = K.faults sink.new })
+        result }
+    ensures wanting { AreWanting arguments → result ≡ number_of OutOfMemory }
+{
+    match words_after_name(alloc, arguments) {
+        Ok(words) => run_program(alloc, &words, source, sink),
+        Err(AllocError) => Status::OutOfMemory.number(),
+    }
+}
+
+// The words of a process's arguments. The only error is want of memory.
+fn words_after_name(alloc: Global, arguments: io::Result<Args>) -> Result<Vec<String>, AllocError>
+    ensures words { IfOk result (λ words. map string_bytes words.items ≡ words_of arguments) }
+    ensures wanting { AreWanting arguments → IsErr result }
+{
+    match arguments {
+        Ok(arguments) => all_but_first(alloc, arguments),
+        Err(error) if error.kind() == io::ErrorKind::OutOfMemory => Err(AllocError),
+        Err(_) => Ok(Vec::new(alloc)),
+    }
+}
+
+// All arguments but the first.
+fn all_but_first(alloc: Global, arguments: Args) -> Result<Vec<String>, AllocError>
+    ensures { IfOk result (λ words. words.items ≡ drop 1 (into_iter_items arguments)) }
+{
+    arguments.skip(1).collect(alloc)
+}

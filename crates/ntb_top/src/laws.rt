@@ -1,0 +1,15 @@
+//! What a run of each command means.
+
+ghost use Rattle.std.specs.Prelude.{◌≡◌, ℕ, Some, Ok, List};
+ghost use Rattle.ntb_top.specs.Laws.{LoadsAreTrue, ReplaysAreTrue};
+
+/// Where `replay` ends with status 0, the bytes that were read declare a plan, and the log of that plan is true. No
+/// premise.
+pub fn replays_are_true()
+    ensures { ReplaysAreTrue }
+{}
+
+/// Where `load` ends with status 0, the log of the plan that it generates is true. No premise.
+pub fn loads_are_true()
+    ensures { LoadsAreTrue }
+{}

@@ -1,0 +1,137 @@
+-- Steps made one after another: the fabric that made them, their answers, and what is kept of these.
+use Rattle.std.proofs.Common.{◌≡◌, ◌∙◌, ℕ, suc, ◌+◌, ◌<◌, List, [], ◌∷◌, ◌++◌, length, get_or, take, replicate, refl, sym, ap, subst, arith, append_assoc, append-nil}
+use Rattle.std.specs.List.{All, flat_map, fold}
+use Rattle.std.proofs.lemmas.List.{length-append, length-map, map-append, replicate-append-replicate, take_more}
+use Rattle.std.proofs.lemmas.List.Concat.{flat_map-append, get_or-flat_map}
+use Rattle.std.proofs.lemmas.List.Folds.{length-flat_map-take}
+use Rattle.std.proofs.lemmas.List.Sums.{fold-append}
+use Rattle.step_kinds.specs.declared.plan.Line.{Line}
+use Rattle.step_kinds.specs.declared.plan.LineAnswer.{LineAnswer}
+use Rattle.step_kinds.specs.declared.plan.Plan.{Plan}
+use Rattle.step_kinds.specs.declared.steps.Answer.{Answer}
+use Rattle.step_kinds.specs.declared.steps.Step.{Step}
+use Rattle.ledger_model.specs.Log.{Answered, Memories, answered, log_from}
+use Rattle.ledger_model.specs.Next.{Ledger, ledger_after, start}
+use Rattle.memory_model.specs.Memory.{memory_of}
+use Rattle.fabric_core.specs.Fabric.{FabricState, StandsFor, bare_plan, plan_kept}
+use Rattle.fabric_core.specs.LogClauses.{HasMade, IsAnswered, log_after}
+use Rattle.plan_model.specs.DeclaredPlans.{IsDeclared}
+use Rattle.script_plan.specs.StepLists.{all_lines, lines_in}
+use Rattle.script_plan.specs.declared.step_list.Stretch.{Stretch}
+use Rattle.replay_command.specs.ReplaySteps.{HasKept, HasReplayed, steps_in}
+use Rattle.replay_command.specs.Replays.{line_answers}
+
+abbrev pub step_in : Line → Step
+step_in line = line.step
+
+-- A log has an answer for each step
+
+length-log_from : (plan : Plan) (memories : Memories) (before : List Answered) (ledger : Ledger) (steps : List Step) → length (log_from plan memories before ledger steps) ≡ length steps
+length-log_from plan memories before ledger [] = refl
+length-log_from plan memories before ledger (step ∷ steps) =
+    ap suc
+    (length-log_from plan memories (before ++ answered plan (memories before) ledger step ∷ []) (ledger_after plan (memories before) ledger step) steps)
+
+length-log_after : (plan : Plan) (lines : List Line) → length (log_after plan (steps_in lines)) ≡ length lines
+length-log_after plan lines = length-log_from plan (memory_of plan) [] (start plan) (steps_in lines) ∙ length-map lines step_in
+
+-- so lines behind others have as many answers as they are
+pub length-answers : (plan : Plan) (before lines : List Line) (answers : List Answered) →
+    log_after plan (steps_in (before ++ lines)) ≡ log_after plan (steps_in before) ++ answers → length answers ≡ length lines
+length-answers plan before lines answers log =
+    let all = length-log_after plan (before ++ lines) in
+    let first = length-log_after plan before in
+    let both : length (log_after plan (steps_in (before ++ lines))) ≡ length (log_after plan (steps_in before)) + length answers =
+    ap length log ∙ length-append (log_after plan (steps_in before)) answers in
+    let stretches = length-append before lines in
+    omega arith
+
+line_answers-append : (xs ys : List Line) (one two : List Answered) → length one ≡ length xs → line_answers (xs ++ ys) (one ++ two) ≡ line_answers xs one ++ line_answers ys two
+line_answers-append [] ys [] two same = refl
+line_answers-append [] ys (made ∷ one) two same = absurd (omega arith)
+line_answers-append (x ∷ xs) ys [] two same = absurd (omega arith)
+line_answers-append (x ∷ xs) ys (made ∷ one) two same =
+    ap (λ (rest : List LineAnswer). record { line = x.line; answer = made.answer } ∷ rest) (line_answers-append xs ys one two (omega arith))
+
+-- a list of the same item is folded item by item
+pub fold_more : {K X : Type 0} (with_item : K → X → K) (old : K) (count : ℕ) (x : X) → fold with_item old (replicate (count + 1) x) ≡ with_item (fold with_item old (replicate count x)) x
+fold_more with_item old count x =
+    ap (fold with_item old) (sym (replicate-append-replicate count 1 x)) ∙ fold-append with_item old (replicate count x) (replicate 1 x)
+
+-- What is kept, of no lines, of one, and of lines behind lines
+
+module _ {K : Type 0} (with_answer : K → LineAnswer → K) (plan : Plan) (before : List Line) where
+  pub kept_none : (fabric : FabricState) (old : K) → HasReplayed plan before fabric → HasKept with_answer plan before [] fabric old old
+  kept_none fabric old replayed = record {
+    replayed = subst (λ (lines : List Line). HasReplayed plan lines fabric) (sym (append-nil before)) replayed;
+    answers = [];
+    log = ap (λ (lines : List Line). log_after plan (steps_in lines)) (append-nil before) ∙ sym (append-nil (log_after plan (steps_in before)));
+    kept = refl;
+  }
+
+  pub kept_one : (line : ℕ) (step : Step) (answer : Answer) (was fabric : FabricState) (old new : K) → HasReplayed plan before was →
+      HasMade plan (steps_in before ++ step ∷ []) fabric → plan_kept fabric ≡ plan_kept was → IsAnswered plan (steps_in before) step answer →
+      new ≡ with_answer old (record { line = line; answer = answer }) → HasKept with_answer plan before (record { line = line; step = step } ∷ []) fabric old new
+  kept_one line step answer was fabric old new replayed made same answered kept =
+      let last : Line = record { line = line; step = step } in
+      let more : steps_in (before ++ last ∷ []) ≡ steps_in before ++ step ∷ [] = map-append step_in before (last ∷ []) in
+      record {
+        replayed = record {
+          made = subst (λ (steps : List Step). HasMade plan steps fabric) (sym more) made;
+          kept = same ∙ replayed.kept;
+        };
+        answers = record { step = step; answer = answer } ∷ [];
+        log = ap (log_after plan) more ∙ answered;
+        kept = kept;
+      }
+
+  pub kept_both : (xs ys : List Line) (one two : FabricState) (old mid new : K) → HasKept with_answer plan before xs one old mid →
+      HasKept with_answer plan (before ++ xs) ys two mid new → HasKept with_answer plan before (xs ++ ys) two old new
+  kept_both xs ys one two old mid new first second =
+      let log : List Line → List Answered = λ lines. log_after plan (steps_in lines) in
+      let own : List LineAnswer → K → K = λ answers kept. fold with_answer kept answers in
+      let same = length-answers plan before xs first.answers first.log in
+      record {
+        replayed = subst (λ (lines : List Line). HasReplayed plan lines two) (append_assoc before xs ys) second.replayed;
+        answers = first.answers ++ second.answers;
+        log =
+            ap log (sym (append_assoc before xs ys)) ∙ second.log ∙ ap (λ (answers : List Answered). answers ++ second.answers) first.log
+            ∙ append_assoc (log before) first.answers second.answers;
+        kept =
+            second.kept ∙ ap (own (line_answers ys second.answers)) first.kept
+            ∙ sym (fold-append with_answer old (line_answers xs first.answers) (line_answers ys second.answers))
+            ∙ ap (λ (answers : List LineAnswer). fold with_answer old answers) (sym (line_answers-append xs ys first.answers second.answers same));
+      }
+
+-- A fresh fabric has made nothing, of any plan with its pairs and devices
+
+bare_stands : (plan : Plan) (fabric : FabricState) → StandsFor plan [] fabric → StandsFor (bare_plan plan) [] fabric
+bare_stands plan fabric stands = record { devs = stands.devs; all_pairs = stands.all_pairs; pairs = stands.pairs }
+
+stands_by_bare : (plan : Plan) (fabric : FabricState) → StandsFor (bare_plan plan) [] fabric → StandsFor plan [] fabric
+stands_by_bare plan fabric stands = record { devs = stands.devs; all_pairs = stands.all_pairs; pairs = stands.pairs }
+
+pub replayed_none : (plan declared : Plan) (fabric : FabricState) → IsDeclared plan → bare_plan declared ≡ bare_plan plan → StandsFor declared [] fabric →
+    plan_kept fabric ≡ bare_plan declared → HasReplayed plan [] fabric
+replayed_none plan declared fabric is same stands kept =
+    let bare : StandsFor (bare_plan plan) [] fabric = subst (λ (bare : Plan). StandsFor bare [] fabric) same (bare_stands declared fabric stands) in
+    record {
+      made = record { declared = is; permitted = tt; stands = stands_by_bare plan fabric bare };
+      kept = kept ∙ same;
+    }
+
+-- the steps of one stretch more
+pub stretches_more : (stretches : List Stretch) (i : ℕ) (stretch : Stretch) → i < length stretches → stretch ≡ get_or stretches i stretch →
+    all_lines (take (i + 1) stretches) ≡ all_lines (take i stretches) ++ lines_in stretch
+stretches_more stretches i stretch lt is =
+    ap all_lines (take_more stretches i stretch lt) ∙ flat_map-append lines_in (take i stretches) (get_or stretches i stretch ∷ [])
+    ∙ ap (λ (last : Stretch). all_lines (take i stretches) ++ (lines_in last ++ [])) (sym is)
+    ∙ ap (λ (last : List Line). all_lines (take i stretches) ++ last) (append-nil (lines_in stretch))
+
+-- what holds of all items of lists one after another holds of those of one list
+pub all_of_one : {X Y : Type 0} (P : Y → Type 0) (f : X → List Y) (xs : List X) (i : ℕ) (x : X) → i < length xs → x ≡ get_or xs i x → All P (flat_map f xs) → All P (f x)
+all_of_one P f xs i x lt is all = λ j d inside.
+    let within : j < length (f (get_or xs i x)) = subst (λ y. j < length (f y)) is inside in
+    let few = length-flat_map-take f xs i x lt in
+    let own : P (get_or (flat_map f xs) (length (flat_map f (take i xs)) + j) d) = all (length (flat_map f (take i xs)) + j) d (omega arith) in
+    subst (λ y. P (get_or (f y) j d)) (sym is) (subst P (get_or-flat_map f xs i j x d lt within) own)

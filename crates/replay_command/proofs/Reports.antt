@@ -1,0 +1,77 @@
+-- The report of a plan, made of what its functions give.
+use Rattle.std.proofs.Common.{◌≡◌, ◌∙◌, ℕ, ◌<◌, List, [], ◌∷◌, ◌++◌, append-nil, append_assoc, Result, Ok, Err, IfOk, length, sym, ap, subst, arith, Global, Vec}
+use Rattle.std.specs.List.{All, flat_map, fold}
+use Rattle.std.proofs.lemmas.List.{length-map}
+use Rattle.step_kinds.specs.declared.plan.Counters.{Counters}
+use Rattle.step_kinds.specs.declared.plan.Plan.{Plan}
+use Rattle.step_kinds.specs.declared.names.Side.{Side}
+use Rattle.step_kinds.specs.declared.names.Side.TheVariants.{A, B}
+use Rattle.plan_model.specs.DeclaredPlans.{IsQueueOf}
+use Rattle.traffic_plan.specs.Load.{load_of}
+use Rattle.fabric_core.specs.Fabric.{bare_plan}
+use Rattle.ledger_model.specs.Log.{Answered, accepted, counters_in, delivered}
+use Rattle.fabric_core.specs.LogClauses.{lane_of_device}
+use Rattle.step_kinds.specs.declared.plan.LineAnswer.{LineAnswer}
+use Rattle.report_text.specs.Report.{answer_line, device_lines, end_line, ending}
+use Rattle.report_text.specs.declared.whole.LaneCount.{LaneCount}
+use Rattle.replay_command.specs.ReplaySteps.{filled}
+use Rattle.replay_command.specs.Replays.{answers_text, device_counts, lane_counts, load_lane, load_text, log_of_plan, replay_text, summary_text}
+use Rattle.replay_command.proofs.Counting.{all_known, lines_of_filled}
+use Rattle.replay_command.proofs.Blocked.{blocked_in}
+
+report_same : (plan : Plan) (lanes : List LaneCount) (devs : List Counters) → lanes ≡ filled (lane_counts plan (log_of_plan plan)) → devs ≡ device_counts plan (log_of_plan plan) →
+    ending plan lanes devs ≡ ending plan (lane_counts plan (log_of_plan plan)) (device_counts plan (log_of_plan plan))
+report_same plan lanes devs same_lanes same_devs =
+    let log : List Answered = log_of_plan plan in
+    let counts : List LaneCount = lane_counts plan log in
+    ap (λ (given : List LaneCount). ending plan given devs) same_lanes
+    ∙ ap (λ (given : List Counters). ending plan (filled counts) given) same_devs
+    ∙ ap (λ (lines : List ℕ). lines ++ device_lines plan.devs (device_counts plan log) ++ end_line) (lines_of_filled plan.pairs counts)
+
+-- the text of the report is the definition's
+pub replay_text_is : (plan : Plan) (lanes : List LaneCount) (devs : List Counters) (answers text : List ℕ) → answers ≡ answers_text plan.steps (log_of_plan plan) →
+    lanes ≡ filled (lane_counts plan (log_of_plan plan)) → devs ≡ device_counts plan (log_of_plan plan) → text ≡ answers ++ ending plan lanes devs → text ≡ replay_text plan
+replay_text_is plan lanes devs answers text same_answers same_lanes same_devs h =
+    h
+    ∙ ap (λ (lines : List ℕ). lines ++ ending plan lanes devs) same_answers
+    ∙ ap (λ (lines : List ℕ). answers_text plan.steps (log_of_plan plan) ++ lines) (report_same plan lanes devs same_lanes same_devs)
+
+-- the text of the answers, kept one after another, is that of all
+pub answers_kept : (answers : List LineAnswer) (text : List ℕ) → fold (λ text made. text ++ answer_line made) text answers ≡ text ++ flat_map answer_line answers
+answers_kept [] text = sym (append-nil text)
+answers_kept (made ∷ answers) text = answers_kept answers (text ++ answer_line made) ∙ append_assoc text (answer_line made) (flat_map answer_line answers)
+
+-- what the report asks of the counts
+
+pub lanes_known : (plan : Plan) (lanes : List LaneCount) → lanes ≡ filled (lane_counts plan (log_of_plan plan)) → All (λ count. count.name.pair < length plan.pairs) lanes
+lanes_known plan lanes same = subst (λ (counts : List LaneCount). All (λ count. count.name.pair < length plan.pairs) counts) (sym same) (all_known plan (log_of_plan plan))
+
+pub devices_known : (plan : Plan) (devs : List Counters) → devs ≡ device_counts plan (log_of_plan plan) → length devs ≡ length plan.devs
+devices_known plan devs same = ap length same ∙ length-map plan.devs (λ dev. counters_in plan (log_of_plan plan) (lane_of_device dev))
+
+-- The summary of a load
+
+-- both sides of a load's pair have its one queue
+one_queue : (seed frames : ℕ) (side : Side) → IsQueueOf (bare_plan (load_of seed frames)) 0 side 0
+one_queue seed frames A = record { declared = omega arith; among = omega arith }
+one_queue seed frames B = record { declared = omega arith; among = omega arith }
+
+pub load_lane_known : (plan kept : Plan) (seed frames : ℕ) (side : Side) → kept ≡ bare_plan plan → plan ≡ load_of seed frames → IsQueueOf kept 0 side 0
+load_lane_known plan kept seed frames side same is =
+    let of_load : (side : Side) → IsQueueOf (bare_plan (load_of seed frames)) 0 side 0 = one_queue seed frames in
+    let both : kept ≡ bare_plan (load_of seed frames) = same ∙ ap bare_plan is in
+    subst (λ (given : Plan). IsQueueOf given 0 side 0) (sym both) (of_load side)
+
+pub summary_same : {E : Type 0} (seed frames : ℕ) (plan : Plan) (taken given blocked : ℕ) (result : Result (Vec ℕ Global) E) → plan ≡ load_of seed frames →
+    taken ≡ length (accepted plan (log_of_plan plan) load_lane 1) → given ≡ length (delivered plan (log_of_plan plan) load_lane 1) →
+    blocked ≡ blocked_in (log_of_plan plan) → IfOk result (λ text. text.items ≡ summary_text seed frames taken given blocked) →
+    IfOk result (λ text. text.items ≡ load_text seed frames)
+summary_same seed frames plan taken given blocked (Err error) is all_taken all_given all_blocked h = tt
+summary_same seed frames plan taken given blocked (Ok text) is all_taken all_given all_blocked h =
+    let line : Plan → List ℕ = λ made.
+    summary_text seed frames (length (accepted made (log_of_plan made) load_lane 1)) (length (delivered made (log_of_plan made) load_lane 1)) (blocked_in (log_of_plan made)) in
+    h
+    ∙ ap (λ (n : ℕ). summary_text seed frames n given blocked) all_taken
+    ∙ ap (λ (n : ℕ). summary_text seed frames (length (accepted plan (log_of_plan plan) load_lane 1)) n blocked) all_given
+    ∙ ap (λ (n : ℕ). summary_text seed frames (length (accepted plan (log_of_plan plan) load_lane 1)) (length (delivered plan (log_of_plan plan) load_lane 1)) n) all_blocked
+    ∙ ap line is

@@ -1,0 +1,11 @@
+use Rattle.std.proofs.Common.{◌≡◌, []}
+use Rattle.std.specs.List.{flat_map, range_with_len}
+use Rattle.traffic_plan.specs.Load.{frames_given, lines_of_frame, load_of}
+use Rattle.replay_command.specs.ReplaySteps.{HasKept, with_blocked}
+use Rattle.replay_command.proofs.load.count_blocked.Given as goal
+
+abbrev pub invariant-loop : goal.invariant-loop
+invariant-loop l = record {
+  load : l.load ≡ frames_given l.seed l.counter;
+  kept : HasKept with_blocked (load_of l.seed l.frames) [] (flat_map (lines_of_frame l.seed) (range_with_len 0 l.counter)) l.fabric 0 l.blocked;
+}

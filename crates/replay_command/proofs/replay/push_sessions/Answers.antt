@@ -1,0 +1,20 @@
+use Rattle.std.proofs.Common.{◌+◌, [], ◌∷◌, ◌++◌, List, map, ap, sym, ◌∙◌}
+use Rattle.std.specs.List.{range_with_len}
+use Rattle.ledger_model.specs.Log.{Answered}
+use Rattle.fabric_core.specs.LogClauses.{log_after}
+use Rattle.report_text.specs.declared.whole.LaneCount.{LaneCount}
+use Rattle.replay_command.specs.ReplaySteps.{filled}
+use Rattle.replay_command.specs.Replays.{lane_count}
+use Rattle.replay_command.proofs.Counting.{adds_both, sessions_more}
+use Rattle.replay_command.proofs.replay.push_sessions.Goals as goal
+
+pub loop-before-preserved : goal.loop-before-preserved
+loop-before-preserved c =
+    λ plan steps made.
+    let log : List Answered = log_after plan steps in
+    let lane = c.args.lane in
+    let before = c.loop-before.before in
+    adds_both c.args.counts.now.items c.loop-before.counts.items c.push_session.new.counts.items
+    (map (lane_count plan log lane) (range_with_len 1 before)) (lane_count plan log lane (before + 1) ∷ [])
+    (c.loop-before.invariant plan steps made) (c.in_ok-push_session.ensures plan steps made)
+    ∙ ap (λ (counts : List LaneCount). c.args.counts.now.items ++ filled counts) (sym (sessions_more plan log lane before))

@@ -1,0 +1,63 @@
+-- What the steps of a replay say of a fabric, and of the counts that they gather from it.
+use Rattle.std.specs.Prelude.{◌≡◌, ℕ, ◌+◌, ◌-◌, ◌^◌, ◌≤◌, ◌==◌, Bool, not, ◌&&◌, List, ◌++◌, if◌then◌else◌, map, min}
+use Rattle.std.specs.List.{filter, fold, range_with_len}
+use Rattle.step_kinds.specs.Sides.{other_side}
+use Rattle.step_kinds.specs.declared.names.LaneName.{LaneName}
+use Rattle.step_kinds.specs.declared.names.Side.{Side}
+use Rattle.step_kinds.specs.declared.plan.Line.{Line}
+use Rattle.step_kinds.specs.declared.plan.LineAnswer.{LineAnswer}
+use Rattle.step_kinds.specs.declared.plan.Plan.{Plan}
+use Rattle.step_kinds.specs.declared.steps.Step.{Step}
+use Rattle.plan_model.specs.DeclaredPlans.{IsPairOf, IsQueueOf}
+use Rattle.plan_model.specs.Plans.{pair_plan}
+use Rattle.ledger_model.specs.Log.{Answered}
+use Rattle.fabric_core.specs.Fabric.{FabricState, bare_plan, plan_kept}
+use Rattle.fabric_core.specs.LogClauses.{HasMade, log_after}
+use Rattle.report_text.specs.declared.whole.LaneCount.{LaneCount}
+use Rattle.replay_command.specs.Replays.{is_blocked, line_answers}
+
+-- the steps of lines
+abbrev pub steps_in : List Line → List Step
+steps_in lines = map (λ line. line.step) lines
+
+-- the fabric has made the steps of these lines of a plan, and keeps the plan's pairs and devices
+pub record HasReplayed (plan : Plan) (lines : List Line) (fabric : FabricState) : Type 0 where
+  pub made : HasMade plan (steps_in lines) fabric
+  pub kept : plan_kept fabric ≡ bare_plan plan
+
+-- The fabric has made these lines behind those before, and what is kept of their answers was added in turn to what was there.
+pub record HasKept {K : Type 0} (with_answer : K → LineAnswer → K) (plan : Plan) (before lines : List Line) (fabric : FabricState) (old new : K) : Type 0 where
+  pub replayed : HasReplayed plan (before ++ lines) fabric
+  pub answers : List Answered
+  pub log : log_after plan (steps_in (before ++ lines)) ≡ log_after plan (steps_in before) ++ answers
+  pub kept : new ≡ fold with_answer old (line_answers lines answers)
+
+-- a lane of the plan: its queue is one of both sides'
+pub record IsLaneOf (plan : Plan) (lane : LaneName) : Type 0 where
+  pub sent : IsQueueOf plan lane.pair lane.from lane.queue
+  pub received : IsQueueOf plan lane.pair (other_side lane.from) lane.queue
+
+-- so many queues are of both sides of a pair
+pub record HasQueues (plan : Plan) (pair queues : ℕ) : Type 0 where
+  pub declared : IsPairOf plan pair
+  pub side_a : queues ≤ (pair_plan plan pair).a.queues
+  pub side_b : queues ≤ (pair_plan plan pair).b.queues
+
+-- whether a count is of a frame at least
+abbrev pub counts_some : LaneCount → Bool
+counts_some count = not ((count.accepted == 0) && (count.delivered == 0))
+
+abbrev pub filled : List LaneCount → List LaneCount
+filled counts = filter counts_some counts
+
+-- The counts that were added are those of these that count a frame, whatever log the fabric stands for.
+abbrev pub AddsCounts : FabricState → List LaneCount → List LaneCount → (Plan → List Answered → List LaneCount) → Type 0
+AddsCounts fabric old new counted = (plan : Plan) (steps : List Step) → HasMade plan steps fabric → new ≡ old ++ filled (counted plan (log_after plan steps))
+
+-- the lanes of a pair from a side, on so many queues
+abbrev pub lanes_from : ℕ → Side → ℕ → List LaneName
+lanes_from pair from queues = map (λ queue. record { pair = pair; from = from; queue = queue }) (range_with_len 0 queues)
+
+-- one answer more, counted where it is `blocked`, up to 2^64 - 1
+abbrev pub with_blocked : ℕ → LineAnswer → ℕ
+with_blocked count made = if is_blocked made.answer then min (count + 1) (2 ^ 64 - 1) else count

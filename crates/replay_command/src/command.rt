@@ -1,0 +1,35 @@
+//! The replies of `replay` and `load`.
+
+ghost use Rattle.std.specs.Prelude.{◌≤◌, IfOk, length};
+ghost use Rattle.step_kinds.specs.Limits.{most_script_bytes};
+ghost use Rattle.traffic_plan.specs.Load.{most_load_frames};
+ghost use Rattle.replay_command.specs.Answers.{IsLoadOf, IsReplayOf};
+
+use crate::load::load_text;
+use crate::replay::replay_text;
+use command_reply::Reply;
+use script_text::{ParseError, read_script};
+use std::alloc::{AllocError, Global};
+
+/// The reply of `replay` to a script of at most 16,777,216 bytes: the report of the plan that it declares, with status 0,
+/// or its first line with a fault, with status 3. The only error is want of memory.
+pub fn replay_reply(alloc: Global, bytes: &[u8]) -> Result<Reply, AllocError>
+    requires { length bytes.now ≤ most_script_bytes }
+    ensures { IfOk result (λ reply. IsReplayOf bytes.now reply) }
+{
+    match read_script(alloc, bytes) {
+        Ok(script) => Ok(Reply::done(replay_text(alloc, &script)?)),
+        Err(ParseError::Fault(fault)) => Ok(Reply::refused(fault)),
+        Err(ParseError::OutOfMemory) => Err(AllocError),
+    }
+}
+
+/// The reply of `load`: the summary of a generated load of 1 to 30,000 frames, with status 0. The only error is want of
+/// memory.
+pub fn load_reply(alloc: Global, seed: u64, frames: u32) -> Result<Reply, AllocError>
+    requires some { 1 ≤ frames }
+    requires few { frames ≤ most_load_frames }
+    ensures { IfOk result (λ reply. IsLoadOf seed frames reply) }
+{
+    Ok(Reply::done(load_text(alloc, seed, frames)?))
+}

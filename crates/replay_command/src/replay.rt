@@ -1,0 +1,166 @@
+//! The report of a script.
+
+ghost use Rattle.std.specs.Prelude.{◌≡◌, ◌∷◌, ◌++◌, [], IfOk, OnOk};
+ghost use Rattle.std.specs.List.{flat_map};
+ghost use Rattle.plan_model.specs.TrafficPlans.{IsWhole};
+ghost use Rattle.script_plan.specs.Scripts.{plan_in};
+ghost use Rattle.fabric_core.specs.Fabric.{plan_kept};
+ghost use Rattle.report_text.specs.Report.{answer_line};
+ghost use Rattle.replay_command.specs.ReplaySteps.{AddsCounts, HasQueues, HasReplayed, IsLaneOf, filled, lanes_from};
+ghost use Rattle.replay_command.specs.Replays.{
+  device_counts as counts_of_devices,
+  lane_count,
+  lane_counts as counts_of_lanes,
+  log_of_plan,
+  replay_text as text_of_plan,
+  sessions_of_lane,
+};
+
+use crate::steps::{KeepsAnswers, make_steps};
+use fabric_core::Fabric;
+use report_text::{LaneCount, push_answer_line, push_ending};
+use script_plan::Script;
+use std::alloc::{AllocError, Global};
+use std::marker::Model;
+use step_kinds::{Counters, LaneName, LineAnswer, Side};
+
+/// The lines of the answers so far, and room for one line that comes again and again. Contracts see the bytes of the lines.
+#[derive(Drop)]
+struct AnswerLines {
+    text: Vec<u8>,
+    line: Vec<u8>,
+}
+
+impl Model for AnswerLines {
+    ghost use Rattle.std.specs.Prelude.{ℕ, List};
+
+    ghost Value = { List ℕ };
+
+    ghost view = { λ lines. lines.text.items };
+}
+
+impl KeepsAnswers for AnswerLines {
+    ghost with_answer = { λ text made. text ++ answer_line made };
+
+    fn keep(&mut self, made: &LineAnswer) -> Result<(), AllocError> {
+        push_answer_line(&mut self.text, made)
+    }
+
+    fn keep_times(&mut self, made: &LineAnswer, count: u32) -> Result<(), AllocError> {
+        self.line.clear();
+        push_answer_line(&mut self.line, made)?;
+        for _ in 0..count {
+            self.text.extend_from_slice(&self.line)?;
+        }
+        Ok(())
+    }
+}
+
+/// The report of a script: the answers to its steps, what its lanes accepted and delivered in each session, and what its
+/// devices counted. The only error is want of memory.
+pub fn replay_text(alloc: Global, script: &Script) -> Result<Vec<u8>, AllocError>
+    requires { IsWhole (plan_in script.now) }
+    ensures { IfOk result (λ text. text.items ≡ text_of_plan (plan_in script.now)) }
+{
+    let mut fabric = Fabric::new(alloc, &script.declared)?;
+    let mut lines = AnswerLines {
+        text: Vec::new(alloc),
+        line: Vec::new(alloc),
+    };
+    make_steps(&script.steps, &mut fabric, &mut lines)?;
+    let lanes = lane_counts(alloc, script, &fabric)?;
+    let devs = device_counts(alloc, script, &fabric)?;
+    let mut text = lines.text;
+    push_ending(&mut text, &script.declared, &lanes, &devs)?;
+    Ok(text)
+}
+
+// What the lanes of all pairs accepted and delivered, in each session where either isn't 0.
+fn lane_counts(
+    alloc: Global,
+    script: &Script,
+    fabric: &Fabric,
+) -> Result<Vec<LaneCount>, AllocError>
+    requires whole { IsWhole (plan_in script.now) }
+    requires made { HasReplayed (plan_in script.now) script.now.steps fabric.now }
+    ensures { IfOk result (λ counts. counts.items ≡ filled (counts_of_lanes (plan_in script.now) (log_of_plan (plan_in script.now)))) }
+{
+    let mut counts = Vec::new(alloc);
+    for (pair, sides) in script.declared.pairs.as_slice().iter().enumerate() {
+        let queues = sides.a.queues.min(sides.b.queues);
+        push_lanes(&mut counts, fabric, pair as u32, Side::A, queues)?;
+        push_lanes(&mut counts, fabric, pair as u32, Side::B, queues)?;
+    }
+    Ok(counts)
+}
+
+// Adds the counts of the lanes of a pair from a side, on so many queues.
+fn push_lanes(
+    counts: &mut Vec<LaneCount>,
+    fabric: &Fabric,
+    pair: u32,
+    from: Side,
+    queues: u32,
+) -> Result<(), AllocError>
+    requires { HasQueues (plan_kept fabric.now) pair queues }
+    ensures { OnOk result (AddsCounts fabric.now counts.old.items counts.new.items (λ plan log. flat_map (sessions_of_lane plan log) (lanes_from pair from queues))) }
+{
+    for queue in 0..queues {
+        push_sessions(counts, fabric, LaneName { pair, from, queue })?;
+    }
+    Ok(())
+}
+
+// Adds the counts of a lane in each session.
+fn push_sessions(
+    counts: &mut Vec<LaneCount>,
+    fabric: &Fabric,
+    lane: LaneName,
+) -> Result<(), AllocError>
+    requires { IsLaneOf (plan_kept fabric.now) lane }
+    ensures { OnOk result (AddsCounts fabric.now counts.old.items counts.new.items (λ plan log. sessions_of_lane plan log lane)) }
+{
+    for before in 0..fabric.sessions(lane.pair) {
+        push_session(counts, fabric, lane, before + 1)?;
+    }
+    Ok(())
+}
+
+// Adds the counts of a lane in a session, where either isn't 0.
+fn push_session(
+    counts: &mut Vec<LaneCount>,
+    fabric: &Fabric,
+    lane: LaneName,
+    session: u32,
+) -> Result<(), AllocError>
+    requires { IsLaneOf (plan_kept fabric.now) lane }
+    ensures { OnOk result (AddsCounts fabric.now counts.old.items counts.new.items (λ plan log. lane_count plan log lane session ∷ [])) }
+{
+    let (accepted, delivered) = fabric.ledger(lane, session);
+    if accepted != 0 || delivered != 0 {
+        counts.push(LaneCount {
+            name: lane,
+            session,
+            accepted,
+            delivered,
+        })?;
+    }
+    Ok(())
+}
+
+// What the devices of a script counted.
+fn device_counts(
+    alloc: Global,
+    script: &Script,
+    fabric: &Fabric,
+) -> Result<Vec<Counters>, AllocError>
+    requires whole { IsWhole (plan_in script.now) }
+    requires made { HasReplayed (plan_in script.now) script.now.steps fabric.now }
+    ensures { IfOk result (λ counts. counts.items ≡ counts_of_devices (plan_in script.now) (log_of_plan (plan_in script.now))) }
+{
+    let mut counts = Vec::new(alloc);
+    for dev in 0..script.declared.devs.len() {
+        counts.push(fabric.counters(dev as u32))?;
+    }
+    Ok(counts)
+}

@@ -1,0 +1,168 @@
+//! Steps made on a fabric, one after another.
+
+ghost use Rattle.std.specs.Prelude.{◌≡◌, ◌∷◌, [], List, false, replicate, OnOk};
+ghost use Rattle.std.specs.List.{All, fold};
+ghost use Rattle.step_kinds.specs.declared.plan.Line.{Line};
+ghost use Rattle.step_kinds.specs.declared.plan.LineAnswer.{LineAnswer as LineAnswerValue};
+ghost use Rattle.step_kinds.specs.declared.plan.Plan.{Plan};
+ghost use Rattle.plan_model.specs.DeclaredPlans.{IsPermitted};
+ghost use Rattle.plan_model.specs.Macros.{receive};
+ghost use Rattle.script_words.specs.Compact.{lines_with, step_again};
+ghost use Rattle.script_plan.specs.StepLists.{lines_in};
+ghost use Rattle.fabric_core.specs.Fabric.{plan_kept};
+ghost use Rattle.fabric_core.specs.Refusals.{counts_refusals};
+ghost use Rattle.replay_command.specs.ReplaySteps.{HasKept, HasReplayed};
+
+use fabric_core::{Fabric, is_made, refused_again};
+use script_plan::{StepList, Stretch};
+use script_words::Repeated;
+use std::alloc::AllocError;
+use step_kinds::{LineAnswer, Side, Step};
+
+/// What is kept of the answers to steps.
+pub trait KeepsAnswers {
+    ghost with_answer: { Self → LineAnswerValue → Self };
+
+    /// Keeps one more answer. The only error is want of memory.
+    fn keep(&mut self, made: &LineAnswer) -> Result<(), AllocError>
+        ensures { OnOk result (self.new ≡ with_answer self.old made.now) };
+
+    /// Keeps the same answer so many times. The only error is want of memory.
+    fn keep_times(&mut self, made: &LineAnswer, count: u32) -> Result<(), AllocError>
+        ensures { OnOk result (self.new ≡ fold with_answer self.old (replicate count made.now)) };
+}
+
+/// Makes steps, which a script of the fabric's plan may make, and keeps what there is to keep of each answer. The only
+/// error is want of memory.
+pub fn make_steps<K: KeepsAnswers>(
+    steps: &StepList,
+    fabric: &mut Fabric,
+    kept: &mut K,
+) -> Result<(), AllocError>
+    requires { All (λ line. IsPermitted (plan_kept fabric.old) line.step) steps.now }
+    ensures plan { OnOk result (plan_kept fabric.new ≡ plan_kept fabric.old) }
+    ensures kept { (plan : Plan) (before : List Line) → HasReplayed plan before fabric.old → OnOk result (HasKept K.with_answer plan before steps.now fabric.new kept.old kept.new) }
+{
+    for stretch in steps.stretches() {
+        make_stretch(stretch, fabric, kept)?;
+    }
+    Ok(())
+}
+
+// Makes the steps of one stretch.
+fn make_stretch<K: KeepsAnswers>(
+    stretch: &Stretch,
+    fabric: &mut Fabric,
+    kept: &mut K,
+) -> Result<(), AllocError>
+    requires { All (λ line. IsPermitted (plan_kept fabric.old) line.step) (lines_in stretch.now) }
+    ensures plan { OnOk result (plan_kept fabric.new ≡ plan_kept fabric.old) }
+    ensures kept { (plan : Plan) (before : List Line) → HasReplayed plan before fabric.old → OnOk result (HasKept K.with_answer plan before (lines_in stretch.now) fabric.new kept.old kept.new) }
+{
+    match stretch {
+        Stretch::One { line, step } => make_step(*line, step, fabric, kept),
+        Stretch::Again {
+            line,
+            repeated,
+            count,
+        } => make_repeated(*line, *repeated, *count, fabric, kept),
+        Stretch::Received {
+            line,
+            pair,
+            side,
+            queue,
+            copies,
+        } => make_received(*line, *pair, *side, *queue, *copies, fabric, kept),
+    }
+}
+
+// Makes a step of few numbers of a line so many times. Posts and landings, which are the most, are made by code of their own.
+fn make_repeated<K: KeepsAnswers>(
+    line: u32,
+    repeated: Repeated,
+    count: u32,
+    fabric: &mut Fabric,
+    kept: &mut K,
+) -> Result<(), AllocError>
+    requires { All (λ line. IsPermitted (plan_kept fabric.old) line.step) (lines_with line (replicate count (step_again repeated))) }
+    ensures plan { OnOk result (plan_kept fabric.new ≡ plan_kept fabric.old) }
+    ensures kept { (plan : Plan) (before : List Line) → HasReplayed plan before fabric.old → OnOk result (HasKept K.with_answer plan before (lines_with line (replicate count (step_again repeated))) fabric.new kept.old kept.new) }
+{
+    match repeated {
+        Repeated::Post { pair, side, queue } => {
+            make_again(line, &Step::Post { pair, side, queue }, count, fabric, kept)
+        }
+        Repeated::Land { pair, side, place } => {
+            make_again(line, &Step::Land { pair, side, place }, count, fabric, kept)
+        }
+        other => make_again(line, &other.step(), count, fabric, kept),
+    }
+}
+
+// Makes the steps of a line by which a side receives a frame in so many copies.
+fn make_received<K: KeepsAnswers>(
+    line: u32,
+    pair: u32,
+    side: Side,
+    queue: u32,
+    copies: u32,
+    fabric: &mut Fabric,
+    kept: &mut K,
+) -> Result<(), AllocError>
+    requires { All (λ line. IsPermitted (plan_kept fabric.old) line.step) (lines_with line (receive pair side queue copies)) }
+    ensures plan { OnOk result (plan_kept fabric.new ≡ plan_kept fabric.old) }
+    ensures kept { (plan : Plan) (before : List Line) → HasReplayed plan before fabric.old → OnOk result (HasKept K.with_answer plan before (lines_with line (receive pair side queue copies)) fabric.new kept.old kept.new) }
+{
+    make_step(line, &Step::Look { pair, side, queue }, fabric, kept)?;
+    make_again(
+        line,
+        &Step::Copy { pair, side, queue },
+        copies,
+        fabric,
+        kept,
+    )?;
+    make_step(line, &Step::Clear { pair, side, queue }, fabric, kept)?;
+    make_step(line, &Step::Ack { pair, side, queue }, fabric, kept)
+}
+
+// Makes one step of a line so many times. Once it is refused it is refused again each further time, so it isn't made any more.
+#[inline(always)]
+fn make_again<K: KeepsAnswers>(
+    line: u32,
+    step: &Step,
+    count: u32,
+    fabric: &mut Fabric,
+    kept: &mut K,
+) -> Result<(), AllocError>
+    requires may { All (λ line. IsPermitted (plan_kept fabric.old) line.step) (lines_with line (replicate count step.now)) }
+    requires uncounted { counts_refusals step.now ≡ false }
+    ensures plan { OnOk result (plan_kept fabric.new ≡ plan_kept fabric.old) }
+    ensures kept { (plan : Plan) (before : List Line) → HasReplayed plan before fabric.old → OnOk result (HasKept K.with_answer plan before (lines_with line (replicate count step.now)) fabric.new kept.old kept.new) }
+{
+    for made in 0..count {
+        let answer = fabric.step(step)?;
+        let answered = LineAnswer { line, answer };
+        if made + 1 < count && !is_made(step, &answered.answer) {
+            refused_again();
+            return kept.keep_times(&answered, count - made);
+        }
+        kept.keep(&answered)?;
+    }
+    Ok(())
+}
+
+// Makes one step of a line.
+#[inline(always)]
+fn make_step<K: KeepsAnswers>(
+    line: u32,
+    step: &Step,
+    fabric: &mut Fabric,
+    kept: &mut K,
+) -> Result<(), AllocError>
+    requires { IsPermitted (plan_kept fabric.old) step.now }
+    ensures plan { OnOk result (plan_kept fabric.new ≡ plan_kept fabric.old) }
+    ensures kept { (plan : Plan) (before : List Line) → HasReplayed plan before fabric.old → OnOk result (HasKept K.with_answer plan before (lines_with line (step.now ∷ [])) fabric.new kept.old kept.new) }
+{
+    let answer = fabric.step(step)?;
+    kept.keep(&LineAnswer { line, answer })
+}
