@@ -4,6 +4,7 @@
 //! fault and code on top can't raise it.
 #![tactic(auto)]
 
+mod gate;
 mod memory_sink;
 mod memory_source;
 mod plain_source;
@@ -12,6 +13,7 @@ mod std_streams;
 mod streams;
 mod whole;
 
+pub use gate::{Gate, NoGate};
 pub use memory_sink::MemorySink;
 pub use memory_source::MemorySource;
 pub use plain_source::PlainSource;

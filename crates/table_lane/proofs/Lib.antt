@@ -1,3 +1,4 @@
 pub mod FirstMove
+pub mod Tries
 pub mod WaitingEntries
 pub mod WordsInTable

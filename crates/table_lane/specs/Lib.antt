@@ -7,3 +7,4 @@ pub mod ProofFields
 pub mod RecvAnswers
 pub mod SendAnswers
 pub mod Table
+pub mod Tries

@@ -5,6 +5,7 @@ mod back;
 mod board;
 mod ends;
 mod lane_end;
+pub mod laws;
 mod mover;
 mod recv;
 mod send;

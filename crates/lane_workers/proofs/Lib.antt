@@ -1,0 +1,2 @@
+pub mod LaterFrames
+pub mod OneByte

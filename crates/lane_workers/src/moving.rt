@@ -1,0 +1,74 @@
+//! The passes of the worker that moves frames and brings indices back.
+ghost use Rattle.std.specs.Prelude.{◌≡◌, ◌+◌, ◌≤◌, ◌<◌, ◌^◌};
+ghost use Rattle.table_lane.specs.Tries.{tries};
+
+use crate::idling::{Idling, Turn};
+use io_edges::Gate;
+use rand_xoshiro::SplitMix64;
+use rand_xoshiro::rand_core::SeedableRng;
+use rand_xoshiro::rand_core::utils::NextWord;
+use table_lane::laws::{each_move_is_a_try, each_step_back_is_a_load};
+use table_lane::{BackAnswer, BackEnd, MoveAnswer, MoveEnd};
+
+/// One turn: one step of the mover, by this choice, and one of the way back.
+fn move_turn(mover: &mut MoveEnd, back: &mut BackEnd, choice: u64) -> Turn
+    ensures lane { mover.new.lane ≡ mover.old.lane }
+    ensures back_lane { back.new.lane ≡ back.old.lane }
+    ensures entries { mover.new.part.entries ≡ mover.old.part.entries }
+    ensures back_entries { back.new.part.entries ≡ back.old.part.entries }
+    ensures tries { tries mover.old.part + 1 ≤ tries mover.new.part }
+    ensures back_tries { back.new.part.loads ≡ back.old.part.loads + 1 }
+{
+    // Each of both steps is a try.
+    each_move_is_a_try();
+    each_step_back_is_a_load();
+    let moved = mover.step(choice);
+    let returned = back.step();
+    if moved == MoveAnswer::Idle && returned == BackAnswer::Idle {
+        return Turn::Idle;
+    }
+    Turn::Useful
+}
+
+/// Makes at least 1 and at most `turns` turns of the worker that moves frames and brings indices back, and answers how
+/// many. Before each it passes the gate with the turn's number, counted from `first`. A turn is one [`MoveEnd::step`]
+/// and one [`BackEnd::step`]. The choices of the turns are words of the generator SplitMix64, seeded by `choices` and
+/// `first`, so that headers overtake one another.
+///
+/// The pass may end early, where its turns did nothing for a while. It takes no memory and never waits for another
+/// worker.
+///
+/// `turns` has to be at least 1, and `first + turns` fits a `u64`.
+pub fn move_pass<G: Gate>(
+    mover: &mut MoveEnd,
+    back: &mut BackEnd,
+    choices: u64,
+    gate: &G,
+    worker: u32,
+    first: u64,
+    turns: u32,
+) -> u32
+    requires some { 1 ≤ turns }
+    requires fits { first + turns < 2 ^ 64 }
+    ensures lane { mover.new.lane ≡ mover.old.lane }
+    ensures back_lane { back.new.lane ≡ back.old.lane }
+    ensures entries { mover.new.part.entries ≡ mover.old.part.entries }
+    ensures back_entries { back.new.part.entries ≡ back.old.part.entries }
+    ensures some { 1 ≤ result }
+    ensures at_most { result ≤ turns }
+    ensures tries { tries mover.old.part + result ≤ tries mover.new.part }
+    ensures back_tries { back.new.part.loads ≡ back.old.part.loads + result }
+{
+    let mut words = SplitMix64::seed_from_u64(choices.wrapping_add(first));
+    let mut idling = Idling::new();
+    let mut made = 0;
+    while made < turns {
+        gate.at(worker, first + u64::from(made));
+        let turn = move_turn(mover, back, words.next_word());
+        made += 1;
+        if idling.ends_with(turn) {
+            break;
+        }
+    }
+    made
+}

@@ -1,0 +1,110 @@
+ghost use Rattle.std.specs.Prelude.{◌≡◌, ◌+◌, ◌≤◌, ◌∷◌, [], length, IfOk};
+ghost use Rattle.lane_workers.specs.Passes.{HaveBytes};
+
+use super::*;
+use io_edges::{Gate, NoGate};
+use std::alloc::{AllocError, Global};
+use std::sync::atomic::{AtomicU64, Ordering};
+use std::test::Fail;
+use step_kinds::{Frame, FrameList};
+use table_lane::{BackEnd, CutEnd, MoveEnd, RecvEnd, SendEnd, make};
+
+// A frame of one byte.
+fn frame_of(alloc: Global, byte: u8) -> Result<Frame, AllocError>
+    ensures { IfOk result (λ frame. frame ≡ byte ∷ []) }
+{
+    Ok(Frame::of_vec(vec![in alloc; byte]?))
+}
+
+// The ends of a lane, what is to be sent, and what came.
+#[derive(Drop)]
+struct Lane {
+    send: SendEnd,
+    mover: MoveEnd,
+    recv: RecvEnd,
+    back: BackEnd,
+    cut: CutEnd,
+    todo: FrameList,
+    got: FrameList,
+}
+
+// Two frames of one byte each.
+#[tactic(auto, using(crate::proofs::OneByte::two_have_bytes))]
+fn two_frames(alloc: Global) -> Result<FrameList, AllocError>
+    ensures bytes { IfOk result (λ list. HaveBytes list.frames) }
+    ensures two { IfOk result (λ list. length list.frames ≡ 2) }
+{
+    let mut list = FrameList::new(alloc);
+    list.promise(2)?;
+    list.push(frame_of(alloc, b'a')?);
+    list.push(frame_of(alloc, b'b')?);
+    Ok(list)
+}
+
+// A lane with two entries and two frames to send.
+fn new_lane(alloc: Global) -> Result<Lane, AllocError>
+    ensures bytes { IfOk result (λ lane. HaveBytes lane.todo.frames) }
+    ensures few { IfOk result (λ lane. length lane.send.part.sent + length lane.todo.frames ≡ 2) }
+    ensures room { IfOk result (λ lane. lane.got.spare ≡ 5) }
+{
+    let (send, mover, recv, back, cut) = make(alloc, 2)?;
+    let todo = two_frames(alloc)?;
+    let mut got = FrameList::new(alloc);
+    got.promise(5)?;
+    Ok(Lane {
+        send,
+        mover,
+        recv,
+        back,
+        cut,
+        todo,
+        got,
+    })
+}
+
+// A pass of each worker; the turns that they made.
+fn go_round<G: Gate>(lane: &mut Lane, gate: &G) -> [u32; 4]
+    requires bytes { HaveBytes lane.old.todo.frames }
+    requires few { length lane.old.send.part.sent + length lane.old.todo.frames ≡ 2 }
+    requires room { 2 ≤ lane.old.got.spare }
+    ensures bytes { HaveBytes lane.new.todo.frames }
+    ensures few { length lane.new.send.part.sent + length lane.new.todo.frames ≡ 2 }
+    ensures room { lane.new.got.spare + length lane.new.got.frames ≡ lane.old.got.spare + length lane.old.got.frames }
+{
+    let sent = send_pass(&mut lane.send, &mut lane.todo, gate, 0, 0, 2);
+    let moved = move_pass(&mut lane.mover, &mut lane.back, 8, gate, 1, 0, 3);
+    let received = recv_pass(&mut lane.recv, &mut lane.got, gate, 2, 0, 2);
+    let cut = cut_pass(&mut lane.cut, gate, 3, 5);
+    [sent, moved, received, cut]
+}
+
+// A gate that adds up the numbers that pass it, a worker's as thousands.
+#[derive(Drop)]
+struct Sum {
+    sum: AtomicU64,
+}
+
+impl Gate for Sum {
+    fn at(&self, worker: u32, turn: u64) {
+        self.sum.fetch_add(
+            turn.wrapping_add(u64::from(worker) * 1000),
+            Ordering::SeqCst,
+        );
+    }
+}
+
+// Of two frames the second finds no room, and then the link cut. Turns 0 and 1 of worker 0, 0 to 2 of worker 1, 0 and 1
+// of worker 2, and 5 of worker 3 pass the gate.
+#[test]
+fn one_of_two_frames_goes_round(rt: HostRuntime) -> Result<(), Fail> {
+    let mut lane = new_lane(rt.alloc())?;
+    let gate = Sum {
+        sum: AtomicU64::new(0),
+    };
+    assert_eq!(rt; go_round(&mut lane, &gate), [2, 3, 2, 1]);
+    assert_eq!(rt; gate.sum.load(Ordering::SeqCst), 10010);
+    assert_eq!(rt; lane.got.len(), 1);
+    assert_eq!(rt; go_round(&mut lane, &NoGate), [1, 3, 2, 1]);
+    assert_eq!(rt; lane.todo.len(), 1);
+    Ok(())
+}
