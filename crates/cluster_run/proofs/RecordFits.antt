@@ -1,0 +1,122 @@
+-- The record of lanes that come to their keys fits the plan, and their proofs show it.
+use Rattle.std.proofs.Common.{◌≡◌, ℕ, zero, suc, ◌+◌, ◌*◌, ◌≤◌, Bool, true, false, cond, nat_lt, List, [], ◌∷◌, ◌++◌, length, map, filter, drop, slice_index_or, refl, sym, ◌∙◌, ap, subst, arith, append-nil, append_assoc, length-append}
+use Rattle.std.proofs.lemmas.List.{length-map}
+use Rattle.std.proofs.lemmas.List.Elements.{All-cons, All-nil}
+use Rattle.std.specs.List.{All, flat_map, range_with_len}
+use Rattle.step_kinds.specs.Runs.{LaneShown}
+use Rattle.step_kinds.specs.declared.names.LaneName.{LaneName}
+use Rattle.step_kinds.specs.declared.plan.Plan.{Plan}
+use Rattle.step_kinds.specs.declared.plan.Traffic.{Traffic}
+use Rattle.table_lane.specs.EndOfLane.{Shown}
+use Rattle.traffic_plan.specs.Lanes.{frames_on}
+use Rattle.cluster_run.specs.Lanes.{CanRun, lanes_of, lanes_in, has_traffic, traffic_lanes, entries_on, losses_on}
+use Rattle.cluster_run.specs.Runs.{FitsLane, IsFit, IsShown, lane_proofs}
+use Rattle.cluster_run.specs.LaneKeys.{LaneKey, key_of, ComesTo, ComeTo}
+use Rattle.cluster_run.specs.ByLane.{LaneFrames, lane_frames, frames_of, by_lane, keys_with_frames, key_with, AreOfTraffic}
+use Rattle.cluster_run.specs.declared.by_lane.LaneTraffic.{LaneTraffic}
+
+-- each lane of the sorted traffic has its frames
+each_of_traffic : (plan : Plan) (lanes : List LaneTraffic) (names : List LaneName) → map lane_frames lanes ≡ map (frames_of plan.traffic) names → AreOfTraffic plan lanes
+each_of_traffic plan [] names same = All-nil (λ (lane : LaneTraffic). lane.frames.frames ≡ frames_on lane.name plan.traffic)
+each_of_traffic plan (lane ∷ lanes) [] same = absurd (let many = ap length same in omega (arith, many))
+each_of_traffic plan (lane ∷ lanes) (name ∷ names) same =
+    let first : lane_frames lane ≡ frames_of plan.traffic name = ap (λ (all : List LaneFrames). slice_index_or all 0 (lane_frames lane)) same in
+    let rest : map lane_frames lanes ≡ map (frames_of plan.traffic) names = ap (λ (all : List LaneFrames). drop 1 all) same in
+    All-cons (λ (lane : LaneTraffic). lane.frames.frames ≡ frames_on lane.name plan.traffic) lane lanes
+    (ap (λ (l : LaneFrames). l.frames) first ∙ ap (λ (l : LaneFrames). frames_on l.name plan.traffic) (sym first)) (each_of_traffic plan lanes names rest)
+
+pub are_of_traffic : (plan : Plan) (lanes : List LaneTraffic) → map lane_frames lanes ≡ by_lane plan.traffic (length plan.pairs) → AreOfTraffic plan lanes
+are_of_traffic plan lanes same = each_of_traffic plan lanes (lanes_in (length plan.pairs)) same
+
+length-lanes_from : (a n : ℕ) → length (flat_map lanes_of (range_with_len a n)) ≤ 32 * n
+length-lanes_from a zero = omega arith
+length-lanes_from a (suc n) =
+    let parts = length-append (lanes_of a) (flat_map lanes_of (range_with_len (a + 1) n)) in
+    let rest = length-lanes_from (a + 1) n in
+    omega arith
+
+pub few_lanes : (plan : Plan) → CanRun plan → (lanes : List LaneTraffic) → map lane_frames lanes ≡ by_lane plan.traffic (length plan.pairs) → length lanes ≤ 65535
+few_lanes plan can lanes same =
+    let many = ap length same in
+    let shown = length-map lanes lane_frames in
+    let named = length-map (lanes_in (length plan.pairs)) (frames_of plan.traffic) in
+    let all = length-lanes_from 0 (length plan.pairs) in
+    let pairs = can.few_pairs in
+    omega arith
+
+-- the keys of the sorted traffic are those of the lanes with traffic
+named_more : (plan : Plan) (name : LaneName) (lanes : List LaneFrames) (names : List LaneName) (b : Bool) → map (key_with plan) lanes ≡ map (key_of plan) names
+    → map (key_with plan) (cond b (frames_of plan.traffic name ∷ lanes) lanes) ≡ map (key_of plan) (cond b (name ∷ names) names)
+named_more plan name lanes names true same = ap (λ (rest : List LaneKey). key_of plan name ∷ rest) same
+named_more plan name lanes names false same = same
+
+keys_named : (plan : Plan) (names : List LaneName) → keys_with_frames plan (map (frames_of plan.traffic) names) ≡ map (key_of plan) (filter (has_traffic plan.traffic) names)
+keys_named plan [] = refl
+keys_named plan (name ∷ names) =
+    named_more plan name (filter (λ (lane : LaneFrames). nat_lt 0 (length lane.frames)) (map (frames_of plan.traffic) names)) (filter (has_traffic plan.traffic) names) (has_traffic plan.traffic name)
+    (keys_named plan names)
+
+-- lanes that come to the keys of these names
+names_of : (plan : Plan) (names : List LaneName) (run : List LaneShown) (proofs : List Shown) → ComeTo (map (key_of plan) names) run proofs → map (λ (lane : LaneShown). lane.name) run ≡ names
+names_of plan [] [] proofs come = refl
+names_of plan [] (lane ∷ run) proofs come = absurd come
+names_of plan (name ∷ names) [] proofs come = absurd come
+names_of plan (name ∷ names) (lane ∷ run) proofs come =
+    ap (λ (n : LaneName). n ∷ map (λ (lane : LaneShown). lane.name) run) come.3.name ∙ ap (λ (rest : List LaneName). name ∷ rest) (names_of plan names run come.1 come.4)
+
+fits_lane : (plan : Plan) (name : LaneName) (lane : LaneShown) (proofs : List Shown) → ComesTo (key_of plan name) lane proofs → FitsLane plan lane
+fits_lane plan name lane proofs come = record {
+  sessions = come.sessions ∙ ap (λ (n : LaneName). 1 + losses_on plan n) (sym come.name);
+  traffic = come.traffic ∙ ap (λ (n : LaneName). frames_on n plan.traffic) (sym come.name);
+  nothing_left = come.nothing_left;
+}
+
+fit_all : (plan : Plan) (names : List LaneName) (run : List LaneShown) (proofs : List Shown) → ComeTo (map (key_of plan) names) run proofs → All (FitsLane plan) run
+fit_all plan [] [] proofs come = All-nil (FitsLane plan)
+fit_all plan [] (lane ∷ run) proofs come = absurd come
+fit_all plan (name ∷ names) [] proofs come = absurd come
+fit_all plan (name ∷ names) (lane ∷ run) proofs come = All-cons (FitsLane plan) lane run (fits_lane plan name lane come.0 come.3) (fit_all plan names run come.1 come.4)
+
+shown_all : (plan : Plan) (names : List LaneName) (run : List LaneShown) (proofs : List Shown) → ComeTo (map (key_of plan) names) run proofs → IsShown plan run proofs
+shown_all plan [] [] proofs come = come
+shown_all plan [] (lane ∷ run) proofs come = absurd come
+shown_all plan (name ∷ names) [] proofs come = absurd come
+shown_all plan (name ∷ names) (lane ∷ run) proofs come =
+    come.2 ∙ (ap (λ (first : List Shown). first ++ come.1) (come.3.shown ∙ ap (λ (n : LaneName). lane_proofs (entries_on plan n) lane.sessions) (sym come.3.name))
+    ∙ ap (λ (rest : List Shown). lane_proofs (entries_on plan lane.name) lane.sessions ++ rest) (shown_all plan names run come.1 come.4))
+
+-- the whole traffic
+abbrev pub all_keys : Plan → List LaneKey
+all_keys plan = keys_with_frames plan (by_lane plan.traffic (length plan.pairs))
+
+come_to_named : (plan : Plan) (run : List LaneShown) (proofs : List Shown) → ComeTo (all_keys plan) run proofs → ComeTo (map (key_of plan) (traffic_lanes plan)) run proofs
+come_to_named plan run proofs come = subst (λ (keys : List LaneKey). ComeTo keys run proofs) (keys_named plan (lanes_in (length plan.pairs))) come
+
+pub record_fits : (plan : Plan) (run : List LaneShown) (proofs : List Shown) → ComeTo (all_keys plan) run proofs → IsFit plan run
+record_fits plan run proofs come =
+    let named = come_to_named plan run proofs come in
+    record { lanes = names_of plan (traffic_lanes plan) run proofs named; each = fit_all plan (traffic_lanes plan) run proofs named }
+
+pub record_shown : (plan : Plan) (run : List LaneShown) (proofs : List Shown) → ComeTo (all_keys plan) run proofs → IsShown plan run proofs
+record_shown plan run proofs come = shown_all plan (traffic_lanes plan) run proofs (come_to_named plan run proofs come)
+
+-- what a run has come to so far: some lanes are over, and the others wait
+pub record HasCome (plan : Plan) (waiting : List LaneKey) (run : List LaneShown) (proofs : List Shown) : Type 0 where
+  pub keys : List LaneKey
+  pub all : keys ++ waiting ≡ all_keys plan
+  pub come : ComeTo keys run proofs
+
+pub none_over : (plan : Plan) (lanes : List LaneTraffic) (waiting : List LaneKey) (run : List LaneShown) (proofs : List Shown) → map lane_frames lanes ≡ by_lane plan.traffic (length plan.pairs)
+    → waiting ≡ keys_with_frames plan (map lane_frames lanes) → run ≡ [] → proofs ≡ [] → HasCome plan waiting run proofs
+none_over plan lanes waiting run proofs sorted keys no_run no_proofs =
+    record { keys = []; all = keys ∙ ap (keys_with_frames plan) sorted; come = subst (λ (run : List LaneShown). ComeTo [] run proofs) (sym no_run) no_proofs }
+
+pub group_over : (plan : Plan) (first : LaneKey) (before group after : List LaneKey) (old new : List LaneShown) (proofs all : List Shown) → HasCome plan (first ∷ before) old proofs → group ++ after ≡ first ∷ before
+    → ((keys : List LaneKey) → ComeTo keys old proofs → ComeTo (keys ++ group) new all) → HasCome plan after new all
+group_over plan first before group after old new proofs all come parts adds =
+    record { keys = come.keys ++ group; all = append_assoc come.keys group after ∙ (ap (λ rest. come.keys ++ rest) parts ∙ come.all); come = adds come.keys come.come }
+
+pub all_over : (plan : Plan) {waiting : List LaneKey} {run : List LaneShown} {proofs : List Shown} → waiting ≡ [] → HasCome plan waiting run proofs → ComeTo (all_keys plan) run proofs
+all_over plan {run = run} {proofs = proofs} none come =
+    let all = ap (λ waiting. come.keys ++ waiting) none in
+    subst (λ (keys : List LaneKey). ComeTo keys run proofs) (sym (append-nil come.keys) ∙ (sym all ∙ come.all)) come.come

@@ -1,0 +1,66 @@
+-- The frames of a plan's traffic, lane by lane.
+use Rattle.std.specs.Prelude.{◌≡◌, ℕ, ◌+◌, ◌*◌, ◌<◌, nat_lt, List, [], ◌∷◌, ◌++◌, length, map, filter, slice_index_or, slice_set}
+use Rattle.std.specs.List.{All}
+use Rattle.step_kinds.specs.declared.names.Side.{Side}
+use Rattle.step_kinds.specs.declared.names.Side.TheVariants.{A, B}
+use Rattle.step_kinds.specs.declared.names.LaneName.{LaneName}
+use Rattle.step_kinds.specs.declared.plan.Plan.{Plan}
+use Rattle.step_kinds.specs.declared.plan.Traffic.{Traffic}
+use Rattle.step_kinds.specs.declared.plan.Traffic.TheVariants.{Send, Break}
+use Rattle.traffic_plan.specs.Lanes.{frames_on}
+use Rattle.cluster_run.specs.Lanes.{lanes_in, entries_on, losses_on}
+use Rattle.cluster_run.specs.LaneKeys.{LaneKey}
+use Rattle.cluster_run.specs.declared.by_lane.LaneTraffic.{LaneTraffic}
+
+-- a lane and frames on it
+pub record LaneFrames : Type 0 where
+  pub name : LaneName
+  pub frames : List (List ℕ)
+
+abbrev pub lane_frames : LaneTraffic → LaneFrames
+lane_frames lane = record { name = lane.name; frames = lane.frames.frames }
+
+-- a lane with its frames of a traffic
+abbrev pub frames_of : List Traffic → LaneName → LaneFrames
+frames_of traffic lane = record { name = lane; frames = frames_on lane traffic }
+
+-- all lanes of so many pairs, each with its frames
+abbrev pub by_lane : List Traffic → ℕ → List LaneFrames
+by_lane traffic pairs = map (frames_of traffic) (lanes_in pairs)
+
+-- where a lane stands among all lanes
+abbrev pub side_place : Side → ℕ
+side_place A = 0
+side_place B = 16
+
+abbrev pub place_of : LaneName → ℕ
+place_of lane = 32 * lane.pair + (side_place lane.from + lane.queue)
+
+-- one frame more on a lane
+abbrev pub with_frame : LaneFrames → List ℕ → LaneFrames
+with_frame lane frame = record { name = lane.name; frames = lane.frames ++ frame ∷ [] }
+
+abbrev pub no_lane : LaneFrames
+no_lane = record { name = record { pair = 0; from = A; queue = 0 }; frames = [] }
+
+-- one item more of the traffic: a frame is put on its lane
+abbrev pub lanes_with : List LaneFrames → Traffic → List LaneFrames
+lanes_with lanes (Send lane frame) = slice_set lanes (place_of lane) (with_frame (slice_index_or lanes (place_of lane) no_lane) frame)
+lanes_with lanes (Break pair) = lanes
+
+-- an item is of one of so many lanes
+abbrev pub HasPlace : ℕ → Traffic → Type 0
+HasPlace lanes (Send lane frame) = place_of lane < lanes
+HasPlace lanes (Break pair) = Unit {0}
+
+-- the key of a lane with these frames
+abbrev pub key_with : Plan → LaneFrames → LaneKey
+key_with plan lane = record { name = lane.name; entries = entries_on plan lane.name; losses = losses_on plan lane.name; traffic = lane.frames }
+
+-- the keys of those lanes that have a frame
+abbrev pub keys_with_frames : Plan → List LaneFrames → List LaneKey
+keys_with_frames plan lanes = map (key_with plan) (filter (λ (lane : LaneFrames). nat_lt 0 (length lane.frames)) lanes)
+
+-- each lane has its frames of the plan's traffic
+abbrev pub AreOfTraffic : Plan → List LaneTraffic → Type 0
+AreOfTraffic plan lanes = All (λ (lane : LaneTraffic). lane.frames.frames ≡ frames_on lane.name plan.traffic) lanes

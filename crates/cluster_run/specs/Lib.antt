@@ -1,0 +1,10 @@
+pub mod ByLane
+pub mod LaneFields
+pub mod LaneKeys
+pub mod Lanes
+pub mod Runs
+pub mod SessionFields
+pub mod Sessions
+pub mod Tasks
+pub mod WorkerFields
+pub mod Workers

@@ -1,0 +1,81 @@
+//! A round of a session in which one thread makes the passes of all its workers in turn.
+
+ghost use Rattle.std.specs.Prelude.{◌≡◌, ◌≤◌};
+
+use crate::aim::Aim;
+use crate::workers::{Cutting, Moving, Receiving, Sending};
+use io_edges::Gate;
+
+/// At most so often the workers make their passes in a round.
+const TIMES: u32 = 1_024;
+
+// One pass of each worker that carries frames. The mover has three moves for each frame, and after the receiver one turn
+// more, in which the way back brings the sender its entries.
+fn carry_in_turn<G: Gate>(
+    gate: &G,
+    sending: &mut Sending,
+    moving: &mut Moving,
+    receiving: &mut Receiving,
+    turns: u32,
+)
+    requires { (1 ≤ turns) × (turns ≤ 65535) }
+    ensures sending { sending.new ≡ sending.old }
+    ensures moving { moving.new ≡ moving.old }
+    ensures receiving { receiving.new.lane ≡ receiving.old.lane }
+{
+    sending.pass(gate, turns);
+    moving.pass(gate, 3 * turns);
+    receiving.pass(gate, turns);
+    moving.pass(gate, 1);
+}
+
+// One pass of each worker, where the link is cut after the sender's. A part of what was sent is moved then.
+fn cut_in_turn<G: Gate>(
+    gate: &G,
+    sending: &mut Sending,
+    moving: &mut Moving,
+    receiving: &mut Receiving,
+    cutting: &mut Cutting,
+    turns: u32,
+)
+    requires { (1 ≤ turns) × (turns ≤ 65535) }
+    ensures sending { sending.new ≡ sending.old }
+    ensures moving { moving.new ≡ moving.old }
+    ensures receiving { receiving.new.lane ≡ receiving.old.lane }
+    ensures cutting { cutting.new.lane ≡ cutting.old.lane }
+{
+    sending.pass(gate, turns);
+    cutting.pass(gate);
+    moving.pass(gate, turns);
+    receiving.pass(gate, turns);
+}
+
+/// A round in which one thread makes the passes of all workers in turn, each of at most so many turns, and three times as
+/// many of the mover. It is over once all frames were received, after so many passes, or after the cut: where the aim has
+/// one, the link is cut once so many frames were received.
+pub(crate) fn pass_in_turn<G: Gate>(
+    gate: &G,
+    sending: &mut Sending,
+    moving: &mut Moving,
+    receiving: &mut Receiving,
+    cutting: &mut Cutting,
+    aim: Aim,
+    turns: u32,
+)
+    requires { (1 ≤ turns) × (turns ≤ 65535) }
+    ensures sending { sending.new ≡ sending.old }
+    ensures moving { moving.new ≡ moving.old }
+    ensures receiving { receiving.new.lane ≡ receiving.old.lane }
+    ensures cutting { cutting.new.lane ≡ cutting.old.lane }
+{
+    for _ in 0..TIMES {
+        if aim.is_cut_due(receiving.count()) {
+            cut_in_turn(gate, sending, moving, receiving, cutting, turns);
+            return;
+        }
+        carry_in_turn(gate, sending, moving, receiving, turns);
+        if aim.is_reached(receiving.count()) {
+            return;
+        }
+    }
+}

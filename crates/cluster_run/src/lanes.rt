@@ -1,0 +1,162 @@
+//! A lane at work: its sessions, one after another.
+
+ghost use Rattle.std.specs.Prelude.{◌≡◌, ◌≤◌, ◌<◌, ◌^◌, true, length, IfOk};
+ghost use Rattle.step_kinds.specs.Runs.{lane_shown};
+ghost use Rattle.lane_workers.specs.Passes.{HaveBytes};
+ghost use Rattle.cluster_run.specs.LaneKeys.{ComesTo};
+
+use crate::session::{Session, SessionEnd};
+use io_edges::Gate;
+use std::alloc::{AllocError, Global};
+use std::marker::Model;
+use std::thread::Threads;
+use step_kinds::{FrameList, Items, LaneName, LaneRun, SessionRun};
+use table_lane::LaneProof;
+
+/// A lane at work. Contracts see what its work comes to, and whether its last session is whole.
+#[derive(Drop)]
+pub(crate) struct LaneWork {
+    name: LaneName,
+    number: u32,
+    entries: u32,
+    /// How many losses of the pair's link are ahead.
+    ahead: u32,
+    session: Session,
+    /// The sessions that ended, and their proofs.
+    runs: Vec<SessionRun>,
+    proofs: Vec<LaneProof>,
+}
+
+impl LaneWork {
+    ghost use Rattle.cluster_run.specs.LaneKeys.{LaneKey};
+
+    /// A lane in its first session. The only error is want of memory.
+    pub(crate) fn new(
+        alloc: Global,
+        name: LaneName,
+        number: u32,
+        entries: u32,
+        losses: u32,
+        frames: FrameList,
+    ) -> Result<LaneWork, AllocError>
+        requires number { number ≤ 65535 }
+        requires ring { (2 ≤ entries) × (entries ≤ 65535) }
+        requires bytes { HaveBytes frames.frames }
+        requires few { length frames.frames < 2 ^ 62 }
+        ensures { IfOk result (λ work. work.key ≡ record { name = name; entries = entries; losses = losses; traffic = frames.frames }) }
+    {
+        Ok(LaneWork {
+            name,
+            number,
+            entries,
+            ahead: losses,
+            session: Session::new(alloc, number, entries, frames)?,
+            runs: Vec::new(alloc),
+            proofs: Vec::new(alloc),
+        })
+    }
+
+    /// Whether its last session is whole.
+    pub(crate) fn is_over(&self) -> bool
+        ensures { result ≡ self.now.over }
+    {
+        self.ahead == 0 && self.session.is_whole() && !self.session.is_cut()
+    }
+
+    /// Whether its session was cut.
+    pub(crate) fn is_cut(&self) -> bool {
+        self.session.is_cut()
+    }
+
+    // With how many frames received the session is cut: its share of the frames, where a loss of the link is ahead.
+    fn cut_after(&self) -> Option<usize> {
+        match self.ahead {
+            0 => None,
+            ahead => Some(self.session.total() / (ahead as usize + 1)),
+        }
+    }
+
+    /// A round in which each of its workers has a thread of its own. A lane that is over does nothing.
+    pub(crate) fn pass_beside<R: Threads + Sync, G: Gate>(&mut self, rt: &R, gate: &G)
+        ensures { self.new.key ≡ self.old.key }
+    {
+        if self.is_over() {
+            return;
+        }
+        let cut_after = self.cut_after();
+        self.session.pass_beside(rt, gate, cut_after);
+    }
+
+    /// A round in which this thread makes the passes of its workers in turn. A lane that is over does nothing.
+    pub(crate) fn pass_in_turn<G: Gate>(&mut self, gate: &G)
+        ensures { self.new.key ≡ self.old.key }
+    {
+        if self.is_over() {
+            return;
+        }
+        let cut_after = self.cut_after();
+        self.session.pass_in_turn(gate, cut_after);
+    }
+
+    /// Where the session was cut and is not the last, ends it and begins the next one, which has the frames to send that
+    /// were not accepted. The only error is want of memory.
+    pub(crate) fn renewed(self, alloc: Global) -> Result<LaneWork, AllocError>
+        ensures { IfOk result (λ work. work.key ≡ self.key) }
+    {
+        if self.ahead == 0 || !self.session.is_cut() {
+            return Ok(self);
+        }
+        let LaneWork {
+            name,
+            number,
+            entries,
+            ahead,
+            session,
+            mut runs,
+            mut proofs,
+        } = self;
+        let SessionEnd { run, proof, rest } = session.ended(alloc)?;
+        runs.push(run)?;
+        proofs.push(proof)?;
+        Ok(LaneWork {
+            name,
+            number,
+            entries,
+            ahead: ahead - 1,
+            session: Session::new(alloc, number, entries, rest)?,
+            runs,
+            proofs,
+        })
+    }
+
+    /// Ends a lane that is over: its record, and the proofs of its sessions. The only error is want of memory.
+    pub(crate) fn ended(self, alloc: Global) -> Result<(LaneRun, Vec<LaneProof>), AllocError>
+        requires { self.over ≡ true }
+        ensures { IfOk result (λ end. ComesTo self.key (lane_shown end.0) end.1.items) }
+    {
+        let LaneWork {
+            name,
+            session,
+            mut runs,
+            mut proofs,
+            ..
+        } = self;
+        let SessionEnd { run, proof, .. } = session.ended(alloc)?;
+        runs.push(run)?;
+        proofs.push(proof)?;
+        let sessions = Items::of_vec(runs);
+        Ok((LaneRun { name, sessions }, proofs))
+    }
+}
+
+impl Model for LaneWork {
+    ghost use Rattle.cluster_run.specs.LaneKeys.{LaneState};
+
+    ghost Value = { LaneState };
+
+    ghost use Rattle.cluster_run.specs.LaneFields.{state_of, IsWork};
+
+    ghost view = { state_of };
+
+    ghost invariant = { IsWork };
+}

@@ -1,0 +1,21 @@
+//! The run of a plan's traffic by threads: sessions of its lanes, in rounds of workers.
+#![tactic(auto)]
+
+mod aim;
+mod beside;
+mod by_lane;
+mod clock;
+mod group;
+mod in_turn;
+mod lanes;
+pub mod laws;
+mod parts;
+mod progress;
+mod rounds;
+mod run;
+mod session;
+mod tasks;
+mod waiting;
+mod workers;
+
+pub use run::run_plan;

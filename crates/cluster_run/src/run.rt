@@ -1,0 +1,57 @@
+//! A run of a plan's traffic.
+
+ghost use Rattle.std.specs.Prelude.{◌≡◌, IfOk};
+ghost use Rattle.step_kinds.specs.Runs.{run_shown};
+ghost use Rattle.cluster_run.specs.Lanes.{CanRun};
+ghost use Rattle.cluster_run.specs.Runs.{IsFit, IsShown};
+
+use crate::by_lane::traffic_by_lane;
+use crate::group::next_group;
+use crate::parts::RunParts;
+use crate::rounds::finished;
+use crate::waiting::waiting_lanes;
+use io_edges::Gate;
+use std::alloc::{AllocError, Global};
+use std::sync::Wait;
+use std::thread::Threads;
+use step_kinds::{Items, Plan, RunRecord};
+use table_lane::LaneProof;
+
+/// Sends the traffic of a plan by threads, and answers the record of the run with a proof of each session, in the order
+/// of the lanes and then of the sessions.
+///
+/// The plan's pairs and traffic have to be as a script can declare them, within the limits of traffic. Each lane with
+/// traffic has one link session more than its pair has breaks, and a session is the life of one table lane with as many
+/// entries as the lane's ring. Each session but the last is cut beside its traffic. A frame that a cut refused is sent in
+/// the next session; a frame that was accepted before a cut and not delivered stays lost.
+///
+/// Before each turn a worker passes the gate with its number: 4n where lane n sends, 4n + 1 where it moves frames, 4n + 2
+/// where it receives and 4n + 3 where it is cut. Turns count from 0 in each session. Up to four lanes have a thread for
+/// each worker; of more lanes a thread makes the turns of several, those of one lane in turn. Where no thread can be
+/// made the caller makes them.
+///
+/// # Errors
+///
+/// [`AllocError`] from want of memory alone.
+pub fn run_plan<R: Threads + Wait + Sync, G: Gate>(
+    rt: &R,
+    alloc: Global,
+    plan: &Plan,
+    gate: &G,
+) -> Result<(RunRecord, Vec<LaneProof>), AllocError>
+    requires { CanRun plan.now }
+    ensures fits { IfOk result (λ run. IsFit plan.now (run_shown run.0)) }
+    ensures shown { IfOk result (λ run. IsShown plan.now (run_shown run.0) run.1.items) }
+{
+    let lanes = traffic_by_lane(alloc, plan)?;
+    let mut waiting = waiting_lanes(alloc, plan, lanes)?;
+    let mut parts = RunParts::new(alloc);
+    while let Some(first) = waiting.pop_front() {
+        let open = next_group(alloc, first, &mut waiting)?;
+        let over = finished(rt, alloc, gate, open)?;
+        parts.add_all(alloc, over)?;
+    }
+    let RunParts { lanes, proofs } = parts;
+    let lanes = Items::of_vec(lanes);
+    Ok((RunRecord { lanes }, proofs))
+}

@@ -1,0 +1,226 @@
+//! A session of a lane: the life of one table lane, from `make` to `finish`.
+
+ghost use Rattle.std.specs.Prelude.{◌≡◌, ◌≤◌, ◌<◌, ◌^◌, ◌++◌, ◌==◌, [], length, IfOk};
+ghost use Rattle.lane_workers.specs.Passes.{HaveBytes};
+ghost use Rattle.cluster_run.specs.Sessions.{new_session, EndsWith};
+
+use crate::aim::Aim;
+use crate::beside::pass_beside;
+use crate::clock::Clock;
+use crate::in_turn::pass_in_turn;
+use crate::workers::{Cutting, Moving, Receiving, Sending};
+use io_edges::Gate;
+use std::alloc::{AllocError, Global};
+use std::marker::Model;
+use std::thread::Threads;
+use step_kinds::{FrameList, SessionRun};
+use table_lane::{LaneEnd, LaneProof, finish, make};
+
+/// A session of a lane: its four workers, at one table.
+#[derive(Drop)]
+pub(crate) struct Session {
+    sending: Sending,
+    moving: Moving,
+    receiving: Receiving,
+    cutting: Cutting,
+    entries: u32,
+    total: usize,
+}
+
+/// What a session leaves.
+#[derive(Drop)]
+pub(crate) struct SessionEnd {
+    /// What it delivered and what it left.
+    pub(crate) run: SessionRun,
+    /// What its lane did.
+    pub(crate) proof: LaneProof,
+    /// The frames that it did not accept.
+    pub(crate) rest: FrameList,
+}
+
+/// For so many frames more than a session has there is room to receive: a pass then makes as many turns at least.
+const SPARE_ROOM: usize = 1_024;
+
+/// At most so many turns a pass has where one thread makes those of all workers in turn.
+const MOST_TURNS: usize = 1_024;
+
+// The frames of a list, moved into a list of their own length.
+fn trimmed(alloc: Global, mut list: FrameList) -> Result<FrameList, AllocError>
+    ensures { IfOk result (λ r. r.frames ≡ list.frames) }
+{
+    let mut own = FrameList::new(alloc);
+    own.promise(list.len())?;
+    while let Some(frame) = list.take_first() {
+        own.push(frame);
+    }
+    Ok(own)
+}
+
+// An empty list with room for so many frames.
+fn room_for(alloc: Global, room: usize) -> Result<FrameList, AllocError>
+    ensures { IfOk result (λ r. r ≡ record { frames = []; spare = room }) }
+{
+    let mut list = FrameList::new(alloc);
+    list.promise(room)?;
+    Ok(list)
+}
+
+impl Session {
+    /// A session of the lane with this number, in a ring of so many entries, that has these frames to send: each has a
+    /// byte. The only error is want of memory.
+    pub(crate) fn new(
+        alloc: Global,
+        number: u32,
+        entries: u32,
+        todo: FrameList,
+    ) -> Result<Session, AllocError>
+        requires number { number ≤ 65535 }
+        requires ring { (2 ≤ entries) × (entries ≤ 65535) }
+        requires bytes { HaveBytes todo.frames }
+        requires few { length todo.frames < 2 ^ 62 }
+        ensures { IfOk result (λ s. s ≡ new_session entries todo.frames) }
+    {
+        let total = todo.len();
+        let room = total + SPARE_ROOM;
+        let got = room_for(alloc, room)?;
+        let (send, mover, recv, back, cut) = make(alloc, entries)?;
+        let first = 4 * number;
+        Ok(Session {
+            sending: Sending {
+                end: send,
+                todo,
+                clock: Clock::new(first),
+            },
+            moving: Moving {
+                mover,
+                back,
+                clock: Clock::new(first + 1),
+            },
+            receiving: Receiving {
+                end: recv,
+                got,
+                room,
+                clock: Clock::new(first + 2),
+            },
+            cutting: Cutting {
+                end: cut,
+                is_cut: false,
+                clock: Clock::new(first + 3),
+            },
+            entries,
+            total,
+        })
+    }
+
+    /// A round of the session in which each worker has a thread of its own.
+    pub(crate) fn pass_beside<R: Threads + Sync, G: Gate>(
+        &mut self,
+        rt: &R,
+        gate: &G,
+        cut_after: Option<usize>,
+    )
+        ensures entries { self.new.entries ≡ self.old.entries }
+        ensures frames { self.new.frames ≡ self.old.frames }
+    {
+        let aim = self.aim(cut_after);
+        pass_beside(
+            rt,
+            gate,
+            &mut self.sending,
+            &mut self.moving,
+            &mut self.receiving,
+            &mut self.cutting,
+            aim,
+        );
+    }
+
+    /// A round of the session in which this thread makes the passes of all workers in turn.
+    pub(crate) fn pass_in_turn<G: Gate>(&mut self, gate: &G, cut_after: Option<usize>)
+        ensures entries { self.new.entries ≡ self.old.entries }
+        ensures frames { self.new.frames ≡ self.old.frames }
+    {
+        let aim = self.aim(cut_after);
+        let turns = (self.entries - 1).min(self.total.clamp(1, MOST_TURNS) as u32);
+        pass_in_turn(
+            gate,
+            &mut self.sending,
+            &mut self.moving,
+            &mut self.receiving,
+            &mut self.cutting,
+            aim,
+            turns,
+        );
+    }
+
+    // What a round is to come to.
+    fn aim(&self, cut_after: Option<usize>) -> Aim {
+        Aim {
+            total: self.total,
+            cut_after,
+        }
+    }
+
+    /// How many frames the session may accept.
+    pub(crate) fn total(&self) -> usize
+        ensures { result ≡ length self.now.frames }
+    {
+        self.total
+    }
+
+    /// Whether all its frames were received.
+    pub(crate) fn is_whole(&self) -> bool
+        ensures { result ≡ (length self.now.got == length self.now.frames) }
+    {
+        self.receiving.count() == self.total
+    }
+
+    /// Whether the link was cut.
+    pub(crate) fn is_cut(&self) -> bool
+        ensures { result ≡ self.now.cut }
+    {
+        self.cutting.is_cut()
+    }
+
+    /// Ends the session. The only error is want of memory.
+    pub(crate) fn ended(self, alloc: Global) -> Result<SessionEnd, AllocError>
+        ensures { IfOk result (λ end. EndsWith self end.run end.proof end.rest) }
+    {
+        let Session {
+            sending,
+            moving,
+            receiving,
+            cutting,
+            ..
+        } = self;
+        let Sending {
+            end: send,
+            todo,
+            ..
+        } = sending;
+        let Moving { mover, back, .. } = moving;
+        let Receiving { end: recv, got, .. } = receiving;
+        let Cutting { end: cut, .. } = cutting;
+        let LaneEnd { left, proof } = finish(send, mover, recv, back, cut);
+        let run = SessionRun {
+            delivered: trimmed(alloc, got)?,
+            left: trimmed(alloc, left)?,
+        };
+        Ok(SessionEnd {
+            run,
+            proof,
+            rest: todo,
+        })
+    }
+}
+
+impl Model for Session {
+    ghost use Rattle.cluster_run.specs.Workers.{SessionState};
+
+    ghost Value = { SessionState };
+
+    ghost use Rattle.cluster_run.specs.SessionFields.{session_of, IsSession};
+
+    ghost view = { session_of };
+
+    ghost invariant = { IsSession };
+}

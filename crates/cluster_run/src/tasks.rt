@@ -1,0 +1,60 @@
+//! Lanes that wait to be run.
+
+ghost use Rattle.std.specs.Prelude.{◌≡◌, ◌≤◌, IfOk};
+
+use crate::lanes::LaneWork;
+use crate::session::Session;
+use std::alloc::{AllocError, Global};
+use std::marker::Model;
+use step_kinds::{FrameList, LaneName};
+
+/// A lane with traffic whose ring isn't open yet.
+#[derive(Drop)]
+pub(crate) struct LaneTask {
+    /// The lane.
+    pub(crate) name: LaneName,
+    /// Its number among the lanes with traffic.
+    pub(crate) number: u32,
+    /// The entries of its ring.
+    pub(crate) entries: u32,
+    /// How many losses of its pair's link it sees.
+    pub(crate) losses: u32,
+    /// Its traffic.
+    pub(crate) frames: FrameList,
+}
+
+impl LaneTask {
+    /// The entries of its ring.
+    pub(crate) fn entries(&self) -> u32
+        ensures value { result ≡ self.now.entries }
+        ensures fits { result ≤ 65535 }
+    {
+        self.entries
+    }
+
+    /// Opens the lane's ring for its first session. The only error is want of memory.
+    pub(crate) fn opened(self, alloc: Global) -> Result<LaneWork, AllocError>
+        ensures { IfOk result (λ work. work.key ≡ self) }
+    {
+        let LaneTask {
+            name,
+            number,
+            entries,
+            losses,
+            frames,
+        } = self;
+        LaneWork::new(alloc, name, number, entries, losses, frames)
+    }
+}
+
+impl Model for LaneTask {
+    ghost use Rattle.cluster_run.specs.LaneKeys.{LaneKey};
+
+    ghost Value = { LaneKey };
+
+    ghost use Rattle.cluster_run.specs.LaneFields.{key_of_task, IsTask};
+
+    ghost view = { key_of_task };
+
+    ghost invariant = { IsTask };
+}

@@ -1,0 +1,97 @@
+//! The lanes that wait to be run.
+
+ghost use Rattle.std.specs.Prelude.{◌≡◌, ◌≤◌, ◌<◌, ◌++◌, ◌∷◌, [], length, map, IfOk, OnOk};
+ghost use Rattle.plan_model.specs.Plans.{pair_plan};
+ghost use Rattle.cluster_run.specs.Lanes.{CanRun};
+ghost use Rattle.cluster_run.specs.ByLane.{AreOfTraffic, key_with, keys_with_frames, lane_frames};
+ghost use Rattle.cluster_run.specs.Tasks.{CanBeRun, losses_by_pair};
+ghost use Rattle.traffic_plan.specs.Lanes.{frames_on};
+
+use crate::by_lane::LaneTraffic;
+use crate::tasks::LaneTask;
+use ring_geometry::laws::ring_has_two_entries;
+use script_plan::rings::ring_of;
+use std::alloc::{AllocError, Global};
+use std::collections::VecDeque;
+use step_kinds::{PairPlan, Plan};
+use traffic_plan::breaks;
+
+// How many losses of its link each pair has.
+fn losses_by_pair(alloc: Global, plan: &Plan) -> Result<Vec<u32>, AllocError>
+    requires { CanRun plan.now }
+    ensures { IfOk result (λ losses. losses.items ≡ losses_by_pair plan.now) }
+{
+    let mut losses = Vec::new(alloc);
+    for pair in 0..plan.pairs.len() as u32 {
+        losses.push(breaks(plan, pair))?;
+    }
+    Ok(losses)
+}
+
+// A pair of the plan.
+fn pair_at(plan: &Plan, pair: u32) -> &PairPlan
+    requires { pair < length plan.now.pairs }
+    ensures { result.now ≡ pair_plan plan.now pair }
+{
+    &plan.pairs.as_slice()[pair as usize]
+}
+
+// The lane with this number, which may have traffic.
+fn task_of(plan: &Plan, losses: &[u32], number: u32, lane: LaneTraffic) -> LaneTask
+    requires plan { CanRun plan.now }
+    requires losses { losses.now ≡ losses_by_pair plan.now }
+    requires number { number ≤ 65535 }
+    requires lane { CanBeRun plan.now lane }
+    ensures { result ≡ key_with plan.now (lane_frames lane) }
+{
+    let LaneTraffic { name, frames } = lane;
+    ring_has_two_entries();
+    let ring = ring_of(pair_at(plan, name.pair), name.from, name.queue);
+    LaneTask {
+        name,
+        number,
+        entries: ring.entries(),
+        losses: losses[name.pair as usize],
+        frames,
+    }
+}
+
+// Adds a lane after those that wait, where it has a frame.
+fn push_task(
+    plan: &Plan,
+    losses: &[u32],
+    tasks: &mut VecDeque<LaneTask>,
+    lane: LaneTraffic,
+) -> Result<(), AllocError>
+    requires plan { CanRun plan.now }
+    requires losses { losses.now ≡ losses_by_pair plan.now }
+    requires few { length tasks.old.items ≤ 65535 }
+    requires lane { lane.frames.frames ≡ frames_on lane.name plan.now.traffic }
+    ensures { OnOk result (tasks.new.items ≡ tasks.old.items ++ keys_with_frames plan.now (lane_frames lane ∷ [])) }
+{
+    if lane.frames.is_empty() {
+        return Ok(());
+    }
+    let number = tasks.len() as u32;
+    tasks.push_back(task_of(plan, losses, number, lane))?;
+    Ok(())
+}
+
+/// The lanes with traffic, in order, each with its frames. The only error is want of memory.
+pub(crate) fn waiting_lanes(
+    alloc: Global,
+    plan: &Plan,
+    lanes: Vec<LaneTraffic>,
+) -> Result<VecDeque<LaneTask>, AllocError>
+    requires plan { CanRun plan.now }
+    requires few { length lanes.items ≤ 65535 }
+    requires traffic { AreOfTraffic plan.now lanes.items }
+    ensures { IfOk result (λ tasks. tasks.items ≡ keys_with_frames plan.now (map lane_frames lanes.items)) }
+{
+    let losses = losses_by_pair(alloc, plan)?;
+    let mut tasks = VecDeque::new(alloc);
+    for lane in lanes {
+        push_task(plan, &losses, &mut tasks, lane)?;
+    }
+    Ok(tasks)
+}
