@@ -3,7 +3,7 @@
 #![tactic(auto)]
 
 mod answers;
-mod append;
+pub mod append;
 mod line;
 mod run;
 #[cfg(test)]

@@ -4,7 +4,7 @@
 mod declarations;
 mod error;
 pub mod laws;
-mod lines;
+pub mod lines;
 mod lookups;
 mod script;
 mod step_lines;

@@ -1,0 +1,49 @@
+-- What travels from a side to its peer, the oldest first, and which of it may land.
+use Rattle.std.specs.Prelude.{ℕ, zero, suc, ◌+◌, ◌-◌, ◌/◌, Bool, false, List, [], ◌∷◌, ◌++◌, length, take, Option, Some, None, slice_get, if◌then◌else◌}
+use Rattle.std.specs.List.{list_all}
+use Rattle.order_rules.specs.Order.{relaxed as relaxed_kind, strict as strict_kind}
+use Rattle.order_rules.specs.Transactions.{read_request, completion, may_overtake}
+
+-- what a bridge carries from a side to its peer: the side's writes and read requests, and the completions of the peer's reads
+pub data Flying : Type 0 where
+  -- a posted write of these bytes to this address
+  Write : (at : ℕ) (bytes : List ℕ) (relaxed : Bool) → Flying
+  -- the request of the side's read of this number: so many bytes from this address on
+  Request : (number : ℕ) (at : ℕ) (len : ℕ) → Flying
+  -- a completion of the peer's read of this number that isn't the last one
+  Part : (number : ℕ) (part : ℕ) → Flying
+  -- the last completion of the peer's read of this number; all bytes of the read stand with it, since with it they are handed over
+  Last : (number : ℕ) (bytes : List ℕ) → Flying
+
+-- the kind by which the table orders it
+abbrev pub kind_of : Flying → ℕ
+kind_of (Write at bytes relaxed) = if relaxed then relaxed_kind else strict_kind
+kind_of (Request number at len) = read_request
+kind_of (Part number part) = completion
+kind_of (Last number bytes) = completion
+
+-- whether it may land after these: it may pass each of them
+abbrev pub may_pass_all : Flying → List Flying → Bool
+may_pass_all flying before = list_all (λ earlier. may_overtake (kind_of flying) (kind_of earlier)) before
+
+-- whether what stands here may land, where anything does
+abbrev pub lands_after : Option Flying → List Flying → Bool
+lands_after None before = false
+lands_after (Some flying) before = may_pass_all flying before
+
+-- whether what stands at this place may land
+abbrev pub may_land : List Flying → ℕ → Bool
+may_land flight place = lands_after (slice_get flight place) (take place flight)
+
+-- how many bytes a completion brings; the last one of a read brings the rest
+abbrev pub completion_bytes : ℕ
+completion_bytes = 128
+
+-- so many completions before the last one, from a part on
+abbrev pub parts_from : ℕ → ℕ → ℕ → List Flying
+parts_from number part zero = []
+parts_from number part (suc more) = Part number part ∷ parts_from number (part + 1) more
+
+-- the completions of a read of these bytes, of which there is one at least
+abbrev pub completions : ℕ → List ℕ → List Flying
+completions number bytes = parts_from number 0 ((length bytes - 1) / completion_bytes) ++ Last number bytes ∷ []

@@ -1,0 +1,3 @@
+pub mod FlightLemmas
+pub mod EndLemmas
+pub mod PathLemmas

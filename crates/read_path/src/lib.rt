@@ -1,0 +1,14 @@
+//! Two sides that one bridge joins, with posted writes, read requests and completions in flight, ordered as PCI Express
+//! Base 4.0, section 2.4, orders them.
+//!
+//! A read request waits for the posted writes before it, and a completion for those before it. So a driver that reads
+//! its peer back knows, once the data is there, that its own earlier writes have landed (`ntb_transport` doesn't rely on
+//! this; drivers of other devices do).
+#![tactic(auto)]
+
+mod end;
+mod flight;
+mod path;
+
+pub use path::Path;
+pub use read_model::{PathLand, PostAnswer, ReadAnswer};

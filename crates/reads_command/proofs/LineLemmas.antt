@@ -1,0 +1,13 @@
+-- Lines of too many words.
+use Rattle.std.proofs.Common.{◌≡◌, ℕ, ◌≤◌, Err, List, [], ◌∷◌, length, refl, arith}
+use Rattle.script_words.specs.declared.fault.Cause.TheVariants.{UnknownWord}
+use Rattle.read_model.specs.Lines.{step_of}
+
+pub step_long : (words : List (List ℕ)) → 6 ≤ length words → step_of words ≡ Err UnknownWord
+step_long [] many = refl
+step_long (a ∷ []) many = absurd (omega (arith, many))
+step_long (a ∷ b ∷ []) many = refl
+step_long (a ∷ b ∷ c ∷ []) many = absurd (omega (arith, many))
+step_long (a ∷ b ∷ c ∷ d ∷ []) many = absurd (omega (arith, many))
+step_long (a ∷ b ∷ c ∷ d ∷ e ∷ []) many = absurd (omega (arith, many))
+step_long (a ∷ b ∷ c ∷ d ∷ e ∷ f ∷ words) many = refl

@@ -1,0 +1,25 @@
+-- Which steps a path takes.
+use Rattle.std.specs.Prelude.{ℕ, ◌+◌, ◌≤◌, Option, Some, None, length}
+use Rattle.read_model.specs.Path.{memory_bytes}
+use Rattle.read_model.specs.declared.PathStep.{PathStep}
+use Rattle.read_model.specs.declared.PathStep.TheVariants.{Write, Read, Land, Show, Break, DropDone, Relink}
+
+-- a byte at least and so many at most, and all in a side's memory
+pub record IsRange (most at len : ℕ) : Type 0 where
+  pub some : 1 ≤ len
+  pub few : len ≤ most
+  pub within : at + len ≤ memory_bytes
+
+-- its bytes are as many as a step may have, and lie in a side's memory
+abbrev pub Fits : PathStep → Type 0
+Fits (Write side at bytes relaxed) = IsRange 128 at (length bytes)
+Fits (Read side at len) = IsRange 512 at len
+Fits (Land side place) = Unit {0}
+Fits (Show side at len) = IsRange 64 at len
+Fits Break = Unit {0}
+Fits DropDone = Unit {0}
+Fits Relink = Unit {0}
+
+abbrev pub FitsIfThere : Option PathStep → Type 0
+FitsIfThere None = Unit {0}
+FitsIfThere (Some step) = Fits step

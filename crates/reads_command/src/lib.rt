@@ -1,0 +1,8 @@
+//! The command `reads`: a text of steps on two sides that one bridge joins, and the reply to it.
+#![tactic(auto)]
+
+mod answers;
+mod lines;
+mod reply;
+
+pub use reply::{ReadsError, reads_text};
