@@ -2,7 +2,9 @@
 #![tactic(auto)]
 
 mod answers;
+mod command;
 mod lines;
 mod reply;
 
+pub use command::reads_reply;
 pub use reply::{ReadsError, reads_text};

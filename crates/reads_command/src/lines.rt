@@ -17,7 +17,9 @@ const MOST_STEPS: u32 = 1_000_000;
 
 /// The most bytes of a write, of a read and of a show.
 const MOST_WRITE_BYTES: usize = 128;
+
 const MOST_READ_BYTES: u32 = 512;
+
 const MOST_SHOW_BYTES: u32 = 64;
 
 /// The bytes of a side's memory.
@@ -195,10 +197,7 @@ fn is_header(words: &[&[u8]]) -> bool
 }
 
 /// The first line.
-fn header_line<'a>(
-    words: &mut Vec<&'a [u8]>,
-    line: &'a [u8],
-) -> Result<Option<PathStep>, LineError>
+fn header_line<'a>(words: &mut Vec<&'a [u8]>, line: &'a [u8]) -> Result<Option<PathStep>, LineError>
     ensures step { Reads result (rules.header_line line.now) }
     ensures none { IfOk result (λ step. step ≡ None) }
 {
