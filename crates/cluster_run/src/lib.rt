@@ -19,3 +19,6 @@ mod waiting;
 mod workers;
 
 pub use run::run_plan;
+
+#[cfg(test)]
+mod tests;

@@ -20,6 +20,3 @@ mod write;
 
 pub use answers::{Begun, LaneCopy, LaneLand, LaneLook};
 pub use lane::Lane;
-
-#[cfg(test)]
-mod tests;

@@ -70,7 +70,7 @@ abbrev pub sink_of : Outside → Held
 sink_of outside = record { held = outside.held; faults = outside.write_faults }
 
 -- a run that has its reply, whether all of the text is written or a part
-pub run_answered : (reading : Bool) (IsAnswer : List ℕ → Output → Type 0) (before after : Outside) (output : Output) (status : ℕ) →
+unfoldable pub run_answered : (reading : Bool) (IsAnswer : List ℕ → Output → Type 0) (before after : Outside) (output : Output) (status : ℕ) →
     HasReplied reading IsAnswer (source_of before) (source_of after) (Ok output) → HasWritten (sink_of before) (sink_of after) output status →
     HasAnswered reading IsAnswer before after status
 run_answered reading IsAnswer before after output status replied written =

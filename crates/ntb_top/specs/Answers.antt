@@ -3,17 +3,22 @@ use Rattle.std.specs.Prelude.{◌≡◌, ℕ, Option, Some, None, List, length, 
 use Rattle.step_kinds.specs.Limits.{most_script_bytes}
 use Rattle.command_reply.specs.Output.{Output, too_long, usage}
 use Rattle.replay_command.specs.Answers.{IsLoadOf, IsReplayOf}
+use Rattle.run_command.specs.Answers.{Carried, IsRunOf, nothing_carried}
 use Rattle.ntb_top.specs.declared.command.Command.{Command}
-use Rattle.ntb_top.specs.declared.command.Command.TheVariants.{Load, Replay}
+use Rattle.ntb_top.specs.declared.command.Command.TheVariants.{Load, Replay, Run}
 
--- A case for each command: a relation, so that several texts may be right. A command whose reply carries more than its text, as a
--- record and proofs, takes what it carries as one more argument of its relation, and its top call answers that beside the status:
--- `HasAnswered` (of `Runs`) holds for any relation between bytes and outputs.
+-- A case for each command: a relation, since several texts of `run` are right. What comes with a text of `run` is said in `Ends`.
 abbrev pub IsReplyOf : Command → List ℕ → Output → Type 0
 IsReplyOf Replay bytes output = IsReplayOf bytes output
 IsReplyOf (Load seed frames) bytes output = IsLoadOf seed frames output
+IsReplyOf Run bytes output = (carried : Carried) × IsRunOf bytes output carried
 
 -- `usage` where the words are no command, `too long` where too many bytes were read, else what the command answers
 abbrev pub IsAnswerTo : Option Command → List ℕ → Output → Type 0
 IsAnswerTo None bytes output = output ≡ usage
 IsAnswerTo (Some command) bytes output = MatchBool (nat_lt most_script_bytes (length bytes)) (output ≡ too_long) (IsReplyOf command bytes output)
+
+-- the same of `run`, with what comes with the text
+abbrev pub IsRunAnswerTo : List ℕ → Output → Carried → Type 0
+IsRunAnswerTo bytes output carried =
+    MatchBool (nat_lt most_script_bytes (length bytes)) ((output ≡ too_long) × (carried ≡ nothing_carried)) (IsRunOf bytes output carried)

@@ -1,11 +1,11 @@
 -- The words of a command line, and the command that they are.
-use Rattle.std.specs.Prelude.{ℕ, ◌^◌, ◌≤◌, ◌&&◌, Bool, true, false, Option, Some, None, List, [], ◌∷◌, codes, nat_le, nat_lt, if◌then◌else◌}
+use Rattle.std.specs.Prelude.{◌≡◌, ℕ, ◌^◌, ◌≤◌, ◌&&◌, Bool, true, false, Option, Some, None, List, [], ◌∷◌, codes, nat_le, nat_lt, if◌then◌else◌}
 use Rattle.std.specs.List.{list_all}
 use Rattle.std.specs.Str.{bytes_eq}
 use Rattle.script_words.specs.Words.{is_digit, is_plain, value_from}
 use Rattle.traffic_plan.specs.Load.{most_load_frames}
 use Rattle.ntb_top.specs.declared.command.Command.{Command}
-use Rattle.ntb_top.specs.declared.command.Command.TheVariants.{Replay, Load}
+use Rattle.ntb_top.specs.declared.command.Command.TheVariants.{Replay, Load, Run}
 
 -- the number below a limit that a word spells: decimal digits without a leading zero but for zero itself
 abbrev pub number_below : ℕ → List ℕ → Option ℕ
@@ -16,11 +16,19 @@ abbrev pub load_command : Option ℕ → Option ℕ → Option Command
 load_command (Some seed) (Some frames) = if nat_lt 0 frames && nat_le frames most_load_frames then Some (Load seed frames) else None
 load_command seed frames = None
 
--- `replay`, or `load SEED FRAMES`
+-- a command of one word
+abbrev pub lone_command : List ℕ → Option Command
+lone_command word = if bytes_eq word (codes "replay") then Some Replay else (if bytes_eq word (codes "run") then Some Run else None)
+
+-- `replay`, `run`, or `load SEED FRAMES`
 abbrev pub command_of : List (List ℕ) → Option Command
-command_of (word ∷ []) = if bytes_eq word (codes "replay") then Some Replay else None
+command_of (word ∷ []) = lone_command word
 command_of (word ∷ seed ∷ frames ∷ []) = if bytes_eq word (codes "load") then load_command (number_below (2 ^ 64) seed) (number_below (2 ^ 32) frames) else None
 command_of words = None
+
+-- a command that no thread makes
+abbrev pub IsPlain : Option Command → Type 0
+IsPlain command = command ≡ Some Run → ⊥
 
 -- the numbers of a command are in their ranges, where it has any
 abbrev pub IsInRange : Command → Type 0
@@ -31,6 +39,7 @@ IsInRange command = Unit {0}
 abbrev pub command_reads : Command → Bool
 command_reads Replay = true
 command_reads (Load seed frames) = false
+command_reads Run = true
 
 -- whether words are a command that reads a script
 abbrev pub is_reading : Option Command → Bool

@@ -40,7 +40,7 @@ pub record HasInput (reading : Bool) (before after : Given) (result : Result Inp
   pub input : IfOk result (IsInput bytes)
 
 -- The reply of a command, with the bytes that were read.
-pub record HasReplied (reading : Bool) (IsAnswer : List ℕ → Output → Type 0) (before after : Given) (result : Result Output Stop) : Type 0 where
+pub record HasReplied {T : Type 0} (reading : Bool) (IsAnswer : List ℕ → T → Type 0) (before after : Given) (result : Result T Stop) : Type 0 where
   pub bytes : List ℕ
   pub read : HasRead reading before after bytes result
   pub answers : IfOk result (IsAnswer bytes)

@@ -6,33 +6,39 @@ ghost use Rattle.std.specs.Vec.Iter.{into_iter_items};
 ghost use Rattle.command_reply.specs.Statuses.{number_of};
 ghost use Rattle.command_reply.specs.declared.status.Status.TheVariants.{OutOfMemory};
 ghost use Rattle.ntb_top.specs.Arguments.{AreWanting, words_of};
-ghost use Rattle.ntb_top.specs.Runs.{HasRun};
+ghost use Rattle.ntb_top.specs.Commands.{command_of};
+ghost use Rattle.ntb_top.specs.Ends.{HasEnded, carried_of};
 
+use crate::ended::Ended;
 use crate::run_program;
 use command_reply::Status;
-use io_edges::{Sink, Source};
+use io_edges::{Gate, Sink, Source};
 use std::alloc::{AllocError, Global};
 use std::env::Args;
 use std::io;
+use std::sync::Wait;
+use std::thread::Threads;
 
 /// Does all that the program does as a process: [`run_program`] on its arguments but the first, which is its name, and
-/// answers the exit status. Arguments that aren't all text are no command, as no words are. Where there is no memory for
-/// the arguments it answers 6, and neither reads nor writes.
-pub fn run_arguments<S: Source, K: Sink>(
+/// answers its end. Arguments that aren't all text are no command, as no words are. Where there is no memory for
+/// the arguments it answers status 6, and neither reads nor writes.
+pub fn run_arguments<R: Threads + Wait + Sync, S: Source, K: Sink, G: Gate>(
+    rt: &R,
     alloc: Global,
     arguments: io::Result<Args>,
     source: &mut S,
     sink: &mut K,
-) -> u8
-    ensures run { HasRun (words_of arguments)
+    gate: &G,
+) -> Ended
+    ensures run { HasEnded (command_of (words_of arguments))
         (record { left = S.left source.old; read_faults = S.faults source.old; held = K.held sink.old; write_faults = K.faults sink.old })
         (record { left = S.left source.new; read_faults = S.faults source.new; held = K.held sink.new; write_faults = K.faults sink.new })
-        result }
-    ensures wanting { AreWanting arguments → result ≡ number_of OutOfMemory }
+        result.status (carried_of result) }
+    ensures wanting { AreWanting arguments → result.status ≡ number_of OutOfMemory }
 {
     match words_after_name(alloc, arguments) {
-        Ok(words) => run_program(alloc, &words, source, sink),
-        Err(AllocError) => Status::OutOfMemory.number(),
+        Ok(words) => run_program(rt, alloc, &words, source, sink, gate),
+        Err(AllocError) => Ended::alone(alloc, Status::OutOfMemory.number()),
     }
 }
 

@@ -4,7 +4,7 @@ ghost use Rattle.std.specs.Prelude.{◌≡◌, ◌&&◌, ◌^◌, Some, None, If
 ghost use Rattle.std.specs.List.{list_all};
 ghost use Rattle.std.specs.String.{string_bytes};
 ghost use Rattle.script_words.specs.Words.{is_digit, value_from};
-ghost use Rattle.ntb_top.specs.Commands.{IsInRange, command_of as command_by_words, command_reads, load_command, number_below};
+ghost use Rattle.ntb_top.specs.Commands.{IsInRange, command_of as command_by_words, command_reads, load_command, lone_command as lone_command_by_word, number_below};
 
 use script_words::words::read_number;
 
@@ -23,6 +23,8 @@ pub enum Command {
         /// How many frames are sent, 1 to 30,000.
         frames: u32,
     },
+    /// To read a script, send its traffic by threads and write what became of it.
+    Run,
 }
 
 impl Command {
@@ -31,23 +33,37 @@ impl Command {
         ensures { result ≡ command_reads self }
     {
         match self {
-            Command::Replay => true,
+            Command::Replay | Command::Run => true,
             Command::Load { .. } => false,
         }
     }
 }
 
-/// The command that the words of a command line are: `replay`, or `load SEED FRAMES`.
+/// The command that the words of a command line are: `replay`, `run`, or `load SEED FRAMES`.
 pub fn command_of(words: &[String]) -> Option<Command>
     ensures words { result ≡ command_by_words (map string_bytes words.now) }
     ensures range { IfSome result IsInRange }
 {
     match words {
-        [word] if word.as_bytes() == b"replay".as_slice() => Some(Command::Replay),
+        [word] => lone_command(word.as_bytes()),
         [word, seed, frames] if word.as_bytes() == b"load".as_slice() => {
             load_of(seed.as_bytes(), frames.as_bytes())
         }
         _ => None,
+    }
+}
+
+// The command of one word that a word is.
+fn lone_command(word: &[u8]) -> Option<Command>
+    ensures words { result ≡ lone_command_by_word word.now }
+    ensures range { IfSome result IsInRange }
+{
+    if word == b"replay".as_slice() {
+        Some(Command::Replay)
+    } else if word == b"run".as_slice() {
+        Some(Command::Run)
+    } else {
+        None
     }
 }
 

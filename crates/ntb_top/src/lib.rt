@@ -1,12 +1,16 @@
 //! The top call of ntbsim: it takes the words of a command line, a source and a sink, does all that the program does, and
-//! answers the exit status.
+//! answers the exit status, with the record and the proofs of a threaded run.
 #![tactic(auto)]
 
 mod arguments;
 mod command;
+mod ended;
 mod input;
 pub mod laws;
+mod plain;
 mod program;
 
 pub use arguments::run_arguments;
+pub use ended::Ended;
+pub use plain::plain_program;
 pub use program::run_program;

@@ -1,26 +1,36 @@
 //! The top call.
 
-ghost use Rattle.std.specs.Prelude.{◌≤◌, IfOk, length, map};
+ghost use Rattle.std.specs.Prelude.{◌≡◌, Some, map, true};
 ghost use Rattle.std.specs.String.{string_bytes};
-ghost use Rattle.step_kinds.specs.Limits.{most_script_bytes};
-ghost use Rattle.ntb_top.specs.Answers.{IsAnswerTo, IsReplyOf};
-ghost use Rattle.ntb_top.specs.Commands.{IsInRange, command_of as command_by_words, reads_script};
+ghost use Rattle.command_reply.specs.Statuses.{number_of};
+ghost use Rattle.command_reply.specs.declared.status.Status.TheVariants.{Done};
+ghost use Rattle.run_command.specs.Answers.{nothing_carried};
+ghost use Rattle.run_command.specs.Replies.{carried_by};
+ghost use Rattle.ntb_top.specs.Answers.{IsRunAnswerTo};
+ghost use Rattle.ntb_top.specs.Commands.{command_of as command_by_words};
+ghost use Rattle.ntb_top.specs.Ends.{HasEnded, carried_of};
 ghost use Rattle.ntb_top.specs.Inputs.{HasReplied, HasWritten};
-ghost use Rattle.ntb_top.specs.Runs.{HasRun};
+ghost use Rattle.ntb_top.specs.declared.command.Command.TheVariants.{Run};
 
 use crate::command::{Command, command_of};
+use crate::ended::Ended;
 use crate::input::{Input, Stop, read_input};
+use crate::plain::{plain_program, write_reply};
 use command_reply::{Reply, Status};
-use io_edges::{Sink, Source, WriteFault, write_all};
-use replay_command::{load_reply, replay_reply};
-use std::alloc::{AllocError, Global};
+use io_edges::{Gate, Sink, Source};
+use run_command::{RunReply, run_reply};
+use std::alloc::Global;
+use std::sync::Wait;
+use std::thread::Threads;
 
 /// Does all that the program does: reads its input from the source where the words are a command that reads a script, writes
-/// one text to the sink, and answers the exit status.
+/// one text to the sink, and answers the exit status. On words that aren't `run` it is one call of [`plain_program`]; on
+/// `run` each worker passes the gate before each of its turns, and the end has the record whose text was written, with a
+/// proof of each session.
 ///
 /// | status | cause | text |
 /// |---|---|---|
-/// | 0 | none of the others | `replay`: the report; `load`: the summary of a load |
+/// | 0 | none of the others | `replay`: the report; `run`: the text of the record; `load`: the summary of a load |
 /// | 2 | the words are no command | `usage` |
 /// | 3 | a line of the script has a fault | `refused line L CAUSE` |
 /// | 4 | the source failed | nothing |
@@ -29,60 +39,89 @@ use std::alloc::{AllocError, Global};
 /// | 7 | the input has more than 16,777,216 bytes | `too long` |
 ///
 /// The order is words, reading, parsing, work, writing: the text is whole before its first byte is written.
-pub fn run_program<S: Source, K: Sink>(
+pub fn run_program<R: Threads + Wait + Sync, S: Source, K: Sink, G: Gate>(
+    rt: &R,
     alloc: Global,
     words: &[String],
     source: &mut S,
     sink: &mut K,
-) -> u8
-    ensures { HasRun (map string_bytes words.now)
+    gate: &G,
+) -> Ended
+    ensures { HasEnded (command_by_words (map string_bytes words.now))
         (record { left = S.left source.old; read_faults = S.faults source.old; held = K.held sink.old; write_faults = K.faults sink.old })
         (record { left = S.left source.new; read_faults = S.faults source.new; held = K.held sink.new; write_faults = K.faults sink.new })
-        result }
+        result.status (carried_of result) }
 {
-    match reply_to(alloc, words, source) {
-        Ok(reply) => write_reply(sink, &reply),
-        Err(Stop::SourceFailed) => Status::SourceFailed.number(),
-        Err(Stop::OutOfMemory) => Status::OutOfMemory.number(),
+    match command_of(words) {
+        Some(Command::Run) => run_traffic(rt, alloc, source, sink, gate),
+        Some(Command::Replay | Command::Load { .. }) | None => {
+            Ended::alone(alloc, plain_program(alloc, words, source, sink))
+        }
     }
 }
 
-// The reply to these words over this source.
-fn reply_to<S: Source>(alloc: Global, words: &[String], source: &mut S) -> Result<Reply, Stop>
-    ensures { HasReplied (reads_script (map string_bytes words.now)) (IsAnswerTo (command_by_words (map string_bytes words.now)))
+// The program on the word `run`.
+fn run_traffic<R: Threads + Wait + Sync, S: Source, K: Sink, G: Gate>(
+    rt: &R,
+    alloc: Global,
+    source: &mut S,
+    sink: &mut K,
+    gate: &G,
+) -> Ended
+    ensures { HasEnded (Some Run)
+        (record { left = S.left source.old; read_faults = S.faults source.old; held = K.held sink.old; write_faults = K.faults sink.old })
+        (record { left = S.left source.new; read_faults = S.faults source.new; held = K.held sink.new; write_faults = K.faults sink.new })
+        result.status (carried_of result) }
+{
+    match run_of_input(rt, alloc, source, gate) {
+        Ok(run) => written(alloc, sink, run),
+        Err(Stop::SourceFailed) => Ended::alone(alloc, Status::SourceFailed.number()),
+        Err(Stop::OutOfMemory) => Ended::alone(alloc, Status::OutOfMemory.number()),
+    }
+}
+
+// The reply of `run` to what the source has.
+fn run_of_input<R: Threads + Wait + Sync, S: Source, G: Gate>(
+    rt: &R,
+    alloc: Global,
+    source: &mut S,
+    gate: &G,
+) -> Result<RunReply, Stop>
+    ensures { HasReplied true (λ bytes run. IsRunAnswerTo bytes run.reply (carried_by run))
         (record { left = S.left source.old; faults = S.faults source.old })
         (record { left = S.left source.new; faults = S.faults source.new }) result }
 {
-    match command_of(words) {
-        None => Ok(Reply::usage()),
-        Some(command) => match read_input(alloc, command.reads(), source)? {
-            Input::Whole(bytes) => Ok(reply_of(alloc, command, &bytes)?),
-            Input::TooLong => Ok(Reply::too_long()),
-        },
+    match read_input(alloc, true, source)? {
+        Input::Whole(bytes) => Ok(run_reply(rt, alloc, &bytes, gate)?),
+        Input::TooLong => Ok(RunReply {
+            reply: Reply::too_long(),
+            runs: None,
+            proofs: Vec::new(alloc),
+        }),
     }
 }
 
-// The reply of a command to the bytes that it read. The only error is want of memory.
-fn reply_of(alloc: Global, command: Command, bytes: &[u8]) -> Result<Reply, AllocError>
-    requires range { IsInRange command }
-    requires few { length bytes.now ≤ most_script_bytes }
-    ensures { IfOk result (λ reply. IsReplyOf command bytes.now reply) }
+// Writes the reply of `run`. The record and the proofs are answered where the text was written whole and tells of them.
+fn written<K: Sink>(alloc: Global, sink: &mut K, run: RunReply) -> Ended
+    ensures text { HasWritten (record { held = K.held sink.old; faults = K.faults sink.old })
+        (record { held = K.held sink.new; faults = K.faults sink.new }) run.reply result.status }
+    ensures told { result.status ≡ number_of Done → carried_of result ≡ carried_by run }
+    ensures alone { (result.status ≡ number_of Done → ⊥) → carried_of result ≡ nothing_carried }
 {
-    match command {
-        Command::Replay => replay_reply(alloc, bytes),
-        Command::Load { seed, frames } => load_reply(alloc, seed, frames),
+    let RunReply {
+        reply,
+        runs,
+        proofs,
+    } = run;
+    let status = write_reply(sink, &reply);
+    if status == Status::Done.number() {
+        return Ended {
+            status,
+            runs,
+            proofs,
+        };
     }
-}
-
-// Writes a reply, and answers its status, or that the sink failed.
-fn write_reply<K: Sink>(sink: &mut K, reply: &Reply) -> u8
-    ensures { HasWritten (record { held = K.held sink.old; faults = K.faults sink.old })
-        (record { held = K.held sink.new; faults = K.faults sink.new }) reply.now result }
-{
-    match write_all(sink, reply.text()) {
-        Ok(()) => reply.status(),
-        Err(WriteFault) => Status::SinkFailed.number(),
-    }
+    Ended::alone(alloc, status)
 }
 
 #[cfg(test)]

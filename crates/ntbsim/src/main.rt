@@ -1,7 +1,9 @@
-//! `ntbsim`: replays scripts of hosts that are joined in pairs by PCI Express non-transparent bridges.
+//! `ntbsim`: replays scripts of hosts that are joined in pairs by PCI Express non-transparent bridges, and sends their
+//! traffic by threads.
 #![tactic(auto)]
 
-use io_edges::{StdSink, StdSource};
+use io_edges::{NoGate, StdSink, StdSource};
+use ntb_top::run_arguments;
 use std::env;
 use std::process::ExitCode;
 
@@ -9,5 +11,7 @@ use std::process::ExitCode;
 fn main(rt: HostRuntime) -> ExitCode {
     let mut source = StdSource::new(rt.stdin());
     let mut sink = StdSink::new(rt.stdout());
-    ExitCode::from(ntb_top::run_arguments(rt.alloc(), env::args(&rt), &mut source, &mut sink))
+    let arguments = env::args(&rt);
+    let ended = run_arguments(&rt, rt.alloc(), arguments, &mut source, &mut sink, &NoGate);
+    ExitCode::from(ended.status)
 }

@@ -30,10 +30,11 @@ ahead_at P before (z ∷ xs) ys x has = subst (λ b. P b x) (step_over before xs
 ahead_after : (P Q : List Sent → Sent → Type 0) (x : Sent) → ((b c : List Sent) (z : Sent) → P (b ++ x ∷ c) z → Q (b ++ c) z)
     → (before c ys : List Sent) → AllAhead P (before ++ x ∷ c) ys → AllAhead Q (before ++ c) ys
 ahead_after P Q x gone before c [] has = tt
-ahead_after P Q x gone before c (y ∷ ys) has =
-    (gone before c y has.0,
-    subst (λ b. AllAhead Q b ys) (sym (append_assoc before c (y ∷ [])))
-    (ahead_after P Q x gone before (c ++ y ∷ []) ys (subst (λ b. AllAhead P b ys) (append_assoc before (x ∷ c) (y ∷ [])) has.1)))
+ahead_after P Q x gone before c (y ∷ ys) has = (
+  gone before c y has.0,
+  subst (λ b. AllAhead Q b ys) (sym (append_assoc before c (y ∷ [])))
+      (ahead_after P Q x gone before (c ++ y ∷ []) ys (subst (λ b. AllAhead P b ys) (append_assoc before (x ∷ c) (y ∷ [])) has.1)),
+)
 
 -- without one item the others have their facts, where the fact of each stays without that item before it
 pub ahead_without : (P Q : List Sent → Sent → Type 0) (x : Sent) → ((b : List Sent) (z : Sent) → P b z → Q b z) → ((b c : List Sent) (z : Sent) → P (b ++ x ∷ c) z → Q (b ++ c) z)

@@ -28,9 +28,15 @@ pub enum InFlight {
         room: Items<u8>,
     },
     /// A completion that isn't the last one of its read.
-    Part { number: u64, part: u32 },
+    Part {
+        number: u64,
+        part: u32,
+    },
     /// The last completion of a read, with all its bytes.
-    Last { number: u64, frame: Frame },
+    Last {
+        number: u64,
+        frame: Frame,
+    },
 }
 
 impl InFlight {

@@ -8,3 +8,6 @@ mod reply;
 
 pub use command::reads_reply;
 pub use reply::{ReadsError, reads_text};
+
+#[cfg(test)]
+mod tests;

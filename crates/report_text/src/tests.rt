@@ -4,8 +4,8 @@ use super::*;
 use std::alloc::{AllocError, Global};
 use std::test::Fail;
 use step_kinds::{
-    Answer, Frame, FrameList, Items, LaneName, LaneRun, Name, PairPlan, Plan, RunRecord,
-    SessionRun, Side, SidePlan,
+    Answer, Counters, DevPlan, Frame, FrameList, Items, LaneName, LaneRun, LineAnswer, Name,
+    PairPlan, Plan, RunRecord, SessionRun, Side, SidePlan,
 };
 
 // It comes after 65,535 sessions, which no worked script has.
@@ -16,7 +16,7 @@ fn the_text_of_spent(rt: HostRuntime) -> Result<(), Fail> {
     Ok(())
 }
 
-/// A plan of one pair, `p`.
+/// A plan of one pair, `p`, with one device, `d0`.
 fn plan(alloc: Global) -> Result<Plan, AllocError> {
     let window = 4096;
     let side = SidePlan {
@@ -39,9 +39,19 @@ fn plan(alloc: Global) -> Result<Plan, AllocError> {
         class_a: no_class,
         class_b: no_class,
     })?;
+    let mut devs = Items::new(alloc);
+    devs.push(DevPlan {
+        name: Name::of_bytes(b"d0"),
+        pair: 0,
+        side: Side::A,
+        queue: 0,
+        address: [2, 0, 0, 0, 0, 1],
+        stop: 2,
+        start: 3,
+    })?;
     Ok(Plan {
         pairs,
-        devs: Items::new(alloc),
+        devs,
         steps: Items::new(alloc),
         traffic: Items::new(alloc),
     })
@@ -53,12 +63,64 @@ const LANE: LaneName = LaneName {
     queue: 0,
 };
 
+/// Whether each count names a pair of the plan.
+fn all_counts_known(plan: &Plan, lanes: &[LaneCount]) -> bool
+    ensures { IsTrue result ↔ All (λ lane. lane.name.pair < length plan.now.pairs) lanes.now }
+{
+    let pairs = plan.pairs.len();
+    lanes.iter().all(|lane| (lane.name.pair as usize) < pairs)
+}
+
 /// Whether each lane of a run names a pair of the plan.
 fn all_lanes_known(plan: &Plan, lanes: &[LaneRun]) -> bool
     ensures { IsTrue result ↔ All (λ lane. lane.name.pair < length plan.now.pairs) lanes.now }
 {
     let pairs = plan.pairs.len();
     lanes.iter().all(|lane| (lane.name.pair as usize) < pairs)
+}
+
+#[test]
+fn a_report_of_answers_lanes_and_devices(rt: HostRuntime) -> Result<(), Fail> {
+    let lines = [
+        LineAnswer {
+            line: 6,
+            answer: Answer::OkNumber { number: 0 },
+        },
+        LineAnswer {
+            line: 10,
+            answer: Answer::Stopped,
+        },
+    ];
+    let lanes = [
+        LaneCount {
+            name: LANE,
+            session: 1,
+            accepted: 2,
+            delivered: 0,
+        },
+        LaneCount {
+            name: LANE,
+            session: 2,
+            accepted: 0,
+            delivered: 0,
+        },
+    ];
+    let devs = [Counters {
+        tx: 2,
+        tx_bytes: 30,
+        refused: 1,
+        rx: 0,
+        rx_bytes: 0,
+        short: 0,
+    }];
+    let plan = plan(rt.alloc())?;
+    assert!(rt; all_counts_known(&plan, &lanes));
+    assert_eq!(rt; devs.len(), plan.devs.len());
+    let text = report(rt.alloc(), &plan, &lines, &lanes, &devs)?;
+    let expected =
+        "6 ok 0\n10 stopped\nlane p A 0 1 accepted 2 delivered 0\ndev d0 tx 2 30 1 rx 0 0 0\nend\n";
+    assert_eq!(rt; text.as_slice(), expected.as_bytes());
+    Ok(())
 }
 
 fn frames(alloc: Global, bytes: &[u8]) -> Result<FrameList, AllocError> {

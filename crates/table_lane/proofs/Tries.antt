@@ -1,16 +1,13 @@
 -- Each step of the mover and of the way back raises what it counts.
-use Rattle.std.proofs.Common.{◌≡◌, ℕ, zero, suc, ◌+◌, ◌%◌, ◌≤◌, Bool, true, false, List, [], ◌∷◌, ◌++◌, length, eqb, get_or, map, if◌then◌else◌, Some, None, arith, refl, sym, ap, subst}
+use Rattle.std.proofs.Common.{◌≡◌, ℕ, zero, suc, ◌+◌, ◌%◌, ◌≤◌, Bool, true, false, List, [], ◌∷◌, ◌++◌, length, eqb, get_or, map, if◌then◌else◌, arith, refl, sym, ap, subst}
 use Rattle.std.specs.Prelude.{slice_get, MatchBool, MatchOption}
 use Rattle.table_rule.specs.declared.parts.MovePart.{MovePart}
 use Rattle.table_rule.specs.declared.parts.BackPart.{BackPart}
-use Rattle.table_rule.specs.LaneNames.{tail_of}
 use Rattle.table_rule.specs.Words.{header_of}
 use Rattle.table_rule.specs.Knowledge.{taken, posted_loaded, frame_taken, index_out_loaded, index_stored}
 use Rattle.table_lane.specs.declared.mover.MoveAnswer.{MoveAnswer}
-use Rattle.table_lane.specs.declared.mover.MoveAnswer.TheVariants.{Took, Header, Flag, Idle}
-use Rattle.table_lane.specs.declared.back.BackAnswer.{BackAnswer}
-use Rattle.table_lane.specs.MoveChoice.{waiting, open_moves, after_move, Makes, MakesFirst, TakesOrMakes, Moves}
-use Rattle.table_lane.specs.RecvAnswers.{GivesBack, after_back}
+use Rattle.table_lane.specs.declared.mover.MoveAnswer.TheVariants.{Took, Header, Flag}
+use Rattle.table_lane.specs.MoveChoice.{waiting, open_moves, after_move, Makes, MakesFirst, TakesOrMakes}
 use Rattle.table_lane.specs.Tries.{tries, EachMoveIsATry, EachStepBackIsALoad}
 
 -- a part that was tried with more often, in a ring of as many entries

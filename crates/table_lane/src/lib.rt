@@ -10,8 +10,6 @@ mod mover;
 mod recv;
 mod send;
 mod steps;
-#[cfg(test)]
-mod tests;
 
 pub use back::{BackAnswer, BackEnd, CutEnd};
 pub use ends::make;

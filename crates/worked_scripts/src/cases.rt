@@ -10,12 +10,15 @@ pub enum Wanted {
     Lines(Vec<u8>),
     /// It is this.
     Whole(Vec<u8>),
+    /// It is that of a run, of these lanes and sessions.
+    Sessions(Vec<u8>),
 }
 
-/// A script, the status that the program has to answer, and what it has to write.
+/// A script, the command that reads it, the status that the program has to answer, and what it has to write.
 #[derive(Drop)]
 pub struct Case {
     pub about: String,
+    pub command: &'static str,
     pub status: u8,
     pub script: Vec<u8>,
     pub wanted: Vec<Wanted>,
@@ -53,6 +56,7 @@ pub fn read_table<R: Input + AllocGlobal>(rt: &R) -> io::Result<Table> {
 fn empty_case(alloc: Global) -> Case {
     Case {
         about: String::new(alloc),
+        command: "replay",
         status: 0,
         script: Vec::new(alloc),
         wanted: Vec::new(alloc),
@@ -67,7 +71,10 @@ fn is_complete(case: &Case) -> bool {
 // Adds a line to a case, and says whether it may stand there.
 fn take_line(alloc: Global, case: &mut Case, line: &str) -> Result<bool, AllocError> {
     if let Some(head) = line.strip_prefix("@case ") {
-        return take_head(alloc, case, head);
+        return take_head(alloc, case, "replay", head);
+    }
+    if let Some(head) = line.strip_prefix("@run ") {
+        return take_head(alloc, case, "run", head);
     }
     if line == "@part" {
         let mut lines = Vec::new(alloc);
@@ -75,19 +82,32 @@ fn take_line(alloc: Global, case: &mut Case, line: &str) -> Result<bool, AllocEr
         case.wanted.push(Wanted::Lines(lines))?;
     } else if line == "@whole" {
         case.wanted.push(Wanted::Whole(Vec::new(alloc)))?;
+    } else if line == "@sessions" {
+        case.wanted.push(Wanted::Sessions(Vec::new(alloc)))?;
     } else {
         add_line(text_of(case), line)?;
     }
-    Ok(!case.about.is_empty() && (!line.starts_with("@") || line == "@part" || line == "@whole"))
+    Ok(!case.about.is_empty() && (!line.starts_with("@") || is_heading(line)))
 }
 
-// The status and what the case is about. There is one head, and no line before it.
-fn take_head(alloc: Global, case: &mut Case, head: &str) -> Result<bool, AllocError> {
+// Whether a line begins what is wanted.
+fn is_heading(line: &str) -> bool {
+    line == "@part" || line == "@whole" || line == "@sessions"
+}
+
+// The command, the status and what the case is about. There is one head, and no line before it.
+fn take_head(
+    alloc: Global,
+    case: &mut Case,
+    command: &'static str,
+    head: &str,
+) -> Result<bool, AllocError> {
     let is_first = case.about.is_empty() && case.script.is_empty();
     match head.split_once(' ') {
         Some((status, about)) => {
             case.status = status.parse::<u8>().unwrap_or(255);
             case.about = String::from_str(alloc, about)?;
+            case.command = command;
             Ok(is_first && status.parse::<u8>().is_ok())
         }
         None => Ok(false),
@@ -99,6 +119,7 @@ fn text_of(case: &mut Case) -> &mut Vec<u8> {
     match case.wanted.last_mut() {
         Some(Wanted::Lines(text)) => text,
         Some(Wanted::Whole(text)) => text,
+        Some(Wanted::Sessions(text)) => text,
         None => &mut case.script,
     }
 }

@@ -1,13 +1,15 @@
 //! Runs the program on worked scripts, and says of each whether its status and its text are those that were worked out by hand.
 //!
-//! Standard input has the cases. A line `@case STATUS ABOUT` begins one, the lines after it are its script, `@part` begins lines that
-//! have to stand in the text that the program writes, one behind the other, `@whole` the whole text, and `@end` ends the case. Each case
-//! is run over sources and sinks of several piece sizes. A table that hasn't this form fails.
+//! Standard input has the cases. A line `@case STATUS ABOUT` begins one of `replay`, `@run STATUS ABOUT` one of `run`, the lines after it
+//! are its script, `@part` begins lines that have to stand in the text that the program writes, one behind the other, `@whole` the whole
+//! text, `@sessions` what the lanes of a run have to come to, and `@end` ends the case. Each case is run over sources and sinks of several
+//! piece sizes. A table that hasn't this form fails.
 #![tactic(auto)]
 
 mod cases;
 mod faults;
 mod runs;
+mod sessions;
 
 use cases::{Case, read_table};
 use faults::{
@@ -17,47 +19,56 @@ use faults::{
 use runs::gives_what_is_expected;
 use std::alloc::Global;
 use std::io;
+use std::sync::Wait;
+use std::thread::Threads;
 
 fn main(rt: HostRuntime) -> io::Result<()> {
     let table = read_table(&rt)?;
     for case in &table.cases {
-        let verdict = verdict_of(rt.alloc(), case)?;
+        let verdict = verdict_of(&rt, rt.alloc(), case)?;
         let about = case.about.as_str();
         println!(rt; "{verdict}: {about}")?;
     }
     let form = word_of(table.is_whole);
     println!(rt; "{form}: The table has its form.")?;
-    tell_faults(&rt, table.cases.as_slice())
+    tell_faults(&rt, rt.alloc(), table.cases.as_slice())
 }
 
 // What failing streams, other words, long inputs and cut scripts are answered, by the first case's script.
-fn tell_faults(rt: &HostRuntime, cases: &[Case]) -> io::Result<()> {
-    let alloc = rt.alloc();
+fn tell_faults<R: Print + Threads + Wait + Sync>(
+    rt: &R,
+    alloc: Global,
+    cases: &[Case],
+) -> io::Result<()> {
     let first = match cases.first() {
         Some(first) => first,
         None => return println!(rt; "FAILED: There is a case."),
     };
-    let reads = word_of(read_faults_are_told(alloc, first)?);
+    let reads = word_of(read_faults_are_told(rt, alloc, first)?);
     println!(rt;
         "{reads}: A source that fails, at whichever call, is told, and nothing is written."
     )?;
-    let writes = word_of(write_faults_are_told(alloc, first)?);
+    let writes = word_of(write_faults_are_told(rt, alloc, first)?);
     println!(rt;
         "{writes}: A sink that fails, at whichever call, is told, and keeps a front of the text."
     )?;
-    let cuts = word_of(cuts_are_told(alloc, first)?);
+    let cuts = word_of(cuts_are_told(rt, alloc, first)?);
     println!(rt;
         "{cuts}: A script that is cut behind a line is a script, and one without its last line feed the same."
     )?;
-    let words = word_of(other_words_are_told(alloc)?);
+    let words = word_of(other_words_are_told(rt, alloc)?);
     println!(rt; "{words}: Words that are no command are told.")?;
-    let long = word_of(long_input_is_told(alloc)?);
+    let long = word_of(long_input_is_told(rt, alloc)?);
     println!(rt; "{long}: An input of a byte too many is told.")
 }
 
 // Whether a case passed, as a word.
-fn verdict_of(alloc: Global, case: &Case) -> io::Result<&'static str> {
-    Ok(word_of(gives_what_is_expected(alloc, case)?))
+fn verdict_of<R: Threads + Wait + Sync>(
+    rt: &R,
+    alloc: Global,
+    case: &Case,
+) -> io::Result<&'static str> {
+    Ok(word_of(gives_what_is_expected(rt, alloc, case)?))
 }
 
 fn word_of(passed: bool) -> &'static str {

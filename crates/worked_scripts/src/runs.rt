@@ -1,28 +1,44 @@
 //! Runs of the program over memory.
 
 use crate::cases::{Case, Wanted};
-use io_edges::{MemorySink, MemorySource, Sink, Source};
+use crate::sessions::are_sessions;
+use io_edges::{MemorySink, MemorySource, NoGate, Sink, Source};
 use ntb_top::run_program;
 use std::alloc::{AllocError, Global};
+use std::sync::Wait;
+use std::thread::Threads;
 
 /// More bytes than any text has.
 const ROOM: usize = 1_000_000;
 
 /// Whether the program answers the case's status and writes its parts, in whatever pieces its input and its output come.
-pub fn gives_what_is_expected(alloc: Global, case: &Case) -> Result<bool, AllocError> {
+pub fn gives_what_is_expected<R: Threads + Wait + Sync>(
+    rt: &R,
+    alloc: Global,
+    case: &Case,
+) -> Result<bool, AllocError> {
     let mut passed = true;
     for piece in [1usize, 7, 8, ROOM] {
-        passed = passed && gives_in_pieces(alloc, case, piece)?;
+        passed = passed && gives_in_pieces(rt, alloc, case, piece)?;
     }
     Ok(passed)
 }
 
-fn gives_in_pieces(alloc: Global, case: &Case, piece: usize) -> Result<bool, AllocError> {
+fn gives_in_pieces<R: Threads + Wait + Sync>(
+    rt: &R,
+    alloc: Global,
+    case: &Case,
+    piece: usize,
+) -> Result<bool, AllocError> {
     let mut source = source_of(alloc, &case.script, piece, None)?;
     let mut sink = sink_of(alloc, piece, None)?;
-    let status = status_of(alloc, "replay", &mut source, &mut sink)?;
+    let status = status_of(rt, alloc, case.command, &mut source, &mut sink)?;
     let text = behind_line_feed(alloc, sink.held())?;
-    Ok(status == case.status && case.wanted.iter().all(|wanted| is_there(&text, wanted)))
+    let mut passed = status == case.status;
+    for wanted in &case.wanted {
+        passed = passed && is_there(alloc, &text, wanted)?;
+    }
+    Ok(passed)
 }
 
 /// A source of these bytes that gives so many a call, of which one may fail.
@@ -51,7 +67,8 @@ fn calls_of(alloc: Global, call: Option<u64>) -> Result<Vec<u64>, AllocError> {
 }
 
 /// The status of the program on one word.
-pub fn status_of<S: Source, K: Sink>(
+pub fn status_of<R: Threads + Wait + Sync, S: Source, K: Sink>(
+    rt: &R,
     alloc: Global,
     word: &str,
     source: &mut S,
@@ -59,7 +76,7 @@ pub fn status_of<S: Source, K: Sink>(
 ) -> Result<u8, AllocError> {
     let mut words = Vec::new(alloc);
     words.push(String::from_str(alloc, word)?)?;
-    Ok(run_program(alloc, &words, source, sink))
+    Ok(run_program(rt, alloc, &words, source, sink, &NoGate).status)
 }
 
 // A text behind a line feed, so that each of its lines is.
@@ -71,12 +88,15 @@ fn behind_line_feed(alloc: Global, text: &[u8]) -> Result<Vec<u8>, AllocError> {
 }
 
 // Whether what is wanted stands in a text that is behind a line feed.
-fn is_there(text: &[u8], wanted: &Wanted) -> bool {
+fn is_there(alloc: Global, text: &[u8], wanted: &Wanted) -> Result<bool, AllocError> {
     match wanted {
-        Wanted::Lines(lines) => !lines.is_empty()
-            && text
-                .windows(lines.len())
-                .any(|window| window == lines.as_slice()),
-        Wanted::Whole(whole) => text.strip_prefix(b"\n".as_slice()) == Some(whole.as_slice()),
+        Wanted::Lines(lines) => Ok(has_lines(text, lines)),
+        Wanted::Whole(whole) => Ok(text.strip_prefix(b"\n".as_slice()) == Some(whole.as_slice())),
+        Wanted::Sessions(lanes) => are_sessions(alloc, text, lanes),
     }
+}
+
+// Whether these lines stand in a text, one behind the other.
+fn has_lines(text: &[u8], lines: &[u8]) -> bool {
+    !lines.is_empty() && text.windows(lines.len()).any(|window| window == lines)
 }

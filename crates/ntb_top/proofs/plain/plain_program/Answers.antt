@@ -1,5 +1,5 @@
 use Rattle.ntb_top.proofs.Replying.{run_answered}
-use Rattle.ntb_top.proofs.program.run_program.Goals as goal
+use Rattle.ntb_top.proofs.plain.plain_program.Goals as goal
 
 pub returns-in-Ok : goal.returns-in-Ok
 returns-in-Ok g c = run_answered _ _ _ _ c.in-Ok.reply _ c.in-Ok.ensures c.write_reply.ensures

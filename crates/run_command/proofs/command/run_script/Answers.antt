@@ -1,0 +1,5 @@
+use Rattle.run_command.proofs.KnownPairs.{known_pairs}
+use Rattle.run_command.proofs.command.run_script.Goals as goal
+
+pub record_text-requires : goal.record_text-requires
+record_text-requires g c = record { known_pairs = known_pairs c.args.script.now.declared c.in_ok-run.run'.lanes c.in_ok-run.ensures.fits.lanes }

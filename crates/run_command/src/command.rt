@@ -1,0 +1,85 @@
+//! The reply of `run`.
+
+ghost use Rattle.std.specs.Prelude.{◌≡◌, ◌≤◌, IfOk, length};
+ghost use Rattle.step_kinds.specs.Limits.{most_script_bytes};
+ghost use Rattle.step_kinds.specs.Runs.{run_shown};
+ghost use Rattle.plan_model.specs.TrafficPlans.{IsWhole};
+ghost use Rattle.script_plan.specs.Scripts.{plan_in};
+ghost use Rattle.cluster_run.specs.Lanes.{CanRun};
+ghost use Rattle.run_command.specs.Answers.{IsRefusal, IsRunOf, IsRunOfPlan};
+ghost use Rattle.run_command.specs.Replies.{carried_by};
+
+use cluster_run::run_plan;
+use command_reply::Reply;
+use io_edges::Gate;
+use report_text::record_text;
+use script_plan::Script;
+use script_text::{ParseError, read_script};
+use script_words::ScriptFault;
+use std::alloc::{AllocError, Global};
+use std::sync::Wait;
+use std::thread::Threads;
+use step_kinds::RunRecord;
+use table_lane::LaneProof;
+
+/// What `run` answers.
+#[derive(Drop)]
+pub struct RunReply {
+    /// The exit status and the text.
+    pub reply: Reply,
+    /// The record whose text it is; none where the script has a fault.
+    pub runs: Option<RunRecord>,
+    /// A proof of each session of the record, lane by lane; none where the script has a fault.
+    pub proofs: Vec<LaneProof>,
+}
+
+/// The reply of `run` to a script of at most 16,777,216 bytes. Where it declares a plan, threads send the plan's traffic, and
+/// the reply is the text of the record of that, with status 0, beside the record and its proofs; else it is the first line
+/// with a fault, with status 3. The only error is want of memory.
+///
+/// Each worker of the run passes the gate before each of its turns.
+pub fn run_reply<R: Threads + Wait + Sync, G: Gate>(
+    rt: &R,
+    alloc: Global,
+    bytes: &[u8],
+    gate: &G,
+) -> Result<RunReply, AllocError>
+    requires { length bytes.now ≤ most_script_bytes }
+    ensures { IfOk result (λ run. IsRunOf bytes.now run.reply (carried_by run)) }
+{
+    match read_script(alloc, bytes) {
+        Ok(script) => run_script(rt, alloc, &script, gate),
+        Err(ParseError::Fault(fault)) => Ok(refusal(alloc, fault)),
+        Err(ParseError::OutOfMemory) => Err(AllocError),
+    }
+}
+
+// The reply to a script without a fault.
+fn run_script<R: Threads + Wait + Sync, G: Gate>(
+    rt: &R,
+    alloc: Global,
+    script: &Script,
+    gate: &G,
+) -> Result<RunReply, AllocError>
+    requires { IsWhole (plan_in script.now) }
+    ensures { IfOk result (λ run. IsRunOfPlan (plan_in script.now) run.reply (carried_by run)) }
+{
+    let (run, proofs) = run_plan(rt, alloc, &script.declared, gate)?;
+    let text = record_text(alloc, &script.declared, &run)?;
+    Ok(RunReply {
+        reply: Reply::done(text),
+        runs: Some(run),
+        proofs,
+    })
+}
+
+// The reply to a script with a fault.
+fn refusal(alloc: Global, fault: ScriptFault) -> RunReply
+    ensures { IsRefusal fault result.reply (carried_by result) }
+{
+    RunReply {
+        reply: Reply::refused(fault),
+        runs: None,
+        proofs: Vec::new(alloc),
+    }
+}
