@@ -28,6 +28,10 @@ usage = one_line Usage (codes "usage")
 abbrev pub too_long : Output
 too_long = one_line TooLong (codes "too long")
 
+-- an input that is refused at a line, by a cause in one word
+abbrev pub refused_at : ℕ → List ℕ → Output
+refused_at line cause = one_line Refused (codes "refused line " ++ decimal line ++ 32 ∷ cause)
+
 -- a script with a fault: its first line that has one, and that line's first fault
 abbrev pub refused : ScriptFault → Output
-refused fault = one_line Refused (codes "refused line " ++ decimal fault.line ++ 32 ∷ cause_text fault.cause)
+refused fault = refused_at fault.line (cause_text fault.cause)

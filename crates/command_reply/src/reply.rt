@@ -1,7 +1,7 @@
 //! A reply: the exit status and the text that a command answers.
 
 ghost use Rattle.std.specs.Prelude.{◌≡◌, ◌<◌, length};
-ghost use Rattle.command_reply.specs.Output.{done, one_line, refused, too_long, usage};
+ghost use Rattle.command_reply.specs.Output.{done, one_line, refused, refused_at, too_long, usage};
 
 use crate::Status;
 use arrayvec::ArrayString;
@@ -77,21 +77,30 @@ impl Reply {
         Reply::line(Status::TooLong, "too long")
     }
 
-    /// The reply to a script with a fault: status 3, and `refused line L CAUSE`.
+    /// The reply to an input that is refused at a line, by a cause of less than 32 bytes: status 3, and
+    /// `refused line L CAUSE`.
+    pub fn refused_at(line: u32, cause: &str) -> Reply
+        requires { length cause.now < 32 }
+        ensures { result ≡ refused_at line cause.now }
+    {
+        let mut number = Buffer::new();
+        let mut text = ArrayString::new();
+        text.push_str("refused line ");
+        text.push_str(number.format(line));
+        text.push_str(" ");
+        text.push_str(cause);
+        text.push_str("\n");
+        Reply {
+            status: Status::Refused,
+            text: ReplyText::Line(text),
+        }
+    }
+
+    /// The reply to a script with a fault: status 3, and the line and the cause of the fault.
     pub fn refused(fault: ScriptFault) -> Reply
         ensures { result ≡ refused fault }
     {
-        let mut number = Buffer::new();
-        let mut line = ArrayString::new();
-        line.push_str("refused line ");
-        line.push_str(number.format(fault.line));
-        line.push_str(" ");
-        line.push_str(fault.cause.word());
-        line.push_str("\n");
-        Reply {
-            status: Status::Refused,
-            text: ReplyText::Line(line),
-        }
+        Reply::refused_at(fault.line, fault.cause.word())
     }
 
     /// The exit status, 0 or 2 to 7.

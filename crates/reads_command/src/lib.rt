@@ -2,9 +2,11 @@
 #![tactic(auto)]
 
 mod answers;
+mod command;
 mod lines;
 mod reply;
 
+pub use command::reads_reply;
 pub use reply::{ReadsError, reads_text};
 
 #[cfg(test)]
