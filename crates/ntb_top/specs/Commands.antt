@@ -5,7 +5,7 @@ use Rattle.std.specs.Str.{bytes_eq}
 use Rattle.script_words.specs.Words.{is_digit, is_plain, value_from}
 use Rattle.traffic_plan.specs.Load.{most_load_frames}
 use Rattle.ntb_top.specs.declared.command.Command.{Command}
-use Rattle.ntb_top.specs.declared.command.Command.TheVariants.{Replay, Load, Run}
+use Rattle.ntb_top.specs.declared.command.Command.TheVariants.{Replay, Load, Run, Reads}
 
 -- the number below a limit that a word spells: decimal digits without a leading zero but for zero itself
 abbrev pub number_below : ℕ → List ℕ → Option ℕ
@@ -18,9 +18,13 @@ load_command seed frames = None
 
 -- a command of one word
 abbrev pub lone_command : List ℕ → Option Command
-lone_command word = if bytes_eq word (codes "replay") then Some Replay else (if bytes_eq word (codes "run") then Some Run else None)
+lone_command word =
+    if bytes_eq word (codes "replay") then Some Replay
+    else if bytes_eq word (codes "run") then Some Run
+    else if bytes_eq word (codes "reads") then Some Reads
+    else None
 
--- `replay`, `run`, or `load SEED FRAMES`
+-- `replay`, `run`, `reads`, or `load SEED FRAMES`
 abbrev pub command_of : List (List ℕ) → Option Command
 command_of (word ∷ []) = lone_command word
 command_of (word ∷ seed ∷ frames ∷ []) = if bytes_eq word (codes "load") then load_command (number_below (2 ^ 64) seed) (number_below (2 ^ 32) frames) else None
@@ -40,6 +44,7 @@ abbrev pub command_reads : Command → Bool
 command_reads Replay = true
 command_reads (Load seed frames) = false
 command_reads Run = true
+command_reads Reads = true
 
 -- whether words are a command that reads a script
 abbrev pub is_reading : Option Command → Bool

@@ -1,14 +1,17 @@
--- What status 0 means of each command that replays a plan.
+-- What status 0 means of each command but `run`, of which `Ends` says it.
 use Rattle.std.specs.Prelude.{◌≡◌, ℕ, Some, Ok, List}
 use Rattle.io_edges.specs.Whole.{HoldsAll}
 use Rattle.step_kinds.specs.declared.plan.Plan.{Plan}
+use Rattle.read_model.specs.Lines.{LineStep, steps_of}
+use Rattle.read_model.specs.Pushed.{Pushed}
+use Rattle.read_model.specs.Report.{log_of_lines, report_of}
 use Rattle.script_text.specs.Script.{script_of}
 use Rattle.traffic_plan.specs.Load.{load_of}
 use Rattle.replay_command.specs.Headline.{IsTrueLog}
 use Rattle.replay_command.specs.Replays.{load_text, replay_text}
 use Rattle.ntb_top.specs.Commands.{command_of}
 use Rattle.ntb_top.specs.Runs.{HasRun, Outside}
-use Rattle.ntb_top.specs.declared.command.Command.TheVariants.{Load, Replay}
+use Rattle.ntb_top.specs.declared.command.Command.TheVariants.{Load, Reads, Replay}
 
 -- `replay`: the bytes that were read declare a plan, its report was written whole, and its log is true
 abbrev pub ReplaysAreTrue : Type 0
@@ -21,3 +24,10 @@ abbrev pub LoadsAreTrue : Type 0
 LoadsAreTrue =
     (words : List (List ℕ)) (before after : Outside) (seed frames : ℕ) → command_of words ≡ Some (Load seed frames) → HasRun words before after 0 →
     HoldsAll before.held after.held (load_text seed frames) × IsTrueLog (load_of seed frames)
+
+-- `reads`: the bytes that were read are the lines of steps, the lines of their answers were written whole, and each read in the log
+-- of these steps has pushed the writes that were posted before it
+abbrev pub ReadsHavePushed : Type 0
+ReadsHavePushed =
+    (words : List (List ℕ)) (before after : Outside) → command_of words ≡ Some Reads → (run : HasRun words before after 0) →
+    (steps : List LineStep) × (steps_of run.bytes ≡ Ok steps) × HoldsAll before.held after.held (report_of steps) × Pushed (log_of_lines steps)

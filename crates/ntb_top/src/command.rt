@@ -25,21 +25,23 @@ pub enum Command {
     },
     /// To read a script, send its traffic by threads and write what became of it.
     Run,
+    /// To read a text of writes and reads across a bridge, make its steps and write their answers.
+    Reads,
 }
 
 impl Command {
-    /// Whether the command reads a script.
+    /// Whether the command reads its source.
     pub fn reads(self) -> bool
         ensures { result ≡ command_reads self }
     {
         match self {
-            Command::Replay | Command::Run => true,
+            Command::Replay | Command::Run | Command::Reads => true,
             Command::Load { .. } => false,
         }
     }
 }
 
-/// The command that the words of a command line are: `replay`, `run`, or `load SEED FRAMES`.
+/// The command that the words of a command line are: `replay`, `run`, `reads`, or `load SEED FRAMES`.
 pub fn command_of(words: &[String]) -> Option<Command>
     ensures words { result ≡ command_by_words (map string_bytes words.now) }
     ensures range { IfSome result IsInRange }
@@ -62,6 +64,8 @@ fn lone_command(word: &[u8]) -> Option<Command>
         Some(Command::Replay)
     } else if word == b"run".as_slice() {
         Some(Command::Run)
+    } else if word == b"reads".as_slice() {
+        Some(Command::Reads)
     } else {
         None
     }

@@ -1,7 +1,7 @@
 //! What a run of each command means.
 
 ghost use Rattle.std.specs.Prelude.{◌≡◌, ℕ, Some, Ok, List};
-ghost use Rattle.ntb_top.specs.Laws.{LoadsAreTrue, ReplaysAreTrue};
+ghost use Rattle.ntb_top.specs.Laws.{LoadsAreTrue, ReadsHavePushed, ReplaysAreTrue};
 
 /// Where `replay` ends with status 0, the bytes that were read declare a plan, and the log of that plan is true. No
 /// premise.
@@ -12,4 +12,10 @@ pub fn replays_are_true()
 /// Where `load` ends with status 0, the log of the plan that it generates is true. No premise.
 pub fn loads_are_true()
     ensures { LoadsAreTrue }
+{}
+
+/// Where `reads` ends with status 0, each read in the log of the steps that were read has pushed the posted writes before
+/// it. No premise.
+pub fn reads_have_pushed()
+    ensures { ReadsHavePushed }
 {}

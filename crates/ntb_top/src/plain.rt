@@ -12,6 +12,7 @@ use crate::command::{Command, command_of};
 use crate::input::{Input, Stop, read_input};
 use command_reply::{Reply, Status};
 use io_edges::{Sink, Source, WriteFault, write_all};
+use reads_command::reads_reply;
 use replay_command::{load_reply, replay_reply};
 use std::alloc::{AllocError, Global};
 
@@ -62,6 +63,7 @@ fn reply_of(alloc: Global, command: Command, bytes: &[u8]) -> Result<Reply, Allo
     match command {
         Command::Replay => replay_reply(alloc, bytes),
         Command::Load { seed, frames } => load_reply(alloc, seed, frames),
+        Command::Reads => reads_reply(alloc, bytes),
         Command::Run => unreachable!(),
     }
 }

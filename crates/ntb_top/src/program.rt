@@ -30,9 +30,9 @@ use std::thread::Threads;
 ///
 /// | status | cause | text |
 /// |---|---|---|
-/// | 0 | none of the others | `replay`: the report; `run`: the text of the record; `load`: the summary of a load |
+/// | 0 | none of the others | `replay`: the report; `run`: the text of the record; `load`: the summary of a load; `reads`: the answers |
 /// | 2 | the words are no command | `usage` |
-/// | 3 | a line of the script has a fault | `refused line L CAUSE` |
+/// | 3 | a line of the script has a fault | `refused line L CAUSE`; of `reads`, whose cause is always `badline` |
 /// | 4 | the source failed | nothing |
 /// | 5 | the sink failed | a part from the front of the text |
 /// | 6 | want of memory | nothing |
@@ -54,7 +54,7 @@ pub fn run_program<R: Threads + Wait + Sync, S: Source, K: Sink, G: Gate>(
 {
     match command_of(words) {
         Some(Command::Run) => run_traffic(rt, alloc, source, sink, gate),
-        Some(Command::Replay | Command::Load { .. }) | None => {
+        Some(Command::Replay | Command::Load { .. } | Command::Reads) | None => {
             Ended::alone(alloc, plain_program(alloc, words, source, sink))
         }
     }
