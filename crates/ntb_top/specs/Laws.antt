@@ -2,9 +2,7 @@
 use Rattle.std.specs.Prelude.{◌≡◌, ℕ, Some, Ok, List}
 use Rattle.io_edges.specs.Whole.{HoldsAll}
 use Rattle.step_kinds.specs.declared.plan.Plan.{Plan}
-use Rattle.read_model.specs.Lines.{LineStep, steps_of}
-use Rattle.read_model.specs.Pushed.{Pushed}
-use Rattle.read_model.specs.Report.{log_of_lines, report_of}
+use Rattle.reads_command.specs.Answers.{IsTrueReply}
 use Rattle.script_text.specs.Script.{script_of}
 use Rattle.traffic_plan.specs.Load.{load_of}
 use Rattle.replay_command.specs.Headline.{IsTrueLog}
@@ -25,9 +23,8 @@ LoadsAreTrue =
     (words : List (List ℕ)) (before after : Outside) (seed frames : ℕ) → command_of words ≡ Some (Load seed frames) → HasRun words before after 0 →
     HoldsAll before.held after.held (load_text seed frames) × IsTrueLog (load_of seed frames)
 
--- `reads`: the bytes that were read are the lines of steps, the lines of their answers were written whole, and each read in the log
--- of these steps has pushed the writes that were posted before it
-abbrev pub ReadsHavePushed : Type 0
-ReadsHavePushed =
+-- `reads`: a text that is true of the bytes that were read was written whole
+abbrev pub ReadsAreTrue : Type 0
+ReadsAreTrue =
     (words : List (List ℕ)) (before after : Outside) → command_of words ≡ Some Reads → (run : HasRun words before after 0) →
-    (steps : List LineStep) × (steps_of run.bytes ≡ Ok steps) × HoldsAll before.held after.held (report_of steps) × Pushed (log_of_lines steps)
+    (text : List ℕ) × HoldsAll before.held after.held text × IsTrueReply run.bytes text

@@ -3,16 +3,24 @@ use Rattle.std.specs.Prelude.{◌≡◌, ℕ, Result, Ok, Err, List, codes}
 use Rattle.command_reply.specs.Output.{Output, done, refused_at}
 use Rattle.command_reply.specs.Statuses.{number_of}
 use Rattle.command_reply.specs.declared.status.Status.TheVariants.{Done}
-use Rattle.read_model.specs.Report.{reply_to}
-use Rattle.reads_command.specs.Replies.{TextPushed}
+use Rattle.read_model.specs.Lines.{LineStep, steps_of}
+use Rattle.read_model.specs.Pushed.{Pushed}
+use Rattle.read_model.specs.Report.{log_of_lines, reply_to, report_of}
 
 -- the lines of the answers, or the first bad line
 abbrev pub output_of : Result (List ℕ) ℕ → Output
 output_of (Ok text) = done text
 output_of (Err line) = refused_at line (codes "badline")
 
+-- The bytes are the lines of steps, the text has the lines of their answers, and each read in the log of these steps has pushed the
+-- writes that were posted before it.
+pub record IsTrueReply (bytes text : List ℕ) : Type 0 where
+  pub steps : List LineStep
+  pub read : steps_of bytes ≡ Ok steps
+  pub answers : text ≡ report_of steps
+  pub pushed : Pushed (log_of_lines steps)
+
 -- The answer of `reads` to the bytes of a text.
 pub record IsReadsOf (bytes : List ℕ) (output : Output) : Type 0 where
-  pub told : output ≡ output_of (reply_to bytes)
-  -- where the text has no bad line, each read in the log of its steps has pushed the writes that were posted before it
-  pub pushed : output.status ≡ number_of Done → TextPushed bytes
+  pub answer : output ≡ output_of (reply_to bytes)
+  pub headline : output.status ≡ number_of Done → IsTrueReply bytes output.text

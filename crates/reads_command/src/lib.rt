@@ -8,6 +8,3 @@ mod reply;
 
 pub use command::reads_reply;
 pub use reply::{ReadsError, reads_text};
-
-#[cfg(test)]
-mod tests;
