@@ -10,8 +10,6 @@ ghost use Rattle.step_kinds.specs.Bits.{with_bit, without_bits};
 use std::marker::Model;
 
 pub mod laws;
-#[cfg(test)]
-mod tests;
 
 /// The 16 scratchpads of one side, each a word of 32 bits, numbered from 0. The peer writes them
 /// (`ntb_peer_spad_write`) and the side reads them (`ntb_spad_read`). Contracts see the list of the words.

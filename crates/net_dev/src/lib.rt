@@ -5,8 +5,6 @@
 mod ethernet;
 mod flow;
 pub mod laws;
-#[cfg(test)]
-mod tests;
 
 pub use ethernet::{Header, Short, decode, encode};
 pub use flow::Flow;

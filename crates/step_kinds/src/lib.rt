@@ -25,6 +25,3 @@ pub use names::{LaneName, Name, Side};
 pub use plan::{Counters, DevPlan, Line, LineAnswer, PairPlan, Plan, SidePlan, Traffic};
 pub use runs::{LaneRun, RunRecord, SessionRun};
 pub use steps::{Answer, Label, Step};
-
-#[cfg(test)]
-mod tests;
