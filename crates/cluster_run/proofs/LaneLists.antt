@@ -1,5 +1,5 @@
 -- Lists of lanes at work, and records that come to their keys.
-use Rattle.std.proofs.Common.{◌≡◌, ℕ, suc, ◌+◌, ◌<◌, Result, Ok, Err, OnOk, is_ok, if◌then◌else◌, List, [], ◌∷◌, ◌++◌, length, map, slice_index_or, refl, sym, ◌∙◌, ap, subst, arith, append-nil, append_assoc}
+use Rattle.std.proofs.Common.{◌≡◌, suc, Result, Ok, Err, OnOk, is_ok, if◌then◌else◌, List, [], ◌∷◌, ◌++◌, length, map, refl, sym, ◌∙◌, ap, subst, arith, append-nil, append_assoc}
 use Rattle.std.proofs.lemmas.List.{map-append}
 use Rattle.step_kinds.specs.Runs.{LaneShown, lane_shown}
 use Rattle.step_kinds.specs.declared.runs.LaneRun.{LaneRun}

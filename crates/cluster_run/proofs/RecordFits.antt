@@ -6,7 +6,6 @@ use Rattle.std.specs.List.{All, flat_map, range_with_len}
 use Rattle.step_kinds.specs.Runs.{LaneShown}
 use Rattle.step_kinds.specs.declared.names.LaneName.{LaneName}
 use Rattle.step_kinds.specs.declared.plan.Plan.{Plan}
-use Rattle.step_kinds.specs.declared.plan.Traffic.{Traffic}
 use Rattle.table_lane.specs.EndOfLane.{Shown}
 use Rattle.traffic_plan.specs.Lanes.{frames_on}
 use Rattle.cluster_run.specs.Lanes.{CanRun, lanes_of, lanes_in, has_traffic, traffic_lanes, entries_on, losses_on}

@@ -1,11 +1,10 @@
 -- The lanes of a plan's traffic: what the plan says of them.
-use Rattle.std.proofs.Common.{◌≡◌, ◌≢◌, ℕ, zero, suc, ◌+◌, ◌*◌, ◌^◌, ◌<◌, ◌≤◌, ◌==◌, ◌&&◌, Bool, true, false, IsTrue, ◌↔◌, cond, nat_lt, Option, Some, None, if◌then◌else◌, List, [], ◌∷◌, ◌++◌, length, map, filter, sum, count_by, slice_index_or, refl, sym, ◌∙◌, ap, subst, arith}
+use Rattle.std.proofs.Common.{◌≡◌, ◌≢◌, ℕ, suc, ◌+◌, ◌<◌, ◌≤◌, ◌==◌, ◌&&◌, Bool, true, false, IsTrue, ◌↔◌, cond, nat_lt, Some, None, if◌then◌else◌, List, [], ◌∷◌, length, map, filter, sum, count_by, slice_index_or, refl, sym, ◌∙◌, ap, subst, arith}
 use Rattle.std.proofs.lemmas.Bool.{and_parts, eqb-true, false≢true}
-use Rattle.std.proofs.lemmas.Bool.Decides.{eqb_tells}
 use Rattle.std.proofs.lemmas.List.Elements.{All-cons, All-nil}
 use Rattle.std.proofs.lemmas.List.FromFn.{get_or-map-range_with_len, length-map-range_with_len}
 use Rattle.std.proofs.lemmas.List.Sums.{sum_by-cons}
-use Rattle.std.specs.List.{All, range_with_len, cons_option}
+use Rattle.std.specs.List.{All, cons_option}
 use Rattle.step_kinds.specs.declared.names.Side.{Side}
 use Rattle.step_kinds.specs.declared.names.Side.TheVariants.{A, B}
 use Rattle.step_kinds.specs.declared.names.LaneName.{LaneName}
@@ -18,9 +17,8 @@ use Rattle.plan_model.specs.Plans.{pair_plan, side_plan}
 use Rattle.plan_model.specs.Sizes.{layout_of}
 use Rattle.plan_model.specs.TrafficPlans.{IsTraffic, IsTrafficLane, frames_in, is_break_of}
 use Rattle.lane_workers.specs.Passes.{HaveBytes}
-use Rattle.traffic_plan.specs.Lanes.{same_side, same_lane, frame_on, frames_on}
-use Rattle.cluster_run.specs.Lanes.{CanRun, entries_on, losses_on}
-use Rattle.cluster_run.specs.LaneKeys.{LaneKey}
+use Rattle.traffic_plan.specs.Lanes.{same_side, same_lane, frames_on}
+use Rattle.cluster_run.specs.Lanes.{CanRun, entries_on}
 use Rattle.cluster_run.specs.ByLane.{LaneFrames, lane_frames, key_with, keys_with_frames}
 use Rattle.cluster_run.specs.Tasks.{CanBeRun, losses_by_pair}
 use Rattle.cluster_run.specs.declared.by_lane.LaneTraffic.{LaneTraffic}

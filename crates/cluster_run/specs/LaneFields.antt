@@ -1,5 +1,5 @@
 -- The fields of a lane at work: what it shows, and what is true of it between two rounds.
-use Rattle.std.specs.Prelude.{◌≡◌, ℕ, ◌+◌, ◌≤◌, ◌<◌, ◌^◌, ◌==◌, ◌&&◌, not, List, ◌++◌, length, map}
+use Rattle.std.specs.Prelude.{◌≡◌, ◌+◌, ◌≤◌, ◌<◌, ◌^◌, ◌==◌, ◌&&◌, not, List, ◌++◌, length, map}
 use Rattle.step_kinds.specs.Runs.{SessionShown, session_shown}
 use Rattle.lane_workers.specs.Passes.{HaveBytes}
 use Rattle.cluster_run.specs.Runs.{accepted_over}

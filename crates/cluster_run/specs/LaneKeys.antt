@@ -1,9 +1,8 @@
 -- What a lane's work comes to, whatever its workers do: it is the same from the first round to the last.
 use Rattle.std.specs.Prelude.{◌≡◌, ℕ, ◌+◌, ◌<◌, Bool, true, List, [], ◌∷◌, ◌++◌, length, map, slice_index_or}
 use Rattle.step_kinds.specs.declared.names.LaneName.{LaneName}
-use Rattle.step_kinds.specs.declared.runs.SessionRun.{SessionRun}
 use Rattle.step_kinds.specs.declared.plan.Plan.{Plan}
-use Rattle.step_kinds.specs.Runs.{SessionShown, LaneShown, session_shown}
+use Rattle.step_kinds.specs.Runs.{SessionShown, LaneShown}
 use Rattle.table_lane.specs.EndOfLane.{Shown}
 use Rattle.traffic_plan.specs.Lanes.{frames_on}
 use Rattle.cluster_run.specs.Lanes.{entries_on, losses_on}

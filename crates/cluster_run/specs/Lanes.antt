@@ -1,5 +1,5 @@
 -- The lanes that a plan's traffic uses, and what a run needs of the plan.
-use Rattle.std.specs.Prelude.{◌≡◌, ℕ, ◌<◌, ◌≤◌, Bool, List, ◌++◌, length, map, filter, sum, count_by, nat_lt}
+use Rattle.std.specs.Prelude.{ℕ, ◌<◌, ◌≤◌, Bool, List, ◌++◌, length, map, filter, sum, count_by, nat_lt}
 use Rattle.std.specs.List.{All, flat_map, range_with_len}
 use Rattle.step_kinds.specs.Limits.{most_pairs, most_queues, most_traffic_frames, most_traffic_bytes, most_breaks}
 use Rattle.step_kinds.specs.declared.names.Side.TheVariants.{A, B}

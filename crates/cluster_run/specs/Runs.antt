@@ -1,5 +1,5 @@
 -- The record of a run: that it fits the plan, and that proofs of lanes show it.
-use Rattle.std.specs.Prelude.{◌≡◌, ℕ, ◌+◌, Bool, true, false, List, [], ◌∷◌, ◌++◌, length, map}
+use Rattle.std.specs.Prelude.{◌≡◌, ℕ, ◌+◌, Bool, true, false, List, [], ◌∷◌, length, map}
 use Rattle.std.specs.List.{All, flat_map}
 use Rattle.step_kinds.specs.declared.plan.Plan.{Plan}
 use Rattle.step_kinds.specs.Runs.{SessionShown, LaneShown, accepted_in}

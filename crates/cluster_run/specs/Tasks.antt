@@ -1,5 +1,5 @@
 -- What a lane's traffic has to be, so that the lane can be run.
-use Rattle.std.specs.Prelude.{◌≡◌, ℕ, ◌<◌, ◌^◌, List, length, map, count_by}
+use Rattle.std.specs.Prelude.{ℕ, ◌<◌, ◌^◌, List, length, map, count_by}
 use Rattle.std.specs.List.{range_with_len}
 use Rattle.step_kinds.specs.declared.plan.Plan.{Plan}
 use Rattle.plan_model.specs.TrafficPlans.{IsTrafficLane, is_break_of}

@@ -1,6 +1,5 @@
 use Rattle.std.proofs.Common.{ap}
 use Rattle.step_kinds.specs.FrameLists.{Frames}
-use Rattle.cluster_run.specs.ByLane.{LaneFrames}
 use Rattle.cluster_run.proofs.TrafficByLane.{side_more}
 use Rattle.cluster_run.proofs.by_lane.push_side.Goals as goal
 

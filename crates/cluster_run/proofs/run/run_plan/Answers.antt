@@ -4,7 +4,7 @@ use Rattle.step_kinds.specs.Runs.{lane_shown}
 use Rattle.step_kinds.specs.declared.runs.LaneRun.{LaneRun}
 use Rattle.cluster_run.specs.LaneKeys.{LaneKey, keys_of}
 use Rattle.cluster_run.specs.Runs.{IsFit, IsShown}
-use Rattle.cluster_run.proofs.RecordFits.{HasCome, few_lanes, are_of_traffic, none_over, group_over, all_over, record_fits, record_shown}
+use Rattle.cluster_run.proofs.RecordFits.{HasCome, few_lanes, are_of_traffic, group_over, all_over, record_fits, record_shown}
 use Rattle.cluster_run.proofs.run.run_plan.Goals as goal
 
 pub waiting_lanes-requires-clause-few : goal.waiting_lanes-requires-clause-few

@@ -1,4 +1,4 @@
-use Rattle.std.proofs.Common.{◌≡◌, ◌≤◌, length, map}
+use Rattle.std.proofs.Common.{◌≡◌, map}
 use Rattle.cluster_run.specs.ByLane.{keys_with_frames, lane_frames}
 use Rattle.cluster_run.proofs.task_list.waiting_lanes.Given as goal
 

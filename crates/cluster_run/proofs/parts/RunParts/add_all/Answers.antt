@@ -1,4 +1,4 @@
-use Rattle.std.proofs.Common.{◌∷◌, [], map, ◌++◌, List, sym, ap, subst}
+use Rattle.std.proofs.Common.{◌∷◌, [], map, ◌++◌, List, sym, subst}
 use Rattle.std.proofs.lemmas.List.{map-append}
 use Rattle.step_kinds.specs.Runs.{lane_shown}
 use Rattle.cluster_run.specs.LaneKeys.{LaneKey, LaneState, ComeTo, keys_of}
