@@ -6,17 +6,11 @@ use Rattle.script_words.specs.Tests.{◌>>=◌, fault_if, found_or}
 use Rattle.script_words.specs.Words.{lines_of, words_of, is_skipped, is_text, side_word, number_word, number_between, hex_word}
 use Rattle.script_words.specs.declared.fault.Cause.{Cause}
 use Rattle.script_words.specs.declared.fault.Cause.TheVariants.{NotText, BadHeader, UnknownWord, BadNumber, TooMany}
-use Rattle.read_model.specs.Path.{memory_bytes}
+use Rattle.read_model.specs.Path.{memory_bytes, most_write_bytes, most_read_bytes}
 use Rattle.read_model.specs.declared.PathStep.{PathStep}
 use Rattle.read_model.specs.declared.PathStep.TheVariants.{Write, Read, Land, Show, Break, DropDone, Relink}
 
--- the bytes of a write, a read and a show
-abbrev pub most_write_bytes : ℕ
-most_write_bytes = 128
-
-abbrev pub most_read_bytes : ℕ
-most_read_bytes = 512
-
+-- the bytes of the largest show
 abbrev pub most_show_bytes : ℕ
 most_show_bytes = 64
 

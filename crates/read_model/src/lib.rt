@@ -7,6 +7,7 @@
 #![tactic(auto)]
 
 pub mod examples;
+pub mod limits;
 
 use plan_model::LinkRefusal;
 use step_kinds::{Frame, Items, Side};

@@ -2,7 +2,7 @@
 use Rattle.std.specs.Prelude.{◌≡◌, ℕ, ◌+◌, ◌-◌, ◌≤◌, ◌/◌, Bool, Option, Some, None, List, [], ◌∷◌, ◌++◌, All, length, replicate, remove, slice_get, sum_by, if◌then◌else◌}
 use Rattle.host_memory.specs.Memory.{ArePromised, written, bytes_at}
 use Rattle.read_model.specs.InFlight.{Flying, Write, Request, Part, Last, completion_bytes, completions, may_land}
-use Rattle.read_model.specs.Path.{PathState, SideState, memory_bytes}
+use Rattle.read_model.specs.Path.{PathState, SideState, memory_bytes, most_read_bytes}
 use Rattle.read_path.specs.Flights.{FlightState}
 use Rattle.read_path.specs.declared.end.End.{End}
 use Rattle.read_path.specs.declared.path.Path.TheInside.{Inside}
@@ -27,10 +27,10 @@ completions_due (Last number bytes) = 0
 abbrev pub all_due : List Flying → ℕ
 all_due flight = sum_by completions_due flight
 
--- what it writes or asks for lies in a side's memory, and a request asks for a byte at least, and 512 at most
+-- what it writes or asks for lies in a side's memory, and a request asks for a byte at least, and no more than a read may
 abbrev pub IsInRange : Flying → Type 0
 IsInRange (Write at bytes relaxed) = at + length bytes ≤ memory_bytes
-IsInRange (Request number at len) = (1 ≤ len) × (len ≤ 512) × (at + len ≤ memory_bytes)
+IsInRange (Request number at len) = (1 ≤ len) × (len ≤ most_read_bytes) × (at + len ≤ memory_bytes)
 IsInRange (Part number part) = Unit {0}
 IsInRange (Last number bytes) = Unit {0}
 

@@ -3,21 +3,16 @@
 ghost use Rattle.std.specs.Prelude.{◌≡◌, ◌+◌, ◌≤◌, length, IfOk, OnOk, OnErr, slice_get};
 ghost use Rattle.host_memory.specs.Memory.{bytes_at};
 ghost use Rattle.read_model.specs.InFlight.{may_land};
-ghost use Rattle.read_model.specs.Path.{answer_for, landing_of, memory_bytes};
+ghost use Rattle.read_model.specs.Path.{answer_for, landing_of, memory_bytes, most_read_bytes, most_write_bytes};
 ghost use Rattle.read_path.specs.Flights.{flying_of};
 ghost use Rattle.read_path.specs.Ends.{AreEnds, IsEnd, IsInRange, asks, brings, completions_due, completions_of, end_seen, fresh_end, from_after, posts, promises, reached, stores, to_after};
 
 use crate::flight::{Flight, InFlight};
 use host_memory::Memory;
 use read_model::PathLand;
+use read_model::limits::{COMPLETION_BYTES, MEMORY_BYTES};
 use std::alloc::{AllocError, Global};
 use step_kinds::{Frame, InPlace, Items};
-
-/// The bytes of a side's memory.
-const MEMORY_BYTES: u64 = 4096;
-
-/// The bytes that a completion brings; the last one of a read brings the rest.
-const COMPLETION_BYTES: usize = 128;
 
 /// One side of a path.
 #[derive(Drop)]
@@ -46,7 +41,7 @@ impl End {
     /// nothing changes.
     pub fn post(&mut self, at: u32, bytes: &[u8], relaxed: bool) -> Result<(), AllocError>
         requires some { 1 ≤ length bytes.now }
-        requires fits { length bytes.now ≤ 128 }
+        requires fits { length bytes.now ≤ most_write_bytes }
         ensures ok { OnOk result (self.new ≡ posts self.old at bytes.now relaxed) }
         ensures err { OnErr result (self.new ≡ self.old) }
     {
@@ -82,7 +77,7 @@ impl End {
     fn answer(&mut self, number: u64, at: u32, room: Items<u8>, up: bool)
         requires whole { IsEnd self.old }
         requires some { 1 ≤ length room }
-        requires few { length room ≤ 512 }
+        requires few { length room ≤ most_read_bytes }
         requires within { at + length room ≤ memory_bytes }
         requires spare { completions_of (length room) ≤ self.old.flight.spare }
         ensures { self.new ≡ brings self.old number at (length room) up }
@@ -113,7 +108,7 @@ pub fn ask(
     len: u32,
 ) -> Result<u64, AllocError>
     requires some { 1 ≤ len }
-    requires few { len ≤ 512 }
+    requires few { len ≤ most_read_bytes }
     ensures number { IfOk result (λ number. number ≡ from.old.reads) }
     ensures asked { OnOk result (from.new ≡ asks from.old at len) }
     ensures promised { OnOk result (to.new ≡ promises to.old len) }

@@ -7,6 +7,7 @@ ghost use Rattle.read_model.specs.InFlight.{kind_of, may_land, parts_from};
 ghost use Rattle.read_path.specs.Flights.{flying_of, nothing_flying};
 
 use order_rules::{COMPLETION, READ_REQUEST, RELAXED, STRICT, full_table};
+use read_model::limits::MOST_WRITE_BYTES;
 use std::alloc::{AllocError, Global};
 use std::collections::VecDeque;
 use std::marker::Model;
@@ -18,7 +19,7 @@ pub enum InFlight {
     /// A posted write.
     Write {
         at: u32,
-        bytes: InPlace<128>,
+        bytes: InPlace<{ MOST_WRITE_BYTES }>,
         relaxed: bool,
     },
     /// A read request, with room for the bytes that it asks for.

@@ -3,7 +3,7 @@
 ghost use Rattle.std.specs.Prelude.{◌≡◌, ◌+◌, ◌≤◌, length, IfOk, OnOk, OnErr, alloc_error};
 ghost use Rattle.std.specs.Result.{result_err};
 ghost use Rattle.plan_model.specs.Link.{is_up};
-ghost use Rattle.read_model.specs.Path.{after_cut, after_drop, after_land, after_post, after_read, after_relink, cut_refusal, drop_refusal, fresh_path, land_answer, memory_bytes, post_answer, read_answer, relink_refusal, shown};
+ghost use Rattle.read_model.specs.Path.{after_cut, after_drop, after_land, after_post, after_read, after_relink, cut_refusal, drop_refusal, fresh_path, land_answer, memory_bytes, most_read_bytes, most_write_bytes, post_answer, read_answer, relink_refusal, shown};
 
 use crate::end::{End, ask, land_between};
 use link_state::{Link, LinkRefusal, LinkState};
@@ -11,9 +11,6 @@ use read_model::{PathLand, PostAnswer, ReadAnswer};
 use std::alloc::{AllocError, Global};
 use std::marker::Model;
 use step_kinds::{Frame, Side};
-
-/// The last session that a path can have.
-const LAST_SESSION: u32 = 65535;
 
 /// Two sides that one bridge joins: the link, and of each side its memory of 4,096 bytes, what it has in flight to its
 /// peer, and how many reads it made. Contracts see these, all in flight as lists, the oldest first.
@@ -59,7 +56,7 @@ impl Path {
         relaxed: bool,
     ) -> Result<PostAnswer, AllocError>
         requires some { 1 ≤ length bytes.now }
-        requires fits { length bytes.now ≤ 128 }
+        requires fits { length bytes.now ≤ most_write_bytes }
         requires within { at + length bytes.now ≤ memory_bytes }
         ensures answer { IfOk result (λ answer. answer ≡ post_answer self.old) }
         ensures after { OnOk result (self.new ≡ after_post self.old side at bytes.now relaxed) }
@@ -86,7 +83,7 @@ impl Path {
     /// [`AllocError`] from want of memory alone, and then nothing changes. It comes also to a side's 2^64th read.
     pub fn read(&mut self, side: Side, at: u32, len: u32) -> Result<ReadAnswer, AllocError>
         requires some { 1 ≤ len }
-        requires few { len ≤ 512 }
+        requires few { len ≤ most_read_bytes }
         requires within { at + len ≤ memory_bytes }
         ensures answer { IfOk result (λ answer. answer ≡ read_answer self.old side) }
         ensures after { OnOk result (self.new ≡ after_read self.old side at len) }

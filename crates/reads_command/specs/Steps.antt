@@ -1,6 +1,7 @@
 -- Which steps a path takes.
 use Rattle.std.specs.Prelude.{ℕ, ◌+◌, ◌≤◌, Option, Some, None, length}
-use Rattle.read_model.specs.Path.{memory_bytes}
+use Rattle.read_model.specs.Lines.{most_show_bytes}
+use Rattle.read_model.specs.Path.{memory_bytes, most_write_bytes, most_read_bytes}
 use Rattle.read_model.specs.declared.PathStep.{PathStep}
 use Rattle.read_model.specs.declared.PathStep.TheVariants.{Write, Read, Land, Show, Break, DropDone, Relink}
 
@@ -12,10 +13,10 @@ pub record IsRange (most at len : ℕ) : Type 0 where
 
 -- its bytes are as many as a step may have, and lie in a side's memory
 abbrev pub Fits : PathStep → Type 0
-Fits (Write side at bytes relaxed) = IsRange 128 at (length bytes)
-Fits (Read side at len) = IsRange 512 at len
+Fits (Write side at bytes relaxed) = IsRange most_write_bytes at (length bytes)
+Fits (Read side at len) = IsRange most_read_bytes at len
 Fits (Land side place) = Unit {0}
-Fits (Show side at len) = IsRange 64 at len
+Fits (Show side at len) = IsRange most_show_bytes at len
 Fits Break = Unit {0}
 Fits DropDone = Unit {0}
 Fits Relink = Unit {0}

@@ -2,28 +2,18 @@
 #![tactic(auto, unfolding(script_words::specs::Tests::and_then))]
 
 ghost use Rattle.std.specs.Prelude.{◌≡◌, ◌≢◌, IfOk, IsSome, map};
+ghost use Rattle.step_kinds.specs.Limits.{most_steps};
 ghost use Rattle.script_words.specs.Reads.{Reads};
 ghost use Rattle.read_model.specs.Lines as rules;
 ghost use Rattle.reads_command.specs.Steps.{Fits, FitsIfThere};
 
 use read_model::PathStep;
+use read_model::limits::{MEMORY_BYTES, MOST_READ_BYTES, MOST_SHOW_BYTES, MOST_WRITE_BYTES};
 use script_text::lines::{is_skipped, read_words};
 use script_words::words::{read_bytes, read_number, read_number_between, read_side};
 use script_words::{Cause, LineError};
 use std::alloc::Global;
-
-/// The most steps of a text.
-const MOST_STEPS: u32 = 1_000_000;
-
-/// The most bytes of a write, of a read and of a show.
-const MOST_WRITE_BYTES: usize = 128;
-
-const MOST_READ_BYTES: u32 = 512;
-
-const MOST_SHOW_BYTES: u32 = 64;
-
-/// The bytes of a side's memory.
-const MEMORY_BYTES: u64 = 4096;
+use step_kinds::limits::MOST_STEPS;
 
 /// The order that a word spells: whether a write is relaxed.
 fn read_order(word: &[u8]) -> Option<bool>
@@ -215,13 +205,13 @@ fn header_line<'a>(words: &mut Vec<&'a [u8]>, line: &'a [u8]) -> Result<Option<P
 pub fn read_line<'a>(
     alloc: Global,
     number: u32,
-    steps: u32,
+    steps: usize,
     words: &mut Vec<&'a [u8]>,
     line: &'a [u8],
 ) -> Result<Option<PathStep>, LineError>
     ensures step { Reads result (rules.line_gives number steps line.now) }
     ensures fits { IfOk result (λ step. FitsIfThere step) }
-    ensures few { IfOk result (λ step. IsSome step → steps ≢ 1000000) }
+    ensures few { IfOk result (λ step. IsSome step → steps ≢ most_steps) }
 {
     if number == 1 {
         return header_line(words, line);

@@ -1,7 +1,7 @@
 //! The reply to a text of reads.
 
 ghost use Rattle.std.specs.Prelude.{◌≡◌, ◌≤◌, ◌++◌, length, OnOk};
-ghost use Rattle.step_kinds.specs.Limits.{most_script_bytes};
+ghost use Rattle.step_kinds.specs.Limits.{most_script_bytes, most_steps};
 ghost use Rattle.script_words.specs.Reads.{result_map};
 ghost use Rattle.read_model.specs.Lines.{line_gives};
 ghost use Rattle.read_model.specs.Report.{reply_to};
@@ -43,7 +43,7 @@ impl From<AllocError> for ReadsError {
 /// The steps so far: how many there are, the path after them, and the lines of their answers.
 #[derive(Drop)]
 struct Reply {
-    steps: u32,
+    steps: usize,
     path: Path,
     text: Vec<u8>,
 }
@@ -57,8 +57,8 @@ impl Reply {
         words: &mut Vec<&'a [u8]>,
         line: &'a [u8],
     ) -> Result<(), ReadsError>
-        requires { self.old.steps ≤ 1000000 }
-        ensures few { self.new.steps ≤ 1000000 }
+        requires { self.old.steps ≤ most_steps }
+        ensures few { self.new.steps ≤ most_steps }
         ensures adds { Adds number (reply_seen self.old) (reply_seen self.new) result (line_gives number self.old.steps line.now) }
     {
         let step = match read_line(alloc, number, self.steps, words, line) {
