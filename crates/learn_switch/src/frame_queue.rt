@@ -1,6 +1,7 @@
 //! Frames in the order in which they came.
 
-ghost use Rattle.std.specs.Prelude.{◌≡◌, ◌<◌, ◌++◌, ◌∷◌, [], drop, length, map, slice_get, OnErr, OnOk, option_copied};
+ghost use Rattle.std.specs.Prelude.{◌≡◌, ◌++◌, ◌∷◌, [], drop, map, replicate, slice_get, IfOk, OnErr, OnOk, option_copied};
+ghost use Rattle.switch_model.specs.Switch.{flooded};
 
 use std::alloc::{AllocError, Global};
 use std::collections::VecDeque;
@@ -81,4 +82,46 @@ pub fn push_to_all(
     push_to_all(others, alloc, frame)?;
     queue.frames.push_back_reserved(copy);
     Ok(())
+}
+
+/// A copy of the frame joins each of these queues but the one at `place`, as the last one.
+///
+/// # Errors
+///
+/// [`AllocError`] from want of memory alone, and then it joined none.
+pub fn push_to_others(
+    queues: &mut [FrameQueue],
+    alloc: Global,
+    place: usize,
+    frame: &Frame,
+) -> Result<(), AllocError>
+    ensures ok { OnOk result (queues.new ≡ flooded queues.old place frame.now) }
+    ensures err { OnErr result (queues.new ≡ queues.old) }
+{
+    let Some((queue, others)) = queues.split_first_mut() else {
+        return Ok(());
+    };
+    if place == 0 {
+        return push_to_all(others, alloc, frame);
+    }
+    let copy = frame.copy_of(alloc)?;
+    queue.frames.reserve(1)?;
+    push_to_others(others, alloc, place - 1, frame)?;
+    queue.frames.push_back_reserved(copy);
+    Ok(())
+}
+
+/// So many queues without a frame.
+///
+/// # Errors
+///
+/// [`AllocError`] from want of memory alone.
+pub fn empty_queues(alloc: Global, count: u32) -> Result<Vec<FrameQueue>, AllocError>
+    ensures { IfOk result (λ queues. queues.items ≡ replicate count []) }
+{
+    let mut queues = Vec::new(alloc);
+    for _place in 0..count {
+        queues.push(FrameQueue::new(alloc))?;
+    }
+    Ok(queues)
 }
