@@ -1,8 +1,8 @@
 -- A switch of frames that are their bytes.
-use Rattle.std.specs.Prelude.{ℕ, ◌<◌, List, [], ◌∷◌}
+use Rattle.std.specs.Prelude.{ℕ, ◌<◌, List}
 use Rattle.switch_model.specs.Switch.{Switch, after_relay, relay_answer}
 use Rattle.switch_model.specs.declared.RelayAnswer.{RelayAnswer}
-use Rattle.switch_model.specs.declared.Station.{Station}
+use Rattle.switch_model.specs.declared.RelayAnswer.TheVariants.{To}
 
 abbrev pub Bytes : Type 0
 Bytes = Switch (List ℕ)
@@ -13,7 +13,7 @@ bytes_relay_answer switch port = relay_answer (λ bytes. bytes) switch port
 abbrev pub bytes_after_relay : Bytes → ℕ → Bytes
 bytes_after_relay switch port = after_relay (λ bytes. bytes) switch port
 
--- each station was seen on one of so many ports
-abbrev pub AreBelow : ℕ → List Station → Type 0
-AreBelow ports [] = Unit {0}
-AreBelow ports (station ∷ rest) = (station.port < ports) × AreBelow ports rest
+-- the port that a frame goes to is one of so many
+abbrev pub GoesBelow : ℕ → RelayAnswer → Type 0
+GoesBelow ports (To target) = target < ports
+GoesBelow ports _ = Unit {0}

@@ -1,7 +1,7 @@
 //! The forwarding database of a switch.
 
 ghost use Rattle.std.specs.Prelude.{◌≡◌, ◌<◌, [], length, IfOk, IfSome};
-ghost use Rattle.switch_model.specs.Fdb.{learned, lookup, place_of};
+ghost use Rattle.switch_model.specs.Fdb.{is_multicast, learned_source, lookup, place_of};
 
 use std::alloc::{AllocError, Global};
 use std::marker::Model;
@@ -38,13 +38,34 @@ impl Fdb {
         Some(self.stations[place].port)
     }
 
-    /// A station was seen on a port. A known one gets the port; a new one is added where fewer than 256 are known. It
-    /// takes no memory.
-    pub fn learn(&mut self, address: [u8; 6], port: u32)
-        ensures { self.new ≡ learned self.old address port }
+    /// What [`Fdb::lookup`] will answer once the source of a frame from a port is learned.
+    pub fn lookup_with(&self, source: &[u8; 6], port: u32, address: &[u8; 6]) -> Option<u32>
+        ensures { result ≡ lookup (learned_source self.now port source.now) address.now }
     {
-        let station = Station { address, port };
-        match place_of(self.stations.as_slice(), &address) {
+        if is_multicast(source) || address != source {
+            return self.lookup(address);
+        }
+        let is_known = place_of(self.stations.as_slice(), address).is_some();
+        if is_known || self.stations.len() < MOST_STATIONS {
+            Some(port)
+        } else {
+            None
+        }
+    }
+
+    /// A frame with this source came from a port. Unless the first byte of the address is odd, the station is learned:
+    /// a known one gets the port, and a new one is added where fewer than 256 are known. It takes no memory.
+    pub fn learn_source(&mut self, source: &[u8; 6], port: u32)
+        ensures { self.new ≡ learned_source self.old port source.now }
+    {
+        if is_multicast(source) {
+            return;
+        }
+        let station = Station {
+            address: *source,
+            port,
+        };
+        match place_of(self.stations.as_slice(), source) {
             Some(place) => self.stations[place] = station,
             None => {
                 if self.stations.len() < MOST_STATIONS {
@@ -78,4 +99,11 @@ fn place_of(stations: &[Station], address: &[u8; 6]) -> Option<usize>
         }
     }
     None
+}
+
+/// Whether an address names a group of devices: whether its first byte is odd.
+pub fn is_multicast(address: &[u8; 6]) -> bool
+    ensures { result ≡ is_multicast address.now }
+{
+    address[0] % 2 == 1
 }

@@ -1,11 +1,11 @@
 //! A switch.
 
 ghost use Rattle.std.specs.Prelude.{◌≡◌, ◌<◌, ◌≤◌, [], length, IfErr, IfOk, IfSome, OnErr, OnOk, option_copied};
-ghost use Rattle.switch_model.specs.Switch.{forward_answer, list_of, arrived, first, new_switch, sent};
-ghost use Rattle.switch_model.specs.Fdb.{destination, learned_from, lookup, source};
-ghost use Rattle.learn_switch.specs.Frames.{Bytes, bytes_after_relay, bytes_relay_answer};
+ghost use Rattle.switch_model.specs.Switch.{arrived, first, forward_answer, forwarded, header_bytes, list_of, new_switch, sent};
+ghost use Rattle.switch_model.specs.Fdb.{AreBelow, destination, learned_source, lookup, source};
+ghost use Rattle.learn_switch.specs.Frames.{GoesBelow, bytes_after_relay, bytes_relay_answer};
 
-use crate::fdb::Fdb;
+use crate::fdb::{Fdb, is_multicast};
 use crate::frame_queue::{FrameQueue, empty_queues, push_to_others};
 use net_dev::{Header, Short, decode};
 use std::alloc::{AllocError, Global};
@@ -91,10 +91,14 @@ impl Switch {
             }
         };
         let answer = route(&self.fdb, self.waiting.len() as u32, port, &header);
-        put(&mut self.waiting, self.alloc, port, frame, answer)?;
-        if !is_multicast(&header.src) {
-            self.fdb.learn(header.src, port);
-        }
+        forward(
+            self.waiting.as_mut_slice(),
+            self.alloc,
+            port,
+            frame,
+            answer,
+        )?;
+        self.fdb.learn_source(&header.src, port);
         self.inboxes[place].drop_first();
         Ok(answer)
     }
@@ -128,11 +132,59 @@ impl Switch {
 
 impl Model for Switch {
     ghost use Rattle.std.specs.Prelude.{◌≡◌, ◌≤◌, length};
-    ghost use Rattle.learn_switch.specs.Frames.{Bytes, AreBelow};
+    ghost use Rattle.switch_model.specs.Fdb.{AreBelow};
+    ghost use Rattle.learn_switch.specs.Frames.{Bytes};
 
     ghost Value = { Bytes };
 
     ghost view = { λ switch. record { inboxes = switch.inboxes.items; waiting = switch.waiting.items; fdb = switch.fdb } };
 
     ghost invariant = { λ switch. (length switch.inboxes.items ≡ length switch.waiting.items) × (length switch.waiting.items ≤ 16) × AreBelow (length switch.waiting.items) switch.fdb };
+}
+
+// The addresses of a frame, where it has an Ethernet header.
+fn header_of(frame: &Frame) -> Result<Header, Short>
+    ensures short { IfErr result (λ short. (length frame.now < header_bytes) × (short.len ≡ length frame.now)) }
+    ensures header { IfOk result (λ header. (header_bytes ≤ length frame.now) × (header.dst ≡ destination frame.now) × (header.src ≡ source frame.now)) }
+{
+    decode(frame.bytes())
+}
+
+// Where a frame from a port goes, in a switch with so many ports, once its source is learned.
+fn route(fdb: &Fdb, ports: u32, port: u32, header: &Header) -> RelayAnswer
+    requires some { 0 < ports }
+    requires port { port < ports }
+    requires stations { AreBelow ports fdb.now }
+    ensures answer { result ≡ forward_answer ports (learned_source fdb.now port header.now.src) port header.now.dst }
+    ensures below { GoesBelow ports result }
+{
+    let everywhere = RelayAnswer::Flood { count: ports - 1 };
+    if is_multicast(&header.dst) {
+        return everywhere;
+    }
+    match fdb.lookup_with(&header.src, port, &header.dst) {
+        None => everywhere,
+        Some(target) if target == port => RelayAnswer::Filtered,
+        Some(target) => RelayAnswer::To { port: target },
+    }
+}
+
+// A copy of a frame from a port joins the waiting frames of the ports that the answer says. Where memory is wanting, it
+// joins none.
+fn forward(
+    waiting: &mut [FrameQueue],
+    alloc: Global,
+    port: u32,
+    frame: &Frame,
+    answer: RelayAnswer,
+) -> Result<(), AllocError>
+    requires { GoesBelow (length waiting.old) answer }
+    ensures ok { OnOk result (waiting.new ≡ forwarded waiting.old port frame.now answer) }
+    ensures err { OnErr result (waiting.new ≡ waiting.old) }
+{
+    match answer {
+        RelayAnswer::Nothing | RelayAnswer::Short { .. } | RelayAnswer::Filtered => Ok(()),
+        RelayAnswer::To { port: target } => waiting[target as usize].push_copy(alloc, frame),
+        RelayAnswer::Flood { .. } => push_to_others(waiting, alloc, port as usize, frame),
+    }
 }

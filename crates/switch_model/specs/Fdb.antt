@@ -1,5 +1,5 @@
 -- The forwarding database of a switch: the stations that are known, each with the port on which it was seen last.
-use Rattle.std.specs.Prelude.{ℕ, ◌%◌, ◌<◌, ◌==◌, nat_lt, Bool, if◌then◌else◌, List, [], ◌∷◌, ◌++◌, Option, Some, None, length, take, drop, slice_index_or, slice_set}
+use Rattle.std.specs.Prelude.{ℕ, ◌%◌, ◌==◌, ◌<◌, nat_lt, Bool, true, false, if◌then◌else◌, List, [], ◌∷◌, ◌++◌, Option, Some, None, length, take, drop, slice_index_or, slice_set}
 use Rattle.std.specs.List.{position_from}
 use Rattle.std.specs.Str.{bytes_eq}
 use Rattle.switch_model.specs.declared.Station.{Station}
@@ -39,6 +39,17 @@ with_station fdb station None = if nat_lt (length fdb) most_stations then fdb ++
 abbrev pub learned : List Station → List ℕ → ℕ → List Station
 learned fdb address port = with_station fdb (record { address = address; port = port }) (place_of fdb address)
 
--- what a frame from a port teaches: where its source is, unless that names a group
-abbrev pub learned_from : List Station → ℕ → List ℕ → List Station
-learned_from fdb port bytes = if is_multicast (source bytes) then fdb else learned fdb (source bytes) port
+-- what a source on a port teaches: where the station is, unless the address names a group
+abbrev pub learned_source : List Station → ℕ → List ℕ → List Station
+learned_source fdb port src = if is_multicast src then fdb else learned fdb src port
+
+-- whether a station is known after its source was learned: it was known, or there was room
+abbrev pub once_learned : Bool → Option ℕ → ℕ → Option ℕ
+once_learned true known port = Some port
+once_learned false (Some place) port = Some port
+once_learned false None port = None
+
+-- each station was seen on one of so many ports
+abbrev pub AreBelow : ℕ → List Station → Type 0
+AreBelow ports [] = Unit {0}
+AreBelow ports (station ∷ rest) = (station.port < ports) × AreBelow ports rest

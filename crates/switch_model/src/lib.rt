@@ -6,6 +6,7 @@
 #![tactic(auto)]
 
 pub mod examples;
+pub mod laws;
 
 /// A station: a device that was seen as the source of a frame.
 #[derive(Clone, Copy, Debug, PartialEq, Eq)]
