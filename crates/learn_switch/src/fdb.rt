@@ -42,14 +42,17 @@ impl Fdb {
     pub fn lookup_with(&self, source: &[u8; 6], port: u32, address: &[u8; 6]) -> Option<u32>
         ensures { result ≡ lookup (learned_source self.now port source.now) address.now }
     {
-        if is_multicast(source) || address != source {
+        if is_multicast(source) {
             return self.lookup(address);
         }
-        let is_known = place_of(self.stations.as_slice(), address).is_some();
-        if is_known || self.stations.len() < MOST_STATIONS {
-            Some(port)
-        } else {
-            None
+        if address.as_slice() != source.as_slice() {
+            return self.lookup(address);
+        }
+        let has_room = self.stations.len() < MOST_STATIONS;
+        match self.lookup(source) {
+            Some(_) => Some(port),
+            None if has_room => Some(port),
+            None => None,
         }
     }
 

@@ -147,7 +147,8 @@ fn header_of(frame: &Frame) -> Result<Header, Short>
     ensures short { IfErr result (λ short. (length frame.now < header_bytes) × (short.len ≡ length frame.now)) }
     ensures header { IfOk result (λ header. (header_bytes ≤ length frame.now) × (header.dst ≡ destination frame.now) × (header.src ≡ source frame.now)) }
 {
-    decode(frame.bytes())
+    let header = decode(frame.bytes())?;
+    Ok(header)
 }
 
 // Where a frame from a port goes, in a switch with so many ports, once its source is learned.

@@ -5,7 +5,7 @@ use Rattle.std.specs.List.{position_from}
 use Rattle.std.specs.Str.{bytes_eq}
 use Rattle.std.proofs.lemmas.Bool.Decides.{Decides-ltb}
 use Rattle.std.proofs.lemmas.Slice.Eq.{bytes_eq-Decides}
-use Rattle.switch_model.specs.Fdb.{AreBelow, learned, lookup, most_stations, once_learned, place_of, port_at, with_station}
+use Rattle.switch_model.specs.Fdb.{AreBelow, is_multicast, learned, learned_source, lookup, most_stations, once_learned, place_of, port_at, with_station}
 use Rattle.switch_model.specs.declared.Station.{Station}
 
 ahead : {K : Type 0} (t : K → Bool) (i : ℕ) (xs : List K) → position_from t (suc i) xs ≡ option_map (λ n. suc n) (position_from t i xs)
@@ -173,3 +173,34 @@ learned-few fdb a port h =
     let room = nat_lt (length fdb) most_stations in
     let st : Station = record { address = a; port = port } in
     subst (λ all. length all ≤ most_stations) (sym (learned-put fdb a port)) (put-few room fdb st refl h)
+
+-- what is looked up once a source was learned: where the source names a group, for another address, and for itself
+pub lookup-multicast : (fdb : List Station) (src : List ℕ) (port : ℕ) (other : List ℕ) → is_multicast src ≡ true → lookup (learned_source fdb port src) other ≡ lookup fdb other
+lookup-multicast fdb src port other e = ap (λ b. lookup (cond b fdb (learned fdb src port)) other) e
+
+pub lookup-another : (fdb : List Station) (src : List ℕ) (port : ℕ) (other : List ℕ) → is_multicast src ≡ false → bytes_eq other src ≡ false → lookup (learned_source fdb port src) other ≡ lookup fdb other
+lookup-another fdb src port other e differs = ap (λ b. lookup (cond b fdb (learned fdb src port)) other) e ∙ lookup-other fdb src port other differs
+
+pub lookup-source : (fdb : List Station) (src : List ℕ) (port : ℕ) (other : List ℕ) → is_multicast src ≡ false → bytes_eq other src ≡ true
+    → lookup (learned_source fdb port src) other ≡ once_learned (nat_lt (length fdb) most_stations) (lookup fdb src) port
+lookup-source fdb src port other e same =
+    ap (λ b. lookup (cond b fdb (learned fdb src port)) other) e
+    ∙ (ap (lookup (learned fdb src port)) ((bytes_eq-Decides other src).0 same) ∙ lookup-learned fdb src port)
+
+pub known-source : (room : Bool) (known : Option ℕ) (place port : ℕ) → known ≡ Some place → once_learned room known port ≡ Some port
+known-source true known place port e = refl
+known-source false known place port e = ap (λ o. once_learned false o port) e
+
+pub learned_source-below : (ports : ℕ) (fdb : List Station) (src : List ℕ) (port : ℕ) → AreBelow ports fdb → port < ports → AreBelow ports (learned_source fdb port src)
+learned_source-below ports fdb src port h k = by (is_multicast src)
+  where
+    by : (b : Bool) → AreBelow ports (cond b fdb (learned fdb src port))
+    by true = h
+    by false = learned-below ports fdb src port h k
+
+-- a lookup that gives a port gives one of the switch
+pub found-port : (ports : ℕ) (fdb : List Station) (src : List ℕ) (port : ℕ) (other : List ℕ) (target : ℕ) → AreBelow ports fdb → port < ports
+    → Some target ≡ lookup (learned_source fdb port src) other → target < ports
+found-port ports fdb src port other target h k e =
+    let P : Option ℕ → Type 0 = λ o. IfSome o (λ place. place < ports) in
+    subst P (sym e) (lookup-below ports (learned_source fdb port src) other (learned_source-below ports fdb src port h k))
