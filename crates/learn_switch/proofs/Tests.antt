@@ -1,5 +1,5 @@
 -- What a test that was answered says.
-use Rattle.std.proofs.Common.{◌≡◌, ℕ, ◌<◌, Bool, true, false, not, nat_lt, refl, cc}
+use Rattle.std.proofs.Common.{◌≡◌, ℕ, ◌<◌, Bool, true, false, not, nat_lt, refl}
 use Rattle.std.proofs.lemmas.Bool.Decides.{Decides-ltb}
 
 pub not-true : (b : Bool) → not b ≡ true → b ≡ false
