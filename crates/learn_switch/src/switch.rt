@@ -91,13 +91,7 @@ impl Switch {
             }
         };
         let answer = route(&self.fdb, self.waiting.len() as u32, port, &header);
-        forward(
-            self.waiting.as_mut_slice(),
-            self.alloc,
-            port,
-            frame,
-            answer,
-        )?;
+        forward(&mut self.waiting, self.alloc, port, frame, answer)?;
         self.fdb.learn_source(&header.src, port);
         self.inboxes[place].drop_first();
         Ok(answer)
@@ -173,19 +167,22 @@ fn route(fdb: &Fdb, ports: u32, port: u32, header: &Header) -> RelayAnswer
 // A copy of a frame from a port joins the waiting frames of the ports that the answer says. Where memory is wanting, it
 // joins none.
 fn forward(
-    waiting: &mut [FrameQueue],
+    waiting: &mut Vec<FrameQueue>,
     alloc: Global,
     port: u32,
     frame: &Frame,
     answer: RelayAnswer,
 ) -> Result<(), AllocError>
-    requires { GoesBelow (length waiting.old) answer }
-    ensures ok { OnOk result (waiting.new ≡ forwarded waiting.old port frame.now answer) }
-    ensures err { OnErr result (waiting.new ≡ waiting.old) }
+    requires { GoesBelow (length waiting.old.items) answer }
+    ensures ok { OnOk result (waiting.new.items ≡ forwarded waiting.old.items port frame.now answer) }
+    ensures err { OnErr result (waiting.new.items ≡ waiting.old.items) }
+    ensures ports { length waiting.new.items ≡ length waiting.old.items }
 {
     match answer {
         RelayAnswer::Nothing | RelayAnswer::Short { .. } | RelayAnswer::Filtered => Ok(()),
         RelayAnswer::To { port: target } => waiting[target as usize].push_copy(alloc, frame),
-        RelayAnswer::Flood { .. } => push_to_others(waiting, alloc, port as usize, frame),
+        RelayAnswer::Flood { .. } => {
+            push_to_others(waiting.as_mut_slice(), alloc, port as usize, frame)
+        }
     }
 }
