@@ -1,5 +1,5 @@
 -- What a lookup answers once a source was learned.
-use Rattle.std.proofs.Common.{◌≡◌, ℕ, suc, ◌+◌, ◌<◌, ◌≤◌, nat_lt, Bool, true, false, cond, Option, Some, None, IfSome, List, [], ◌∷◌, ◌++◌, length, refl, ◌∙◌, sym, ap, subst, arith, slice_set, slice_index_or}
+use Rattle.std.proofs.Common.{◌≡◌, ℕ, suc, ◌+◌, ◌<◌, ◌≤◌, nat_lt, Bool, true, false, cond, Option, Some, None, IfSome, List, [], ◌∷◌, ◌++◌, length, refl, ◌∙◌, sym, ap, subst, arith, slice_set}
 use Rattle.std.specs.Option.{option_map}
 use Rattle.std.specs.List.{position_from}
 use Rattle.std.specs.Str.{bytes_eq}
@@ -59,7 +59,7 @@ with_room-put room (s ∷ rest) st = by (bytes_eq st.address s.address) (with_ro
   where
     by : (b : Bool) → with_room room rest st (place_of rest st.address) ≡ put room rest st
         → with_room room (s ∷ rest) st (cond b (Some 0) (position_from (λ station. bytes_eq st.address station.address) 1 rest))
-          ≡ cond b (st ∷ rest) (s ∷ put room rest st)
+        ≡ cond b (st ∷ rest) (s ∷ put room rest st)
     by true h = refl
     by false h =
         ap (with_room room (s ∷ rest) st) (ahead (λ station. bytes_eq st.address station.address) 0 rest)

@@ -1,6 +1,6 @@
 -- A learning switch: its ports, numbered from 0, and its forwarding database. Frames are of any type `F`, with a
 -- function that gives their bytes.
-use Rattle.std.specs.Prelude.{ℕ, zero, suc, ◌-◌, ◌==◌, nat_lt, Bool, if◌then◌else◌, List, [], ◌∷◌, ◌++◌, Option, Some, None, length, map, drop, replicate, slice_get, slice_index_or, slice_set}
+use Rattle.std.specs.Prelude.{ℕ, zero, suc, ◌-◌, ◌==◌, nat_lt, if◌then◌else◌, List, [], ◌∷◌, ◌++◌, Option, Some, None, length, map, drop, replicate, slice_get, slice_index_or, slice_set}
 use Rattle.switch_model.specs.Fdb.{destination, is_multicast, learned_source, lookup, source}
 use Rattle.switch_model.specs.declared.Station.{Station}
 use Rattle.switch_model.specs.declared.RelayAnswer.{RelayAnswer}
@@ -85,7 +85,7 @@ module _ {F : Type 0} (bytes_of : F → List ℕ) where
       record {
         inboxes = without_first switch.inboxes port;
         waiting = forwarded switch.waiting port frame (frame_answer (length switch.waiting) switch.fdb port (bytes_of frame));
-        fdb = fdb_after switch.fdb port (bytes_of frame)
+        fdb = fdb_after switch.fdb port (bytes_of frame);
       }
 
   -- the first frame of a port's inbox is relayed: the answer, and the switch after it

@@ -10,7 +10,8 @@ returns-clause-header c =
     let payload = drop ethernet_header c.bytes.result.now in
     let dst : length header.dst ≡ 6 = search rules in
     let src : length header.src ≡ 6 = search rules in
-    let parts : bytes ≡ ethernet_frame header.dst header.src header.kind payload = sym c.bytes.ensures.value ∙ c.in_ok-header.ensures.parts in
-    (long-enough bytes header.dst header.src payload header.kind parts dst src,
-     destination-of bytes header.dst header.src payload header.kind parts dst,
-     source-of bytes header.dst header.src payload header.kind parts dst src)
+    let parts : bytes ≡ ethernet_frame header.dst header.src header.kind payload = sym c.bytes.ensures.value ∙ c.in_ok-header.ensures.parts in (
+      long-enough bytes header.dst header.src payload header.kind parts dst src,
+      destination-of bytes header.dst header.src payload header.kind parts dst,
+      source-of bytes header.dst header.src payload header.kind parts dst src,
+    )

@@ -12,8 +12,9 @@ invariant_of-self-2 c =
     let within : c.args.port < length inboxes = search rules in
     let below : c.args.port < ports = subst (λ n. c.args.port < n) c.self.invariant.0 within in
     let learned : AreBelow ports (learned_source c.self.inside.fdb c.args.port c.in-Ok.header.src) =
-        learned_source-below ports c.self.inside.fdb c.in-Ok.header.src c.args.port c.self.invariant.2 below in
-    let known : AreBelow ports c.learn_source.new.self = subst (AreBelow ports) (sym c.learn_source.ensures) learned in
-    (length-set inboxes c.args.port c.drop_first-2.new.self ∙ (c.self.invariant.0 ∙ sym same),
-     omega (arith, same, c.self.invariant.1),
-     subst (λ n. AreBelow n c.learn_source.new.self) (sym same) known)
+    learned_source-below ports c.self.inside.fdb c.in-Ok.header.src c.args.port c.self.invariant.2 below in
+    let known : AreBelow ports c.learn_source.new.self = subst (AreBelow ports) (sym c.learn_source.ensures) learned in (
+      length-set inboxes c.args.port c.drop_first-2.new.self ∙ (c.self.invariant.0 ∙ sym same),
+      omega (arith, same, c.self.invariant.1),
+      subst (λ n. AreBelow n c.learn_source.new.self) (sym same) known,
+    )
