@@ -1,4 +1,4 @@
-use Rattle.std.proofs.Common.{◌≡◌, Some, sym, ◌∙◌}
+use Rattle.std.proofs.Common.{sym, ◌∙◌}
 use Rattle.switch_model.proofs.Lookups.{found-port}
 use Rattle.learn_switch.proofs.switch.route.Goals as goal
 

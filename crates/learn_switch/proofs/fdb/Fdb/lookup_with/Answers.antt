@@ -1,4 +1,4 @@
-use Rattle.std.proofs.Common.{◌≡◌, ℕ, Bool, true, false, not, Some, nat_lt, length, List, ◌∙◌, sym, ap, refl, rules}
+use Rattle.std.proofs.Common.{◌≡◌, true, false, not, Some, nat_lt, length, ◌∙◌, sym, ap, rules}
 use Rattle.std.specs.Str.{bytes_eq}
 use Rattle.switch_model.specs.Fdb.{is_multicast, lookup, most_stations, once_learned}
 use Rattle.switch_model.proofs.Lookups.{known-source, lookup-another, lookup-source}
