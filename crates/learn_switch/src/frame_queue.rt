@@ -1,0 +1,127 @@
+//! Frames in the order in which they came.
+
+ghost use Rattle.std.specs.Prelude.{◌≡◌, ◌++◌, ◌∷◌, [], drop, map, replicate, slice_get, IfOk, OnErr, OnOk, option_copied};
+ghost use Rattle.switch_model.specs.Switch.{flooded};
+
+use std::alloc::{AllocError, Global};
+use std::collections::VecDeque;
+use std::marker::Model;
+use step_kinds::Frame;
+
+/// Frames, the one that came first in front. Contracts see the list.
+#[derive(Drop)]
+pub struct FrameQueue {
+    frames: VecDeque<Frame>,
+}
+
+impl FrameQueue {
+    /// No frame. It takes no memory.
+    pub fn new(alloc: Global) -> FrameQueue
+        ensures { result ≡ [] }
+    {
+        FrameQueue {
+            frames: VecDeque::new(alloc),
+        }
+    }
+
+    /// A copy of the frame joins, as the last one.
+    ///
+    /// # Errors
+    ///
+    /// [`AllocError`] from want of memory alone, and then nothing joined.
+    pub fn push_copy(&mut self, alloc: Global, frame: &Frame) -> Result<(), AllocError>
+        ensures ok { OnOk result (self.new ≡ self.old ++ frame.now ∷ []) }
+        ensures err { OnErr result (self.new ≡ self.old) }
+    {
+        let copy = frame.copy_of(alloc)?;
+        self.frames.push_back(copy)?;
+        Ok(())
+    }
+
+    /// The first frame.
+    pub fn first(&self) -> Option<&Frame>
+        ensures { option_copied result ≡ slice_get self.now 0 }
+    {
+        self.frames.front()
+    }
+
+    /// Drops the first frame, where there is one. It takes no memory.
+    pub fn drop_first(&mut self)
+        ensures { self.new ≡ drop 1 self.old }
+    {
+        let _first = self.frames.pop_front();
+    }
+}
+
+impl Model for FrameQueue {
+    ghost use Rattle.std.specs.Prelude.{ℕ, List};
+
+    ghost Value = { List (List ℕ) };
+
+    ghost view = { λ queue. queue.frames.items };
+}
+
+/// A copy of the frame joins each of these queues, as the last one.
+///
+/// # Errors
+///
+/// [`AllocError`] from want of memory alone, and then it joined none.
+pub fn push_to_all(
+    queues: &mut [FrameQueue],
+    alloc: Global,
+    frame: &Frame,
+) -> Result<(), AllocError>
+    ensures ok { OnOk result (queues.new ≡ map (λ queue. queue ++ frame.now ∷ []) queues.old) }
+    ensures err { OnErr result (queues.new ≡ queues.old) }
+{
+    let Some((queue, others)) = queues.split_first_mut() else {
+        return Ok(());
+    };
+    let copy = frame.copy_of(alloc)?;
+    queue.frames.reserve(1)?;
+    push_to_all(others, alloc, frame)?;
+    queue.frames.push_back_reserved(copy);
+    Ok(())
+}
+
+/// A copy of the frame joins each of these queues but the one at `place`, as the last one.
+///
+/// # Errors
+///
+/// [`AllocError`] from want of memory alone, and then it joined none.
+pub fn push_to_others(
+    queues: &mut [FrameQueue],
+    alloc: Global,
+    place: usize,
+    frame: &Frame,
+) -> Result<(), AllocError>
+    ensures ok { OnOk result (queues.new ≡ flooded queues.old place frame.now) }
+    ensures err { OnErr result (queues.new ≡ queues.old) }
+{
+    let Some((queue, others)) = queues.split_first_mut() else {
+        return Ok(());
+    };
+    if place == 0 {
+        return push_to_all(others, alloc, frame);
+    }
+    let copy = frame.copy_of(alloc)?;
+    queue.frames.reserve(1)?;
+    push_to_others(others, alloc, place - 1, frame)?;
+    queue.frames.push_back_reserved(copy);
+    Ok(())
+}
+
+/// So many queues without a frame.
+///
+/// # Errors
+///
+/// [`AllocError`] from want of memory alone.
+pub fn empty_queues(alloc: Global, count: u32) -> Result<Vec<FrameQueue>, AllocError>
+    ensures { IfOk result (λ queues. queues.items ≡ replicate count []) }
+{
+    let mut queues = Vec::new(alloc);
+    for _place in 0..count {
+        queues.push(FrameQueue::new(alloc))?;
+    }
+    Ok(queues)
+}

@@ -1,0 +1,4 @@
+pub mod Examples
+pub mod Fdb
+pub mod Laws
+pub mod Switch

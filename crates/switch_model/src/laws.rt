@@ -1,0 +1,39 @@
+//! What holds of every forwarding database, and of every flood. Each function does nothing: its clause is the law.
+
+ghost use Rattle.switch_model.specs.Laws.{FloodReachesOthers, FloodSparesItsPort, FoundIsBelow, LearnedIsFound, OthersStay, PortsAreBelow, StationsAreFew};
+
+/// A station that was learned is on the port on which it was seen last, where it was known before or fewer than 256
+/// stations were.
+pub fn learned_is_found()
+    ensures { LearnedIsFound }
+{}
+
+/// Learning a station leaves where all others are.
+pub fn others_stay()
+    ensures { OthersStay }
+{}
+
+/// Learning keeps the stations at 256 or fewer.
+pub fn stations_are_few()
+    ensures { StationsAreFew }
+{}
+
+/// Where each station is on a port of the switch, this holds after learning one on a port of the switch.
+pub fn ports_are_below()
+    ensures { PortsAreBelow }
+{}
+
+/// Where each station is on a port of the switch, a lookup gives a port of the switch.
+pub fn found_is_below()
+    ensures { FoundIsBelow }
+{}
+
+/// A flooded frame joins the waiting frames of each other port once, as the last.
+pub fn flood_reaches_others()
+    ensures { FloodReachesOthers }
+{}
+
+/// A flooded frame leaves the waiting frames of the port that it came from.
+pub fn flood_spares_its_port()
+    ensures { FloodSparesItsPort }
+{}
