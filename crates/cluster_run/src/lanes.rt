@@ -77,14 +77,14 @@ impl LaneWork {
     }
 
     /// A round in which each of its workers has a thread of its own. A lane that is over does nothing.
-    pub(crate) fn pass_beside<R: Threads + Sync, G: Gate>(&mut self, rt: &R, gate: &G)
+    pub(crate) fn pass_in_threads<R: Threads + Sync, G: Gate>(&mut self, rt: &R, gate: &G)
         ensures { self.new.key ≡ self.old.key }
     {
         if self.is_over() {
             return;
         }
         let cut_after = self.cut_after();
-        self.session.pass_beside(rt, gate, cut_after);
+        self.session.pass_in_threads(rt, gate, cut_after);
     }
 
     /// A round in which this thread makes the passes of its workers in turn. A lane that is over does nothing.

@@ -2,10 +2,10 @@
 #![tactic(auto)]
 
 mod aim;
-mod beside;
 mod by_lane;
 mod clock;
 mod group;
+mod in_threads;
 mod in_turn;
 mod lanes;
 pub mod laws;
@@ -14,8 +14,8 @@ mod progress;
 mod rounds;
 mod run;
 mod session;
+mod task_list;
 mod tasks;
-mod waiting;
 mod workers;
 
 pub use run::run_plan;

@@ -3,22 +3,26 @@
 use std::sync::atomic::{AtomicBool, AtomicU64, Ordering};
 use std::thread;
 
-/// How many frames were received so far, and whether the round is over.
+/// How many frames were received so far, whether the round is over, and who has left it.
 #[derive(Drop)]
 pub(crate) struct Progress {
     received: AtomicU64,
     over: AtomicBool,
+    sender_left: AtomicBool,
+    mover_left: AtomicBool,
 }
 
 /// So often the cutting worker looks how far the receiver is, and lets other threads run, before it cuts anyway.
 const LOOKS: u32 = 20_000;
 
 impl Progress {
-    /// At the start of a round, where nothing is known.
+    /// At the start of a round, where nothing is known and nobody has left.
     pub(crate) fn new() -> Progress {
         Progress {
             received: AtomicU64::new(0),
             over: AtomicBool::new(false),
+            sender_left: AtomicBool::new(false),
+            mover_left: AtomicBool::new(false),
         }
     }
 
@@ -37,10 +41,34 @@ impl Progress {
         self.over.load(Ordering::SeqCst)
     }
 
-    /// Lets other threads run until so many frames were received, the round is over, or it has looked often.
+    /// The sender leaves the round: the mover makes one pass more.
+    pub(crate) fn sender_leaves(&self) {
+        self.sender_left.store(true, Ordering::SeqCst);
+    }
+
+    /// Whether the sender has left the round.
+    pub(crate) fn has_sender_left(&self) -> bool {
+        self.sender_left.load(Ordering::SeqCst)
+    }
+
+    /// The mover leaves the round: the receiver makes one pass more.
+    pub(crate) fn mover_leaves(&self) {
+        self.mover_left.store(true, Ordering::SeqCst);
+    }
+
+    /// Whether the mover has left the round.
+    pub(crate) fn has_mover_left(&self) -> bool {
+        self.mover_left.load(Ordering::SeqCst)
+    }
+
+    /// Lets other threads run until so many frames were received, the round is over, the mover has left it, or it has
+    /// looked often.
     pub(crate) fn await_received(&self, count: usize) {
         for _ in 0..LOOKS {
-            if self.is_over() || self.received.load(Ordering::SeqCst) >= count as u64 {
+            if self.received.load(Ordering::SeqCst) >= count as u64
+                || self.is_over()
+                || self.has_mover_left()
+            {
                 return;
             }
             thread::yield_now();

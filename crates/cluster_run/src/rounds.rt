@@ -27,37 +27,44 @@ fn thread_count<R: Threads>(rt: &R) -> usize
 }
 
 // A round in which each worker has a thread of its own.
-fn round_beside<R: Threads + Sync, G: Gate>(rt: &R, gate: &G, works: &mut [LaneWork])
+fn round_in_threads<R: Threads + Sync, G: Gate>(rt: &R, gate: &G, works: &mut [LaneWork])
     ensures { KeepKeys works.old works.new }
 {
     thread::for_each_mut(
         rt,
         works,
         FEW_LANES,
-        &|_, work: &mut LaneWork| { work.pass_beside(rt, gate) },
+        &|_, work: &mut LaneWork| { work.pass_in_threads(rt, gate) },
     );
 }
 
-// A round in which a thread makes the passes of several lanes' workers in turn.
-fn round_in_turn<R: Threads + Sync, G: Gate>(rt: &R, gate: &G, works: &mut [LaneWork])
+// A round in which each of so many threads makes the passes of several lanes' workers in turn.
+fn round_in_turn<R: Threads + Sync, G: Gate>(
+    rt: &R,
+    gate: &G,
+    threads: usize,
+    works: &mut [LaneWork],
+)
+    requires { 1 ≤ threads }
     ensures { KeepKeys works.old works.new }
 {
     thread::for_each_mut(
         rt,
         works,
-        thread_count(rt),
+        threads,
         &|_, work: &mut LaneWork| { work.pass_in_turn(gate) },
     );
 }
 
 // A round of the lanes that are not over.
-fn round<R: Threads + Sync, G: Gate>(rt: &R, gate: &G, works: &mut [LaneWork])
+fn round<R: Threads + Sync, G: Gate>(rt: &R, gate: &G, threads: usize, works: &mut [LaneWork])
+    requires { 1 ≤ threads }
     ensures { keys_of works.new ≡ keys_of works.old }
 {
     if works.len() <= FEW_LANES {
-        round_beside(rt, gate, works);
+        round_in_threads(rt, gate, works);
     } else {
-        round_in_turn(rt, gate, works);
+        round_in_turn(rt, gate, threads, works);
     }
 }
 
@@ -92,11 +99,12 @@ pub(crate) fn finished<R: Threads + Wait + Sync, G: Gate>(
     ensures keys { IfOk result (λ done. keys_of done.items ≡ keys_of works.items) }
     ensures over { IfOk result (λ done. All (λ work. work.over ≡ true) done.items) }
 {
+    let threads = thread_count(rt);
     for _ in rt.forever() {
         if are_over(&works) {
             return Ok(works);
         }
-        round(rt, gate, &mut works);
+        round(rt, gate, threads, &mut works);
         works = renewed(alloc, works)?;
     }
     unreachable!()

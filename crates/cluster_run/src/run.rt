@@ -9,7 +9,7 @@ use crate::by_lane::traffic_by_lane;
 use crate::group::next_group;
 use crate::parts::RunParts;
 use crate::rounds::finished;
-use crate::waiting::waiting_lanes;
+use crate::task_list::waiting_lanes;
 use io_edges::Gate;
 use std::alloc::{AllocError, Global};
 use std::sync::Wait;

@@ -5,8 +5,8 @@ ghost use Rattle.lane_workers.specs.Passes.{HaveBytes};
 ghost use Rattle.cluster_run.specs.Sessions.{new_session, EndsWith};
 
 use crate::aim::Aim;
-use crate::beside::pass_beside;
 use crate::clock::Clock;
+use crate::in_threads::pass_in_threads;
 use crate::in_turn::pass_in_turn;
 use crate::workers::{Cutting, Moving, Receiving, Sending};
 use io_edges::Gate;
@@ -113,7 +113,7 @@ impl Session {
     }
 
     /// A round of the session in which each worker has a thread of its own.
-    pub(crate) fn pass_beside<R: Threads + Sync, G: Gate>(
+    pub(crate) fn pass_in_threads<R: Threads + Sync, G: Gate>(
         &mut self,
         rt: &R,
         gate: &G,
@@ -123,7 +123,7 @@ impl Session {
         ensures frames { self.new.frames ≡ self.old.frames }
     {
         let aim = self.aim(cut_after);
-        pass_beside(
+        pass_in_threads(
             rt,
             gate,
             &mut self.sending,

@@ -28,6 +28,11 @@ impl Sending {
         let made = send_pass(&mut self.end, &mut self.todo, gate, worker, first, turns);
         self.clock = self.clock.after(first, made);
     }
+
+    /// How many frames are left to send.
+    pub(crate) fn left(&self) -> usize {
+        self.todo.len()
+    }
 }
 
 impl Model for Sending {

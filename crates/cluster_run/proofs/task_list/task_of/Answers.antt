@@ -1,5 +1,5 @@
 use Rattle.cluster_run.proofs.TrafficLanes.{losses_found, task_key}
-use Rattle.cluster_run.proofs.waiting.task_of.Goals as goal
+use Rattle.cluster_run.proofs.task_list.task_of.Goals as goal
 
 pub bounds-losses-name : goal.bounds-losses-name
 bounds-losses-name c = (losses_found c.args.plan.now c.args.losses.now c.args.lane.name.pair c.requires.losses c.requires.lane.traffic.declared).0

@@ -4,7 +4,7 @@ use Rattle.std.proofs.lemmas.Iterator.Consumers.{YieldsList-turn}
 use Rattle.std.proofs.lemmas.List.{length-map}
 use Rattle.cluster_run.specs.ByLane.{lane_frames}
 use Rattle.cluster_run.proofs.TrafficLanes.{few_waiting}
-use Rattle.cluster_run.proofs.waiting.waiting_lanes.Goals as goal
+use Rattle.cluster_run.proofs.task_list.waiting_lanes.Goals as goal
 
 pub push_task-requires-clause-few : goal.push_task-requires-clause-few
 push_task-requires-clause-few c =

@@ -1,6 +1,6 @@
 //! A round of a session in which each worker has a thread of its own.
 
-ghost use Rattle.std.specs.Prelude.{◌≡◌, ◌≤◌};
+ghost use Rattle.std.specs.Prelude.{◌≡◌};
 
 use crate::aim::Aim;
 use crate::progress::Progress;
@@ -9,36 +9,51 @@ use io_edges::Gate;
 use std::thread::{Threads, join_mut};
 
 /// At most so many passes a worker makes in a round, of so many turns each.
-const PASSES: u32 = 64;
+const PASSES: u32 = 256;
 
 const TURNS: u32 = 4_096;
 
-// The sender's part of a round.
-fn send_beside<G: Gate>(sending: &mut Sending, gate: &G, progress: &Progress)
+/// After so many passes in a row in which it sent nothing the sender leaves the round.
+const IDLE_PASSES: u32 = 4;
+
+// The sender's part of a round. It leaves once nothing is left to send, or where it sent nothing for a while.
+fn send_in_thread<G: Gate>(sending: &mut Sending, gate: &G, progress: &Progress)
     ensures { sending.new ≡ sending.old }
 {
+    let mut idle: u32 = 0;
     for _ in 0..PASSES {
+        let before = sending.left();
         sending.pass(gate, TURNS);
-        if progress.is_over() {
-            return;
+        let left = sending.left();
+        idle = if left < before {
+            0
+        } else {
+            idle.saturating_add(1)
+        };
+        if left == 0 || idle >= IDLE_PASSES || progress.is_over() {
+            break;
         }
     }
+    progress.sender_leaves();
 }
 
-// The mover's part of a round.
-fn move_beside<G: Gate>(moving: &mut Moving, gate: &G, progress: &Progress)
+// The mover's part of a round. It leaves with the pass after the one in which the sender left.
+fn move_in_thread<G: Gate>(moving: &mut Moving, gate: &G, progress: &Progress)
     ensures { moving.new ≡ moving.old }
 {
     for _ in 0..PASSES {
+        let is_last = progress.has_sender_left();
         moving.pass(gate, TURNS);
-        if progress.is_over() {
-            return;
+        if is_last || progress.is_over() {
+            break;
         }
     }
+    progress.mover_leaves();
 }
 
-// The receiver's part of a round. It is over once `total` frames were received in the session.
-fn receive_beside<G: Gate>(
+// The receiver's part of a round. It is over once `total` frames were received in the session; else the receiver leaves
+// with the pass after the one in which the mover left.
+fn receive_in_thread<G: Gate>(
     receiving: &mut Receiving,
     gate: &G,
     progress: &Progress,
@@ -48,20 +63,21 @@ fn receive_beside<G: Gate>(
     ensures { receiving.new.lane ≡ receiving.old.lane }
 {
     for _ in 0..PASSES {
+        let is_last = progress.has_mover_left();
         receiving.pass(gate, turns);
         let received = receiving.count();
         progress.tell(received);
         if received >= total {
             progress.end();
         }
-        if progress.is_over() {
+        if is_last || progress.is_over() {
             return;
         }
     }
 }
 
 // The cutting worker's part: the link is cut once so many frames were received, or after a while.
-fn cut_beside<G: Gate>(cutting: &mut Cutting, gate: &G, progress: &Progress, cut_after: usize)
+fn cut_in_thread<G: Gate>(cutting: &mut Cutting, gate: &G, progress: &Progress, cut_after: usize)
     ensures { cutting.new.lane ≡ cutting.old.lane }
 {
     progress.await_received(cut_after);
@@ -71,7 +87,7 @@ fn cut_beside<G: Gate>(cutting: &mut Cutting, gate: &G, progress: &Progress, cut
 
 // The three workers that carry frames. Where no thread can be made the sender makes its passes first, then the mover,
 // then the receiver.
-fn carry_beside<R: Threads + Sync, G: Gate>(
+fn carry_in_threads<R: Threads + Sync, G: Gate>(
     rt: &R,
     gate: &G,
     sending: &mut Sending,
@@ -87,20 +103,21 @@ fn carry_beside<R: Threads + Sync, G: Gate>(
 {
     join_mut(
         rt,
-        &mut || receive_beside(receiving, gate, progress, turns, total),
+        &mut || receive_in_thread(receiving, gate, progress, turns, total),
         &mut || {
             join_mut(
                 rt,
-                &mut || move_beside(moving, gate, progress),
-                &mut || send_beside(sending, gate, progress),
+                &mut || move_in_thread(moving, gate, progress),
+                &mut || send_in_thread(sending, gate, progress),
             );
         },
     );
 }
 
-/// A round in which each worker has a thread of its own. It is over once all frames were received, after so many passes,
-/// or after the cut: where the aim has one, the link is cut once so many frames were received, or after a while.
-pub(crate) fn pass_beside<R: Threads + Sync, G: Gate>(
+/// A round in which each worker has a thread of its own. It is over once all frames were received, where no worker gets
+/// on for a while, or after the cut: where the aim has one, the link is cut once so many frames were received, or after
+/// a while.
+pub(crate) fn pass_in_threads<R: Threads + Sync, G: Gate>(
     rt: &R,
     gate: &G,
     sending: &mut Sending,
@@ -118,13 +135,13 @@ pub(crate) fn pass_beside<R: Threads + Sync, G: Gate>(
     let told = &progress;
     let total = aim.total;
     let Some(share) = aim.cut_after else {
-        carry_beside(rt, gate, sending, moving, receiving, told, TURNS, total);
+        carry_in_threads(rt, gate, sending, moving, receiving, told, TURNS, total);
         return;
     };
     let turns = share.clamp(1, TURNS as usize) as u32;
     join_mut(
         rt,
-        &mut || cut_beside(cutting, gate, told, share),
-        &mut || carry_beside(rt, gate, sending, moving, receiving, told, turns, total),
+        &mut || cut_in_thread(cutting, gate, told, share),
+        &mut || carry_in_threads(rt, gate, sending, moving, receiving, told, turns, total),
     );
 }

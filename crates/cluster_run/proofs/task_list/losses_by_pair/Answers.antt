@@ -1,5 +1,5 @@
 use Rattle.cluster_run.proofs.TrafficCounts.{few_items, losses_more}
-use Rattle.cluster_run.proofs.waiting.losses_by_pair.Goals as goal
+use Rattle.cluster_run.proofs.task_list.losses_by_pair.Goals as goal
 
 pub breaks-requires : goal.breaks-requires
 breaks-requires c = few_items c.args.plan.now c.requires
