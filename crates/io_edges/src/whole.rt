@@ -1,6 +1,7 @@
 //! Reading all of a source, and writing all of a slice.
 ghost use Rattle.std.specs.Prelude.{◌≡◌, ◌+◌, ◌-◌, ◌^◌, ◌<◌, ◌≤◌, [], length, drop, vec_len, IfOk, OnOk, OnErr, IfSome, IsErrOf};
-ghost use Rattle.io_edges.specs.Causes.{Rose};
+ghost use Rattle.io_edges.specs.Causes.{HasCause, Rose};
+ghost use Rattle.io_edges.specs.Streams.{Writes};
 ghost use Rattle.io_edges.specs.declared.whole.ReadError.TheVariants.{ReadFault, OutOfMemory};
 ghost use Rattle.io_edges.specs.Whole.{HasGivenAtMost, HasGivenAtReads, AddsPiece, HoldsAll, HoldsPart, HoldsPartAtWrites};
 
@@ -157,8 +158,19 @@ pub fn write_all<K: Sink>(sink: &mut K, bytes: &[u8]) -> Result<(), WriteFault>
 {
     let mut rest = bytes;
     while !rest.is_empty() {
-        let count = sink.write(rest)?;
+        let count = write_piece(sink, rest)?;
         rest = &rest[count..];
     }
     Ok(())
+}
+
+/// Writes once, some bytes from the front of the rest. Returns how many were taken.
+fn write_piece<K: Sink>(sink: &mut K, rest: &[u8]) -> Result<usize, WriteFault>
+    ensures bound { IfOk result (λ count. count ≤ length rest.now) }
+    ensures some { IfOk result (λ count. 0 < length rest.now → 0 < count) }
+    ensures bytes { Writes (K.held sink.old) (K.held sink.new) result rest.now }
+    ensures cause { HasCause (K.faults sink.old) (K.faults sink.new) result }
+    ensures writes { K.writes sink.new ≤ K.writes sink.old + 1 }
+{
+    Ok(sink.write(rest)?)
 }
