@@ -12,6 +12,3 @@ mod path;
 
 pub use path::Path;
 pub use read_model::{PathLand, PostAnswer, ReadAnswer};
-
-#[cfg(test)]
-mod tests;
