@@ -74,7 +74,19 @@ fn lane_is_right(alloc: Global, text: &str, words: &[&str]) -> Result<bool, Allo
 // Takes a line of the text: one of eleven words begins a session, one of three is a frame's.
 fn take_line(seen: &mut LaneSeen, flood: &LaneFlood, lane: &[&str], line: &[&str]) {
     match line {
-        [_, pair, side, queue, session, _, accepted, _, delivered, _, left] => {
+        [
+            _,
+            pair,
+            side,
+            queue,
+            session,
+            _,
+            accepted,
+            _,
+            delivered,
+            _,
+            left,
+        ] => {
             seen.is_open = lane == [*pair, *side, *queue].as_slice();
             if seen.is_open {
                 take_session(seen, [session, accepted, delivered, left]);
