@@ -71,20 +71,20 @@ fn lane_is_right(alloc: Global, text: &str, words: &[&str]) -> Result<bool, Allo
     )
 }
 
-// Takes a line of the text.
+// Takes a line of the text: one of eleven words begins a session, one of three is a frame's.
 fn take_line(seen: &mut LaneSeen, flood: &LaneFlood, lane: &[&str], line: &[&str]) {
     match line {
         [
-            "lane",
+            _,
             pair,
             side,
             queue,
             session,
-            "accepted",
+            _,
             accepted,
-            "delivered",
+            _,
             delivered,
-            "left",
+            _,
             left,
         ] => {
             seen.is_open = lane == [*pair, *side, *queue].as_slice();
