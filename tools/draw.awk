@@ -61,8 +61,15 @@ function base(row) {
     return middle(row) + 4
 }
 
-# The story's question and result: the comments that begin with these words, with the comment lines behind them.
-function read_title(first,    number, text) {
+# The story's question and result: the comments that begin with these words, with the comment lines behind them; without such
+# the script's first comment.
+function read_title(first) {
+    read_comments(first, "^(Question|Result):")
+    if (!titles)
+        read_comments(first, "^[^=!]")
+}
+
+function read_comments(first, begins,    number, text) {
     for (number = 2; number < first; number++) {
         text = line[number]
         if (text !~ /^ *#/) {
@@ -70,8 +77,11 @@ function read_title(first,    number, text) {
                 return
             continue
         }
-        sub(/^ *# */, "", text)
-        if (text ~ /^(Question|Result):/)
+        sub(/^ *#/, "", text)
+        if (text ~ /^[=!]/)
+            continue
+        sub(/^ */, "", text)
+        if (text ~ begins && (!titles || begins ~ /Question/))
             title[++titles] = plain(text)
         else if (titles)
             title[titles] = title[titles] " " plain(text)
@@ -108,24 +118,34 @@ function lay_out(    row, script, a, b, lane) {
         row_text[row] = shown(row_text[row], 46)
         if (row_first[row])
             script = more(script, length(shown(line[row_line[row]], 44)))
-        if (row_side[row] == "A")
-            a = more(a, length(row_text[row]))
         if (row_side[row] == "B")
             b = more(b, length(row_text[row]))
+        else
+            a = more(a, length(row_text[row]))
     }
     at_a = more(40 + width(script) + 14 + width(a) + 10, 8 + width(length("side A, host " host["A"]) / 2))
     at_b = at_a + 230
     wide = at_b + 10 + more(width(b), width(length("side B, host " host["B"]) / 2))
-    for (lane = 1; lane <= lanes && is_drawn(lane); lane++) {
+    for (lane = 1; lane <= lanes; lane++) {
+        if (!is_drawn(lane))
+            continue
         strip[lane] = wide + 16
         wide = strip[lane] + more(12 * lane_slots[lane], 46)
+        strips++
     }
     wide = more(wide + 12, 640)
 }
 
 # The slots stay readable in rings of up to 8, of up to 3 lanes, and where the bytes in memory aren't a script's own.
 function is_drawn(lane) {
-    return lane <= 3 && !is_raw && lane_slots[lane] > 0 && lane_slots[lane] <= 8
+    if (lane in strip)
+        return 1
+    return !is_raw && !is_other_queue(lane_queue[lane]) && lane_slots[lane] > 0 && lane_slots[lane] <= 8 && strips < 3
+}
+
+# Whether a queue was chosen, and this is another one.
+function is_other_queue(queue) {
+    return chosen_queue != "" && queue != "" && queue != chosen_queue
 }
 
 function style() {
@@ -135,7 +155,7 @@ function style() {
     print ".note{font-family:'DejaVu Sans',Verdana,Arial,sans-serif;font-size:12px;fill:#444}"
     print ".head{font-weight:bold;text-anchor:middle}.middle{text-anchor:middle}.small{font-size:10px;text-anchor:middle;fill:#555}"
     print ".script{fill:#555}.other{fill:#555}.right{text-anchor:end}.refused{fill:#c00000}.frame{font-weight:bold}"
-    print ".life{stroke:#222;stroke-width:2}.row{stroke:#e2e2e2;stroke-width:1}.paper{fill:#fff}.behind{fill:#fff;stroke:#bbb}"
+    print ".life{stroke:#222;stroke-width:2}.row{stroke:#e2e2e2;stroke-width:1}.paper{fill:#fff}"
     print ".up{fill:#eaf5ea}.closing{fill:#fff1cc}.down{fill:#e6e6e6}"
     print ".field{stroke:#3f7fbf;stroke-width:1}.flag{stroke:#15233b;stroke-width:3}.bell{stroke:#15233b;stroke-width:1.5;" \
         "stroke-dasharray:6 4}.raw{stroke:#b5651d;stroke-width:2}"
@@ -180,21 +200,29 @@ function draw_rows(    row) {
         }
 }
 
+# What neither side answers, a step of the link or of another pair, stands beside side A, so that nothing covers an arrow.
 function draw_answers(    row) {
     for (row = 1; row <= rows; row++) {
-        if (row_side[row] == "A")
-            put(at_a - 10, base(row), "right " row_look[row], row_text[row])
-        else if (row_side[row] == "B")
+        if (row_side[row] == "B")
             put(at_b + 10, base(row), row_look[row], row_text[row])
-        else {
-            box(int((at_a + at_b - width(length(row_text[row]))) / 2) - 4, middle(row) - 8, width(length(row_text[row])) + 8, 16, "behind")
-            put(int((at_a + at_b) / 2), base(row), "middle " row_look[row], row_text[row])
-        }
+        else
+            put(at_a - 10, base(row), "right " row_look[row], row_text[row])
     }
+}
+
+# Whether an arrow has no row of its own: its queue wasn't chosen, or it was over before the first chosen line; or the same arrow
+# is drawn already, as of the chunks of a long frame.
+function is_left_out(i,    key) {
+    if (is_other_queue(arrow_queue[i]) || !arrow_post[i] && arrow_how[i] != "flying" && !arrow_end[i])
+        return 1
+    key = arrow_from[i] " " arrow_kind[i] " " arrow_post[i] " " arrow_end[i] " " arrow_how[i]
+    return arrow_how[i] ~ /^(landed|lost)$/ && drawn_arrow[key]++
 }
 
 function draw_arrows(    i, from, to, away, y) {
     for (i = 1; i <= arrows; i++) {
+        if (is_left_out(i))
+            continue
         from = arrow_from[i] == "A" ? at_a : at_b
         to = arrow_from[i] == "A" ? at_b : at_a
         away = to > from ? 1 : -1
@@ -215,7 +243,7 @@ function draw_arrows(    i, from, to, away, y) {
         }
     }
     for (i = 1; i <= arrows; i++)
-        if (arrow_how[i] == "flying")
+        if (i in ends && arrow_how[i] == "flying")
             open_circle(ends[i], bottom - 10)
 }
 
@@ -279,7 +307,7 @@ function draw_legend(    row) {
         if (row == 1 || band_link[row] != band_link[row - 1])
             if (!band_told[band_link[row]]++ && bands > 1)
                 legend("box", band_link[row], "link " band_link[row])
-    if (lanes && is_drawn(1)) {
+    if (strips) {
         legend_x = 8
         legend_y += 20
         put(8, legend_y, "note", "Slots of the ring, by owner:")
@@ -309,6 +337,11 @@ function draw_counts(    i, words) {
             legend_y += 18
         }
     }
+    tell_lanes()
+    if (first_line > 1 || last_line_drawn < at_end)
+        remark("Lines " first_line " to " (last_line_drawn < at_end ? last_line_drawn : "the end") " are drawn.")
+    if (chosen_queue != "")
+        remark("Of queues, " chosen_queue " alone is drawn.")
     if (left_out)
         remark("The picture stops here, after " rows " rows: " left_out " answers are left out.")
     if (pairs > 1)
@@ -318,6 +351,13 @@ function draw_counts(    i, words) {
     if (line[NR] != "end")
         remark("The report was cut off: it has no line `end`.")
     remark("Drawn by tools/ntbdraw, which isn't proved; the answers are the report's own.")
+}
+
+# The rings whose slots aren't drawn, each with why.
+function tell_lanes(    lane) {
+    for (lane = 1; lane <= lanes; lane++)
+        if (!is_drawn(lane) && !is_raw && !is_other_queue(lane_queue[lane]))
+            remark("The slots of " lane_name[lane] " aren't drawn: " (lane_slots[lane] > 8 ? "its ring has " lane_slots[lane] " slots, more than 8." : "three rings are drawn."))
 }
 
 function remark(text) {
@@ -342,13 +382,15 @@ function draw_title(    i, y) {
     y = 24
     for (i = 1; i <= titles; i++)
         y = wrapped(8, y, "title", title[i], int((wide - 16) * 10 / 72))
+    if (drawn_as != "")
+        y = wrapped(8, y, "note", drawn_as, int((wide - 16) * 10 / 68))
     return y
 }
 
 function draw_head() {
     put(at_a, top - 26, "head", "side A, host " host["A"])
     put(at_b, top - 26, "head", "side B, host " host["B"])
-    put(int((at_a + at_b) / 2), top - 9, "middle", "link " band_link[1] (band_link[1] == "up" ? ", session 1" : ""))
+    put(int((at_a + at_b) / 2), top - 9, "middle", "link " band_link[1] (band_link[1] == "up" ? ", session " band_session[1] : ""))
     put(8, top - 26, "frame", "pair " drawn (is_strict ? ", strict" : "") (is_raw ? ", raw" : ""))
 }
 
@@ -364,8 +406,9 @@ function draw(    lane) {
     rule(at_a, top - 4, at_a, bottom, "life")
     rule(at_b, top - 4, at_b, bottom, "life")
     draw_answers()
-    for (lane = 1; lane <= lanes && is_drawn(lane); lane++)
-        draw_strip(lane)
+    for (lane = 1; lane <= lanes; lane++)
+        if (lane in strip)
+            draw_strip(lane)
     draw_legend()
     draw_counts()
     print_page(legend_y - 4)
@@ -395,11 +438,22 @@ END {
         print "ntbdraw: no answers follow the script: give a script and then its report on standard input" > "/dev/stderr"
         exit 1
     }
+    if (is_other_report(first)) {
+        print "ntbdraw: the report is that of another script" > "/dev/stderr"
+        exit 1
+    }
     if (refused) {
         split(line[first], words, " ")
         draw_refused(refused, words[4])
         exit 0
     }
+    at_end = first - 1
+    if (last_line_drawn == "")
+        last_line_drawn = at_end
+    if (first_line == "")
+        first_line = 1
+    first_line += 0
+    last_line_drawn += 0
     follow_script(first)
     if (drawn == "") {
         print "ntbdraw: the script has no pair" (chosen == "" ? "" : " " chosen) > "/dev/stderr"

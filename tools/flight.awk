@@ -7,6 +7,8 @@
 #     flying) and arrow_place, arrow_of (its place among so many that ended there);
 #   bands, and of each band: band_row (the first row that it covers), band_link (up, closing or down), band_session;
 #   lanes, and of each lane: lane_name, lane_slots, and the owner of each slot after each row.
+# Where lines are chosen (first_line, last_line_drawn) or a queue is (chosen_queue), the others are followed and have no row. Four
+# or more answers in a row that differ in their last number alone, as those of a long frame, have one row.
 
 function peer(side) {
     return side == "A" ? "B" : "A"
@@ -34,20 +36,35 @@ function declare_pair(words, count,    i, at) {
         else
             options[words[i]] = 1
     }
+    drawn_as = line_of_pair(words, count)
     version = option("version", "A", 4) >= 5 && option("version", "B", 4) >= 5 ? 5 : 4
     is_strict = "strict" in options
     is_raw = "raw" in options
 }
 
-function declare(words, count) {
+# What the picture's head says of a pair: its options, as the script has them.
+function line_of_pair(words, count,    i, text) {
+    for (i = 5; i <= count; i++)
+        text = text (i > 5 ? " " : "") words[i]
+    return text == "" ? "Pair " words[2] ": no option." : "Pair " words[2] ": " text "."
+}
+
+function declare(words, count,    i) {
     if (words[1] == "pair")
         declare_pair(words, count)
     else if (words[1] == "dev") {
         dev_pair[words[2]] = words[3]
         dev_side[words[2]] = words[4]
         dev_queue[words[2]] = words[5]
-    } else if (words[1] == "class" && words[2] == drawn)
+        if (words[3] == drawn)
+            drawn_as = drawn_as " Device " words[2] ": side " words[4] ", queue " words[5] ", " words[7] " " words[8] "."
+    } else if (words[1] == "switch") {
+        for (i = 3; i <= count; i++)
+            port_dev[words[2], i - 3] = words[i]
+    } else if (words[1] == "class" && words[2] == drawn) {
         class_of[words[3], words[4]] = words[5] + 0
+        drawn_as = drawn_as " Class " words[5] ": queue " words[4] " of side " words[3] "."
+    }
 }
 
 # The entries of the ring that a side sends to on a queue.
@@ -65,7 +82,8 @@ function entries(side, queue,    windows, queues, shared, room, size) {
 # The link
 
 function begin_band(link, session) {
-    bands++
+    if (rows || !bands)
+        bands++
     band_row[bands] = rows + 1
     band_link[bands] = link
     band_session[bands] = session
@@ -93,6 +111,12 @@ function class_in(side, label,    words) {
     return words[1] ~ /^(pad|raw)$/ || !((side, words[2]) in class_of) ? 0 : class_of[side, words[2]]
 }
 
+# The queue that a write is of, or nothing.
+function queue_in(label,    words) {
+    split(label, words, " ")
+    return words[1] ~ /^(pad|raw)$/ ? "" : words[2]
+}
+
 # A side posts a write: it is in flight while the link is up, and lost otherwise.
 function post(side, label) {
     arrows++
@@ -100,6 +124,7 @@ function post(side, label) {
     arrow_kind[arrows] = kind_of(label)
     arrow_label[arrows] = label
     arrow_post[arrows] = rows
+    arrow_queue[arrows] = queue_in(label)
     arrow_how[arrows] = link_now == "up" ? "flying" : "lost"
     if (link_now == "up")
         flying[side, flights[side]++] = arrows
@@ -154,7 +179,8 @@ function lane_of(side, queue) {
         lane_at[side, queue] = ++lanes
         lane_name[lanes] = side ">" peer(side) (queue ? " q" queue : "")
         lane_slots[lanes] = entries(side, queue)
-        lane_from[lanes] = rows
+        lane_queue[lanes] = queue
+        lane_from[lanes] = rows ? rows : 1
         empty_lane(lanes)
     }
     return lane_at[side, queue]
@@ -187,7 +213,7 @@ function note_owners(    lane, slot) {
 
 # What an answer does to its lane. A write's label has the queue at the answer's third word and the entry's number at its fourth.
 function follow_lane(step, side, queue, said,    lane) {
-    if (said[1] == "ok" && step ~ /^(begin|xbegin|qpdown)$/) {
+    if (said[1] == "ok" && step ~ /^(begin|xbegin|xnext|qpdown)$/) {
         lane = lane_of(side, queue)
         sent[lane]++
     } else if (said[1] == "posted" && said[2] != "bell")
@@ -211,7 +237,7 @@ function is_refusal(step, word) {
     if (step == "check")
         return word != "up"
     return word ~ /^(notdown|dirty|notenabled|spent|notup|notclosing|linkdown|already|notyet|notchecked|notready|closed|toolong)$/ ||
-        word ~ /^(busy|stopped|again|idle|nothing|blocked|outofturn|empty|verdiffers|long)$/
+        word ~ /^(busy|stopped|again|idle|nothing|blocked|outofturn|empty|verdiffers|long|short|filtered)$/
 }
 
 function rest(answer) {
@@ -304,11 +330,16 @@ function link_text(step, said, answer,    lost) {
 }
 
 function is_of_device(words) {
-    return words[1] ~ /^(xmit|xbegin|wake)$/
+    return words[1] ~ /^(xmit|xbegin|wake|xnext|relay)$/
+}
+
+# The device that a line names; of a relay it is its port's.
+function device_of(words) {
+    return words[1] == "relay" ? port_dev[words[2], words[3] + 0] : words[2]
 }
 
 function pair_of(words) {
-    return is_of_device(words) ? dev_pair[words[2]] : words[2]
+    return is_of_device(words) ? dev_pair[device_of(words)] : words[2]
 }
 
 # A new row for an answer, or 0 where the picture is full.
@@ -326,19 +357,37 @@ function new_row(number, side, look) {
     return 1
 }
 
-# One answer: a row, and what it changes.
-function follow(number, words, step, is_macro, answer,    said, side, queue, place, text) {
+# Whether an answer has no row, since its line or its queue wasn't chosen.
+function is_hidden(number, step, side, queue, place) {
+    if (number < first_line)
+        return 1
+    if (chosen_queue == "" || side == "")
+        return 0
+    if (step == "land") {
+        queue = place < flights[side] ? queue_in(label_at(side, place)) : chosen_queue
+        return queue != "" && queue != chosen_queue
+    }
+    return step ~ /^(ready|join|begin|xbegin|qpdown|post|look|copy|clear|ack|showq)$/ && queue != chosen_queue
+}
+
+# One answer: a row, and what it changes. One that is folded into the row above has none of its own.
+function follow(number, words, step, is_macro, answer, is_folded,    said, side, queue, place, text, has_row) {
     if (is_of_device(words)) {
-        side = dev_side[words[2]]
-        queue = dev_queue[words[2]] + 0
+        side = dev_side[device_of(words)]
+        queue = dev_queue[device_of(words)] + 0
     } else {
         side = step ~ /^(train|break|drop)$/ ? "" : words[3]
         queue = words[4] + 0
     }
     split(answer, said, " ")
     place = step == "land" && !is_macro ? words[4] + 0 : 0
-    if (!new_row(number, step == "land" ? peer(side) : side, \
+    has_row = !is_folded && !is_hidden(number, step, side, queue, place)
+    if (!is_folded)
+        run_has_row = has_row
+    if (has_row && !new_row(number, step == "land" ? peer(side) : side, \
         is_refusal(step, said[1]) ? "refused" : said[1] == "frame" ? "frame" : "plain"))
+        return
+    if (left_out)
         return
     text = answer
     if (side == "")
@@ -349,10 +398,11 @@ function follow(number, words, step, is_macro, answer,    said, side, queue, pla
         follow_writes(step, side, queue, words, said, answer)
         if (said[1] == "offered")
             text = answer meaning(side, said[2])
-        if (is_macro && row_look[rows] == "refused")
+        if (is_macro && is_refusal(step, said[1]))
             text = step ": " answer
     }
-    row_text[rows] = text
+    if (has_row)
+        row_text[rows] = text
     follow_lane(step, side, queue, said)
     note_owners()
 }
@@ -362,7 +412,7 @@ function follow_other(pair, number, step,    from, answer, said) {
     from = line[at]
     while (at <= NR && answers(line[at], number))
         answer = line[at++]
-    if (answer == "" || chosen != "")
+    if (answer == "" || chosen != "" || number < first_line)
         return
     sub(/^[0-9]+ /, "", from)
     sub(/^[0-9]+ /, "", answer)
@@ -373,7 +423,35 @@ function follow_other(pair, number, step,    from, answer, said) {
     note_owners()
 }
 
-function follow_line(number,    words, count, place, step, answer) {
+# The part of an answer that is the same in each of a run: all but the last number of a chunk or a part, else the whole.
+function run_part(answer) {
+    if (answer ~ /^(posted|landed) chunk / || answer ~ /^copied /)
+        sub(/ [0-9]+$/, "", answer)
+    return answer
+}
+
+# How many answers of a line there are in a row from this one on that have one row together: a single one, or four and more.
+function run_length(number, words, count, place,    answer, step, many, part) {
+    answer = line[at]
+    sub(/^[0-9]+ /, "", answer)
+    step = step_of(words, count, place)
+    part = run_part(answer)
+    do {
+        many++
+        answer = line[at + many]
+        sub(/^[0-9]+ /, "", answer)
+    } while (at + many <= NR && answers(line[at + many], number) && run_part(answer) == part && step_of(words, count, place + many) == step)
+    return many < 4 ? 1 : many
+}
+
+# What a row says of a run of answers, the last of which is this one.
+function run_text(text, answer, many) {
+    if (run_part(answer) != answer)
+        text = text " .. " substr(answer, length(run_part(answer)) + 2)
+    return text " (" many ")"
+}
+
+function follow_line(number,    words, count, place, step, answer, run, left) {
     count = words_of(line[number], words)
     if (part == "declarations") {
         if (words[1] == "steps")
@@ -387,10 +465,14 @@ function follow_line(number,    words, count, place, step, answer) {
         return
     }
     for (place = 1; at <= NR && answers(line[at], number); place++) {
+        if (!left)
+            left = run = run_length(number, words, count, place)
         answer = line[at++]
         sub(/^[0-9]+ /, "", answer)
         step = step_of(words, count, place)
-        follow(number, words, step, step != words[1], answer)
+        follow(number, words, step, step != words[1], answer, left < run)
+        if (--left == 0 && run > 1 && run_has_row && !left_out)
+            row_text[rows] = run_text(row_text[rows], answer, run)
     }
 }
 
@@ -402,6 +484,8 @@ function follow_script(first,    number) {
     for (number = 2; number < first; number++) {
         if (line[number] ~ /^ *#/)
             continue
+        if (part == "steps" && number > last_line_drawn)
+            break
         if (bands == 0 && line[number] ~ /^ *steps *\r?$/)
             begin_band("up" in options ? "up" : "down", "up" in options ? 1 : 0)
         follow_line(number)

@@ -24,6 +24,10 @@ END {
         print "ntblist: no report follows the script: give a script and then its report on standard input" > "/dev/stderr"
         exit 1
     }
+    if (is_other_report(first)) {
+        print "ntblist: the report is that of another script" > "/dev/stderr"
+        exit 1
+    }
     refused = refused_line(line[first])
     if (refused) {
         list_script(refused < first ? refused : first - 1)

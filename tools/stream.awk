@@ -86,6 +86,39 @@ function refused_line(text) {
     return text ~ /^refused line / ? substr(text, 14) + 0 : 0
 }
 
+# Whether the report that begins at the line `first` isn't of this script: each line of the steps has its answers there, in order,
+# and no other line has. A report that is cut off, or that refuses a line, has fewer.
+function is_other_report(first,    number, from, part, words, count) {
+    if (refused_line(line[first]))
+        return refused_line(line[first]) >= first
+    if (line[first] == "usage" || line[first] == "too long")
+        return 0
+    from = first
+    if (line[1] ~ /^ *reads /)
+        part = "steps"
+    for (number = 2; number < first; number++) {
+        count = words_of(line[number], words)
+        if (count == 0 || words[1] ~ /^#/)
+            continue
+        if (words[1] == "pair")
+            declared[words[2]] = 1
+        if (count == 1 && words[1] ~ /^(steps|traffic)$/)
+            part = words[1]
+        else if (part == "steps") {
+            if (from > NR || !answers(line[from], number))
+                return from <= NR
+            while (from <= NR && answers(line[from], number))
+                from++
+        }
+    }
+    for (; from <= NR && line[from] != "end"; from++) {
+        words_of(line[from], words)
+        if (words[1] ~ /^[0-9]/ || words[1] == "lane" && !(words[2] in declared))
+            return 1
+    }
+    return 0
+}
+
 BEGIN {
     for (i = 32; i < 127; i++)
         PRINTED = PRINTED sprintf("%c", i)

@@ -15,7 +15,7 @@ use Rattle.step_kinds.specs.declared.plan.SidePlan.{SidePlan}
 use Rattle.step_kinds.specs.declared.steps.Answer.{Answer}
 use Rattle.step_kinds.specs.declared.steps.Answer.TheVariants.{Up}
 use Rattle.step_kinds.specs.declared.steps.Step.{Step}
-use Rattle.step_kinds.specs.declared.steps.Step.TheVariants.{Enable, Train, Break, DropDone, Clean, Offer, Check, Ready, Join, Begin, QpDown, Xbegin, Post, Land, Look, Copy, Clear, Ack, Wake, Irq, Mask, Unmask, Spad, Poke, ShowMem, ShowPad, ShowQueue}
+use Rattle.step_kinds.specs.declared.steps.Step.TheVariants.{Enable, Train, Break, DropDone, Clean, Offer, Check, Ready, Join, Begin, QpDown, Xbegin, Post, Land, Look, Copy, Clear, Ack, Wake, Irq, Mask, Unmask, Spad, Poke, ShowMem, ShowPad, ShowQueue, Relay, Xnext}
 use Rattle.plan_model.specs.Both.{Both, at_side}
 use Rattle.plan_model.specs.DeclaredPlans.{Agree, IsDeclared, IsPair, IsPairOf, IsPermitted, IsPoke, IsQueueOf, IsShown, IsSide, SizesFit}
 use Rattle.plan_model.specs.Plans.{no_pair, pair_plan, side_plan}
@@ -66,7 +66,7 @@ plan_of_pair devs plan k site state stands = ap (λ (bridge : Bridge). bridge.pl
 
 pub plan_of_standing : (plan : Plan) (steps : List Step) (fabric : FabricState) → StandsFor plan steps fabric → plan_kept fabric ≡ bare_plan plan
 plan_of_standing plan steps fabric stands =
-    ap (λ pairs. record { pairs = pairs; devs = fabric.devs; steps = []; traffic = [] }) pairs ∙ ap (λ devs. record { pairs = plan.pairs; devs = devs; steps = []; traffic = [] }) stands.devs
+    ap (λ pairs. record { pairs = pairs; devs = fabric.devs; switches = []; steps = []; traffic = [] }) pairs ∙ ap (λ devs. record { pairs = plan.pairs; devs = devs; switches = []; steps = []; traffic = [] }) stands.devs
   where
     plan_at : PairState → PairPlan
     plan_at pair = pair.bridge.plan
@@ -84,10 +84,10 @@ plan_of_standing plan steps fabric stands =
 
 -- of the pairs and devices alone, so of the plan
 pub queue_of_bare : (plan : Plan) (k : ℕ) (side : Side) (queue : ℕ) → IsQueueOf (bare_plan plan) k side queue → IsQueueOf plan k side queue
-queue_of_bare plan k side queue may = queue_of_other (bare_plan plan) plan.steps plan.traffic k side queue may
+queue_of_bare plan k side queue may = queue_of_other (bare_plan plan) plan.switches plan.steps plan.traffic k side queue may
 
 pub permitted_bare : (plan : Plan) (step : Step) → IsPermitted (bare_plan plan) step → IsPermitted plan step
-permitted_bare plan step may = permitted_by_other (bare_plan plan) plan.steps plan.traffic step may
+permitted_bare plan step may = permitted_by_other (bare_plan plan) plan.switches plan.steps plan.traffic step may
 
 pub declared_bare : (plan : Plan) → IsDeclared plan → IsDeclared (bare_plan plan)
 declared_bare plan declared =
@@ -233,6 +233,8 @@ can_make plan (Poke p side window offset bytes) bridge is agrees may = record { 
 can_make plan (ShowMem p side at len) bridge is agrees may = record { place = tt; queue = tt; bridge = subst (λ (pair : PairPlan). IsShown (side_plan pair side) at len) (sym is) may.1 }
 can_make plan (ShowPad p side i) bridge is agrees may = record { place = tt; queue = tt; bridge = may.1 }
 can_make plan (ShowQueue p side place) bridge is agrees may = record { place = tt; queue = tt; bridge = tt }
+can_make plan (Relay p side queue switch port) bridge is agrees may = absurd may
+can_make plan (Xnext p side queue dev) bridge is agrees may = absurd may
 
 -- One step more
 
@@ -272,6 +274,8 @@ pair_among plan (Poke p side window offset bytes) may = may.0
 pair_among plan (ShowMem p side at len) may = may.0
 pair_among plan (ShowPad p side i) may = may.0
 pair_among plan (ShowQueue p side place) may = may
+pair_among plan (Relay p side queue switch port) may = absurd may
+pair_among plan (Xnext p side queue dev) may = absurd may
 
 module _ (plan : Plan) (steps : List Step) (step : Step) (old new : FabricState) (made : HasMade plan steps old) (may : IsPermitted plan step) (answer : Answer) (moves : HasMoved old new step answer) where
   k : ℕ

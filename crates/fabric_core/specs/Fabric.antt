@@ -26,11 +26,11 @@ pair_of fabric k = slice_index_or fabric.pairs k no_state
 
 -- a plan's pairs and devices alone
 abbrev pub bare_plan : Plan → Plan
-bare_plan plan = record plan { steps = []; traffic = [] }
+bare_plan plan = record plan { switches = []; steps = []; traffic = [] }
 
 -- the plan of the pairs and devices that it has
 abbrev pub plan_kept : FabricState → Plan
-plan_kept fabric = record { pairs = map (λ pair. pair.bridge.plan) fabric.pairs; devs = fabric.devs; steps = []; traffic = [] }
+plan_kept fabric = record { pairs = map (λ pair. pair.bridge.plan) fabric.pairs; devs = fabric.devs; switches = []; steps = []; traffic = [] }
 
 -- It stands for these steps of the plan: each of its pairs does.
 pub record StandsFor (plan : Plan) (steps : List Step) (fabric : FabricState) : Type 0 where

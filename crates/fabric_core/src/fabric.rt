@@ -93,6 +93,13 @@ impl Fabric {
             .counters()
     }
 
+    /// The devices, in the order of the plan.
+    pub fn devices(&self) -> &[DevPlan]
+        ensures { result.now ≡ self.now.devs }
+    {
+        &self.devs
+    }
+
     // One of the pairs.
     fn pair(&self, pair: u32) -> &PairBox
         requires { IsPairOf (plan_kept self.now) pair }

@@ -39,6 +39,7 @@ pub fn is_made(step: &Step, answer: &Answer) -> bool
         Step::ShowMem { .. } => matches!(answer, Answer::Mem { .. }),
         Step::ShowPad { .. } => matches!(answer, Answer::PadValue { .. }),
         Step::ShowQueue { .. } => matches!(answer, Answer::QueueShown { .. }),
+        Step::Relay { .. } | Step::Xnext { .. } => false,
     }
 }
 

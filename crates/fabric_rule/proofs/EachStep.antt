@@ -13,7 +13,7 @@ use Rattle.step_kinds.specs.declared.plan.PairPlan.{PairPlan}
 use Rattle.step_kinds.specs.declared.plan.Plan.{Plan}
 use Rattle.step_kinds.specs.declared.steps.Answer.TheVariants.{Up}
 use Rattle.step_kinds.specs.declared.steps.Step.{Step}
-use Rattle.step_kinds.specs.declared.steps.Step.TheVariants.{Enable, Train, Break, DropDone, Clean, Offer, Check, Ready, Join, Begin, QpDown, Xbegin, Post, Land, Look, Copy, Clear, Ack, Wake, Irq, Mask, Unmask, Spad, Poke, ShowMem, ShowPad, ShowQueue}
+use Rattle.step_kinds.specs.declared.steps.Step.TheVariants.{Enable, Train, Break, DropDone, Clean, Offer, Check, Ready, Join, Begin, QpDown, Xbegin, Post, Land, Look, Copy, Clear, Ack, Wake, Irq, Mask, Unmask, Spad, Poke, ShowMem, ShowPad, ShowQueue, Relay, Xnext}
 use Rattle.plan_model.specs.DeclaredPlans.{IsDeclared, IsPair, IsPairOf, IsPermitted, SizesFit}
 use Rattle.plan_model.specs.Plans.{pair_plan, side_plan}
 use Rattle.ledger_laws.proofs.Facade.{joined_means_agreement, up_side_agrees}
@@ -83,6 +83,8 @@ module _ (plan : Plan) where
   by_bytes_follows (ShowMem k side at len) now sizes may = show_mem_follows plan.devs (pair_plan plan k) k now.site now.pages now.spare now.queues now.link now.sides side at len may.1
   by_bytes_follows (ShowPad k side i) now sizes may = show_pad_follows plan.devs (pair_plan plan k) k now.site now.pages now.spare now.queues now.link now.sides k side i
   by_bytes_follows (ShowQueue k side place) now sizes may = show_queue_follows plan.devs (pair_plan plan k) k now.site now.pages now.spare now.queues now.link now.sides side place
+  by_bytes_follows (Relay k side queue switch port) now sizes may = absurd may
+  by_bytes_follows (Xnext k side queue dev) now sizes may = absurd may
 
   -- the steps that are permitted are ordinary on an ordinary pair
   is_ordinary : (k : ℕ) → (pair_plan plan k).raw ≡ false → (step : Step) → IsPermitted plan step → IsOrdinaryOn k step

@@ -1,11 +1,12 @@
 -- Every step of a pair, and of a cluster.
 use Rattle.std.specs.Prelude.{List}
 use Rattle.step_kinds.specs.declared.plan.DevPlan.{DevPlan}
+use Rattle.step_kinds.specs.declared.steps.Answer.TheVariants.{Ok as Done}
 use Rattle.step_kinds.specs.declared.steps.Step.{Step}
-use Rattle.step_kinds.specs.declared.steps.Step.TheVariants.{Enable, Train, Break, DropDone, Clean, Offer, Check, Ready, Join, Begin, QpDown, Xbegin, Post, Land, Look, Copy, Clear, Ack, Wake, Irq, Mask, Unmask, Spad, Poke, ShowMem, ShowPad, ShowQueue}
+use Rattle.step_kinds.specs.declared.steps.Step.TheVariants.{Enable, Train, Break, DropDone, Clean, Offer, Check, Ready, Join, Begin, QpDown, Xbegin, Post, Land, Look, Copy, Clear, Ack, Wake, Irq, Mask, Unmask, Spad, Poke, ShowMem, ShowPad, ShowQueue, Relay, Xnext}
 use Rattle.plan_model.specs.Plans.{dev_plan}
 use Rattle.fabric_rule.specs.Parts.{PairState}
-use Rattle.fabric_rule.specs.Moves.{Move, enable_move, train_move, break_move, drop_move, clean_move, offer_move, check_move, ready_move, join_move, begin_move, qpdown_move, xbegin_move, post_move, wake_move, land_move, look_move, copy_move, clear_move, ack_move, irq_move, mask_move, unmask_move, spad_move, poke_move, show_mem_move, show_pad_move, show_queue_move}
+use Rattle.fabric_rule.specs.Moves.{Move, enable_move, train_move, break_move, drop_move, clean_move, offer_move, check_move, ready_move, join_move, begin_move, qpdown_move, xbegin_move, post_move, wake_move, land_move, look_move, copy_move, clear_move, ack_move, irq_move, mask_move, unmask_move, spad_move, poke_move, show_mem_move, show_pad_move, show_queue_move, shows}
 
 abbrev pub move_of : List DevPlan → PairState → Step → Move
 move_of devs pair (Enable p side) = enable_move pair side
@@ -35,3 +36,6 @@ move_of devs pair (Poke p side window offset bytes) = poke_move pair side window
 move_of devs pair (ShowMem p side at len) = show_mem_move pair side at len
 move_of devs pair (ShowPad p side i) = show_pad_move pair side i
 move_of devs pair (ShowQueue p side place) = show_queue_move pair side place
+-- a switch makes these, and no pair
+move_of devs pair (Relay p side queue switch port) = shows pair Done
+move_of devs pair (Xnext p side queue dev) = shows pair Done

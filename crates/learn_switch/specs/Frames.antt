@@ -1,6 +1,9 @@
 -- A switch of frames that are their bytes.
-use Rattle.std.specs.Prelude.{ℕ, ◌<◌, List}
-use Rattle.switch_model.specs.Switch.{Switch, after_relay, relay_answer}
+use Rattle.std.specs.Prelude.{◌≡◌, ℕ, ◌<◌, ◌≤◌, List, length}
+use Rattle.std.specs.List.{AllByRecursion}
+use Rattle.switch_model.specs.Fdb.{AreBelow}
+use Rattle.switch_model.specs.declared.Station.{Station}
+use Rattle.switch_model.specs.Switch.{Switch, after_relay, header_bytes, relay_answer}
 use Rattle.switch_model.specs.declared.RelayAnswer.{RelayAnswer}
 use Rattle.switch_model.specs.declared.RelayAnswer.TheVariants.{To}
 
@@ -17,3 +20,18 @@ bytes_after_relay switch port = after_relay (λ bytes. bytes) switch port
 abbrev pub GoesBelow : ℕ → RelayAnswer → Type 0
 GoesBelow ports (To target) = target < ports
 GoesBelow ports _ = Unit {0}
+
+-- a frame that has an Ethernet header
+abbrev pub HasHeader : List ℕ → Type 0
+HasHeader bytes = header_bytes ≤ length bytes
+
+-- all frames of all lists have one
+abbrev pub HaveHeaders : List (List (List ℕ)) → Type 0
+HaveHeaders lists = AllByRecursion (AllByRecursion HasHeader) lists
+
+-- what always holds of a switch: as many inboxes as lists of waiting frames, stations on its ports, no short frame that waits
+pub record IsSwitch (inboxes waiting : List (List (List ℕ))) (fdb : List Station) : Type 0 where
+  pub same_ports : length inboxes ≡ length waiting
+  pub few_ports : length waiting ≤ 16
+  pub stations : AreBelow (length waiting) fdb
+  pub headers : HaveHeaders waiting

@@ -3,7 +3,7 @@
 ghost use Rattle.std.specs.Prelude.{◌≡◌, ◌<◌, ◌≤◌, [], length, IfErr, IfOk, IfSome, OnErr, OnOk, option_copied};
 ghost use Rattle.switch_model.specs.Switch.{arrived, first, forward_answer, forwarded, header_bytes, list_of, new_switch, sent};
 ghost use Rattle.switch_model.specs.Fdb.{AreBelow, destination, learned_source, lookup, source};
-ghost use Rattle.learn_switch.specs.Frames.{GoesBelow, bytes_after_relay, bytes_relay_answer};
+ghost use Rattle.learn_switch.specs.Frames.{GoesBelow, HasHeader, HaveHeaders, bytes_after_relay, bytes_relay_answer};
 
 use crate::fdb::{Fdb, is_multicast};
 use crate::frame_queue::{FrameQueue, empty_queues, push_to_others};
@@ -97,11 +97,12 @@ impl Switch {
         Ok(answer)
     }
 
-    /// The first frame that waits on a port, and `None` exactly where none waits. The port is below the number of
-    /// ports.
+    /// The first frame that waits on a port, and `None` exactly where none waits. It has 14 bytes at least. The port is
+    /// below the number of ports.
     pub fn first(&self, port: u32) -> Option<&Frame>
         requires { port < length self.now.waiting }
-        ensures { option_copied result ≡ first self.now port }
+        ensures value { option_copied result ≡ first self.now port }
+        ensures header { IfSome result (λ frame. HasHeader frame.now) }
     {
         self.waiting[port as usize].first()
     }
@@ -125,15 +126,13 @@ impl Switch {
 }
 
 impl Model for Switch {
-    ghost use Rattle.std.specs.Prelude.{◌≡◌, ◌≤◌, length};
-    ghost use Rattle.switch_model.specs.Fdb.{AreBelow};
-    ghost use Rattle.learn_switch.specs.Frames.{Bytes};
+    ghost use Rattle.learn_switch.specs.Frames.{Bytes, IsSwitch};
 
     ghost Value = { Bytes };
 
     ghost view = { λ switch. record { inboxes = switch.inboxes.items; waiting = switch.waiting.items; fdb = switch.fdb } };
 
-    ghost invariant = { λ switch. (length switch.inboxes.items ≡ length switch.waiting.items) × (length switch.waiting.items ≤ 16) × AreBelow (length switch.waiting.items) switch.fdb };
+    ghost invariant = { λ switch. IsSwitch switch.inboxes.items switch.waiting.items switch.fdb };
 }
 
 // The addresses of a frame, where it has an Ethernet header.

@@ -18,7 +18,7 @@ use Rattle.step_kinds.specs.declared.steps.Answer.TheVariants.{OkNumber, Deliver
 use Rattle.step_kinds.specs.declared.steps.Label.{Label}
 use Rattle.step_kinds.specs.declared.steps.Label.TheVariants.{Flag, Down, Bell, Index, Pad}
 use Rattle.step_kinds.specs.declared.steps.Step.{Step}
-use Rattle.step_kinds.specs.declared.steps.Step.TheVariants.{Enable, Train, Break, DropDone, Clean, Offer, Check, Ready, Join, Begin, QpDown, Xbegin, Post, Land, Look, Copy, Clear, Ack, Wake, Irq, Mask, Unmask, Spad, Poke, ShowMem, ShowPad, ShowQueue}
+use Rattle.step_kinds.specs.declared.steps.Step.TheVariants.{Enable, Train, Break, DropDone, Clean, Offer, Check, Ready, Join, Begin, QpDown, Xbegin, Post, Land, Look, Copy, Clear, Ack, Wake, Irq, Mask, Unmask, Spad, Poke, ShowMem, ShowPad, ShowQueue, Relay, Xnext}
 use Rattle.plan_model.specs.Both.{Both, at_side, with_side}
 use Rattle.plan_model.specs.Device.{count_accepted, count_refused, count_delivered, no_counts}
 use Rattle.plan_model.specs.Ethernet.{ethernet_frame}
@@ -297,6 +297,8 @@ module _ (plan : Plan) (own : LaneName) (reading : Reading) (bytes : Bytes) (pai
   counts_next (ShowMem p side at len) e = same (nothing refl refl refl) refl
   counts_next (ShowPad p side i) e = same (nothing refl refl refl) refl
   counts_next (ShowQueue p side place) e = same (nothing refl refl refl) refl
+  counts_next (Relay p side queue switch port) e = same (nothing refl refl refl) refl
+  counts_next (Xnext p side queue dev) e = same (nothing refl refl refl) refl
 
 abbrev IsCounted : Plan → LaneName → List Answered → PairPart → Type 0
 IsCounted plan own log pair = (dev_of pair own.from own.queue).counters ≡ counters_in plan log own

@@ -5,6 +5,7 @@ use Rattle.step_kinds.specs.Bits.{has_bit}
 use Rattle.step_kinds.specs.Sides.{other_side}
 use Rattle.step_kinds.specs.declared.names.LaneName.{LaneName}
 use Rattle.step_kinds.specs.declared.names.Side.{Side}
+use Rattle.step_kinds.specs.declared.names.Side.TheVariants.{A, B}
 use Rattle.step_kinds.specs.declared.plan.Plan.{Plan}
 use Rattle.step_kinds.specs.declared.steps.Step.{Step}
 use Rattle.lane_model.specs.declared.Phase.{Phase}
@@ -12,14 +13,14 @@ use Rattle.lane_model.specs.declared.Phase.TheVariants.{Idle, Copying, Copied, C
 use Rattle.plan_model.specs.Link.{is_down}
 use Rattle.plan_model.specs.Plans.{pair_plan}
 use Rattle.plan_model.specs.declared.LinkState.{LinkState}
-use Rattle.ledger_model.specs.Ledger.{LanePart, lane_to}
+use Rattle.ledger_model.specs.Ledger.{LanePart, lane_to, side_of}
 use Rattle.ledger_model.specs.Log.{Answered, Memories, ledger_of}
 use Rattle.ledger_model.specs.Receiving.{is_idle, is_copying, is_copied, is_cleared}
 use Rattle.ledger_laws.proofs.AtStart.{fresh-lane, up-not_down}
 use Rattle.ledger_laws.proofs.FramesInOrder.{empty_set}
 use Rattle.ledger_laws.proofs.walk.Logs.{HoldsAlways, always_after}
 use Rattle.ledger_laws.proofs.walk.News.{News}
-use Rattle.ledger_laws.proofs.walk.Sight.{Sight, Sender, Receiver}
+use Rattle.ledger_laws.proofs.walk.Sight.{Sight, Sender, Receiver, sight}
 use Rattle.ledger_laws.proofs.walk.Turn.{Turn, Hand, hand_of, Trains, Breaks, Drops, Forgets, Joins, Strays, Looks, CopiesEntry, CopiesLast, Clears, Acks}
 
 -- one entry more was taken than cleared where an entry was copied and not yet cleared, and else as many
@@ -148,3 +149,20 @@ clears_last plan memories steps pair side queue copied =
   where
     own : LaneName
     own = record { pair = pair; from = other_side side; queue = queue }
+
+-- a receiver whose queue is joined, and that holds nothing, has cleared all entries that it took
+pub cleared_all : (plan : Plan) (memories : Memories) (steps : List Step) (pair : ℕ) (side : Side) (queue : ℕ) →
+    has_bit (side_of (ledger_of plan memories steps pair) side).joined queue ≡ true → is_idle (lane_to (ledger_of plan memories steps pair) side queue).phase ≡ true
+    → (lane_to (ledger_of plan memories steps pair) side queue).got ≡ (lane_to (ledger_of plan memories steps pair) side queue).cleared
+cleared_all plan memories steps pair side queue = go side
+  where
+    known : (from : Side) → HeldOf queue (sight from queue (ledger_of plan memories steps pair))
+    known from = let own : LaneName = record { pair = pair; from = from; queue = queue } in always_after plan own _ (held_runs plan own) memories steps
+
+    even_of : (joined : ℕ) (state : LinkState) (hand : Hand) → HeldBy queue state joined hand → has_bit joined queue ≡ true → is_idle hand.phase ≡ true → hand.got ≡ hand.cleared
+    even_of joined state hand held is idle = even hand.phase _ _ (idle_alone hand.phase idle).1.0 (even_joined queue state joined hand is held)
+
+    go : (side : Side) → has_bit (side_of (ledger_of plan memories steps pair) side).joined queue ≡ true → is_idle (lane_to (ledger_of plan memories steps pair) side queue).phase ≡ true
+        → (lane_to (ledger_of plan memories steps pair) side queue).got ≡ (lane_to (ledger_of plan memories steps pair) side queue).cleared
+    go A = even_of _ _ (hand_of (lane_to (ledger_of plan memories steps pair) A queue)) (known B)
+    go B = even_of _ _ (hand_of (lane_to (ledger_of plan memories steps pair) B queue)) (known A)

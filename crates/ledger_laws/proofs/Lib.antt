@@ -44,3 +44,7 @@ pub mod RoomInLog
 pub mod Tallies
 pub mod UpMeansAgreement
 pub mod walk
+pub mod KnownToDrivers
+pub mod RefusedInOrder
+pub mod FlagsInOrder
+pub mod FoundInOrder

@@ -13,7 +13,7 @@ use Rattle.plan_model.specs.Sizes.{sizes_of}
 use Rattle.byte_model.specs.Headers.{Bytes}
 use Rattle.ledger_laws.specs.Laws.{is_link_down, needs_link, LinkDownWhereNotUp}
 use Rattle.ledger_model.specs.Ledger.{PairPart, link_up}
-use Rattle.ledger_model.specs.Log.{up_at, trains, breaks, log_of, ledger_of}
+use Rattle.ledger_model.specs.Log.{Memories, up_at, trains, breaks, log_of, ledger_of}
 use Rattle.ledger_model.specs.Next.{pair_next, read_next, fresh_pair}
 use Rattle.ledger_model.specs.Reading.{Reading, reading_of}
 use Rattle.ledger_laws.proofs.Outcomes.{passed}
@@ -95,12 +95,15 @@ link_runs plan lane = record {
   turns = λ log s made news t tells turn h. up_after-last lane.pair (pair_plan plan lane.pair).up log made ∙ ap (up_step lane.pair made) h ∙ up_kept plan lane s made news t tells turn;
 }
 
+-- after every log: any lane of the pair tells it
+pub up_known : (plan : Plan) (memories : Memories) (steps : List Step) (pair : ℕ) → up_at plan pair (log_of plan memories steps) ≡ link_up (ledger_of plan memories steps pair)
+up_known plan memories steps pair = always_after plan any _ (link_runs plan any) memories steps
+  where
+    any : LaneName
+    any = record { pair = pair; from = A; queue = 0 }
+
 pub link_down_where_not_up : LinkDownWhereNotUp
 link_down_where_not_up plan memories steps step answer goes =
     ap is_link_down (answer_of plan memories steps step answer goes)
     ∙ link_answer plan.devs (pair_plan plan (subject_of step)) (memories (log_of plan memories steps) (subject_of step)) (ledger_of plan memories steps (subject_of step)) step
-    ∙ ap (λ up. needs_link step && not up) (sym (always_after plan any _ (link_runs plan any) memories steps))
-  where
-    -- any lane of the pair
-    any : LaneName
-    any = record { pair = subject_of step; from = A; queue = 0 }
+    ∙ ap (λ up. needs_link step && not up) (sym (up_known plan memories steps (subject_of step)))

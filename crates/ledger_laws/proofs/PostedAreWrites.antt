@@ -15,7 +15,7 @@ use Rattle.step_kinds.specs.declared.steps.Answer.TheVariants.{Ok as Done, OkSes
 use Rattle.step_kinds.specs.declared.steps.Label.{Label}
 use Rattle.step_kinds.specs.declared.steps.Label.TheVariants.{Flag, Down, Bell, Index, Pad}
 use Rattle.step_kinds.specs.declared.steps.Step.{Step}
-use Rattle.step_kinds.specs.declared.steps.Step.TheVariants.{Enable, Train, Break, DropDone, Clean, Offer, Check, Ready, Join, Begin, QpDown, Xbegin, Post, Land, Look, Copy, Clear, Ack, Wake, Irq, Mask, Unmask, Spad, Poke, ShowMem, ShowPad, ShowQueue}
+use Rattle.step_kinds.specs.declared.steps.Step.TheVariants.{Enable, Train, Break, DropDone, Clean, Offer, Check, Ready, Join, Begin, QpDown, Xbegin, Post, Land, Look, Copy, Clear, Ack, Wake, Irq, Mask, Unmask, Spad, Poke, ShowMem, ShowPad, ShowQueue, Relay, Xnext}
 use Rattle.lane_model.specs.Lane.{Entry, GoesDown}
 use Rattle.lane_model.specs.declared.Phase.TheVariants.{Idle, Copying, Copied, Cleared}
 use Rattle.plan_model.specs.Both.{Both, at_side}
@@ -378,6 +378,8 @@ module _ (plan : Plan) (lane : LaneName) (reading : Reading) (bytes : Bytes) (pa
   writes_next (ShowMem p side at len) e = quiet (nothing refl refl) refl refl
   writes_next (ShowPad p side i) e = quiet (nothing refl refl) refl refl
   writes_next (ShowQueue p side place) e = quiet (nothing refl refl) refl refl
+  writes_next (Relay p side queue switch port) e = quiet (nothing refl refl) refl refl
+  writes_next (Xnext p side queue dev) e = quiet (nothing refl refl) refl refl
 
 abbrev HasPosted : LaneName → List Answered → PairPart → Type 0
 HasPosted lane log pair = has_forgotten pair lane.from ≡ false → AreWrites lane.queue (posted_in log lane) (lane_of pair lane.from lane.queue).todo (lane_of pair lane.from lane.queue).sent

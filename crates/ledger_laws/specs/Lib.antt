@@ -1,3 +1,4 @@
+pub mod Drivers
 pub mod Landing
 pub mod Laws
 pub mod Rings

@@ -2,6 +2,7 @@
 //! and whatever the memories show, but for the premises that a law's text names. In each, steps may be refused, and
 //! pairs, sides and queues be any.
 
+ghost use Rattle.ledger_laws.specs.Drivers.{BusyWhereLeftToPost, ClosedWhereClosed, EmptyWhereNothingLanded, NotReadyWhereNotJoined, PeerDownWhereDownLanded};
 ghost use Rattle.ledger_laws.specs.Landing.{LanePartLands};
 ghost use Rattle.ledger_laws.specs.Laws.{
   AgainWhereNoRoom,
@@ -59,6 +60,40 @@ pub fn again_where_no_room()
 /// left it not up, and no other step is. No premise.
 pub fn link_down_where_not_up()
     ensures { LinkDownWhereNotUp }
+{}
+
+/// A step is answered `notready` exactly where its queue isn't joined on the side, by what the log told the side's
+/// driver, and of a step that needs the link the link is up; of a join, exactly where the link is up and the queue isn't
+/// ready on the side. No premise.
+pub fn not_ready_where_not_joined()
+    ensures { NotReadyWhereNotJoined }
+{}
+
+/// A step that begins entries, or looks, is answered `closed` exactly where its queue is joined on the side and closed
+/// there since, by a link-down entry that the side began or found, and of one that begins entries the link is up. No
+/// premise.
+pub fn closed_where_closed()
+    ensures { ClosedWhereClosed }
+{}
+
+/// A step that begins entries is answered `busy` exactly where the link is up, the queue is joined on the side and isn't
+/// closed, the frame isn't too long, and of the entries that the side began there some writes aren't posted yet. No
+/// premise.
+pub fn busy_where_left_to_post()
+    ensures { BusyWhereLeftToPost }
+{}
+
+/// A look is answered `empty` exactly where the queue is joined on the side and isn't closed, the side holds no entry of
+/// it, and as many entries have landed flags in the session as the side cleared. Premise: the pair is ordinary.
+pub fn empty_where_nothing_landed()
+    ensures { EmptyWhereNothingLanded }
+{}
+
+/// A look is answered `peerdown` exactly where the queue is joined on the side and isn't closed, the side holds no entry
+/// of it, and of the flags that landed in the session those behind the entries that the side cleared are a link-down
+/// entry's. Premise: the pair is ordinary.
+pub fn peer_down_where_down_landed()
+    ensures { PeerDownWhereDownLanded }
 {}
 
 /// The ledger's tallies are the numbers of frames that the log accepted and delivered, for each lane and session. No

@@ -27,7 +27,7 @@ abbrev pub small_pair : PairPlan
 small_pair = record { name = 112 ∷ []; a = small_side; b = small_side; mtu = 1023; up = true; strict = true; raw = false; class_a = replicate 16 0; class_b = replicate 16 0 }
 
 abbrev pub plan_of : PairPlan → List DevPlan → Plan
-plan_of pair devs = record { pairs = pair ∷ []; devs = devs; steps = []; traffic = [] }
+plan_of pair devs = record { pairs = pair ∷ []; devs = devs; switches = []; steps = []; traffic = [] }
 
 -- memories of which nothing is shown
 abbrev pub no_memory : Memories

@@ -7,14 +7,14 @@ use Rattle.step_kinds.specs.declared.plan.PairPlan.{PairPlan}
 use Rattle.step_kinds.specs.declared.plan.DevPlan.{DevPlan}
 use Rattle.step_kinds.specs.declared.plan.Plan.{Plan}
 use Rattle.step_kinds.specs.declared.steps.Step.{Step}
-use Rattle.step_kinds.specs.declared.steps.Step.TheVariants.{Enable, Train, Break, DropDone, Clean, Offer, Check, Ready, Join, Begin, QpDown, Xbegin, Post, Land, Look, Copy, Clear, Ack, Wake, Irq, Mask, Unmask, Spad, Poke, ShowMem, ShowPad, ShowQueue}
+use Rattle.step_kinds.specs.declared.steps.Step.TheVariants.{Enable, Train, Break, DropDone, Clean, Offer, Check, Ready, Join, Begin, QpDown, Xbegin, Post, Land, Look, Copy, Clear, Ack, Wake, Irq, Mask, Unmask, Spad, Poke, ShowMem, ShowPad, ShowQueue, Relay, Xnext}
 use Rattle.plan_model.specs.Both.{both_of}
 use Rattle.plan_model.specs.Device.{no_counts}
 use Rattle.ledger_model.specs.Handshake.{offer_step, check_step, ready_step, join_step}
 use Rattle.ledger_model.specs.Ledger.{SidePart, DevPart, Tally, PairPart, updated}
 use Rattle.plan_model.specs.Link.{fresh_link}
 use Rattle.ledger_model.specs.LinkSteps.{fresh_lane, enable_step, train_step, break_step, drop_step, clean_step}
-use Rattle.ledger_model.specs.Outcome.{Outcome}
+use Rattle.ledger_model.specs.Outcome.{Outcome, not_here}
 use Rattle.byte_model.specs.Headers.{Bytes}
 use Rattle.ledger_model.specs.Reading.{Reading, reading_of}
 use Rattle.ledger_model.specs.Receiving.{land_step, look_step, copy_step, clear_step, ack_step}
@@ -95,6 +95,8 @@ read_next devs plan reading bytes pair (Poke p side window offset poked) = poke_
 read_next devs plan reading bytes pair (ShowMem p side at len) = show_mem_step pair (bytes side at len)
 read_next devs plan reading bytes pair (ShowPad p side i) = show_pad_step pair side i
 read_next devs plan reading bytes pair (ShowQueue p side place) = show_queue_step pair side place
+read_next devs plan reading bytes pair (Relay p side queue switch port) = not_here pair
+read_next devs plan reading bytes pair (Xnext p side queue dev) = not_here pair
 
 -- the outcome of a step: an ordinary pair reads its ledger, a raw one its bytes
 abbrev pub pair_next : List DevPlan → PairPlan → Bytes → PairPart → Step → Outcome

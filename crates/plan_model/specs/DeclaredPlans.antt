@@ -8,7 +8,7 @@ use Rattle.step_kinds.specs.declared.plan.PairPlan.{PairPlan}
 use Rattle.step_kinds.specs.declared.plan.DevPlan.{DevPlan}
 use Rattle.step_kinds.specs.declared.plan.Plan.{Plan}
 use Rattle.step_kinds.specs.declared.steps.Step.{Step}
-use Rattle.step_kinds.specs.declared.steps.Step.TheVariants.{Enable, Train, Break, DropDone, Clean, Offer, Check, Ready, Join, Begin, QpDown, Xbegin, Post, Land, Look, Copy, Clear, Ack, Wake, Irq, Mask, Unmask, Spad, Poke, ShowMem, ShowPad, ShowQueue}
+use Rattle.step_kinds.specs.declared.steps.Step.TheVariants.{Enable, Train, Break, DropDone, Clean, Offer, Check, Ready, Join, Begin, QpDown, Xbegin, Post, Land, Look, Copy, Clear, Ack, Wake, Irq, Mask, Unmask, Spad, Poke, ShowMem, ShowPad, ShowQueue, Relay, Xnext}
 use Rattle.plan_model.specs.Ethernet.{ethernet_header}
 use Rattle.plan_model.specs.Plans.{side_plan, pair_plan, dev_plan}
 
@@ -117,7 +117,7 @@ pub record IsShown (own : SidePlan) (at len : ℕ) : Type 0 where
   pub few : len ≤ 64
   pub within : at + len ≤ own.windows * own.cap
 
--- A step that a script of this plan may make.
+-- A step that the bridges and devices of this plan permit. What a switch does is none of them.
 abbrev pub IsPermitted : Plan → Step → Type 0
 IsPermitted plan (Enable pair side) = IsPairOf plan pair
 IsPermitted plan (Train pair) = IsPairOf plan pair
@@ -146,3 +146,5 @@ IsPermitted plan (Poke pair side window offset bytes) = IsPairOf plan pair × Is
 IsPermitted plan (ShowMem pair side at len) = IsPairOf plan pair × IsShown (side_plan (pair_plan plan pair) side) at len
 IsPermitted plan (ShowPad pair side i) = IsPairOf plan pair × (i < 16)
 IsPermitted plan (ShowQueue pair side place) = IsPairOf plan pair
+IsPermitted plan (Relay pair side queue switch port) = ⊥
+IsPermitted plan (Xnext pair side queue dev) = ⊥

@@ -12,4 +12,5 @@ pub mod Pads
 pub mod Pieces
 pub mod Plans
 pub mod Sizes
+pub mod Switches
 pub mod TrafficPlans

@@ -1,10 +1,12 @@
--- The pairs, sides and devices of a plan by their numbers.
-use Rattle.std.specs.Prelude.{ℕ, false, List, [], replicate, slice_index_or}
+-- The pairs, sides, devices and switches of a plan by their numbers.
+use Rattle.std.specs.Prelude.{ℕ, false, List, [], replicate, slice_index, slice_index_or}
+use Rattle.std.specs.List.{flat_map}
 use Rattle.step_kinds.specs.declared.names.Side.{Side}
 use Rattle.step_kinds.specs.declared.names.Side.TheVariants.{A, B}
 use Rattle.step_kinds.specs.declared.plan.SidePlan.{SidePlan}
 use Rattle.step_kinds.specs.declared.plan.PairPlan.{PairPlan}
 use Rattle.step_kinds.specs.declared.plan.DevPlan.{DevPlan}
+use Rattle.step_kinds.specs.declared.plan.SwitchPlan.{SwitchPlan}
 use Rattle.step_kinds.specs.declared.plan.Plan.{Plan}
 
 abbrev pub no_side : SidePlan
@@ -25,3 +27,19 @@ pair_plan plan k = slice_index_or plan.pairs k no_pair
 abbrev pub side_plan : PairPlan → Side → SidePlan
 side_plan plan A = plan.a
 side_plan plan B = plan.b
+
+-- Switches
+
+abbrev pub no_switch : SwitchPlan
+no_switch = record { name = []; ports = [] }
+
+abbrev pub switch_plan : Plan → ℕ → SwitchPlan
+switch_plan plan k = slice_index_or plan.switches k no_switch
+
+-- the device that is a port of a switch, by its number
+abbrev pub port_device : Plan → ℕ → ℕ → ℕ
+port_device plan switch port = slice_index (switch_plan plan switch).ports port
+
+-- the devices that are ports, switch by switch
+abbrev pub ports_in : List SwitchPlan → List ℕ
+ports_in switches = flat_map (λ switch. switch.ports) switches

@@ -1,4 +1,4 @@
--- The traffic that a script can declare.
+-- The traffic that a script can declare, and what holds of a whole plan.
 use Rattle.std.specs.Prelude.{◌≡◌, ℕ, ◌<◌, ◌≤◌, ◌==◌, Bool, false, length, map, sum, count_by}
 use Rattle.std.specs.List.{All}
 use Rattle.step_kinds.specs.Limits.{most_steps, most_traffic_frames, most_traffic_bytes, most_breaks, most_traffic_entries}
@@ -7,9 +7,10 @@ use Rattle.step_kinds.specs.declared.plan.PairPlan.{PairPlan}
 use Rattle.step_kinds.specs.declared.plan.Plan.{Plan}
 use Rattle.step_kinds.specs.declared.plan.Traffic.{Traffic}
 use Rattle.step_kinds.specs.declared.plan.Traffic.TheVariants.{Send, Break}
-use Rattle.plan_model.specs.DeclaredPlans.{Agree, IsDeclared, IsPairOf, IsPermitted}
+use Rattle.plan_model.specs.DeclaredPlans.{Agree, IsDeclared, IsPairOf}
 use Rattle.plan_model.specs.Plans.{pair_plan}
 use Rattle.plan_model.specs.Sizes.{sizes_of}
+use Rattle.plan_model.specs.Switches.{AreSwitches, IsMakeable}
 
 -- the frames of the traffic, their bytes, and the link losses of a pair
 abbrev pub frames_in : Traffic → ℕ
@@ -45,7 +46,8 @@ IsTraffic plan (Break pair) = IsPairOf plan pair × MayHaveTraffic (pair_plan pl
 -- what holds of every plan that a script declares
 pub record IsWhole (plan : Plan) : Type 0 where
   pub declared : IsDeclared plan
-  pub steps : All (λ line. IsPermitted plan line.step) plan.steps
+  pub switches : AreSwitches plan
+  pub steps : All (λ line. IsMakeable plan line.step) plan.steps
   pub few_steps : length plan.steps ≤ most_steps
   pub traffic : All (IsTraffic plan) plan.traffic
   pub few_frames : sum (map frames_in plan.traffic) ≤ most_traffic_frames

@@ -14,7 +14,7 @@ use Rattle.step_kinds.specs.declared.plan.PairPlan.{PairPlan}
 use Rattle.step_kinds.specs.declared.plan.Plan.{Plan}
 use Rattle.plan_model.specs.Plans.{dev_plan, no_dev, no_pair, pair_plan}
 use Rattle.ledger_model.specs.Log.{Answered, counters_in}
-use Rattle.fabric_core.specs.Fabric.{bare_plan}
+use Rattle.cluster_core.specs.Cluster.{declared_part}
 use Rattle.fabric_core.specs.LogClauses.{lane_of_device}
 use Rattle.report_text.specs.Report.{count_line, count_lines}
 use Rattle.report_text.specs.declared.whole.LaneCount.{LaneCount}
@@ -151,13 +151,13 @@ devices_more plan log k lt =
 own_pair : (plan : Plan) (k : ℕ) (pair : PairPlan) → k < length plan.pairs → pair ≡ get_or plan.pairs k pair → pair ≡ pair_plan plan k
 own_pair plan k pair lt is = get_or_read plan.pairs k pair lt is no_pair
 
-pub has_queues : (plan kept : Plan) (k : ℕ) (pair : PairPlan) (queues : ℕ) → kept ≡ bare_plan plan → k < length plan.pairs → pair ≡ get_or plan.pairs k pair →
+pub has_queues : (plan kept : Plan) (k : ℕ) (pair : PairPlan) (queues : ℕ) → kept ≡ declared_part plan → k < length plan.pairs → pair ≡ get_or plan.pairs k pair →
     queues ≡ min pair.a.queues pair.b.queues → HasQueues kept k queues
 has_queues plan kept k pair queues same lt is least =
     let own : pair ≡ pair_plan plan k = own_pair plan k pair lt is in
     let in_a : queues ≤ pair.a.queues = omega arith in
     let in_b : queues ≤ pair.b.queues = omega arith in
-    let of_plan : HasQueues (bare_plan plan) k queues =
+    let of_plan : HasQueues (declared_part plan) k queues =
     record {
       declared = lt;
       side_a = subst (λ (sides : PairPlan). queues ≤ sides.a.queues) own in_a;

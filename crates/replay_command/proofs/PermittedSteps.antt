@@ -9,19 +9,19 @@ use Rattle.step_kinds.specs.declared.plan.Plan.{Plan}
 use Rattle.step_kinds.specs.declared.steps.Step.{Step}
 use Rattle.step_kinds.specs.declared.steps.Step.TheVariants.{Ack, Clear, Copy, Look}
 use Rattle.script_words.specs.Compact.{lines_with}
-use Rattle.plan_model.specs.DeclaredPlans.{IsPermitted}
+use Rattle.plan_model.specs.Switches.{IsMakeable}
 use Rattle.plan_model.specs.Macros.{receive}
-use Rattle.plan_model.proofs.PermittedSteps.{permitted_by_other}
-use Rattle.fabric_core.specs.Fabric.{bare_plan}
+use Rattle.plan_model.proofs.PermittedSteps.{makeable_by_other}
+use Rattle.cluster_core.specs.Cluster.{declared_part}
 
--- a fabric that keeps a plan's pairs and devices may make the steps that the plan permits
-pub steps_permitted : (plan kept : Plan) (lines : List Line) → kept ≡ bare_plan plan → All (λ line. IsPermitted plan line.step) lines → All (λ line. IsPermitted kept line.step) lines
+-- a cluster that keeps a plan's pairs and devices may make the steps that the plan permits
+pub steps_permitted : (plan kept : Plan) (lines : List Line) → kept ≡ declared_part plan → All (λ line. IsMakeable plan line.step) lines → All (λ line. IsMakeable kept line.step) lines
 steps_permitted plan kept lines same all =
-    subst (λ (kept : Plan). All (λ line. IsPermitted kept line.step) lines) (sym same)
-    (All-weaker (λ (line : Line). IsPermitted plan line.step) (λ line. IsPermitted (bare_plan plan) line.step) (λ line may. permitted_by_other plan [] [] line.step may) lines all)
+    subst (λ (kept : Plan). All (λ line. IsMakeable kept line.step) lines) (sym same)
+    (All-weaker (λ (line : Line). IsMakeable plan line.step) (λ line. IsMakeable (declared_part plan) line.step) (λ line may. makeable_by_other plan [] [] line.step may) lines all)
 
 -- a step that may be made again and again may be made once
-pub again_permitted : (kept : Plan) (line count : ℕ) (step : Step) → 0 < count → All (λ line. IsPermitted kept line.step) (lines_with line (replicate count step)) → IsPermitted kept step
+pub again_permitted : (kept : Plan) (line count : ℕ) (step : Step) → 0 < count → All (λ line. IsMakeable kept line.step) (lines_with line (replicate count step)) → IsMakeable kept step
 again_permitted kept line zero step some all = absurd (omega arith)
 again_permitted kept line (suc count) step some all = all 0 (record { line = line; step = step }) (omega arith)
 
@@ -50,10 +50,10 @@ lines_received line pair side queue copies =
     (map-append made (replicate copies (Copy pair side queue)) (Clear pair side queue ∷ Ack pair side queue ∷ [])
     ∙ sym (append_assoc copied (made (Clear pair side queue) ∷ []) (made (Ack pair side queue) ∷ [])))
 
-pub received_permitted : (kept : Plan) (line pair : ℕ) (side : Side) (queue copies : ℕ) → All (λ line. IsPermitted kept line.step) (lines_with line (receive pair side queue copies)) →
-    IsPermitted kept (Look pair side queue) × All (λ line. IsPermitted kept line.step) (lines_with line (replicate copies (Copy pair side queue))) × IsPermitted kept (Clear pair side queue) × IsPermitted kept (Ack pair side queue)
+pub received_permitted : (kept : Plan) (line pair : ℕ) (side : Side) (queue copies : ℕ) → All (λ line. IsMakeable kept line.step) (lines_with line (receive pair side queue copies)) →
+    IsMakeable kept (Look pair side queue) × All (λ line. IsMakeable kept line.step) (lines_with line (replicate copies (Copy pair side queue))) × IsMakeable kept (Clear pair side queue) × IsMakeable kept (Ack pair side queue)
 received_permitted kept line pair side queue copies all =
-    let P : Line → Type 0 = λ line. IsPermitted kept line.step in
+    let P : Line → Type 0 = λ line. IsMakeable kept line.step in
     let made : Step → Line = λ step. record { line = line; step = step } in
     let copied : List Line = lines_with line (replicate copies (Copy pair side queue)) in
     let last : List Line = lines_with line (Clear pair side queue ∷ Ack pair side queue ∷ []) in

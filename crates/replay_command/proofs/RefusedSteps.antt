@@ -1,5 +1,5 @@
 -- A step that was refused is answered the same each further time, without being made.
-use Rattle.std.proofs.Common.{◌≡◌, ◌∙◌, ℕ, zero, suc, ◌+◌, ◌-◌, ◌<◌, arith, false, List, [], ◌∷◌, ◌++◌, refl, sym, ap, subst, replicate}
+use Rattle.std.proofs.Common.{◌≡◌, ◌∙◌, ℕ, zero, suc, ◌+◌, ◌-◌, ◌<◌, arith, false, true, List, [], ◌∷◌, ◌++◌, refl, sym, ap, subst, replicate}
 use Rattle.std.specs.List.{fold}
 use Rattle.std.proofs.lemmas.List.{map-append, replicate-append-replicate}
 use Rattle.step_kinds.specs.declared.plan.Line.{Line}
@@ -11,14 +11,14 @@ use Rattle.ledger_laws.specs.Laws.{is_made}
 use Rattle.script_words.specs.Compact.{lines_with, step_again}
 use Rattle.script_words.specs.declared.macros.Repeated.{Repeated}
 use Rattle.script_words.specs.declared.macros.Repeated.TheVariants.{Post, Land, Look, Copy, Clear, Ack, Offer}
-use Rattle.fabric_core.specs.Fabric.{FabricState, bare_plan, plan_kept}
-use Rattle.fabric_core.specs.LogClauses.{HasMade, IsAnswered}
-use Rattle.fabric_core.specs.Refusals.{RefusedAgain, counts_refusals}
+use Rattle.cluster_core.specs.Cluster.{ClusterState, declared_part, plan_held}
+use Rattle.cluster_core.specs.LogClauses.{HasMade, IsAnswered}
+use Rattle.cluster_core.specs.Refusals.{RefusedAgain, is_plain}
 use Rattle.replay_command.specs.ReplaySteps.{HasKept, steps_in}
 use Rattle.replay_command.proofs.Replaying.{kept_both, kept_none, kept_one, step_in}
 
 -- no step that a line repeats is a device's
-pub repeated_counts : (repeated : Repeated) → counts_refusals (step_again repeated) ≡ false
+pub repeated_counts : (repeated : Repeated) → is_plain (step_again repeated) ≡ true
 repeated_counts (Post pair side queue) = refl
 repeated_counts (Land pair side place) = refl
 repeated_counts (Look pair side queue) = refl
@@ -27,29 +27,29 @@ repeated_counts (Clear pair side queue) = refl
 repeated_counts (Ack pair side queue) = refl
 repeated_counts (Offer pair side) = refl
 
-module _ (again : RefusedAgain) {K : Type 0} (with_answer : K → LineAnswer → K) (plan : Plan) (line : ℕ) (step : Step) (answer : Answer) (fabric : FabricState) (refused : is_made step answer ≡ false)
-    (counts : counts_refusals step ≡ false) (kept : plan_kept fabric ≡ bare_plan plan) where
+module _ (again : RefusedAgain) {K : Type 0} (with_answer : K → LineAnswer → K) (plan : Plan) (line : ℕ) (step : Step) (answer : Answer) (cluster : ClusterState) (refused : is_made step answer ≡ false)
+    (counts : is_plain step ≡ true) (kept : plan_held cluster ≡ declared_part plan) where
   abbrev last : Line
   last = record { line = line; step = step }
 
-  pub kept_refused : (count : ℕ) (steps : List Step) (before : List Line) (old : K) → steps_in before ≡ steps ++ step ∷ [] → IsAnswered plan steps step answer → HasMade plan (steps ++ step ∷ []) fabric →
-      HasKept with_answer plan before (lines_with line (replicate count step)) fabric old (fold with_answer old (replicate count (record { line = line; answer = answer })))
+  pub kept_refused : (count : ℕ) (steps : List Step) (before : List Line) (old : K) → steps_in before ≡ steps ++ step ∷ [] → IsAnswered plan steps step answer → HasMade plan (steps ++ step ∷ []) cluster →
+      HasKept with_answer plan before (lines_with line (replicate count step)) cluster old (fold with_answer old (replicate count (record { line = line; answer = answer })))
   kept_refused zero steps before old same answered made =
-      kept_none with_answer plan before fabric old (record { made = subst (λ (steps : List Step). HasMade plan steps fabric) (sym same) made; kept = kept })
+      kept_none with_answer plan before cluster old (record { made = subst (λ (steps : List Step). HasMade plan steps cluster) (sym same) made; kept = kept })
   kept_refused (suc count) steps before old same answered made =
-      let next = again plan steps step answer fabric answered refused counts made in
+      let next = again plan steps step answer cluster answered refused counts made in
       let new : K = with_answer old (record { line = line; answer = answer }) in
-      let now : HasMade plan (steps_in before) fabric = subst (λ (steps : List Step). HasMade plan steps fabric) (sym same) made in
-      let more : HasMade plan (steps_in before ++ step ∷ []) fabric = subst (λ (steps : List Step). HasMade plan (steps ++ step ∷ []) fabric) (sym same) next.1 in
+      let now : HasMade plan (steps_in before) cluster = subst (λ (steps : List Step). HasMade plan steps cluster) (sym same) made in
+      let more : HasMade plan (steps_in before ++ step ∷ []) cluster = subst (λ (steps : List Step). HasMade plan (steps ++ step ∷ []) cluster) (sym same) next.1 in
       let goes : IsAnswered plan (steps_in before) step answer = subst (λ (steps : List Step). IsAnswered plan steps step answer) (sym same) next.0 in
-      kept_both with_answer plan before (last ∷ []) (lines_with line (replicate count step)) fabric fabric old new
+      kept_both with_answer plan before (last ∷ []) (lines_with line (replicate count step)) cluster cluster old new
       (fold with_answer new (replicate count (record { line = line; answer = answer })))
-      (kept_one with_answer plan before line step answer fabric fabric old new (record { made = now; kept = kept }) more refl goes refl)
+      (kept_one with_answer plan before line step answer cluster cluster old new (record { made = now; kept = kept }) more refl goes refl)
       (kept_refused count (steps ++ step ∷ []) (before ++ last ∷ []) new (map-append step_in before (last ∷ []) ∙ ap (λ (steps : List Step). steps ++ step ∷ []) same) next.0 next.1)
 
 -- what a line's steps so far keep, the next one refused, and the rest kept as that one
 module _ (again : RefusedAgain) {K : Type 0} (with_answer : K → LineAnswer → K) (plan : Plan) (line : ℕ) (step : Step) (answer : Answer) (refused : is_made step answer ≡ false)
-    (counts : counts_refusals step ≡ false) (before : List Line) where
+    (counts : is_plain step ≡ true) (before : List Line) where
   abbrev made_by : ℕ → List Line
   made_by count = lines_with line (replicate count step)
 
@@ -58,22 +58,22 @@ module _ (again : RefusedAgain) {K : Type 0} (with_answer : K → LineAnswer →
       sym (map-append (λ (step : Step). record { line = line; step = step }) (replicate made step) (replicate rest step))
       ∙ ap (lines_with line) (replicate-append-replicate made rest step)
 
-  pub kept_rest : (made count : ℕ) → made < count → (was fabric : FabricState) (old mid new : K) → HasKept with_answer plan before (made_by made) was old mid →
-      HasMade plan (steps_in (before ++ made_by made) ++ step ∷ []) fabric → plan_kept fabric ≡ plan_kept was → IsAnswered plan (steps_in (before ++ made_by made)) step answer →
-      new ≡ fold with_answer mid (replicate (count - made) (record { line = line; answer = answer })) → HasKept with_answer plan before (made_by count) fabric old new
-  kept_rest made count few was fabric old mid new so_far stands same answered kept =
+  pub kept_rest : (made count : ℕ) → made < count → (was cluster : ClusterState) (old mid new : K) → HasKept with_answer plan before (made_by made) was old mid →
+      HasMade plan (steps_in (before ++ made_by made) ++ step ∷ []) cluster → plan_held cluster ≡ plan_held was → IsAnswered plan (steps_in (before ++ made_by made)) step answer →
+      new ≡ fold with_answer mid (replicate (count - made) (record { line = line; answer = answer })) → HasKept with_answer plan before (made_by count) cluster old new
+  kept_rest made count few was cluster old mid new so_far stands same answered kept =
       let now : List Line = before ++ made_by made in
       let last : Line = record { line = line; step = step } in
       let told : LineAnswer = record { line = line; answer = answer } in
-      let one = kept_one with_answer plan now line step answer was fabric mid (with_answer mid told) so_far.replayed stands same answered refl in
+      let one = kept_one with_answer plan now line step answer was cluster mid (with_answer mid told) so_far.replayed stands same answered refl in
       let rest = count - made - 1 in
       let all : count - made ≡ suc rest = omega arith in
       let others =
-      kept_refused again with_answer plan line step answer fabric refused counts one.replayed.kept rest (steps_in now) (now ++ last ∷ []) (with_answer mid told)
+      kept_refused again with_answer plan line step answer cluster refused counts one.replayed.kept rest (steps_in now) (now ++ last ∷ []) (with_answer mid told)
       (map-append step_in now (last ∷ [])) answered stands in
       let sum : made + suc rest ≡ count = omega arith in
-      subst (λ (new : K). HasKept with_answer plan before (made_by count) fabric old new) (sym (kept ∙ ap (λ (n : ℕ). fold with_answer mid (replicate n told)) all))
-      (subst (λ (lines : List Line). HasKept with_answer plan before lines fabric old (fold with_answer (with_answer mid told) (replicate rest told)))
+      subst (λ (new : K). HasKept with_answer plan before (made_by count) cluster old new) (sym (kept ∙ ap (λ (n : ℕ). fold with_answer mid (replicate n told)) all))
+      (subst (λ (lines : List Line). HasKept with_answer plan before lines cluster old (fold with_answer (with_answer mid told) (replicate rest told)))
       (replicated_lines made (suc rest) ∙ ap made_by sum)
-      (kept_both with_answer plan before (made_by made) (last ∷ made_by rest) was fabric old mid (fold with_answer (with_answer mid told) (replicate rest told)) so_far
-      (kept_both with_answer plan now (last ∷ []) (made_by rest) fabric fabric mid (with_answer mid told) (fold with_answer (with_answer mid told) (replicate rest told)) one others)))
+      (kept_both with_answer plan before (made_by made) (last ∷ made_by rest) was cluster old mid (fold with_answer (with_answer mid told) (replicate rest told)) so_far
+      (kept_both with_answer plan now (last ∷ []) (made_by rest) cluster cluster mid (with_answer mid told) (fold with_answer (with_answer mid told) (replicate rest told)) one others)))

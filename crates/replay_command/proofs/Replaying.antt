@@ -1,4 +1,4 @@
--- Steps made one after another: the fabric that made them, their answers, and what is kept of these.
+-- Steps made one after another: the cluster that made them, their answers, and what is kept of these.
 use Rattle.std.proofs.Common.{◌≡◌, ◌∙◌, ℕ, suc, ◌+◌, ◌<◌, List, [], ◌∷◌, ◌++◌, length, get_or, take, replicate, refl, sym, ap, subst, arith, append_assoc, append-nil}
 use Rattle.std.specs.List.{All, flat_map, fold}
 use Rattle.std.proofs.lemmas.List.{length-append, length-map, map-append, replicate-append-replicate, take_more}
@@ -10,12 +10,12 @@ use Rattle.step_kinds.specs.declared.plan.LineAnswer.{LineAnswer}
 use Rattle.step_kinds.specs.declared.plan.Plan.{Plan}
 use Rattle.step_kinds.specs.declared.steps.Answer.{Answer}
 use Rattle.step_kinds.specs.declared.steps.Step.{Step}
-use Rattle.ledger_model.specs.Log.{Answered, Memories, answered, log_from}
-use Rattle.ledger_model.specs.Next.{Ledger, ledger_after, start}
+use Rattle.ledger_model.specs.Log.{Answered, Memories}
 use Rattle.memory_model.specs.Memory.{memory_of}
-use Rattle.fabric_core.specs.Fabric.{FabricState, StandsFor, bare_plan, plan_kept}
-use Rattle.fabric_core.specs.LogClauses.{HasMade, IsAnswered, log_after}
-use Rattle.plan_model.specs.DeclaredPlans.{IsDeclared}
+use Rattle.switch_log.specs.Network.{Network, items_from, new_network, next_network}
+use Rattle.switch_log.specs.Origins.{bytes_kept}
+use Rattle.cluster_core.specs.Cluster.{ClusterState, plan_held}
+use Rattle.cluster_core.specs.LogClauses.{HasMade, IsAnswered, log_after}
 use Rattle.script_plan.specs.StepLists.{all_lines, lines_in}
 use Rattle.script_plan.specs.declared.step_list.Stretch.{Stretch}
 use Rattle.replay_command.specs.ReplaySteps.{HasKept, HasReplayed, steps_in}
@@ -26,14 +26,12 @@ step_in line = line.step
 
 -- A log has an answer for each step
 
-length-log_from : (plan : Plan) (memories : Memories) (before : List Answered) (ledger : Ledger) (steps : List Step) → length (log_from plan memories before ledger steps) ≡ length steps
-length-log_from plan memories before ledger [] = refl
-length-log_from plan memories before ledger (step ∷ steps) =
-    ap suc
-    (length-log_from plan memories (before ++ answered plan (memories before) ledger step ∷ []) (ledger_after plan (memories before) ledger step) steps)
+length-items_from : (plan : Plan) (memories : Memories) (net : Network (List ℕ)) (steps : List Step) → length (items_from bytes_kept plan memories net steps) ≡ length steps
+length-items_from plan memories net [] = refl
+length-items_from plan memories net (step ∷ steps) = ap suc (length-items_from plan memories (next_network bytes_kept plan memories net step) steps)
 
 length-log_after : (plan : Plan) (lines : List Line) → length (log_after plan (steps_in lines)) ≡ length lines
-length-log_after plan lines = length-log_from plan (memory_of plan) [] (start plan) (steps_in lines) ∙ length-map lines step_in
+length-log_after plan lines = length-items_from plan (memory_of plan) (new_network plan) (steps_in lines) ∙ length-map lines step_in
 
 -- so lines behind others have as many answers as they are
 pub length-answers : (plan : Plan) (before lines : List Line) (answers : List Answered) →
@@ -61,31 +59,31 @@ fold_more with_item old count x =
 -- What is kept, of no lines, of one, and of lines behind lines
 
 module _ {K : Type 0} (with_answer : K → LineAnswer → K) (plan : Plan) (before : List Line) where
-  pub kept_none : (fabric : FabricState) (old : K) → HasReplayed plan before fabric → HasKept with_answer plan before [] fabric old old
-  kept_none fabric old replayed = record {
-    replayed = subst (λ (lines : List Line). HasReplayed plan lines fabric) (sym (append-nil before)) replayed;
+  pub kept_none : (cluster : ClusterState) (old : K) → HasReplayed plan before cluster → HasKept with_answer plan before [] cluster old old
+  kept_none cluster old replayed = record {
+    replayed = subst (λ (lines : List Line). HasReplayed plan lines cluster) (sym (append-nil before)) replayed;
     answers = [];
     log = ap (λ (lines : List Line). log_after plan (steps_in lines)) (append-nil before) ∙ sym (append-nil (log_after plan (steps_in before)));
     kept = refl;
   }
 
-  pub kept_one : (line : ℕ) (step : Step) (answer : Answer) (was fabric : FabricState) (old new : K) → HasReplayed plan before was →
-      HasMade plan (steps_in before ++ step ∷ []) fabric → plan_kept fabric ≡ plan_kept was → IsAnswered plan (steps_in before) step answer →
-      new ≡ with_answer old (record { line = line; answer = answer }) → HasKept with_answer plan before (record { line = line; step = step } ∷ []) fabric old new
-  kept_one line step answer was fabric old new replayed made same answered kept =
+  pub kept_one : (line : ℕ) (step : Step) (answer : Answer) (was cluster : ClusterState) (old new : K) → HasReplayed plan before was →
+      HasMade plan (steps_in before ++ step ∷ []) cluster → plan_held cluster ≡ plan_held was → IsAnswered plan (steps_in before) step answer →
+      new ≡ with_answer old (record { line = line; answer = answer }) → HasKept with_answer plan before (record { line = line; step = step } ∷ []) cluster old new
+  kept_one line step answer was cluster old new replayed made same answered kept =
       let last : Line = record { line = line; step = step } in
       let more : steps_in (before ++ last ∷ []) ≡ steps_in before ++ step ∷ [] = map-append step_in before (last ∷ []) in
       record {
         replayed = record {
-          made = subst (λ (steps : List Step). HasMade plan steps fabric) (sym more) made;
+          made = subst (λ (steps : List Step). HasMade plan steps cluster) (sym more) made;
           kept = same ∙ replayed.kept;
         };
-        answers = record { step = step; answer = answer } ∷ [];
-        log = ap (log_after plan) more ∙ answered;
+        answers = record { step = answered.stands_as; answer = answer } ∷ [];
+        log = ap (log_after plan) more ∙ answered.goes_on;
         kept = kept;
       }
 
-  pub kept_both : (xs ys : List Line) (one two : FabricState) (old mid new : K) → HasKept with_answer plan before xs one old mid →
+  pub kept_both : (xs ys : List Line) (one two : ClusterState) (old mid new : K) → HasKept with_answer plan before xs one old mid →
       HasKept with_answer plan (before ++ xs) ys two mid new → HasKept with_answer plan before (xs ++ ys) two old new
   kept_both xs ys one two old mid new first second =
       let log : List Line → List Answered = λ lines. log_after plan (steps_in lines) in
@@ -102,23 +100,6 @@ module _ {K : Type 0} (with_answer : K → LineAnswer → K) (plan : Plan) (befo
             ∙ sym (fold-append with_answer old (line_answers xs first.answers) (line_answers ys second.answers))
             ∙ ap (λ (answers : List LineAnswer). fold with_answer old answers) (sym (line_answers-append xs ys first.answers second.answers same));
       }
-
--- A fresh fabric has made nothing, of any plan with its pairs and devices
-
-bare_stands : (plan : Plan) (fabric : FabricState) → StandsFor plan [] fabric → StandsFor (bare_plan plan) [] fabric
-bare_stands plan fabric stands = record { devs = stands.devs; all_pairs = stands.all_pairs; pairs = stands.pairs }
-
-stands_by_bare : (plan : Plan) (fabric : FabricState) → StandsFor (bare_plan plan) [] fabric → StandsFor plan [] fabric
-stands_by_bare plan fabric stands = record { devs = stands.devs; all_pairs = stands.all_pairs; pairs = stands.pairs }
-
-pub replayed_none : (plan declared : Plan) (fabric : FabricState) → IsDeclared plan → bare_plan declared ≡ bare_plan plan → StandsFor declared [] fabric →
-    plan_kept fabric ≡ bare_plan declared → HasReplayed plan [] fabric
-replayed_none plan declared fabric is same stands kept =
-    let bare : StandsFor (bare_plan plan) [] fabric = subst (λ (bare : Plan). StandsFor bare [] fabric) same (bare_stands declared fabric stands) in
-    record {
-      made = record { declared = is; permitted = tt; stands = stands_by_bare plan fabric bare };
-      kept = kept ∙ same;
-    }
 
 -- the steps of one stretch more
 pub stretches_more : (stretches : List Stretch) (i : ℕ) (stretch : Stretch) → i < length stretches → stretch ≡ get_or stretches i stretch →

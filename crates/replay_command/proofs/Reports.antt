@@ -8,7 +8,7 @@ use Rattle.step_kinds.specs.declared.names.Side.{Side}
 use Rattle.step_kinds.specs.declared.names.Side.TheVariants.{A, B}
 use Rattle.plan_model.specs.DeclaredPlans.{IsQueueOf}
 use Rattle.traffic_plan.specs.Load.{load_of}
-use Rattle.fabric_core.specs.Fabric.{bare_plan}
+use Rattle.cluster_core.specs.Cluster.{declared_part}
 use Rattle.ledger_model.specs.Log.{Answered, accepted, counters_in, delivered}
 use Rattle.fabric_core.specs.LogClauses.{lane_of_device}
 use Rattle.step_kinds.specs.declared.plan.LineAnswer.{LineAnswer}
@@ -52,14 +52,14 @@ devices_known plan devs same = ap length same ∙ length-map plan.devs (λ dev. 
 -- The summary of a load
 
 -- both sides of a load's pair have its one queue
-one_queue : (seed frames : ℕ) (side : Side) → IsQueueOf (bare_plan (load_of seed frames)) 0 side 0
+one_queue : (seed frames : ℕ) (side : Side) → IsQueueOf (declared_part (load_of seed frames)) 0 side 0
 one_queue seed frames A = record { declared = omega arith; among = omega arith }
 one_queue seed frames B = record { declared = omega arith; among = omega arith }
 
-pub load_lane_known : (plan kept : Plan) (seed frames : ℕ) (side : Side) → kept ≡ bare_plan plan → plan ≡ load_of seed frames → IsQueueOf kept 0 side 0
+pub load_lane_known : (plan kept : Plan) (seed frames : ℕ) (side : Side) → kept ≡ declared_part plan → plan ≡ load_of seed frames → IsQueueOf kept 0 side 0
 load_lane_known plan kept seed frames side same is =
-    let of_load : (side : Side) → IsQueueOf (bare_plan (load_of seed frames)) 0 side 0 = one_queue seed frames in
-    let both : kept ≡ bare_plan (load_of seed frames) = same ∙ ap bare_plan is in
+    let of_load : (side : Side) → IsQueueOf (declared_part (load_of seed frames)) 0 side 0 = one_queue seed frames in
+    let both : kept ≡ declared_part (load_of seed frames) = same ∙ ap declared_part is in
     subst (λ (given : Plan). IsQueueOf given 0 side 0) (sym both) (of_load side)
 
 pub summary_same : {E : Type 0} (seed frames : ℕ) (plan : Plan) (taken given blocked : ℕ) (result : Result (Vec ℕ Global) E) → plan ≡ load_of seed frames →

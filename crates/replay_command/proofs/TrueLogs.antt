@@ -1,23 +1,57 @@
 -- The log of each plan is true, and so the answers of `replay` and `load` carry it.
-use Rattle.std.proofs.Common.{◌≡◌, ℕ, Result, Ok, Err, List, refl, subst, arith}
+use Rattle.std.proofs.Common.{◌≡◌, ◌∙◌, ℕ, Some, Result, Ok, Err, List, [], ◌∷◌, ◌++◌, refl, sym, subst, arith}
+use Rattle.std.specs.Prelude.{◌&&◌, nat_lt, not}
+use Rattle.std.proofs.lemmas.List.{append_cancel_left}
 use Rattle.command_reply.specs.Output.{Output, done}
 use Rattle.step_kinds.specs.declared.plan.Plan.{Plan}
 use Rattle.script_text.specs.Script.{script_of}
 use Rattle.script_words.specs.declared.fault.ScriptFault.{ScriptFault}
 use Rattle.traffic_plan.specs.Load.{load_of}
-use Rattle.ledger_laws.proofs.Facade.{again_where_no_room, every_frame_comes_once, every_log_is_in_order, link_down_where_not_up}
+use Rattle.step_kinds.specs.Subject.{subject_of}
+use Rattle.step_kinds.specs.declared.names.LaneName.{LaneName}
+use Rattle.step_kinds.specs.declared.steps.Step.{Step}
+use Rattle.ledger_laws.specs.Laws.{entries_needed, is_again, is_link_down, lane_begun_by, needs_link, refused_earlier}
+use Rattle.ledger_model.specs.Log.{Answered, room_in, up_at}
 use Rattle.memory_model.specs.Memory.{memory_of}
+use Rattle.byte_laws.proofs.Facade.{memories_keep_pairs_apart}
+use Rattle.switch_laws.specs.Laws.{bridge_ledger, item_after}
+use Rattle.switch_laws.proofs.Bridges.{log_grows_by_items}
+use Rattle.switch_laws.proofs.Headline.{frames_come_in_order, frames_come_once, items_again_where_no_room, items_link_down_where_not_up, paths_keep_order}
+use Rattle.switch_laws.proofs.SeparatePairs.{pairs_without_ports_are_separate}
 use Rattle.replay_command.specs.Answers.{IsLoadOf, IsReplayOf, replayed}
-use Rattle.replay_command.specs.Headline.{IsTrueLog}
+use Rattle.replay_command.specs.Headline.{IsTrueLog, log_so_far}
 use Rattle.replay_command.specs.Replays.{load_text, steps_of}
+
+same_head : {X : Type 0} (x y : X) → x ∷ [] ≡ y ∷ [] → x ≡ y
+same_head x y e = cc e
+
+abbrev IsAgain : Plan → List Step → LaneName → Answered → Type 0
+IsAgain plan before lane made =
+    is_again made.answer
+    ≡ (not (refused_earlier plan (bridge_ledger plan (memory_of plan) before lane.pair) made.step) && nat_lt (room_in plan (log_so_far plan before) lane) (entries_needed plan lane made.step))
+
+abbrev IsLinkDown : Plan → List Step → Answered → Type 0
+IsLinkDown plan before made = is_link_down made.answer ≡ (needs_link made.step && not (up_at plan (subject_of made.step) (log_so_far plan before)))
+
+-- an item of the log is the one that the network before it gives
+item_is : (plan : Plan) (before : List Step) (step : Step) (made : Answered) → log_so_far plan (before ++ step ∷ []) ≡ log_so_far plan before ++ made ∷ [] → item_after plan (memory_of plan) before step ≡ made
+item_is plan before step made goes_on =
+    same_head _ _
+    (append_cancel_left (log_so_far plan before) (item_after plan (memory_of plan) before step ∷ []) (made ∷ [])
+    (sym (log_grows_by_items plan (memory_of plan) before step).0 ∙ goes_on))
 
 true_log : (plan : Plan) → IsTrueLog plan
 true_log plan =
     record {
-      in_order = λ lane session ordinary. every_log_is_in_order plan (memory_of plan) (steps_of plan) lane session ordinary;
-      once = λ lane session n ordinary. every_frame_comes_once plan (memory_of plan) (steps_of plan) lane session n ordinary;
-      again = λ before behind step answer lane made ordinary begun. again_where_no_room plan (memory_of plan) before step answer lane ordinary begun made.goes_on;
-      link_down = λ before behind step answer made. link_down_where_not_up plan (memory_of plan) before step answer made.goes_on;
+      in_order = λ lane session ordinary. frames_come_in_order plan (memory_of plan) (steps_of plan) lane session ordinary;
+      once = λ lane session n ordinary. frames_come_once plan (memory_of plan) (steps_of plan) lane session n ordinary;
+      again = λ before behind step made lane is ordinary begun.
+          let item : item_after plan (memory_of plan) before step ≡ made = item_is plan before step made is.goes_on in
+          subst (λ (made : Answered). lane_begun_by made.step ≡ Some lane → IsAgain plan before lane made) item
+          (λ begun. items_again_where_no_room plan (memory_of plan) before step lane ordinary begun) begun;
+      link_down = λ before behind step made is. subst (IsLinkDown plan before) (item_is plan before step made is.goes_on) (items_link_down_where_not_up plan (memory_of plan) before step);
+      paths = λ first others ordinary. paths_keep_order plan (memory_of plan) (steps_of plan) first others ordinary;
+      separate = λ pair none. pairs_without_ports_are_separate plan (memory_of plan) (memories_keep_pairs_apart plan) (steps_of plan) pair none;
     }
 
 true_replay : (read : Result Plan ScriptFault) → (replayed read).status ≡ 0 → (plan : Plan) × (read ≡ Ok plan) × IsTrueLog plan

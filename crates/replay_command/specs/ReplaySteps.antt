@@ -1,4 +1,4 @@
--- What the steps of a replay say of a fabric, and of the counts that they gather from it.
+-- What the steps of a replay say of a cluster, and of the counts that they gather from it.
 use Rattle.std.specs.Prelude.{◌≡◌, ℕ, ◌+◌, ◌-◌, ◌^◌, ◌≤◌, ◌==◌, Bool, not, ◌&&◌, List, ◌++◌, if◌then◌else◌, map, min}
 use Rattle.std.specs.List.{filter, fold, range_with_len}
 use Rattle.step_kinds.specs.Sides.{other_side}
@@ -11,8 +11,8 @@ use Rattle.step_kinds.specs.declared.steps.Step.{Step}
 use Rattle.plan_model.specs.DeclaredPlans.{IsPairOf, IsQueueOf}
 use Rattle.plan_model.specs.Plans.{pair_plan}
 use Rattle.ledger_model.specs.Log.{Answered}
-use Rattle.fabric_core.specs.Fabric.{FabricState, bare_plan, plan_kept}
-use Rattle.fabric_core.specs.LogClauses.{HasMade, log_after}
+use Rattle.cluster_core.specs.Cluster.{ClusterState, declared_part, plan_held}
+use Rattle.cluster_core.specs.LogClauses.{HasMade, log_after}
 use Rattle.report_text.specs.declared.whole.LaneCount.{LaneCount}
 use Rattle.replay_command.specs.Replays.{is_blocked, line_answers}
 
@@ -20,14 +20,14 @@ use Rattle.replay_command.specs.Replays.{is_blocked, line_answers}
 abbrev pub steps_in : List Line → List Step
 steps_in lines = map (λ line. line.step) lines
 
--- the fabric has made the steps of these lines of a plan, and keeps the plan's pairs and devices
-pub record HasReplayed (plan : Plan) (lines : List Line) (fabric : FabricState) : Type 0 where
-  pub made : HasMade plan (steps_in lines) fabric
-  pub kept : plan_kept fabric ≡ bare_plan plan
+-- the cluster has made the steps of these lines of a plan, and keeps what the plan declares
+pub record HasReplayed (plan : Plan) (lines : List Line) (cluster : ClusterState) : Type 0 where
+  pub made : HasMade plan (steps_in lines) cluster
+  pub kept : plan_held cluster ≡ declared_part plan
 
--- The fabric has made these lines behind those before, and what is kept of their answers was added in turn to what was there.
-pub record HasKept {K : Type 0} (with_answer : K → LineAnswer → K) (plan : Plan) (before lines : List Line) (fabric : FabricState) (old new : K) : Type 0 where
-  pub replayed : HasReplayed plan (before ++ lines) fabric
+-- The cluster has made these lines behind those before, and what is kept of their answers was added in turn to what was there.
+pub record HasKept {K : Type 0} (with_answer : K → LineAnswer → K) (plan : Plan) (before lines : List Line) (cluster : ClusterState) (old new : K) : Type 0 where
+  pub replayed : HasReplayed plan (before ++ lines) cluster
   pub answers : List Answered
   pub log : log_after plan (steps_in (before ++ lines)) ≡ log_after plan (steps_in before) ++ answers
   pub kept : new ≡ fold with_answer old (line_answers lines answers)
@@ -50,9 +50,9 @@ counts_some count = not ((count.accepted == 0) && (count.delivered == 0))
 abbrev pub filled : List LaneCount → List LaneCount
 filled counts = filter counts_some counts
 
--- The counts that were added are those of these that count a frame, whatever log the fabric stands for.
-abbrev pub AddsCounts : FabricState → List LaneCount → List LaneCount → (Plan → List Answered → List LaneCount) → Type 0
-AddsCounts fabric old new counted = (plan : Plan) (steps : List Step) → HasMade plan steps fabric → new ≡ old ++ filled (counted plan (log_after plan steps))
+-- The counts that were added are those of these that count a frame, whatever steps the cluster has made.
+abbrev pub AddsCounts : ClusterState → List LaneCount → List LaneCount → (Plan → List Answered → List LaneCount) → Type 0
+AddsCounts cluster old new counted = (plan : Plan) (steps : List Step) → HasMade plan steps cluster → new ≡ old ++ filled (counted plan (log_after plan steps))
 
 -- the lanes of a pair from a side, on so many queues
 abbrev pub lanes_from : ℕ → Side → ℕ → List LaneName

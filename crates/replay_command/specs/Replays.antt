@@ -12,20 +12,21 @@ use Rattle.step_kinds.specs.declared.steps.Answer.{Answer}
 use Rattle.step_kinds.specs.declared.steps.Answer.TheVariants.{Blocked}
 use Rattle.step_kinds.specs.declared.steps.Step.{Step}
 use Rattle.plan_model.specs.Plans.{pair_plan}
-use Rattle.ledger_model.specs.Log.{Answered, accepted, counters_in, delivered, first_session, log_of, trains}
+use Rattle.ledger_model.specs.Log.{Answered, accepted, counters_in, delivered, first_session, trains}
 use Rattle.memory_model.specs.Memory.{memory_of}
+use Rattle.switch_log.specs.Log.{switch_log}
 use Rattle.fabric_core.specs.LogClauses.{lane_of_device}
 use Rattle.report_text.specs.Report.{answer_line, line_of, report_of}
 use Rattle.report_text.specs.Texts.{numbers_text}
 use Rattle.report_text.specs.declared.whole.LaneCount.{LaneCount}
 use Rattle.traffic_plan.specs.Load.{load_of}
 
--- the log of all steps of a plan
+-- the log of all steps of a plan, its switches among it
 abbrev pub steps_of : Plan → List Step
 steps_of plan = map (λ line. line.step) plan.steps
 
 abbrev pub log_of_plan : Plan → List Answered
-log_of_plan plan = log_of plan (memory_of plan) (steps_of plan)
+log_of_plan plan = switch_log plan (memory_of plan) (steps_of plan)
 
 -- each step's line with its answer
 abbrev pub line_answers : List Line → List Answered → List LineAnswer

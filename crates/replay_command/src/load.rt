@@ -6,7 +6,7 @@ ghost use Rattle.replay_command.specs.ReplaySteps.{HasReplayed, with_blocked};
 ghost use Rattle.replay_command.specs.Replays.{is_blocked as is_blocked_answer, load_text as text_of_load, log_of_plan, summary_text};
 
 use crate::steps::{KeepsAnswers, make_steps};
-use fabric_core::Fabric;
+use cluster_core::Cluster;
 use script_plan::StepList;
 use std::alloc::{AllocError, Global};
 use std::marker::Model;
@@ -63,9 +63,9 @@ pub fn load_text(alloc: Global, seed: u64, frames: u32) -> Result<Vec<u8>, Alloc
     ensures { IfOk result (λ text. text.items ≡ text_of_load seed frames) }
 {
     let plan = load_without_steps(alloc)?;
-    let mut fabric = Fabric::new(alloc, &plan)?;
-    let blocked = count_blocked(alloc, seed, frames, &mut fabric)?;
-    let (accepted, delivered) = fabric.ledger(LANE, SESSION);
+    let mut cluster = Cluster::new(alloc, &plan)?;
+    let blocked = count_blocked(alloc, seed, frames, &mut cluster)?;
+    let (accepted, delivered) = cluster.ledger(LANE, SESSION);
     summary(alloc, seed, frames, accepted, delivered, blocked)
 }
 
@@ -86,16 +86,16 @@ fn summary(
     Ok(text.into_bytes())
 }
 
-// Makes the steps of a load on its fresh fabric, frame by frame, and counts those that are answered `blocked`.
+// Makes the steps of a load on its fresh cluster, frame by frame, and counts those that are answered `blocked`.
 fn count_blocked(
     alloc: Global,
     seed: u64,
     frames: u32,
-    fabric: &mut Fabric,
+    cluster: &mut Cluster,
 ) -> Result<u64, AllocError>
     requires few { frames ≤ most_load_frames }
-    requires fresh { HasReplayed (load_of seed frames) [] fabric.old }
-    ensures made { IfOk result (λ _. HasReplayed (load_of seed frames) (load_of seed frames).steps fabric.new) }
+    requires fresh { HasReplayed (load_of seed frames) [] cluster.old }
+    ensures made { IfOk result (λ _. HasReplayed (load_of seed frames) (load_of seed frames).steps cluster.new) }
     ensures blocked { IfOk result (λ blocked. blocked ≡ count_by (λ made. is_blocked_answer made.answer) (log_of_plan (load_of seed frames))) }
 {
     let mut load = LoadFrames::new(seed);
@@ -103,7 +103,7 @@ fn count_blocked(
     let mut blocked = BlockedCount { count: 0 };
     for _ in 0..frames {
         load.put_next(alloc, &mut steps)?;
-        make_steps(&steps, fabric, &mut blocked)?;
+        make_steps(&steps, cluster, &mut blocked)?;
     }
     Ok(blocked.count)
 }

@@ -4,7 +4,7 @@ ghost use Rattle.std.specs.Prelude.{◌≡◌, ◌∷◌, ◌++◌, [], IfOk, On
 ghost use Rattle.std.specs.List.{flat_map};
 ghost use Rattle.plan_model.specs.TrafficPlans.{IsWhole};
 ghost use Rattle.script_plan.specs.Scripts.{plan_in};
-ghost use Rattle.fabric_core.specs.Fabric.{plan_kept};
+ghost use Rattle.cluster_core.specs.Cluster.{plan_held};
 ghost use Rattle.report_text.specs.Report.{answer_line};
 ghost use Rattle.replay_command.specs.ReplaySteps.{AddsCounts, HasQueues, HasReplayed, IsLaneOf, filled, lanes_from};
 ghost use Rattle.replay_command.specs.Replays.{
@@ -17,7 +17,7 @@ ghost use Rattle.replay_command.specs.Replays.{
 };
 
 use crate::steps::{KeepsAnswers, make_steps};
-use fabric_core::Fabric;
+use cluster_core::Cluster;
 use report_text::{LaneCount, push_answer_line, push_ending};
 use script_plan::Script;
 use std::alloc::{AllocError, Global};
@@ -62,14 +62,14 @@ pub fn replay_text(alloc: Global, script: &Script) -> Result<Vec<u8>, AllocError
     requires { IsWhole (plan_in script.now) }
     ensures { IfOk result (λ text. text.items ≡ text_of_plan (plan_in script.now)) }
 {
-    let mut fabric = Fabric::new(alloc, &script.declared)?;
+    let mut cluster = Cluster::new(alloc, &script.declared)?;
     let mut lines = AnswerLines {
         text: Vec::new(alloc),
         line: Vec::new(alloc),
     };
-    make_steps(&script.steps, &mut fabric, &mut lines)?;
-    let lanes = lane_counts(alloc, script, &fabric)?;
-    let devs = device_counts(alloc, script, &fabric)?;
+    make_steps(&script.steps, &mut cluster, &mut lines)?;
+    let lanes = lane_counts(alloc, script, &cluster)?;
+    let devs = device_counts(alloc, script, &cluster)?;
     let mut text = lines.text;
     push_ending(&mut text, &script.declared, &lanes, &devs)?;
     Ok(text)
@@ -79,17 +79,17 @@ pub fn replay_text(alloc: Global, script: &Script) -> Result<Vec<u8>, AllocError
 fn lane_counts(
     alloc: Global,
     script: &Script,
-    fabric: &Fabric,
+    cluster: &Cluster,
 ) -> Result<Vec<LaneCount>, AllocError>
     requires whole { IsWhole (plan_in script.now) }
-    requires made { HasReplayed (plan_in script.now) script.now.steps fabric.now }
+    requires made { HasReplayed (plan_in script.now) script.now.steps cluster.now }
     ensures { IfOk result (λ counts. counts.items ≡ filled (counts_of_lanes (plan_in script.now) (log_of_plan (plan_in script.now)))) }
 {
     let mut counts = Vec::new(alloc);
     for (pair, sides) in script.declared.pairs.as_slice().iter().enumerate() {
         let queues = sides.a.queues.min(sides.b.queues);
-        push_lanes(&mut counts, fabric, pair as u32, Side::A, queues)?;
-        push_lanes(&mut counts, fabric, pair as u32, Side::B, queues)?;
+        push_lanes(&mut counts, cluster, pair as u32, Side::A, queues)?;
+        push_lanes(&mut counts, cluster, pair as u32, Side::B, queues)?;
     }
     Ok(counts)
 }
@@ -97,16 +97,16 @@ fn lane_counts(
 // Adds the counts of the lanes of a pair from a side, on so many queues.
 fn push_lanes(
     counts: &mut Vec<LaneCount>,
-    fabric: &Fabric,
+    cluster: &Cluster,
     pair: u32,
     from: Side,
     queues: u32,
 ) -> Result<(), AllocError>
-    requires { HasQueues (plan_kept fabric.now) pair queues }
-    ensures { OnOk result (AddsCounts fabric.now counts.old.items counts.new.items (λ plan log. flat_map (sessions_of_lane plan log) (lanes_from pair from queues))) }
+    requires { HasQueues (plan_held cluster.now) pair queues }
+    ensures { OnOk result (AddsCounts cluster.now counts.old.items counts.new.items (λ plan log. flat_map (sessions_of_lane plan log) (lanes_from pair from queues))) }
 {
     for queue in 0..queues {
-        push_sessions(counts, fabric, LaneName { pair, from, queue })?;
+        push_sessions(counts, cluster, LaneName { pair, from, queue })?;
     }
     Ok(())
 }
@@ -114,14 +114,14 @@ fn push_lanes(
 // Adds the counts of a lane in each session.
 fn push_sessions(
     counts: &mut Vec<LaneCount>,
-    fabric: &Fabric,
+    cluster: &Cluster,
     lane: LaneName,
 ) -> Result<(), AllocError>
-    requires { IsLaneOf (plan_kept fabric.now) lane }
-    ensures { OnOk result (AddsCounts fabric.now counts.old.items counts.new.items (λ plan log. sessions_of_lane plan log lane)) }
+    requires { IsLaneOf (plan_held cluster.now) lane }
+    ensures { OnOk result (AddsCounts cluster.now counts.old.items counts.new.items (λ plan log. sessions_of_lane plan log lane)) }
 {
-    for before in 0..fabric.sessions(lane.pair) {
-        push_session(counts, fabric, lane, before + 1)?;
+    for before in 0..cluster.sessions(lane.pair) {
+        push_session(counts, cluster, lane, before + 1)?;
     }
     Ok(())
 }
@@ -129,14 +129,14 @@ fn push_sessions(
 // Adds the counts of a lane in a session, where either isn't 0.
 fn push_session(
     counts: &mut Vec<LaneCount>,
-    fabric: &Fabric,
+    cluster: &Cluster,
     lane: LaneName,
     session: u32,
 ) -> Result<(), AllocError>
-    requires { IsLaneOf (plan_kept fabric.now) lane }
-    ensures { OnOk result (AddsCounts fabric.now counts.old.items counts.new.items (λ plan log. lane_count plan log lane session ∷ [])) }
+    requires { IsLaneOf (plan_held cluster.now) lane }
+    ensures { OnOk result (AddsCounts cluster.now counts.old.items counts.new.items (λ plan log. lane_count plan log lane session ∷ [])) }
 {
-    let (accepted, delivered) = fabric.ledger(lane, session);
+    let (accepted, delivered) = cluster.ledger(lane, session);
     if accepted != 0 || delivered != 0 {
         counts.push(LaneCount {
             name: lane,
@@ -152,15 +152,15 @@ fn push_session(
 fn device_counts(
     alloc: Global,
     script: &Script,
-    fabric: &Fabric,
+    cluster: &Cluster,
 ) -> Result<Vec<Counters>, AllocError>
     requires whole { IsWhole (plan_in script.now) }
-    requires made { HasReplayed (plan_in script.now) script.now.steps fabric.now }
+    requires made { HasReplayed (plan_in script.now) script.now.steps cluster.now }
     ensures { IfOk result (λ counts. counts.items ≡ counts_of_devices (plan_in script.now) (log_of_plan (plan_in script.now))) }
 {
     let mut counts = Vec::new(alloc);
     for dev in 0..script.declared.devs.len() {
-        counts.push(fabric.counters(dev as u32))?;
+        counts.push(cluster.counters(dev as u32))?;
     }
     Ok(counts)
 }

@@ -1,19 +1,19 @@
-//! Steps made on a fabric, one after another.
+//! Steps made on a cluster, one after another.
 
-ghost use Rattle.std.specs.Prelude.{◌≡◌, ◌∷◌, [], List, false, replicate, OnOk};
+ghost use Rattle.std.specs.Prelude.{◌≡◌, ◌∷◌, [], List, replicate, true, OnOk};
 ghost use Rattle.std.specs.List.{All, fold};
 ghost use Rattle.step_kinds.specs.declared.plan.Line.{Line};
 ghost use Rattle.step_kinds.specs.declared.plan.LineAnswer.{LineAnswer as LineAnswerValue};
 ghost use Rattle.step_kinds.specs.declared.plan.Plan.{Plan};
-ghost use Rattle.plan_model.specs.DeclaredPlans.{IsPermitted};
+ghost use Rattle.plan_model.specs.Switches.{IsMakeable};
 ghost use Rattle.plan_model.specs.Macros.{receive};
 ghost use Rattle.script_words.specs.Compact.{lines_with, step_again};
 ghost use Rattle.script_plan.specs.StepLists.{lines_in};
-ghost use Rattle.fabric_core.specs.Fabric.{plan_kept};
-ghost use Rattle.fabric_core.specs.Refusals.{counts_refusals};
+ghost use Rattle.cluster_core.specs.Cluster.{plan_held};
+ghost use Rattle.cluster_core.specs.Refusals.{is_plain};
 ghost use Rattle.replay_command.specs.ReplaySteps.{HasKept, HasReplayed};
 
-use fabric_core::{Fabric, is_made, refused_again};
+use cluster_core::{Cluster, is_made, refused_again};
 use script_plan::{StepList, Stretch};
 use script_words::Repeated;
 use std::alloc::AllocError;
@@ -32,19 +32,19 @@ pub trait KeepsAnswers {
         ensures { OnOk result (self.new ≡ fold with_answer self.old (replicate count made.now)) };
 }
 
-/// Makes steps, which a script of the fabric's plan may make, and keeps what there is to keep of each answer. The only
+/// Makes steps, which a script of the cluster's plan may make, and keeps what there is to keep of each answer. The only
 /// error is want of memory.
 pub fn make_steps<K: KeepsAnswers>(
     steps: &StepList,
-    fabric: &mut Fabric,
+    cluster: &mut Cluster,
     kept: &mut K,
 ) -> Result<(), AllocError>
-    requires { All (λ line. IsPermitted (plan_kept fabric.old) line.step) steps.now }
-    ensures plan { OnOk result (plan_kept fabric.new ≡ plan_kept fabric.old) }
-    ensures kept { (plan : Plan) (before : List Line) → HasReplayed plan before fabric.old → OnOk result (HasKept K.with_answer plan before steps.now fabric.new kept.old kept.new) }
+    requires { All (λ line. IsMakeable (plan_held cluster.old) line.step) steps.now }
+    ensures plan { OnOk result (plan_held cluster.new ≡ plan_held cluster.old) }
+    ensures kept { (plan : Plan) (before : List Line) → HasReplayed plan before cluster.old → OnOk result (HasKept K.with_answer plan before steps.now cluster.new kept.old kept.new) }
 {
     for stretch in steps.stretches() {
-        make_stretch(stretch, fabric, kept)?;
+        make_stretch(stretch, cluster, kept)?;
     }
     Ok(())
 }
@@ -52,27 +52,27 @@ pub fn make_steps<K: KeepsAnswers>(
 // Makes the steps of one stretch.
 fn make_stretch<K: KeepsAnswers>(
     stretch: &Stretch,
-    fabric: &mut Fabric,
+    cluster: &mut Cluster,
     kept: &mut K,
 ) -> Result<(), AllocError>
-    requires { All (λ line. IsPermitted (plan_kept fabric.old) line.step) (lines_in stretch.now) }
-    ensures plan { OnOk result (plan_kept fabric.new ≡ plan_kept fabric.old) }
-    ensures kept { (plan : Plan) (before : List Line) → HasReplayed plan before fabric.old → OnOk result (HasKept K.with_answer plan before (lines_in stretch.now) fabric.new kept.old kept.new) }
+    requires { All (λ line. IsMakeable (plan_held cluster.old) line.step) (lines_in stretch.now) }
+    ensures plan { OnOk result (plan_held cluster.new ≡ plan_held cluster.old) }
+    ensures kept { (plan : Plan) (before : List Line) → HasReplayed plan before cluster.old → OnOk result (HasKept K.with_answer plan before (lines_in stretch.now) cluster.new kept.old kept.new) }
 {
     match stretch {
-        Stretch::One { line, step } => make_step(*line, step, fabric, kept),
+        Stretch::One { line, step } => make_step(*line, step, cluster, kept),
         Stretch::Again {
             line,
             repeated,
             count,
-        } => make_repeated(*line, *repeated, *count, fabric, kept),
+        } => make_repeated(*line, *repeated, *count, cluster, kept),
         Stretch::Received {
             line,
             pair,
             side,
             queue,
             copies,
-        } => make_received(*line, *pair, *side, *queue, *copies, fabric, kept),
+        } => make_received(*line, *pair, *side, *queue, *copies, cluster, kept),
     }
 }
 
@@ -81,21 +81,33 @@ fn make_repeated<K: KeepsAnswers>(
     line: u32,
     repeated: Repeated,
     count: u32,
-    fabric: &mut Fabric,
+    cluster: &mut Cluster,
     kept: &mut K,
 ) -> Result<(), AllocError>
-    requires { All (λ line. IsPermitted (plan_kept fabric.old) line.step) (lines_with line (replicate count (step_again repeated))) }
-    ensures plan { OnOk result (plan_kept fabric.new ≡ plan_kept fabric.old) }
-    ensures kept { (plan : Plan) (before : List Line) → HasReplayed plan before fabric.old → OnOk result (HasKept K.with_answer plan before (lines_with line (replicate count (step_again repeated))) fabric.new kept.old kept.new) }
+    requires { All (λ line. IsMakeable (plan_held cluster.old) line.step) (lines_with line (replicate count (step_again repeated))) }
+    ensures plan { OnOk result (plan_held cluster.new ≡ plan_held cluster.old) }
+    ensures kept { (plan : Plan) (before : List Line) → HasReplayed plan before cluster.old → OnOk result (HasKept K.with_answer plan before (lines_with line (replicate count (step_again repeated))) cluster.new kept.old kept.new) }
 {
     match repeated {
         Repeated::Post { pair, side, queue } => {
-            make_again(line, &Step::Post { pair, side, queue }, count, fabric, kept)
+            make_again(
+                line,
+                &Step::Post { pair, side, queue },
+                count,
+                cluster,
+                kept,
+            )
         }
         Repeated::Land { pair, side, place } => {
-            make_again(line, &Step::Land { pair, side, place }, count, fabric, kept)
+            make_again(
+                line,
+                &Step::Land { pair, side, place },
+                count,
+                cluster,
+                kept,
+            )
         }
-        other => make_again(line, &other.step(), count, fabric, kept),
+        other => make_again(line, &other.step(), count, cluster, kept),
     }
 }
 
@@ -106,23 +118,23 @@ fn make_received<K: KeepsAnswers>(
     side: Side,
     queue: u32,
     copies: u32,
-    fabric: &mut Fabric,
+    cluster: &mut Cluster,
     kept: &mut K,
 ) -> Result<(), AllocError>
-    requires { All (λ line. IsPermitted (plan_kept fabric.old) line.step) (lines_with line (receive pair side queue copies)) }
-    ensures plan { OnOk result (plan_kept fabric.new ≡ plan_kept fabric.old) }
-    ensures kept { (plan : Plan) (before : List Line) → HasReplayed plan before fabric.old → OnOk result (HasKept K.with_answer plan before (lines_with line (receive pair side queue copies)) fabric.new kept.old kept.new) }
+    requires { All (λ line. IsMakeable (plan_held cluster.old) line.step) (lines_with line (receive pair side queue copies)) }
+    ensures plan { OnOk result (plan_held cluster.new ≡ plan_held cluster.old) }
+    ensures kept { (plan : Plan) (before : List Line) → HasReplayed plan before cluster.old → OnOk result (HasKept K.with_answer plan before (lines_with line (receive pair side queue copies)) cluster.new kept.old kept.new) }
 {
-    make_step(line, &Step::Look { pair, side, queue }, fabric, kept)?;
+    make_step(line, &Step::Look { pair, side, queue }, cluster, kept)?;
     make_again(
         line,
         &Step::Copy { pair, side, queue },
         copies,
-        fabric,
+        cluster,
         kept,
     )?;
-    make_step(line, &Step::Clear { pair, side, queue }, fabric, kept)?;
-    make_step(line, &Step::Ack { pair, side, queue }, fabric, kept)
+    make_step(line, &Step::Clear { pair, side, queue }, cluster, kept)?;
+    make_step(line, &Step::Ack { pair, side, queue }, cluster, kept)
 }
 
 // Makes one step of a line so many times. Once it is refused it is refused again each further time, so it isn't made any more.
@@ -131,16 +143,16 @@ fn make_again<K: KeepsAnswers>(
     line: u32,
     step: &Step,
     count: u32,
-    fabric: &mut Fabric,
+    cluster: &mut Cluster,
     kept: &mut K,
 ) -> Result<(), AllocError>
-    requires may { All (λ line. IsPermitted (plan_kept fabric.old) line.step) (lines_with line (replicate count step.now)) }
-    requires uncounted { counts_refusals step.now ≡ false }
-    ensures plan { OnOk result (plan_kept fabric.new ≡ plan_kept fabric.old) }
-    ensures kept { (plan : Plan) (before : List Line) → HasReplayed plan before fabric.old → OnOk result (HasKept K.with_answer plan before (lines_with line (replicate count step.now)) fabric.new kept.old kept.new) }
+    requires may { All (λ line. IsMakeable (plan_held cluster.old) line.step) (lines_with line (replicate count step.now)) }
+    requires plain { is_plain step.now ≡ true }
+    ensures plan { OnOk result (plan_held cluster.new ≡ plan_held cluster.old) }
+    ensures kept { (plan : Plan) (before : List Line) → HasReplayed plan before cluster.old → OnOk result (HasKept K.with_answer plan before (lines_with line (replicate count step.now)) cluster.new kept.old kept.new) }
 {
     for made in 0..count {
-        let answer = fabric.step(step)?;
+        let answer = cluster.step(step)?;
         let answered = LineAnswer { line, answer };
         if made + 1 < count && !is_made(step, &answered.answer) {
             refused_again();
@@ -156,13 +168,13 @@ fn make_again<K: KeepsAnswers>(
 fn make_step<K: KeepsAnswers>(
     line: u32,
     step: &Step,
-    fabric: &mut Fabric,
+    cluster: &mut Cluster,
     kept: &mut K,
 ) -> Result<(), AllocError>
-    requires { IsPermitted (plan_kept fabric.old) step.now }
-    ensures plan { OnOk result (plan_kept fabric.new ≡ plan_kept fabric.old) }
-    ensures kept { (plan : Plan) (before : List Line) → HasReplayed plan before fabric.old → OnOk result (HasKept K.with_answer plan before (lines_with line (step.now ∷ [])) fabric.new kept.old kept.new) }
+    requires { IsMakeable (plan_held cluster.old) step.now }
+    ensures plan { OnOk result (plan_held cluster.new ≡ plan_held cluster.old) }
+    ensures kept { (plan : Plan) (before : List Line) → HasReplayed plan before cluster.old → OnOk result (HasKept K.with_answer plan before (lines_with line (step.now ∷ [])) cluster.new kept.old kept.new) }
 {
-    let answer = fabric.step(step)?;
+    let answer = cluster.step(step)?;
     kept.keep(&LineAnswer { line, answer })
 }

@@ -6,7 +6,7 @@ use Rattle.hex.specs.Hex.{encode_lower}
 use Rattle.step_kinds.specs.declared.steps.Label.{Label}
 use Rattle.step_kinds.specs.declared.steps.Label.TheVariants.{Chunk, Len, Ver, Flag, Down, Bell, Index, Pad, Raw}
 use Rattle.step_kinds.specs.declared.steps.Answer.{Answer}
-use Rattle.step_kinds.specs.declared.steps.Answer.TheVariants.{Ok as Done, OkSession, OkNumber, NotDown, Dirty, NotEnabled, Spent, NotUp, NotClosing, LinkDown, Already, Offered, NotYet, Version, Queues, Windows, Size, Up, NotChecked, NotReady, Joined, Closed, TooLong, Busy, Stopped, Again, Idle, Posted, Nothing, Blocked, Landed, OutOfTurn, Empty, PeerDown, VerDiffers, Long, ReadyFrame, Copied, Delivered, Cleared, Acked, Awake, Irq, Mem, PadValue, QueueShown}
+use Rattle.step_kinds.specs.declared.steps.Answer.TheVariants.{Ok as Done, OkSession, OkNumber, NotDown, Dirty, NotEnabled, Spent, NotUp, NotClosing, LinkDown, Already, Offered, NotYet, Version, Queues, Windows, Size, Up, NotChecked, NotReady, Joined, Closed, TooLong, Busy, Stopped, Again, Idle, Posted, Nothing, Blocked, Landed, OutOfTurn, Empty, PeerDown, VerDiffers, Long, ReadyFrame, Copied, Delivered, Cleared, Acked, Awake, Irq, Mem, PadValue, QueueShown, Short, Filtered, To, Flood}
 
 -- numbers, each behind a space
 abbrev pub numbers_text : List ℕ → List ℕ
@@ -89,6 +89,10 @@ answer_text (Irq bits) = with_one (codes "irq") bits
 answer_text (Mem bytes) = codes "mem " ++ encode_lower bytes
 answer_text (PadValue value) = with_one (codes "pad") value
 answer_text (QueueShown count label) = with_one (codes "queue") count ++ 32 ∷ shown_text label
+answer_text (Short len) = with_one (codes "short") len
+answer_text Filtered = codes "filtered"
+answer_text (To port) = with_one (codes "to") port
+answer_text (Flood count) = with_one (codes "flood") count
 
 -- an answer whose text is one word: it has no space
 abbrev pub IsOneWord : Answer → Type 0

@@ -84,7 +84,34 @@ pub fn put_start(line: &mut LineText, answer: &Answer)
         Answer::Mem { .. } => line.put_word(b"mem "),
         Answer::PadValue { value } => line.put_one(b"pad", u64::from(*value)),
         Answer::QueueShown { count, label } => put_queue(line, *count, label),
-        _ => put_one_word(line, answer),
+        Answer::Short { len } => line.put_one(b"short", u64::from(*len)),
+        Answer::To { port } => line.put_one(b"to", u64::from(*port)),
+        Answer::Flood { count } => line.put_one(b"flood", u64::from(*count)),
+        Answer::Ok
+        | Answer::NotDown
+        | Answer::Dirty
+        | Answer::NotEnabled
+        | Answer::Spent
+        | Answer::NotUp
+        | Answer::NotClosing
+        | Answer::LinkDown
+        | Answer::Already
+        | Answer::NotYet
+        | Answer::Up
+        | Answer::NotChecked
+        | Answer::NotReady
+        | Answer::Joined
+        | Answer::Closed
+        | Answer::Busy
+        | Answer::Stopped
+        | Answer::Idle
+        | Answer::Nothing
+        | Answer::Blocked
+        | Answer::OutOfTurn
+        | Answer::Empty
+        | Answer::PeerDown
+        | Answer::Awake
+        | Answer::Filtered => put_one_word(line, answer),
     }
 }
 
@@ -120,6 +147,7 @@ fn put_one_word(line: &mut LineText, answer: &Answer)
         Answer::Empty => line.put_word(b"empty"),
         Answer::PeerDown => line.put_word(b"peerdown"),
         Answer::Awake => line.put_word(b"awake"),
+        Answer::Filtered => line.put_word(b"filtered"),
         _ => unreachable!(),
     }
 }

@@ -52,6 +52,7 @@ fn plan(alloc: Global) -> Result<Plan, AllocError> {
     Ok(Plan {
         pairs,
         devs,
+        switches: Items::new(alloc),
         steps: Items::new(alloc),
         traffic: Items::new(alloc),
     })

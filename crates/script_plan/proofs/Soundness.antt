@@ -9,12 +9,15 @@ use Rattle.step_kinds.specs.declared.names.Side.TheVariants.{A, B}
 use Rattle.step_kinds.specs.declared.plan.PairPlan.{PairPlan}
 use Rattle.step_kinds.specs.declared.plan.DevPlan.{DevPlan}
 use Rattle.step_kinds.specs.declared.plan.Line.{Line}
+use Rattle.step_kinds.specs.declared.plan.SwitchPlan.{SwitchPlan}
 use Rattle.step_kinds.specs.declared.plan.Plan.{Plan}
 use Rattle.step_kinds.specs.declared.steps.Step.{Step}
 use Rattle.plan_model.specs.DeclaredPlans.{IsPair, IsDevice, IsQueueOf, AreClasses}
 use Rattle.plan_model.specs.Plans.{side_plan, pair_plan, no_pair}
+use Rattle.plan_model.specs.Switches.{IsSwitch}
 use Rattle.script_words.specs.Before.{Before, with_class}
 use Rattle.script_words.specs.Compact.{lines_with}
+use Rattle.script_words.specs.declared.parts.PairHosts.{PairHosts}
 use Rattle.script_words.specs.declared.parts.QueueName.{QueueName}
 use Rattle.script_plan.specs.Sound.{IsSound, IsKept}
 use Rattle.script_plan.proofs.Classes.{length-set_pairs}
@@ -32,20 +35,36 @@ queue_stays plan pair k side queue h =
       among = subst P (sym (get_or_append_left plan.pairs (pair ∷ []) no_pair k h.declared)) h.among;
     }
 
--- one more pair
-added_pair : (before : Before) (pair : PairPlan) → IsSound before → IsPair pair → length before.plan.pairs < most_pairs → IsSound (record before { plan = record before.plan { pairs = before.plan.pairs ++ pair ∷ [] } })
-added_pair before pair sound fits few = record {
-  pairs = All-push IsPair before.plan.pairs pair sound.pairs fits;
-  few_pairs = let long = length-append before.plan.pairs (pair ∷ []) in omega arith;
-  devices = All-weaker (IsDevice before.plan) (IsDevice (record before.plan { pairs = before.plan.pairs ++ pair ∷ [] }))
-      (device_stays before.plan (record before.plan { pairs = before.plan.pairs ++ pair ∷ [] }) (queue_stays before.plan pair)) before.plan.devs sound.devices;
-  few_steps = sound.few_steps;
-}
+-- A switch stays one where no device goes.
+pub switch_stays : (p q : Plan) → length p.devs ≤ length q.devs → (switch : SwitchPlan) → IsSwitch p switch → IsSwitch q switch
+switch_stays p q more switch is = record { ports = is.ports; declared = λ k d lt. let was = is.declared k d lt in omega arith }
 
-pub pair_added : (before : Before) (more : List PairPlan) (pair : PairPlan) → IsSound before → IsPair pair → length before.plan.pairs < most_pairs → more ≡ before.plan.pairs ++ pair ∷ []
-    → IsSound (record before { plan = record before.plan { pairs = more } })
-pair_added before more pair sound fits few e =
-    subst (λ pairs. IsSound (record before { plan = record before.plan { pairs = pairs } })) (sym e) (added_pair before pair sound fits few)
+-- so do all
+switches_stay : (p q : Plan) → length p.devs ≤ length q.devs → (switches : List SwitchPlan) → All (IsSwitch p) switches → All (IsSwitch q) switches
+switches_stay p q more switches are = All-weaker (IsSwitch p) (IsSwitch q) (switch_stays p q more) switches are
+
+-- one more pair
+added_pair : (before : Before) (pair : PairPlan) (hosts : PairHosts) → IsSound before → IsPair pair → length before.plan.pairs < most_pairs
+    → IsSound (record before { plan = record before.plan { pairs = before.plan.pairs ++ pair ∷ [] }; pair_hosts = before.pair_hosts ++ hosts ∷ [] })
+added_pair before pair hosts sound fits few =
+    let plan : Plan = record before.plan { pairs = before.plan.pairs ++ pair ∷ [] } in
+    let pairs = length-append before.plan.pairs (pair ∷ []) in
+    let all_hosts = length-append before.pair_hosts (hosts ∷ []) in
+    let each = sound.hosts in
+    record {
+      pairs = All-push IsPair before.plan.pairs pair sound.pairs fits;
+      few_pairs = omega arith;
+      devices = All-weaker (IsDevice before.plan) (IsDevice plan) (device_stays before.plan plan (queue_stays before.plan pair)) before.plan.devs sound.devices;
+      switches = switches_stay before.plan plan (omega arith) before.plan.switches sound.switches;
+      hosts = omega arith;
+      few_steps = sound.few_steps;
+    }
+
+pub pair_added : (before : Before) (more : List PairPlan) (more_hosts : List PairHosts) (pair : PairPlan) (hosts : PairHosts) → IsSound before → IsPair pair → length before.plan.pairs < most_pairs
+    → more ≡ before.plan.pairs ++ pair ∷ [] → more_hosts ≡ before.pair_hosts ++ hosts ∷ [] → IsSound (record before { plan = record before.plan { pairs = more }; pair_hosts = more_hosts })
+pair_added before more more_hosts pair hosts sound fits few e e_hosts =
+    subst (λ pairs. IsSound (record before { plan = record before.plan { pairs = pairs }; pair_hosts = more_hosts })) (sym e)
+    (subst (λ all. IsSound (record before { plan = record before.plan { pairs = before.plan.pairs ++ pair ∷ [] }; pair_hosts = all })) (sym e_hosts) (added_pair before pair hosts sound fits few))
 
 -- one more device
 pub device_added : (before : Before) (more : List DevPlan) (dev : DevPlan) → IsSound before → IsDevice before.plan dev → more ≡ before.plan.devs ++ dev ∷ []
@@ -53,10 +72,29 @@ pub device_added : (before : Before) (more : List DevPlan) (dev : DevPlan) → I
 device_added before more dev sound fits e =
     let plan : Plan = record before.plan { devs = more } in
     let stays : (d : DevPlan) → IsDevice before.plan d → IsDevice plan d = device_stays before.plan plan (λ k side queue h. record { declared = h.declared; among = h.among }) in
+    let long : length more ≡ length before.plan.devs + length (dev ∷ []) = ap length e ∙ length-append before.plan.devs (dev ∷ []) in
     record {
       pairs = sound.pairs;
       few_pairs = sound.few_pairs;
       devices = subst (All (IsDevice plan)) (sym e) (All-push (IsDevice plan) before.plan.devs dev (All-weaker (IsDevice before.plan) (IsDevice plan) stays before.plan.devs sound.devices) (stays dev fits));
+      switches = switches_stay before.plan plan (omega arith) before.plan.switches sound.switches;
+      hosts = sound.hosts;
+      few_steps = sound.few_steps;
+    }
+
+-- one more switch
+pub switch_added : (before : Before) (more : List SwitchPlan) (switch : SwitchPlan) → IsSound before → IsSwitch before.plan switch → more ≡ before.plan.switches ++ switch ∷ []
+    → IsSound (record before { plan = record before.plan { switches = more } })
+switch_added before more switch sound fits e =
+    let plan : Plan = record before.plan { switches = more } in
+    record {
+      pairs = sound.pairs;
+      few_pairs = sound.few_pairs;
+      devices = All-weaker (IsDevice before.plan) (IsDevice plan)
+          (device_stays before.plan plan (λ k side queue h. record { declared = h.declared; among = h.among })) before.plan.devs sound.devices;
+      switches = subst (All (IsSwitch plan)) (sym e)
+          (All-push (IsSwitch plan) before.plan.switches switch (switches_stay before.plan plan (omega arith) before.plan.switches sound.switches) (switch_stays before.plan plan (omega arith) switch fits));
+      hosts = sound.hosts;
       few_steps = sound.few_steps;
     }
 
@@ -126,6 +164,8 @@ class_added before more classed pair side queue class sound lt small e =
       pairs = All-set IsPair before.plan.pairs pair now (class_fits (pair_plan before.plan pair) side queue class (sound.pairs pair no_pair lt) small) sound.pairs;
       few_pairs = let same = length-set_pairs before.plan.pairs pair now in let few = sound.few_pairs in omega arith;
       devices = All-weaker (IsDevice before.plan) (IsDevice plan) (device_stays before.plan plan (queue_classed before.plan pair side queue class)) before.plan.devs sound.devices;
+      switches = switches_stay before.plan plan (omega arith) before.plan.switches sound.switches;
+      hosts = let same = length-set_pairs before.plan.pairs pair now in let each = sound.hosts in omega arith;
       few_steps = sound.few_steps;
     } in
     subst (λ pairs. IsSound (record before { plan = record before.plan { pairs = pairs }; classed = classed })) (sym e) all
@@ -144,6 +184,8 @@ steps_added before more line count steps n kept own few e =
         few_pairs = sound.few_pairs;
         devices = All-weaker (IsDevice before.plan) (IsDevice plan)
             (device_stays before.plan plan (λ k side queue h. record { declared = h.declared; among = h.among })) before.plan.devs sound.devices;
+        switches = switches_stay before.plan plan (omega arith) before.plan.switches sound.switches;
+        hosts = sound.hosts;
         few_steps = omega arith;
       };
       counted = let counted = kept.counted in omega arith;

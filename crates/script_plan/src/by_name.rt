@@ -1,4 +1,4 @@
-//! What is declared by name: the pairs and the devices so far.
+//! What is declared by name: the pairs, the devices and the switches so far.
 
 ghost use Rattle.std.specs.Prelude.{◌≡◌, ℕ, List, ◌∷◌, ◌++◌, ◌<◌, [], false, length, map, slice_index_or, OnOk, OnErr, IfSome};
 ghost use Rattle.script_words.specs.Before.{number_named, has_name};

@@ -10,6 +10,7 @@ mod reader;
 pub mod rings;
 mod script;
 mod step_list;
+mod switches;
 mod traffic;
 
 pub use by_name::{Declared, Named};
@@ -19,4 +20,5 @@ pub use pairs::Pairs;
 pub use reader::Reader;
 pub use script::Script;
 pub use step_list::{StepList, Stretch};
+pub use switches::{Switches, is_among};
 pub use traffic::TrafficList;

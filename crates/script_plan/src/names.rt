@@ -11,7 +11,7 @@ use std::marker::Model;
 /// Among so many names at most one is found sooner by comparing them in turn than by its hash.
 const MOST_IN_TURN: usize = 16;
 
-/// The names of the hosts, the pairs or the devices, in the order of their declaration.
+/// The names of the hosts, the pairs, the devices or the switches, in the order of their declaration.
 #[derive(Drop)]
 pub struct Names {
     names: IndexSet<Vec<u8>>,

@@ -9,12 +9,13 @@ use crate::names::Names;
 use crate::pairs::Pairs;
 use crate::script::Script;
 use crate::step_list::StepList;
+use crate::switches::Switches;
 use crate::traffic::TrafficList;
 use script_words::words::is_same_side;
-use script_words::{Given, Macro, Part, QueueName};
+use script_words::{Given, Macro, PairHosts, Part, QueueName};
 use std::alloc::{AllocError, Global};
 use std::marker::Model;
-use step_kinds::{DevPlan, Items, PairPlan, Plan, Step};
+use step_kinds::{DevPlan, Items, PairPlan, Plan, Side, Step, SwitchPlan};
 
 /// The part that the next line stands in, and the plan that the lines so far declare.
 #[derive(Drop)]
@@ -22,7 +23,9 @@ pub struct Reader {
     part: Part,
     hosts: Names,
     pairs: Pairs,
+    pair_hosts: Vec<PairHosts>,
     devs: Devices,
+    switches: Switches,
     steps: StepList,
     step_count: usize,
     traffic: TrafficList,
@@ -30,10 +33,12 @@ pub struct Reader {
 }
 
 impl Reader {
-    ghost use Rattle.script_words.specs.Before.{Before, APair, ADevice, AClass, MoreSteps, nothing_before, with_given, has_name, pair_names, dev_names};
-    ghost use Rattle.step_kinds.specs.Limits.{most_pairs, most_devices, most_steps, IsClass};
+    ghost use Rattle.script_words.specs.Before.{Before, APair, ADevice, AClass, ASwitch, MoreSteps, nothing_before, with_given, has_name, pair_names, dev_names, switch_names};
+    ghost use Rattle.step_kinds.specs.Limits.{most_pairs, most_devices, most_switches, most_steps, IsClass};
     ghost use Rattle.plan_model.specs.DeclaredPlans.{IsPair, IsDevice, IsQueueOf};
-    ghost use Rattle.plan_model.specs.Plans.{pair_plan, dev_plan};
+    ghost use Rattle.plan_model.specs.Plans.{pair_plan, dev_plan, switch_plan};
+    ghost use Rattle.plan_model.specs.Switches.{IsSwitch};
+    ghost use Rattle.script_words.specs.Ports.{host_of, is_port};
     ghost use Rattle.script_words.specs.Compact.{given_of, steps_of};
     ghost use Rattle.script_plan.specs.Sound.{Suits};
     ghost use Rattle.script_plan.specs.Scripts.{plan_in};
@@ -46,7 +51,9 @@ impl Reader {
             part: Part::Declarations,
             hosts: Names::new(alloc),
             pairs: Pairs::new(alloc),
+            pair_hosts: Vec::new(alloc),
             devs: Devices::new(alloc),
+            switches: Switches::new(alloc),
             steps: StepList::new(alloc),
             step_count: 0,
             traffic: TrafficList::new(alloc),
@@ -101,6 +108,42 @@ impl Reader {
         &self.devs
     }
 
+    /// The switches.
+    pub fn switches(&self) -> &Switches
+        ensures { result.now ≡ self.now.plan.switches }
+    {
+        &self.switches
+    }
+
+    /// The switch with the number.
+    pub fn switch(&self, number: u32) -> &SwitchPlan
+        requires { number < length self.now.plan.switches }
+        ensures value { result.now ≡ switch_plan self.now.plan number }
+        ensures declared { IsSwitch self.now.plan result.now }
+    {
+        self.switches.get(number)
+    }
+
+    /// Whether the device is a port of a switch.
+    pub fn is_port(&self, dev: u32) -> bool
+        ensures { result ≡ is_port self.now dev }
+    {
+        self.switches.any_port(dev)
+    }
+
+    /// The name of the host on which the device with the number stands.
+    pub fn host_of(&self, dev: u32) -> &[u8]
+        requires { dev < length self.now.plan.devs }
+        ensures { result.now ≡ host_of self.now dev }
+    {
+        let device = self.devs.get(dev);
+        let hosts = &self.pair_hosts[device.pair as usize];
+        match device.side {
+            Side::A => hosts.a.bytes(),
+            Side::B => hosts.b.bytes(),
+        }
+    }
+
     /// How many steps there are.
     pub fn step_count(&self) -> usize
         ensures value { result ≡ length self.now.plan.steps }
@@ -123,14 +166,21 @@ impl Reader {
         self.classed.iter().any(|other| is_queue(name, other))
     }
 
-    /// Adds a pair.
-    fn add_pair(&mut self, alloc: Global, pair: PairPlan) -> Result<(), AllocError>
+    /// Adds a pair with its hosts.
+    fn add_pair(
+        &mut self,
+        alloc: Global,
+        pair: PairPlan,
+        hosts: PairHosts,
+    ) -> Result<(), AllocError>
         requires new { has_name (pair_names self.old) pair.name ≡ false }
         requires few { length self.old.plan.pairs < most_pairs }
         requires fits { IsPair pair }
-        ensures { OnOk result (self.new ≡ with_given 0 self.old (APair pair)) }
+        ensures { OnOk result (self.new ≡ with_given 0 self.old (APair pair hosts)) }
     {
+        self.pair_hosts.reserve(1)?;
         self.pairs.push(alloc, pair)?;
+        self.pair_hosts.push_reserved(hosts);
         Ok(())
     }
 
@@ -142,6 +192,17 @@ impl Reader {
         ensures { OnOk result (self.new ≡ with_given 0 self.old (ADevice dev)) }
     {
         self.devs.push(alloc, dev)?;
+        Ok(())
+    }
+
+    /// Adds a switch.
+    fn add_switch(&mut self, alloc: Global, switch: SwitchPlan) -> Result<(), AllocError>
+        requires new { has_name (switch_names self.old) switch.name ≡ false }
+        requires few { length self.old.plan.switches < most_switches }
+        requires fits { IsSwitch self.old.plan switch }
+        ensures { OnOk result (self.new ≡ with_given 0 self.old (ASwitch switch)) }
+    {
+        self.switches.push(alloc, switch)?;
         Ok(())
     }
 
@@ -190,9 +251,10 @@ impl Reader {
         match given {
             Given::Nothing => {}
             Given::Host { name } => self.hosts.push(alloc, name.bytes())?,
-            Given::Pair { pair } => self.add_pair(alloc, Box::into_inner(pair))?,
+            Given::Pair { pair, hosts } => self.add_pair(alloc, Box::into_inner(pair), hosts)?,
             Given::Device { dev } => self.add_device(alloc, dev)?,
             Given::Class { queue, class } => self.add_class(queue, class)?,
+            Given::Switch { switch } => self.add_switch(alloc, switch)?,
             Given::StepsBegin => self.part = Part::Steps,
             Given::TrafficBegins => self.part = Part::Traffic,
             Given::Frame { lane, frame } => self.traffic.push_frame(lane, frame)?,
@@ -212,6 +274,7 @@ impl Reader {
             declared: Plan {
                 pairs: self.pairs.into_items(),
                 devs: self.devs.into_items(),
+                switches: self.switches.into_items(),
                 steps: Items::new(alloc),
                 traffic: self.traffic.into_items(),
             },
@@ -227,9 +290,9 @@ impl Model for Reader {
 
     ghost Value = { Before };
 
-    ghost view = { λ all. before_with all.part all.hosts all.pairs all.devs all.steps all.traffic all.classed.items };
+    ghost view = { λ all. before_with all.part all.hosts all.pairs all.devs all.switches all.steps all.traffic all.pair_hosts.items all.classed.items };
 
-    ghost invariant = { λ all. IsKept all.step_count (before_with all.part all.hosts all.pairs all.devs all.steps all.traffic all.classed.items) };
+    ghost invariant = { λ all. IsKept all.step_count (before_with all.part all.hosts all.pairs all.devs all.switches all.steps all.traffic all.pair_hosts.items all.classed.items) };
 }
 
 /// Whether this is the same queue.

@@ -10,7 +10,7 @@ use step_kinds::Plan;
 /// What a script declares, with its steps as its lines have them.
 #[derive(Drop)]
 pub struct Script {
-    /// The pairs, the devices and the traffic. Its own list of steps isn't read.
+    /// The pairs, the devices, the switches and the traffic. Its own list of steps isn't read.
     pub declared: Plan,
     /// The steps.
     pub steps: StepList,

@@ -1,20 +1,23 @@
 -- What a line among the declarations gives fits.
-use Rattle.std.proofs.Common.{◌≡◌, ℕ, ◌≤◌, Bool, true, false, not, ◌&&◌, List, [], ◌∷◌, ◌++◌, length, codes, nat_lt, refl, arith}
-use Rattle.std.proofs.lemmas.Bool.{ltb-false, not-false}
-use Rattle.std.specs.List.{list_any, list_all}
+use Rattle.std.proofs.Common.{◌≡◌, ℕ, ◌≤◌, Bool, true, false, not, ◌&&◌, Err, List, [], ◌∷◌, ◌++◌, length, codes, nat_le, nat_lt, cond, refl, arith}
+use Rattle.std.proofs.lemmas.Bool.{and_parts, leb-true, ltb-false, not-false}
+use Rattle.std.specs.List.{AllPairs, list_any, list_all}
 use Rattle.std.specs.Str.{bytes_eq}
-use Rattle.step_kinds.specs.Limits.{most_hosts, most_pairs, most_devices}
-use Rattle.script_words.specs.Before.{Before, Given, Host, APair, ADevice, AClass, StepsBegin, TrafficBegins, pair_names, dev_names}
-use Rattle.script_words.specs.Declarations.{host_line, pair_line, dev_line, class_line, host_words, pair_words, dev_words, class_words, lone_word, declaration_line, host_word, threshold_word, sits_on, is_queue}
+use Rattle.step_kinds.specs.Limits.{most_hosts, most_pairs, most_devices, most_switches, least_ports, most_ports, IsPorts}
+use Rattle.plan_model.specs.Plans.{ports_in}
+use Rattle.script_words.specs.Before.{Before, Given, Host, APair, ADevice, AClass, ASwitch, StepsBegin, TrafficBegins, pair_names, dev_names, switch_names}
+use Rattle.script_words.specs.Declarations.{host_line, pair_line, dev_line, class_line, switch_line, host_words, pair_words, dev_words, class_words, switch_words, is_ports, lone_word, declaration_line, host_word, threshold_word, sits_on, is_queue}
+use Rattle.script_words.specs.Ports.{on_one_host}
 use Rattle.script_words.specs.Settings.{settings_from, with_setting, setting_word, same_setting, in_range, goes_together, pair_with}
 use Rattle.script_words.specs.Tests.{found_or}
 use Rattle.script_words.specs.Words.{number_word, behind}
-use Rattle.script_words.specs.declared.fault.Cause.TheVariants.{UnknownWord, Repeated, BadGeometry, TooMany}
+use Rattle.script_words.specs.declared.fault.Cause.TheVariants.{UnknownWord, Repeated, BadGeometry, BadSwitch, TooMany}
 use Rattle.script_words.specs.declared.parts.Part.TheVariants.{Declarations}
 use Rattle.script_words.specs.declared.settings.Setting.{Setting}
 use Rattle.script_text.proofs.Fits.{Fits}
 use Rattle.script_text.proofs.Gives.{Gives, gives_ok, gives_fault, gives_then, gives_passed, gives_any, gives_if}
 use Rattle.script_text.proofs.PairFits.{pair_fits}
+use Rattle.script_text.proofs.PortFacts.{all_ports, no_ports}
 use Rattle.script_text.proofs.WordFacts.{below, queue_declared, name_is_new, number_within, bytes_counted}
 
 -- The options of a pair are in their ranges
@@ -45,7 +48,10 @@ threshold_within key word =
     gives_then _ _ _ (gives_any (number_word digits)) (λ number _.
     gives_then _ _ _ (gives_passed (nat_lt 65535 number) BadGeometry) (λ _ e. gives_ok _ number (ltb-false 65535 number e))))
 
-module _ (before : Before) (part : before.part ≡ Declarations) where
+some_ports : (ports : ℕ) → is_ports ports ≡ true → IsPorts ports
+some_ports ports e = let parts = and_parts (nat_le least_ports ports) (nat_le ports most_ports) e in (leb-true least_ports ports parts.0, leb-true ports most_ports parts.1)
+
+module _ (before : Before) (part : before.part ≡ Declarations) (apart : AllPairs (λ one other. one ≡ other → ⊥) (ports_in before.plan.switches)) where
   host_fits : (word : List ℕ) → Gives (Fits before) (host_line before word)
   host_fits word =
       gives_then _ _ _ (name_is_new before.hosts word) (λ name is_new.
@@ -61,7 +67,7 @@ module _ (before : Before) (part : before.part ≡ Declarations) where
       gives_then _ _ _ (gives_passed (bytes_eq a b) Repeated) (λ _ _.
       gives_then _ _ _ (gives_passed (not (goes_together (pair_with name settings))) BadGeometry) (λ _ together.
       gives_then _ _ _ (gives_passed (not (nat_lt (length before.plan.pairs) most_pairs)) TooMany) (λ _ e.
-      gives_ok (Fits before) (APair (pair_with name settings)) (record {
+      gives_ok (Fits before) (APair (pair_with name settings) (record { a = a; b = b })) (record {
         part = part;
         is_new = is_new;
         few = below (length before.plan.pairs) most_pairs e;
@@ -94,6 +100,20 @@ module _ (before : Before) (part : before.part ≡ Declarations) where
       gives_then _ _ _ (gives_passed (list_any (is_queue name.pair name.side name.queue) before.classed) Repeated) (λ _ _.
       gives_ok (Fits before) (AClass name class) (record { part = part; queue = queue; small = let most = range.1 in omega arith }))))
 
+  switch_line_fits : (name_text : List ℕ) (dev_texts : List (List ℕ)) → is_ports (length dev_texts) ≡ true → Gives (Fits before) (switch_line before name_text dev_texts)
+  switch_line_fits name_text dev_texts some =
+      gives_then _ _ _ (name_is_new (switch_names before) name_text) (λ name is_new.
+      gives_then _ _ _ (all_ports before [] dev_texts (no_ports before apart)) (λ ports adds.
+      gives_then _ _ _ (gives_passed (not (on_one_host before ports)) BadSwitch) (λ _ _.
+      gives_then _ _ _ (gives_passed (not (nat_lt (length before.plan.switches) most_switches)) TooMany) (λ _ e.
+      gives_ok (Fits before) (ASwitch (record { name = name; ports = ports })) (record {
+        part = part;
+        is_new = is_new;
+        few = below (length before.plan.switches) most_switches e;
+        fits = record { ports = let many = adds.1 in let within = some_ports (length dev_texts) some in let least = within.0 in let most = within.1 in (omega arith, omega arith); declared = adds.0.declared };
+        ports = adds.0;
+      })))))
+
   lone_word_fits : (words : List (List ℕ)) (given : Given) → Fits before given → Gives (Fits before) (lone_word words given)
   lone_word_fits [] given h = gives_ok (Fits before) given h
   lone_word_fits (a ∷ words) given h = gives_fault (Fits before) UnknownWord
@@ -117,11 +137,20 @@ module _ (before : Before) (part : before.part ≡ Declarations) where
   class_words_fit (a ∷ b ∷ c ∷ d ∷ []) = class_line_fits a b c d
   class_words_fit words = gives_fault (Fits before) UnknownWord
 
+  switch_words_fit : (words : List (List ℕ)) → Gives (Fits before) (switch_words before words)
+  switch_words_fit [] = gives_fault (Fits before) UnknownWord
+  switch_words_fit (name ∷ devs) = by (is_ports (length devs)) (switch_line_fits name devs)
+    where
+      by : (some : Bool) → (some ≡ true → Gives (Fits before) (switch_line before name devs)) → Gives (Fits before) (cond some (switch_line before name devs) (Err UnknownWord))
+      by true line = line refl
+      by false line = gives_fault (Fits before) UnknownWord
+
   pub declaration_fits : (word : List ℕ) (words : List (List ℕ)) → Gives (Fits before) (declaration_line before word words)
   declaration_fits word words =
       gives_if _ (bytes_eq word (codes "host")) _ _ (host_words_fit words)
       (gives_if _ (bytes_eq word (codes "pair")) _ _ (pair_words_fit words)
       (gives_if _ (bytes_eq word (codes "dev")) _ _ (dev_words_fit words)
       (gives_if _ (bytes_eq word (codes "class")) _ _ (class_words_fit words)
+      (gives_if _ (bytes_eq word (codes "switch")) _ _ (switch_words_fit words)
       (gives_if _ (bytes_eq word (codes "steps")) _ _ (lone_word_fits words StepsBegin tt)
-      (gives_if _ (bytes_eq word (codes "traffic")) _ _ (lone_word_fits words TrafficBegins tt) (gives_fault (Fits before) UnknownWord))))))
+      (gives_if _ (bytes_eq word (codes "traffic")) _ _ (lone_word_fits words TrafficBegins tt) (gives_fault (Fits before) UnknownWord)))))))

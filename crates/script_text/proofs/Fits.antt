@@ -1,14 +1,17 @@
 -- What a line gives beside the lines so far: it is new where it has a name, is as a script can declare it, and passes no limit.
-use Rattle.std.proofs.Common.{◌≡◌, ℕ, ◌+◌, ◌<◌, ◌≤◌, false, List, length, map, sum, count_by}
-use Rattle.std.specs.List.{All, list_any}
-use Rattle.step_kinds.specs.Limits.{most_hosts, most_pairs, most_devices, most_steps, most_traffic_frames, most_traffic_bytes, most_breaks, IsClass}
+use Rattle.std.proofs.Common.{◌≡◌, ℕ, ◌+◌, ◌<◌, ◌≤◌, false, List, ◌++◌, length, map, sum, count_by}
+use Rattle.std.specs.List.{All, AllPairs, list_any}
+use Rattle.step_kinds.specs.Limits.{most_hosts, most_pairs, most_devices, most_switches, most_steps, most_traffic_frames, most_traffic_bytes, most_breaks, IsClass}
 use Rattle.step_kinds.specs.declared.plan.PairPlan.{PairPlan}
 use Rattle.step_kinds.specs.declared.plan.DevPlan.{DevPlan}
+use Rattle.step_kinds.specs.declared.plan.SwitchPlan.{SwitchPlan}
 use Rattle.step_kinds.specs.declared.plan.Traffic.{Traffic}
 use Rattle.step_kinds.specs.declared.steps.Step.{Step}
-use Rattle.plan_model.specs.DeclaredPlans.{IsPair, IsDevice, IsQueueOf, IsPermitted}
+use Rattle.plan_model.specs.DeclaredPlans.{IsPair, IsDevice, IsQueueOf}
+use Rattle.plan_model.specs.Plans.{ports_in}
+use Rattle.plan_model.specs.Switches.{IsMakeable, IsSwitch}
 use Rattle.plan_model.specs.TrafficPlans.{frames_in, bytes_in, is_break_of, IsTraffic}
-use Rattle.script_words.specs.Before.{Before, Given, Nothing, Host, APair, ADevice, AClass, StepsBegin, TrafficBegins, MoreSteps, MoreTraffic, has_name, pair_names, dev_names}
+use Rattle.script_words.specs.Before.{Before, Given, Nothing, Host, APair, ADevice, AClass, ASwitch, StepsBegin, TrafficBegins, MoreSteps, MoreTraffic, has_name, pair_names, dev_names, switch_names}
 use Rattle.script_words.specs.Declarations.{sits_on}
 use Rattle.script_words.specs.declared.parts.Part.TheVariants.{Declarations}
 use Rattle.script_words.specs.declared.parts.QueueName.{QueueName}
@@ -35,10 +38,22 @@ pub record AddsClass (before : Before) (name : QueueName) (class : ℕ) : Type 0
   pub queue : IsQueueOf before.plan name.pair name.side name.queue
   pub small : IsClass class
 
+-- ports: devices that are declared, none of which is a port yet or stands there twice
+pub record AddsPorts (before : Before) (devs : List ℕ) : Type 0 where
+  pub declared : All (λ dev. dev < length before.plan.devs) devs
+  pub apart : AllPairs (λ one other. one ≡ other → ⊥) (ports_in before.plan.switches ++ devs)
+
+pub record AddsSwitch (before : Before) (switch : SwitchPlan) : Type 0 where
+  pub part : before.part ≡ Declarations
+  pub is_new : has_name (switch_names before) switch.name ≡ false
+  pub few : length before.plan.switches < most_switches
+  pub fits : IsSwitch before.plan switch
+  pub ports : AddsPorts before switch.ports
+
 pub record AddsSteps (before : Before) (steps : List Step) : Type 0 where
   pub part : before.part ≡ Declarations → ⊥
   pub few : length before.plan.steps + length steps ≤ most_steps
-  pub permitted : All (IsPermitted before.plan) steps
+  pub makeable : All (IsMakeable before.plan) steps
 
 pub record AddsTraffic (before : Before) (traffic : List Traffic) : Type 0 where
   pub part : before.part ≡ Declarations → ⊥
@@ -50,9 +65,10 @@ pub record AddsTraffic (before : Before) (traffic : List Traffic) : Type 0 where
 abbrev pub Fits : Before → Given → Type 0
 Fits before Nothing = Unit {0}
 Fits before (Host name) = AddsHost before name
-Fits before (APair pair) = AddsPair before pair
+Fits before (APair pair hosts) = AddsPair before pair
 Fits before (ADevice dev) = AddsDevice before dev
 Fits before (AClass name class) = AddsClass before name class
+Fits before (ASwitch switch) = AddsSwitch before switch
 Fits before StepsBegin = Unit {0}
 Fits before TrafficBegins = Unit {0}
 Fits before (MoreSteps steps) = AddsSteps before steps

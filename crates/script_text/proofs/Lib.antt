@@ -5,6 +5,7 @@ pub mod Gives
 pub mod LinesRead
 pub mod LongLines
 pub mod PairFits
+pub mod PortFacts
 pub mod Returns
 pub mod Splits
 pub mod StepFits

@@ -2,12 +2,15 @@
 use Rattle.std.proofs.Common.{◌≡◌, ℕ, ◌+◌, ◌<◌, ◌≤◌, ◌==◌, Option, Some, None, Result, Ok, Err, List, [], ◌∷◌, length, map, Bor, IfSome, refl, sym, ◌∙◌, ap, arith}
 use Rattle.std.specs.List.{slice_split}
 use Rattle.std.specs.Option.{option_map_or}
+use Rattle.step_kinds.specs.declared.plan.Plan.{Plan}
 use Rattle.script_words.specs.Before.{Before, Given}
 use Rattle.script_words.specs.Words.{lines_of, without_return}
 use Rattle.script_words.specs.declared.fault.Cause.{Cause}
 use Rattle.script_words.specs.declared.fault.ScriptFault.{ScriptFault}
-use Rattle.script_text.specs.ParseClauses.{after_line}
-use Rattle.script_text.specs.Script.{line_gives, read_lines}
+use Rattle.script_text.specs.ParseClauses.{Parses, after_line}
+use Rattle.script_text.specs.Script.{line_gives, plan_of, read_lines}
+use Rattle.script_text.specs.declared.error.ParseError.{ParseError}
+use Rattle.script_text.specs.declared.error.ParseError.TheVariants.{Fault, OutOfMemory}
 
 -- the lines behind line n
 abbrev pub then_lines : ℕ → List (List ℕ) → Result Before ScriptFault → Result Before ScriptFault
@@ -40,3 +43,8 @@ pub count_turn : (rest : Option (Bor (List ℕ))) (text : List ℕ) (n total : �
     → (n + 1) + option_map_or (λ more. length more.now + 1) rest 0 ≤ total
 count_turn None text n total shorter few = omega arith
 count_turn (Some more) text n total shorter few = omega arith
+
+-- an error at a line is the script's
+pub error_stays : (n : ℕ) (lines : List (List ℕ)) (error : ParseError) (due : Result Before ScriptFault) → Parses {X = Before} (Err error) due → Parses {X = Plan} (Err error) (plan_of (then_lines n lines due))
+error_stays n lines (Fault fault) due h = ap (λ read. plan_of (then_lines n lines read)) h
+error_stays n lines OutOfMemory due h = tt

@@ -1,7 +1,7 @@
 -- The steps of a line are ones that a script of its plan may make.
 use Rattle.std.proofs.Common.{◌≡◌, ℕ, ◌+◌, ◌*◌, ◌<◌, ◌≤◌, Bool, true, false, not, ◌&&◌, ◌⊎◌, inl, inr, Option, Some, None, List, [], ◌∷◌, ◌++◌, length, codes, nat_lt, replicate, refl, arith}
 use Rattle.std.proofs.lemmas.Bool.{ltb-false, ltb-true, not-false, and_parts, and_cases}
-use Rattle.std.proofs.lemmas.List.Elements.{All-cons, All-nil, All-append, All-replicate}
+use Rattle.std.proofs.lemmas.List.Elements.{All-cons, All-nil, All-append, All-replicate, All-weaker}
 use Rattle.std.specs.List.{All}
 use Rattle.std.specs.Str.{bytes_eq}
 use Rattle.step_kinds.specs.Limits.{most_frame_bytes, most_steps}
@@ -10,21 +10,24 @@ use Rattle.step_kinds.specs.declared.plan.PairPlan.{PairPlan}
 use Rattle.step_kinds.specs.declared.plan.DevPlan.{DevPlan}
 use Rattle.step_kinds.specs.declared.plan.Plan.{Plan}
 use Rattle.step_kinds.specs.declared.steps.Step.{Step}
-use Rattle.step_kinds.specs.declared.steps.Step.TheVariants.{Enable, Clean, Offer, Check, Ready, Join, Begin, QpDown, Xbegin, Post, Land, Look, Copy, Clear, Ack, Wake, Irq, Mask, Unmask, Spad, Poke, ShowMem, ShowPad, ShowQueue}
+use Rattle.step_kinds.specs.declared.steps.Step.TheVariants.{Enable, Clean, Offer, Check, Ready, Join, Begin, QpDown, Xbegin, Post, Land, Look, Copy, Clear, Ack, Wake, Irq, Mask, Unmask, Spad, Poke, ShowMem, ShowPad, ShowQueue, Xnext}
 use Rattle.plan_model.specs.DeclaredPlans.{IsQueueOf, IsDevice, IsPermitted, IsFrame, IsPayload}
 use Rattle.plan_model.specs.Ethernet.{ethernet_header}
 use Rattle.plan_model.specs.Macros.{receive, posts_in}
-use Rattle.plan_model.specs.Plans.{side_plan, pair_plan, dev_plan, no_dev}
+use Rattle.plan_model.specs.Plans.{side_plan, pair_plan, dev_plan, switch_plan, port_device, no_dev, no_switch}
+use Rattle.plan_model.specs.Switches.{IsMakeable, IsPortOn, IsSwitch}
 use Rattle.script_words.specs.Before.{Before, MoreSteps, TrafficBegins}
 use Rattle.script_words.specs.StepLines as rules
-use Rattle.script_words.specs.StepLines.{NumberedSteps, largest_number, reach, ethernet_steps}
+use Rattle.script_words.specs.Ports.{is_port}
+use Rattle.script_words.specs.StepLines.{NumberedSteps, largest_number, reach, relay_step, ethernet_steps}
 use Rattle.script_words.specs.Words.{number_word}
 use Rattle.script_words.specs.declared.fault.Cause.TheVariants.{UnknownWord, BadNumber, UnknownName, BadPair, TooMany}
 use Rattle.script_words.specs.declared.parts.Part.TheVariants.{Declarations}
 use Rattle.script_text.specs.SoundLines.{Filled}
 use Rattle.script_text.proofs.Fits.{Fits}
 use Rattle.script_text.proofs.Gives.{Gives, gives_ok, gives_fault, gives_then, gives_passed, gives_any, gives_if, gives_known, if_some, none_some}
-use Rattle.script_text.proofs.WordFacts.{pair_declared, dev_declared, side_declared, queue_declared, number_within, bytes_spelled, bytes_counted, kind_is_small}
+use Rattle.script_text.proofs.PortFacts.{port_is_there}
+use Rattle.script_text.proofs.WordFacts.{below, pair_declared, dev_declared, switch_declared, side_declared, queue_declared, number_within, bytes_spelled, bytes_counted, kind_is_small}
 
 -- Lists of steps
 
@@ -110,11 +113,17 @@ module _ (plan : Plan) where
 pad_is_free : (i : ℕ) (raw : Bool) → (nat_lt i 12 && not raw) ≡ false → (12 ≤ i) ⊎ (raw ≡ true)
 pad_is_free i raw e = elim (and_cases (nat_lt i 12) (not raw) e) [ inl x ↦ inl (ltb-false i 12 x) | inr y ↦ inr (not-false raw y) ]
 
-module _ (before : Before) (part : before.part ≡ Declarations → ⊥) (devices : All (IsDevice before.plan) before.plan.devs) where
-  steps_fit : (steps : List Step) → All (IsPermitted before.plan) steps → Gives (Fits before) (rules.steps_within before steps)
-  steps_fit steps all =
+module _ (before : Before) (part : before.part ≡ Declarations → ⊥) (devices : All (IsDevice before.plan) before.plan.devs) (switches : All (IsSwitch before.plan) before.plan.switches) where
+  made_fit : (steps : List Step) → All (IsMakeable before.plan) steps → Gives (Fits before) (rules.steps_within before steps)
+  made_fit steps all =
       gives_then _ _ _ (gives_passed (nat_lt most_steps (length before.plan.steps + length steps)) TooMany) (λ _ e.
-      gives_ok (Fits before) (MoreSteps steps) (record { part = part; few = ltb-false most_steps (length before.plan.steps + length steps) e; permitted = all }))
+      gives_ok (Fits before) (MoreSteps steps) (record { part = part; few = ltb-false most_steps (length before.plan.steps + length steps) e; makeable = all }))
+
+  steps_fit : (steps : List Step) → All (IsPermitted before.plan) steps → Gives (Fits before) (rules.steps_within before steps)
+  steps_fit steps all = made_fit steps (All-weaker (IsPermitted before.plan) (IsMakeable before.plan) (λ step may. inl may) steps all)
+
+  step_fits_made : (step : Step) → IsMakeable before.plan step → Gives (Fits before) (rules.steps_within before (step ∷ []))
+  step_fits_made step may = made_fit (step ∷ []) (All-cons (IsMakeable before.plan) step [] may (All-nil (IsMakeable before.plan)))
 
   pair_step_fits : (step : ℕ → Step) → ((pair : ℕ) → pair < length before.plan.pairs → IsPermitted before.plan (step pair)) → (pair_text : List ℕ) → Gives (Fits before) (rules.pair_step_line before step pair_text)
   pair_step_fits step ok pair_text = gives_then _ _ _ (pair_declared before pair_text) (λ pair lt. steps_fit (step pair ∷ []) (one before.plan (step pair) (ok pair lt)))
@@ -213,6 +222,31 @@ module _ (before : Before) (part : before.part ≡ Declarations → ⊥) (device
       (one before.plan (Wake (dev_plan before.plan.devs dev).pair (dev_plan before.plan.devs dev).side (dev_plan before.plan.devs dev).queue dev)
       (its_queue dev lt, record { declared = lt; its_pair = refl; its_side = refl; its_queue = refl })))
 
+  relay_line_fits : (switch_text port_text : List ℕ) → Gives (Fits before) (rules.relay_line before switch_text port_text)
+  relay_line_fits switch_text port_text =
+      gives_then _ _ _ (switch_declared before switch_text) (λ switch lt.
+      gives_then _ _ _ (gives_any (number_word port_text)) (λ port _.
+      gives_then _ _ _ (gives_passed (not (nat_lt port (length (switch_plan before.plan switch).ports))) UnknownName) (λ _ known.
+      step_fits_made (relay_step before.plan switch port) (inr (on_port switch port lt (below port (length (switch_plan before.plan switch).ports) known))))))
+    where
+      on_port : (switch port : ℕ) → switch < length before.plan.switches → port < length (switch_plan before.plan switch).ports
+          → IsPortOn before.plan (dev_plan before.plan.devs (port_device before.plan switch port)).pair (dev_plan before.plan.devs (port_device before.plan switch port)).side (dev_plan before.plan.devs (port_device before.plan switch port)).queue switch port
+      on_port switch port lt among = record {
+        declared = lt;
+        among = among;
+        device = record { declared = (switches switch no_switch lt).declared port 0 among; its_pair = refl; its_side = refl; its_queue = refl };
+      }
+
+  xnext_line_fits : (dev_text : List ℕ) → Gives (Fits before) (rules.xnext_line before dev_text)
+  xnext_line_fits dev_text =
+      gives_then _ _ _ (dev_declared before dev_text) (λ dev lt.
+      gives_then _ _ _ (gives_passed (not (is_port before dev)) UnknownName) (λ _ known.
+      step_fits_made (Xnext (dev_plan before.plan.devs dev).pair (dev_plan before.plan.devs dev).side (dev_plan before.plan.devs dev).queue dev)
+      (inr (record {
+        port = port_is_there before.plan.switches dev (not-false (is_port before dev) known);
+        device = record { declared = lt; its_pair = refl; its_side = refl; its_queue = refl };
+      }))))
+
   ethernet_permitted : (is_macro : Bool) (dev : ℕ) (dst : List ℕ) (kind : ℕ) (payload : List ℕ) → dev < length before.plan.devs → IsPayload dst kind payload
       → All (IsPermitted before.plan) (ethernet_steps before.plan is_macro dev dst kind payload)
   ethernet_permitted true dev dst kind payload lt p =
@@ -241,11 +275,13 @@ module _ (before : Before) (part : before.part ≡ Declarations → ⊥) (device
   one_word_fits : (word a : List ℕ) → Gives (Fits before) (rules.line_of_one before word a)
   unfolding PairSteps
   one_word_fits word a =
-      gives_if _ (bytes_eq word (codes "wake")) _ _ (wake_line_fits a) (gives_known _ (rules.pair_step word) _ (λ step e. pair_step_fits step (pair_steps before.plan word step e) a))
+      gives_if _ (bytes_eq word (codes "wake")) _ _ (wake_line_fits a)
+      (gives_if _ (bytes_eq word (codes "xnext")) _ _ (xnext_line_fits a) (gives_known _ (rules.pair_step word) _ (λ step e. pair_step_fits step (pair_steps before.plan word step e) a)))
 
   two_words_fit : (word a b : List ℕ) → Gives (Fits before) (rules.line_of_two before word a b)
   unfolding SideSteps
-  two_words_fit word a b = gives_known _ (rules.side_steps word) _ (λ steps e. side_line_fits steps (side_steps before.plan word steps e) a b)
+  two_words_fit word a b =
+      gives_if _ (bytes_eq word (codes "relay")) _ _ (relay_line_fits a b) (gives_known _ (rules.side_steps word) _ (λ steps e. side_line_fits steps (side_steps before.plan word steps e) a b))
 
   three_words_fit : (word a b c : List ℕ) → Gives (Fits before) (rules.line_of_three before word a b c)
   unfolding PlacedSteps QueueSteps

@@ -14,7 +14,7 @@ use Rattle.script_words.specs.Before.{Before}
 use Rattle.script_words.specs.Compact.{given_of, flood_of}
 use Rattle.script_words.specs.TrafficLines.{flood_frame}
 use Rattle.script_words.specs.declared.line_gives.Given.{Given}
-use Rattle.script_words.specs.declared.line_gives.Given.TheVariants.{Nothing, Host, Pair, Device, Class, StepsBegin, TrafficBegins, Frame, Flood, Break}
+use Rattle.script_words.specs.declared.line_gives.Given.TheVariants.{Nothing, Host, Pair, Device, Class, Switch, StepsBegin, TrafficBegins, Frame, Flood, Break}
 use Rattle.script_plan.specs.Sound.{Suits}
 use Rattle.script_plan.proofs.Floods.{flood_frames, flood_bytes, length_flood_frame}
 use Rattle.script_text.specs.SoundLines.{Held}
@@ -45,9 +45,10 @@ break_suits before pair held fits =
 pub suits : (before : Before) (given : Given) → Held before → Fits before (given_of given) → Suits before given
 suits before Nothing held fits = tt
 suits before (Host name) held fits = (fits.is_new, fits.few)
-suits before (Pair pair) held fits = (fits.is_new, fits.few, fits.fits)
+suits before (Pair pair hosts) held fits = (fits.is_new, fits.few, fits.fits)
 suits before (Device dev) held fits = (fits.is_new, fits.few, fits.fits)
 suits before (Class name class) held fits = (fits.queue, fits.small)
+suits before (Switch switch) held fits = (fits.is_new, fits.few, fits.fits)
 suits before StepsBegin held fits = tt
 suits before TrafficBegins held fits = tt
 suits before (Frame lane frame) held fits = let frames = fits.few_frames in let bytes = fits.few_bytes in (omega arith, omega arith)

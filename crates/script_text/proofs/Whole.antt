@@ -2,24 +2,27 @@
 use Rattle.std.proofs.Common.{◌≡◌, ℕ, zero, suc, ◌+◌, ◌<◌, ◌≤◌, ◌==◌, true, false, not, ◌&&◌, cond, inl, inr, Result, Ok, Err, List, [], ◌∷◌, ◌++◌, length, get_or, map, slice_set, refl, sym, ◌∙◌, ap, subst, arith}
 use Rattle.std.proofs.Math.Seq.{get_or-append_seam}
 use Rattle.std.proofs.lemmas.Bool.{eq-eqb, and_from, or_parts, both_ways, cases_lt}
-use Rattle.std.proofs.lemmas.List.{get_or_append_left, length-append, length-map}
+use Rattle.std.proofs.lemmas.List.{append-nil, get_or_append_left, length-append, length-map}
+use Rattle.std.proofs.lemmas.List.Concat.{flat_map-append}
 use Rattle.std.proofs.lemmas.List.Elements.{All-push, All-set, All-weaker, All-nil, All-map, All-append, All-from_get_or}
 use Rattle.std.proofs.lemmas.List.Sums.{sum_by-append}
-use Rattle.std.specs.List.{All, list_any, slice_split}
+use Rattle.std.specs.List.{All, AllPairs, list_any, slice_split}
 use Rattle.step_kinds.specs.declared.names.Side.{Side}
 use Rattle.step_kinds.specs.declared.names.Side.TheVariants.{A, B}
 use Rattle.step_kinds.specs.declared.plan.PairPlan.{PairPlan}
 use Rattle.step_kinds.specs.declared.plan.DevPlan.{DevPlan}
 use Rattle.step_kinds.specs.declared.plan.Line.{Line}
+use Rattle.step_kinds.specs.declared.plan.SwitchPlan.{SwitchPlan}
 use Rattle.step_kinds.specs.declared.plan.Plan.{Plan}
 use Rattle.step_kinds.specs.declared.plan.Traffic.{Traffic}
 use Rattle.step_kinds.specs.declared.plan.Traffic.TheVariants.{Send, Break as LinkLoss}
 use Rattle.step_kinds.specs.declared.steps.Step.{Step}
-use Rattle.plan_model.specs.DeclaredPlans.{IsPair, IsDevice, IsDeclared, IsPermitted, SameQueue}
-use Rattle.plan_model.proofs.PermittedSteps.{with_lists, queue_of_other, permitted_by_other}
-use Rattle.plan_model.specs.Plans.{pair_plan, dev_plan, no_pair, no_dev}
+use Rattle.plan_model.specs.DeclaredPlans.{IsPair, IsDevice, IsDeclared, SameQueue}
+use Rattle.plan_model.proofs.PermittedSteps.{with_lists, queue_of_other, switches_of_other, makeable_by_other}
+use Rattle.plan_model.specs.Plans.{pair_plan, dev_plan, ports_in, no_pair, no_dev}
+use Rattle.plan_model.specs.Switches.{AreSwitches, IsMakeable, IsSwitch}
 use Rattle.plan_model.specs.TrafficPlans.{frames_in, bytes_in, is_break_of, IsTraffic, IsWhole}
-use Rattle.script_words.specs.Before.{Before, nothing_before, with_given, with_class, Given, Nothing, Host, APair, ADevice, AClass, StepsBegin, TrafficBegins, MoreSteps, MoreTraffic}
+use Rattle.script_words.specs.Before.{Before, nothing_before, with_given, with_class, Given, Nothing, Host, APair, ADevice, AClass, ASwitch, StepsBegin, TrafficBegins, MoreSteps, MoreTraffic}
 use Rattle.script_words.specs.Declarations.{sits_on, same_side}
 use Rattle.script_words.specs.Words.{lines_of, words_of, is_skipped, is_text}
 use Rattle.script_words.specs.declared.fault.Cause.{Cause}
@@ -27,41 +30,42 @@ use Rattle.script_words.specs.declared.fault.Cause.TheVariants.{NotText, BadHead
 use Rattle.script_words.specs.declared.fault.ScriptFault.{ScriptFault}
 use Rattle.script_words.specs.declared.parts.Part.{Part}
 use Rattle.script_words.specs.declared.parts.Part.TheVariants.{Declarations, Steps, Traffic as TrafficPart}
+use Rattle.script_words.specs.declared.parts.PairHosts.{PairHosts}
 use Rattle.script_words.specs.declared.parts.QueueName.{QueueName}
 use Rattle.script_plan.proofs.Classes.{length-set_pairs}
 use Rattle.script_plan.proofs.Floods.{sum-map-append}
-use Rattle.script_plan.proofs.Soundness.{device_stays, queue_stays, class_fits, queue_classed}
+use Rattle.script_plan.proofs.Soundness.{device_stays, queue_stays, switch_stays, class_fits, queue_classed}
 use Rattle.script_text.specs.SoundLines.{Held, Filled}
 use Rattle.script_text.specs.ParseClauses.{after_line}
 use Rattle.script_text.specs.Script.{header_line, is_header, words_line, line_gives, read_lines, plan_of, script_of}
 use Rattle.script_text.proofs.DeclarationFits.{declaration_fits}
-use Rattle.script_text.proofs.Fits.{Fits, AddsPair, AddsDevice, AddsClass, AddsSteps, AddsTraffic}
+use Rattle.script_text.proofs.Fits.{Fits, AddsPair, AddsDevice, AddsClass, AddsSwitch, AddsSteps, AddsTraffic}
 use Rattle.script_text.proofs.Gives.{Gives, gives_ok, gives_then, gives_passed, gives_if}
 use Rattle.script_text.proofs.LinesRead.{then_lines, next_line}
 use Rattle.script_text.proofs.StepFits.{step_fits}
 use Rattle.script_text.proofs.TrafficFits.{traffic_fits}
 use Rattle.script_text.proofs.WordFacts.{filter_filled}
 
--- Other steps and traffic beside the same pairs and devices
+-- Other switches, steps and traffic beside the same pairs and devices
 
-module _ (plan : Plan) (steps : List Line) (traffic : List Traffic) where
-  traffic_in : (item : Traffic) → IsTraffic plan item → IsTraffic (with_lists plan steps traffic) item
+module _ (plan : Plan) (switches : List SwitchPlan) (steps : List Line) (traffic : List Traffic) where
+  traffic_in : (item : Traffic) → IsTraffic plan item → IsTraffic (with_lists plan switches steps traffic) item
   traffic_in (Send lane frame) h = (record { declared = h.0.declared; may = h.0.may; among = h.0.among; short = h.0.short }, h.1, h.2)
   traffic_in (LinkLoss pair) h = h
 
-  declared_in : IsDeclared plan → IsDeclared (with_lists plan steps traffic)
+  declared_in : IsDeclared plan → IsDeclared (with_lists plan switches steps traffic)
   declared_in h = record {
     few_pairs = h.few_pairs;
     pairs = h.pairs;
     few_devices = h.few_devices;
-    devices = λ k lt. device_stays plan (with_lists plan steps traffic) (queue_of_other plan steps traffic) (dev_plan plan.devs k) (h.devices k lt);
+    devices = λ k lt. device_stays plan (with_lists plan switches steps traffic) (queue_of_other plan switches steps traffic) (dev_plan plan.devs k) (h.devices k lt);
     one_on_a_queue = h.one_on_a_queue;
   }
 
 -- A line of each kind
 
-no_steps : (plan : Plan) (steps : List Line) → steps ≡ [] → All (λ line. IsPermitted plan line.step) steps
-no_steps plan steps e = let P : List Line → Type 0 = All (λ line. IsPermitted plan line.step) in subst P (sym e) (All-nil (λ line. IsPermitted plan line.step))
+no_steps : (plan : Plan) (steps : List Line) → steps ≡ [] → All (λ line. IsMakeable plan line.step) steps
+no_steps plan steps e = let P : List Line → Type 0 = All (λ line. IsMakeable plan line.step) in subst P (sym e) (All-nil (λ line. IsMakeable plan line.step))
 
 no_traffic : (plan : Plan) (traffic : List Traffic) → traffic ≡ [] → All (IsTraffic plan) traffic
 no_traffic plan traffic e = let P : List Traffic → Type 0 = All (IsTraffic plan) in subst P (sym e) (All-nil (IsTraffic plan))
@@ -71,12 +75,18 @@ no_traffic plan traffic e = let P : List Traffic → Type 0 = All (IsTraffic pla
 abbrev with_declared : Plan → List PairPlan → List DevPlan → Plan
 with_declared plan pairs devs = record plan { pairs = pairs; devs = devs }
 
-declared_more : (before : Before) (pairs : List PairPlan) (devs : List DevPlan) → Held before → before.part ≡ Declarations → IsDeclared (with_declared before.plan pairs devs)
-    → IsWhole (with_declared before.plan pairs devs)
-declared_more before pairs devs held part declared =
+switches_beside : (plan : Plan) (pairs : List PairPlan) (devs : List DevPlan) → length plan.devs ≤ length devs → AreSwitches plan → AreSwitches (with_declared plan pairs devs)
+switches_beside plan pairs devs more are =
+    let next : Plan = with_declared plan pairs devs in
+    record { few = are.few; each = All-weaker (IsSwitch plan) (IsSwitch next) (switch_stays plan next more) plan.switches are.each; apart = are.apart }
+
+declared_more : (before : Before) (pairs : List PairPlan) (devs : List DevPlan) → Held before → before.part ≡ Declarations → length before.plan.devs ≤ length devs
+    → IsDeclared (with_declared before.plan pairs devs) → IsWhole (with_declared before.plan pairs devs)
+declared_more before pairs devs held part more declared =
     let none = held.declarations_first part in
     record {
       declared = declared;
+      switches = switches_beside before.plan pairs devs more held.whole.switches;
       steps = no_steps (with_declared before.plan pairs devs) before.plan.steps none.0;
       few_steps = held.whole.few_steps;
       traffic = no_traffic (with_declared before.plan pairs devs) before.plan.traffic none.1;
@@ -85,15 +95,15 @@ declared_more before pairs devs held part declared =
       few_breaks = held.whole.few_breaks;
     }
 
-pair_kept : (n : ℕ) (before : Before) (pair : PairPlan) → Held before → AddsPair before pair → Held (with_given n before (APair pair))
-pair_kept n before pair held fits =
+pair_kept : (n : ℕ) (before : Before) (pair : PairPlan) (hosts : PairHosts) → Held before → AddsPair before pair → Held (with_given n before (APair pair hosts))
+pair_kept n before pair hosts held fits =
     let plan : Plan = before.plan in
     let next : Plan = record before.plan { pairs = before.plan.pairs ++ pair ∷ [] } in
     let whole : IsWhole before.plan = held.whole in
     let all : All IsPair (before.plan.pairs ++ pair ∷ []) =
     All-push IsPair before.plan.pairs pair (All-from_get_or IsPair before.plan.pairs no_pair whole.declared.pairs) fits.fits in
     record {
-      whole = declared_more before (before.plan.pairs ++ pair ∷ []) before.plan.devs held fits.part (record {
+      whole = declared_more before (before.plan.pairs ++ pair ∷ []) before.plan.devs held fits.part (omega arith) (record {
         few_pairs = let long = length-append before.plan.pairs (pair ∷ []) in let room = fits.few in omega arith;
         pairs = λ k lt. all k no_pair lt;
         few_devices = whole.declared.few_devices;
@@ -160,7 +170,7 @@ device_kept n before dev held fits =
     let all : All (IsDevice next) (before.plan.devs ++ dev ∷ []) =
     All-push (IsDevice next) before.plan.devs dev (All-weaker (IsDevice plan) (IsDevice next) stays before.plan.devs (All-from_get_or (IsDevice plan) before.plan.devs no_dev whole.declared.devices)) (stays dev fits.fits) in
     record {
-      whole = declared_more before before.plan.pairs (before.plan.devs ++ dev ∷ []) held fits.part (record {
+      whole = declared_more before before.plan.pairs (before.plan.devs ++ dev ∷ []) held fits.part (let long = length-append before.plan.devs (dev ∷ []) in omega arith) (record {
         few_pairs = whole.declared.few_pairs;
         pairs = whole.declared.pairs;
         few_devices = let long = length-append before.plan.devs (dev ∷ []) in let room = fits.few in omega arith;
@@ -181,7 +191,7 @@ class_kept n before name class held fits =
     All-set IsPair before.plan.pairs name.pair now (class_fits (pair_plan before.plan name.pair) name.side name.queue class (whole.declared.pairs name.pair fits.queue.declared) fits.small)
     (All-from_get_or IsPair before.plan.pairs no_pair whole.declared.pairs) in
     record {
-      whole = declared_more before (slice_set before.plan.pairs name.pair now) before.plan.devs held fits.part (record {
+      whole = declared_more before (slice_set before.plan.pairs name.pair now) before.plan.devs held fits.part (omega arith) (record {
         few_pairs = let few = whole.declared.few_pairs in omega arith;
         pairs = λ k lt. all k no_pair lt;
         few_devices = whole.declared.few_devices;
@@ -191,24 +201,54 @@ class_kept n before name class held fits =
       declarations_first = held.declarations_first;
     }
 
+ports_of_more : (switches : List SwitchPlan) (switch : SwitchPlan) → ports_in (switches ++ switch ∷ []) ≡ ports_in switches ++ switch.ports
+ports_of_more switches switch = flat_map-append (λ s. s.ports) switches (switch ∷ []) ∙ ap (λ ports. ports_in switches ++ ports) (append-nil switch.ports)
+
+switch_kept : (n : ℕ) (before : Before) (switch : SwitchPlan) → Held before → AddsSwitch before switch → Held (with_given n before (ASwitch switch))
+switch_kept n before switch held fits =
+    let plan : Plan = before.plan in
+    let more : List SwitchPlan = before.plan.switches ++ switch ∷ [] in
+    let next : Plan = with_lists plan more before.plan.steps before.plan.traffic in
+    let whole : IsWhole before.plan = held.whole in
+    let none = held.declarations_first fits.part in
+    record {
+      whole = record {
+        declared = declared_in plan more before.plan.steps before.plan.traffic whole.declared;
+        switches = record {
+          few = let long = length-append before.plan.switches (switch ∷ []) in let room = fits.few in omega arith;
+          each = All-push (IsSwitch next) before.plan.switches switch
+              (All-weaker (IsSwitch plan) (IsSwitch next) (switch_stays plan next (omega arith)) before.plan.switches whole.switches.each) (switch_stays plan next (omega arith) switch fits.fits);
+          apart = subst (AllPairs (λ (one other : ℕ). one ≡ other → ⊥)) (sym (ports_of_more before.plan.switches switch)) fits.ports.apart;
+        };
+        steps = no_steps next before.plan.steps none.0;
+        few_steps = whole.few_steps;
+        traffic = no_traffic next before.plan.traffic none.1;
+        few_frames = whole.few_frames;
+        few_bytes = whole.few_bytes;
+        few_breaks = whole.few_breaks;
+      };
+      declarations_first = held.declarations_first;
+    }
+
 steps_kept : (n : ℕ) (before : Before) (steps : List Step) → Held before → AddsSteps before steps → Held (with_given n before (MoreSteps steps))
 steps_kept n before steps held fits =
     let plan : Plan = before.plan in
     let whole : IsWhole before.plan = held.whole in
     let lines : List Line = map (λ step. record { line = n; step = step }) steps in
     let more : List Line = before.plan.steps ++ lines in
-    let next : Plan = with_lists plan more before.plan.traffic in
-    let P : Line → Type 0 = λ line. IsPermitted next line.step in
+    let next : Plan = with_lists plan plan.switches more before.plan.traffic in
+    let P : Line → Type 0 = λ line. IsMakeable next line.step in
     let long : length more ≡ length before.plan.steps + length lines = length-append before.plan.steps lines in
     let same : length lines ≡ length steps = length-map steps (λ step. record { line = n; step = step }) in
     record {
       whole = record {
-        declared = declared_in plan more before.plan.traffic whole.declared;
+        declared = declared_in plan plan.switches more before.plan.traffic whole.declared;
+        switches = switches_of_other plan more before.plan.traffic whole.switches;
         steps = All-append P before.plan.steps lines
-            (All-weaker (λ line. IsPermitted plan line.step) P (λ line h. permitted_by_other plan more before.plan.traffic line.step h) before.plan.steps whole.steps)
-            (All-map P (λ step. record { line = n; step = step }) steps (λ k d lt. permitted_by_other plan more before.plan.traffic (get_or steps k d) (fits.permitted k d lt)));
+            (All-weaker (λ line. IsMakeable plan line.step) P (λ line h. makeable_by_other plan more before.plan.traffic line.step h) before.plan.steps whole.steps)
+            (All-map P (λ step. record { line = n; step = step }) steps (λ k d lt. makeable_by_other plan more before.plan.traffic (get_or steps k d) (fits.makeable k d lt)));
         few_steps = let few = fits.few in omega arith;
-        traffic = All-weaker (IsTraffic plan) (IsTraffic next) (traffic_in plan more before.plan.traffic) before.plan.traffic whole.traffic;
+        traffic = All-weaker (IsTraffic plan) (IsTraffic next) (traffic_in plan plan.switches more before.plan.traffic) before.plan.traffic whole.traffic;
         few_frames = whole.few_frames;
         few_bytes = whole.few_bytes;
         few_breaks = whole.few_breaks;
@@ -221,12 +261,13 @@ traffic_kept n before traffic held fits =
     let plan : Plan = before.plan in
     let whole : IsWhole before.plan = held.whole in
     let more : List Traffic = before.plan.traffic ++ traffic in
-    let next : Plan = with_lists plan before.plan.steps more in
-    let stays : (item : Traffic) → IsTraffic plan item → IsTraffic next item = traffic_in plan before.plan.steps more in
+    let next : Plan = with_lists plan plan.switches before.plan.steps more in
+    let stays : (item : Traffic) → IsTraffic plan item → IsTraffic next item = traffic_in plan plan.switches before.plan.steps more in
     record {
       whole = record {
-        declared = declared_in plan before.plan.steps more whole.declared;
-        steps = All-weaker (λ line. IsPermitted plan line.step) (λ line. IsPermitted next line.step) (λ line h. permitted_by_other plan before.plan.steps more line.step h) before.plan.steps whole.steps;
+        declared = declared_in plan plan.switches before.plan.steps more whole.declared;
+        switches = switches_of_other plan before.plan.steps more whole.switches;
+        steps = All-weaker (λ line. IsMakeable plan line.step) (λ line. IsMakeable next line.step) (λ line h. makeable_by_other plan before.plan.steps more line.step h) before.plan.steps whole.steps;
         few_steps = whole.few_steps;
         traffic = All-append (IsTraffic next) before.plan.traffic traffic
             (All-weaker (IsTraffic plan) (IsTraffic next) stays before.plan.traffic whole.traffic) (All-weaker (IsTraffic plan) (IsTraffic next) stays traffic fits.items);
@@ -240,9 +281,10 @@ traffic_kept n before traffic held fits =
 pub kept : (n : ℕ) (before : Before) (given : Given) → Held before → Fits before given → Held (with_given n before given)
 kept n before Nothing held fits = held
 kept n before (Host name) held fits = record { whole = held.whole; declarations_first = held.declarations_first }
-kept n before (APair pair) held fits = pair_kept n before pair held fits
+kept n before (APair pair hosts) held fits = pair_kept n before pair hosts held fits
 kept n before (ADevice dev) held fits = device_kept n before dev held fits
 kept n before (AClass name class) held fits = class_kept n before name class held fits
+kept n before (ASwitch switch) held fits = switch_kept n before switch held fits
 kept n before StepsBegin held fits = record { whole = held.whole; declarations_first = λ e. cc e }
 kept n before TrafficBegins held fits = record { whole = held.whole; declarations_first = λ e. cc e }
 kept n before (MoreSteps steps) held fits = steps_kept n before steps held fits
@@ -252,7 +294,8 @@ pub nothing_held : Held nothing_before
 nothing_held = record {
   whole = record {
     declared = record { few_pairs = omega arith; pairs = λ k lt. absurd (omega arith); few_devices = omega arith; devices = λ k lt. absurd (omega arith); one_on_a_queue = λ j k lt. absurd (omega arith) };
-    steps = All-nil (λ line. IsPermitted nothing_before.plan line.step);
+    switches = record { few = omega arith; each = All-nil (IsSwitch nothing_before.plan); apart = λ i j d lt below. absurd (omega arith) };
+    steps = All-nil (λ line. IsMakeable nothing_before.plan line.step);
     few_steps = omega arith;
     traffic = All-nil (IsTraffic nothing_before.plan);
     few_frames = omega arith;
@@ -271,8 +314,8 @@ pub words_fit : (before : Before) → Held before → (part : Part) → before.p
 words_fit before held Declarations is [] h = gives_ok (Fits before) Nothing tt
 words_fit before held Steps is [] h = gives_ok (Fits before) Nothing tt
 words_fit before held TrafficPart is [] h = gives_ok (Fits before) Nothing tt
-words_fit before held Declarations is (word ∷ words) h = declaration_fits before is word words
-words_fit before held Steps is (word ∷ words) h = step_fits before (λ e. cc (sym is ∙ e)) (all_devices before held) word words h.1
+words_fit before held Declarations is (word ∷ words) h = declaration_fits before is held.whole.switches.apart word words
+words_fit before held Steps is (word ∷ words) h = step_fits before (λ e. cc (sym is ∙ e)) (all_devices before held) held.whole.switches.each word words h.1
 words_fit before held TrafficPart is (word ∷ words) h =
     traffic_fits before (λ e. cc (sym is ∙ e)) held.whole.few_breaks held.whole.few_frames held.whole.few_bytes word words h.1
 

@@ -11,7 +11,7 @@ use Rattle.hex.proofs.HexLemmas.{decode_of-ok}
 use Rattle.step_kinds.specs.declared.names.Side.{Side}
 use Rattle.plan_model.specs.DeclaredPlans.{IsQueueOf}
 use Rattle.plan_model.specs.Plans.{side_plan, pair_plan}
-use Rattle.script_words.specs.Before.{Before, number_named, has_name, pair_names, dev_names, pair_word, dev_word, queue_word, named_side, named_queue}
+use Rattle.script_words.specs.Before.{Before, number_named, has_name, pair_names, dev_names, switch_names, pair_word, dev_word, switch_word, queue_word, named_side, named_queue}
 use Rattle.script_words.specs.Declarations.{new_name}
 use Rattle.script_words.specs.Tests.{found_or}
 use Rattle.script_words.specs.Words.{name_word, side_word, number_word, number_between, hex_word, hex_of, kind_word, high_low, is_filled}
@@ -57,6 +57,12 @@ pub dev_declared : (before : Before) (word : List ℕ) → Gives (λ dev. dev < 
 dev_declared before word =
     gives_then _ _ _ (gives_any (name_word word)) (λ name _. record {
       holds = λ n e. let lt : n < length (dev_names before) = found_below (dev_names before) name n e in let same = length-map before.plan.devs (λ dev. dev.name) in omega arith;
+    })
+
+pub switch_declared : (before : Before) (word : List ℕ) → Gives (λ switch. switch < length before.plan.switches) (switch_word before word)
+switch_declared before word =
+    gives_then _ _ _ (gives_any (name_word word)) (λ name _. record {
+      holds = λ n e. let lt : n < length (switch_names before) = found_below (switch_names before) name n e in let same = length-map before.plan.switches (λ switch. switch.name) in omega arith;
     })
 
 queue_among : (before : Before) (pair : ℕ) (side : Side) (word : List ℕ) → Gives (λ queue. queue < (side_plan (pair_plan before.plan pair) side).queues) (queue_word before pair side word)

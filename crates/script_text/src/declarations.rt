@@ -1,4 +1,4 @@
-//! Declarations: hosts, pairs, devices and classes.
+//! Declarations: hosts, pairs, devices and classes. Those of switches stand in `switch_lines`.
 #![tactic(auto, unfolding(script_words::specs::Tests::and_then))]
 
 ghost use Rattle.std.specs.Prelude.{◌≡◌, ◌∷◌, map, codes, IfOk};
@@ -9,11 +9,12 @@ ghost use Rattle.script_words.specs.Words.{hex_of};
 
 use crate::lines::LineResult;
 use crate::lookups::{QueueWords, new_device, new_host, new_pair, read_host, read_queue_name};
+use crate::switch_lines::switch_words;
 use script_plan::Reader;
 use script_words::options::{goes_together, pair_with, read_settings};
 use script_words::settings::behind_key;
 use script_words::words::{read_array, read_number, read_number_between};
-use script_words::{Cause, Given, LineError};
+use script_words::{Cause, Given, LineError, PairHosts};
 use std::alloc::{AllocError, Global};
 use step_kinds::limits::{MOST_DEVICES, MOST_HOSTS, MOST_PAIRS};
 use step_kinds::{DevPlan, PairPlan};
@@ -63,6 +64,7 @@ fn pair_line(
     }
     Ok(Given::Pair {
         pair: boxed(alloc, pair)?,
+        hosts: PairHosts { a, b },
     })
 }
 
@@ -204,6 +206,8 @@ pub fn declaration_line(alloc: Global, before: &Reader, word: &[u8], words: &[&[
         Ok(dev_words(before, words)?)
     } else if word == b"class".as_slice() {
         Ok(class_words(before, words)?)
+    } else if word == b"switch".as_slice() {
+        switch_words(alloc, before, words)
     } else if word == b"steps".as_slice() {
         Ok(lone_word(words, Given::StepsBegin)?)
     } else if word == b"traffic".as_slice() {

@@ -8,6 +8,7 @@ pub mod lines;
 mod lookups;
 mod script;
 mod step_lines;
+mod switch_lines;
 mod traffic_lines;
 
 pub use error::ParseError;

@@ -3,7 +3,7 @@
 
 ghost use Rattle.std.specs.Prelude.{◌≡◌, ◌<◌, length, IfOk};
 ghost use Rattle.plan_model.specs.Plans.{side_plan, pair_plan, dev_plan};
-ghost use Rattle.script_words.specs.Before.{pair_word, dev_word, queue_word, named_side, named_queue, pair_names, dev_names};
+ghost use Rattle.script_words.specs.Before.{pair_word, dev_word, switch_word, queue_word, named_side, named_queue, pair_names, dev_names, switch_names};
 ghost use Rattle.script_words.specs.Declarations.{host_word, new_name};
 
 use script_plan::rings::side_of;
@@ -59,6 +59,13 @@ pub fn new_device(before: &Reader, word: &[u8]) -> Result<Name, Cause>
     new_among(before.devs().names(), word)
 }
 
+/// A switch that isn't declared yet.
+pub fn new_switch(before: &Reader, word: &[u8]) -> Result<Name, Cause>
+    ensures { result ≡ new_name (switch_names before.now) word.now }
+{
+    new_among(before.switches().names(), word)
+}
+
 /// A host that is declared.
 pub fn read_host(before: &Reader, word: &[u8]) -> Result<Name, Cause>
     ensures { result ≡ host_word before.now word.now }
@@ -91,6 +98,17 @@ pub fn read_device(before: &Reader, word: &[u8]) -> Result<u32, Cause>
         return Err(Cause::BadName);
     }
     before.devs().number(word).ok_or(Cause::UnknownName)
+}
+
+/// The number of the switch that a word names.
+pub fn read_switch(before: &Reader, word: &[u8]) -> Result<u32, Cause>
+    ensures value { result ≡ switch_word before.now word.now }
+    ensures declared { IfOk result (λ switch. switch < length before.now.plan.switches) }
+{
+    if !is_name(word) {
+        return Err(Cause::BadName);
+    }
+    before.switches().number(word).ok_or(Cause::UnknownName)
 }
 
 /// The side of a pair that two words name.

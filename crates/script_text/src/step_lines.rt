@@ -12,7 +12,7 @@ ghost use Rattle.script_text.specs.ParseClauses.{Adds};
 
 use crate::lines::AddResult;
 use crate::lookups::{
-    QueueWords, SideWords, read_device, read_pair, read_queue_name, read_side_name,
+    QueueWords, SideWords, read_device, read_pair, read_queue_name, read_side_name, read_switch,
 };
 use script_plan::Reader;
 use script_plan::rings::{posts_in, side_of};
@@ -171,6 +171,45 @@ fn wake_line(before: &mut Reader, line: u32, dev: &[u8]) -> AddResult
     let dev = read_device(before, dev)?;
     let device = before.device(dev);
     let step = Step::Wake {
+        pair: device.pair,
+        side: device.side,
+        queue: device.queue,
+        dev,
+    };
+    add_step(before, line, step)
+}
+
+/// `relay SWITCH PORT`
+fn relay_line(before: &mut Reader, line: u32, switch: &[u8], port: &[u8]) -> AddResult
+    ensures { Adds line before.old before.new result (rules.relay_line before.old switch.now port.now) }
+{
+    let switch = read_switch(before, switch)?;
+    let port = read_number(port)?;
+    let ports = before.switch(switch).ports.as_slice();
+    if port as usize >= ports.len() {
+        return Err(LineError::Fault(Cause::UnknownName));
+    }
+    let device = before.device(ports[port as usize]);
+    let step = Step::Relay {
+        pair: device.pair,
+        side: device.side,
+        queue: device.queue,
+        switch,
+        port,
+    };
+    add_step(before, line, step)
+}
+
+/// `xnext DEV`
+fn xnext_line(before: &mut Reader, line: u32, dev: &[u8]) -> AddResult
+    ensures { Adds line before.old before.new result (rules.xnext_line before.old dev.now) }
+{
+    let dev = read_device(before, dev)?;
+    if !before.is_port(dev) {
+        return Err(LineError::Fault(Cause::UnknownName));
+    }
+    let device = before.device(dev);
+    let step = Step::Xnext {
         pair: device.pair,
         side: device.side,
         queue: device.queue,
@@ -345,6 +384,9 @@ fn line_of_one(before: &mut Reader, line: u32, word: &[u8], a: &[u8]) -> AddResu
     if word == b"wake".as_slice() {
         return wake_line(before, line, a);
     }
+    if word == b"xnext".as_slice() {
+        return xnext_line(before, line, a);
+    }
     match pair_word_of(word) {
         Some(step) => pair_step_line(before, line, step, a),
         None => Err(LineError::Fault(Cause::UnknownWord)),
@@ -352,11 +394,15 @@ fn line_of_one(before: &mut Reader, line: u32, word: &[u8], a: &[u8]) -> AddResu
 }
 
 /// A line of two more words.
-fn line_of_two(before: &mut Reader, line: u32, word: &[u8], of: SideWords<'_>) -> AddResult
-    ensures { Adds line before.old before.new result (rules.line_of_two before.old word.now of.entry.pair.now of.entry.side.now) }
+fn line_of_two(before: &mut Reader, line: u32, word: &[u8], a: &[u8], b: &[u8]) -> AddResult
+    ensures { Adds line before.old before.new result (rules.line_of_two before.old word.now a.now b.now) }
 {
+    if word == b"relay".as_slice() {
+        return relay_line(before, line, a, b);
+    }
+    let (pair, side) = (a, b);
     match side_word_of(word) {
-        Some(steps) => side_line(before, line, steps, of),
+        Some(steps) => side_line(before, line, steps, SideWords { pair, side }),
         None => Err(LineError::Fault(Cause::UnknownWord)),
     }
 }
@@ -461,7 +507,7 @@ pub fn step_line(
     match words {
         [] => lone_line(alloc, before, line, word),
         [a] => line_of_one(before, line, word, a),
-        [pair, side] => line_of_two(before, line, word, SideWords { pair, side }),
+        [a, b] => line_of_two(before, line, word, a, b),
         [pair, side, queue] => {
             line_of_three(before, line, word, QueueWords { pair, side, queue })
         }

@@ -7,6 +7,7 @@ use Rattle.step_kinds.specs.declared.names.Side.{Side}
 use Rattle.step_kinds.specs.declared.names.Side.TheVariants.{A, B}
 use Rattle.step_kinds.specs.declared.plan.PairPlan.{PairPlan}
 use Rattle.step_kinds.specs.declared.plan.DevPlan.{DevPlan}
+use Rattle.step_kinds.specs.declared.plan.SwitchPlan.{SwitchPlan}
 use Rattle.step_kinds.specs.declared.plan.Plan.{Plan}
 use Rattle.step_kinds.specs.declared.plan.Traffic.{Traffic}
 use Rattle.step_kinds.specs.declared.steps.Step.{Step}
@@ -15,28 +16,32 @@ use Rattle.script_words.specs.Tests.{◌>>=◌, fault_if, found_or}
 use Rattle.script_words.specs.Words.{name_word, side_word, number_word}
 use Rattle.script_words.specs.declared.parts.Part.{Part}
 use Rattle.script_words.specs.declared.parts.Part.TheVariants.{Declarations, Steps, Traffic as TrafficPart}
+use Rattle.script_words.specs.declared.parts.PairHosts.{PairHosts}
 use Rattle.script_words.specs.declared.parts.SideName.{SideName}
 use Rattle.script_words.specs.declared.parts.QueueName.{QueueName}
 use Rattle.script_words.specs.declared.fault.Cause.{Cause}
 use Rattle.script_words.specs.declared.fault.Cause.TheVariants.{UnknownName}
 
--- The part that the next line stands in, the names of the hosts, the plan so far, and the queues whose class was declared.
+-- The part that the next line stands in, the names of the hosts, the plan so far, the hosts of its pairs, and the queues whose class
+-- was declared.
 pub record Before : Type 0 where
   pub part : Part
   pub hosts : List (List ℕ)
   pub plan : Plan
+  pub pair_hosts : List PairHosts
   pub classed : List QueueName
 
 abbrev pub nothing_before : Before
-nothing_before = record { part = Declarations; hosts = []; plan = record { pairs = []; devs = []; steps = []; traffic = [] }; classed = [] }
+nothing_before = record { part = Declarations; hosts = []; plan = record { pairs = []; devs = []; switches = []; steps = []; traffic = [] }; pair_hosts = []; classed = [] }
 
 -- What one line gives.
 pub data Given : Type 0 where
   Nothing : Given
   Host : (name : List ℕ) → Given
-  APair : (pair : PairPlan) → Given
+  APair : (pair : PairPlan) (hosts : PairHosts) → Given
   ADevice : (dev : DevPlan) → Given
   AClass : (queue : QueueName) (class : ℕ) → Given
+  ASwitch : (switch : SwitchPlan) → Given
   StepsBegin : Given
   TrafficBegins : Given
   MoreSteps : (steps : List Step) → Given
@@ -51,7 +56,8 @@ with_class pair B queue class = record pair { class_b = slice_set pair.class_b q
 abbrev pub with_given : ℕ → Before → Given → Before
 with_given n before Nothing = before
 with_given n before (Host name) = record before { hosts = before.hosts ++ name ∷ [] }
-with_given n before (APair pair) = record before { plan = record before.plan { pairs = before.plan.pairs ++ pair ∷ [] } }
+with_given n before (APair pair hosts) =
+    record before { plan = record before.plan { pairs = before.plan.pairs ++ pair ∷ [] }; pair_hosts = before.pair_hosts ++ hosts ∷ [] }
 with_given n before (ADevice dev) = record before { plan = record before.plan { devs = before.plan.devs ++ dev ∷ [] } }
 with_given n before (AClass name class) =
     record before {
@@ -61,6 +67,7 @@ with_given n before (AClass name class) =
           };
       classed = before.classed ++ name ∷ [];
     }
+with_given n before (ASwitch switch) = record before { plan = record before.plan { switches = before.plan.switches ++ switch ∷ [] } }
 with_given n before StepsBegin = record before { part = Steps }
 with_given n before TrafficBegins = record before { part = TrafficPart }
 with_given n before (MoreSteps steps) =
@@ -83,6 +90,9 @@ pair_names before = map (λ pair. pair.name) before.plan.pairs
 abbrev pub dev_names : Before → List (List ℕ)
 dev_names before = map (λ dev. dev.name) before.plan.devs
 
+abbrev pub switch_names : Before → List (List ℕ)
+switch_names before = map (λ switch. switch.name) before.plan.switches
+
 -- the number of the pair that a word names
 abbrev pub pair_word : Before → List ℕ → Result ℕ Cause
 pair_word before word = do
@@ -94,6 +104,12 @@ abbrev pub dev_word : Before → List ℕ → Result ℕ Cause
 dev_word before word = do
   name ← name_word word
   found_or (number_named (dev_names before) name) UnknownName
+
+-- the number of the switch that a word names
+abbrev pub switch_word : Before → List ℕ → Result ℕ Cause
+switch_word before word = do
+  name ← name_word word
+  found_or (number_named (switch_names before) name) UnknownName
 
 -- the queue of a side that a word names
 abbrev pub queue_word : Before → ℕ → Side → List ℕ → Result ℕ Cause

@@ -1,7 +1,7 @@
 -- The word of each cause for which a script is refused.
 use Rattle.std.specs.Prelude.{ℕ, List, codes}
 use Rattle.script_words.specs.declared.fault.Cause.{Cause}
-use Rattle.script_words.specs.declared.fault.Cause.TheVariants.{NotText, BadHeader, UnknownWord, BadNumber, BadName, Repeated, UnknownName, BadHex, BadGeometry, TooMany, BadPair}
+use Rattle.script_words.specs.declared.fault.Cause.TheVariants.{NotText, BadHeader, UnknownWord, BadNumber, BadName, Repeated, UnknownName, BadHex, BadGeometry, TooMany, BadPair, BadSwitch}
 
 abbrev pub cause_text : Cause → List ℕ
 cause_text NotText = codes "nottext"
@@ -15,3 +15,4 @@ cause_text BadHex = codes "badhex"
 cause_text BadGeometry = codes "badgeometry"
 cause_text TooMany = codes "toomany"
 cause_text BadPair = codes "badpair"
+cause_text BadSwitch = codes "badswitch"

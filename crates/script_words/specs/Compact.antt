@@ -7,14 +7,14 @@ use Rattle.step_kinds.specs.declared.plan.Traffic.TheVariants.{Send, Break as Li
 use Rattle.step_kinds.specs.declared.steps.Step.{Step}
 use Rattle.step_kinds.specs.declared.steps.Step.TheVariants.{Look, Copy, Clear, Ack, Post, Land, Offer}
 use Rattle.lane_model.specs.Lane.{count_from}
-use Rattle.script_words.specs.Before.{Given, Nothing, Host, APair, ADevice, AClass, StepsBegin, TrafficBegins, MoreTraffic}
+use Rattle.script_words.specs.Before.{Given, Nothing, Host, APair, ADevice, AClass, ASwitch, StepsBegin, TrafficBegins, MoreTraffic}
 use Rattle.script_words.specs.TrafficLines.{flood_frame}
 use Rattle.script_words.specs.declared.macros.Repeated.{Repeated}
 use Rattle.script_words.specs.declared.macros.Repeated.TheVariants.{Post as Posts, Land as Lands, Look as Looks, Copy as Copies, Clear as Clears, Ack as Acks, Offer as Offers}
 use Rattle.script_words.specs.declared.macros.Macro.{Macro}
 use Rattle.script_words.specs.declared.macros.Macro.TheVariants.{One, Posted, Again, Received}
 use Rattle.script_words.specs.declared.line_gives.Given.{Given as Compact}
-use Rattle.script_words.specs.declared.line_gives.Given.TheVariants.{Nothing as GivesNothing, Host as GivesHost, Pair as GivesPair, Device as GivesDevice, Class as GivesClass, StepsBegin as BeginsSteps, TrafficBegins as BeginsTraffic, Frame as GivesFrame, Flood as GivesFlood, Break as GivesBreak}
+use Rattle.script_words.specs.declared.line_gives.Given.TheVariants.{Nothing as GivesNothing, Host as GivesHost, Pair as GivesPair, Device as GivesDevice, Class as GivesClass, Switch as GivesSwitch, StepsBegin as BeginsSteps, TrafficBegins as BeginsTraffic, Frame as GivesFrame, Flood as GivesFlood, Break as GivesBreak}
 
 -- the step that is repeated
 abbrev pub step_again : Repeated → Step
@@ -45,9 +45,10 @@ flood_of lane count len = map (λ i. Send lane (flood_frame len i)) (count_from 
 abbrev pub given_of : Compact → Given
 given_of GivesNothing = Nothing
 given_of (GivesHost name) = Host name
-given_of (GivesPair pair) = APair pair.value
+given_of (GivesPair pair hosts) = APair pair.value hosts
 given_of (GivesDevice dev) = ADevice dev
 given_of (GivesClass queue class) = AClass queue class
+given_of (GivesSwitch switch) = ASwitch switch
 given_of BeginsSteps = StepsBegin
 given_of BeginsTraffic = TrafficBegins
 given_of (GivesFrame lane frame) = MoreTraffic (Send lane frame ∷ [])

@@ -1,19 +1,20 @@
--- Declarations: hosts, pairs, devices and classes. The tests of a line come in this order: the words from left to right, each one's
+-- Declarations: hosts, pairs, devices, classes and switches. The tests of a line come in this order: the words from left to right, each one's
 -- spelling, then what it names, then its range; then the line as a whole.
-use Rattle.std.specs.Prelude.{ℕ, ◌==◌, Bool, true, false, if◌then◌else◌, not, ◌&&◌, Result, Ok, Err, List, [], ◌∷◌, length, codes, nat_lt}
+use Rattle.std.specs.Prelude.{ℕ, ◌==◌, Bool, true, false, if◌then◌else◌, not, ◌&&◌, Result, Ok, Err, List, [], ◌∷◌, length, codes, nat_le, nat_lt}
 use Rattle.std.specs.List.{list_any}
 use Rattle.std.specs.Str.{bytes_eq}
-use Rattle.step_kinds.specs.Limits.{most_hosts, most_pairs, most_devices}
+use Rattle.step_kinds.specs.Limits.{most_hosts, most_pairs, most_devices, most_switches, least_ports, most_ports}
 use Rattle.step_kinds.specs.declared.names.Side.{Side}
 use Rattle.step_kinds.specs.declared.names.Side.TheVariants.{A, B}
 use Rattle.step_kinds.specs.declared.plan.DevPlan.{DevPlan}
-use Rattle.script_words.specs.Before.{Before, Given, Host, APair, ADevice, AClass, StepsBegin, TrafficBegins, has_name, pair_names, dev_names, named_queue}
+use Rattle.script_words.specs.Before.{Before, Given, Host, APair, ADevice, AClass, ASwitch, StepsBegin, TrafficBegins, has_name, pair_names, dev_names, switch_names, named_queue}
+use Rattle.script_words.specs.Ports.{on_one_host, ports_from}
 use Rattle.script_words.specs.Settings.{settings_from, pair_with, goes_together}
 use Rattle.script_words.specs.Tests.{◌>>=◌, fault_if, found_or}
 use Rattle.script_words.specs.Words.{name_word, number_word, number_between, hex_of, behind}
 use Rattle.script_words.specs.declared.parts.QueueName.{QueueName}
 use Rattle.script_words.specs.declared.fault.Cause.{Cause}
-use Rattle.script_words.specs.declared.fault.Cause.TheVariants.{UnknownWord, Repeated, UnknownName, BadGeometry, TooMany}
+use Rattle.script_words.specs.declared.fault.Cause.TheVariants.{UnknownWord, Repeated, UnknownName, BadGeometry, BadSwitch, TooMany}
 
 -- a name that isn't one of these yet
 abbrev pub new_name : List (List ℕ) → List ℕ → Result (List ℕ) Cause
@@ -46,7 +47,7 @@ pair_line before word host_a host_b options = do
   _ ← fault_if (bytes_eq a b) Repeated
   _ ← fault_if (not (goes_together (pair_with name settings))) BadGeometry
   _ ← fault_if (not (nat_lt (length before.plan.pairs) most_pairs)) TooMany
-  Ok (APair (pair_with name settings))
+  Ok (APair (pair_with name settings) (record { a = a; b = b }))
 
 -- a device's threshold behind its key
 abbrev pub threshold_word : List ℕ → List ℕ → Result ℕ Cause
@@ -90,6 +91,15 @@ class_line before pair_text side_text queue_text class_text = do
   _ ← fault_if (list_any (is_queue name.pair name.side name.queue) before.classed) Repeated
   Ok (AClass name class)
 
+-- `switch NAME DEV DEV..`
+abbrev pub switch_line : Before → List ℕ → List (List ℕ) → Result Given Cause
+switch_line before name_text dev_texts = do
+  name ← new_name (switch_names before) name_text
+  ports ← ports_from before [] dev_texts
+  _ ← fault_if (not (on_one_host before ports)) BadSwitch
+  _ ← fault_if (not (nat_lt (length before.plan.switches) most_switches)) TooMany
+  Ok (ASwitch (record { name = name; ports = ports }))
+
 -- A line among the declarations: its first word says what it is, and then the number of its words has to be one that it takes.
 abbrev pub lone_word : List (List ℕ) → Given → Result Given Cause
 lone_word [] given = Ok given
@@ -111,12 +121,21 @@ abbrev pub class_words : Before → List (List ℕ) → Result Given Cause
 class_words before (a ∷ b ∷ c ∷ d ∷ []) = class_line before a b c d
 class_words before words = Err UnknownWord
 
+-- whether a switch may have so many ports
+abbrev pub is_ports : ℕ → Bool
+is_ports ports = nat_le least_ports ports && nat_le ports most_ports
+
+abbrev pub switch_words : Before → List (List ℕ) → Result Given Cause
+switch_words before [] = Err UnknownWord
+switch_words before (name ∷ devs) = if is_ports (length devs) then switch_line before name devs else Err UnknownWord
+
 abbrev pub declaration_line : Before → List ℕ → List (List ℕ) → Result Given Cause
 declaration_line before word words =
     if bytes_eq word (codes "host") then host_words before words
     else if bytes_eq word (codes "pair") then pair_words before words
     else if bytes_eq word (codes "dev") then dev_words before words
     else if bytes_eq word (codes "class") then class_words before words
+    else if bytes_eq word (codes "switch") then switch_words before words
     else if bytes_eq word (codes "steps") then lone_word words StepsBegin
     else if bytes_eq word (codes "traffic") then lone_word words TrafficBegins
     else Err UnknownWord

@@ -3,6 +3,7 @@ pub mod Causes
 pub mod Compact
 pub mod Declarations
 pub mod Laws
+pub mod Ports
 pub mod Reads
 pub mod Settings
 pub mod StepLines

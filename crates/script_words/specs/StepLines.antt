@@ -7,11 +7,12 @@ use Rattle.step_kinds.specs.declared.names.Side.{Side}
 use Rattle.step_kinds.specs.declared.plan.PairPlan.{PairPlan}
 use Rattle.step_kinds.specs.declared.plan.Plan.{Plan}
 use Rattle.step_kinds.specs.declared.steps.Step.{Step}
-use Rattle.step_kinds.specs.declared.steps.Step.TheVariants.{Enable, Train, Break, DropDone, Clean, Offer, Check, Ready, Join, Begin, QpDown, Xbegin, Post, Land, Look, Copy, Clear, Ack, Wake, Irq, Mask, Unmask, Spad, Poke, ShowMem, ShowPad, ShowQueue}
+use Rattle.step_kinds.specs.declared.steps.Step.TheVariants.{Enable, Train, Break, DropDone, Clean, Offer, Check, Ready, Join, Begin, QpDown, Xbegin, Post, Land, Look, Copy, Clear, Ack, Wake, Irq, Mask, Unmask, Spad, Poke, ShowMem, ShowPad, ShowQueue, Relay, Xnext}
 use Rattle.plan_model.specs.Ethernet.{ethernet_header}
 use Rattle.plan_model.specs.Macros.{send, xmit, land_all, receive, offer_all}
-use Rattle.plan_model.specs.Plans.{side_plan, pair_plan, dev_plan}
-use Rattle.script_words.specs.Before.{Before, Given, MoreSteps, TrafficBegins, pair_word, dev_word, named_side, named_queue}
+use Rattle.plan_model.specs.Plans.{side_plan, pair_plan, dev_plan, switch_plan, port_device}
+use Rattle.script_words.specs.Before.{Before, Given, MoreSteps, TrafficBegins, pair_word, dev_word, switch_word, named_side, named_queue}
+use Rattle.script_words.specs.Ports.{is_port}
 use Rattle.script_words.specs.Tests.{◌>>=◌, fault_if}
 use Rattle.script_words.specs.Words.{number_word, number_between, hex_word, hex_of, kind_word}
 use Rattle.script_words.specs.declared.fault.Cause.{Cause}
@@ -179,6 +180,27 @@ ethernet_line before is_macro dev_text address_text kind_text payload_text = do
   _ ← fault_if (nat_lt most_frame_bytes (length payload + ethernet_header)) TooMany
   steps_within before (ethernet_steps before.plan is_macro dev dst kind payload)
 
+-- a switch takes a frame from a port, whose device says the queue
+abbrev pub relay_step : Plan → ℕ → ℕ → Step
+relay_step plan switch port =
+    let device = dev_plan plan.devs (port_device plan switch port) in
+    Relay device.pair device.side device.queue switch port
+
+-- `relay SWITCH PORT`
+abbrev pub relay_line : Before → List ℕ → List ℕ → Result Given Cause
+relay_line before switch_text port_text = do
+  switch ← switch_word before switch_text
+  port ← number_word port_text
+  _ ← fault_if (not (nat_lt port (length (switch_plan before.plan switch).ports))) UnknownName
+  steps_within before (relay_step before.plan switch port ∷ [])
+
+-- `xnext DEV`
+abbrev pub xnext_line : Before → List ℕ → Result Given Cause
+xnext_line before dev_text = do
+  dev ← dev_word before dev_text
+  _ ← fault_if (not (is_port before dev)) UnknownName
+  steps_within before (Xnext (dev_plan before.plan.devs dev).pair (dev_plan before.plan.devs dev).side (dev_plan before.plan.devs dev).queue dev ∷ [])
+
 -- A line among the steps, by its first word and the number of its words
 
 abbrev pub or_unknown : {X : Type 0} → Option X → (X → Result Given Cause) → Result Given Cause
@@ -186,10 +208,15 @@ or_unknown None line = Err UnknownWord
 or_unknown (Some x) line = line x
 
 abbrev pub line_of_one : Before → List ℕ → List ℕ → Result Given Cause
-line_of_one before word a = if bytes_eq word (codes "wake") then wake_line before a else or_unknown (pair_step word) (λ step. pair_step_line before step a)
+line_of_one before word a =
+    if bytes_eq word (codes "wake") then wake_line before a
+    else if bytes_eq word (codes "xnext") then xnext_line before a
+    else or_unknown (pair_step word) (λ step. pair_step_line before step a)
 
 abbrev pub line_of_two : Before → List ℕ → List ℕ → List ℕ → Result Given Cause
-line_of_two before word a b = or_unknown (side_steps word) (λ steps. side_line before steps a b)
+line_of_two before word a b =
+    if bytes_eq word (codes "relay") then relay_line before a b
+    else or_unknown (side_steps word) (λ steps. side_line before steps a b)
 
 abbrev pub line_of_three : Before → List ℕ → List ℕ → List ℕ → List ℕ → Result Given Cause
 line_of_three before word a b c = by_number (numbered_steps word) where

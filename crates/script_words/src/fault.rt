@@ -22,20 +22,23 @@ pub enum Cause {
     BadNumber,
     /// A name or a side is misspelled.
     BadName,
-    /// A name of its kind, an option or a key stands twice, a pair names one host twice, or a queue has a second device or
-    /// a second class.
+    /// A name of its kind, an option or a key stands twice, a pair names one host twice, a queue has a second device or a
+    /// second class, or a device is a port already.
     Repeated,
-    /// A host, a pair or a device isn't declared, a queue isn't one of the side's, or a window isn't one of both sides'.
+    /// A host, a pair, a device or a switch isn't declared, a queue isn't one of the side's, a window isn't one of both
+    /// sides', a port isn't one of the switch's, or a device is no port.
     UnknownName,
     /// Bytes, an address or a kind are misspelled.
     BadHex,
     /// An option's number is outside its range, or the numbers of a pair, of a device or of traffic don't go together.
     BadGeometry,
-    /// A limit on hosts, pairs, devices, steps, bytes of a frame or traffic is passed by this line.
+    /// A limit on hosts, pairs, devices, switches, steps, bytes of a frame or traffic is passed by this line.
     TooMany,
     /// A poke, or a write of a scratchpad that the transport uses, on a pair that isn't raw; or traffic on a pair that may
     /// have none.
     BadPair,
+    /// The devices of a switch aren't all on sides of one host.
+    BadSwitch,
 }
 
 impl Cause {
@@ -55,6 +58,7 @@ impl Cause {
             Cause::BadGeometry => "badgeometry",
             Cause::TooMany => "toomany",
             Cause::BadPair => "badpair",
+            Cause::BadSwitch => "badswitch",
         }
     }
 }

@@ -23,4 +23,4 @@ pub mod words;
 pub use fault::{Cause, LineError, ScriptFault};
 pub use line_gives::Given;
 pub use macros::{Macro, Repeated};
-pub use parts::{Part, QueueName, SideName};
+pub use parts::{PairHosts, Part, QueueName, SideName};

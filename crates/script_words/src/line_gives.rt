@@ -1,7 +1,7 @@
 //! What one line of a script gives beside steps.
 
-use crate::parts::QueueName;
-use step_kinds::{DevPlan, Frame, LaneName, Name, PairPlan};
+use crate::parts::{PairHosts, QueueName};
+use step_kinds::{DevPlan, Frame, LaneName, Name, PairPlan, SwitchPlan};
 
 /// What one line gives beside steps.
 #[derive(Drop)]
@@ -12,9 +12,10 @@ pub enum Given {
     Host {
         name: Name,
     },
-    /// A pair, in a box: it is far larger than what any other line gives.
+    /// A pair, in a box: it is far larger than what any other line gives; and its hosts.
     Pair {
         pair: Box<PairPlan>,
+        hosts: PairHosts,
     },
     /// A device.
     Device {
@@ -24,6 +25,10 @@ pub enum Given {
     Class {
         queue: QueueName,
         class: u32,
+    },
+    /// A switch.
+    Switch {
+        switch: SwitchPlan,
     },
     /// The steps begin.
     StepsBegin,

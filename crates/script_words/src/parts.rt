@@ -1,11 +1,11 @@
 //! The parts of a script, and the sides and queues that its lines name.
 
-use step_kinds::Side;
+use step_kinds::{Name, Side};
 
 /// The part of a script that a line stands in.
 #[derive(Clone, Copy, Debug, PartialEq, Eq)]
 pub enum Part {
-    /// Hosts, pairs, devices and classes.
+    /// Hosts, pairs, devices, classes and switches.
     Declarations,
     /// Steps and macros.
     Steps,
@@ -31,4 +31,13 @@ pub struct QueueName {
     pub side: Side,
     /// The queue's number.
     pub queue: u32,
+}
+
+/// The hosts of a pair, by their names. Network devices of one host can be ports of one switch.
+#[derive(Drop)]
+pub struct PairHosts {
+    /// The host of side A.
+    pub a: Name,
+    /// The host of side B.
+    pub b: Name,
 }

@@ -1,7 +1,7 @@
 -- The limits of the surface.
 use Rattle.std.specs.Prelude.{◌≡◌, ℕ, ◌<◌, ◌≤◌, ◌%◌}
 
--- hosts, pairs of hosts and network devices of a script
+-- hosts, pairs of hosts, network devices and switches of a script
 abbrev pub most_hosts : ℕ
 most_hosts = 16
 
@@ -10,6 +10,16 @@ most_pairs = 16
 
 abbrev pub most_devices : ℕ
 most_devices = 64
+
+abbrev pub most_switches : ℕ
+most_switches = 16
+
+-- ports of a switch
+abbrev pub least_ports : ℕ
+least_ports = 2
+
+abbrev pub most_ports : ℕ
+most_ports = 16
 
 -- queues of a side
 abbrev pub most_queues : ℕ
@@ -67,6 +77,10 @@ most_traffic_entries = 65535
 -- how many traffic classes there are
 abbrev pub traffic_classes : ℕ
 traffic_classes = 8
+
+-- a number of ports of a switch
+abbrev pub IsPorts : ℕ → Type 0
+IsPorts ports = (least_ports ≤ ports) × (ports ≤ most_ports)
 
 -- a number of queues of a side
 abbrev pub IsQueues : ℕ → Type 0

@@ -1,6 +1,6 @@
 use Rattle.std.specs.Prelude.{ℕ}
 use Rattle.step_kinds.specs.declared.steps.Step.{Step}
-use Rattle.step_kinds.specs.declared.steps.Step.TheVariants.{Enable, Train, Break, DropDone, Clean, Offer, Check, Ready, Join, Begin, QpDown, Xbegin, Post, Land, Look, Copy, Clear, Ack, Wake, Irq, Mask, Unmask, Spad, Poke, ShowMem, ShowPad, ShowQueue}
+use Rattle.step_kinds.specs.declared.steps.Step.TheVariants.{Enable, Train, Break, DropDone, Clean, Offer, Check, Ready, Join, Begin, QpDown, Xbegin, Post, Land, Look, Copy, Clear, Ack, Wake, Irq, Mask, Unmask, Spad, Poke, ShowMem, ShowPad, ShowQueue, Relay, Xnext}
 
 -- the number of the pair that a step is made on
 abbrev pub subject_of : Step → ℕ
@@ -31,3 +31,5 @@ subject_of (Poke pair side window offset bytes) = pair
 subject_of (ShowMem pair side at len) = pair
 subject_of (ShowPad pair side index) = pair
 subject_of (ShowQueue pair side place) = pair
+subject_of (Relay pair side queue switch port) = pair
+subject_of (Xnext pair side queue dev) = pair

@@ -22,6 +22,8 @@ pub use in_place::InPlace;
 pub use items::Items;
 pub use lanes::{Begun, LaneCopy};
 pub use names::{LaneName, Name, Side};
-pub use plan::{Counters, DevPlan, Line, LineAnswer, PairPlan, Plan, SidePlan, Traffic};
+pub use plan::{
+    Counters, DevPlan, Line, LineAnswer, PairPlan, Plan, SidePlan, SwitchPlan, Traffic,
+};
 pub use runs::{LaneRun, RunRecord, SessionRun};
 pub use steps::{Answer, Label, Step};

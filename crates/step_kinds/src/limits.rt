@@ -11,6 +11,7 @@ ghost use Rattle.step_kinds.specs.Limits.{
   IsSize,
   IsWindows,
   least_mtu,
+  least_ports,
   least_size,
   most_breaks,
   most_devices,
@@ -18,11 +19,13 @@ ghost use Rattle.step_kinds.specs.Limits.{
   most_hosts,
   most_mtu,
   most_pairs,
+  most_ports,
   most_queues,
   most_script_bytes,
   most_sessions,
   most_size,
   most_steps,
+  most_switches,
   most_traffic_bytes,
   most_traffic_entries,
   most_traffic_frames,
@@ -37,6 +40,12 @@ pub const MOST_HOSTS: usize = 16;
 pub const MOST_PAIRS: usize = 16;
 /// The most network devices of a script.
 pub const MOST_DEVICES: usize = 64;
+/// The most switches of a script.
+pub const MOST_SWITCHES: usize = 16;
+/// The fewest ports of a switch.
+pub const LEAST_PORTS: usize = 2;
+/// The most ports of a switch.
+pub const MOST_PORTS: usize = 16;
 /// The most queues of a side. Each side has at least one.
 pub const MOST_QUEUES: u32 = 16;
 /// The most translation windows of a side. Each side has at least one.
@@ -110,6 +119,9 @@ pub fn constants_are_limits()
     ensures hosts { MOST_HOSTS ≡ most_hosts }
     ensures pairs { MOST_PAIRS ≡ most_pairs }
     ensures devices { MOST_DEVICES ≡ most_devices }
+    ensures switches { MOST_SWITCHES ≡ most_switches }
+    ensures few_ports { LEAST_PORTS ≡ least_ports }
+    ensures many_ports { MOST_PORTS ≡ most_ports }
     ensures queues { MOST_QUEUES ≡ most_queues }
     ensures windows { MOST_WINDOWS ≡ most_windows }
     ensures least_window { LEAST_SIZE ≡ least_size }

@@ -67,6 +67,15 @@ pub struct DevPlan {
     pub start: u32,
 }
 
+/// A learning switch of one host: network devices of the host are its ports.
+#[derive(Drop)]
+pub struct SwitchPlan {
+    /// The switch's name.
+    pub name: Name,
+    /// The numbers of the devices that are its ports, 2 to 16 of them. The ports are numbered from 0 in their order here.
+    pub ports: Items<u32>,
+}
+
 /// A step and the line of the script that it comes from, counted from 1.
 #[derive(Drop)]
 pub struct Line {
@@ -102,13 +111,15 @@ pub enum Traffic {
     },
 }
 
-/// What a script declares. Pairs and devices are numbered from 0 in their order here.
+/// What a script declares. Pairs, devices and switches are numbered from 0 in their order here.
 #[derive(Drop)]
 pub struct Plan {
     /// The pairs.
     pub pairs: Items<PairPlan>,
     /// The network devices.
     pub devs: Items<DevPlan>,
+    /// The switches. No device is a port twice.
+    pub switches: Items<SwitchPlan>,
     /// The steps of a replay, macros replaced by their steps.
     pub steps: Items<Line>,
     /// The traffic of a threaded run.

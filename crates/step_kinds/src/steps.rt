@@ -222,6 +222,27 @@ pub enum Step {
         /// The place, 0 for the write that was posted first.
         place: u32,
     },
+    /// A switch takes the first frame that arrived on one of its ports, and puts it where its destination is: among the
+    /// frames that wait on one other port, or on all others. The pair, the side and the queue are those of the port's
+    /// device.
+    Relay {
+        pair: u32,
+        side: Side,
+        queue: u32,
+        /// The number of the switch in order of declaration, from 0.
+        switch: u32,
+        /// The number of the port, from 0 in the order in which the switch names its devices.
+        port: u32,
+    },
+    /// A device that is a port of a switch begins to send the first frame that waits on its port. The pair, the side and
+    /// the queue are the device's.
+    Xnext {
+        pair: u32,
+        side: Side,
+        queue: u32,
+        /// The number of the device in order of declaration, from 0.
+        dev: u32,
+    },
 }
 
 impl Step {
@@ -256,7 +277,9 @@ impl Step {
             | Step::Poke { pair, .. }
             | Step::ShowMem { pair, .. }
             | Step::ShowPad { pair, .. }
-            | Step::ShowQueue { pair, .. } => *pair,
+            | Step::ShowQueue { pair, .. }
+            | Step::Relay { pair, .. }
+            | Step::Xnext { pair, .. } => *pair,
         }
     }
 }
@@ -324,7 +347,7 @@ pub enum Answer {
     Idle,
     /// The write of this label was posted.
     Posted { label: Label },
-    /// No write is in flight at the place.
+    /// No write is in flight at the place, no frame is in the port's inbox, or no frame waits on the port.
     Nothing,
     /// The write may not pass one before it.
     Blocked,
@@ -360,4 +383,12 @@ pub enum Answer {
     PadValue { value: u32 },
     /// How many writes are in flight, and the label of the one at the place: none where no more than `place` are.
     QueueShown { count: u64, label: Option<Label> },
+    /// The frame that was to be relayed has so many bytes, less than an Ethernet header, and was dropped.
+    Short { len: u32 },
+    /// The frame's destination is on the port that it arrived on, and the frame was dropped.
+    Filtered,
+    /// The frame's destination is on this port of the switch, and the frame waits there.
+    To { port: u32 },
+    /// The frame waits on all other ports of the switch, so many: its destination isn't known, or is a group.
+    Flood { count: u32 },
 }

@@ -1,7 +1,7 @@
 -- A script can declare the plan of a load, and may make its steps.
 use Rattle.std.proofs.Common.{ℕ, zero, suc, ◌+◌, ◌*◌, ◌/◌, ◌%◌, ◌^◌, ◌<◌, ◌≤◌, inl, List, [], ◌∷◌, ◌++◌, length, replicate, slice_index, slice_index_or, refl, arith, lit<, lit≤}
 use Rattle.std.proofs.lemmas.List.{length-map}
-use Rattle.std.proofs.lemmas.List.Elements.{All-nil, All-cons, All-append, All-map, All-replicate}
+use Rattle.std.proofs.lemmas.List.Elements.{All-nil, All-cons, All-append, All-map, All-replicate, All-weaker}
 use Rattle.std.specs.List.{All, flat_map, range_with_len}
 use Rattle.step_kinds.specs.declared.names.Side.{Side}
 use Rattle.step_kinds.specs.declared.names.Side.TheVariants.{A, B}
@@ -12,6 +12,7 @@ use Rattle.lane_model.specs.Lane.{chunks_in}
 use Rattle.plan_model.specs.DeclaredPlans.{IsSide, IsPair, IsDeclared, IsQueueOf, IsFrame, IsPermitted}
 use Rattle.plan_model.specs.Macros.{send, land_all, receive, posts_in}
 use Rattle.plan_model.specs.Plans.{no_pair}
+use Rattle.plan_model.specs.Switches.{IsMakeable, IsSwitch}
 use Rattle.traffic_plan.specs.Laws.{LoadIsWhole}
 use Rattle.traffic_plan.specs.Load.{load_pair, length_of, payload_of, landings_of, frame_steps, lines_of_frame, word_of, plan_of}
 use Rattle.traffic_plan.proofs.Frames.{length_payload, few_bytes, few_steps, few_lines}
@@ -127,7 +128,9 @@ load_is_whole seed frames most =
     let lines = flat_map (lines_of_frame seed) (range_with_len 0 frames) in
     record {
       declared = declared lines;
-      steps = each_frame (λ line. IsPermitted (plan_of lines) line.step) (lines_of_frame seed) (lines_permitted lines seed) 0 frames;
+      switches = record { few = lit≤ tt; each = All-nil (IsSwitch (plan_of lines)); apart = λ i j d lt within. absurd (omega arith) };
+      steps = All-weaker (λ line. IsPermitted (plan_of lines) line.step) (λ line. IsMakeable (plan_of lines) line.step) (λ line may. inl may) lines
+          (each_frame (λ line. IsPermitted (plan_of lines) line.step) (lines_of_frame seed) (lines_permitted lines seed) 0 frames);
       few_steps = omega (arith, few_lines (lines_of_frame seed) (few_of_frame seed) 0 frames, most);
       traffic = All-nil _;
       few_frames = lit≤ tt;

@@ -66,7 +66,7 @@ lines_of_frame seed k = frame_lines (k + 1) (word_of seed (2 * k)) (word_of seed
 
 -- a plan of the one pair with these steps
 abbrev pub plan_of : List Line → Plan
-plan_of lines = record { pairs = load_pair ∷ []; devs = []; steps = lines; traffic = [] }
+plan_of lines = record { pairs = load_pair ∷ []; devs = []; switches = []; steps = lines; traffic = [] }
 
 abbrev pub load_of : ℕ → ℕ → Plan
 load_of seed frames = plan_of (flat_map (lines_of_frame seed) (range_with_len 0 frames))

@@ -149,6 +149,7 @@ pub fn load_without_steps(alloc: Global) -> Result<Plan, AllocError>
     Ok(Plan {
         pairs,
         devs: Items::new(alloc),
+        switches: Items::new(alloc),
         steps: Items::new(alloc),
         traffic: Items::new(alloc),
     })

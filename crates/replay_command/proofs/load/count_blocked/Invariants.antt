@@ -7,5 +7,5 @@ use Rattle.replay_command.proofs.load.count_blocked.Given as goal
 abbrev pub invariant-loop : goal.invariant-loop
 invariant-loop l = record {
   load : l.load ≡ frames_given l.seed l.counter;
-  kept : HasKept with_blocked (load_of l.seed l.frames) [] (flat_map (lines_of_frame l.seed) (range_with_len 0 l.counter)) l.fabric 0 l.blocked;
+  kept : HasKept with_blocked (load_of l.seed l.frames) [] (flat_map (lines_of_frame l.seed) (range_with_len 0 l.counter)) l.cluster 0 l.blocked;
 }

@@ -1,7 +1,7 @@
 use Rattle.std.proofs.Common.{◌+◌, [], ◌∷◌, ◌++◌, List, map, ap, sym, ◌∙◌}
 use Rattle.std.specs.List.{range_with_len}
 use Rattle.ledger_model.specs.Log.{Answered}
-use Rattle.fabric_core.specs.LogClauses.{log_after}
+use Rattle.cluster_core.specs.LogClauses.{log_after}
 use Rattle.report_text.specs.declared.whole.LaneCount.{LaneCount}
 use Rattle.replay_command.specs.ReplaySteps.{filled}
 use Rattle.replay_command.specs.Replays.{lane_count}

@@ -5,4 +5,4 @@ use Rattle.replay_command.specs.Replays.{lane_count}
 use Rattle.replay_command.proofs.replay.push_sessions.Given as goal
 
 abbrev pub invariant-loop-before : goal.invariant-loop-before
-invariant-loop-before l = AddsCounts l.fabric l.fn.counts.items l.counts.items (λ plan log. map (lane_count plan log l.lane) (range_with_len 1 l.before))
+invariant-loop-before l = AddsCounts l.cluster l.fn.counts.items l.counts.items (λ plan log. map (lane_count plan log l.lane) (range_with_len 1 l.before))

@@ -5,26 +5,25 @@ use Rattle.report_text.specs.Report.{answer_line}
 use Rattle.script_plan.specs.Scripts.{plan_in}
 use Rattle.replay_command.specs.Replays.{answers_text, line_answers, log_of_plan}
 use Rattle.replay_command.proofs.PermittedSteps.{steps_permitted}
-use Rattle.replay_command.proofs.Replaying.{replayed_none}
 use Rattle.replay_command.proofs.Reports.{answers_kept, devices_known, lanes_known, replay_text_is}
 use Rattle.replay_command.proofs.replay.replay_text.Goals as goal
 
 pub make_steps-requires : goal.make_steps-requires
 make_steps-requires c =
     let script = c.args.script.now in
-    steps_permitted (plan_in script) _ script.steps c.in_ok-fabric.ensures.plan c.requires.steps
+    steps_permitted (plan_in script) _ script.steps c.in_ok-cluster.ensures.plan c.requires.steps
 
 pub lane_counts-requires-clause-made : goal.lane_counts-requires-clause-made
 lane_counts-requires-clause-made c =
     let script = c.args.script.now in
     (c.in_ok-make_steps.ensures.kept (plan_in script) []
-    (replayed_none (plan_in script) script.declared c.in_ok-fabric.fabric c.requires.declared refl c.in_ok-fabric.ensures.stands c.in_ok-fabric.ensures.plan)).replayed
+    (record { made = c.in_ok-cluster.ensures.made (plan_in script) refl; kept = c.in_ok-cluster.ensures.plan })).replayed
 
 pub device_counts-requires-clause-made : goal.device_counts-requires-clause-made
 device_counts-requires-clause-made c =
     let script = c.args.script.now in
     (c.in_ok-make_steps.ensures.kept (plan_in script) []
-    (replayed_none (plan_in script) script.declared c.in_ok-fabric.fabric c.requires.declared refl c.in_ok-fabric.ensures.stands c.in_ok-fabric.ensures.plan)).replayed
+    (record { made = c.in_ok-cluster.ensures.made (plan_in script) refl; kept = c.in_ok-cluster.ensures.plan })).replayed
 
 pub push_ending-requires : goal.push_ending-requires
 push_ending-requires c = record {
@@ -38,7 +37,7 @@ returns c =
     let plan = plan_in script in
     let made =
     c.in_ok-make_steps.ensures.kept plan []
-    (replayed_none plan script.declared c.in_ok-fabric.fabric c.requires.declared refl c.in_ok-fabric.ensures.stands c.in_ok-fabric.ensures.plan) in
+    (record { made = c.in_ok-cluster.ensures.made plan refl; kept = c.in_ok-cluster.ensures.plan }) in
     let answers : List Answered = made.answers in
     let text : c.lines.inside.text.items ≡ answers_text script.steps (log_of_plan plan) =
     c.lines.view_is ∙ made.kept ∙ answers_kept (line_answers script.steps answers) c.new-2.result.items

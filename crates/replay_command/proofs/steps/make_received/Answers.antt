@@ -4,31 +4,31 @@ use Rattle.std.proofs.lemmas.Result.{on_ok_weaker}
 use Rattle.step_kinds.specs.declared.plan.Line.{Line}
 use Rattle.step_kinds.specs.declared.plan.Plan.{Plan}
 use Rattle.step_kinds.specs.declared.steps.Step.TheVariants.{Ack, Clear, Copy, Look}
-use Rattle.plan_model.specs.DeclaredPlans.{IsPermitted}
+use Rattle.plan_model.specs.Switches.{IsMakeable}
 use Rattle.script_words.specs.Compact.{lines_with}
-use Rattle.fabric_core.specs.Fabric.{plan_kept}
+use Rattle.cluster_core.specs.Cluster.{plan_held}
 use Rattle.replay_command.specs.ReplaySteps.{HasKept}
 use Rattle.replay_command.proofs.PermittedSteps.{lines_received, received_permitted}
 use Rattle.replay_command.proofs.Replaying.{kept_both}
 use Rattle.replay_command.proofs.steps.make_received.Goals as goal
 
 pub make_step-requires : goal.make_step-requires
-make_step-requires g c = (received_permitted (plan_kept c.args.fabric.now) c.args.line c.args.pair c.args.side c.args.queue c.args.copies c.requires).0
+make_step-requires g c = (received_permitted (plan_held c.args.cluster.now) c.args.line c.args.pair c.args.side c.args.queue c.args.copies c.requires).0
 
 pub make_again-requires-clause-may : goal.make_again-requires-clause-may
 make_again-requires-clause-may g c =
-    subst (λ (kept : Plan). All (λ line. IsPermitted kept line.step) (lines_with c.args.line (replicate c.args.copies (Copy c.args.pair c.args.side c.args.queue)))) (sym c.in_ok-make_step.ensures.plan)
-    (received_permitted (plan_kept c.args.fabric.now) c.args.line c.args.pair c.args.side c.args.queue c.args.copies c.requires).1
+    subst (λ (kept : Plan). All (λ line. IsMakeable kept line.step) (lines_with c.args.line (replicate c.args.copies (Copy c.args.pair c.args.side c.args.queue)))) (sym c.in_ok-make_step.ensures.plan)
+    (received_permitted (plan_held c.args.cluster.now) c.args.line c.args.pair c.args.side c.args.queue c.args.copies c.requires).1
 
 pub make_step-requires-2 : goal.make_step-requires-2
 make_step-requires-2 g c =
-    subst (λ (kept : Plan). IsPermitted kept (Clear c.args.pair c.args.side c.args.queue)) (sym (c.in_ok-make_again.ensures.plan ∙ c.in_ok-make_step.ensures.plan))
-    (received_permitted (plan_kept c.args.fabric.now) c.args.line c.args.pair c.args.side c.args.queue c.args.copies c.requires).2
+    subst (λ (kept : Plan). IsMakeable kept (Clear c.args.pair c.args.side c.args.queue)) (sym (c.in_ok-make_again.ensures.plan ∙ c.in_ok-make_step.ensures.plan))
+    (received_permitted (plan_held c.args.cluster.now) c.args.line c.args.pair c.args.side c.args.queue c.args.copies c.requires).2
 
 pub make_step-requires-3 : goal.make_step-requires-3
 make_step-requires-3 g c =
-    subst (λ (kept : Plan). IsPermitted kept (Ack c.args.pair c.args.side c.args.queue)) (sym (c.in_ok-make_step-2.ensures.plan ∙ c.in_ok-make_again.ensures.plan ∙ c.in_ok-make_step.ensures.plan))
-    (received_permitted (plan_kept c.args.fabric.now) c.args.line c.args.pair c.args.side c.args.queue c.args.copies c.requires).3
+    subst (λ (kept : Plan). IsMakeable kept (Ack c.args.pair c.args.side c.args.queue)) (sym (c.in_ok-make_step-2.ensures.plan ∙ c.in_ok-make_again.ensures.plan ∙ c.in_ok-make_step.ensures.plan))
+    (received_permitted (plan_held c.args.cluster.now) c.args.line c.args.pair c.args.side c.args.queue c.args.copies c.requires).3
 
 pub returns-clause-kept : goal.returns-clause-kept
 returns-clause-kept g c =
@@ -41,14 +41,14 @@ returns-clause-kept g c =
     let ack : List Line = lines_with c.args.line (Ack c.args.pair c.args.side c.args.queue ∷ []) in
     let looked = c.in_ok-make_step.ensures.kept plan before replayed in
     let copied =
-    kept_both with_answer plan before look copies c.make_step.new.fabric c.make_again.new.fabric old c.make_step.new.kept c.make_again.new.kept looked
+    kept_both with_answer plan before look copies c.make_step.new.cluster c.make_again.new.cluster old c.make_step.new.kept c.make_again.new.kept looked
     (c.in_ok-make_again.ensures.kept plan (before ++ look) looked.replayed) in
     let cleared =
-    kept_both with_answer plan before (look ++ copies) clear c.make_again.new.fabric c.make_step-2.new.fabric old c.make_again.new.kept c.make_step-2.new.kept copied
+    kept_both with_answer plan before (look ++ copies) clear c.make_again.new.cluster c.make_step-2.new.cluster old c.make_again.new.kept c.make_step-2.new.kept copied
     (c.in_ok-make_step-2.ensures.kept plan (before ++ (look ++ copies)) copied.replayed) in
     on_ok_weaker c.make_step-3.result
     (λ acked.
-    subst (λ (lines : List Line). HasKept with_answer plan before lines c.make_step-3.new.fabric old c.make_step-3.new.kept)
+    subst (λ (lines : List Line). HasKept with_answer plan before lines c.make_step-3.new.cluster old c.make_step-3.new.kept)
     (sym (lines_received c.args.line c.args.pair c.args.side c.args.queue c.args.copies))
-    (kept_both with_answer plan before ((look ++ copies) ++ clear) ack c.make_step-2.new.fabric c.make_step-3.new.fabric old c.make_step-2.new.kept c.make_step-3.new.kept cleared acked))
+    (kept_both with_answer plan before ((look ++ copies) ++ clear) ack c.make_step-2.new.cluster c.make_step-3.new.cluster old c.make_step-2.new.kept c.make_step-3.new.kept cleared acked))
     (c.make_step-3.ensures.kept plan (before ++ ((look ++ copies) ++ clear)) cleared.replayed)

@@ -3,19 +3,19 @@ use Rattle.std.specs.List.{All}
 use Rattle.std.proofs.lemmas.List.{take_all}
 use Rattle.step_kinds.specs.declared.plan.Line.{Line}
 use Rattle.step_kinds.specs.declared.plan.Plan.{Plan}
-use Rattle.plan_model.specs.DeclaredPlans.{IsPermitted}
+use Rattle.plan_model.specs.Switches.{IsMakeable}
 use Rattle.script_plan.specs.StepLists.{all_lines, lines_in}
-use Rattle.fabric_core.specs.Fabric.{plan_kept}
+use Rattle.cluster_core.specs.Cluster.{plan_held}
 use Rattle.replay_command.specs.ReplaySteps.{HasKept}
 use Rattle.replay_command.proofs.Replaying.{all_of_one, kept_both, stretches_more}
 use Rattle.replay_command.proofs.steps.make_steps.Goals as goal
 
 pub make_stretch-requires : goal.make_stretch-requires
 make_stretch-requires g c =
-    let P : Plan → Line → Type 0 = λ kept line. IsPermitted kept line.step in
-    let all : All (P (plan_kept c.loop-stretch.fabric)) c.args.steps.now = subst (λ (kept : Plan). All (P kept) c.args.steps.now) (sym c.loop-stretch.invariant.plan) c.requires in
-    all_of_one (P (plan_kept c.loop-stretch.fabric)) lines_in c.stretches-stretch-items.result.now c.loop-stretch.stretch-index c.stretch-item.result (omega arith) c.stretch-item.is
-    (subst (λ (lines : List Line). All (P (plan_kept c.loop-stretch.fabric)) lines) (sym c.stretches-stretch-items.ensures) all)
+    let P : Plan → Line → Type 0 = λ kept line. IsMakeable kept line.step in
+    let all : All (P (plan_held c.loop-stretch.cluster)) c.args.steps.now = subst (λ (kept : Plan). All (P kept) c.args.steps.now) (sym c.loop-stretch.invariant.plan) c.requires in
+    all_of_one (P (plan_held c.loop-stretch.cluster)) lines_in c.stretches-stretch-items.result.now c.loop-stretch.stretch-index c.stretch-item.result (omega arith) c.stretch-item.is
+    (subst (λ (lines : List Line). All (P (plan_held c.loop-stretch.cluster)) lines) (sym c.stretches-stretch-items.ensures) all)
 
 pub loop-stretch-preserved : goal.loop-stretch-preserved
 loop-stretch-preserved g c = record {
@@ -26,9 +26,9 @@ loop-stretch-preserved g c = record {
       let i = c.loop-stretch.stretch-index in
       let stretch = c.stretch-item.result in
       let so_far = c.loop-stretch.invariant.kept plan before replayed in
-      subst (λ (lines : List Line). HasKept with_answer plan before lines c.make_stretch.new.fabric c.args.kept.now c.make_stretch.new.kept)
+      subst (λ (lines : List Line). HasKept with_answer plan before lines c.make_stretch.new.cluster c.args.kept.now c.make_stretch.new.kept)
       (sym (stretches_more stretches i stretch (omega arith) c.stretch-item.is))
-      (kept_both with_answer plan before (all_lines (take i stretches)) (lines_in stretch) c.loop-stretch.fabric c.make_stretch.new.fabric c.args.kept.now c.loop-stretch.kept c.make_stretch.new.kept so_far
+      (kept_both with_answer plan before (all_lines (take i stretches)) (lines_in stretch) c.loop-stretch.cluster c.make_stretch.new.cluster c.args.kept.now c.loop-stretch.kept c.make_stretch.new.kept so_far
       (c.in_ok-make_stretch.ensures.kept plan (before ++ all_lines (take i stretches)) so_far.replayed));
 }
 
@@ -36,6 +36,6 @@ pub returns-clause-kept : goal.returns-clause-kept
 returns-clause-kept g c =
     λ plan before replayed.
     let stretches = c.stretches-stretch-items.result.now in
-    subst (λ (lines : List Line). HasKept g.K.KeepsAnswers.with_answer plan before lines c.loop-stretch.fabric c.args.kept.now c.loop-stretch.kept)
+    subst (λ (lines : List Line). HasKept g.K.KeepsAnswers.with_answer plan before lines c.loop-stretch.cluster c.args.kept.now c.loop-stretch.kept)
     (ap all_lines (take_all c.loop-stretch.stretch-index stretches (omega arith)) ∙ c.stretches-stretch-items.ensures)
     (c.loop-stretch.invariant.kept plan before replayed)

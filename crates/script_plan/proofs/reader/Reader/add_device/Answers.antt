@@ -8,6 +8,6 @@ use Rattle.script_plan.proofs.reader.Reader.add_device.Goals as goal
 pub invariant_of-self-2 : goal.invariant_of-self-2
 invariant_of-self-2 c =
     let i = c.self.inside in
-    let b : Before = before_with i.part i.hosts i.pairs i.devs i.steps i.traffic i.classed.items in
+    let b : Before = before_with i.part i.hosts i.pairs i.devs i.switches i.steps i.traffic i.pair_hosts.items i.classed.items in
     let P : Before → Type 0 = λ before. IsDevice before.plan c.args.dev in
     record { sound = device_added b c.push.new.self c.args.dev c.self.invariant.sound (subst P (sym c.self.view_is) c.requires.fits) c.in_ok-push.ensures.ok; counted = c.self.invariant.counted }

@@ -8,7 +8,7 @@ use Rattle.script_plan.proofs.reader.Reader.add_step.Goals as goal
 pub invariant_of-self-2 : goal.invariant_of-self-2
 invariant_of-self-2 c =
     let i = c.self.inside in
-    let b : Before = before_with i.part i.hosts i.pairs i.devs i.steps i.traffic i.classed.items in
+    let b : Before = before_with i.part i.hosts i.pairs i.devs i.switches i.steps i.traffic i.pair_hosts.items i.classed.items in
     let seen : length b.plan.steps ≡ length c.args.self.now.plan.steps = ap (λ before. length before.plan.steps) c.self.view_is in
     let few : length b.plan.steps + length (c.args.step ∷ []) ≤ most_steps = let room = c.requires in omega arith in
     steps_added b c.push_step.new.self c.args.line i.step_count (c.args.step ∷ []) 1 c.self.invariant refl few c.in_ok-push_step.ensures.ok

@@ -1,0 +1,39 @@
+-- What a cluster counts is what its log has.
+use Rattle.std.proofs.Common.{◌≡◌, ◌∙◌, ℕ, ◌+◌, List, count_by, length, ap, sym}
+use Rattle.step_kinds.specs.declared.names.LaneName.{LaneName}
+use Rattle.step_kinds.specs.declared.plan.Counters.{Counters}
+use Rattle.step_kinds.specs.declared.plan.DevPlan.{DevPlan}
+use Rattle.step_kinds.specs.declared.plan.Plan.{Plan}
+use Rattle.step_kinds.specs.declared.steps.Step.{Step}
+use Rattle.plan_model.specs.Plans.{dev_plan}
+use Rattle.ledger_model.specs.Log.{Answered, Numbered, accepted, counters_in, delivered, first_session, trains}
+use Rattle.memory_model.specs.Memory.{memory_of}
+use Rattle.fabric_core.specs.LogClauses.{AreCounters as AreBridgeCounters, IsAccepted as IsBridgeAccepted, IsDelivered as IsBridgeDelivered, IsSession as IsBridgeSession, lane_of_device}
+use Rattle.switch_laws.proofs.Bridges.{bridges_have_a_log}
+use Rattle.switch_laws.proofs.Readings.{log_reads_as_bridges}
+use Rattle.cluster_core.specs.Cluster.{ClusterState}
+use Rattle.cluster_core.specs.LogClauses.{AreCounters, HasMade, IsAccepted, IsDelivered, IsSession, log_after, network_after}
+
+pub accepted_counted : (cluster : ClusterState) (lane : LaneName) (session count : ℕ) → IsBridgeAccepted cluster.fabric lane session count → IsAccepted cluster lane session count
+accepted_counted cluster lane session count own plan steps made =
+    own plan (network_after plan steps).steps made.bridges
+    ∙ ap (λ (log : List Answered). length (accepted plan log lane session)) (sym (bridges_have_a_log plan (memory_of plan) steps))
+    ∙ ap (λ (frames : List Numbered). length frames) (sym ((log_reads_as_bridges plan (log_after plan steps)).same_accepted lane session))
+
+pub delivered_counted : (cluster : ClusterState) (lane : LaneName) (session count : ℕ) → IsBridgeDelivered cluster.fabric lane session count → IsDelivered cluster lane session count
+delivered_counted cluster lane session count own plan steps made =
+    own plan (network_after plan steps).steps made.bridges
+    ∙ ap (λ (log : List Answered). length (delivered plan log lane session)) (sym (bridges_have_a_log plan (memory_of plan) steps))
+    ∙ ap (λ (frames : List Numbered). length frames) (sym ((log_reads_as_bridges plan (log_after plan steps)).same_delivered lane session))
+
+pub session_counted : (cluster : ClusterState) (pair session : ℕ) → IsBridgeSession cluster.fabric pair session → IsSession cluster pair session
+session_counted cluster pair session own plan steps made =
+    own plan (network_after plan steps).steps made.bridges
+    ∙ ap (λ (log : List Answered). first_session plan pair + count_by (trains pair) log) (sym (bridges_have_a_log plan (memory_of plan) steps))
+    ∙ ap (λ (count : ℕ). first_session plan pair + count) (sym ((log_reads_as_bridges plan (log_after plan steps)).same_sessions pair))
+
+pub counters_counted : (cluster : ClusterState) (dev : ℕ) (counters : Counters) → AreBridgeCounters cluster.fabric dev counters → AreCounters cluster dev counters
+counters_counted cluster dev counters own plan steps made =
+    own plan (network_after plan steps).steps made.bridges
+    ∙ ap (λ (log : List Answered). counters_in plan log (lane_of_device (dev_plan plan.devs dev))) (sym (bridges_have_a_log plan (memory_of plan) steps))
+    ∙ sym ((log_reads_as_bridges plan (log_after plan steps)).same_counters (lane_of_device (dev_plan plan.devs dev)))

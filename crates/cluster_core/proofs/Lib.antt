@@ -1,0 +1,6 @@
+mod Counted
+mod Declared
+mod HavePorts
+mod Networks
+mod Refused
+mod Stepping

@@ -1,0 +1,19 @@
+-- A cluster as contracts see it: the fabric of its bridges, and its switches as they are declared and as they are.
+use Rattle.std.specs.Prelude.{List, []}
+use Rattle.step_kinds.specs.declared.plan.Plan.{Plan}
+use Rattle.step_kinds.specs.declared.plan.SwitchPlan.{SwitchPlan}
+use Rattle.fabric_core.specs.Fabric.{FabricState, plan_kept}
+use Rattle.learn_switch.specs.Frames.{Bytes}
+
+pub record ClusterState : Type 0 where
+  pub fabric : FabricState
+  pub plans : List SwitchPlan
+  pub switches : List Bytes
+
+-- the plan of its pairs, devices and switches
+abbrev pub plan_held : ClusterState → Plan
+plan_held cluster = record (plan_kept cluster.fabric) { switches = cluster.plans }
+
+-- what a plan declares: its pairs, devices and switches alone
+abbrev pub declared_part : Plan → Plan
+declared_part plan = record plan { steps = []; traffic = [] }

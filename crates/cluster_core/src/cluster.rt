@@ -1,0 +1,249 @@
+//! The cluster.
+
+ghost use Rattle.std.specs.Prelude.{◌≡◌, ◌<◌, ℕ, [], IfOk, IfSome, OnErr, OnOk, Some, length};
+ghost use Rattle.step_kinds.specs.Sides.{other_side};
+ghost use Rattle.step_kinds.specs.declared.plan.Plan.{Plan as PlanValue};
+ghost use Rattle.step_kinds.specs.declared.steps.Step.TheVariants.{Copy, Xnext};
+ghost use Rattle.plan_model.specs.DeclaredPlans.{IsDeclared, IsPairOf, IsQueueOf};
+ghost use Rattle.plan_model.specs.Switches.{AreSwitches, IsMakeable};
+ghost use Rattle.cluster_core.specs.Cluster.{declared_part, plan_held};
+ghost use Rattle.cluster_core.specs.ClusterStep.{HasStepped};
+ghost use Rattle.cluster_core.specs.LogClauses.{AreCounters, HasMade, IsAccepted, IsDelivered, IsSession};
+ghost use Rattle.cluster_core.specs.Moves.{CanBeSent, HasWaiting, arrived_in, brought_in, relay_answer_in, relayed_in, sending_in, sends_next, taken_in};
+ghost use Rattle.cluster_core.specs.Parts.{HasDeviceOn, IsPortAmong};
+
+use crate::parts::{StepPart, part_of};
+use crate::plans::{copies, new_switches};
+use crate::ports::{PortPlace, port_on};
+use crate::relays::relay_answer;
+use fabric_core::Fabric;
+use learn_switch::Switch;
+use std::alloc::{AllocError, Global};
+use std::marker::Model;
+use step_kinds::{Answer, Counters, Frame, LaneName, Plan, Step, SwitchPlan};
+
+/// A cluster in bytes: its bridges, and the switches that its plan declares. Contracts see the fabric of the bridges, the
+/// declarations of the switches, and the switches.
+#[derive(Drop)]
+pub struct Cluster {
+    alloc: Global,
+    fabric: Fabric,
+    plans: Vec<SwitchPlan>,
+    switches: Vec<Switch>,
+}
+
+impl Cluster {
+    /// The cluster of a plan before any step. The plan is one that a script can declare. The cluster has made no step of
+    /// any plan that declares the same pairs, devices and switches.
+    ///
+    /// # Errors
+    ///
+    /// [`AllocError`] from want of memory alone.
+    pub fn new(alloc: Global, plan: &Plan) -> Result<Cluster, AllocError>
+        requires declared { IsDeclared plan.now }
+        requires switches { AreSwitches plan.now }
+        ensures made { IfOk result (λ cluster. (other : PlanValue) → declared_part other ≡ declared_part plan.now → HasMade other [] cluster) }
+        ensures plan { IfOk result (λ cluster. plan_held cluster ≡ declared_part plan.now) }
+    {
+        Ok(Cluster {
+            alloc,
+            fabric: Fabric::new(alloc, plan)?,
+            plans: copies(alloc, plan.switches.as_slice())?,
+            switches: new_switches(alloc, plan.switches.as_slice())?,
+        })
+    }
+
+    /// Makes a step, which has to be one that a script of the cluster's plan may make, and answers it. Whatever steps the
+    /// cluster has made, the answer is that of the log of those steps and this one, and then it has made them and this
+    /// one.
+    ///
+    /// - A `relay` is answered by the switch: `nothing`, `short`, `filtered`, `to` or `flood`.
+    /// - An `xnext` is answered `nothing` where no frame waits at the device's port. Else it is a `begin` with the first
+    ///   waiting frame, which is taken out where that is answered `ok`.
+    /// - Each other step is made on the bridges alone. A frame that a copy delivers on a port's queue arrives at the port.
+    ///
+    /// # Errors
+    ///
+    /// [`AllocError`] from want of memory alone. The cluster has made the same steps as before then, and the step can be
+    /// made again; but where a copy delivered a frame to a port, the frame may be lost, and of the cluster's steps nothing
+    /// more is promised.
+    #[inline(always)]
+    pub fn step(&mut self, step: &Step) -> Result<Answer, AllocError>
+        requires { IsMakeable (plan_held self.old) step.now }
+        ensures { HasStepped self.old self.new step.now result }
+    {
+        if self.switches.is_empty() {
+            return self.fabric.step(step);
+        }
+        self.step_with_switches(step)
+    }
+
+    // Makes a step where the plan declares switches.
+    #[inline(never)]
+    fn step_with_switches(&mut self, step: &Step) -> Result<Answer, AllocError>
+        requires { IsMakeable (plan_held self.old) step.now }
+        ensures { HasStepped self.old self.new step.now result }
+    {
+        match part_of(step) {
+            StepPart::Relays { switch, port } => self.relay(switch, port),
+            StepPart::Sends { own } => self.send_next(own),
+            StepPart::Copies { own } => self.copy(own),
+            StepPart::OnBridges => self.fabric.step(step),
+        }
+    }
+
+    // A switch relays the first frame that arrived on one of its ports.
+    fn relay(&mut self, switch: u32, port: u32) -> Result<Answer, AllocError>
+        requires { IsPortAmong self.old.plans switch port }
+        ensures answer { IfOk result (λ answer. answer ≡ relay_answer_in self.old (record { switch = switch; place = port })) }
+        ensures after { OnOk result (self.new ≡ relayed_in self.old (record { switch = switch; place = port })) }
+        ensures err { OnErr result (self.new ≡ self.old) }
+    {
+        let relayed = self.switches[switch as usize].relay(port)?;
+        Ok(relay_answer(relayed))
+    }
+
+    // The first frame that waits at the port on a side and a queue is begun there, and taken out where it was accepted.
+    fn send_next(&mut self, own: LaneName) -> Result<Answer, AllocError>
+        requires { HasDeviceOn (plan_held self.old) own }
+        ensures { (dev : ℕ) → HasStepped self.old self.new (Xnext own.pair own.from own.queue dev) result }
+    {
+        match self.next_frame(own)? {
+            None => Ok(Answer::Nothing),
+            Some(next) => self.begin(own, next),
+        }
+    }
+
+    // A frame that waits is begun, and taken out where it was accepted.
+    fn begin(&mut self, own: LaneName, next: NextFrame) -> Result<Answer, AllocError>
+        requires device { HasDeviceOn (plan_held self.old) own }
+        requires fits { CanBeSent self.old next }
+        requires first { sends_next own (Some next) ≡ sending_in self.old own }
+        ensures { (dev : ℕ) → HasStepped self.old self.new (Xnext own.pair own.from own.queue dev) result }
+    {
+        let place = next.place;
+        let step = Step::Begin {
+            pair: own.pair,
+            side: own.from,
+            queue: own.queue,
+            frame: next.frame,
+        };
+        let answer = self.fabric.step(&step)?;
+        self.take_out(place, &answer);
+        Ok(answer)
+    }
+
+    // The first frame that waits at a port is taken out, if its begin was answered `ok`.
+    fn take_out(&mut self, place: PortPlace, answer: &Answer)
+        requires place { IsPortAmong self.old.plans place.switch place.port }
+        requires waits { HasWaiting self.old place }
+        ensures { self.new ≡ taken_in self.old place answer.now }
+    {
+        if let Answer::OkNumber { .. } = answer {
+            self.switches[place.switch as usize].sent(place.port);
+        }
+    }
+
+    // A copy of the first frame that waits at the port on a side and a queue, if one waits.
+    fn next_frame(&self, own: LaneName) -> Result<Option<NextFrame>, AllocError>
+        ensures value { IfOk result (λ next. sends_next own next ≡ sending_in self.now own) }
+        ensures fits { IfOk result (λ next. IfSome next (CanBeSent self.now)) }
+    {
+        let Some(place) = port_on(self.fabric.devices(), &self.plans, own) else {
+            return Ok(None);
+        };
+        let Some(frame) = self.switches[place.switch as usize].first(place.port) else {
+            return Ok(None);
+        };
+        let _len = frame.len();
+        Ok(Some(NextFrame {
+            place,
+            frame: frame.copy_of(self.alloc)?,
+        }))
+    }
+
+    // The next part of a frame is copied on a side and a queue, and a frame that is delivered with it arrives at the port
+    // there.
+    fn copy(&mut self, own: LaneName) -> Result<Answer, AllocError>
+        requires { IsQueueOf (plan_held self.old) own.pair own.from own.queue }
+        ensures { HasStepped self.old self.new (Copy own.pair own.from own.queue) result }
+    {
+        let step = Step::Copy {
+            pair: own.pair,
+            side: own.from,
+            queue: own.queue,
+        };
+        let answer = self.fabric.step(&step)?;
+        self.take_in(own, &answer)?;
+        Ok(answer)
+    }
+
+    // A frame arrives at the port on a side and a queue, if it was delivered there.
+    fn take_in(&mut self, own: LaneName, answer: &Answer) -> Result<(), AllocError>
+        ensures ok { OnOk result (self.new ≡ brought_in self.old own answer.now) }
+        ensures err { OnErr result (self.new ≡ self.old) }
+    {
+        if let Answer::Delivered { frame, .. } = answer {
+            self.arrive(own, frame)?;
+        }
+        Ok(())
+    }
+
+    // A frame that was delivered on a side and a queue arrives at the port there, if there is one.
+    fn arrive(&mut self, own: LaneName, frame: &Frame) -> Result<(), AllocError>
+        ensures ok { OnOk result (self.new ≡ arrived_in self.old own frame.now) }
+        ensures err { OnErr result (self.new ≡ self.old) }
+    {
+        let Some(place) = port_on(self.fabric.devices(), &self.plans, own) else {
+            return Ok(());
+        };
+        self.switches[place.switch as usize].arrive(place.port, frame)
+    }
+
+    /// How many frames of a lane were accepted and how many delivered in a session, both 0 in a session that wasn't. The
+    /// lane's pair has to be one of the cluster's, and its queue one of both sides.
+    pub fn ledger(&self, lane: LaneName, session: u32) -> (u64, u64)
+        requires sent { IsQueueOf (plan_held self.now) lane.pair lane.from lane.queue }
+        requires received { IsQueueOf (plan_held self.now) lane.pair (other_side lane.from) lane.queue }
+        ensures accepted { IsAccepted self.now lane session result.0 }
+        ensures delivered { IsDelivered self.now lane session result.1 }
+    {
+        self.fabric.ledger(lane, session)
+    }
+
+    /// The number of the session that a pair is in, or was in last; 0 before the first. The pair has to be one of the
+    /// cluster's.
+    pub fn sessions(&self, pair: u32) -> u32
+        requires { IsPairOf (plan_held self.now) pair }
+        ensures { IsSession self.now pair result }
+    {
+        self.fabric.sessions(pair)
+    }
+
+    /// What is counted of a device, which has to be one of the cluster's. What an `xnext` sends isn't.
+    pub fn counters(&self, dev: u32) -> Counters
+        requires { dev < length (plan_held self.now).devs }
+        ensures { AreCounters self.now dev result }
+    {
+        self.fabric.counters(dev)
+    }
+}
+
+impl Model for Cluster {
+    ghost use Rattle.cluster_core.specs.Cluster.{ClusterState};
+
+    ghost Value = { ClusterState };
+
+    ghost use Rattle.cluster_core.specs.Clusters.{IsCluster, cluster_seen};
+
+    ghost view = { cluster_seen };
+
+    ghost invariant = { IsCluster };
+}
+
+// A frame that is to be sent, and the port at which it waits.
+#[derive(Drop)]
+struct NextFrame {
+    place: PortPlace,
+    frame: Frame,
+}

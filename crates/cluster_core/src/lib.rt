@@ -1,0 +1,13 @@
+//! A cluster: the bridges of a plan, and the learning switches that join devices of one host between them.
+#![tactic(auto)]
+
+mod cluster;
+mod parts;
+mod plans;
+mod ports;
+mod refusals;
+mod relays;
+
+pub use cluster::Cluster;
+pub use fabric_core::is_made;
+pub use refusals::refused_again;

@@ -1,0 +1,43 @@
+//! The switches of a plan, as they are declared and as they start.
+
+ghost use Rattle.std.specs.Prelude.{◌≡◌, IfOk, length, map};
+ghost use Rattle.std.specs.List.{All};
+ghost use Rattle.step_kinds.specs.Limits.{IsPorts};
+ghost use Rattle.switch_model.specs.Switch.{new_switch};
+
+use learn_switch::Switch;
+use std::alloc::{AllocError, Global};
+use step_kinds::{Items, Name, SwitchPlan};
+
+/// The same declarations.
+pub fn copies(alloc: Global, plans: &[SwitchPlan]) -> Result<Vec<SwitchPlan>, AllocError>
+    ensures { IfOk result (λ copies. copies.items ≡ plans.now) }
+{
+    let mut copies = Vec::new(alloc);
+    for plan in plans {
+        copies.push(copy_of(alloc, plan)?)?;
+    }
+    Ok(copies)
+}
+
+// The same declaration.
+fn copy_of(alloc: Global, plan: &SwitchPlan) -> Result<SwitchPlan, AllocError>
+    ensures { IfOk result (λ copy. copy ≡ plan.now) }
+{
+    Ok(SwitchPlan {
+        name: Name::of_bytes(plan.name.bytes()),
+        ports: Items::of_vec(Vec::from_slice(alloc, plan.ports.as_slice())?),
+    })
+}
+
+/// A switch for each of these declarations, which has no frame and knows no station.
+pub fn new_switches(alloc: Global, plans: &[SwitchPlan]) -> Result<Vec<Switch>, AllocError>
+    requires { All (λ plan. IsPorts (length plan.ports)) plans.now }
+    ensures { IfOk result (λ switches. switches.items ≡ map (λ plan. new_switch (length plan.ports)) plans.now) }
+{
+    let mut switches = Vec::new(alloc);
+    for plan in plans {
+        switches.push(Switch::new(alloc, plan.ports.len() as u32)?)?;
+    }
+    Ok(switches)
+}

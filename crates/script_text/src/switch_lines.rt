@@ -1,0 +1,95 @@
+//! Declarations of switches.
+#![tactic(auto, unfolding(script_words::specs::Tests::and_then))]
+
+ghost use Rattle.std.specs.Prelude.{◌≡◌, ◌∷◌, ◌++◌, ◌<◌, [], length, map};
+ghost use Rattle.std.specs.List.{All};
+ghost use Rattle.script_words.specs.Compact.{given_of};
+ghost use Rattle.script_words.specs.Declarations as rules;
+ghost use Rattle.script_words.specs.Ports.{on_one_host, ports_from, with_port};
+ghost use Rattle.script_words.specs.Reads.{Reads, result_map};
+
+use crate::lines::LineResult;
+use crate::lookups::{new_switch, read_device};
+use script_plan::{Reader, is_among};
+use script_words::{Cause, Given, LineError};
+use std::alloc::Global;
+use step_kinds::limits::{LEAST_PORTS, MOST_PORTS, MOST_SWITCHES};
+use step_kinds::{Items, SwitchPlan};
+
+/// The device that a word names, which is neither a port yet nor one of these.
+fn new_port(before: &Reader, devs: &[u32], word: &[u8]) -> Result<u32, Cause>
+    ensures { result_map (λ dev. devs.now ++ dev ∷ []) result ≡ with_port before.now devs.now word.now }
+{
+    let dev = read_device(before, word)?;
+    if before.is_port(dev) || is_among(devs, dev) {
+        return Err(Cause::Repeated);
+    }
+    Ok(dev)
+}
+
+/// The devices that words name as ports of one switch, in order.
+fn read_ports(alloc: Global, before: &Reader, words: &[&[u8]]) -> Result<Items<u32>, LineError>
+    ensures { Reads result (ports_from before.now [] (map (λ word. word.now) words.now)) }
+{
+    let mut ports = Items::new(alloc);
+    for word in words {
+        let dev = new_port(before, ports.as_slice(), word)?;
+        ports.push(dev)?;
+    }
+    Ok(ports)
+}
+
+/// Whether devices stand on one host: each on that of the first.
+fn on_one_host(before: &Reader, devs: &[u32]) -> bool
+    requires { All (λ dev. dev < length before.now.plan.devs) devs.now }
+    ensures { result ≡ on_one_host before.now devs.now }
+{
+    let [first, rest @ ..] = devs else {
+        return true;
+    };
+    let host = before.host_of(*first);
+    for dev in rest {
+        if before.host_of(*dev) != host {
+            return false;
+        }
+    }
+    true
+}
+
+/// `switch NAME DEV DEV..`
+fn switch_line(alloc: Global, before: &Reader, name: &[u8], devs: &[&[u8]]) -> LineResult
+    ensures { Reads (result_map given_of result) (rules.switch_line before.now name.now (map (λ word. word.now) devs.now)) }
+{
+    let name = new_switch(before, name)?;
+    let ports = read_ports(alloc, before, devs)?;
+    if !on_one_host(before, ports.as_slice()) {
+        return Err(LineError::Fault(Cause::BadSwitch));
+    }
+    if before.switches().len() >= MOST_SWITCHES {
+        return Err(LineError::Fault(Cause::TooMany));
+    }
+    Ok(Given::Switch {
+        switch: SwitchPlan { name, ports },
+    })
+}
+
+/// Whether a switch may have so many ports.
+fn is_ports(ports: usize) -> bool
+    ensures { result ≡ rules.is_ports ports }
+{
+    LEAST_PORTS <= ports && ports <= MOST_PORTS
+}
+
+/// The words behind `switch`.
+pub fn switch_words(alloc: Global, before: &Reader, words: &[&[u8]]) -> LineResult
+    ensures { Reads (result_map given_of result) (rules.switch_words before.now (map (λ word. word.now) words.now)) }
+{
+    let [name, devs @ ..] = words else {
+        return Err(LineError::Fault(Cause::UnknownWord));
+    };
+    if is_ports(devs.len()) {
+        switch_line(alloc, before, name, devs)
+    } else {
+        Err(LineError::Fault(Cause::UnknownWord))
+    }
+}

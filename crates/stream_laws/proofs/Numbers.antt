@@ -1,0 +1,8 @@
+-- A number of four bytes reads back.
+use Rattle.std.proofs.Common.{◌≡◌, ℕ, ◌<◌, ◌^◌, [], Some, ap}
+use Rattle.byteorder.specs.Numbers.{little_number-reads_back}
+use Rattle.stream_model.specs.Numbers.{number_frame, number_in}
+
+pub number_in-number_frame : (n : ℕ) → n < 2 ^ 32 → number_in (number_frame n) ≡ Some n
+unfolding number_frame number_in
+number_in-number_frame n below = ap (λ (m : ℕ). Some m) (little_number-reads_back 4 n [] below)

@@ -1,0 +1,16 @@
+pub mod Bridges
+pub mod Erasing
+pub mod Facade
+pub mod Headline
+pub mod OtherFrames
+pub mod PassageRuns
+pub mod Passages
+pub mod PathOrder
+pub mod Placed
+pub mod Places
+pub mod PortLists
+pub mod Readings
+pub mod Routes
+pub mod SeparatePairs
+pub mod Subsequences
+pub mod Waiting

@@ -1,0 +1,5 @@
+use Rattle.switch_laws.proofs.Waiting.{waiting_have_headers}
+use Rattle.switch_laws.proofs.laws.waiting_have_headers.Goals as goal
+
+pub returns : goal.returns
+returns c = waiting_have_headers

@@ -1,0 +1,6 @@
+//! The laws of every log of a plan with switches. The definitions that they speak of stand in `switch_log`.
+//!
+//! Each law is the clause of a function of [`laws`] with an empty body. Crates above cite that module alone.
+#![tactic(auto)]
+
+pub mod laws;
