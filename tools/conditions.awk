@@ -1,6 +1,7 @@
-# Judges a script by its conditions. Files: the script, the report of its replay or the reply to its reads, and, where it has
-# traffic, the text of its run with the sessions joined. tools/ntbtest runs it; the environment NAME says what the script is called. It prints a
-# line for each condition that doesn't hold, and then the number of conditions and of those that don't hold.
+# Judges a script by its conditions. Files: the script; the report of its replay or the reply to its reads; where it has traffic,
+# the text of its run with the sessions joined; and where a condition speaks of one, the text of its stream. tools/ntbtest runs it;
+# the environment NAME says what the script is called. It prints a line for each condition that doesn't hold, and then the number of
+# conditions and of those that don't hold.
 
 function trimmed(text) {
     sub(/\r$/, "", text)
@@ -57,10 +58,13 @@ function take(number, text, at,    kind, i, parts, some) {
         }
 }
 
-# Gives the conditions that stand in the comments above a line to that line; 0 is the end of the script.
-function give(number,    i) {
-    for (i = 1; i <= held; i++)
-        take(number, held_text[i], held_at[i])
+# Gives the conditions that stand in the comments above a line to that line; 0 is the end of the script, and -1 the text of a
+# stream, of which those above the line `traffic` speak that have one of its words.
+function give(number, text,    i, of_stream) {
+    for (i = 1; i <= held; i++) {
+        of_stream = text == "traffic" && (held_text[i] ~ /(^#[=!]|;) *(stream|item)( |$)/)
+        take(of_stream ? -1 : number, held_text[i], held_at[i])
+    }
     held = 0
 }
 
@@ -75,7 +79,7 @@ function read_script(    number, text, i) {
                 told(held_at[i], "it speaks of no line: a condition stands directly above its line")
             held = 0
         } else if (text !~ /^#/) {
-            give(number)
+            give(number, text)
             if (text == "traffic")
                 traffic = number
         }
@@ -101,6 +105,9 @@ function read_report(    i, text) {
     for (i = 1; i <= joins; i++)
         if (joined[i] != "end")
             add(traffic, joined[i])
+    for (i = 1; i <= items; i++)
+        if (brought[i] != "end")
+            add(-1, brought[i])
 }
 
 # Whether an answer is as a condition says: the same words, or, before a last word `..`, as many of the same words.
@@ -148,12 +155,13 @@ function judge(number,    i, k, text) {
 
 FILENAME == ARGV[1] { line[++lines] = $0; next }
 FILENAME == ARGV[2] { report[++reports] = $0; next }
-{ joined[++joins] = $0 }
+FILENAME == ARGV[3] { joined[++joins] = $0; next }
+{ brought[++items] = $0 }
 
 END {
     read_script()
     read_report()
-    for (number = 0; number <= lines; number++)
+    for (number = -1; number <= lines; number++)
         judge(number)
     if (refused && !(refused in is))
         told(refused, substr(came(refused), 1) ", and no condition says so")

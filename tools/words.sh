@@ -10,6 +10,7 @@ commands() {
     cat <<'END'
 replay < SCRIPT|make the steps of a script and print the report
 run < SCRIPT|send a script's traffic by threads and print what each session delivered and left
+stream < SCRIPT|send a script's traffic by threads as resumable streams and print what each lane brought
 reads < TEXT|make the writes and reads of a text on one bridge and print their answers
 load SEED FRAMES|make the steps of a generated plan, of 1 to 30,000 frames, and print one line
 END

@@ -1,5 +1,5 @@
 -- The record of lanes that come to their keys fits the plan, and their proofs show it.
-use Rattle.std.proofs.Common.{◌≡◌, ℕ, zero, suc, ◌+◌, ◌*◌, ◌≤◌, Bool, true, false, cond, nat_lt, List, [], ◌∷◌, ◌++◌, length, map, filter, drop, slice_index_or, refl, sym, ◌∙◌, ap, subst, arith, append-nil, append_assoc, length-append}
+use Rattle.std.proofs.Common.{◌≡◌, ℕ, zero, suc, ◌+◌, ◌*◌, ◌≤◌, Bool, true, false, cond, nat_lt, Result, Ok, Err, IfOk, List, [], ◌∷◌, ◌++◌, length, map, filter, drop, slice_index_or, refl, sym, ◌∙◌, ap, subst, arith, append-nil, append_assoc, length-append}
 use Rattle.std.proofs.lemmas.List.{length-map}
 use Rattle.std.proofs.lemmas.List.Elements.{All-cons, All-nil}
 use Rattle.std.specs.List.{All, flat_map, range_with_len}
@@ -12,6 +12,7 @@ use Rattle.cluster_run.specs.Lanes.{CanRun, lanes_of, lanes_in, has_traffic, tra
 use Rattle.cluster_run.specs.Runs.{FitsLane, IsFit, IsShown, lane_proofs}
 use Rattle.cluster_run.specs.LaneKeys.{LaneKey, key_of, ComesTo, ComeTo}
 use Rattle.cluster_run.specs.ByLane.{LaneFrames, lane_frames, frames_of, by_lane, keys_with_frames, key_with, AreOfTraffic}
+use Rattle.cluster_run.proofs.TrafficLanes.{few_waiting}
 use Rattle.cluster_run.specs.declared.by_lane.LaneTraffic.{LaneTraffic}
 
 -- each lane of the sorted traffic has its frames
@@ -86,18 +87,31 @@ shown_all plan (name ∷ names) (lane ∷ run) proofs come =
 
 -- the whole traffic
 abbrev pub all_keys : Plan → List LaneKey
-all_keys plan = keys_with_frames plan (by_lane plan.traffic (length plan.pairs))
+all_keys plan = map (key_of plan) (traffic_lanes plan)
 
-come_to_named : (plan : Plan) (run : List LaneShown) (proofs : List Shown) → ComeTo (all_keys plan) run proofs → ComeTo (map (key_of plan) (traffic_lanes plan)) run proofs
-come_to_named plan run proofs come = subst (λ (keys : List LaneKey). ComeTo keys run proofs) (keys_named plan (lanes_in (length plan.pairs))) come
+pub all_named : (plan : Plan) (lanes : List LaneTraffic) (tasks : List LaneKey) → map lane_frames lanes ≡ by_lane plan.traffic (length plan.pairs) → tasks ≡ keys_with_frames plan (map lane_frames lanes) → tasks ≡ all_keys plan
+all_named plan lanes tasks sorted keys = keys ∙ (ap (keys_with_frames plan) sorted ∙ keys_named plan (lanes_in (length plan.pairs)))
+
+-- what holds of a result that isn't an error, by what else holds of it
+pub on_ok : {T E : Type 0} (P Q : T → Type 0) (result : Result T E) → ((value : T) → P value → Q value) → IfOk result P → IfOk result Q
+on_ok P Q (Ok value) weaker holds = weaker value holds
+on_ok P Q (Err e) weaker holds = tt
+
+-- and there are few
+pub few_named : (plan : Plan) → CanRun plan → (lanes : List LaneTraffic) (tasks : List LaneKey) → map lane_frames lanes ≡ by_lane plan.traffic (length plan.pairs) → tasks ≡ keys_with_frames plan (map lane_frames lanes) → length tasks ≤ 65535
+few_named plan can lanes tasks sorted keys =
+    let few = few_lanes plan can lanes sorted in
+    let fewer = few_waiting plan (map lane_frames lanes) in
+    let shown = length-map lanes lane_frames in
+    let many = ap length keys in
+    omega arith
 
 pub record_fits : (plan : Plan) (run : List LaneShown) (proofs : List Shown) → ComeTo (all_keys plan) run proofs → IsFit plan run
 record_fits plan run proofs come =
-    let named = come_to_named plan run proofs come in
-    record { lanes = names_of plan (traffic_lanes plan) run proofs named; each = fit_all plan (traffic_lanes plan) run proofs named }
+    record { lanes = names_of plan (traffic_lanes plan) run proofs come; each = fit_all plan (traffic_lanes plan) run proofs come }
 
 pub record_shown : (plan : Plan) (run : List LaneShown) (proofs : List Shown) → ComeTo (all_keys plan) run proofs → IsShown plan run proofs
-record_shown plan run proofs come = shown_all plan (traffic_lanes plan) run proofs (come_to_named plan run proofs come)
+record_shown plan run proofs come = shown_all plan (traffic_lanes plan) run proofs come
 
 -- what a run has come to so far: some lanes are over, and the others wait
 pub record HasCome (plan : Plan) (waiting : List LaneKey) (run : List LaneShown) (proofs : List Shown) : Type 0 where
@@ -105,10 +119,9 @@ pub record HasCome (plan : Plan) (waiting : List LaneKey) (run : List LaneShown)
   pub all : keys ++ waiting ≡ all_keys plan
   pub come : ComeTo keys run proofs
 
-pub none_over : (plan : Plan) (lanes : List LaneTraffic) (waiting : List LaneKey) (run : List LaneShown) (proofs : List Shown) → map lane_frames lanes ≡ by_lane plan.traffic (length plan.pairs)
-    → waiting ≡ keys_with_frames plan (map lane_frames lanes) → run ≡ [] → proofs ≡ [] → HasCome plan waiting run proofs
-none_over plan lanes waiting run proofs sorted keys no_run no_proofs =
-    record { keys = []; all = keys ∙ ap (keys_with_frames plan) sorted; come = subst (λ (run : List LaneShown). ComeTo [] run proofs) (sym no_run) no_proofs }
+pub none_over : (plan : Plan) (waiting : List LaneKey) (run : List LaneShown) (proofs : List Shown) → waiting ≡ all_keys plan → run ≡ [] → proofs ≡ [] → HasCome plan waiting run proofs
+none_over plan waiting run proofs keys no_run no_proofs =
+    record { keys = []; all = keys; come = subst (λ (run : List LaneShown). ComeTo [] run proofs) (sym no_run) no_proofs }
 
 pub group_over : (plan : Plan) (first : LaneKey) (before group after : List LaneKey) (old new : List LaneShown) (proofs all : List Shown) → HasCome plan (first ∷ before) old proofs → group ++ after ≡ first ∷ before
     → ((keys : List LaneKey) → ComeTo keys old proofs → ComeTo (keys ++ group) new all) → HasCome plan after new all

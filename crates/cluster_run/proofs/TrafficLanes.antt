@@ -18,7 +18,7 @@ use Rattle.plan_model.specs.Sizes.{layout_of}
 use Rattle.plan_model.specs.TrafficPlans.{IsTraffic, IsTrafficLane, frames_in, is_break_of}
 use Rattle.lane_workers.specs.Passes.{HaveBytes}
 use Rattle.traffic_plan.specs.Lanes.{same_side, same_lane, frames_on}
-use Rattle.cluster_run.specs.Lanes.{CanRun, entries_on}
+use Rattle.cluster_run.specs.Lanes.{CanRun, entries_on, losses_on}
 use Rattle.cluster_run.specs.ByLane.{LaneFrames, lane_frames, key_with, keys_with_frames}
 use Rattle.cluster_run.specs.Tasks.{CanBeRun, losses_by_pair}
 use Rattle.cluster_run.specs.declared.by_lane.LaneTraffic.{LaneTraffic}
@@ -105,14 +105,13 @@ losses_found plan losses pair are declared =
     let many = ap length are ∙ length-map-range_with_len count 0 (length plan.pairs) in
     (omega arith, ap (λ (losses : List ℕ). slice_index_or losses pair 0) are ∙ get_or-map-range_with_len count 0 (length plan.pairs) pair pair 0 declared (omega arith))
 
-pub task_key : (plan : Plan) (lane : LaneTraffic) (pair : PairPlan) (ring : Layout) (entries : ℕ) (losses : List ℕ) → pair ≡ pair_plan plan lane.name.pair → ring ≡ layout_of pair lane.name.from lane.name.queue → entries ≡ entries_of ring
-    → losses ≡ losses_by_pair plan → lane.name.pair < length plan.pairs
-    → record { name = lane.name; entries = entries; losses = slice_index_or losses lane.name.pair 0; traffic = lane.frames.frames } ≡ key_with plan (lane_frames lane)
-task_key plan lane pair ring entries losses pair_is ring_is entries_is are declared =
+pub task_key : (plan : Plan) (lane : LaneTraffic) (pair : PairPlan) (ring : Layout) (entries losses : ℕ) → pair ≡ pair_plan plan lane.name.pair → ring ≡ layout_of pair lane.name.from lane.name.queue → entries ≡ entries_of ring
+    → losses ≡ losses_on plan lane.name
+    → record { name = lane.name; entries = entries; losses = losses; traffic = lane.frames.frames } ≡ key_with plan (lane_frames lane)
+task_key plan lane pair ring entries losses pair_is ring_is entries_is losses_is =
     let value : entries ≡ entries_on plan lane.name = entries_is ∙ (ap entries_of ring_is ∙ ap (λ (pair : PairPlan). entries_of (layout_of pair lane.name.from lane.name.queue)) pair_is) in
-    let found = losses_found plan losses lane.name.pair are declared in
-    ap (λ (entries : ℕ). record { name = lane.name; entries = entries; losses = slice_index_or losses lane.name.pair 0; traffic = lane.frames.frames }) value
-    ∙ ap (λ (losses : ℕ). record { name = lane.name; entries = entries_on plan lane.name; losses = losses; traffic = lane.frames.frames }) found.1
+    ap (λ (entries : ℕ). record { name = lane.name; entries = entries; losses = losses; traffic = lane.frames.frames }) value
+    ∙ ap (λ (losses : ℕ). record { name = lane.name; entries = entries_on plan lane.name; losses = losses; traffic = lane.frames.frames }) losses_is
 
 -- no more lanes wait than there are
 few_more : (plan : Plan) (lane : LaneFrames) (rest : List LaneFrames) (b : Bool) (n : ℕ) → length (map (key_with plan) rest) ≤ n → length (map (key_with plan) (cond b (lane ∷ rest) rest)) ≤ suc n

@@ -1,5 +1,6 @@
 -- The fields of a lane at work: what it shows, and what is true of it between two rounds.
 use Rattle.std.specs.Prelude.{◌≡◌, ◌+◌, ◌≤◌, ◌<◌, ◌^◌, ◌==◌, ◌&&◌, not, List, ◌++◌, length, map}
+use Rattle.step_kinds.specs.Limits.{most_breaks, most_traffic_frames}
 use Rattle.step_kinds.specs.Runs.{SessionShown, session_shown}
 use Rattle.lane_workers.specs.Passes.{HaveBytes}
 use Rattle.cluster_run.specs.Runs.{accepted_over}
@@ -15,7 +16,8 @@ pub record IsTask (t : task.Inside) : Type 0 where
   pub number : t.number ≤ 65535
   pub ring : (2 ≤ t.entries) × (t.entries ≤ 65535)
   pub bytes : HaveBytes t.frames.frames
-  pub few : length t.frames.frames < 2 ^ 62
+  pub few : length t.frames.frames ≤ most_traffic_frames
+  pub breaks : t.losses ≤ most_breaks
 
 -- the sessions that ended
 abbrev pub ended_of : work.Inside → List SessionShown

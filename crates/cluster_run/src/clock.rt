@@ -1,29 +1,41 @@
 //! The turns of a worker, counted through a session.
 
-ghost use Rattle.std.specs.Prelude.{◌+◌, ◌<◌, ◌^◌};
+ghost use Rattle.std.specs.Prelude.{◌≡◌, ◌+◌, ◌-◌, ◌<◌, ◌^◌, min};
 
 /// The number of a worker, and that of its next turn, which counts from 0 in each session.
 #[derive(Clone, Copy, Debug, Drop)]
-pub(crate) struct Clock {
-    pub(crate) worker: u32,
+pub struct Clock {
+    worker: u32,
     turn: u64,
 }
 
 impl Clock {
     /// The clock of a worker with this number, in a new session.
-    pub(crate) fn new(worker: u32) -> Clock {
+    pub fn new(worker: u32) -> Clock
+        ensures { result ≡ record { worker = worker; turn = 0 } }
+    {
         Clock { worker, turn: 0 }
     }
 
+    /// The number of the worker.
+    pub fn worker(&self) -> u32
+        ensures { result ≡ self.now.worker }
+    {
+        self.worker
+    }
+
     /// The number of the next turn. It stands still where so many turns would pass the last number.
-    pub(crate) fn first(&self, turns: u32) -> u64
-        ensures { result + turns < 2 ^ 64 }
+    pub fn first(&self, turns: u32) -> u64
+        ensures value { result ≡ min self.now.turn (2 ^ 64 - 1 - turns) }
+        ensures fits { result + turns < 2 ^ 64 }
     {
         self.turn.min(u64::MAX - u64::from(turns))
     }
 
     /// The clock after so many turns from turn `first` on.
-    pub(crate) fn after(&self, first: u64, turns: u32) -> Clock {
+    pub fn after(&self, first: u64, turns: u32) -> Clock
+        ensures { result ≡ record { worker = self.now.worker; turn = min (first + turns) (2 ^ 64 - 1) } }
+    {
         Clock {
             worker: self.worker,
             turn: first.saturating_add(u64::from(turns)),

@@ -3,7 +3,7 @@
 
 mod aim;
 mod by_lane;
-mod clock;
+pub mod clock;
 mod group;
 mod in_threads;
 mod in_turn;
@@ -16,9 +16,11 @@ mod run;
 mod session;
 mod task_list;
 mod tasks;
-mod workers;
+pub mod workers;
 
 pub use run::run_plan;
+pub use task_list::lanes_to_run;
+pub use tasks::{LaneTask, TaskParts};
 
 #[cfg(test)]
 mod tests;

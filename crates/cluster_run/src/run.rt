@@ -5,11 +5,10 @@ ghost use Rattle.step_kinds.specs.Runs.{run_shown};
 ghost use Rattle.cluster_run.specs.Lanes.{CanRun};
 ghost use Rattle.cluster_run.specs.Runs.{IsFit, IsShown};
 
-use crate::by_lane::traffic_by_lane;
 use crate::group::next_group;
 use crate::parts::RunParts;
 use crate::rounds::finished;
-use crate::task_list::waiting_lanes;
+use crate::task_list::lanes_to_run;
 use io_edges::Gate;
 use std::alloc::{AllocError, Global};
 use std::sync::Wait;
@@ -43,8 +42,7 @@ pub fn run_plan<R: Threads + Wait + Sync, G: Gate>(
     ensures fits { IfOk result (λ run. IsFit plan.now (run_shown run.0)) }
     ensures shown { IfOk result (λ run. IsShown plan.now (run_shown run.0) run.1.items) }
 {
-    let lanes = traffic_by_lane(alloc, plan)?;
-    let mut waiting = waiting_lanes(alloc, plan, lanes)?;
+    let mut waiting = lanes_to_run(alloc, plan)?;
     let mut parts = RunParts::new(alloc);
     while let Some(first) = waiting.pop_front() {
         let open = next_group(alloc, first, &mut waiting)?;

@@ -56,15 +56,6 @@ fn trimmed(alloc: Global, mut list: FrameList) -> Result<FrameList, AllocError>
     Ok(own)
 }
 
-// An empty list with room for so many frames.
-fn room_for(alloc: Global, room: usize) -> Result<FrameList, AllocError>
-    ensures { IfOk result (λ r. r ≡ record { frames = []; spare = room }) }
-{
-    let mut list = FrameList::new(alloc);
-    list.promise(room)?;
-    Ok(list)
-}
-
 impl Session {
     /// A session of the lane with this number, in a ring of so many entries, that has these frames to send: each has a
     /// byte. The only error is want of memory.
@@ -81,8 +72,6 @@ impl Session {
         ensures { IfOk result (λ s. s ≡ new_session entries todo.frames) }
     {
         let total = todo.len();
-        let room = total + SPARE_ROOM;
-        let got = room_for(alloc, room)?;
         let (send, mover, recv, back, cut) = make(alloc, entries)?;
         let first = 4 * number;
         Ok(Session {
@@ -91,22 +80,9 @@ impl Session {
                 todo,
                 clock: Clock::new(first),
             },
-            moving: Moving {
-                mover,
-                back,
-                clock: Clock::new(first + 1),
-            },
-            receiving: Receiving {
-                end: recv,
-                got,
-                room,
-                clock: Clock::new(first + 2),
-            },
-            cutting: Cutting {
-                end: cut,
-                is_cut: false,
-                clock: Clock::new(first + 3),
-            },
+            moving: Moving::new(mover, back, first + 1),
+            receiving: Receiving::new(alloc, recv, total + SPARE_ROOM, first + 2)?,
+            cutting: Cutting::new(cut, first + 3),
             entries,
             total,
         })
@@ -197,10 +173,9 @@ impl Session {
             todo,
             ..
         } = sending;
-        let Moving { mover, back, .. } = moving;
-        let Receiving { end: recv, got, .. } = receiving;
-        let Cutting { end: cut, .. } = cutting;
-        let LaneEnd { left, proof } = finish(send, mover, recv, back, cut);
+        let (mover, back) = moving.into_ends();
+        let (recv, got) = receiving.into_parts();
+        let LaneEnd { left, proof } = finish(send, mover, recv, back, cutting.into_end());
         let run = SessionRun {
             delivered: trimmed(alloc, got)?,
             left: trimmed(alloc, left)?,

@@ -1,13 +1,16 @@
 //! The lanes that wait to be run.
 
-ghost use Rattle.std.specs.Prelude.{◌≡◌, ◌≤◌, ◌<◌, ◌++◌, ◌∷◌, [], length, map, IfOk, OnOk};
+ghost use Rattle.std.specs.Prelude.{◌≡◌, ◌≤◌, ◌<◌, ◌++◌, ◌∷◌, [], count_by, length, map, IfOk, OnOk};
+ghost use Rattle.step_kinds.specs.Limits.{most_breaks};
 ghost use Rattle.plan_model.specs.Plans.{pair_plan};
-ghost use Rattle.cluster_run.specs.Lanes.{CanRun};
+ghost use Rattle.plan_model.specs.TrafficPlans.{is_break_of};
+ghost use Rattle.cluster_run.specs.LaneKeys.{key_of};
+ghost use Rattle.cluster_run.specs.Lanes.{CanRun, traffic_lanes};
 ghost use Rattle.cluster_run.specs.ByLane.{AreOfTraffic, key_with, keys_with_frames, lane_frames};
 ghost use Rattle.cluster_run.specs.Tasks.{CanBeRun, losses_by_pair};
 ghost use Rattle.traffic_plan.specs.Lanes.{frames_on};
 
-use crate::by_lane::LaneTraffic;
+use crate::by_lane::{LaneTraffic, traffic_by_lane};
 use crate::tasks::LaneTask;
 use ring_geometry::laws::ring_has_two_entries;
 use script_plan::rings::ring_of;
@@ -36,6 +39,17 @@ fn pair_at(plan: &Plan, pair: u32) -> &PairPlan
     &plan.pairs.as_slice()[pair as usize]
 }
 
+// The losses of a pair's link.
+fn losses_of(plan: &Plan, losses: &[u32], pair: u32) -> u32
+    requires plan { CanRun plan.now }
+    requires losses { losses.now ≡ losses_by_pair plan.now }
+    requires pair { pair < length plan.now.pairs }
+    ensures value { result ≡ count_by (is_break_of pair) plan.now.traffic }
+    ensures few { result ≤ most_breaks }
+{
+    losses[pair as usize]
+}
+
 // The lane with this number, which may have traffic.
 fn task_of(plan: &Plan, losses: &[u32], number: u32, lane: LaneTraffic) -> LaneTask
     requires plan { CanRun plan.now }
@@ -51,7 +65,7 @@ fn task_of(plan: &Plan, losses: &[u32], number: u32, lane: LaneTraffic) -> LaneT
         name,
         number,
         entries: ring.entries(),
-        losses: losses[name.pair as usize],
+        losses: losses_of(plan, losses, name.pair),
         frames,
     }
 }
@@ -77,8 +91,8 @@ fn push_task(
     Ok(())
 }
 
-/// The lanes with traffic, in order, each with its frames. The only error is want of memory.
-pub(crate) fn waiting_lanes(
+// The lanes of a plan that have a frame.
+fn waiting_lanes(
     alloc: Global,
     plan: &Plan,
     lanes: Vec<LaneTraffic>,
@@ -94,4 +108,17 @@ pub(crate) fn waiting_lanes(
         push_task(plan, &losses, &mut tasks, lane)?;
     }
     Ok(tasks)
+}
+
+/// The lanes of a plan that have traffic, each with its frames: by the number of the pair, then those from side A before
+/// those from side B, then by the queue. The only error is want of memory.
+///
+/// The plan's pairs and traffic have to be as a script can declare them, within the limits of traffic.
+pub fn lanes_to_run(alloc: Global, plan: &Plan) -> Result<VecDeque<LaneTask>, AllocError>
+    requires { CanRun plan.now }
+    ensures keys { IfOk result (λ tasks. tasks.items ≡ map (key_of plan.now) (traffic_lanes plan.now)) }
+    ensures few { IfOk result (λ tasks. length tasks.items ≤ 65535) }
+{
+    let lanes = traffic_by_lane(alloc, plan)?;
+    waiting_lanes(alloc, plan, lanes)
 }

@@ -1,6 +1,7 @@
 //! Lanes that wait to be run.
 
 ghost use Rattle.std.specs.Prelude.{◌≡◌, ◌≤◌, IfOk};
+ghost use Rattle.cluster_run.specs.Tasks.{AreParts};
 
 use crate::lanes::LaneWork;
 use crate::session::Session;
@@ -8,9 +9,10 @@ use std::alloc::{AllocError, Global};
 use std::marker::Model;
 use step_kinds::{FrameList, LaneName};
 
-/// A lane with traffic whose ring isn't open yet.
+/// A lane with traffic whose ring isn't open yet. Contracts see its key: the lane, the entries of its ring, the losses of
+/// its pair's link, and its traffic.
 #[derive(Drop)]
-pub(crate) struct LaneTask {
+pub struct LaneTask {
     /// The lane.
     pub(crate) name: LaneName,
     /// Its number among the lanes with traffic.
@@ -23,13 +25,48 @@ pub(crate) struct LaneTask {
     pub(crate) frames: FrameList,
 }
 
+/// What a lane with traffic is: the parts of a [`LaneTask`].
+#[derive(Drop)]
+pub struct TaskParts {
+    /// The lane.
+    pub name: LaneName,
+    /// Its number among the lanes with traffic, at most 65,535.
+    pub number: u32,
+    /// The entries of its ring, 2 to 65,535.
+    pub entries: u32,
+    /// How many losses of its pair's link it sees, at most 100.
+    pub losses: u32,
+    /// Its traffic: at most 100,000 frames, each with a byte.
+    pub frames: FrameList,
+}
+
 impl LaneTask {
     /// The entries of its ring.
-    pub(crate) fn entries(&self) -> u32
+    pub fn entries(&self) -> u32
         ensures value { result ≡ self.now.entries }
         ensures fits { result ≤ 65535 }
     {
         self.entries
+    }
+
+    /// Its parts.
+    pub fn into_parts(self) -> TaskParts
+        ensures { AreParts self result }
+    {
+        let LaneTask {
+            name,
+            number,
+            entries,
+            losses,
+            frames,
+        } = self;
+        TaskParts {
+            name,
+            number,
+            entries,
+            losses,
+            frames,
+        }
     }
 
     /// Opens the lane's ring for its first session. The only error is want of memory.

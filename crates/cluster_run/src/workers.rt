@@ -1,10 +1,11 @@
 //! The four workers of a lane in a session, each with the end or the ends that it makes its turns with.
 
-ghost use Rattle.std.specs.Prelude.{◌≡◌, ◌≤◌, true, length};
+ghost use Rattle.std.specs.Prelude.{◌≡◌, ◌≤◌, [], true, false, length, IfOk};
 
 use crate::clock::Clock;
 use io_edges::Gate;
 use lane_workers::{cut_pass, move_pass, recv_pass, send_pass};
+use std::alloc::{AllocError, Global};
 use std::marker::Model;
 use step_kinds::FrameList;
 use table_lane::{BackEnd, CutEnd, MoveEnd, RecvEnd, SendEnd};
@@ -24,7 +25,7 @@ impl Sending {
         ensures { self.new ≡ self.old }
     {
         let first = self.clock.first(turns);
-        let worker = self.clock.worker;
+        let worker = self.clock.worker();
         let made = send_pass(&mut self.end, &mut self.todo, gate, worker, first, turns);
         self.clock = self.clock.after(first, made);
     }
@@ -47,22 +48,34 @@ impl Model for Sending {
     ghost invariant = { IsSending };
 }
 
-/// The worker that moves frames and brings indices back.
+/// The worker that moves frames and brings indices back. Contracts see the lane that its ends stand at.
 #[derive(Drop)]
-pub(crate) struct Moving {
-    pub(crate) mover: MoveEnd,
-    pub(crate) back: BackEnd,
-    pub(crate) clock: Clock,
+pub struct Moving {
+    mover: MoveEnd,
+    back: BackEnd,
+    clock: Clock,
 }
 
 impl Moving {
-    /// Makes at most so many turns. The lane's number is the seed of its choices.
-    pub(crate) fn pass<G: Gate>(&mut self, gate: &G, turns: u32)
+    /// The worker with this number, before its first turn in a session. Both ends are those of one lane.
+    pub fn new(mover: MoveEnd, back: BackEnd, worker: u32) -> Moving
+        requires { back.lane ≡ mover.lane }
+        ensures { result.lane ≡ mover.lane }
+    {
+        Moving {
+            mover,
+            back,
+            clock: Clock::new(worker),
+        }
+    }
+
+    /// Makes at least 1 and at most so many turns. The worker's number is the seed of its choices.
+    pub fn pass<G: Gate>(&mut self, gate: &G, turns: u32)
         requires { 1 ≤ turns }
         ensures { self.new ≡ self.old }
     {
         let first = self.clock.first(turns);
-        let worker = self.clock.worker;
+        let worker = self.clock.worker();
         let made = move_pass(
             &mut self.mover,
             &mut self.back,
@@ -73,6 +86,14 @@ impl Moving {
             turns,
         );
         self.clock = self.clock.after(first, made);
+    }
+
+    /// Its two ends, at the end of a session.
+    pub fn into_ends(self) -> (MoveEnd, BackEnd)
+        ensures mover { result.0.lane ≡ self.lane }
+        ensures back { result.1.lane ≡ self.lane }
+    {
+        (self.mover, self.back)
     }
 }
 
@@ -88,18 +109,40 @@ impl Model for Moving {
     ghost invariant = { IsMoving };
 }
 
-/// The worker that receives frames into a list with room for `room` of them.
+/// The worker that receives frames into a list with room for `room` of them. Contracts see the lane that its end stands
+/// at, and the frames that were received.
 #[derive(Drop)]
-pub(crate) struct Receiving {
-    pub(crate) end: RecvEnd,
-    pub(crate) got: FrameList,
-    pub(crate) room: usize,
-    pub(crate) clock: Clock,
+pub struct Receiving {
+    end: RecvEnd,
+    got: FrameList,
+    room: usize,
+    clock: Clock,
 }
 
 impl Receiving {
+    /// The worker with this number, before its first turn in a session, with room for so many frames. Its end has received
+    /// nothing. The only error is want of memory.
+    pub fn new(
+        alloc: Global,
+        end: RecvEnd,
+        room: usize,
+        worker: u32,
+    ) -> Result<Receiving, AllocError>
+        requires { end.part.got ≡ [] }
+        ensures { IfOk result (λ w. w ≡ record { lane = end.lane; got = [] }) }
+    {
+        let mut got = FrameList::new(alloc);
+        got.promise(room)?;
+        Ok(Receiving {
+            end,
+            got,
+            room,
+            clock: Clock::new(worker),
+        })
+    }
+
     /// Makes at most so many turns, and no more than the list has room for.
-    pub(crate) fn pass<G: Gate>(&mut self, gate: &G, turns: u32)
+    pub fn pass<G: Gate>(&mut self, gate: &G, turns: u32)
         ensures { self.new.lane ≡ self.old.lane }
     {
         let spare = self.room - self.got.len();
@@ -108,16 +151,25 @@ impl Receiving {
             return;
         }
         let first = self.clock.first(turns);
-        let worker = self.clock.worker;
+        let worker = self.clock.worker();
         let made = recv_pass(&mut self.end, &mut self.got, gate, worker, first, turns);
         self.clock = self.clock.after(first, made);
     }
 
     /// How many frames were received.
-    pub(crate) fn count(&self) -> usize
+    pub fn count(&self) -> usize
         ensures { result ≡ length self.now.got }
     {
         self.got.len()
+    }
+
+    /// Its end, and the frames that were received, in order.
+    pub fn into_parts(self) -> (RecvEnd, FrameList)
+        ensures lane { result.0.lane ≡ self.lane }
+        ensures received { result.0.part.got ≡ self.got }
+        ensures got { result.1.frames ≡ self.got }
+    {
+        (self.end, self.got)
     }
 }
 
@@ -133,31 +185,51 @@ impl Model for Receiving {
     ghost invariant = { IsReceiving };
 }
 
-/// The worker that cuts the link.
+/// The worker that cuts the link. Contracts see the lane that its end stands at, and whether the link was cut.
 #[derive(Drop)]
-pub(crate) struct Cutting {
-    pub(crate) end: CutEnd,
-    pub(crate) is_cut: bool,
-    pub(crate) clock: Clock,
+pub struct Cutting {
+    end: CutEnd,
+    is_cut: bool,
+    clock: Clock,
 }
 
 impl Cutting {
+    /// The worker with this number, before its turn in a session. The link isn't cut.
+    pub fn new(end: CutEnd, worker: u32) -> Cutting
+        requires { end.part.cut ≡ false }
+        ensures { result ≡ record { lane = end.lane; cut = false } }
+    {
+        Cutting {
+            end,
+            is_cut: false,
+            clock: Clock::new(worker),
+        }
+    }
+
     /// Makes its one turn: the link is cut.
-    pub(crate) fn pass<G: Gate>(&mut self, gate: &G)
+    pub fn pass<G: Gate>(&mut self, gate: &G)
         ensures lane { self.new.lane ≡ self.old.lane }
         ensures cut { self.new.cut ≡ true }
     {
         let first = self.clock.first(1);
-        let made = cut_pass(&mut self.end, gate, self.clock.worker, first);
+        let made = cut_pass(&mut self.end, gate, self.clock.worker(), first);
         self.is_cut = true;
         self.clock = self.clock.after(first, made);
     }
 
     /// Whether the link was cut.
-    pub(crate) fn is_cut(&self) -> bool
+    pub fn is_cut(&self) -> bool
         ensures { result ≡ self.now.cut }
     {
         self.is_cut
+    }
+
+    /// Its end, at the end of a session.
+    pub fn into_end(self) -> CutEnd
+        ensures lane { result.lane ≡ self.lane }
+        ensures cut { result.part.cut ≡ self.cut }
+    {
+        self.end
     }
 }
 

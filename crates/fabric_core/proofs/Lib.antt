@@ -11,6 +11,7 @@ pub mod Phases
 pub mod QueueCalls
 pub mod QueueParts
 pub mod RefusedAgain
+pub mod RefusedMoves
 pub mod SessionTallies
 pub mod Standing
 pub mod SteppedPairs

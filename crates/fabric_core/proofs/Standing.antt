@@ -1,5 +1,5 @@
 -- What a fabric that stands for steps lets its pairs do, and what it stands for after one more.
-use Rattle.std.proofs.Common.{◌≡◌, ◌≢◌, ◌∙◌, ℕ, ◌<◌, Bool, true, false, List, [], ◌∷◌, ◌++◌, map, length, refl, sym, ap, subst, arith, ext_get_or, get_or-set_other, get_or-set_same, length-set, set, slice_index_or, Result, Ok, Err, IfOk, OnOk, OnErr, IsErr, inl, inr, ⊎_elim, ◌⊎◌}
+use Rattle.std.proofs.Common.{◌≡◌, ◌≢◌, ◌∙◌, ℕ, ◌<◌, Bool, true, false, List, [], ◌∷◌, ◌++◌, map, length, refl, sym, ap, subst, arith, ext_get_or, get_or-set_other, get_or-set_same, length-set, set, slice_index_or, Result, Ok, Err, IfOk, OnOk, OnErr, IsErr, inl, inr, ◌⊎◌}
 use Rattle.std.specs.List.{AllByRecursion}
 use Rattle.std.proofs.lemmas.Bool.{cases_eq, true≢false}
 use Rattle.std.proofs.lemmas.List.{get_or-map, length-map}
@@ -11,22 +11,21 @@ use Rattle.step_kinds.specs.declared.names.Side.TheVariants.{A, B}
 use Rattle.step_kinds.specs.declared.plan.DevPlan.{DevPlan}
 use Rattle.step_kinds.specs.declared.plan.PairPlan.{PairPlan}
 use Rattle.step_kinds.specs.declared.plan.Plan.{Plan}
-use Rattle.step_kinds.specs.declared.plan.SidePlan.{SidePlan}
 use Rattle.step_kinds.specs.declared.steps.Answer.{Answer}
 use Rattle.step_kinds.specs.declared.steps.Answer.TheVariants.{Up}
 use Rattle.step_kinds.specs.declared.steps.Step.{Step}
 use Rattle.step_kinds.specs.declared.steps.Step.TheVariants.{Enable, Train, Break, DropDone, Clean, Offer, Check, Ready, Join, Begin, QpDown, Xbegin, Post, Land, Look, Copy, Clear, Ack, Wake, Irq, Mask, Unmask, Spad, Poke, ShowMem, ShowPad, ShowQueue, Relay, Xnext}
 use Rattle.plan_model.specs.Both.{Both, at_side}
-use Rattle.plan_model.specs.DeclaredPlans.{Agree, IsDeclared, IsPair, IsPairOf, IsPermitted, IsPoke, IsQueueOf, IsShown, IsSide, SizesFit}
+use Rattle.plan_model.specs.DeclaredPlans.{Agree, IsDeclared, IsPair, IsPairOf, IsPermitted, IsPoke, IsQueueOf, IsShown, SizesFit}
 use Rattle.plan_model.specs.Plans.{no_pair, pair_plan, side_plan}
 use Rattle.plan_model.proofs.PermittedSteps.{permitted_by_other, queue_of_other}
-use Rattle.ledger_laws.proofs.Facade.{every_frame_comes_once, every_log_is_in_order, joined_means_agreement, lane_part_lands, log_of-last, no_ordinary_ver_differs_or_long, quiet_means_done, up_means_agreement, up_side_agrees}
-use Rattle.ledger_laws.specs.Laws.{HasSides, IsOrdinaryOn, IsSide as IsLawSide}
+use Rattle.ledger_laws.proofs.Facade.{answers_are_right, are_ordinary, has_sides, joined_means_agreement, laws_hold, log_of-last, no_ordinary_ver_differs_or_long, up_means_agreement}
+use Rattle.ledger_laws.specs.Laws.{is_made}
 use Rattle.ledger_model.specs.Ledger.{PairPart, side_of}
 use Rattle.ledger_model.specs.Log.{ledger_of}
 use Rattle.ledger_model.specs.Next.{pair_next}
 use Rattle.memory_model.specs.Memory.{Site, bytes_of_site, memory_of, site_of}
-use Rattle.byte_laws.proofs.Facade.{site_of-elsewhere, sites_are_the_ledger, steps_of_log, stored_pairs_are_separate}
+use Rattle.byte_laws.proofs.Facade.{memories_keep_pairs_apart, site_of-elsewhere, sites_are_the_ledger, steps_of_log}
 use Rattle.bridge_pair.specs.Bridge.{Bridge, book_of}
 use Rattle.bridge_pair.specs.Words.{WindowsFit}
 use Rattle.frame_ring.specs.PortView.{FitsRings}
@@ -41,7 +40,8 @@ use Rattle.fabric_core.specs.Fabric.{FabricState, StandsFor, bare_plan, may_want
 use Rattle.fabric_core.specs.Fabrics.{IsFabric, fabric_seen}
 use Rattle.fabric_core.specs.Parts.{Agrees, CanMake}
 use Rattle.fabric_core.specs.declared.fabric.Fabric.TheInside.{Inside}
-use Rattle.fabric_core.specs.Lawful.{IsLawful, pair_after}
+use Rattle.fabric_core.proofs.RefusedMoves.{refused_left}
+use Rattle.fabric_core.specs.Lawful.{IsLawful}
 use Rattle.fabric_core.specs.FabricStep.{HasStepped}
 use Rattle.fabric_core.specs.LogClauses.{HasMade, IsAnswered, IsLikely, log_after}
 
@@ -101,18 +101,6 @@ declared_bare plan declared =
       one_on_a_queue = declared.one_on_a_queue;
     }
 
--- the steps that are permitted are ordinary on an ordinary pair
-
-is_ordinary : (plan : Plan) (k : ℕ) → (pair_plan plan k).raw ≡ false → (step : Step) → IsPermitted plan step → IsOrdinaryOn k step
-is_ordinary plan k no_raw (Spad p side i value) may on =
-    ⊎_elim (λ own. own) (λ raw. absurd (true≢false (sym raw ∙ ap (λ j. (pair_plan plan j).raw) on ∙ no_raw))) may.1.free
-is_ordinary plan k no_raw (Poke p side window offset bytes) may on = true≢false (sym may.1.raw ∙ ap (λ j. (pair_plan plan j).raw) on ∙ no_raw)
-is_ordinary plan k no_raw step may on = tt
-
-pub are_ordinary : (plan : Plan) (k : ℕ) → (pair_plan plan k).raw ≡ false → (steps : List Step) → AllByRecursion (IsPermitted plan) steps → AllByRecursion (IsOrdinaryOn k) steps
-are_ordinary plan k no_raw [] may = tt
-are_ordinary plan k no_raw (step ∷ steps) may = (is_ordinary plan k no_raw step may.0, are_ordinary plan k no_raw steps may.1)
-
 pub all_last : {X : Type 0} (P : X → Type 0) (xs : List X) (x : X) → AllByRecursion P xs → P x → AllByRecursion P (xs ++ x ∷ [])
 all_last P [] x all own = (own, tt)
 all_last P (first ∷ xs) x all own = (all.0, all_last P xs x all.1 own)
@@ -133,23 +121,6 @@ goes_on plan steps step answer is =
     k = subject_of step
 
 -- Agreement
-
-law_side : (side : SidePlan) → IsSide side → IsLawSide side
-law_side side is =
-    record {
-      a_version = omega (arith, is.known_version.0);
-      few_versions = omega (arith, is.known_version.1);
-      a_queue = omega (arith, is.queues.0);
-      few_queues = is.queues.1;
-      a_window = omega (arith, is.windows.0);
-      few_windows = is.windows.1;
-      a_size = is.size.0;
-      a_cap = is.cap.0;
-    }
-
-has_sides : (plan : Plan) → IsDeclared plan → HasSides plan
-has_sides plan declared k A below = law_side (pair_plan plan k).a (declared.pairs k below).side_a
-has_sides plan declared k B below = law_side (pair_plan plan k).b (declared.pairs k below).side_b
 
 half : (plan : PairPlan) → SizesFit plan → (side : Side) → WindowsFit plan side
 half plan fits A = fits.1
@@ -372,16 +343,7 @@ set_plain old k pair same = ap (λ pairs. record { devs = old.devs; pairs = pair
 -- The laws of every log
 
 pub always_lawful : (plan : Plan) (steps : List Step) (fabric : FabricState) → HasMade plan steps fabric → IsLawful plan steps
-always_lawful plan steps fabric made =
-    record {
-      in_order = λ lane session ordinary. every_log_is_in_order plan (memory_of plan) steps lane session ordinary;
-      once = λ lane session n ordinary. every_frame_comes_once plan (memory_of plan) steps lane session n ordinary;
-      quiet = λ k side queue ordinary is. quiet_means_done plan (memory_of plan) steps k side queue ordinary is;
-      agreement = λ k side among ordinary up.
-          up_side_agrees plan (memory_of plan) steps k side (made.declared.pairs k among) (are_ordinary plan k ordinary steps made.permitted) up;
-      separate = λ k. stored_pairs_are_separate plan steps k;
-      lane_part = λ k side queue place label there may. lane_part_lands (pair_plan plan k) side queue (side_of (pair_after plan steps k) side).flight place label there may;
-    }
+always_lawful plan steps fabric made = laws_hold plan (memory_of plan) steps made.declared made.permitted (memories_keep_pairs_apart plan)
 
 -- What a step leaves of a fabric, by what it leaves of its pair
 
@@ -416,8 +378,12 @@ module _ (old : FabricState) (step : Step) (pair : PairState) (may : IsPermitted
         answered = λ plan steps made.
             let may = permitted_by plan steps made in
             (step_answered plan steps step old new made may answer moves, step_likely plan steps step old new made may answer moves);
+        right = λ plan steps made.
+            let may = permitted_by plan steps made in
+            answers_are_right plan (memory_of plan) steps step answer made.declared (all_last (IsPermitted plan) steps step made.permitted may) (step_answered plan steps step old new made may answer moves);
         stands = λ plan steps made. step_made plan steps step old new made (permitted_by plan steps made) answer moves;
         lawful = λ plan steps made. always_lawful plan (steps ++ step ∷ []) new (step_made plan steps step old new made (permitted_by plan steps made) answer moves);
+        refused = λ refused. refused_left old step pair (ap (is_made step) (sym moved.answer) ∙ refused) moved.after;
         still_stands = λ plan steps made. tt;
         err = tt;
         wants = wants;
@@ -428,8 +394,10 @@ module _ (old : FabricState) (step : Step) (pair : PairState) (may : IsPermitted
       let same = set_plain old (subject_of step) pair moved.err in
       record {
         answered = λ plan steps made. tt;
+        right = λ plan steps made. tt;
         stands = λ plan steps made. tt;
         lawful = λ plan steps made. tt;
+        refused = tt;
         still_stands = λ plan steps made. still_made plan steps old new same made;
         err = same;
         wants = wants;

@@ -44,14 +44,25 @@ impl Fabric {
     }
 
     /// Makes a step, which has to be one that a script of the fabric's plan may make, and answers it. Whatever steps the fabric
-    /// stands for, the answer is the log's of those steps and this one, and then it stands for them and this one. On an ordinary
-    /// pair, that is, one that isn't declared `raw`, no step is answered `verdiffers` or `long`. What always holds of the steps
-    /// made: frames come in order and once, a quiet queue is done, sides that are up agree, pairs are separate. It costs what it touches: no other pair, queue or device is looked at.
+    /// stands for, the answer is the log's of those steps and this one, and then it stands for them and this one.
+    ///
+    /// So the answer says what the log of those steps says. `linkdown`, `notready`, `closed`, `toolong` and `busy` come exactly
+    /// where the log says so. So do `stopped`, `again`, `empty` and `peerdown` on ordinary pairs, that is, on pairs that aren't
+    /// declared `raw`. On these `up` comes only where all of the peer's numbers have landed in the session and agree, and neither
+    /// `verdiffers` nor `long` comes.
+    ///
+    /// A refusal leaves the fabric as it was, promised room and pages aside. Two things change all the same: a device's refusal is
+    /// counted, and a port that answers `idle` lets go of the entry that it has posted.
+    ///
+    /// Of the steps made the laws of every log hold. On ordinary pairs frames come in order and once, and a quiet queue has
+    /// delivered all. What is in flight there is what was posted, rings keep their law, and sides that are up agree. On every pair
+    /// counts are the log's, what was posted are the entries' writes, and nothing is in flight while the link is down. A lane's
+    /// part of what is in flight lands by its own order, and the steps on other pairs change no answer.
     ///
     /// # Errors
     ///
     /// [`AllocError`] from want of memory alone: of a step that posts, promises or hands out bytes. The fabric stands for the
-    /// same steps as before then, and the step can be made again.
+    /// same steps as before then, and nothing but promised room and pages has changed.
     #[inline(always)]
     pub fn step(&mut self, step: &Step) -> Result<Answer, AllocError>
         requires { IsPermitted (plan_kept self.old) step.now }

@@ -24,10 +24,10 @@ use Rattle.ledger_model.specs.Next.{read_next, fresh_pair}
 use Rattle.ledger_model.specs.Outcome.{decided, refuse_if}
 use Rattle.ledger_model.specs.Sending.{is_busy, begun, begin_step, xbegin_step, refuse_sender, refuse_full, begin_refusal, xbegin_refusal, counts_refused, refuse_busy}
 use Rattle.ledger_model.specs.Labels.{indexes_among}
-use Rattle.ledger_laws.proofs.AtStart.{fresh-lane, fresh-flight}
+use Rattle.ledger_laws.proofs.AtStart.{fresh-lane, fresh-flight, up-not_down}
 use Rattle.ledger_laws.proofs.walk.Turn.{IsRaw, SizesOf}
 use Rattle.ledger_model.specs.Reading.{Reading, by_bytes, by_ledger}
-use Rattle.ledger_laws.proofs.RoomInLog.{RoomKnown, room_kept}
+use Rattle.ledger_laws.proofs.RoomInLog.{RoomKnown, open_above, room_kept, room_told}
 use Rattle.ledger_laws.proofs.LogGrowth.{answer_of, made_by}
 use Rattle.ledger_laws.proofs.walk.Cases.{closing, needs, sent_frame}
 use Rattle.ledger_laws.proofs.walk.Logs.{HoldsAlways, always_after}
@@ -143,25 +143,19 @@ room_fresh plan lane =
       chain = record { acked_cleared = omega arith; cleared_got = omega arith; copied = λ x. absurd (false≢true x); given = λ x. absurd (false≢true x) };
       waits = record { waiting = 0; indexes = ap (indexes_among lane.queue) (fresh-flight own (other_side lane.from)); within = omega arith; all_up = λ _. refl };
       takes = record { within = omega arith; copying = λ x. absurd (false≢true x) };
-      counts = λ up. record { taken = refl; given = refl };
+      counts = λ open_yet. record { taken = refl; given = refl };
     })
 
 pub room_runs : (plan : Plan) (lane : LaneName) → IsRaw plan lane ≡ false → HoldsAlways plan lane (RoomKnown plan lane)
 room_runs plan lane no_raw = record { fresh = room_fresh plan lane; turns = room_kept plan lane no_raw }
 
 -- the room that the ledger counts is that of the log, while the link is up
-room_known : (plan : Plan) (memories : Memories) (steps : List Step) (lane : LaneName) → IsRaw plan lane ≡ false → link_up (ledger_of plan memories steps lane.pair) ≡ true
+pub room_known : (plan : Plan) (memories : Memories) (steps : List Step) (lane : LaneName) → IsRaw plan lane ≡ false → link_up (ledger_of plan memories steps lane.pair) ≡ true
     → free_of (SizesOf plan lane) (lane_of (ledger_of plan memories steps lane.pair) lane.from lane.queue) ≡ room_in plan (log_of plan memories steps) lane
 room_known plan memories steps lane no_raw up =
-    let known = always_after plan lane (RoomKnown plan lane) (room_runs plan lane no_raw) memories steps in
-    let counts = known.counts up in
-    let a = counts.taken in
-    let b = counts.given in
-    let c = known.waits.within in
-    let d = known.chain.acked_cleared in
-    let f = known.chain.cleared_got in
-    let g = known.takes.within in
-    omega arith
+    let now = ledger_of plan memories steps lane.pair in
+    room_told plan lane (log_of plan memories steps) (sight lane.from lane.queue now) (always_after plan lane (RoomKnown plan lane) (room_runs plan lane no_raw) memories steps)
+    (open_above (sight lane.from lane.queue now) (up-not_down now.link.state up))
 
 begun_subject : (step : Step) (lane : LaneName) → lane_begun_by step ≡ Some lane → subject_of step ≡ lane.pair
 begun_subject (Begin p side queue frame) lane e = ap (λ l. l.pair) (same_Some _ _ e)

@@ -100,7 +100,7 @@ counters-last plan own log made =
 
 -- What a step on another pair tells of a device
 
-on-elsewhere : (own : LaneName) (p : ℕ) (side : Side) (queue : ℕ) → (p ≡ own.pair → ⊥) → is_on own p side queue ≡ false
+pub on-elsewhere : (own : LaneName) (p : ℕ) (side : Side) (queue : ℕ) → (p ≡ own.pair → ⊥) → is_on own p side queue ≡ false
 on-elsewhere own p side queue ne = ap (λ b. b && (same_side side own.from && (queue == own.queue))) (ne_eqb p own.pair ne)
 
 accepts-elsewhere : (plan : Plan) (own : LaneName) (step : Step) (answer : Answer) → (subject_of step ≡ own.pair → ⊥) → device_accepts plan own (record { step = step; answer = answer }) ≡ []
@@ -118,17 +118,17 @@ delivers-elsewhere own step answer ne = refl
 
 -- The device after a step
 
-abbrev Devs : Type 0
+abbrev pub Devs : Type 0
 Devs = Both (ℕ → DevPart)
 
-abbrev with_part : Devs → Side → ℕ → DevPart → Devs
+abbrev pub with_part : Devs → Side → ℕ → DevPart → Devs
 with_part devs side queue part = with_side devs side (updated (at_side devs side) queue part)
 
-dev-own : (from : Side) (q : ℕ) (devs : Devs) (part : DevPart) → at_side (with_part devs from q part) from q ≡ part
+pub dev-own : (from : Side) (q : ℕ) (devs : Devs) (part : DevPart) → at_side (with_part devs from q part) from q ≡ part
 dev-own A q devs part = cond-true (q == q) part (devs.a q) (eq-eqb q q refl)
 dev-own B q devs part = cond-true (q == q) part (devs.b q) (eq-eqb q q refl)
 
-dev-off : (from : Side) (q : ℕ) (devs : Devs) (side : Side) (queue : ℕ) (part : DevPart) → IsOff from q side queue → at_side (with_part devs side queue part) from q ≡ at_side devs from q
+pub dev-off : (from : Side) (q : ℕ) (devs : Devs) (side : Side) (queue : ℕ) (part : DevPart) → IsOff from q side queue → at_side (with_part devs side queue part) from q ≡ at_side devs from q
 dev-off from q devs side queue part off = go from side off.placed
   where
     go : (f s : Side) → (same_side s f && (q == queue)) ≡ false → at_side (with_part devs s queue part) f q ≡ at_side devs f q
@@ -148,16 +148,16 @@ counters-kept from q devs side queue =
     (λ part e. ap counters_of (dev-own from q devs part) ∙ e)
     (λ s k c off part e. ap counters_of (dev-off from q devs s k part off)) side queue
 
-devs-posts : (pair : PairPart) (side : Side) (label : Label) → (posts pair side label).devs ≡ pair.devs
+pub devs-posts : (pair : PairPart) (side : Side) (label : Label) → (posts pair side label).devs ≡ pair.devs
 devs-posts pair side label = same-posts (λ (p : PairPart). p.devs) pair side label (λ _. refl)
 
-devs-posts_raw : (pair : PairPart) (side : Side) (label : Label) (bytes : List ℕ) → (posts_raw pair side label bytes).devs ≡ pair.devs
+pub devs-posts_raw : (pair : PairPart) (side : Side) (label : Label) (bytes : List ℕ) → (posts_raw pair side label bytes).devs ≡ pair.devs
 devs-posts_raw pair side label bytes = same-posts_raw (λ (p : PairPart). p.devs) pair side label bytes (λ _. refl)
 
-devs-through : (reading : Reading) (pair : PairPart) (side : Side) (label : Label) → (posts_through reading pair side label).devs ≡ pair.devs
+pub devs-through : (reading : Reading) (pair : PairPart) (side : Side) (label : Label) → (posts_through reading pair side label).devs ≡ pair.devs
 devs-through reading pair side label = same-through (λ (p : PairPart). p.devs) reading pair side label (λ _. refl)
 
-devs-landed : (pair : PairPart) (side : Side) (label : Label) → (lands_on pair side label).devs ≡ pair.devs
+pub devs-landed : (pair : PairPart) (side : Side) (label : Label) → (lands_on pair side label).devs ≡ pair.devs
 devs-landed pair side (Flag queue n) = refl
 devs-landed pair side (Down queue n) = refl
 devs-landed pair side (Bell queue) = refl

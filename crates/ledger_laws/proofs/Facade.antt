@@ -1,5 +1,6 @@
 -- What crates above may cite of the proofs of this crate: the laws of every log, one name for each, and how a log grows by a step.
 pub use Rattle.ledger_laws.proofs.AgainWhereNoRoom.{again_where_no_room}
+pub use Rattle.ledger_laws.proofs.AllTogether.{answers_are_right, are_ordinary, has_sides, laws_hold}
 pub use Rattle.ledger_laws.proofs.CopiedInParts.{copied_in_parts}
 pub use Rattle.ledger_laws.proofs.CountersAreCounts.{counters_are_counts}
 pub use Rattle.ledger_laws.proofs.FramesInOrder.{every_log_is_in_order, every_frame_comes_once}

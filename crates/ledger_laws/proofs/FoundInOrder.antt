@@ -1,10 +1,10 @@
 -- A look is answered `empty` or `peerdown` exactly where the log has no flags of a further entry, or those of a link-down entry.
-use Rattle.std.proofs.Common.{◌≡◌, ℕ, zero, suc, ◌+◌, ◌<◌, ◌≤◌, ◌==◌, Bool, true, false, not, ◌&&◌, Option, Some, None, List, [], ◌∷◌, ◌++◌, length, map, refl, sym, ap, ◌∙◌, subst, append_assoc, arith, inl, inr, ◌⊎◌}
-use Rattle.std.specs.Prelude.{if◌then◌else◌, remove, slice_get, slice_index_or, take}
+use Rattle.std.proofs.Common.{◌≡◌, ℕ, zero, suc, ◌+◌, ◌<◌, ◌≤◌, ◌==◌, Bool, true, false, not, ◌&&◌, Some, None, List, [], ◌∷◌, ◌++◌, length, map, refl, sym, ap, ◌∙◌, subst, append_assoc, arith, inl, inr, ◌⊎◌}
+use Rattle.std.specs.Prelude.{if◌then◌else◌, slice_get, slice_index_or, take}
 use Rattle.std.specs.List.{flat_map}
-use Rattle.std.proofs.lemmas.Bool.{both_ways, cases_Bool, cases_eq, cond-false, cond-true, eq-eqb, eqb-false, eqb-true, false≢true, ne_eqb}
+use Rattle.std.proofs.lemmas.Bool.{cases_Bool, cases_eq, cond-false, cond-true, eq-eqb, eqb-false, false≢true, ne_eqb}
 use Rattle.std.proofs.lemmas.Grind.{flat_map-append}
-use Rattle.std.proofs.lemmas.List.{append-nil, length-append, length-map}
+use Rattle.std.proofs.lemmas.List.{append-nil, length-map}
 use Rattle.step_kinds.specs.Sides.{other_side}
 use Rattle.step_kinds.specs.Subject.{subject_of}
 use Rattle.step_kinds.specs.declared.names.LaneName.{LaneName}
@@ -26,7 +26,7 @@ use Rattle.ledger_model.specs.Pieces.{pieces_of}
 use Rattle.plan_model.specs.Ethernet.{ethernet_frame}
 use Rattle.plan_model.specs.Sizes.{sizes_of}
 use Rattle.ledger_model.specs.Ledger.{LanePart, PairPart, lane_of, entry_in, lane_to, posts, posts_raw, side_of, with_lane}
-use Rattle.ledger_model.specs.Log.{Answered, Memories, in_this_session, is_on, log_of, same_side, ledger_of, made_since, trains}
+use Rattle.ledger_model.specs.Log.{Answered, Memories, is_on, log_of, same_side, ledger_of, made_since, trains}
 use Rattle.byte_model.specs.Headers.{Bytes}
 use Rattle.order_rules.specs.Order.{may_land}
 use Rattle.plan_model.specs.Orders.{order_of}
@@ -54,7 +54,7 @@ use Rattle.ledger_laws.proofs.RefusedInOrder.{neither_after}
 use Rattle.ledger_laws.specs.Laws.{IsOrdinaryPair}
 use Rattle.ledger_laws.proofs.walk.Cases.{ack_cases, acking, begin_cases, break_cases, check_cases, clean_cases, cleaned, clear_cases, clearing, closing, copied_last, copy_cases, drop_cases, enable_cases, join_cases, land_cases, landed, look_cases, looking, next_offer, offer_cases, offering, post_cases, qpdown_cases, readied, ready_cases, ready_pad, refuses, sent_frame, train_cases, trained, wake_cases, xbegin_cases}
 use Rattle.ledger_laws.proofs.walk.Sight.{IsOff, by_lane, lane-own, lane-off, sight}
-use Rattle.ledger_laws.proofs.walk.Tells.{is_look, on-own, on-off}
+use Rattle.ledger_laws.proofs.walk.Tells.{on-own, on-off}
 
 -- What the ledger has of the flags
 

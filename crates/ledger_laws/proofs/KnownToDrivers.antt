@@ -1,8 +1,7 @@
 -- What the driver of a queue is told by the log is what the ledger has of its queue, on raw pairs too.
-use Rattle.std.proofs.Common.{◌≡◌, ℕ, zero, suc, ◌+◌, ◌-◌, ◌==◌, ◌&&◌, ◌||◌, Bool, true, false, not, Option, Some, None, List, [], ◌∷◌, ◌++◌, length, map, refl, sym, ap, ◌∙◌, subst, arith, inl, inr}
-use Rattle.std.specs.Prelude.{if◌then◌else◌, nat_lt, ◌^◌, ◌<◌, ◌≤◌, bit_and, bit_or, remove, slice_set}
-use Rattle.std.specs.List.{fold}
-use Rattle.std.proofs.lemmas.Bool.{false≢true, cases_Bool, cases_eq, both_ways, cond_both, cond-true, cond-false, eq-eqb, ltb-true, ltb-false, ne_eqb}
+use Rattle.std.proofs.Common.{◌≡◌, ℕ, ◌+◌, ◌-◌, ◌==◌, ◌&&◌, Bool, true, false, not, List, [], ◌∷◌, ◌++◌, length, map, refl, sym, ap, ◌∙◌, subst, arith, inl, inr}
+use Rattle.std.specs.Prelude.{if◌then◌else◌, nat_lt, ◌^◌, ◌<◌, bit_and, bit_or, remove, slice_set}
+use Rattle.std.proofs.lemmas.Bool.{false≢true, cases_Bool, cases_eq, cond_both, cond-true, cond-false, eq-eqb, ltb-true, ltb-false, ne_eqb}
 use Rattle.std.proofs.lemmas.List.{length-append, length-map}
 use Rattle.std.proofs.lemmas.List.Sums.{fold-append, sum_by-cons}
 use Rattle.std.proofs.lemmas.Nat.Bits.{bit_at-zero, bit_at_ones, bit_at_ones_above, bit_at_or, bit_at-pow_other}
@@ -24,7 +23,7 @@ use Rattle.lane_laws.proofs.Facade.{length-count_from}
 use Rattle.lane_model.specs.Lane.{Entry, GoesDown, bytes_of, chunks_in, count_from, data_of, writes_of}
 use Rattle.lane_model.specs.declared.Field.TheVariants.{Chunk, Length, Version}
 use Rattle.lane_model.specs.declared.Write.TheVariants.{Data, Flag as EntryFlag, Bell as QueueBell}
-use Rattle.plan_model.specs.Both.{Both, at_side, both_of}
+use Rattle.plan_model.specs.Both.{at_side, both_of}
 use Rattle.plan_model.specs.Ethernet.{ethernet_frame}
 use Rattle.plan_model.specs.Plans.{dev_plan, pair_plan, side_plan}
 use Rattle.plan_model.specs.Sizes.{sizes_of}
@@ -43,8 +42,8 @@ use Rattle.lane_model.specs.declared.Phase.{Phase}
 use Rattle.lane_model.specs.declared.Phase.TheVariants.{Idle, Copying, Copied, Cleared}
 use Rattle.ledger_laws.proofs.BitSets.{has-with_same}
 use Rattle.ledger_laws.proofs.EachPair.{HoldsOfLog, AnyStep, log_after}
-use Rattle.ledger_laws.proofs.LogGrowth.{made_by, left_by}
-use Rattle.ledger_laws.proofs.walk.Cases.{MaySend, found_refusals, refuses, enable_cases, train_cases, break_cases, drop_cases, clean_cases, offer_cases, check_cases, ready_cases, join_cases, begin_cases, qpdown_cases, xbegin_cases, post_cases, land_cases, look_cases, copy_cases, clear_cases, ack_cases, acking, wake_cases, trained, cleaned, dropped, offering, next_offer, readied, ready_pad}
+use Rattle.ledger_laws.proofs.LogGrowth.{made_by}
+use Rattle.ledger_laws.proofs.walk.Cases.{found_refusals, refuses, enable_cases, train_cases, break_cases, drop_cases, clean_cases, offer_cases, check_cases, ready_cases, join_cases, begin_cases, qpdown_cases, xbegin_cases, post_cases, land_cases, look_cases, copy_cases, clear_cases, ack_cases, acking, wake_cases, trained, cleaned, dropped, offering, next_offer, readied, ready_pad}
 use Rattle.ledger_laws.proofs.walk.Logs.{all_fit}
 use Rattle.ledger_laws.proofs.walk.Sight.{IsOff, OffCase, OtherQueue, OtherWay, by_lane, lane-own, other_other}
 use Rattle.ledger_laws.proofs.walk.Tells.{on-own, on-off}

@@ -48,3 +48,8 @@ pub mod KnownToDrivers
 pub mod RefusedInOrder
 pub mod FlagsInOrder
 pub mod FoundInOrder
+pub mod StoppedByLog
+pub mod OfSending
+pub mod SendersInOrder
+pub mod AllTogether
+pub mod FlightOfLog

@@ -1,9 +1,8 @@
 -- A step is refused as not ready, closed or busy exactly where its driver knows it.
-use Rattle.std.proofs.Common.{◌≡◌, ℕ, ◌+◌, ◌<◌, ◌==◌, Bool, true, false, not, ◌&&◌, ◌||◌, Option, Some, None, List, [], ◌∷◌, ◌++◌, length, map, refl, sym, ap, ◌∙◌, arith}
+use Rattle.std.proofs.Common.{◌≡◌, ℕ, ◌+◌, ◌==◌, Bool, true, false, not, ◌&&◌, ◌||◌, Option, Some, None, List, [], ◌∷◌, ◌++◌, length, map, refl, sym, ap, ◌∙◌, arith}
 use Rattle.std.specs.Prelude.{if◌then◌else◌, find, nat_lt, slice_get}
 use Rattle.std.proofs.lemmas.Bool.{cond_both, lt-ltb, true≢false}
 use Rattle.step_kinds.specs.Bits.{has_bit}
-use Rattle.step_kinds.specs.declared.names.LaneName.{LaneName}
 use Rattle.step_kinds.specs.declared.names.Side.{Side}
 use Rattle.step_kinds.specs.declared.plan.DevPlan.{DevPlan}
 use Rattle.step_kinds.specs.declared.plan.PairPlan.{PairPlan}
@@ -27,7 +26,7 @@ use Rattle.plan_model.specs.declared.LinkRefusal.{LinkRefusal}
 use Rattle.plan_model.specs.declared.LinkRefusal.TheVariants.{NotDown, Dirty, NotEnabled, NotUp, NotClosing, SessionsSpent}
 use Rattle.byte_model.specs.Headers.{Bytes, Found, NoEntry, ALinkDownEntry, AnotherVersion, TooManyBytes, AnEntry}
 use Rattle.ledger_model.specs.Handshake.{check_refusal, pad_in, refuse_larger, size_in}
-use Rattle.ledger_model.specs.Ledger.{LanePart, PairPart, head_in, side_of, lane_of, lane_to, dev_of, link_up, posts, with_dev, with_side_part}
+use Rattle.ledger_model.specs.Ledger.{PairPart, head_in, side_of, lane_of, lane_to, dev_of, link_up, posts, with_dev, with_side_part}
 use Rattle.ledger_model.specs.LinkSteps.{answer_of_refusal, refusal_answer}
 use Rattle.ledger_model.specs.Log.{Memories, log_of, ledger_of, up_at}
 use Rattle.ledger_model.specs.Next.{outcome_in, read_next}
@@ -36,7 +35,6 @@ use Rattle.ledger_model.specs.Reading.{Reading, reading_of}
 use Rattle.ledger_model.specs.Receiving.{copy_of, is_cleared, is_copied, is_copying, is_idle, land_found, lands_on, look_at, look_refusal, taken_out}
 use Rattle.ledger_model.specs.Sending.{is_busy, is_empty_list, begin_refusal, xbegin_refusal, refuse_sender, refuse_busy, refuse_full, begun, counts_refused, flow_of, posts_through}
 use Rattle.ledger_laws.specs.Drivers.{Driver, NotReadyWhereNotJoined, ClosedWhereClosed, BusyWhereLeftToPost, driver_after, finds_busy, finds_closed, fits_queue, is_busy_answer, is_closed, is_empty_answer, is_not_ready, is_peer_down, is_shut, lacks_queue, queue_named, writes_in}
-use Rattle.ledger_laws.proofs.FlagsInOrder.{AheadOf}
 use Rattle.ledger_laws.proofs.KnownToDrivers.{drivers_know, queue_of_ledger, writes-more, writes-some}
 use Rattle.ledger_laws.proofs.LinkDownWhereNotUp.{up_known}
 use Rattle.ledger_laws.proofs.LogGrowth.{answer_of}
@@ -46,7 +44,7 @@ use Rattle.ledger_laws.proofs.walk.Cases.{acking, broken, cleaned, clearing, clo
 -- The tests of a step, one after another
 
 -- whether a refusal is the one asked for
-abbrev first_is : (Answer → Bool) → Option Answer → Bool
+abbrev pub first_is : (Answer → Bool) → Option Answer → Bool
 first_is is None = false
 first_is is (Some r) = is r
 
@@ -147,7 +145,7 @@ join_not_ready true true false true = refl
 join_not_ready true true false false = refl
 
 -- what a look finds is none of them
-found_is_none : (is : Answer → Bool) → is Empty ≡ false → is PeerDown ≡ false → ((seen own : ℕ) → is (VerDiffers seen own) ≡ false) → ((len most : ℕ) → is (Long len most) ≡ false)
+pub found_is_none : (is : Answer → Bool) → is Empty ≡ false → is PeerDown ≡ false → ((seen own : ℕ) → is (VerDiffers seen own) ≡ false) → ((len most : ℕ) → is (Long len most) ≡ false)
     → ((number len : ℕ) → is (ReadyFrame number len) ≡ false) → (pair : PairPart) (side : Side) (queue : ℕ) (found : Found) → is (look_at pair side queue found).answer ≡ false
 found_is_none is a b c d e pair side queue NoEntry = a
 found_is_none is a b c d e pair side queue ALinkDownEntry = b
@@ -201,10 +199,10 @@ module _ (devs : List DevPlan) (plan : PairPlan) (reading : Reading) (bytes : By
   abbrev May : Side → ℕ → Bool
   May side queue = link_up pair && ((Has side queue).joined && not (Has side queue).closed)
 
-  busy_is : (side : Side) (queue : ℕ) → is_busy (lane_of pair side queue) ≡ IsBusy side queue
+  pub busy_is : (side : Side) (queue : ℕ) → is_busy (lane_of pair side queue) ≡ IsBusy side queue
   busy_is side queue = busy_left (lane_of pair side queue).todo (lane_of pair side queue).waiting
 
-  begin_is : (is : Answer → Bool) → ((n : ℕ) → is (OkNumber n) ≡ false) → (side : Side) (queue : ℕ) (frame : List ℕ)
+  pub begin_is : (is : Answer → Bool) → ((n : ℕ) → is (OkNumber n) ≡ false) → (side : Side) (queue : ℕ) (frame : List ℕ)
       → is (Next (Begin 0 side queue frame)) ≡ first_is is (begin_refusal (sizes_of plan side queue) reading pair side queue (length frame))
   begin_is is made side queue frame =
       decided_is is pair (begun (sizes_of plan side queue) pair side queue frame) (begin_refusal (sizes_of plan side queue) reading pair side queue (length frame)) (OkNumber (lane_of pair side queue).told) (made _)
@@ -225,7 +223,7 @@ module _ (devs : List DevPlan) (plan : PairPlan) (reading : Reading) (bytes : By
       ∙ sender_busy (link_up pair) (Has side queue).joined (Has side queue).closed _ _ (busy_of_plain _ _ _ _ _ _ _)
       ∙ ap (λ b. May side queue && (not (nat_lt (sizes_of plan side queue).most (length frame)) && b)) (busy_is side queue)
 
-  down_is : (is : Answer → Bool) → ((n : ℕ) → is (OkNumber n) ≡ false) → (side : Side) (queue : ℕ)
+  pub down_is : (is : Answer → Bool) → ((n : ℕ) → is (OkNumber n) ≡ false) → (side : Side) (queue : ℕ)
       → is (Next (QpDown 0 side queue)) ≡ first_is is (refuse_sender pair side queue (refuse_busy (lane_of pair side queue) (refuse_full (sizes_of plan side queue) reading (lane_of pair side queue) side queue 1)))
   down_is is made side queue =
       decided_is is pair (closing pair side queue) (refuse_sender pair side queue (refuse_busy (lane_of pair side queue) (refuse_full (sizes_of plan side queue) reading (lane_of pair side queue) side queue 1)))
@@ -245,7 +243,7 @@ module _ (devs : List DevPlan) (plan : PairPlan) (reading : Reading) (bytes : By
       ∙ sender_busy (link_up pair) (Has side queue).joined (Has side queue).closed _ _ (busy_of_down _ _ _ _)
       ∙ ap (λ b. May side queue && b) (busy_is side queue)
 
-  device_is : (is : Answer → Bool) → ((n : ℕ) → is (OkNumber n) ≡ false) → (side : Side) (queue dev : ℕ) (dst : List ℕ) (kind : ℕ) (payload : List ℕ)
+  pub device_is : (is : Answer → Bool) → ((n : ℕ) → is (OkNumber n) ≡ false) → (side : Side) (queue dev : ℕ) (dst : List ℕ) (kind : ℕ) (payload : List ℕ)
       → is (Next (Xbegin 0 side queue dev dst kind payload)) ≡ first_is is (xbegin_refusal (sizes_of plan side queue) reading pair (dev_of pair side queue) side queue (length (Frame dev dst kind payload)))
   device_is is made side queue dev dst kind payload =
       decided_is is (counts_refused pair side queue) (sent_frame reading (sizes_of plan side queue) (dev_plan devs dev) pair side queue (Frame dev dst kind payload))
@@ -434,7 +432,7 @@ module _ (plan : Plan) (memories : Memories) (steps : List Step) where
   Read k = reading_of (pair_plan plan k) (Bytes_of k) (Pair k)
 
   -- what is known of a queue, in the ledger's words and in the log's
-  seen : (f : Bool → Driver → Bool) (p : ℕ) (side : Side) (queue : ℕ)
+  pub seen : (f : Bool → Driver → Bool) (p : ℕ) (side : Side) (queue : ℕ)
       → f (link_up (Pair p)) (queue_of_ledger (queue_named p side queue) (Pair p)) ≡ f (up_at plan p (log_of plan memories steps)) (driver_after plan (log_of plan memories steps) (queue_named p side queue))
   seen f p side queue =
       ap (λ up. f up (queue_of_ledger (queue_named p side queue) (Pair p))) (sym (up_known plan memories steps p))

@@ -1,5 +1,5 @@
 -- The log knows the room of a lane's ring: the entries that were begun and those that were given back, and the index writes in flight.
-use Rattle.std.proofs.Common.{◌≡◌, ℕ, suc, zero, ◌+◌, ◌<◌, ◌≤◌, Bool, true, false, List, [], ◌∷◌, ◌++◌, length, refl, sym, ap, ◌∙◌, inl, inr, arith, ◌⊎◌}
+use Rattle.std.proofs.Common.{◌≡◌, ℕ, suc, zero, ◌+◌, ◌-◌, ◌<◌, ◌≤◌, ◌&&◌, Bool, true, false, List, [], ◌∷◌, ◌++◌, length, refl, sym, ap, ◌∙◌, inl, inr, arith, ◌⊎◌}
 use Rattle.std.specs.Prelude.{if◌then◌else◌, ◌==◌, None, Some, count_by, map, remove, sum}
 use Rattle.std.specs.List.{fold}
 use Rattle.std.proofs.lemmas.Bool.{both_ways, cases_Bool, false≢true, eq-eqb, cond-true}
@@ -13,15 +13,16 @@ use Rattle.lane_model.specs.declared.Phase.TheVariants.{Copied}
 use Rattle.step_kinds.specs.Sides.{other_side}
 use Rattle.plan_model.specs.Plans.{pair_plan}
 use Rattle.plan_model.specs.Sizes.{pieces_in}
-use Rattle.ledger_model.specs.Ledger.{LanePart, begun_in}
+use Rattle.ledger_model.specs.Ledger.{LanePart, begun_in, free_of}
 use Rattle.ledger_model.specs.Pieces.{pieces_of}
-use Rattle.ledger_laws.proofs.AtStart.{down-not_up}
+use Rattle.ledger_laws.proofs.AtStart.{up-not_down}
+use Rattle.ledger_laws.proofs.JoinedSides.{closing-not_down}
 use Rattle.ledger_laws.proofs.Frames.{CarriesAt, carries-within, carries-append}
 use Rattle.ledger_laws.proofs.Pieces.{length-pieces}
 use Rattle.lane_model.specs.declared.Phase.{Phase}
 use Rattle.ledger_model.specs.Labels.{index_of, indexes_among}
-use Rattle.plan_model.specs.Link.{is_up}
-use Rattle.ledger_model.specs.Log.{Answered, trains, takes_room, gives_room, in_this_session, made_since}
+use Rattle.plan_model.specs.Link.{is_down, is_up}
+use Rattle.ledger_model.specs.Log.{Answered, trains, takes_room, gives_room, in_this_session, made_since, room_in}
 use Rattle.ledger_model.specs.Receiving.{is_copying, is_copied, is_cleared}
 use Rattle.plan_model.specs.declared.LinkState.{LinkState}
 use Rattle.lane_laws.proofs.Facade.{count_from-push}
@@ -29,7 +30,7 @@ use Rattle.ledger_laws.proofs.InFlight.{count_by-last, push_some, filter_map-rem
 use Rattle.ledger_laws.proofs.Labels.{index_strict, indexes_one_class}
 use Rattle.ledger_laws.proofs.Offers.{pad-index}
 use Rattle.ledger_laws.proofs.LogReaders.{made_since-last}
-use Rattle.ledger_laws.proofs.walk.Sight.{Sight, Receiver, flight_with}
+use Rattle.ledger_laws.proofs.walk.Sight.{Sight, Sender, Receiver, flight_with}
 use Rattle.ledger_laws.proofs.walk.News.{News, Tells}
 use Rattle.ledger_laws.proofs.walk.Turn.{Turn, Trains, Breaks, Drops, Forgets, Offers, Readies, Says, Begins, Closes, LandsIndex, LandsBell, LandsPad, LandsAside, Looks, CopiesEntry, CopiesLast, Clears, Acks, PostsNext, Strays, MayLand, IsRaw, SizesOf}
 
@@ -177,7 +178,7 @@ takes_kept plan lane s made news t no_raw (Clears may) h = takes_at _ _ _ _ refl
 takes_kept plan lane s made news t no_raw (Acks may) h = takes_at _ _ _ _ refl h
 takes_kept plan lane s made news t no_raw turn h = h
 
--- What the log counts, while the link is up
+-- What the log counts, until the sender has forgotten the session
 
 pub record Counts (plan : Plan) (lane : LaneName) (log : List Answered) (begun freed : ℕ) : Type 0 where
   pub taken : sum (map (takes_room plan lane) (in_this_session lane.pair log)) ≡ begun
@@ -185,6 +186,13 @@ pub record Counts (plan : Plan) (lane : LaneName) (log : List Answered) (begun f
 
 abbrev pub CountsOf : Plan → LaneName → List Answered → Sight → Type 0
 CountsOf plan lane log s = Counts plan lane log (begun_in s.lane) s.lane.freed
+
+-- the sender hasn't forgotten the session
+abbrev pub IsOpen : Sight → Type 0
+IsOpen s = (is_down s.state && s.sender.clean) ≡ false
+
+pub open_above : (s : Sight) → is_down s.state ≡ false → IsOpen s
+open_above s above = ap (λ b. b && s.sender.clean) above
 
 count-session : (p : Answered → Bool) (k : ℕ) (log : List Answered) (made : Answered) (b : Bool) → trains k made ≡ false → p made ≡ b
     → count_by p (in_this_session k (log ++ made ∷ [])) ≡ count_by p (in_this_session k log) + (if b then 1 else 0)
@@ -235,27 +243,31 @@ picked_more lane entry others waits =
     omega (arith, a, b)
 
 counts_kept : (plan : Plan) (lane : LaneName) (log : List Answered) (s : Sight) (made : Answered) (news : News) (t : Sight) → IsRaw plan lane ≡ false → Tells plan lane s.lane made news
-    → Turn plan lane s made news t → WaitsOf lane.queue s → (is_up s.state ≡ true → CountsOf plan lane log s) → is_up t.state ≡ true → CountsOf plan lane (log ++ made ∷ []) t
-counts_kept plan lane log s made news t no_raw tells (Trains may) waits h up =
+    → Turn plan lane s made news t → WaitsOf lane.queue s → (IsOpen s → CountsOf plan lane log s) → IsOpen t → CountsOf plan lane (log ++ made ∷ []) t
+counts_kept plan lane log s made news t no_raw tells (Trains may) waits h open_yet =
     let none = nothing-anew lane.pair log made tells.starts in
     record { taken = ap (λ made_now. sum (map (takes_room plan lane) made_now)) none; given = ap (count_by (gives_room lane)) none }
-counts_kept plan lane log s made news t no_raw tells (Breaks may) waits h up = absurd (false≢true up)
-counts_kept plan lane log s made news t no_raw tells (Drops may) waits h up = absurd (false≢true up)
-counts_kept plan lane log s made news t no_raw tells (Forgets e may) waits h up = absurd (both_ways (is_up s.state) (down-not_up s.state may.down) up)
-counts_kept plan lane log s made news t no_raw tells (Begins bytes first others may cut) waits h up =
+counts_kept plan lane log s made news t no_raw tells (Breaks may) waits h open_yet =
+    counts_more plan lane log made 0 false _ _ _ _ tells.takes tells.gives tells.starts (omega arith) (omega arith) (h (open_above s (up-not_down s.state may.up)))
+counts_kept plan lane log s made news t no_raw tells (Drops may) waits h open_yet =
+    counts_more plan lane log made 0 false _ _ _ _ tells.takes tells.gives tells.starts (omega arith) (omega arith) (h (open_above s (closing-not_down s.state may.closing)))
+counts_kept plan lane log s made news t no_raw tells (Forgets Sender may) waits h open_yet = absurd (both_ways (is_down s.state && true) open_yet (ap (λ b. b && true) may.down))
+counts_kept plan lane log s made news t no_raw tells (Forgets Receiver may) waits h open_yet =
+    counts_more plan lane log made 0 false _ _ _ _ tells.takes tells.gives tells.starts (omega arith) (omega arith) (h open_yet)
+counts_kept plan lane log s made news t no_raw tells (Begins bytes first others may cut) waits h open_yet =
     counts_more plan lane log made (pieces_in (SizesOf plan lane).largest (length bytes)) false (begun_in s.lane) s.lane.freed _ _ tells.takes tells.gives tells.starts
-    (begun_more lane.queue s.lane (SizesOf plan lane).largest bytes first others may.none_waiting cut) (omega arith) (h up)
-counts_kept plan lane log s made news t no_raw tells (Closes may) waits h up =
+    (begun_more lane.queue s.lane (SizesOf plan lane).largest bytes first others may.none_waiting cut) (omega arith) (h open_yet)
+counts_kept plan lane log s made news t no_raw tells (Closes may) waits h open_yet =
     let a = length-append s.lane.sent (GoesDown ∷ []) in
     let b : length s.lane.waiting ≡ 0 = ap length may.none_waiting in
-    counts_more plan lane log made 1 false (begun_in s.lane) s.lane.freed _ _ tells.takes tells.gives tells.starts (omega (arith, a, b)) (omega arith) (h up)
-counts_kept plan lane log s made news t no_raw tells (PostsNext entry others label rest may) waits h up =
-    counts_more plan lane log made 0 false (begun_in s.lane) s.lane.freed _ _ tells.takes tells.gives tells.starts (picked_more s.lane entry others may.waits) (omega arith) (h up)
-counts_kept plan lane log s made news t no_raw tells (Strays after may) waits h up = absurd (both_ways (IsRaw plan lane) no_raw may.raw_pair)
-counts_kept plan lane log s made news t no_raw tells (LandsIndex place n may) waits h up =
+    counts_more plan lane log made 1 false (begun_in s.lane) s.lane.freed _ _ tells.takes tells.gives tells.starts (omega (arith, a, b)) (omega arith) (h open_yet)
+counts_kept plan lane log s made news t no_raw tells (PostsNext entry others label rest may) waits h open_yet =
+    counts_more plan lane log made 0 false (begun_in s.lane) s.lane.freed _ _ tells.takes tells.gives tells.starts (picked_more s.lane entry others may.waits) (omega arith) (h open_yet)
+counts_kept plan lane log s made news t no_raw tells (Strays after may) waits h open_yet = absurd (both_ways (IsRaw plan lane) no_raw may.raw_pair)
+counts_kept plan lane log s made news t no_raw tells (LandsIndex place n may) waits h open_yet =
     let is = (waits_freed lane.queue _ _ _ n s.receiver.flight (remove s.receiver.flight place) (index_first plan lane s place n may) waits waits.waiting refl).0 in
-    counts_more plan lane log made 0 true (begun_in s.lane) s.lane.freed _ _ tells.takes tells.gives tells.starts (omega arith) (omega arith) (h up)
-counts_kept plan lane log s made news t no_raw tells turn waits h up = counts_more plan lane log made 0 false _ _ _ _ tells.takes tells.gives tells.starts (omega arith) (omega arith) (h up)
+    counts_more plan lane log made 0 true (begun_in s.lane) s.lane.freed _ _ tells.takes tells.gives tells.starts (omega arith) (omega arith) (h open_yet)
+counts_kept plan lane log s made news t no_raw tells turn waits h open_yet = counts_more plan lane log made 0 false _ _ _ _ tells.takes tells.gives tells.starts (omega arith) (omega arith) (h open_yet)
 
 -- What holds of the room after each log
 
@@ -264,7 +276,7 @@ pub record RoomKnown (plan : Plan) (lane : LaneName) (log : List Answered) (s : 
   pub chain : ChainOf s
   pub waits : WaitsOf lane.queue s
   pub takes : TakesOf s
-  pub counts : is_up s.state ≡ true → CountsOf plan lane log s
+  pub counts : IsOpen s → CountsOf plan lane log s
 
 pub room_kept : (plan : Plan) (lane : LaneName) → IsRaw plan lane ≡ false → (log : List Answered) (s : Sight) (made : Answered) (news : News) (t : Sight) → Tells plan lane s.lane made news
     → Turn plan lane s made news t → RoomKnown plan lane log s → RoomKnown plan lane (log ++ made ∷ []) t
@@ -275,3 +287,23 @@ room_kept plan lane no_raw log s made news t tells turn h = record {
   takes = takes_kept plan lane s made news t no_raw turn h.takes;
   counts = counts_kept plan lane log s made news t no_raw tells turn h.waits h.counts;
 }
+
+-- the room that the ledger counts is that of the log
+pub room_told : (plan : Plan) (lane : LaneName) (log : List Answered) (s : Sight) → RoomKnown plan lane log s → IsOpen s → free_of (SizesOf plan lane) s.lane ≡ room_in plan log lane
+room_told plan lane log s known open_yet =
+    let counts = known.counts open_yet in
+    let a = counts.taken in
+    let b = counts.given in
+    let c = known.waits.within in
+    let d = known.chain.acked_cleared in
+    let f = known.chain.cleared_got in
+    let g = known.takes.within in
+    omega arith
+
+-- and with an entry of the log that begins so many entries, it is less by those
+pub room_less : (plan : Plan) (lane : LaneName) (log : List Answered) (made : Answered) (n : ℕ) → takes_room plan lane made ≡ n → gives_room lane made ≡ false → trains lane.pair made ≡ false
+    → room_in plan (log ++ made ∷ []) lane ≡ room_in plan log lane - n
+room_less plan lane log made n takes gives no_train =
+    let a = sum-session (takes_room plan lane) lane.pair log made n no_train takes in
+    let b = count-session (gives_room lane) lane.pair log made false no_train gives in
+    omega arith

@@ -8,7 +8,7 @@ use Rattle.step_kinds.specs.declared.names.LaneName.{LaneName}
 use Rattle.step_kinds.specs.declared.names.Side.{Side}
 use Rattle.step_kinds.specs.declared.plan.Plan.{Plan}
 use Rattle.step_kinds.specs.declared.steps.Answer.{Answer}
-use Rattle.step_kinds.specs.declared.steps.Answer.TheVariants.{Ok as Done, OkSession, OkNumber, Joined, NotReady, Closed, Busy, Posted, Landed, Empty, PeerDown, ReadyFrame, Cleared, Acked}
+use Rattle.step_kinds.specs.declared.steps.Answer.TheVariants.{Ok as Done, OkSession, OkNumber, Joined, NotReady, Closed, TooLong, Busy, Posted, Landed, Empty, PeerDown, ReadyFrame, Cleared, Acked}
 use Rattle.step_kinds.specs.declared.steps.Label.TheVariants.{Flag, Down}
 use Rattle.step_kinds.specs.declared.steps.Step.{Step}
 use Rattle.step_kinds.specs.declared.steps.Step.TheVariants.{Train, Clean, Ready, Join, Begin, QpDown, Xbegin, Post, Land, Look, Clear, Ack}
@@ -134,7 +134,21 @@ finds_busy plan log (Xbegin pair side queue dev dst kind payload) =
     may_begin plan log own && (fits_queue plan own (ethernet_frame dst (dev_plan plan.devs dev).address kind payload) && has_left plan log own)
 finds_busy plan log step = false
 
--- `notready`, `closed` and `busy` come exactly there, before whatever stands behind them in the order of the step's tests
+-- the side may send on the queue, and the frame is longer than any may be
+abbrev pub is_too_long : Answer → Bool
+is_too_long (TooLong len most) = true
+is_too_long answer = false
+
+abbrev pub finds_long : Plan → List Answered → Step → Bool
+finds_long plan log (Begin pair side queue frame) =
+    let own = queue_named pair side queue in
+    may_begin plan log own && not (fits_queue plan own frame)
+finds_long plan log (Xbegin pair side queue dev dst kind payload) =
+    let own = queue_named pair side queue in
+    may_begin plan log own && not (fits_queue plan own (ethernet_frame dst (dev_plan plan.devs dev).address kind payload))
+finds_long plan log step = false
+
+-- `notready`, `closed`, `toolong` and `busy` come exactly there, before whatever stands behind them in the order of the step's tests
 abbrev pub RefusedAs : (Answer → Bool) → (Plan → List Answered → Step → Bool) → Type 0
 RefusedAs is_refusal foreseen = (plan : Plan) (memories : Memories) (steps : List Step) (step : Step) (answer : Answer) → GoesOn plan memories steps step answer →
     is_refusal answer ≡ foreseen plan (log_of plan memories steps) step
@@ -144,6 +158,9 @@ NotReadyWhereNotJoined = RefusedAs is_not_ready lacks_queue
 
 abbrev pub ClosedWhereClosed : Type 0
 ClosedWhereClosed = RefusedAs is_closed finds_closed
+
+abbrev pub TooLongWhereFrameIsLong : Type 0
+TooLongWhereFrameIsLong = RefusedAs is_too_long finds_long
 
 abbrev pub BusyWhereLeftToPost : Type 0
 BusyWhereLeftToPost = RefusedAs is_busy_answer finds_busy

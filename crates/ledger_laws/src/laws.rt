@@ -2,7 +2,16 @@
 //! and whatever the memories show, but for the premises that a law's text names. In each, steps may be refused, and
 //! pairs, sides and queues be any.
 
-ghost use Rattle.ledger_laws.specs.Drivers.{BusyWhereLeftToPost, ClosedWhereClosed, EmptyWhereNothingLanded, NotReadyWhereNotJoined, PeerDownWhereDownLanded};
+ghost use Rattle.ledger_laws.specs.Devices.{AgainWhereRingIsFull, StoppedWhereRingWasLow};
+ghost use Rattle.ledger_laws.specs.Drivers.{
+  BusyWhereLeftToPost,
+  ClosedWhereClosed,
+  EmptyWhereNothingLanded,
+  NotReadyWhereNotJoined,
+  PeerDownWhereDownLanded,
+  TooLongWhereFrameIsLong,
+};
+ghost use Rattle.ledger_laws.specs.Flights.{InFlightIsPosted};
 ghost use Rattle.ledger_laws.specs.Landing.{LanePartLands};
 ghost use Rattle.ledger_laws.specs.Laws.{
   AgainWhereNoRoom,
@@ -21,6 +30,7 @@ ghost use Rattle.ledger_laws.specs.Laws.{
   UpMeansAgreement,
 };
 ghost use Rattle.ledger_laws.specs.Rings.{IndexWordIsTail, RingLawHolds, RingLawOfReceiver};
+ghost use Rattle.ledger_laws.specs.Together.{AnswersAreRight, LawsHold};
 ghost use Rattle.ledger_laws.specs.States.{
   BusyReceiverIsJoined,
   BusySenderIsJoined,
@@ -76,6 +86,12 @@ pub fn closed_where_closed()
     ensures { ClosedWhereClosed }
 {}
 
+/// `toolong` comes exactly on a frame that is longer than any may be, where the side may send. It may where the link is up
+/// and the queue is joined and open on the side. No premise.
+pub fn too_long_where_frame_is_long()
+    ensures { TooLongWhereFrameIsLong }
+{}
+
 /// A step that begins entries is answered `busy` exactly where the link is up, the queue is joined on the side and isn't
 /// closed, the frame isn't too long, and of the entries that the side began there some writes aren't posted yet. No
 /// premise.
@@ -94,6 +110,22 @@ pub fn empty_where_nothing_landed()
 /// entry's. Premise: the pair is ordinary.
 pub fn peer_down_where_down_landed()
     ensures { PeerDownWhereDownLanded }
+{}
+
+/// `stopped` comes exactly where the log says that a device is stopped, and no earlier refusal holds. A frame of it that
+/// was begun stops it, where that left fewer entries free than its `stop`. A wake that is made, and a clean of its side,
+/// end that. A frame of it is answered so where the link is up, the queue is joined and open on the side, the frame isn't
+/// too long, and nothing is left to post. A wake is answered so where fewer entries are free than the device's `start`.
+/// What is free is counted over the session as for [`again_where_no_room`]. Premise: the pair is ordinary.
+pub fn stopped_where_ring_was_low()
+    ensures { StoppedWhereRingWasLow }
+{}
+
+/// A step that begins entries is answered `again` exactly where fewer entries are free than it needs and no earlier
+/// refusal holds: this is [`again_where_no_room`] by the log alone. The link is up, the queue is joined and open on the
+/// side, the frame isn't too long, nothing is left to post, and the device isn't stopped. Premise: the pair is ordinary.
+pub fn again_where_ring_is_full()
+    ensures { AgainWhereRingIsFull }
 {}
 
 /// The ledger's tallies are the numbers of frames that the log accepted and delivered, for each lane and session. No
@@ -273,6 +305,13 @@ pub fn no_ordinary_ver_differs_or_long()
     ensures { NoOrdinaryVerDiffersOrLong }
 {}
 
+/// What a side has in flight is what it posted while the link was up, less what landed and what was dropped, in the order
+/// of posting. It posts the numbers that it offers, the queues that it says are ready, its lanes' writes, index writes,
+/// and scratchpads past the transport. Premise: the pair is ordinary.
+pub fn in_flight_is_posted()
+    ensures { InFlightIsPosted }
+{}
+
 /// What may land among all that a side has in flight may land in the part of its lane, by the kinds alone: the writes of
 /// a lane in one direction have one traffic class. A write of the lane that the side sends on a queue, and so an index
 /// write of the lane that it receives there, stands in the part behind those of the lane that stand before it in flight,
@@ -280,4 +319,16 @@ pub fn no_ordinary_ver_differs_or_long()
 /// among all that is in flight.
 pub fn lane_part_lands()
     ensures { LanePartLands }
+{}
+
+/// The laws of a log together, with what they ask for taken from the plan and its steps. Premises: a script can declare
+/// the plan, the plan permits the steps, and what each pair's memories show depends on the steps on that pair alone.
+pub fn laws_hold()
+    ensures { LawsHold }
+{}
+
+/// The laws of an answer together: where it comes exactly, by the log so far, and what it changes where it is a refusal.
+/// Premises: a script can declare the plan, and the plan permits the steps.
+pub fn answers_are_right()
+    ensures { AnswersAreRight }
 {}

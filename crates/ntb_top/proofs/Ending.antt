@@ -1,4 +1,4 @@
--- What `run` comes to, with the record and the proofs that it answers, and what all other words come to.
+-- What `run` and `stream` come to, with the record and the proofs that they answer, and what all other words come to.
 use Rattle.std.proofs.Common.{◌≡◌, ◌∙◌, ℕ, Bool, true, false, Option, Some, Result, Ok, Err, List, length, nat_lt, inl, inr, refl, sym, subst, arith}
 use Rattle.std.specs.Prelude.{MatchBool}
 use Rattle.step_kinds.specs.Limits.{most_script_bytes}
@@ -6,18 +6,21 @@ use Rattle.step_kinds.specs.declared.plan.Plan.{Plan}
 use Rattle.command_reply.specs.Output.{Output, too_long}
 use Rattle.io_edges.specs.Whole.{HoldsAll}
 use Rattle.run_command.specs.Answers.{Carried, IsRunOf, IsRunOfScript, nothing_carried}
+use Rattle.stream_command.specs.Answers.{IsStreamOf, IsStreamOfScript, Streamed, nothing_streamed}
+use Rattle.stream_command.specs.Replies.{streamed_by}
+use Rattle.stream_command.specs.declared.command.StreamReply.{StreamReply}
 use Rattle.run_command.specs.Replies.{carried_by}
 use Rattle.run_command.specs.declared.command.RunReply.{RunReply}
 use Rattle.script_text.specs.Script.{script_of}
 use Rattle.script_words.specs.declared.fault.ScriptFault.{ScriptFault}
 use Rattle.ntb_top.proofs.Replying.{run_answered, run_nothing, sink_of, source_of}
-use Rattle.ntb_top.specs.Answers.{IsAnswerTo, IsRunAnswerTo}
+use Rattle.ntb_top.specs.Answers.{IsAnswerTo, IsRunAnswerTo, IsStreamAnswerTo}
 use Rattle.ntb_top.specs.Commands.{is_reading}
-use Rattle.ntb_top.specs.Ends.{HasEnded, IsTrueRun}
+use Rattle.ntb_top.specs.Ends.{Beside, HasEnded, IsTrueRun, IsTrueStream, beside_run, beside_stream, nothing_beside}
 use Rattle.ntb_top.specs.Inputs.{Given, HasRead, HasReplied, HasWritten}
 use Rattle.ntb_top.specs.Runs.{HasAnswered, Outside}
 use Rattle.ntb_top.specs.declared.command.Command.{Command}
-use Rattle.ntb_top.specs.declared.command.Command.TheVariants.{Run}
+use Rattle.ntb_top.specs.declared.command.Command.TheVariants.{Run, Stream}
 use Rattle.ntb_top.specs.declared.input.Stop.{Stop}
 use Rattle.ntb_top.specs.declared.input.Stop.TheVariants.{SourceFailed}
 
@@ -33,71 +36,124 @@ read_on before after bytes value reply read =
       kept = λ _. read.kept (λ (is : Ok value ≡ Err SourceFailed). cc);
     }
 
--- the reply of `run` to what was read
+-- the reply, with what comes beside it, of a command to what was read
 abbrev pub HasRunReply : Given → Given → Result RunReply Stop → Type 0
 HasRunReply before after result = HasReplied true (λ bytes (run : RunReply). IsRunAnswerTo bytes run.reply (carried_by run)) before after result
 
--- it is an answer of the command, whatever comes with it
-as_answer : (long : Bool) (bytes : List ℕ) (output : Output) (carried : Carried) →
-    MatchBool long ((output ≡ too_long) × (carried ≡ nothing_carried)) (IsRunOf bytes output carried) →
-    MatchBool long (output ≡ too_long) ((carried : Carried) × IsRunOf bytes output carried)
-as_answer true bytes output carried answer = answer.0
-as_answer false bytes output carried answer = (carried, answer)
+abbrev pub HasStreamReply : Given → Given → Result StreamReply Stop → Type 0
+HasStreamReply before after result = HasReplied true (λ bytes (streams : StreamReply). IsStreamAnswerTo bytes streams.reply (streamed_by streams)) before after result
 
-abbrev reply_told : (before after : Given) (run : RunReply) → HasRunReply before after (Ok run) → HasReplied true (IsAnswerTo (Some Run)) before after (Ok run.reply)
-reply_told before after run replied =
+-- it is an answer of the command, whatever comes with it
+as_answer : {C : Type 0} (nothing : C) (IsOf : List ℕ → Output → C → Type 0) (long : Bool) (bytes : List ℕ) (output : Output) (carried : C) →
+    MatchBool long ((output ≡ too_long) × (carried ≡ nothing)) (IsOf bytes output carried) →
+    MatchBool long (output ≡ too_long) ((carried : C) × IsOf bytes output carried)
+as_answer nothing IsOf true bytes output carried answer = answer.0
+as_answer nothing IsOf false bytes output carried answer = (carried, answer)
+
+abbrev run_told : (before after : Given) (run : RunReply) → HasRunReply before after (Ok run) → HasReplied true (IsAnswerTo (Some Run)) before after (Ok run.reply)
+run_told before after run replied =
     record {
       bytes = replied.bytes;
       read = read_on before after replied.bytes run run.reply replied.read;
-      answers = as_answer (nat_lt most_script_bytes (length replied.bytes)) replied.bytes run.reply (carried_by run) replied.answers;
+      answers = as_answer nothing_carried IsRunOf (nat_lt most_script_bytes (length replied.bytes)) replied.bytes run.reply (carried_by run) replied.answers;
     }
 
+abbrev streams_told : (before after : Given) (streams : StreamReply) → HasStreamReply before after (Ok streams) → HasReplied true (IsAnswerTo (Some Stream)) before after (Ok streams.reply)
+streams_told before after streams replied =
+    record {
+      bytes = replied.bytes;
+      read = read_on before after replied.bytes streams streams.reply replied.read;
+      answers = as_answer nothing_streamed IsStreamOf (nat_lt most_script_bytes (length replied.bytes)) replied.bytes streams.reply (streamed_by streams) replied.answers;
+    }
+
+-- with status 0 the input wasn't too long
+not_long : {C : Type 0} (nothing : C) (IsOf : List ℕ → Output → C → Type 0) (long : Bool) (bytes : List ℕ) (output : Output) (carried : C) →
+    MatchBool long ((output ≡ too_long) × (carried ≡ nothing)) (IsOf bytes output carried) → output.status ≡ 0 → IsOf bytes output carried
+not_long nothing IsOf true bytes output carried answer zero =
+    absurd (subst (λ (output : Output). output.status ≡ 0 → ⊥) (sym answer.0) (λ zero. omega arith) zero)
+not_long nothing IsOf false bytes output carried answer zero = answer
+
 -- an answer with status 0 is the text of a record of the plan that the bytes declare
-true_run_of : (bytes : List ℕ) (before after : Outside) (output : Output) (carried : Carried) (read : Result Plan ScriptFault) → script_of bytes ≡ read →
-    IsRunOfScript read output carried → output.status ≡ 0 → HoldsAll before.held after.held output.text → IsTrueRun bytes before after carried
-true_run_of bytes before after output carried (Ok plan) is answer zero text =
+true_run : (bytes : List ℕ) (before after : Outside) (output : Output) (carried : Carried) (read : Result Plan ScriptFault) → script_of bytes ≡ read →
+    IsRunOfScript read output carried → output.status ≡ 0 → HoldsAll before.held after.held output.text → IsTrueRun bytes before after (beside_run carried)
+true_run bytes before after output carried (Ok plan) is answer zero text =
     record {
       plan = plan;
       declares = is;
       run = answer.run;
       answered = answer.answered;
+      alone = refl;
       text = subst (λ (output : Output). HoldsAll before.held after.held output.text) answer.text text;
       fits = answer.fits;
       shown = answer.shown;
     }
-true_run_of bytes before after output carried (Err fault) is answer zero text =
+true_run bytes before after output carried (Err fault) is answer zero text =
     absurd (subst (λ (output : Output). output.status ≡ 0 → ⊥) (sym answer.0) (λ zero. omega arith) zero)
 
-true_run : (long : Bool) (bytes : List ℕ) (before after : Outside) (output : Output) (carried : Carried) →
-    MatchBool long ((output ≡ too_long) × (carried ≡ nothing_carried)) (IsRunOf bytes output carried) →
-    output.status ≡ 0 → HoldsAll before.held after.held output.text → IsTrueRun bytes before after carried
-true_run true bytes before after output carried answer zero text =
+true_stream : (bytes : List ℕ) (before after : Outside) (output : Output) (streamed : Streamed) (read : Result Plan ScriptFault) → script_of bytes ≡ read →
+    IsStreamOfScript read output streamed → output.status ≡ 0 → HoldsAll before.held after.held output.text → IsTrueStream bytes before after (beside_stream streamed)
+true_stream bytes before after output streamed (Ok plan) is answer zero text =
+    record {
+      plan = plan;
+      declares = is;
+      streams = answer.streams;
+      answered = answer.answered;
+      alone = refl;
+      text = subst (λ (output : Output). HoldsAll before.held after.held output.text) answer.text text;
+      whole = answer.whole;
+      resumed = answer.resumed;
+    }
+true_stream bytes before after output streamed (Err fault) is answer zero text =
     absurd (subst (λ (output : Output). output.status ≡ 0 → ⊥) (sym answer.0) (λ zero. omega arith) zero)
-true_run false bytes before after output carried answer zero text = true_run_of bytes before after output carried (script_of bytes) refl answer zero text
 
 -- a run that has its reply, whether all of the text is written or a part
-pub run_ended : (before after : Outside) (run : RunReply) (status : ℕ) (carried : Carried) → HasRunReply (source_of before) (source_of after) (Ok run) →
-    HasWritten (sink_of before) (sink_of after) run.reply status → (status ≡ 0 → carried ≡ carried_by run) → ((status ≡ 0 → ⊥) → carried ≡ nothing_carried) →
-    HasEnded (Some Run) before after status carried
+pub run_ended : (before after : Outside) (run : RunReply) (status : ℕ) (beside : Beside) → HasRunReply (source_of before) (source_of after) (Ok run) →
+    HasWritten (sink_of before) (sink_of after) run.reply status → (status ≡ 0 → beside ≡ beside_run (carried_by run)) → ((status ≡ 0 → ⊥) → beside ≡ nothing_beside) →
+    HasEnded (Some Run) before after status beside
 unfolding run_answered
-run_ended before after run status carried replied written told alone =
+run_ended before after run status beside replied written told alone =
     record {
-      run = run_answered true (IsAnswerTo (Some Run)) before after run.reply status (reply_told (source_of before) (source_of after) run replied) written;
+      run = run_answered true (IsAnswerTo (Some Run)) before after run.reply status (run_told (source_of before) (source_of after) run replied) written;
       headline = λ _ zero.
           elim written [
             | inl w ↦
-                subst (λ (carried : Carried). IsTrueRun replied.bytes before after carried) (sym (told zero))
-                (true_run (nat_lt most_script_bytes (length replied.bytes)) replied.bytes before after run.reply (carried_by run) replied.answers (sym w.status_is ∙ zero) w.text)
+                let ended = sym w.status_is ∙ zero in
+                subst (λ (beside : Beside). IsTrueRun replied.bytes before after beside) (sym (told zero))
+                (true_run replied.bytes before after run.reply (carried_by run) (script_of replied.bytes) refl
+                (not_long nothing_carried IsRunOf (nat_lt most_script_bytes (length replied.bytes)) replied.bytes run.reply (carried_by run) replied.answers ended) ended w.text)
             | inr w ↦ absurd (omega (arith, zero, w.status_is))
           ];
-      alone = λ other. alone (λ zero. other refl zero);
+      streams = λ (is : Some Run ≡ Some Stream) zero. cc;
+      alone = λ other _. alone (λ zero. other refl zero);
+    }
+
+-- the same of streams
+pub streams_ended : (before after : Outside) (streams : StreamReply) (status : ℕ) (beside : Beside) → HasStreamReply (source_of before) (source_of after) (Ok streams) →
+    HasWritten (sink_of before) (sink_of after) streams.reply status → (status ≡ 0 → beside ≡ beside_stream (streamed_by streams)) → ((status ≡ 0 → ⊥) → beside ≡ nothing_beside) →
+    HasEnded (Some Stream) before after status beside
+unfolding run_answered
+streams_ended before after streams status beside replied written told alone =
+    record {
+      run = run_answered true (IsAnswerTo (Some Stream)) before after streams.reply status (streams_told (source_of before) (source_of after) streams replied) written;
+      headline = λ (is : Some Stream ≡ Some Run) zero. cc;
+      streams = λ _ zero.
+          elim written [
+            | inl w ↦
+                let ended = sym w.status_is ∙ zero in
+                subst (λ (beside : Beside). IsTrueStream replied.bytes before after beside) (sym (told zero))
+                (true_stream replied.bytes before after streams.reply (streamed_by streams) (script_of replied.bytes) refl
+                (not_long nothing_streamed IsStreamOf (nat_lt most_script_bytes (length replied.bytes)) replied.bytes streams.reply (streamed_by streams) replied.answers ended) ended w.text)
+            | inr w ↦ absurd (omega (arith, zero, w.status_is))
+          ];
+      alone = λ _ other. alone (λ zero. other refl zero);
     }
 
 -- there was no memory before anything was done
-pub nothing_ended : (command : Option Command) (outside : Outside) (status : ℕ) (carried : Carried) → status ≡ 6 → carried ≡ nothing_carried → HasEnded command outside outside status carried
-nothing_ended command outside status carried six none =
+pub nothing_ended : (command : Option Command) (outside : Outside) (status : ℕ) (beside : Beside) → status ≡ 6 → beside ≡ nothing_beside → HasEnded command outside outside status beside
+nothing_ended command outside status beside six none =
     record {
       run = subst (λ status. HasAnswered (is_reading command) (IsAnswerTo command) outside outside status) (sym six) (run_nothing (is_reading command) (IsAnswerTo command) outside);
       headline = λ _ zero. absurd (omega (arith, zero, six));
-      alone = λ _. none;
+      streams = λ _ zero. absurd (omega (arith, zero, six));
+      alone = λ _ _. none;
     }

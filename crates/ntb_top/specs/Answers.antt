@@ -5,14 +5,16 @@ use Rattle.command_reply.specs.Output.{Output, too_long, usage}
 use Rattle.replay_command.specs.Answers.{IsLoadOf, IsReplayOf}
 use Rattle.reads_command.specs.Answers.{IsReadsOf}
 use Rattle.run_command.specs.Answers.{Carried, IsRunOf, nothing_carried}
+use Rattle.stream_command.specs.Answers.{IsStreamOf, Streamed, nothing_streamed}
 use Rattle.ntb_top.specs.declared.command.Command.{Command}
-use Rattle.ntb_top.specs.declared.command.Command.TheVariants.{Load, Reads, Replay, Run}
+use Rattle.ntb_top.specs.declared.command.Command.TheVariants.{Load, Reads, Replay, Run, Stream}
 
--- A case for each command: a relation, since several texts of `run` are right. What comes with a text of `run` is said in `Ends`.
+-- A case for each command: a relation, since several texts of `run` are right. What comes with a text of `run` and of `stream` is said in `Ends`.
 abbrev pub IsReplyOf : Command → List ℕ → Output → Type 0
 IsReplyOf Replay bytes output = IsReplayOf bytes output
 IsReplyOf (Load seed frames) bytes output = IsLoadOf seed frames output
 IsReplyOf Run bytes output = (carried : Carried) × IsRunOf bytes output carried
+IsReplyOf Stream bytes output = (streamed : Streamed) × IsStreamOf bytes output streamed
 IsReplyOf Reads bytes output = IsReadsOf bytes output
 
 -- `usage` where the words are no command, `too long` where too many bytes were read, else what the command answers
@@ -20,7 +22,13 @@ abbrev pub IsAnswerTo : Option Command → List ℕ → Output → Type 0
 IsAnswerTo None bytes output = output ≡ usage
 IsAnswerTo (Some command) bytes output = MatchBool (nat_lt most_script_bytes (length bytes)) (output ≡ too_long) (IsReplyOf command bytes output)
 
--- the same of `run`, with what comes with the text
+-- the same of a command with something beside its text
+abbrev pub IsAnswerWith : {C : Type 0} → C → (List ℕ → Output → C → Type 0) → List ℕ → Output → C → Type 0
+IsAnswerWith nothing IsOf bytes output carried =
+    MatchBool (nat_lt most_script_bytes (length bytes)) ((output ≡ too_long) × (carried ≡ nothing)) (IsOf bytes output carried)
+
 abbrev pub IsRunAnswerTo : List ℕ → Output → Carried → Type 0
-IsRunAnswerTo bytes output carried =
-    MatchBool (nat_lt most_script_bytes (length bytes)) ((output ≡ too_long) × (carried ≡ nothing_carried)) (IsRunOf bytes output carried)
+IsRunAnswerTo bytes output carried = IsAnswerWith nothing_carried IsRunOf bytes output carried
+
+abbrev pub IsStreamAnswerTo : List ℕ → Output → Streamed → Type 0
+IsStreamAnswerTo bytes output streamed = IsAnswerWith nothing_streamed IsStreamOf bytes output streamed

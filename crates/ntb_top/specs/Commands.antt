@@ -5,7 +5,7 @@ use Rattle.std.specs.Str.{bytes_eq}
 use Rattle.script_words.specs.Words.{is_digit, is_plain, value_from}
 use Rattle.traffic_plan.specs.Load.{most_load_frames}
 use Rattle.ntb_top.specs.declared.command.Command.{Command}
-use Rattle.ntb_top.specs.declared.command.Command.TheVariants.{Replay, Load, Run, Reads}
+use Rattle.ntb_top.specs.declared.command.Command.TheVariants.{Replay, Load, Run, Stream, Reads}
 
 -- the number below a limit that a word spells: decimal digits without a leading zero but for zero itself
 abbrev pub number_below : ℕ → List ℕ → Option ℕ
@@ -21,10 +21,11 @@ abbrev pub lone_command : List ℕ → Option Command
 lone_command word =
     if bytes_eq word (codes "replay") then Some Replay
     else if bytes_eq word (codes "run") then Some Run
+    else if bytes_eq word (codes "stream") then Some Stream
     else if bytes_eq word (codes "reads") then Some Reads
     else None
 
--- `replay`, `run`, `reads`, or `load SEED FRAMES`
+-- `replay`, `run`, `stream`, `reads`, or `load SEED FRAMES`
 abbrev pub command_of : List (List ℕ) → Option Command
 command_of (word ∷ []) = lone_command word
 command_of (word ∷ seed ∷ frames ∷ []) = if bytes_eq word (codes "load") then load_command (number_below (2 ^ 64) seed) (number_below (2 ^ 32) frames) else None
@@ -32,7 +33,7 @@ command_of words = None
 
 -- a command that no thread makes
 abbrev pub IsPlain : Option Command → Type 0
-IsPlain command = command ≡ Some Run → ⊥
+IsPlain command = (command ≡ Some Run → ⊥) × (command ≡ Some Stream → ⊥)
 
 -- the numbers of a command are in their ranges, where it has any
 abbrev pub IsInRange : Command → Type 0
@@ -44,6 +45,7 @@ abbrev pub command_reads : Command → Bool
 command_reads Replay = true
 command_reads (Load seed frames) = false
 command_reads Run = true
+command_reads Stream = true
 command_reads Reads = true
 
 -- whether words are a command that reads a script

@@ -7,7 +7,7 @@ ghost use Rattle.command_reply.specs.Statuses.{number_of};
 ghost use Rattle.command_reply.specs.declared.status.Status.TheVariants.{OutOfMemory};
 ghost use Rattle.ntb_top.specs.Arguments.{AreWanting, words_of};
 ghost use Rattle.ntb_top.specs.Commands.{command_of};
-ghost use Rattle.ntb_top.specs.Ends.{HasEnded, carried_of};
+ghost use Rattle.ntb_top.specs.Ends.{HasEnded, beside_of};
 
 use crate::ended::Ended;
 use crate::run_program;
@@ -33,7 +33,7 @@ pub fn run_arguments<R: Threads + Wait + Sync, S: Source, K: Sink, G: Gate>(
     ensures run { HasEnded (command_of (words_of arguments))
         (record { left = S.left source.old; read_faults = S.faults source.old; held = K.held sink.old; write_faults = K.faults sink.old })
         (record { left = S.left source.new; read_faults = S.faults source.new; held = K.held sink.new; write_faults = K.faults sink.new })
-        result.status (carried_of result) }
+        result.status (beside_of result) }
     ensures wanting { AreWanting arguments → result.status ≡ number_of OutOfMemory }
 {
     match words_after_name(alloc, arguments) {

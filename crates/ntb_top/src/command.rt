@@ -25,6 +25,8 @@ pub enum Command {
     },
     /// To read a script, send its traffic by threads and write what became of it.
     Run,
+    /// To read a script, send its traffic by threads as resumable streams and write what they brought.
+    Stream,
     /// To read a text of writes and reads across a bridge, make its steps and write their answers.
     Reads,
 }
@@ -35,13 +37,13 @@ impl Command {
         ensures { result ≡ command_reads self }
     {
         match self {
-            Command::Replay | Command::Run | Command::Reads => true,
+            Command::Replay | Command::Run | Command::Stream | Command::Reads => true,
             Command::Load { .. } => false,
         }
     }
 }
 
-/// The command that the words of a command line are: `replay`, `run`, `reads`, or `load SEED FRAMES`.
+/// The command that the words of a command line are: `replay`, `run`, `stream`, `reads`, or `load SEED FRAMES`.
 pub fn command_of(words: &[String]) -> Option<Command>
     ensures words { result ≡ command_by_words (map string_bytes words.now) }
     ensures range { IfSome result IsInRange }
@@ -64,6 +66,8 @@ fn lone_command(word: &[u8]) -> Option<Command>
         Some(Command::Replay)
     } else if word == b"run".as_slice() {
         Some(Command::Run)
+    } else if word == b"stream".as_slice() {
+        Some(Command::Stream)
     } else if word == b"reads".as_slice() {
         Some(Command::Reads)
     } else {

@@ -1,9 +1,9 @@
 //! What a run of the program answers.
 
 ghost use Rattle.std.specs.Prelude.{◌≡◌};
-ghost use Rattle.run_command.specs.Answers.{nothing_carried};
-ghost use Rattle.ntb_top.specs.Ends.{carried_of};
+ghost use Rattle.ntb_top.specs.Ends.{beside_of, nothing_beside};
 
+use cluster_stream::StreamRecord;
 use std::alloc::Global;
 use step_kinds::RunRecord;
 use table_lane::LaneProof;
@@ -15,7 +15,10 @@ pub struct Ended {
     pub status: u8,
     /// The record whose text was written, where `run` ended with status 0; none in every other case.
     pub runs: Option<RunRecord>,
-    /// A proof of each session of that record, lane by lane; none in every other case.
+    /// The record whose text was written, where `stream` ended with status 0; none in every other case.
+    pub streams: Option<StreamRecord>,
+    /// The proofs of that record's sessions, lane by lane: of `run` one of each, of `stream` two. None in every other
+    /// case.
     pub proofs: Vec<LaneProof>,
 }
 
@@ -23,11 +26,12 @@ impl Ended {
     /// An end with this status, and nothing beside it.
     pub(crate) fn alone(alloc: Global, status: u8) -> Ended
         ensures status { result.status ≡ status }
-        ensures alone { carried_of result ≡ nothing_carried }
+        ensures alone { beside_of result ≡ nothing_beside }
     {
         Ended {
             status,
             runs: None,
+            streams: None,
             proofs: Vec::new(alloc),
         }
     }

@@ -1,6 +1,7 @@
 //! What a run of each command means.
 
 ghost use Rattle.std.specs.Prelude.{◌≡◌, ℕ, Some, Ok, List};
+ghost use Rattle.ntb_top.specs.Completeness.{ReplaysComplete, RunsComplete};
 ghost use Rattle.ntb_top.specs.Laws.{LoadsAreTrue, ReadsAreTrue, ReplaysAreTrue};
 
 /// Where `replay` ends with status 0, the bytes that were read declare a plan, and the log of that plan is true. No
@@ -18,4 +19,17 @@ pub fn loads_are_true()
 /// written, and each read in the log of these steps has pushed the posted writes before it. No premise.
 pub fn reads_are_true()
     ensures { ReadsAreTrue }
+{}
+
+/// Where the source tells its bytes and neither it nor the sink fails, a command that reads answers just these bytes and
+/// writes its text whole, or it is out of memory and writes nothing. No other end is possible.
+#[tactic(auto, using(crate::proofs::Completing::runs_complete))]
+pub fn runs_are_complete()
+    ensures { RunsComplete }
+{}
+
+/// So `replay` of a script without a fault ends with status 0 and the report of its plan, or with status 6 and nothing.
+#[tactic(auto, using(crate::proofs::Completing::replays_complete))]
+pub fn replays_are_complete()
+    ensures { ReplaysComplete }
 {}

@@ -1,4 +1,4 @@
-//! The program on all words but those of `run`.
+//! The program on all words but those of `run` and of `stream`.
 
 ghost use Rattle.std.specs.Prelude.{◌≤◌, IfOk, length, map};
 ghost use Rattle.std.specs.String.{string_bytes};
@@ -16,8 +16,8 @@ use reads_command::reads_reply;
 use replay_command::{load_reply, replay_reply};
 use std::alloc::{AllocError, Global};
 
-/// Does all that [`run_program`](crate::run_program) does on words that aren't `run`, without threads, and answers the exit
-/// status. It always returns.
+/// Does all that [`run_program`](crate::run_program) does on words that aren't `run` or `stream`, without threads, and
+/// answers the exit status. It always returns.
 pub fn plain_program<S: Source, K: Sink>(
     alloc: Global,
     words: &[String],
@@ -65,6 +65,7 @@ fn reply_of(alloc: Global, command: Command, bytes: &[u8]) -> Result<Reply, Allo
         Command::Load { seed, frames } => load_reply(alloc, seed, frames),
         Command::Reads => reads_reply(alloc, bytes),
         Command::Run => unreachable!(),
+        Command::Stream => unreachable!(),
     }
 }
 

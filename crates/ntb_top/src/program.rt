@@ -4,11 +4,10 @@ ghost use Rattle.std.specs.Prelude.{◌≡◌, Some, map, true};
 ghost use Rattle.std.specs.String.{string_bytes};
 ghost use Rattle.command_reply.specs.Statuses.{number_of};
 ghost use Rattle.command_reply.specs.declared.status.Status.TheVariants.{Done};
-ghost use Rattle.run_command.specs.Answers.{nothing_carried};
 ghost use Rattle.run_command.specs.Replies.{carried_by};
 ghost use Rattle.ntb_top.specs.Answers.{IsRunAnswerTo};
 ghost use Rattle.ntb_top.specs.Commands.{command_of as command_by_words};
-ghost use Rattle.ntb_top.specs.Ends.{HasEnded, carried_of};
+ghost use Rattle.ntb_top.specs.Ends.{HasEnded, beside_of, beside_run, nothing_beside};
 ghost use Rattle.ntb_top.specs.Inputs.{HasReplied, HasWritten};
 ghost use Rattle.ntb_top.specs.declared.command.Command.TheVariants.{Run};
 
@@ -16,6 +15,7 @@ use crate::command::{Command, command_of};
 use crate::ended::Ended;
 use crate::input::{Input, Stop, read_input};
 use crate::plain::{plain_program, write_reply};
+use crate::streams::stream_traffic;
 use command_reply::{Reply, Status};
 use io_edges::{Gate, Sink, Source};
 use run_command::{RunReply, run_reply};
@@ -24,13 +24,13 @@ use std::sync::Wait;
 use std::thread::Threads;
 
 /// Does all that the program does: reads its input from the source where the words are a command that reads a script, writes
-/// one text to the sink, and answers the exit status. On words that aren't `run` it is one call of [`plain_program`]; on
-/// `run` each worker passes the gate before each of its turns, and the end has the record whose text was written, with a
-/// proof of each session.
+/// one text to the sink, and answers the exit status. On words that aren't `run` or `stream` it is one call of
+/// [`plain_program`]. On these two each worker passes the gate before each of its turns, and the end has the record
+/// whose text was written, with the proofs of its sessions.
 ///
 /// | status | cause | text |
 /// |---|---|---|
-/// | 0 | none of the others | `replay`: the report; `run`: the text of the record; `load`: the summary of a load; `reads`: the answers |
+/// | 0 | none of the others | `replay`: the report; `run` and `stream`: the text of the record; `load`: the summary of a load; `reads`: the answers |
 /// | 2 | the words are no command | `usage` |
 /// | 3 | a line of the script has a fault | `refused line L CAUSE`; of `reads`, whose cause is always `badline` |
 /// | 4 | the source failed | nothing |
@@ -50,10 +50,11 @@ pub fn run_program<R: Threads + Wait + Sync, S: Source, K: Sink, G: Gate>(
     ensures { HasEnded (command_by_words (map string_bytes words.now))
         (record { left = S.left source.old; read_faults = S.faults source.old; held = K.held sink.old; write_faults = K.faults sink.old })
         (record { left = S.left source.new; read_faults = S.faults source.new; held = K.held sink.new; write_faults = K.faults sink.new })
-        result.status (carried_of result) }
+        result.status (beside_of result) }
 {
     match command_of(words) {
         Some(Command::Run) => run_traffic(rt, alloc, source, sink, gate),
+        Some(Command::Stream) => stream_traffic(rt, alloc, source, sink, gate),
         Some(Command::Replay | Command::Load { .. } | Command::Reads) | None => {
             Ended::alone(alloc, plain_program(alloc, words, source, sink))
         }
@@ -71,7 +72,7 @@ fn run_traffic<R: Threads + Wait + Sync, S: Source, K: Sink, G: Gate>(
     ensures { HasEnded (Some Run)
         (record { left = S.left source.old; read_faults = S.faults source.old; held = K.held sink.old; write_faults = K.faults sink.old })
         (record { left = S.left source.new; read_faults = S.faults source.new; held = K.held sink.new; write_faults = K.faults sink.new })
-        result.status (carried_of result) }
+        result.status (beside_of result) }
 {
     match run_of_input(rt, alloc, source, gate) {
         Ok(run) => written(alloc, sink, run),
@@ -105,8 +106,8 @@ fn run_of_input<R: Threads + Wait + Sync, S: Source, G: Gate>(
 fn written<K: Sink>(alloc: Global, sink: &mut K, run: RunReply) -> Ended
     ensures text { HasWritten (record { held = K.held sink.old; faults = K.faults sink.old })
         (record { held = K.held sink.new; faults = K.faults sink.new }) run.reply result.status }
-    ensures told { result.status ≡ number_of Done → carried_of result ≡ carried_by run }
-    ensures alone { (result.status ≡ number_of Done → ⊥) → carried_of result ≡ nothing_carried }
+    ensures told { result.status ≡ number_of Done → beside_of result ≡ beside_run (carried_by run) }
+    ensures alone { (result.status ≡ number_of Done → ⊥) → beside_of result ≡ nothing_beside }
 {
     let RunReply {
         reply,
@@ -118,6 +119,7 @@ fn written<K: Sink>(alloc: Global, sink: &mut K, run: RunReply) -> Ended
         return Ended {
             status,
             runs,
+            streams: None,
             proofs,
         };
     }

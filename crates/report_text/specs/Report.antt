@@ -100,3 +100,15 @@ run_lines pairs lane = sessions_lines pairs lane.name 1 lane.sessions
 
 abbrev pub record_of : Plan → List LaneShown → List ℕ
 record_of plan lanes = flat_map (run_lines plan.pairs) lanes ++ end_line
+
+-- The text of a run of streams
+
+-- a lane's stream: how many items it brought over how many sessions, then the items, numbered from 0
+abbrev pub stream_line : List PairPlan → LaneName → ℕ → ℕ → List ℕ
+stream_line pairs lane items sessions =
+    line_of
+    (codes "stream " ++ pair_name pairs lane.pair ++ 32 ∷ side_text lane.from ++ numbers_text (lane.queue ∷ []) ++ codes " items" ++ numbers_text (items ∷ [])
+    ++ codes " sessions" ++ numbers_text (sessions ∷ []))
+
+abbrev pub stream_lines : List PairPlan → LaneName → List (List ℕ) → ℕ → List ℕ
+stream_lines pairs lane items sessions = stream_line pairs lane (length items) sessions ++ frame_lines (codes "item") 0 items

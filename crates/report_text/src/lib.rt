@@ -1,4 +1,4 @@
-//! The texts of answers, of the report of a replay and of the record of a threaded run: exact bytes, appended to one
+//! The texts of answers, of the report of a replay, and of the records of threaded runs: exact bytes, appended to one
 //! buffer. Numbers are decimal, bytes lower-case hexadecimal, and each line ends with a line feed.
 #![tactic(auto)]
 
@@ -6,10 +6,12 @@ mod answers;
 pub mod append;
 mod line;
 mod run;
+mod stream;
 #[cfg(test)]
 mod tests;
 mod whole;
 
 pub use answers::{push_answer, text_of};
 pub use run::record_text;
+pub use stream::push_stream;
 pub use whole::{LaneCount, push_answer_line, push_ending, report};

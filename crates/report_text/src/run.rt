@@ -94,9 +94,9 @@ fn push_counts(text: &mut Vec<u8>, counts: FrameCounts) -> Result<(), AllocError
     push_word(text, "\n")
 }
 
-// Adds frames behind a word, numbered from `first` on.
+/// Adds frames behind a word, numbered from `first` on.
 #[tactic(auto, using(crate::proofs::Runs::frame_lines_more))]
-fn push_frames(
+pub(crate) fn push_frames(
     text: &mut Vec<u8>,
     word: &str,
     first: u64,

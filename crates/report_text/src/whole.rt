@@ -154,8 +154,8 @@ pub fn push_lane(
     push_numbers(text, &[u64::from(lane.queue), session])
 }
 
-// A side behind a space.
-fn side_word(side: Side) -> &'static str
+/// A side behind a space.
+pub(crate) fn side_word(side: Side) -> &'static str
     ensures { result.now ≡ 32 ∷ side_text side }
 {
     match side {

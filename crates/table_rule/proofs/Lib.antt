@@ -3,6 +3,7 @@ pub mod ClaimsAndLoads
 pub mod Flights
 pub mod LaneLaws
 pub mod LaneRuns
+pub mod Loads
 pub mod MoveSteps
 pub mod MoverShows
 pub mod Order
@@ -10,6 +11,7 @@ pub mod Owners
 pub mod ReceiverShows
 pub mod RecvSteps
 pub mod SeatChanges
+pub mod Seated
 pub mod Seats
 pub mod SendSteps
 pub mod SenderShows

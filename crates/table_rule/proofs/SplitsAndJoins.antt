@@ -1,5 +1,5 @@
 -- Seats that are cut in two and joined keep the rule, and so does the table at the start.
-use Rattle.std.proofs.Common.{◌≡◌, ℕ, zero, suc, ◌+◌, ◌-◌, ◌%◌, ◌^◌, ◌<◌, ◌≤◌, false, List, [], ◌∷◌, length, map, refl, sym, ap, ◌∙◌, inl, inr, arith, mod-lt, None, replicate}
+use Rattle.std.proofs.Common.{◌≡◌, ℕ, zero, suc, ◌+◌, ◌-◌, ◌%◌, ◌^◌, ◌<◌, ◌≤◌, false, List, [], ◌∷◌, ◌++◌, length, map, set, refl, sym, ap, ◌∙◌, inl, inr, arith, mod-lt, None, replicate}
 use Rattle.std.proofs.lemmas.Bool.{le-ltb}
 use Rattle.std.proofs.lemmas.List.{length-replicate, get_or-replicate}
 use mathlib.Core.Option.{some, none}
@@ -12,44 +12,52 @@ use Rattle.table_rule.specs.Views.{LaneView, joined, no_parts, PartKind, OfMover
 use Rattle.table_rule.specs.ShownLane.{borders_of}
 use Rattle.table_rule.specs.Moment.{Moment, EachHasOneSeat, ShowsLane}
 use Rattle.table_rule.specs.Rule.{Content, Board, IsMoment, ShowsALane}
+use Rattle.table_rule.specs.Loads.{SplitsAreNoSteps, JoinsAreNoSteps}
 use Rattle.table_rule.proofs.LaneLaws.{new_holds}
 use Rattle.table_rule.proofs.Seats.{GoesToOne, part_splits, part_joins}
 use Rattle.table_rule.proofs.Slots.{slot_is}
 
 -- the same moment, where seats have its parts otherwise
-seats_change : (N : ℕ) (board : Board) (m : Moment) (views : List LaneView) → IsMoment N m board → EachHasOneSeat views m.send m.mover m.recv m.back m.cut → ShowsALane N (record board { views = views })
-seats_change N board m views now seats = (m, record { words = now.words; sized = now.sized; seats = seats; knows = now.knows; shows = now.shows })
+moment_stays : (N : ℕ) (board : Board) (m : Moment) (views : List LaneView) → IsMoment N m board → EachHasOneSeat views m.send m.mover m.recv m.back m.cut → IsMoment N m (record board { views = views })
+moment_stays N board m views now seats = record { words = now.words; sized = now.sized; seats = seats; knows = now.knows; shows = now.shows }
 
 -- a seat is cut into two, to one of which each of its parts goes
 seats_split : (N id : ℕ) (view left right : LaneView) → GoesToOne (λ v. v.send) view left right → GoesToOne (λ v. v.mover) view left right → GoesToOne (λ v. v.recv) view left right → GoesToOne (λ v. v.back) view left right → GoesToOne (λ v. v.cut) view left right
-    → Splits (ShowsALane N) id view left right
-seats_split N id view left right send mover recv back cut board h at =
-    seats_change N board h.0 _ h.1 (
+    → (m : Moment) (board : Board) → IsMoment N m board → get_elem? board.views id ≡ some view → IsMoment N m (record board { views = set board.views id left ++ right ∷ [] })
+seats_split N id view left right send mover recv back cut m board is at =
+    moment_stays N board m _ is (
     record {
-      send = part_splits (λ v. v.send) board.views id view left right h.0.send at h.1.seats.send send;
-      mover = part_splits (λ v. v.mover) board.views id view left right h.0.mover at h.1.seats.mover mover;
-      recv = part_splits (λ v. v.recv) board.views id view left right h.0.recv at h.1.seats.recv recv;
-      back = part_splits (λ v. v.back) board.views id view left right h.0.back at h.1.seats.back back;
-      cut = part_splits (λ v. v.cut) board.views id view left right h.0.cut at h.1.seats.cut cut;
+      send = part_splits (λ v. v.send) board.views id view left right m.send at is.seats.send send;
+      mover = part_splits (λ v. v.mover) board.views id view left right m.mover at is.seats.mover mover;
+      recv = part_splits (λ v. v.recv) board.views id view left right m.recv at is.seats.recv recv;
+      back = part_splits (λ v. v.back) board.views id view left right m.back at is.seats.back back;
+      cut = part_splits (λ v. v.cut) board.views id view left right m.cut at is.seats.cut cut;
     })
 
 -- one of its parts goes to the new seat, and the others stay
+pub splits_are_no_steps : SplitsAreNoSteps
+splits_are_no_steps N m board id view OfMover = seats_split N id view (without OfMover view) (alone OfMover view) (inl (refl, refl)) (inr (refl, refl)) (inl (refl, refl)) (inl (refl, refl)) (inl (refl, refl)) m board
+splits_are_no_steps N m board id view OfReceiver = seats_split N id view (without OfReceiver view) (alone OfReceiver view) (inl (refl, refl)) (inl (refl, refl)) (inr (refl, refl)) (inl (refl, refl)) (inl (refl, refl)) m board
+splits_are_no_steps N m board id view OfWayBack = seats_split N id view (without OfWayBack view) (alone OfWayBack view) (inl (refl, refl)) (inl (refl, refl)) (inl (refl, refl)) (inr (refl, refl)) (inl (refl, refl)) m board
+splits_are_no_steps N m board id view OfCut = seats_split N id view (without OfCut view) (alone OfCut view) (inl (refl, refl)) (inl (refl, refl)) (inl (refl, refl)) (inl (refl, refl)) (inr (refl, refl)) m board
+
 pub splits_off : (part : PartKind) (N id : ℕ) (view : LaneView) → Splits (ShowsALane N) id view (without part view) (alone part view)
-splits_off OfMover N id view = seats_split N id view (without OfMover view) (alone OfMover view) (inl (refl, refl)) (inr (refl, refl)) (inl (refl, refl)) (inl (refl, refl)) (inl (refl, refl))
-splits_off OfReceiver N id view = seats_split N id view (without OfReceiver view) (alone OfReceiver view) (inl (refl, refl)) (inl (refl, refl)) (inr (refl, refl)) (inl (refl, refl)) (inl (refl, refl))
-splits_off OfWayBack N id view = seats_split N id view (without OfWayBack view) (alone OfWayBack view) (inl (refl, refl)) (inl (refl, refl)) (inl (refl, refl)) (inr (refl, refl)) (inl (refl, refl))
-splits_off OfCut N id view = seats_split N id view (without OfCut view) (alone OfCut view) (inl (refl, refl)) (inl (refl, refl)) (inl (refl, refl)) (inl (refl, refl)) (inr (refl, refl))
+splits_off part N id view board h at = (h.0, splits_are_no_steps N h.0 board id view part h.1 at)
+
+-- a seat takes in the parts of another
+pub joins_are_no_steps : JoinsAreNoSteps
+joins_are_no_steps N m board id other view second is apart at at_other =
+    moment_stays N board m _ is (
+    record {
+      send = part_joins (λ v. v.send) board.views id other view second (joined view second) m.send at apart at_other refl refl is.seats.send;
+      mover = part_joins (λ v. v.mover) board.views id other view second (joined view second) m.mover at apart at_other refl refl is.seats.mover;
+      recv = part_joins (λ v. v.recv) board.views id other view second (joined view second) m.recv at apart at_other refl refl is.seats.recv;
+      back = part_joins (λ v. v.back) board.views id other view second (joined view second) m.back at apart at_other refl refl is.seats.back;
+      cut = part_joins (λ v. v.cut) board.views id other view second (joined view second) m.cut at apart at_other refl refl is.seats.cut;
+    })
 
 pub seats_join : (N id : ℕ) (view : LaneView) (other : ℕ) (second : LaneView) → Joins (ShowsALane N) id view other second (joined view second) no_parts
-seats_join N id view other second board h at apart at_other =
-    seats_change N board h.0 _ h.1 (
-    record {
-      send = part_joins (λ v. v.send) board.views id other view second (joined view second) h.0.send at apart at_other refl refl h.1.seats.send;
-      mover = part_joins (λ v. v.mover) board.views id other view second (joined view second) h.0.mover at apart at_other refl refl h.1.seats.mover;
-      recv = part_joins (λ v. v.recv) board.views id other view second (joined view second) h.0.recv at apart at_other refl refl h.1.seats.recv;
-      back = part_joins (λ v. v.back) board.views id other view second (joined view second) h.0.back at apart at_other refl refl h.1.seats.back;
-      cut = part_joins (λ v. v.cut) board.views id other view second (joined view second) h.0.cut at apart at_other refl refl h.1.seats.cut;
-    })
+seats_join N id view other second board h at apart at_other = (h.0, joins_are_no_steps N h.0 board id other view second h.1 apart at at_other)
 
 map-replicate : {A B : Type 0} (f : A → B) (n : ℕ) (x : A) → map f (replicate n x) ≡ replicate n (f x)
 map-replicate f zero x = refl

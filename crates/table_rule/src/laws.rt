@@ -1,6 +1,8 @@
 //! What holds of every table that shows a lane, each the clause of a function with an empty body.
 
 ghost use Rattle.table_rule.specs.Owners.{OwnersHaveSlots};
+ghost use Rattle.table_rule.specs.Seated.{SeatsHaveSlotsOut, SlotsOutAreWithSeats};
+ghost use Rattle.table_rule.specs.Loads.{CutStays, JoinsAreNoSteps, LoadsAreNoSteps, SplitsAreNoSteps};
 ghost use Rattle.table_rule.specs.Kinds.{Claims, Sends, Takes, StoresHeader, StoresFlag, Looks, Copies, Clears, Acknowledges, LoadsIndex, StoresIndex, Cuts};
 
 /// Each slot has one owner, that of its entry in the lane that the table shows, and is where that owner has it.
@@ -44,4 +46,26 @@ pub fn other_steps_are_of_the_lane()
     ensures loads_index { LoadsIndex }
     ensures stores_index { StoresIndex }
     ensures cuts { Cuts }
+{}
+
+/// A slot that is out is with the seat whose part says so: with the sender, which is to send the next entry in it; with
+/// the mover, which took its entry; or with the receiver, which looked at its entry. And each of these has it out.
+#[tactic(auto, using(crate::proofs::Seated::seats_have_slots_out))]
+pub fn slots_out_are_with_seats()
+    ensures out { SlotsOutAreWithSeats }
+    ensures had { SeatsHaveSlotsOut }
+{}
+
+/// What is no step of the lane: a load with which no slot goes to a seat, a split and a join of seats.
+#[tactic(auto, using(crate::proofs::Loads::loads_are_no_steps))]
+pub fn others_are_no_steps()
+    ensures loads { LoadsAreNoSteps }
+    ensures splits { SplitsAreNoSteps }
+    ensures joins { JoinsAreNoSteps }
+{}
+
+/// A cut stays a cut, whichever step a seat makes.
+#[tactic(auto, using(crate::proofs::Loads::cut_stays))]
+pub fn a_cut_stays()
+    ensures { CutStays }
 {}

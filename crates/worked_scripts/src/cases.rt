@@ -76,6 +76,9 @@ fn take_line(alloc: Global, case: &mut Case, line: &str) -> Result<bool, AllocEr
     if let Some(head) = line.strip_prefix("@run ") {
         return take_head(alloc, case, "run", head);
     }
+    if let Some(head) = line.strip_prefix("@stream ") {
+        return take_head(alloc, case, "stream", head);
+    }
     if let Some(head) = line.strip_prefix("@reads ") {
         return take_head(alloc, case, "reads", head);
     }

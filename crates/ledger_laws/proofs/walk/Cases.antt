@@ -341,12 +341,14 @@ module _ (reading : Reading) where
   sent_frame sizes plan pair side queue frame =
       counts_sent plan (begun sizes pair side queue frame) side queue (length frame) (reading.free side queue - needs sizes (length frame))
 
-  pub xbegin_cases : (P : Outcome → Type 0) (sizes : Sizes) (plan : DevPlan) (pair : PairPart) (side : Side) (queue : ℕ) (dst : List ℕ) (kind : ℕ) (payload : List ℕ)
+  -- a device's frame, which passes one test more: the device isn't stopped
+  pub device_cases : (P : Outcome → Type 0) (sizes : Sizes) (plan : DevPlan) (pair : PairPart) (side : Side) (queue : ℕ) (dst : List ℕ) (kind : ℕ) (payload : List ℕ)
       → ((r : Answer) → Refused (not (link_up pair)) r → P (record { answer = r; after = counts_refused pair side queue }))
-      → (MaySend reading sizes pair side queue (length (ethernet_frame dst plan.address kind payload)) (needs sizes (length (ethernet_frame dst plan.address kind payload)))
+      → ((dev_of pair side queue).stopped ≡ false
+      → MaySend reading sizes pair side queue (length (ethernet_frame dst plan.address kind payload)) (needs sizes (length (ethernet_frame dst plan.address kind payload)))
       → P (record { answer = OkNumber (lane_of pair side queue).told; after = sent_frame sizes plan pair side queue (ethernet_frame dst plan.address kind payload) }))
       → P (xbegin_step sizes reading plan pair side queue dst kind payload)
-  xbegin_cases P sizes plan pair side queue dst kind payload refused made =
+  device_cases P sizes plan pair side queue dst kind payload refused made =
       decided_cases P (Refused (not (link_up pair))) (counts_refused pair side queue)
       (xbegin_refusal sizes reading pair (dev_of pair side queue) side queue len)
       (OkNumber (lane_of pair side queue).told) (sent_frame sizes plan pair side queue (ethernet_frame dst plan.address kind payload))
@@ -354,10 +356,24 @@ module _ (reading : Reading) where
       (busy_each (lane_of pair side queue) _
       (no (dev_of pair side queue).stopped Stopped refl refl (full_each sizes reading (lane_of pair side queue) side queue (needs sizes len))))))
       refused
-      (λ none. made (may_send_frame reading sizes pair side queue len (needs sizes len) _ none (λ stopped. (passed _ _ _ (passed _ _ _ stopped).1).0)))
+      (λ none.
+      let full = refuse_full sizes reading (lane_of pair side queue) side queue (needs sizes len) in
+      let idle = refuse_if (dev_of pair side queue).stopped Stopped full in
+      let a = sender_passed pair side queue (refuse_long len sizes.most (refuse_busy (lane_of pair side queue) idle)) none in
+      let b = passed (nat_lt sizes.most len) (TooLong len sizes.most) (refuse_busy (lane_of pair side queue) idle) a.1 in
+      let c = passed (is_busy (lane_of pair side queue)) Busy idle b.1 in
+      let d = passed (dev_of pair side queue).stopped Stopped full c.1 in
+      made d.0 (may_send_frame reading sizes pair side queue len (needs sizes len) _ none (λ stopped. (passed _ _ _ (passed _ _ _ stopped).1).0)))
     where
       len : ℕ
       len = length (ethernet_frame dst plan.address kind payload)
+
+  pub xbegin_cases : (P : Outcome → Type 0) (sizes : Sizes) (plan : DevPlan) (pair : PairPart) (side : Side) (queue : ℕ) (dst : List ℕ) (kind : ℕ) (payload : List ℕ)
+      → ((r : Answer) → Refused (not (link_up pair)) r → P (record { answer = r; after = counts_refused pair side queue }))
+      → (MaySend reading sizes pair side queue (length (ethernet_frame dst plan.address kind payload)) (needs sizes (length (ethernet_frame dst plan.address kind payload)))
+      → P (record { answer = OkNumber (lane_of pair side queue).told; after = sent_frame sizes plan pair side queue (ethernet_frame dst plan.address kind payload) }))
+      → P (xbegin_step sizes reading plan pair side queue dst kind payload)
+  xbegin_cases P sizes plan pair side queue dst kind payload refused made = device_cases P sizes plan pair side queue dst kind payload refused (λ started. made)
 
   -- what posts a write of a lane that is this one by then
   abbrev pub posted_by : PairPart → Side → ℕ → LanePart → List Label → Label → PairPart

@@ -51,6 +51,12 @@ frame 1 6263
 end
 ";
 
+const TWO_STREAMED_TEXT: &str = "stream p A 0 items 2 sessions 1
+item 0 61
+item 1 6263
+end
+";
+
 // Words of a command line.
 fn words_of(alloc: Global, texts: &[&str]) -> Result<Vec<String>, AllocError> {
     let mut words = Vec::new(alloc);
@@ -174,6 +180,21 @@ fn workers_meet(rt: HostRuntime) -> Result<(), Fail> {
     assert_eq!(rt; sink.held(), TWO_FRAMES_TEXT.as_bytes());
     assert!(rt; ended.runs.is_some());
     assert_eq!(rt; ended.proofs.len(), 1);
+    assert!(rt; gate.sender_saw.load(Ordering::SeqCst));
+    assert!(rt; gate.receiver_saw.load(Ordering::SeqCst));
+    Ok(())
+}
+
+// The same of a stream: its source and its sink act beside one another.
+#[test]
+fn stream_meets(rt: HostRuntime) -> Result<(), Fail> {
+    let gate = Meeting::new();
+    let (ended, sink) = answer_to(&rt, rt.alloc(), &["stream"], TWO_FRAMES, &gate)?;
+    assert_eq!(rt; ended.status, 0);
+    assert_eq!(rt; sink.held(), TWO_STREAMED_TEXT.as_bytes());
+    assert!(rt; ended.runs.is_none());
+    assert!(rt; ended.streams.is_some());
+    assert_eq!(rt; ended.proofs.len(), 2);
     assert!(rt; gate.sender_saw.load(Ordering::SeqCst));
     assert!(rt; gate.receiver_saw.load(Ordering::SeqCst));
     Ok(())

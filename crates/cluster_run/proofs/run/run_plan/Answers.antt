@@ -4,14 +4,8 @@ use Rattle.step_kinds.specs.Runs.{lane_shown}
 use Rattle.step_kinds.specs.declared.runs.LaneRun.{LaneRun}
 use Rattle.cluster_run.specs.LaneKeys.{LaneKey, keys_of}
 use Rattle.cluster_run.specs.Runs.{IsFit, IsShown}
-use Rattle.cluster_run.proofs.RecordFits.{HasCome, few_lanes, are_of_traffic, group_over, all_over, record_fits, record_shown}
+use Rattle.cluster_run.proofs.RecordFits.{HasCome, group_over, all_over, record_fits, record_shown}
 use Rattle.cluster_run.proofs.run.run_plan.Goals as goal
-
-pub waiting_lanes-requires-clause-few : goal.waiting_lanes-requires-clause-few
-waiting_lanes-requires-clause-few g c = few_lanes c.args.plan.now c.requires c.in_ok-lanes.lanes.items c.in_ok-lanes.ensures
-
-pub waiting_lanes-requires-clause-traffic : goal.waiting_lanes-requires-clause-traffic
-waiting_lanes-requires-clause-traffic g c = are_of_traffic c.args.plan.now c.in_ok-lanes.lanes.items c.in_ok-lanes.ensures
 
 pub loop-first-preserved : goal.loop-first-preserved
 loop-first-preserved g c =

@@ -1,0 +1,6 @@
+mod EndOfSession
+mod Giving
+mod KeptItems
+mod StreamEnds
+mod StreamLists
+mod Waiting

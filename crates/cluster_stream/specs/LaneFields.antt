@@ -1,0 +1,39 @@
+-- The fields of a stream at work: what it shows, and what is true of it between two rounds.
+use Rattle.std.specs.Prelude.{◌≡◌, ℕ, ◌+◌, ◌≤◌, ◌<◌, ◌^◌, ◌==◌, ◌&&◌, not, true, List, length, fold}
+use Rattle.std.specs.List.{All, flat_map}
+use Rattle.stream_model.specs.Receiver.{new_receiver}
+use Rattle.stream_model.specs.Resumed.{AreSessionsOf, Exchange, IsInOrder, acked_by, after_session}
+use Rattle.stream_model.specs.declared.Session.TheVariants.{Fresh}
+use Rattle.table_lane.specs.EndOfLane.{Shown}
+use Rattle.cluster_stream.specs.Keys.{StreamState}
+use Rattle.cluster_stream.specs.Streams.{exchange_proofs}
+use Rattle.cluster_stream.specs.Workers.{SessionKey}
+use Rattle.cluster_stream.specs.declared.lanes.StreamWork.TheInside as work
+
+abbrev pub state_of : work.Inside → StreamState
+state_of w = record {
+  key = record { name = w.name; entries = w.entries; losses = w.losses; traffic = w.session.key.items };
+  over = (w.ahead == 0) && (w.session.kept == length w.session.key.items) && not w.session.cut;
+}
+
+-- the proofs of sessions that were all cut
+abbrev pub cut_proofs : ℕ → List Exchange → List Shown
+cut_proofs entries sessions = flat_map (exchange_proofs entries true) sessions
+
+-- sessions of a stream ended, and a session goes on from there, in which this number of items was ever given
+pub record GoesFrom (sessions : List Exchange) (key : SessionKey) (given : ℕ) : Type 0 where
+  pub are : AreSessionsOf key.items sessions
+  pub in_order : All IsInOrder sessions
+  pub kept : fold after_session new_receiver sessions ≡ record { items = key.before; session = Fresh }
+  pub acked : key.start ≡ acked_by sessions
+  pub ever : length key.before ≤ given
+
+-- there are two proofs for each session that ended, each of which was cut
+pub record IsWork (w : work.Inside) : Type 0 where
+  pub sessions : List Exchange
+  pub numbers : (w.numbers.items ≤ 65535) × (w.numbers.acks ≤ 131071)
+  pub ring : (w.entries ≡ w.session.key.entries) × (2 ≤ w.entries) × (w.entries ≤ 65535)
+  pub losses : length sessions + w.ahead ≡ w.losses
+  pub few : w.losses + 1 < 2 ^ 32
+  pub shown : w.proofs.items ≡ cut_proofs w.entries sessions
+  pub goes : GoesFrom sessions w.session.key w.session.ever

@@ -1,0 +1,9 @@
+pub mod Ends
+pub mod Keys
+pub mod LaneFields
+pub mod SessionFields
+pub mod Leaving
+pub mod Sessions
+pub mod Streams
+pub mod WorkerFields
+pub mod Workers

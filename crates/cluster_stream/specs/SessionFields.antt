@@ -1,0 +1,23 @@
+-- The fields of a session: what it shows, and what is true of it between two rounds.
+use Rattle.std.specs.Prelude.{◌≡◌, ◌≤◌, length}
+use Rattle.cluster_stream.specs.Workers.{SessionState}
+use Rattle.cluster_stream.specs.declared.session.Session.TheInside.{Inside}
+
+abbrev pub session_of : Inside → SessionState
+session_of s = record {
+  key = record { entries = s.source.key.entries; items = s.source.key.items; start = s.source.key.start; before = s.sink.key.before };
+  ever = s.source.ever;
+  kept = s.sink.kept;
+  cut = s.cutting.cut;
+}
+
+-- the workers stand at two tables, and the rings and the items are counted beside them
+pub record IsSession (s : Inside) : Type 0 where
+  pub moves_there : s.moving.lane ≡ s.source.key.lane
+  pub keeps_there : s.sink.key.lane ≡ s.source.key.lane
+  pub cuts_there : s.cutting.key.lane ≡ s.source.key.lane
+  pub moves_acks : s.moving.ack_lane ≡ s.sink.key.ack_lane
+  pub gets_acks : s.source.key.ack_lane ≡ s.sink.key.ack_lane
+  pub cuts_acks : s.cutting.key.ack_lane ≡ s.sink.key.ack_lane
+  pub ring : (s.entries ≡ s.source.key.entries) × (s.entries ≡ s.sink.key.entries) × (2 ≤ s.entries) × (s.entries ≤ 65535)
+  pub counted : s.total ≡ length s.source.key.items

@@ -1,0 +1,38 @@
+//! Streams whose rings are open together.
+
+ghost use Rattle.std.specs.Prelude.{◌≡◌, ◌≤◌, ◌++◌, ◌∷◌, length, IfOk};
+ghost use Rattle.cluster_stream.specs.Keys.{keys_of};
+
+use crate::lanes::StreamWork;
+use cluster_run::LaneTask;
+use std::alloc::{AllocError, Global};
+use std::collections::VecDeque;
+
+/// The rings of the streams that are open together, two of each, have at most so many entries in all.
+const MOST_OPEN: u32 = 1_000_000;
+
+/// The two rings of a stream have at most so many.
+const MOST_ENTRIES: u32 = 131_070;
+
+/// Opens the stream `first` and those of the lanes that wait which may be open together with it, in order, where so
+/// many lanes have traffic. The only error is want of memory.
+pub(crate) fn next_group(
+    alloc: Global,
+    lanes: u32,
+    first: LaneTask,
+    waiting: &mut VecDeque<LaneTask>,
+) -> Result<Vec<StreamWork>, AllocError>
+    requires { lanes ≤ 65535 }
+    ensures keys { IfOk result (λ works. keys_of works.items ++ waiting.new.items ≡ first ∷ waiting.old.items) }
+    ensures fewer { length waiting.new.items ≤ length waiting.old.items }
+{
+    let mut entries = 2 * first.entries();
+    let mut works = vec![in alloc; StreamWork::new(alloc, lanes, first)?]?;
+    while entries <= MOST_OPEN - MOST_ENTRIES
+        && let Some(task) = waiting.pop_front()
+    {
+        entries += 2 * task.entries();
+        works.push(StreamWork::new(alloc, lanes, task)?)?;
+    }
+    Ok(works)
+}

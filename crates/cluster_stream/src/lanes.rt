@@ -1,0 +1,191 @@
+//! A stream at work: its sessions, one after another.
+
+ghost use Rattle.std.specs.Prelude.{◌≡◌, ◌≤◌, true, IfOk};
+ghost use Rattle.cluster_stream.specs.Keys.{ComesTo};
+ghost use Rattle.cluster_stream.specs.Streams.{stream_shown};
+
+use crate::exchange::{StreamEnds, laws_of_sessions, next_ends};
+use crate::numbers::LaneNumbers;
+use crate::record::StreamRun;
+use crate::session::Session;
+use cluster_run::{LaneTask, TaskParts};
+use io_edges::Gate;
+use resume_stream::{StreamReceiver, StreamSender};
+use std::alloc::{AllocError, Global};
+use std::marker::Model;
+use std::thread::Threads;
+use step_kinds::LaneName;
+use table_lane::LaneProof;
+
+/// A stream at work. Contracts see what its work comes to, and whether its last session is whole.
+#[derive(Drop)]
+pub(crate) struct StreamWork {
+    name: LaneName,
+    numbers: LaneNumbers,
+    entries: u32,
+    /// How many losses the pair's link sees.
+    losses: u32,
+    /// How many of them are ahead.
+    ahead: u32,
+    session: Session,
+    /// The proofs of the sessions that ended.
+    proofs: Vec<LaneProof>,
+}
+
+impl StreamWork {
+    /// A stream in its first session, where so many lanes have traffic. The only error is want of memory.
+    pub(crate) fn new(alloc: Global, lanes: u32, task: LaneTask) -> Result<StreamWork, AllocError>
+        requires { lanes ≤ 65535 }
+        ensures { IfOk result (λ work. work.key ≡ task) }
+    {
+        let TaskParts {
+            name,
+            number,
+            entries,
+            losses,
+            frames,
+        } = task.into_parts();
+        let numbers = LaneNumbers {
+            items: number,
+            acks: lanes + number,
+        };
+        let total = frames.len();
+        let sender = StreamSender::new(alloc, frames);
+        let receiver = StreamReceiver::new(alloc);
+        Ok(StreamWork {
+            name,
+            numbers,
+            entries,
+            losses,
+            ahead: losses,
+            session: Session::new(alloc, numbers, entries, sender, receiver, total)?,
+            proofs: Vec::new(alloc),
+        })
+    }
+
+    /// Whether its last session is whole.
+    pub(crate) fn is_over(&self) -> bool
+        ensures { result ≡ self.now.over }
+    {
+        self.ahead == 0 && self.session.kept() == self.session.total() && !self.session.is_cut()
+    }
+
+    /// Whether its session was cut.
+    pub(crate) fn is_cut(&self) -> bool {
+        self.session.is_cut()
+    }
+
+    /// Whether there was no memory for a frame.
+    pub(crate) fn is_wanting(&self) -> bool {
+        self.session.is_wanting()
+    }
+
+    // With how many items kept the session is cut: its share of those that the stream lacks, where a loss of the link
+    // is ahead.
+    fn cut_after(&self) -> Option<usize> {
+        let total = self.session.total();
+        match self.ahead {
+            0 => None,
+            ahead => {
+                let lacking = total.saturating_sub(self.session.begun());
+                Some(total - lacking + lacking / (ahead as usize + 1))
+            }
+        }
+    }
+
+    /// A round in which its workers have threads of their own. A stream that is over does nothing.
+    pub(crate) fn pass_in_threads<R: Threads + Sync, G: Gate>(&mut self, rt: &R, gate: &G)
+        ensures { self.new.key ≡ self.old.key }
+    {
+        if self.is_over() {
+            return;
+        }
+        let cut_after = self.cut_after();
+        self.session.pass_in_threads(rt, gate, cut_after);
+    }
+
+    /// A round in which this thread makes the passes of its workers in turn. A stream that is over does nothing.
+    pub(crate) fn pass_in_turn<G: Gate>(&mut self, gate: &G)
+        ensures { self.new.key ≡ self.old.key }
+    {
+        if self.is_over() {
+            return;
+        }
+        let cut_after = self.cut_after();
+        self.session.pass_in_turn(gate, cut_after);
+    }
+
+    /// Where the session was cut and is not the last, ends it and begins the next one, from the item that was
+    /// acknowledged. The only error is want of memory.
+    pub(crate) fn renewed(self, alloc: Global) -> Result<StreamWork, AllocError>
+        ensures { IfOk result (λ work. work.key ≡ self.key) }
+    {
+        if self.ahead == 0 || !self.session.is_cut() {
+            return Ok(self);
+        }
+        let StreamWork {
+            name,
+            numbers,
+            entries,
+            losses,
+            ahead,
+            session,
+            mut proofs,
+        } = self;
+        laws_of_sessions();
+        let total = session.total();
+        let end = session.ended()?;
+        proofs.push(end.item_proof)?;
+        proofs.push(end.ack_proof)?;
+        let StreamEnds { sender, receiver } = next_ends(end.sender, end.receiver, end.acks);
+        Ok(StreamWork {
+            name,
+            numbers,
+            entries,
+            losses,
+            ahead: ahead - 1,
+            session: Session::new(alloc, numbers, entries, sender, receiver, total)?,
+            proofs,
+        })
+    }
+
+    /// Ends a stream that is over: its record, and the proofs of its sessions. The only error is want of memory.
+    pub(crate) fn ended(self) -> Result<(StreamRun, Vec<LaneProof>), AllocError>
+        requires { self.over ≡ true }
+        ensures { IfOk result (λ end. ComesTo self.key (stream_shown end.0) end.1.items) }
+    {
+        let StreamWork {
+            name,
+            losses,
+            session,
+            mut proofs,
+            ..
+        } = self;
+        laws_of_sessions();
+        let end = session.ended()?;
+        proofs.push(end.item_proof)?;
+        proofs.push(end.ack_proof)?;
+        let items = end.receiver.into_items();
+        let sessions = losses + 1;
+        Ok((
+            StreamRun {
+                name,
+                items,
+                sessions,
+            },
+            proofs,
+        ))
+    }
+}
+
+impl Model for StreamWork {
+    ghost use Rattle.cluster_stream.specs.Keys.{StreamState};
+
+    ghost Value = { StreamState };
+
+    ghost use Rattle.cluster_stream.specs.LaneFields.{state_of, IsWork};
+
+    ghost view = { state_of };
+
+    ghost invariant = { IsWork };
+}

@@ -1,0 +1,144 @@
+//! The worker that gives the items of a stream, and receives their acknowledgements.
+
+ghost use Rattle.std.specs.Prelude.{◌≡◌, ◌≤◌, [], IfOk};
+ghost use Rattle.cluster_stream.specs.Ends.{HasOffered};
+ghost use Rattle.cluster_stream.specs.Leaving.{LeavesSource};
+
+use crate::numbers::LaneNumbers;
+use crate::offering::{Pass, Turn, offer_pass};
+use cluster_run::clock::Clock;
+use cluster_run::workers::Receiving;
+use io_edges::Gate;
+use resume_stream::StreamSender;
+use std::alloc::{AllocError, Global};
+use std::marker::Model;
+use step_kinds::FrameList;
+use table_lane::{RecvEnd, SendEnd};
+
+/// The worker that gives the items of a stream, and receives their acknowledgements. What was acknowledged counts from
+/// the next session on.
+#[derive(Drop)]
+pub(crate) struct Source {
+    pub(crate) sender: StreamSender,
+    pub(crate) end: SendEnd,
+    pub(crate) acks: Receiving,
+    pub(crate) clock: Clock,
+    /// Whether there was no memory for a frame.
+    pub(crate) is_wanting: bool,
+}
+
+/// What a source leaves.
+#[derive(Drop)]
+pub(crate) struct SourceEnd {
+    pub(crate) sender: StreamSender,
+    /// Its end of the lane of items.
+    pub(crate) send: SendEnd,
+    /// Its end of the lane of acknowledgements.
+    pub(crate) recv: RecvEnd,
+    /// The acknowledgements that came, in order.
+    pub(crate) acks: FrameList,
+}
+
+/// At most so many acknowledgements come in a session.
+const ACK_ROOM: usize = 1_024;
+
+/// At most so many acknowledgements are received after a pass.
+const ACK_TURNS: u32 = 4;
+
+impl Source {
+    /// The source of a stream in a new session, by the numbers of its two lanes. Nothing was sent or received. The only
+    /// error is want of memory.
+    pub(crate) fn new(
+        alloc: Global,
+        sender: StreamSender,
+        send: SendEnd,
+        recv: RecvEnd,
+        numbers: LaneNumbers,
+    ) -> Result<Source, AllocError>
+        requires numbers { (numbers.items ≤ 65535) × (numbers.acks ≤ 131071) }
+        requires offered { HasOffered sender send.part.sent }
+        requires acked { sender.acked ≡ sender.start }
+        requires got { recv.part.got ≡ [] }
+        ensures { IfOk result (λ w. w ≡ record { key = record { lane = send.lane; ack_lane = recv.lane; entries = send.part.entries; items = sender.items; start = sender.start }; ever = sender.place.ever }) }
+    {
+        Ok(Source {
+            sender,
+            end: send,
+            acks: Receiving::new(alloc, recv, ACK_ROOM, 4 * numbers.acks + 2)?,
+            clock: Clock::new(4 * numbers.items),
+            is_wanting: false,
+        })
+    }
+
+    /// Makes at most so many turns that give, and a few that receive. It answers how far the first came.
+    pub(crate) fn pass<G: Gate>(&mut self, gate: &G, turns: u32) -> Pass
+        requires { 1 ≤ turns }
+        ensures key { self.new.key ≡ self.old.key }
+        ensures ever { self.old.ever ≤ self.new.ever }
+    {
+        let pass = self.give(gate, turns);
+        self.acks.pass(gate, ACK_TURNS);
+        pass
+    }
+
+    // The turns that give.
+    fn give<G: Gate>(&mut self, gate: &G, turns: u32) -> Pass
+        requires { 1 ≤ turns }
+        ensures key { self.new.key ≡ self.old.key }
+        ensures ever { self.old.ever ≤ self.new.ever }
+    {
+        let first = self.clock.first(turns);
+        let worker = self.clock.worker();
+        match offer_pass(&mut self.sender, &mut self.end, gate, worker, first, turns) {
+            Ok(pass) => {
+                self.clock = self.clock.after(first, pass.turns);
+                pass
+            }
+            Err(AllocError) => {
+                self.is_wanting = true;
+                Pass {
+                    turns: 0,
+                    sent: 0,
+                    last: Turn::Over,
+                }
+            }
+        }
+    }
+}
+
+impl Source {
+    /// What it leaves at the end of a session. The only error is want of memory, where it met that before.
+    pub(crate) fn ended(self) -> Result<SourceEnd, AllocError>
+        ensures { IfOk result (λ end. LeavesSource self end) }
+    {
+        let Source {
+            sender,
+            end: send,
+            acks,
+            is_wanting,
+            ..
+        } = self;
+        if is_wanting {
+            return Err(AllocError);
+        }
+        let (recv, acks) = acks.into_parts();
+        Ok(SourceEnd {
+            sender,
+            send,
+            recv,
+            acks,
+        })
+    }
+}
+
+impl Model for Source {
+    ghost use Rattle.cluster_stream.specs.Workers.{SourceShown};
+
+    ghost Value = { SourceShown };
+
+    ghost use Rattle.cluster_stream.specs.WorkerFields.{source_of, IsSource};
+
+    ghost view = { source_of };
+
+    ghost invariant = { IsSource };
+}

@@ -1,0 +1,161 @@
+//! A row's script, and what its report has to say.
+
+use command_reply::Reply;
+use replay_command::{load_reply, replay_reply};
+use std::alloc::{AllocError, Global};
+use step_kinds::limits::MOST_SCRIPT_BYTES;
+
+/// The most frames of a load.
+const MOST_FRAMES: u32 = 30_000;
+
+/// A script, and the lines of its report that are wanted.
+#[derive(Drop)]
+pub struct Case {
+    script: Vec<u8>,
+    /// The seed and the number of frames of a load, in the place of a script.
+    load: Option<(u64, u32)>,
+    /// The number of the script's last line.
+    last_line: u32,
+    /// The numbers of the lines whose answers are wanted.
+    lines: Vec<u32>,
+    /// All answers to those lines, as they stand in the report.
+    answers: Vec<u8>,
+    /// All lines of the report that are no answers, its last one apart; or none where they aren't wanted.
+    ending: Vec<u8>,
+}
+
+impl Case {
+    /// The case that a row's lines give.
+    pub fn of_lines(alloc: Global, lines: &[String]) -> Result<Case, AllocError> {
+        let mut case = Case {
+            script: Vec::new(alloc),
+            load: None,
+            last_line: 0,
+            lines: Vec::new(alloc),
+            answers: Vec::new(alloc),
+            ending: Vec::new(alloc),
+        };
+        let mut last = ' ';
+        for line in lines {
+            last = case.take_line(alloc, last, line.as_str())?;
+        }
+        Ok(case)
+    }
+
+    // Adds a line, and says to what a line `+ COUNT TEXT` after it adds its text: to an answer (`>`), to a line of the ending (`=`) or
+    // to the script.
+    fn take_line(&mut self, alloc: Global, last: char, line: &str) -> Result<char, AllocError> {
+        if let Some(answer) = line.strip_prefix("> ") {
+            let number = self.last_line;
+            let text = format!(in alloc; "{number} {answer}")?;
+            self.lines.push(number)?;
+            add_line(&mut self.answers, text.as_str())?;
+            return Ok('>');
+        }
+        if let Some(ending) = line.strip_prefix("= ") {
+            add_line(&mut self.ending, ending)?;
+            return Ok('=');
+        }
+        if let Some(more) = line.strip_prefix("+ ") {
+            match last {
+                '>' => add_text(&mut self.answers, more)?,
+                '=' => add_text(&mut self.ending, more)?,
+                _ => add_text(&mut self.script, more)?,
+            }
+            return Ok(last);
+        }
+        if let Some(words) = line.strip_prefix("@load ") {
+            self.load = load_of(words);
+            return Ok(' ');
+        }
+        self.last_line = self.last_line.saturating_add(1);
+        add_line(&mut self.script, line)?;
+        Ok(' ')
+    }
+}
+
+// The seed and the number of frames of a load.
+fn load_of(words: &str) -> Option<(u64, u32)> {
+    let (seed, frames) = words.split_once(' ')?;
+    Some((seed.parse::<u64>().ok()?, frames.parse::<u32>().ok()?))
+}
+
+fn add_line(text: &mut Vec<u8>, line: &str) -> Result<(), AllocError> {
+    text.extend_from_slice(line.as_bytes())?;
+    text.push(b'\n')?;
+    Ok(())
+}
+
+// Adds a text so many times to the end of a text's last line.
+fn add_text(text: &mut Vec<u8>, more: &str) -> Result<(), AllocError> {
+    let (count, word) = more.split_once(' ').unwrap_or(("0", more));
+    text.pop();
+    for _ in 0..count.parse::<u32>().unwrap_or(0) {
+        text.extend_from_slice(word.as_bytes())?;
+    }
+    text.push(b'\n')?;
+    Ok(())
+}
+
+/// The first line in which the report of a case's script isn't what is wanted, beside the wanted one. Something is wanted in each row.
+pub fn difference_of(alloc: Global, case: &Case) -> Result<Option<String>, AllocError> {
+    let mut answers = Vec::new(alloc);
+    let mut ending = Vec::new(alloc);
+    let Some(reply) = reply_to(alloc, case)? else {
+        return Ok(Some(String::from_str(alloc, "it is no script and no load")?));
+    };
+    for line in std::str::from_utf8(reply.text()).unwrap_or("").lines() {
+        match number_of(line) {
+            Some(number) if case.lines.contains(&number) => add_line(&mut answers, line)?,
+            Some(_) => {}
+            None if line == "end" => {}
+            None => add_line(&mut ending, line)?,
+        }
+    }
+    if case.answers.is_empty() && case.ending.is_empty() {
+        return Ok(Some(String::from_str(alloc, "nothing is wanted")?));
+    }
+    if answers != case.answers {
+        return first_difference(alloc, &answers, &case.answers);
+    }
+    if !case.ending.is_empty() && ending != case.ending {
+        return first_difference(alloc, &ending, &case.ending);
+    }
+    Ok(None)
+}
+
+// What the program answers to a case, unless it is too long for a script, or a load of too many frames.
+fn reply_to(alloc: Global, case: &Case) -> Result<Option<Reply>, AllocError> {
+    if let Some((seed, frames)) = case.load {
+        if frames == 0 || frames > MOST_FRAMES {
+            return Ok(None);
+        }
+        return Ok(Some(load_reply(alloc, seed, frames)?));
+    }
+    if case.script.len() > MOST_SCRIPT_BYTES {
+        return Ok(None);
+    }
+    Ok(Some(replay_reply(alloc, &case.script)?))
+}
+
+// The number of the script's line that a line of a report answers, if it is an answer.
+fn number_of(line: &str) -> Option<u32> {
+    line.split_once(' ')?.0.parse::<u32>().ok()
+}
+
+// The first line in which two texts differ. Where one is the front of the other, a line that isn't there is empty.
+fn first_difference(
+    alloc: Global,
+    came: &[u8],
+    wanted: &[u8],
+) -> Result<Option<String>, AllocError> {
+    let mut others = std::str::from_utf8(wanted).unwrap_or("").lines();
+    for line in std::str::from_utf8(came).unwrap_or("").lines() {
+        let other = others.next().unwrap_or("");
+        if line != other {
+            return Ok(Some(format!(in alloc; "{line}, where {other} is wanted")?));
+        }
+    }
+    let other = others.next().unwrap_or("");
+    Ok(Some(format!(in alloc; "no line, where {other} is wanted")?))
+}

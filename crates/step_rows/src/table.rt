@@ -1,0 +1,109 @@
+//! The rows on standard input.
+
+use std::alloc::{AllocError, Global};
+use std::io;
+
+/// Lines of the table: those of a row, or lines with a name, which rows take in.
+#[derive(Drop)]
+pub struct Block {
+    /// What the row shows, or the name of the lines.
+    pub name: String,
+    /// The lines, with those that they take in.
+    pub lines: Vec<String>,
+}
+
+/// The rows that standard input has. A row that takes in lines which no block before it has keeps its `@use`, which no script has.
+pub fn read_rows<R: Input + AllocGlobal>(rt: &R) -> io::Result<Vec<Block>> {
+    let mut named = Vec::new(rt.alloc());
+    let mut rows = Vec::new(rt.alloc());
+    let mut open = block_of(rt.alloc(), "")?;
+    let mut is_row = false;
+    for line in rt.lines(rt.alloc()) {
+        let line = line?;
+        let begun = begun_block(rt.alloc(), line.as_str())?;
+        if let Some(begun) = begun {
+            let whole = std::mem::replace(&mut open, begun);
+            if is_row {
+                rows.push(whole)?;
+            } else {
+                named.push(whole)?;
+            }
+            is_row = line.as_str().starts_with("@row ");
+        } else {
+            take_line(rt.alloc(), &mut open, &named, line.as_str())?;
+        }
+    }
+    if is_row {
+        rows.push(open)?;
+    }
+    Ok(rows)
+}
+
+// The block that a line begins, if it begins one.
+fn begun_block(alloc: Global, line: &str) -> Result<Option<Block>, AllocError> {
+    if let Some(about) = line.strip_prefix("@row ") {
+        return Ok(Some(block_of(alloc, about)?));
+    }
+    if let Some(name) = line.strip_prefix("@let ") {
+        return Ok(Some(block_of(alloc, name)?));
+    }
+    Ok(None)
+}
+
+fn block_of(alloc: Global, name: &str) -> Result<Block, AllocError> {
+    Ok(Block {
+        name: String::from_str(alloc, name)?,
+        lines: Vec::new(alloc),
+    })
+}
+
+// Adds a line to a block, or the lines that it takes in, once or several times. A line without words and one that begins with `#` are
+// none of it.
+fn take_line(
+    alloc: Global,
+    block: &mut Block,
+    named: &[Block],
+    line: &str,
+) -> Result<(), AllocError> {
+    if line.is_empty() || line.starts_with("#") {
+        return Ok(());
+    }
+    let (count, name) = taken_in(line);
+    let mut is_found = false;
+    for other in named {
+        if count > 0 && other.name.as_str() == name {
+            is_found = true;
+            copy_lines(alloc, block, &other.lines, count)?;
+        }
+    }
+    if !is_found {
+        block.lines.push(String::from_str(alloc, line)?)?;
+    }
+    Ok(())
+}
+
+// How often a line takes in lines, and their name: `@use NAME` once, `@times COUNT NAME` so many times, any other never.
+fn taken_in(line: &str) -> (u32, &str) {
+    if let Some(name) = line.strip_prefix("@use ") {
+        return (1, name);
+    }
+    let more = line.strip_prefix("@times ").unwrap_or("");
+    match more.split_once(' ') {
+        Some((count, name)) => (count.parse::<u32>().unwrap_or(0), name),
+        None => (0, line),
+    }
+}
+
+fn copy_lines(
+    alloc: Global,
+    block: &mut Block,
+    lines: &[String],
+    count: u32,
+) -> Result<(), AllocError> {
+    for _ in 0..count {
+        for line in lines {
+            block.lines.push(String::from_str(alloc, line.as_str())?)?;
+        }
+    }
+    Ok(())
+}

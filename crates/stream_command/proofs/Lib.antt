@@ -1,0 +1,2 @@
+mod KnownPairs
+mod WholeStreams

@@ -1,0 +1,82 @@
+//! The reply of `stream`.
+
+ghost use Rattle.std.specs.Prelude.{◌≡◌, ◌≤◌, IfOk, length};
+ghost use Rattle.step_kinds.specs.Limits.{most_script_bytes};
+ghost use Rattle.plan_model.specs.TrafficPlans.{IsWhole};
+ghost use Rattle.script_plan.specs.Scripts.{plan_in};
+ghost use Rattle.stream_command.specs.Answers.{IsRefusal, IsStreamOf, IsStreamOfPlan};
+ghost use Rattle.stream_command.specs.Replies.{streamed_by};
+
+use crate::text::streams_text;
+use cluster_stream::{StreamRecord, run_stream};
+use command_reply::Reply;
+use io_edges::Gate;
+use script_plan::Script;
+use script_text::{ParseError, read_script};
+use script_words::ScriptFault;
+use std::alloc::{AllocError, Global};
+use std::sync::Wait;
+use std::thread::Threads;
+use table_lane::LaneProof;
+
+/// What `stream` answers.
+#[derive(Drop)]
+pub struct StreamReply {
+    /// The exit status and the text.
+    pub reply: Reply,
+    /// The record whose text it is; none where the script has a fault.
+    pub streams: Option<StreamRecord>,
+    /// Two proofs of each session of the record, lane by lane; none where the script has a fault.
+    pub proofs: Vec<LaneProof>,
+}
+
+/// The reply of `stream` to a script of at most 16,777,216 bytes. Where it declares a plan, threads send the plan's
+/// traffic as resumable streams. The reply is then the text of the record of that, with status 0, beside the record and
+/// its proofs; else it is the first line with a fault, with status 3. The only error is want of memory.
+///
+/// Each worker passes the gate before each of its turns.
+pub fn stream_reply<R: Threads + Wait + Sync, G: Gate>(
+    rt: &R,
+    alloc: Global,
+    bytes: &[u8],
+    gate: &G,
+) -> Result<StreamReply, AllocError>
+    requires { length bytes.now ≤ most_script_bytes }
+    ensures { IfOk result (λ streams. IsStreamOf bytes.now streams.reply (streamed_by streams)) }
+{
+    match read_script(alloc, bytes) {
+        Ok(script) => stream_script(rt, alloc, &script, gate),
+        Err(ParseError::Fault(fault)) => Ok(refusal(alloc, fault)),
+        Err(ParseError::OutOfMemory) => Err(AllocError),
+    }
+}
+
+// The reply to a script without a fault.
+fn stream_script<R: Threads + Wait + Sync, G: Gate>(
+    rt: &R,
+    alloc: Global,
+    script: &Script,
+    gate: &G,
+) -> Result<StreamReply, AllocError>
+    requires { IsWhole (plan_in script.now) }
+    ensures { IfOk result (λ streams. IsStreamOfPlan (plan_in script.now) streams.reply (streamed_by streams)) }
+{
+    let (streams, proofs) = run_stream(rt, alloc, &script.declared, gate)?;
+    let text = streams_text(alloc, &script.declared, &streams)?;
+    Ok(StreamReply {
+        reply: Reply::done(text),
+        streams: Some(streams),
+        proofs,
+    })
+}
+
+// The reply to a script with a fault.
+fn refusal(alloc: Global, fault: ScriptFault) -> StreamReply
+    ensures { IsRefusal fault result.reply (streamed_by result) }
+{
+    StreamReply {
+        reply: Reply::refused(fault),
+        streams: None,
+        proofs: Vec::new(alloc),
+    }
+}

@@ -1,0 +1,10 @@
+use Rattle.table_rule.proofs.SplitsAndJoins.{splits_are_no_steps, joins_are_no_steps}
+use Rattle.table_rule.proofs.laws.others_are_no_steps.Goals as goal
+
+-- src/laws.rt:60:1
+pub returns-clause-splits : goal.returns-clause-splits
+returns-clause-splits c = splits_are_no_steps
+
+-- src/laws.rt:60:1
+pub returns-clause-joins : goal.returns-clause-joins
+returns-clause-joins c = joins_are_no_steps
