@@ -78,8 +78,9 @@ impl Cluster {
         self.step_with_switches(step)
     }
 
-    // Makes a step where the plan declares switches.
-    #[inline(never)]
+    // Makes a step where the plan declares switches. It is put in place too, since a step that is handed to a call of its own
+    // would have to stand in memory on the way that needs no switch.
+    #[inline(always)]
     fn step_with_switches(&mut self, step: &Step) -> Result<Answer, AllocError>
         requires { IsMakeable (plan_held self.old) step.now }
         ensures { HasStepped self.old self.new step.now result }

@@ -33,6 +33,10 @@ pub either_pages : {X E : Type 0} (result : Result X E) (mid new : Bridge) (side
 either_pages (Ok x) mid new side any ok err = ap (λ (bridge : Bridge). pages_of bridge any) ok
 either_pages (Err e) mid new side any ok err = ap (λ (bridge : Bridge). pages_of bridge any) err
 
+pub on_err : {X E : Type 0} (result : Result X E) {P : Type 0} → P → OnErr result P
+on_err (Ok x) p = tt
+on_err (Err e) p = p
+
 -- Writes that were ready stay so
 
 write_still : (plan : PairPlan) (side : Side) (touched : ℕ → Type 0) (old new : List ℕ) (write : Option WindowWrite) → PagesGrow touched old new → IsReady plan side old write → IsReady plan side new write

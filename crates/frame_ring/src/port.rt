@@ -15,6 +15,7 @@ ghost use Rattle.plan_model.specs.Sizes.{layout_to};
 ghost use Rattle.ring_geometry.specs.Geometry.{max_payload_of};
 ghost use Rattle.step_kinds.specs.Limits.{most_frame_bytes};
 ghost use Rattle.step_kinds.specs.Sides.{other_side};
+ghost use Rattle.step_kinds.specs.declared.lanes.Begun.TheVariants.{Ok as BegunOk};
 
 use crate::RingLook;
 use crate::posting::{clear_flags, post_index, post_write};
@@ -43,7 +44,7 @@ pub struct Port {
 }
 
 impl Port {
-    ghost use Rattle.frame_ring.specs.Calls.{down_begun, frame_begun, room_answer, TouchedByBegin, TouchedByDown, TouchedByFlags, TouchedByLook, ack_answer, acked_by, after_ack, after_begin, after_clear, after_copy, after_down, after_look, after_post, begin_answer, clear_answer, cleared_by, copy_answer, down_answer, free_answer, look_answer, post_answer, posted_by, refuses_answer, reset_by};
+    ghost use Rattle.frame_ring.specs.Calls.{FindsEntry, down_begun, frame_begun, room_answer, TouchedByBegin, TouchedByDown, TouchedByFlags, TouchedByLook, ack_answer, acked_by, after_ack, after_begin, after_clear, after_copy, after_down, after_look, after_post, begin_answer, clear_answer, cleared_by, copy_answer, down_answer, free_answer, look_answer, post_answer, posted_by, refuses_answer, reset_by};
     ghost use Rattle.frame_ring.specs.Port.{fresh_port, is_busy, unused_of, with_receiving, writes_left};
     ghost use Rattle.frame_ring.specs.PortView.{FitsRings, HasPagesIn, HasRoomIn, TouchesLeft, TouchesWrite, with_room};
 
@@ -73,8 +74,8 @@ impl Port {
     ///
     /// # Errors
     ///
-    /// [`AllocError`] from want of memory alone. The port is as it was, and of the pair nothing but pages that this frame
-    /// needs may have become promised.
+    /// [`AllocError`] from want of memory alone, where the frame was to be begun and is not refused. The port is as it was,
+    /// and of the pair nothing but pages that this frame needs may have become promised.
     pub fn begin(&mut self, pair: &mut Pair, frame: Frame) -> Result<Begun, AllocError>
         requires some { 0 < length frame }
         requires plan { pair.old.plan ≡ self.old.plan }
@@ -82,6 +83,7 @@ impl Port {
         ensures answer { IfOk result (λ answer. answer ≡ begin_answer self.old pair.old (length frame)) }
         ensures after { OnOk result (self.new ≡ after_begin self.old pair.old frame) }
         ensures err { OnErr result (self.new ≡ self.old) }
+        ensures wants { OnErr result (begin_answer self.old pair.old (length frame) ≡ BegunOk self.old.sending.told) }
         ensures rest { pair.new ≡ with_room (with_pages pair.old (other_side self.old.side) (pages_of pair.new (other_side self.old.side))) self.old.side (unused_of self.new - unused_of self.old) }
         ensures pages { PagesGrow (TouchedByBegin self.old pair.old frame) (pages_of pair.old (other_side self.old.side)) (pages_of pair.new (other_side self.old.side)) }
         ensures ready { OnOk result (HasPagesIn self.old pair.old → HasPagesIn self.new pair.new) }
@@ -100,14 +102,15 @@ impl Port {
     ///
     /// # Errors
     ///
-    /// [`AllocError`] from want of memory alone. The port is as it was, and of the pair nothing but pages that this entry
-    /// needs may have become promised.
+    /// [`AllocError`] from want of memory alone, where the entry was to be begun and is not refused. The port is as it was,
+    /// and of the pair nothing but pages that this entry needs may have become promised.
     pub fn down(&mut self, pair: &mut Pair) -> Result<Begun, AllocError>
         requires plan { pair.old.plan ≡ self.old.plan }
         requires fits { FitsRings self.old.plan }
         ensures answer { IfOk result (λ answer. answer ≡ down_answer self.old pair.old) }
         ensures after { OnOk result (self.new ≡ after_down self.old pair.old) }
         ensures err { OnErr result (self.new ≡ self.old) }
+        ensures wants { OnErr result (down_answer self.old pair.old ≡ BegunOk self.old.sending.told) }
         ensures rest { pair.new ≡ with_room (with_pages pair.old (other_side self.old.side) (pages_of pair.new (other_side self.old.side))) self.old.side (unused_of self.new - unused_of self.old) }
         ensures pages { PagesGrow (TouchedByDown self.old pair.old) (pages_of pair.old (other_side self.old.side)) (pages_of pair.new (other_side self.old.side)) }
         ensures ready { OnOk result (HasPagesIn self.old pair.old → HasPagesIn self.new pair.new) }
@@ -151,14 +154,15 @@ impl Port {
     ///
     /// # Errors
     ///
-    /// [`AllocError`] from want of memory alone. The port is as it was, and of the pair nothing but pages that this entry
-    /// needs may have become promised.
+    /// [`AllocError`] from want of memory alone, where an entry was found. The port is as it was, and of the pair nothing but
+    /// pages that this entry needs may have become promised.
     pub fn look(&mut self, pair: &mut Pair) -> Result<RingLook, AllocError>
         requires plan { pair.old.plan ≡ self.old.plan }
         requires fits { FitsRings self.old.plan }
         ensures answer { IfOk result (λ answer. answer ≡ look_answer self.old pair.old) }
         ensures after { OnOk result (self.new ≡ after_look self.old pair.old) }
         ensures err { OnErr result (self.new ≡ self.old) }
+        ensures wants { OnErr result (FindsEntry self.old pair.old) }
         ensures rest { pair.new ≡ with_room (with_pages (with_pages pair.old (other_side self.old.side) (pages_of pair.new (other_side self.old.side))) self.old.side (pages_of pair.new self.old.side)) self.old.side (unused_of self.new - unused_of self.old) }
         ensures pages { PagesGrow (TouchedByLook self.old pair.old) (pages_of pair.old (other_side self.old.side)) (pages_of pair.new (other_side self.old.side)) }
         ensures flags { PagesGrow (TouchedByFlags self.old pair.old) (pages_of pair.old self.old.side) (pages_of pair.new self.old.side) }
@@ -249,6 +253,37 @@ impl Port {
         self.rings.queue()
     }
 
+    /// What [`Port::begin`] answers for a frame of `len` bytes, at most 65,536, but for want of memory. It takes no memory.
+    pub fn begin_answer(&self, pair: &Pair, len: u32) -> Begun
+        requires plan { pair.now.plan ≡ self.now.plan }
+        requires fits { FitsRings self.now.plan }
+        requires few { len ≤ most_frame_bytes }
+        ensures { result ≡ begin_answer self.now pair.now len }
+    {
+        let max = self.rings.most_sent();
+        if max < len {
+            return Begun::TooLong { len, max };
+        }
+        if self.sender.is_busy() {
+            return Begun::Busy;
+        }
+        let largest = self.rings.out().max_payload();
+        self.room_answer(pair, pieces_in(largest, len))
+    }
+
+    /// What [`Port::look`] answers, but for want of memory. It takes no memory.
+    pub fn look_answer(&self, pair: &Pair) -> RingLook
+        requires plan { pair.now.plan ≡ self.now.plan }
+        requires fits { FitsRings self.now.plan }
+        ensures { result ≡ look_answer self.now pair.now }
+    {
+        let Phase::Idle = self.receiver.phase() else {
+            return RingLook::OutOfTurn;
+        };
+        let words = header(&self.rings, pair, self.receiver.got());
+        self.receiver.sight(&self.rings, &words)
+    }
+
     /// Whether [`Port::begin`] would answer [`Begun::TooLong`] or [`Begun::Busy`] for a frame of `len` bytes, 1 to 65,536,
     /// whatever room there is. It takes no memory.
     pub fn refuses(&self, len: u32) -> bool
@@ -296,24 +331,6 @@ impl Port {
             _ => 1,
         };
         self.sender.left() + found
-    }
-
-    // What a begin of a frame of `len` bytes answers, but for want of memory.
-    fn begin_answer(&self, pair: &Pair, len: u32) -> Begun
-        requires plan { pair.now.plan ≡ self.now.plan }
-        requires fit { SizesFit self.now.plan }
-        requires few { len ≤ most_frame_bytes }
-        ensures { result ≡ begin_answer self.now pair.now len }
-    {
-        let max = self.rings.most_sent();
-        if max < len {
-            return Begun::TooLong { len, max };
-        }
-        if self.sender.is_busy() {
-            return Begun::Busy;
-        }
-        let largest = self.rings.out().max_payload();
-        self.room_answer(pair, pieces_in(largest, len))
     }
 
     // What a going down answers, but for want of memory.

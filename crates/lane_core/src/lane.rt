@@ -2,10 +2,12 @@
 
 ghost use Rattle.std.specs.Prelude.{◌≡◌, ◌<◌, ◌≤◌, ◌^◌, length, false, IfOk, OnErr};
 ghost use Rattle.lane_laws.specs.Laws.{IsOpen};
-ghost use Rattle.lane_model.specs.Lane.{Carries, GoesDown, bytes_of};
+ghost use Rattle.lane_model.specs.Lane.{Carries, GoesDown, bytes_of, entry_of};
 ghost use Rattle.lane_model.specs.Law.{HoldsRingLaw};
 ghost use Rattle.lane_model.specs.Steps.{after_cut, after_drop};
 ghost use Rattle.lane_core.specs.Parts.{entry_seen};
+ghost use Rattle.lane_core.specs.declared.answers.LaneLook.TheVariants.{Ready};
+ghost use Rattle.step_kinds.specs.declared.lanes.Begun.TheVariants.{Ok as Began};
 
 use crate::answers::{Begun, LaneCopy, LaneLand, LaneLook};
 use crate::entry::Entry;
@@ -110,7 +112,8 @@ impl Lane {
     ///
     /// # Errors
     ///
-    /// [`AllocError`] from want of memory alone, and then nothing changes. Room for the frame's posts is taken here.
+    /// [`AllocError`] from want of memory alone, where the frame was to be begun, and then nothing changes. Room for the
+    /// frame's posts is taken here.
     pub fn begin(&mut self, frame: Frame) -> Result<Begun, AllocError>
         requires some_bytes { 0 < length frame }
         requires open { IsOpen self.old.lane }
@@ -118,6 +121,7 @@ impl Lane {
         ensures answer { IfOk result (λ begun. begun ≡ begin_answer self.old.lane (length frame)) }
         ensures after { IfOk result (λ begun. self.new ≡ with_lane self.old (after_beginning self.old.lane (Carries frame 0) begun)) }
         ensures err { OnErr result (self.new ≡ self.old) }
+        ensures wants { OnErr result (begin_answer self.old.lane (length frame) ≡ Began (length self.old.lane.sent)) }
         ensures law { HoldsRingLaw self.new.lane }
     {
         if frame.len() > self.largest {
@@ -139,13 +143,14 @@ impl Lane {
     ///
     /// # Errors
     ///
-    /// [`AllocError`] from want of memory alone, and then nothing changes.
+    /// [`AllocError`] from want of memory alone, where the entry was to be begun, and then nothing changes.
     pub fn down(&mut self) -> Result<Begun, AllocError>
         requires open { IsOpen self.old.lane }
         requires few { length self.old.lane.sent < 2 ^ 46 }
         ensures answer { IfOk result (λ begun. begun ≡ down_answer self.old.lane) }
         ensures after { IfOk result (λ begun. self.new ≡ with_lane self.old (after_beginning self.old.lane GoesDown begun)) }
         ensures err { OnErr result (self.new ≡ self.old) }
+        ensures wants { OnErr result (down_answer self.old.lane ≡ Began (length self.old.lane.sent)) }
         ensures law { HoldsRingLaw self.new.lane }
     {
         self.begin_entry(Entry::GoesDown)
@@ -159,6 +164,7 @@ impl Lane {
         ensures answer { IfOk result (λ begun. begun ≡ down_answer self.old.lane) }
         ensures after { IfOk result (λ begun. self.new ≡ with_lane self.old (after_beginning self.old.lane (entry_seen entry) begun)) }
         ensures err { OnErr result (self.new ≡ self.old) }
+        ensures wants { OnErr result (down_answer self.old.lane ≡ Began (length self.old.lane.sent)) }
         ensures law { HoldsRingLaw self.new.lane }
     {
         if !self.todo.is_empty() {
@@ -251,12 +257,13 @@ impl Lane {
     ///
     /// # Errors
     ///
-    /// [`AllocError`] from want of memory alone, and then nothing changes. Room for the frame's copies and its index
-    /// write is taken here.
+    /// [`AllocError`] from want of memory alone, where a frame was found, and then nothing changes. Room for the frame's
+    /// copies and its index write is taken here.
     pub fn look(&mut self) -> Result<LaneLook, AllocError>
         ensures answer { IfOk result (λ look. look ≡ look_answer self.old.lane) }
         ensures after { IfOk result (λ look. self.new ≡ with_lane self.old (after_looking self.old.lane look)) }
         ensures err { OnErr result (self.new ≡ self.old) }
+        ensures wants { OnErr result (look_answer self.old.lane ≡ Ready self.old.lane.got (length (bytes_of (entry_of self.old.lane self.old.lane.got)))) }
         ensures law { HoldsRingLaw self.new.lane }
     {
         let Phase::Idle = self.phase else {

@@ -1,25 +1,24 @@
 -- The laws together, of the steps that a plan permits: on an ordinary pair these are ordinary.
-use Rattle.std.proofs.Common.{ℕ, List, [], ◌∷◌, ◌++◌, sym, ap, ◌∙◌, subst, arith, ⊎_elim}
+use Rattle.std.proofs.Common.{ℕ, List, [], ◌∷◌, ◌++◌, sym, ap, ◌∙◌, subst, ⊎_elim}
 use Rattle.std.specs.List.{AllByRecursion}
 use Rattle.std.proofs.lemmas.Bool.{true≢false}
 use Rattle.step_kinds.specs.declared.names.Side.TheVariants.{A, B}
 use Rattle.step_kinds.specs.declared.plan.Plan.{Plan}
-use Rattle.step_kinds.specs.declared.plan.SidePlan.{SidePlan}
 use Rattle.step_kinds.specs.declared.steps.Answer.{Answer}
 use Rattle.step_kinds.specs.declared.steps.Step.{Step}
 use Rattle.step_kinds.specs.declared.steps.Step.TheVariants.{Check, Poke, Spad}
-use Rattle.plan_model.specs.DeclaredPlans.{IsDeclared, IsPermitted, IsSide}
+use Rattle.plan_model.specs.DeclaredPlans.{IsDeclared, IsPermitted}
 use Rattle.plan_model.specs.Plans.{pair_plan}
 use Rattle.ledger_model.specs.Ledger.{side_of}
 use Rattle.ledger_model.specs.Log.{ledger_of}
-use Rattle.ledger_laws.specs.Laws.{GoesOn, HasSides, IsOrdinaryOn, IsOrdinaryPair, IsSide as IsLawSide}
+use Rattle.ledger_laws.specs.Laws.{GoesOn, HasSidesInRange, IsOrdinaryOn, IsOrdinaryPair}
 use Rattle.ledger_laws.specs.Together.{AnswersAreRight, LawsHold}
 use Rattle.ledger_laws.proofs.CopiedInParts.{copied_in_parts}
 use Rattle.ledger_laws.proofs.CountersAreCounts.{counters_are_counts}
 use Rattle.ledger_laws.proofs.FlightOfLog.{in_flight_is_posted}
 use Rattle.ledger_laws.proofs.FoundInOrder.{empty_where_nothing_landed, peer_down_where_down_landed}
 use Rattle.ledger_laws.proofs.FramesInOrder.{every_frame_comes_once, every_log_is_in_order}
-use Rattle.ledger_laws.proofs.JoinedMeansAgreement.{joined_means_agreement, up_side_agrees}
+use Rattle.ledger_laws.proofs.JoinedMeansAgreement.{in_range, joined_means_agreement, up_side_agrees}
 use Rattle.ledger_laws.proofs.LanePart.{lane_part_lands}
 use Rattle.ledger_laws.proofs.LinkDownWhereNotUp.{link_down_where_not_up}
 use Rattle.ledger_laws.proofs.NeitherDiffersNorLong.{no_ordinary_ver_differs_or_long}
@@ -50,24 +49,11 @@ last_permitted : (plan : Plan) (steps : List Step) (step : Step) → AllByRecurs
 last_permitted plan [] step all = all.0
 last_permitted plan (first ∷ steps) step all = last_permitted plan steps step all.1
 
--- A declared plan's sides are such as the law of a check asks for
+-- A declared plan's sides have numbers in the range that the law of a check asks for
 
-law_side : (side : SidePlan) → IsSide side → IsLawSide side
-law_side side is =
-    record {
-      a_version = omega (arith, is.known_version.0);
-      few_versions = omega (arith, is.known_version.1);
-      a_queue = omega (arith, is.queues.0);
-      few_queues = is.queues.1;
-      a_window = omega (arith, is.windows.0);
-      few_windows = is.windows.1;
-      a_size = is.size.0;
-      a_cap = is.cap.0;
-    }
-
-pub has_sides : (plan : Plan) → IsDeclared plan → HasSides plan
-has_sides plan declared k A below = law_side (pair_plan plan k).a (declared.pairs k below).side_a
-has_sides plan declared k B below = law_side (pair_plan plan k).b (declared.pairs k below).side_b
+pub has_sides : (plan : Plan) → IsDeclared plan → HasSidesInRange plan
+has_sides plan declared k A below = in_range (pair_plan plan k).a (declared.pairs k below).side_a
+has_sides plan declared k B below = in_range (pair_plan plan k).b (declared.pairs k below).side_b
 
 -- Together
 

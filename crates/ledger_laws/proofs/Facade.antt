@@ -12,6 +12,8 @@ pub use Rattle.ledger_laws.proofs.PostedAreWrites.{posted_are_writes}
 pub use Rattle.ledger_laws.proofs.QuietMeansDone.{quiet_means_done}
 pub use Rattle.ledger_laws.proofs.RefusalsChangeNothing.{refusals_change_nothing}
 pub use Rattle.ledger_laws.proofs.RingLawHolds.{ring_law_of_receiver, index_word_is_tail, ring_law_holds, two_entries}
+pub use Rattle.ledger_laws.proofs.StepsOfLane.{each_step_is_of_the_lane}
+pub use Rattle.ledger_laws.proofs.LanesBegin.{each_lane_begins_fresh}
 pub use Rattle.ledger_laws.proofs.LogGrowth.{log_of-last, ledger_of-last}
 pub use Rattle.ledger_laws.proofs.UpMeansAgreement.{up_means_agreement}
 pub use Rattle.ledger_laws.proofs.EntriesFit.{entries_fit_the_ring}

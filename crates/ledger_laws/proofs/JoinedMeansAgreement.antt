@@ -12,11 +12,10 @@ use Rattle.step_kinds.specs.declared.plan.Plan.{Plan}
 use Rattle.step_kinds.specs.declared.plan.SidePlan.{SidePlan}
 use Rattle.ledger_model.specs.Log.{Answered, log_of, ledger_of}
 use Rattle.ledger_model.specs.Ledger.{side_of}
-use Rattle.plan_model.specs.DeclaredPlans as plans
-use Rattle.plan_model.specs.DeclaredPlans.{IsPair, Agree}
+use Rattle.plan_model.specs.DeclaredPlans.{IsPair, Agree, IsSide}
 use Rattle.plan_model.specs.Link.{is_up}
 use Rattle.plan_model.specs.Plans.{pair_plan, side_plan}
-use Rattle.ledger_laws.specs.Laws.{IsSide, IsOrdinaryOn, VersionsAgree}
+use Rattle.ledger_laws.specs.Laws.{HasNumbersInRange, IsOrdinaryOn, VersionsAgree}
 use Rattle.ledger_laws.specs.States.{AgreesWith, UpSideAgrees, JoinedMeansAgreement}
 use Rattle.ledger_laws.proofs.AtStart.{up-not_down}
 use Rattle.ledger_laws.proofs.BitSets.{no_bit}
@@ -30,12 +29,12 @@ use Rattle.ledger_laws.proofs.walk.Turn.{Turn, Forgets, Checks, Joins, MayCheck}
 
 -- A side that a script can declare
 
-declared_side : (pair : PairPlan) → IsPair pair → (side : Side) → plans.IsSide (side_plan pair side)
+declared_side : (pair : PairPlan) → IsPair pair → (side : Side) → IsSide (side_plan pair side)
 declared_side pair is A = is.side_a
 declared_side pair is B = is.side_b
 
-as_side : (side : SidePlan) → plans.IsSide side → IsSide side
-as_side side is = record {
+pub in_range : (side : SidePlan) → IsSide side → HasNumbersInRange side
+in_range side is = record {
   a_version = omega (arith, is.known_version.0);
   few_versions = omega (arith, is.known_version.1);
   a_queue = is.queues.0;
@@ -79,8 +78,8 @@ module _ (plan : Plan) (lane : LaneName) where
   check_agrees : (log : List Answered) (s : Sight) → IsPair Pair → HandshakeKnown lane Peer log s → MayCheck Own s Sender → Agreed
   check_agrees log s is known may =
       let found = has_found Own s.sender.part (is_up s.state) may.passes in
-      let own_side = as_side Own (declared_side Pair is lane.from) in
-      let peer_side = as_side Peer (declared_side Pair is (other_side lane.from)) in
+      let own_side = in_range Own (declared_side Pair is lane.from) in
+      let peer_side = in_range Peer (declared_side Pair is (other_side lane.from)) in
       let agree = agrees lane Own Peer log s.sender.part (is_up s.state) s.receiver.offered s.receiver.flight own_side peer_side found (known.session may.up may.not_yet) in
       record {
         versions = known_to_both Own.version Peer.version (known_to_one Pair is lane.from) agree.versions_agree;

@@ -23,6 +23,9 @@ pub mod Labels
 pub mod LabelsOfEntries
 pub mod LabelsPostable
 pub mod LanePart
+pub mod LaneStepsOfTurns
+pub mod LanesBegin
+pub mod StepsOfLane
 pub mod LinkDownWhereNotUp
 pub mod LogGrowth
 pub mod LogReaders

@@ -28,9 +28,9 @@ use Rattle.ledger_laws.proofs.walk.Sight.{Sight, sight}
 use Rattle.ledger_laws.proofs.walk.Turn.{IsRaw, SizesOf}
 
 -- what holds of a lane and of its ring after each log
-record RingKnown (plan : Plan) (lane : LaneName) (log : List Answered) (s : Sight) (ring : RingPart) : Type 0 where
-  sides : SidesKnown lane.queue s
-  entries : EntriesKnown plan lane log s
+pub record RingKnown (plan : Plan) (lane : LaneName) (log : List Answered) (s : Sight) (ring : RingPart) : Type 0 where
+  pub sides : SidesKnown lane.queue s
+  pub entries : EntriesKnown plan lane log s
   sized : IsSized (SizesOf plan lane) ring.ring
   law : LawOf (SizesOf plan lane) lane.queue s ring
   word : WordOf (SizesOf plan lane) s ring
@@ -77,7 +77,7 @@ two_entries l h =
     let halves : ring_bytes l / 2 * 2 ≤ ring_bytes l = div-mul-le_self (ring_bytes l) 2 in
     (le-div_iff_mul-le {k = frame_size l} {x = 2} {y = ring_bytes l} some).1 (omega arith)
 
-ring_runs : (plan : Plan) (lane : LaneName) → 2 ≤ (SizesOf plan lane).entries → IsRaw plan lane ≡ false → HoldsOn plan lane (IsOrdinaryOn lane.pair) (RingKnown plan lane)
+pub ring_runs : (plan : Plan) (lane : LaneName) → 2 ≤ (SizesOf plan lane).entries → IsRaw plan lane ≡ false → HoldsOn plan lane (IsOrdinaryOn lane.pair) (RingKnown plan lane)
 ring_runs plan lane two no_raw = record {
   fresh = record {
     sides = (sides_run plan lane no_raw).fresh;

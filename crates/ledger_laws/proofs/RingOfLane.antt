@@ -131,11 +131,11 @@ pub phase_copying : (phase : Phase) → is_copying phase ≡ true → phase ≡ 
 phase_copying Copying e = refl
 phase_copying phase e = absurd (false≢true e)
 
-phase_copied : (phase : Phase) → is_copied phase ≡ true → phase ≡ Copied
+pub phase_copied : (phase : Phase) → is_copied phase ≡ true → phase ≡ Copied
 phase_copied Copied e = refl
 phase_copied phase e = absurd (false≢true e)
 
-phase_cleared : (phase : Phase) → is_cleared phase ≡ true → phase ≡ Cleared
+pub phase_cleared : (phase : Phase) → is_cleared phase ≡ true → phase ≡ Cleared
 phase_cleared Cleared e = refl
 phase_cleared phase e = absurd (false≢true e)
 
@@ -272,7 +272,7 @@ module _ (sizes : Sizes) (q : ℕ) (s : Sight) (ring : RingPart) where
 -- Each turn
 
 -- a side that a train finds isn't up
-new_at_train : (s : Sight) (q : ℕ) → is_down s.state ≡ true → s.sender.enabled ≡ true → s.receiver.enabled ≡ true → SidesKnown q s → (s.sender.up ≡ false) × (s.receiver.up ≡ false)
+pub new_at_train : (s : Sight) (q : ℕ) → is_down s.state ≡ true → s.sender.enabled ≡ true → s.receiver.enabled ≡ true → SidesKnown q s → (s.sender.up ≡ false) × (s.receiver.up ≡ false)
 new_at_train s q down own peer sides = (
   (sides.settled.0.new_once_clean down (sides.settled.0.clean_once_enabled down own)).not_up,
   (sides.settled.1.new_once_clean down (sides.settled.1.clean_once_enabled down peer)).not_up,

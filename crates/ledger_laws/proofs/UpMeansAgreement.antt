@@ -19,7 +19,7 @@ use Rattle.ledger_model.specs.Handshake.{pad_in, size_in, refuse_larger, check_r
 use Rattle.plan_model.specs.Pads.{word, offers}
 use Rattle.plan_model.specs.Pads.{high_pad, low_pad, queues_pad, version_pad, windows_pad}
 use Rattle.plan_model.specs.Plans.{pair_plan, side_plan}
-use Rattle.ledger_laws.specs.Laws.{UpMeansAgreement, Agrees, VersionsAgree, IsSide, IsOrdinaryOn}
+use Rattle.ledger_laws.specs.Laws.{UpMeansAgreement, Agrees, VersionsAgree, HasNumbersInRange, IsOrdinaryOn}
 use Rattle.ledger_model.specs.Ledger.{PairPart, SidePart, side_of, link_up}
 use Rattle.plan_model.specs.Link.{is_up, fresh_link}
 use Rattle.ledger_model.specs.Log.{Answered, log_of, ledger_of, landed_pad}
@@ -133,7 +133,7 @@ first_fits part cap (suc more) some e = go (nat_lt cap (size_in part 0)) refl e
     go false is e = ltb-false cap (size_in part 0) is
 
 -- a check that has found so in a session agrees
-pub agrees : (lane : LaneName) (own peer : SidePlan) (log : List Answered) (part : SidePart) (up : Bool) (offered : ℕ) (flight : List Label) → IsSide own → IsSide peer → HasFound own part up
+pub agrees : (lane : LaneName) (own peer : SidePlan) (log : List Answered) (part : SidePart) (up : Bool) (offered : ℕ) (flight : List Label) → HasNumbersInRange own → HasNumbersInRange peer → HasFound own part up
     → InSession lane peer log part.pads offered flight → Agrees log lane.pair lane.from own peer
 agrees lane own peer log part up offered flight own_side peer_side found session = record {
   version_landed = version_here;
@@ -183,7 +183,7 @@ agrees lane own peer log part up offered flight own_side peer_side found session
         ∙ omega arith
 
 -- the steps before a last one
-all_front : {X : Type 0} (P : X → Type 0) (xs : List X) (x : X) → AllByRecursion P (xs ++ x ∷ []) → AllByRecursion P xs
+pub all_front : {X : Type 0} (P : X → Type 0) (xs : List X) (x : X) → AllByRecursion P (xs ++ x ∷ []) → AllByRecursion P xs
 all_front P [] x all = tt
 all_front P (y ∷ xs) x all = (all.0, all_front P xs x all.1)
 

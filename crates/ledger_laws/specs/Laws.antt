@@ -130,8 +130,9 @@ LinkDownWhereNotUp = (plan : Plan) (memories : Memories) (steps : List Step) (st
 
 -- Agreement
 
--- a side that a script can declare
-pub record IsSide (side : SidePlan) : Type 0 where
+-- a side whose numbers are as the law of a check needs them: a version that fits a scratchpad, few queues and windows, and sizes from
+-- 4096 bytes on. This asks less than a script's declaration does, which `IsSide` of plan_model says.
+pub record HasNumbersInRange (side : SidePlan) : Type 0 where
   pub a_version : 0 < side.version
   pub few_versions : side.version < word
   pub a_queue : 0 < side.queues
@@ -142,8 +143,8 @@ pub record IsSide (side : SidePlan) : Type 0 where
   pub a_cap : 4096 ≤ side.cap
 
 -- each pair of the plan has such sides
-abbrev pub HasSides : Plan → Type 0
-HasSides plan = (pair : ℕ) (side : Side) → pair < length plan.pairs → IsSide (side_plan (pair_plan plan pair) side)
+abbrev pub HasSidesInRange : Plan → Type 0
+HasSidesInRange plan = (pair : ℕ) (side : Side) → pair < length plan.pairs → HasNumbersInRange (side_plan (pair_plan plan pair) side)
 
 -- a step that an ordinary pair may see: nothing but the handshake writes the scratchpads below 12, and no bytes are poked
 abbrev pub IsOrdinary : Step → Type 0
@@ -173,7 +174,7 @@ pub record Agrees (log : List Answered) (pair : ℕ) (side : Side) (own peer : S
 
 abbrev pub UpMeansAgreement : Type 0
 UpMeansAgreement = (plan : Plan) (memories : Memories) (steps : List Step) (pair : ℕ) (side : Side) →
-    HasSides plan → pair < length plan.pairs → AllByRecursion (IsOrdinaryOn pair) (steps ++ Check pair side ∷ []) → GoesOn plan memories steps (Check pair side) Up →
+    HasSidesInRange plan → pair < length plan.pairs → AllByRecursion (IsOrdinaryOn pair) (steps ++ Check pair side ∷ []) → GoesOn plan memories steps (Check pair side) Up →
     Agrees (log_of plan memories steps) pair side (side_plan (pair_plan plan pair) side) (side_plan (pair_plan plan pair) (other_side side))
 
 -- Refusals

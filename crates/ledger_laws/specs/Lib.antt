@@ -2,6 +2,8 @@ pub mod Devices
 pub mod Drivers
 pub mod Flights
 pub mod Landing
+pub mod LaneChanges
+pub mod LaneSteps
 pub mod Laws
 pub mod Rings
 pub mod States

@@ -13,6 +13,7 @@ ghost use Rattle.ledger_laws.specs.Drivers.{
 };
 ghost use Rattle.ledger_laws.specs.Flights.{InFlightIsPosted};
 ghost use Rattle.ledger_laws.specs.Landing.{LanePartLands};
+ghost use Rattle.ledger_laws.specs.LaneSteps.{EachLaneBeginsFresh, EachStepIsOfTheLane};
 ghost use Rattle.ledger_laws.specs.Laws.{
   AgainWhereNoRoom,
   CopiedInParts,
@@ -171,8 +172,8 @@ pub fn posted_are_writes()
 {}
 
 /// A check that is answered `up` has found the peer's numbers in the scratchpads, all landed in the session, and they
-/// agree with the side's own. Premises: the pair stands in the plan, each pair has numbers that a script can declare,
-/// and among the steps on the pair none writes a scratchpad below 12 or bytes past the transport.
+/// agree with the side's own. Premises: the pair stands in the plan, and all sides have numbers in range
+/// (`HasSidesInRange`). Among the steps on the pair none writes a scratchpad below 12 or bytes past the transport.
 pub fn up_means_agreement()
     ensures { UpMeansAgreement }
 {}
@@ -319,6 +320,24 @@ pub fn in_flight_is_posted()
 /// among all that is in flight.
 pub fn lane_part_lands()
     ensures { LanePartLands }
+{}
+
+/// Each step of a cluster is steps of a lane. The lane that the ledger shows after it comes from the one before it by
+/// steps of the lane's model, each made where its own condition holds. The step and its answer say which (`change_of`):
+/// none where the step is refused, of another lane, or of none. A begin, a landing, a look, a copy, a clear, an ack, a
+/// break and a drop are one each. A post is one too; but where a piece of a frame waits, its first post begins it
+/// before. What is posted on a link that isn't up is lost. Premises: as of [`ring_law_of_receiver`], of the steps before
+/// that one; and both sides of the pair are up before it and after it. That leaves out a train, a clean that is made,
+/// and a check that brings a side up.
+pub fn each_step_is_of_the_lane()
+    ensures { EachStepIsOfTheLane }
+{}
+
+/// A lane is shown fresh where both sides of its pair are up before any step, and by each step after which they are up
+/// and before which they weren't. Nothing was begun or is in flight then, no slot has flags, and the index word says
+/// that all entries but one are free. Premises: as of [`ring_law_of_receiver`], of the steps with that one.
+pub fn each_lane_begins_fresh()
+    ensures { EachLaneBeginsFresh }
 {}
 
 /// The laws of a log together, with what they ask for taken from the plan and its steps. Premises: a script can declare

@@ -1,8 +1,8 @@
 -- Where nothing outside fails, a command that reads answers all bytes of its source.
-use Rattle.std.proofs.Common.{◌≡◌, ◌∙◌, ◌⊎◌, ℕ, ◌+◌, ◌<◌, ◌≤◌, Bool, true, false, Option, Some, None, Result, Ok, Err, List, [], ◌++◌, length, inl, inr, refl, sym, subst, ap, arith, nat_lt, append-nil, MatchBool}
-use Rattle.std.proofs.lemmas.Bool.{le-ltb, false≢true, true≢false}
+use Rattle.std.proofs.Common.{◌≡◌, ◌∙◌, ℕ, ◌+◌, ◌≤◌, Bool, true, false, Option, Some, Result, Ok, Err, List, [], ◌++◌, length, inl, inr, refl, sym, subst, ap, arith, nat_lt, append-nil, MatchBool}
+use Rattle.std.proofs.lemmas.Bool.{le-ltb, false≢true}
 use Rattle.std.proofs.lemmas.List.{length-append}
-use Rattle.command_reply.specs.Output.{Output, done, refused, too_long}
+use Rattle.command_reply.specs.Output.{Output, done, too_long}
 use Rattle.io_edges.specs.Whole.{HasGiven, HoldsAll}
 use Rattle.reads_command.specs.Answers.{output_of}
 use Rattle.replay_command.specs.Answers.{replayed}
@@ -16,7 +16,7 @@ use Rattle.stream_command.specs.Answers.{IsStreamOfScript, Streamed}
 use Rattle.ntb_top.specs.Answers.{IsAnswerTo, IsReplyOf}
 use Rattle.ntb_top.specs.Commands.{command_of, command_reads, is_reading}
 use Rattle.ntb_top.specs.Completeness.{IsHonest, ReplaysComplete, RunsComplete}
-use Rattle.ntb_top.specs.Runs.{EndsWanting, EndsWhole, HasAnswered, HasReply, IsAtEnd, Outside}
+use Rattle.ntb_top.specs.Runs.{EndsWhole, HasAnswered, HasReply, IsAtEnd, Outside}
 use Rattle.ntb_top.specs.declared.command.Command.{Command}
 use Rattle.ntb_top.specs.declared.command.Command.TheVariants.{Load, Reads, Replay, Run, Stream}
 

@@ -1,5 +1,5 @@
 -- The calls of a queue pair: link, joined queue and closed queue are tested before what the port answers.
-use Rattle.std.specs.Prelude.{ℕ, ◌||◌, Bool, true, not, Option, Some, None, List, is_some, bit_and, if◌then◌else◌}
+use Rattle.std.specs.Prelude.{◌≡◌, ℕ, ◌||◌, Bool, true, not, Option, Some, None, List, is_some, bit_and, if◌then◌else◌}
 use Rattle.step_kinds.specs.Bits.{has_bit, without_bits}
 use Rattle.step_kinds.specs.declared.lanes.Begun.{Begun}
 use Rattle.step_kinds.specs.declared.lanes.Begun.TheVariants.{Ok as BegunOk, TooLong as FrameTooLong, Busy as PortBusy, NoRoom as RingFull}
@@ -82,6 +82,10 @@ look_answer queue bridge =
     if not (is_joined queue bridge) then NotJoined
     else if queue.closed then QueueClosed
     else answer_of_look (port_look_answer queue.port bridge)
+
+-- a look that finds an entry
+abbrev pub FindsEntry : QueueState → Bridge → Type 0
+FindsEntry queue bridge = (len : ℕ) × (look_answer queue bridge ≡ Ready queue.port.receiving.got len)
 
 -- a link-down entry closes the queue on this side; every answer but Ready leaves the port as it was
 abbrev pub after_look_answer : LookAnswer → QueueState → PortState → QueueState

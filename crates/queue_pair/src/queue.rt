@@ -6,6 +6,7 @@ ghost use Rattle.bridge_pair.specs.Pages.{PagesGrow};
 ghost use Rattle.plan_model.specs.DeclaredPlans.{IsPair};
 ghost use Rattle.plan_model.specs.Plans.{side_plan as side_plan_of};
 ghost use Rattle.queue_pair.specs.Gates.{after_irq, answer_of_begun as begun_answer, answer_of_look as answer_of_ring, irq_bits};
+ghost use Rattle.queue_pair.specs.declared.BeginAnswer.TheVariants.{Ok as IsBegun};
 ghost use Rattle.step_kinds.specs.Limits.{most_frame_bytes};
 ghost use Rattle.step_kinds.specs.Sides.{other_side};
 
@@ -30,7 +31,7 @@ impl QueuePair {
     ghost use Rattle.frame_ring.specs.Calls.{TouchedByBegin, TouchedByDown, TouchedByFlags, TouchedByLook, ack_answer, acked_by, after_ack, after_clear, after_copy, after_post, clear_answer, cleared_by, copy_answer, free_answer, post_answer, posted_by, reset_by};
     ghost use Rattle.frame_ring.specs.Port.{unused_of};
     ghost use Rattle.frame_ring.specs.PortView.{FitsRings, HasPagesIn, HasRoomIn, with_room};
-    ghost use Rattle.queue_pair.specs.Gates.{after_begin, after_look, after_qpdown, begin_answer, is_joined, look_answer, qpdown_answer, refuses_answer, sender_refusal};
+    ghost use Rattle.queue_pair.specs.Gates.{FindsEntry, after_begin, after_look, after_qpdown, begin_answer, is_joined, look_answer, qpdown_answer, refuses_answer, sender_refusal};
     ghost use Rattle.queue_pair.specs.Queue.{fresh_queue, with_port};
 
     /// The queue pair of one of a side's queues, open, with nothing sent and nothing received.
@@ -53,7 +54,7 @@ impl QueuePair {
     ///
     /// # Errors
     ///
-    /// [`AllocError`] from want of memory alone, as [`Port::begin`].
+    /// [`AllocError`] from want of memory alone, where the frame is not refused, as [`Port::begin`].
     pub fn begin(&mut self, pair: &mut Pair, frame: Frame) -> Result<BeginAnswer, AllocError>
         requires some { 0 < length frame }
         requires plan { pair.old.plan ≡ self.old.port.plan }
@@ -61,6 +62,7 @@ impl QueuePair {
         ensures answer { IfOk result (λ answer. answer ≡ begin_answer self.old pair.old (length frame)) }
         ensures after { OnOk result (self.new ≡ after_begin self.old pair.old frame) }
         ensures err { OnErr result (self.new ≡ self.old) }
+        ensures wants { OnErr result (begin_answer self.old pair.old (length frame) ≡ IsBegun self.old.port.sending.told) }
         ensures rest { pair.new ≡ with_room (with_pages pair.old (other_side self.old.port.side) (pages_of pair.new (other_side self.old.port.side))) self.old.port.side (unused_of self.new.port - unused_of self.old.port) }
         ensures pages { PagesGrow (TouchedByBegin self.old.port pair.old frame) (pages_of pair.old (other_side self.old.port.side)) (pages_of pair.new (other_side self.old.port.side)) }
         ensures ready { OnOk result (HasPagesIn self.old.port pair.old → HasPagesIn self.new.port pair.new) }
@@ -77,13 +79,14 @@ impl QueuePair {
     ///
     /// # Errors
     ///
-    /// [`AllocError`] from want of memory alone, as [`Port::down`].
+    /// [`AllocError`] from want of memory alone, where the entry is not refused, as [`Port::down`].
     pub fn qpdown(&mut self, pair: &mut Pair) -> Result<BeginAnswer, AllocError>
         requires plan { pair.old.plan ≡ self.old.port.plan }
         requires fits { is_joined self.old pair.old ≡ true → FitsRings self.old.port.plan }
         ensures answer { IfOk result (λ answer. answer ≡ qpdown_answer self.old pair.old) }
         ensures after { OnOk result (self.new ≡ after_qpdown self.old pair.old) }
         ensures err { OnErr result (self.new ≡ self.old) }
+        ensures wants { OnErr result (qpdown_answer self.old pair.old ≡ IsBegun self.old.port.sending.told) }
         ensures rest { pair.new ≡ with_room (with_pages pair.old (other_side self.old.port.side) (pages_of pair.new (other_side self.old.port.side))) self.old.port.side (unused_of self.new.port - unused_of self.old.port) }
         ensures pages { PagesGrow (TouchedByDown self.old.port pair.old) (pages_of pair.old (other_side self.old.port.side)) (pages_of pair.new (other_side self.old.port.side)) }
         ensures ready { OnOk result (HasPagesIn self.old.port pair.old → HasPagesIn self.new.port pair.new) }
@@ -119,13 +122,14 @@ impl QueuePair {
     ///
     /// # Errors
     ///
-    /// [`AllocError`] from want of memory alone, as [`Port::look`].
+    /// [`AllocError`] from want of memory alone, where an entry was found, as [`Port::look`].
     pub fn look(&mut self, pair: &mut Pair) -> Result<LookAnswer, AllocError>
         requires plan { pair.old.plan ≡ self.old.port.plan }
         requires fits { is_joined self.old pair.old ≡ true → FitsRings self.old.port.plan }
         ensures answer { IfOk result (λ answer. answer ≡ look_answer self.old pair.old) }
         ensures after { OnOk result (self.new ≡ after_look self.old pair.old) }
         ensures err { OnErr result (self.new ≡ self.old) }
+        ensures wants { OnErr result (FindsEntry self.old pair.old) }
         ensures rest { pair.new ≡ with_room (with_pages (with_pages pair.old (other_side self.old.port.side) (pages_of pair.new (other_side self.old.port.side))) self.old.port.side (pages_of pair.new self.old.port.side)) self.old.port.side (unused_of self.new.port - unused_of self.old.port) }
         ensures pages { PagesGrow (TouchedByLook self.old.port pair.old) (pages_of pair.old (other_side self.old.port.side)) (pages_of pair.new (other_side self.old.port.side)) }
         ensures flags { PagesGrow (TouchedByFlags self.old.port pair.old) (pages_of pair.old self.old.port.side) (pages_of pair.new self.old.port.side) }
@@ -178,6 +182,34 @@ impl QueuePair {
         ensures ready { HasPagesIn self.new.port pair.new }
     {
         self.port.ack(pair)
+    }
+
+    /// What [`QueuePair::begin`] answers for a frame of `len` bytes, at most 65,536, but for want of memory. It takes no memory.
+    pub fn begin_answer(&self, pair: &Pair, len: u32) -> BeginAnswer
+        requires plan { pair.now.plan ≡ self.now.port.plan }
+        requires fits { is_joined self.now pair.now ≡ true → FitsRings self.now.port.plan }
+        requires few { len ≤ most_frame_bytes }
+        ensures { result ≡ begin_answer self.now pair.now len }
+    {
+        if let Some(refusal) = self.sender_refusal(pair) {
+            return refusal;
+        }
+        answer_of_begun(self.port.begin_answer(pair, len))
+    }
+
+    /// What [`QueuePair::look`] answers, but for want of memory. It takes no memory.
+    pub fn look_answer(&self, pair: &Pair) -> LookAnswer
+        requires plan { pair.now.plan ≡ self.now.port.plan }
+        requires fits { is_joined self.now pair.now ≡ true → FitsRings self.now.port.plan }
+        ensures { result ≡ look_answer self.now pair.now }
+    {
+        if !self.is_joined(pair) {
+            LookAnswer::NotReady
+        } else if self.closed {
+            LookAnswer::Closed
+        } else {
+            answer_of_look(self.port.look_answer(pair))
+        }
     }
 
     /// Whether [`QueuePair::begin`] would be refused for a frame of `len` bytes, 1 to 65,536, whatever room the ring has:

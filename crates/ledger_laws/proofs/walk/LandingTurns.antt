@@ -23,11 +23,12 @@ use Rattle.ledger_model.specs.Rings.{with_write, with_index}
 use Rattle.plan_model.specs.Plans.{pair_plan}
 use Rattle.order_rules.specs.Order.{may_land}
 use Rattle.plan_model.specs.Orders.{order_of}
+use Rattle.ledger_laws.specs.LaneChanges.{Unchanged, WriteLands, IndexLands, change_by_write, change_by_index}
 use Rattle.ledger_laws.proofs.walk.Cases.{landed}
 use Rattle.ledger_laws.proofs.walk.Sight.{Sight, Role, Sender, Receiver, peer_of, end_at, with_pads, side_at, by_role, sight, OtherQueue, OtherWay, other_other, is_off, sight-side, sight-lane, sight-off, with_number, PendingBells}
 use Rattle.ledger_laws.proofs.walk.Turn.{MayLand, IsForeign, is_handshake, taken, Turned, turned, LandsFlag, LandsField, LandsIndex, LandsBell, LandsPad, LandsAside}
-use Rattle.ledger_laws.proofs.walk.News.{no_news, Tells, pads_landed, ring_landed, ring_freed}
-use Rattle.ledger_laws.proofs.walk.Tells.{gives_landed, pads_heard, bell_in_ring, pad_in_ring, foreign_in_ring, tells_land}
+use Rattle.ledger_laws.proofs.walk.News.{no_news, Tells, change_heard, pads_landed, ring_landed, ring_freed}
+use Rattle.ledger_laws.proofs.walk.Tells.{gives_landed, pads_heard, bell_in_ring, pad_in_ring, foreign_in_ring, pad_no_change, foreign_no_change, tells_land}
 use Rattle.ledger_laws.proofs.walk.TurnAt.{TurnAt, shown_as}
 
 module _ (plan : Plan) (lane : LaneName) (pair : PairPart) where
@@ -59,14 +60,15 @@ module _ (plan : Plan) (lane : LaneName) (pair : PairPart) where
     lands_aside e label may quiet foreign no_pad is =
         lands e label (taken e place Now) (is ∙ taken_out-sight label e)
         (turned (LandsAside e place label (record { land = may; foreign = foreign; no_handshake = no_pad }))
-        (tells_land plan lane Now.lane p same e place label false (λ f i now. now) (λ sizes ring. ring) quiet.0 quiet.1 (λ sizes ring. foreign_in_ring lane.queue e label Now.lane sizes ring foreign)))
+        (tells_land plan lane Now.lane p same e place label false (λ f i now. now) (λ sizes ring. ring) Unchanged quiet.0 quiet.1 (λ sizes ring. foreign_in_ring lane.queue e label Now.lane sizes ring foreign)
+        (foreign_no_change lane.queue e label foreign)))
 
     -- a write of the lane
     written : (label : Label) (write : Write) → IsQuiet Sender label → write_of lane.queue label ≡ Some write
-        → Tells plan lane Now.lane (record { step = Land p lane.from place; answer = Landed label }) (record no_news { ring = ring_landed Now.lane write })
+        → Tells plan lane Now.lane (record { step = Land p lane.from place; answer = Landed label }) (record no_news { ring = ring_landed Now.lane write; change = WriteLands write })
     written label write quiet is =
-        tells_land plan lane Now.lane p same Sender place label false (λ f i now. now) (ring_landed Now.lane write) quiet.0 quiet.1
-        (λ sizes ring. ap (λ w. record { ring = with_write sizes.entries Now.lane ring.ring w; index_word = ring.index_word }) is)
+        tells_land plan lane Now.lane p same Sender place label false (λ f i now. now) (ring_landed Now.lane write) (WriteLands write) quiet.0 quiet.1
+        (λ sizes ring. ap (λ w. record { ring = with_write sizes.entries Now.lane ring.ring w; index_word = ring.index_word }) is) (ap change_by_write is)
 
     lands_field : (label : Label) (n : ℕ) (field : Field) → MayLandAt Sender place label → IsQuiet Sender label → write_of lane.queue label ≡ Some (Data n field)
         → sight lane.from lane.queue (landed pair lane.from place label) ≡ sight lane.from lane.queue (taken_out pair lane.from place label) → Lands Sender label
@@ -128,8 +130,9 @@ module _ (plan : Plan) (lane : LaneName) (pair : PairPart) where
           (ap (λ s. sight lane.from lane.queue (freed s lane.queue n)) (other_other lane.from)
           ∙ sight-lane lane.from lane.queue (taken_out pair (other_side lane.from) place (Index lane.queue n)) _
           ∙ ap (λ (s : Sight). record s { lane = record Now.lane { freed = n + 1 } }) (taken_out-sight (Index lane.queue n) Receiver))
-          (turned (LandsIndex place n (subst (λ q. MayLandAt Receiver place (Index q n)) (sym e) may)) (tells_land plan lane Now.lane p same Receiver place (Index lane.queue n) true (λ f i now. now) (ring_freed n) (eq-eqb lane.queue lane.queue refl) (λ f i now. refl)
-          (λ sizes ring. ap (λ found. record { ring = ring.ring; index_word = with_index sizes.entries ring.index_word found }) (cond-true (lane.queue == lane.queue) (Some n) None (eq-eqb lane.queue lane.queue refl))))))
+          (turned (LandsIndex place n (subst (λ q. MayLandAt Receiver place (Index q n)) (sym e) may)) (tells_land plan lane Now.lane p same Receiver place (Index lane.queue n) true (λ f i now. now) (ring_freed n) (IndexLands n) (eq-eqb lane.queue lane.queue refl) (λ f i now. refl)
+          (λ sizes ring. ap (λ found. record { ring = ring.ring; index_word = with_index sizes.entries ring.index_word found }) (cond-true (lane.queue == lane.queue) (Some n) None (eq-eqb lane.queue lane.queue refl)))
+          (ap change_by_index (cond-true (lane.queue == lane.queue) (Some n) None (eq-eqb lane.queue lane.queue refl))))))
       | inr ne ↦
           lands_aside Receiver (Index k n) may (ne_eqb k lane.queue (λ e. ne (sym e)), λ f i now. refl) (cond-false (k == lane.queue) _ _ (ne_eqb k lane.queue (λ e. ne (sym e)))) refl
           (ap (λ s. sight lane.from lane.queue (freed s k n)) (other_other lane.from)
@@ -148,10 +151,12 @@ module _ (plan : Plan) (lane : LaneName) (pair : PairPart) where
     land_role Sender (Down k n) may = lands_flag (Down k n) k n may (refl, λ f i now. refl) refl refl refl
     land_role e (Bell k) may =
         lands e (Bell k) _ (bell-sight lane.from e k)
-        (turned (LandsBell e place k may) (tells_land plan lane Now.lane p same e place (Bell k) false (λ f i now. now) (λ sizes ring. ring) refl (λ f i now. refl) (bell_in_ring lane.queue k e Now.lane)))
+        (turned (LandsBell e place k may) (tells_land plan lane Now.lane p same e place (Bell k) false (λ f i now. now) (λ sizes ring. ring) (change_heard lane.queue e (Bell k)) refl (λ f i now. refl)
+        (bell_in_ring lane.queue k e Now.lane) refl))
     land_role e (Pad i value) may =
         lands e (Pad i value) _ (pad-sight lane.from e i value)
-        (turned (LandsPad e place i value may) (tells_land plan lane Now.lane p same e place (Pad i value) false (pads_landed e i value) (λ sizes ring. ring) refl (λ f j now. refl) (pad_in_ring lane.queue i value e Now.lane)))
+        (turned (LandsPad e place i value may) (tells_land plan lane Now.lane p same e place (Pad i value) false (pads_landed e i value) (λ sizes ring. ring) Unchanged refl (λ f j now. refl)
+        (pad_in_ring lane.queue i value e Now.lane) (pad_no_change lane.queue i value e)))
     land_role Sender (Index k n) may = lands_aside Sender (Index k n) may (refl, λ f i now. refl) refl refl (across (taken_out pair lane.from place (Index k n)) k _)
     land_role Sender (Raw window offset len) may = lands_aside Sender (Raw window offset len) may (refl, λ f i now. refl) refl refl refl
     land_role Receiver (Index k n) may = lands_index k n may

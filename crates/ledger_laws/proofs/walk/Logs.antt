@@ -26,7 +26,7 @@ use Rattle.ledger_laws.proofs.walk.SendingTurns.{on_queue-labels}
 
 -- The writes that are left to post are those of their lane
 
-todo_kept : (plan : Plan) (lane : LaneName) (s : Sight) (made : Answered) (news : News) (t : Sight) → Turn plan lane s made news t
+pub todo_kept : (plan : Plan) (lane : LaneName) (s : Sight) (made : Answered) (news : News) (t : Sight) → Turn plan lane s made news t
     → list_all (on_queue lane.queue) s.lane.todo ≡ true → list_all (on_queue lane.queue) t.lane.todo ≡ true
 todo_kept plan lane s made news t (Trains may) own = refl
 todo_kept plan lane s made news t (Forgets Sender may) own = refl
@@ -54,7 +54,7 @@ module _ (plan : Plan) (memories : Memories) (before : List Answered) (ledger : 
   abbrev Left : ℕ → PairPart
   Left k = left_by plan k (memories before k) (ledger k) step
 
-  turn_in : (lane : LaneName) → OwnTodos (ledger lane.pair)
+  pub turn_in : (lane : LaneName) → OwnTodos (ledger lane.pair)
       → Turned plan lane (sight lane.from lane.queue (ledger lane.pair)) (answered plan (memories before) ledger step)
       (sight lane.from lane.queue (ledger_after plan (memories before) ledger step lane.pair))
   turn_in lane todos = ⊎_elim same different (cases_eq lane.pair (subject_of step))

@@ -1,16 +1,19 @@
 -- What the readers of the log of one lane learn of a step: room that it takes or gives, frames, sessions, what the receiver sees,
--- scratchpads, and the lane's ring. A step tells nothing but what its turn says.
+-- scratchpads, the lane's ring, and what happens to the lane. A step tells nothing but what its turn says.
 use Rattle.std.specs.Prelude.{◌≡◌, ℕ, ◌-◌, ◌%◌, ◌==◌, Bool, false, Option, Some, List, [], ◌∷◌, map, slice_set, slice_index_or, if◌then◌else◌}
 use Rattle.step_kinds.specs.Bits.{has_bit}
 use Rattle.step_kinds.specs.Sides.{other_side}
 use Rattle.step_kinds.specs.declared.names.LaneName.{LaneName}
 use Rattle.step_kinds.specs.declared.plan.Plan.{Plan}
+use Rattle.step_kinds.specs.declared.steps.Label.{Label}
 use Rattle.lane_model.specs.Lane.{blank_slot, with_flags}
 use Rattle.lane_model.specs.declared.Write.{Write}
+use Rattle.ledger_model.specs.Labels.{write_of, index_of}
 use Rattle.ledger_model.specs.Ledger.{LanePart}
 use Rattle.ledger_model.specs.Log.{Answered, Numbered, takes_room, gives_room, trains, breaks, accepts, delivers, saw_empty, pad_after}
 use Rattle.ledger_model.specs.Rings.{RingPart, ring_next, with_write, without_header}
 use Rattle.plan_model.specs.Sizes.{Sizes}
+use Rattle.ledger_laws.specs.LaneChanges.{LaneChange, Unchanged, EntryIsBegun, change_by_write, change_by_index, change_of}
 use Rattle.ledger_laws.proofs.walk.Sight.{Role, Sender, Receiver, side_at}
 
 pub record News : Type 0 where
@@ -29,6 +32,8 @@ pub record News : Type 0 where
   pub pads : Role → ℕ → Option ℕ → Option ℕ
   -- the lane's ring
   pub ring : Sizes → RingPart → RingPart
+  -- what happens to the lane
+  pub change : LaneChange
 
 abbrev pub no_news : News
 no_news = record {
@@ -41,6 +46,7 @@ no_news = record {
   sees = λ saw. saw;
   pads = λ e i now. now;
   ring = λ sizes ring. ring;
+  change = Unchanged;
 }
 
 -- what the receiver of a lane saw, with one entry more
@@ -61,6 +67,7 @@ pub record Tells (plan : Plan) (lane : LaneName) (part : LanePart) (made : Answe
   pub sees : (saw : Bool) → saw_next lane made saw ≡ news.sees saw
   pub pads : (e : Role) (i : ℕ) (now : Option ℕ) → pad_next lane made e i now ≡ news.pads e i now
   pub ring : (sizes : Sizes) (ring : RingPart) → ring_next sizes lane part ring made ≡ news.ring sizes ring
+  pub change : change_of lane made ≡ news.change
 
 -- The news of the turns that tell something
 
@@ -99,4 +106,13 @@ sees_taken q Receiver bits saw = if has_bit bits q then false else saw
 
 -- a frame that needs so many entries is begun, on this lane or on another
 abbrev pub begun_news : Bool → ℕ → ℕ → List ℕ → News
-begun_news own needed n frame = record no_news { takes = (if own then needed else 0); accepted = (if own then record { number = n; bytes = frame } ∷ [] else []) }
+begun_news own needed n frame = record no_news {
+  takes = (if own then needed else 0);
+  accepted = (if own then record { number = n; bytes = frame } ∷ [] else []);
+  change = (if own then EntryIsBegun else Unchanged);
+}
+
+-- a label that an end posted lands
+abbrev pub change_heard : ℕ → Role → Label → LaneChange
+change_heard q Sender label = change_by_write (write_of q label)
+change_heard q Receiver label = change_by_index (index_of q label)

@@ -26,8 +26,8 @@ use Rattle.ledger_model.specs.Ledger.{lane_to}
 use Rattle.ledger_laws.proofs.walk.Cases.{MayLookAt, found_refusals, looking, acking, clearing, copied_more, copied_entry, copied_last}
 use Rattle.ledger_laws.proofs.walk.Sight.{Sight, Sender, Receiver, posted, sight, IsOff, OffReceived, QueueOff, WayOff, received-off, by_received_lane, sight-posts, sight-lane, sight-off, sight-tally, sight-tally_off}
 use Rattle.ledger_laws.proofs.walk.Turn.{more_delivered, turned, Rests, FindsNone, Says, Looks, CopiesPart, CopiesLast, Clears, Acks}
-use Rattle.ledger_laws.proofs.walk.Tells.{tells_no, is_nothing, on-back, on-off, at_receiver, receives-own, receives-off, tells_empty, tells_look, tells_copy, tells_clear}
-use Rattle.ledger_laws.proofs.walk.TurnAt.{TurnAt, ReadsLedger, unreached_raw, shown_as, rests}
+use Rattle.ledger_laws.proofs.walk.Tells.{is_nothing, is_ready, on-back, on-off, at_receiver, receives-own, receives-off, tells_empty, tells_look, tells_ready, tells_part, tells_copy, tells_clear, tells_ack}
+use Rattle.ledger_laws.proofs.walk.TurnAt.{TurnAt, ReadsLedger, unreached_raw, shown_as}
 
 -- where nothing is found, no entry has its flags landed
 none_there : (b : Bool) (entry : Entry) → (if b then NoEntry else found_entry entry) ≡ NoEntry → b ≡ true
@@ -51,11 +51,15 @@ module _ (plan : Plan) (lane : LaneName) (pair : PairPart) (reading : Reading) (
   Now = sight lane.from lane.queue pair
 
   pub look_found : (p : ℕ) (side : Side) (queue : ℕ) (r : Answer) → found_refusals r ≡ true → TurnAt plan lane pair (Look p side queue) (record { answer = r; after = pair })
-  look_found p side queue r is = turned (Rests (at_receiver lane p side queue)) (tells_look plan lane Now.lane p side queue r (not_nothing r is) (at_receiver lane p side queue) refl)
+  look_found p side queue r is = turned (Rests (at_receiver lane p side queue)) (tells_look plan lane Now.lane p side queue r (not_nothing r is) (not_ready r is) (at_receiver lane p side queue) refl)
     where
       not_nothing : (r : Answer) → found_refusals r ≡ true → is_nothing r ≡ false
       not_nothing Empty is = absurd (false≢true is)
       not_nothing r is = refl
+
+      not_ready : (r : Answer) → found_refusals r ≡ true → is_ready r ≡ false
+      not_ready (ReadyFrame n len) is = absurd (false≢true is)
+      not_ready r is = refl
 
   -- on a pair that isn't raw the ledger says what is found
   abbrev Finds : Side → ℕ → Found → Type 0
@@ -89,11 +93,12 @@ module _ (plan : Plan) (lane : LaneName) (pair : PairPart) (reading : Reading) (
       (turned
       (Looks len left
       (record { joined = joined; not_closed = open_yet; idle = idle; found = λ no_raw. piece_there Now.lane _ (entry_in Now.lane Now.lane.got) len left refl refl (found no_raw) }))
-      (tells_look plan lane Now.lane p (other_side lane.from) lane.queue (ReadyFrame Now.lane.got len) refl true (receives-own lane p e))))
+      (tells_ready plan lane Now.lane p (other_side lane.from) lane.queue Now.lane.got len true (receives-own lane p e) (on-back lane p e))))
       (λ s sender q case off joined open_yet idle found.
       shown_as plan lane pair (Look p s q) (ReadyFrame (lane_of pair sender q).got len) (with_lane pair sender q (looked sender q)) _
       (sight-off lane.from lane.queue pair sender q (looked sender q) off)
-      (turned (Rests false) (tells_look plan lane Now.lane p s q (ReadyFrame (lane_of pair sender q).got len) refl false (receives-off lane p s q (received-off lane.from lane.queue s sender q case)))))
+      (turned (Rests false) (tells_ready plan lane Now.lane p s q (lane_of pair sender q).got len false (receives-off lane p s q (received-off lane.from lane.queue s sender q case))
+      (on-off lane p (other_side s) q (received-off lane.from lane.queue s sender q case)))))
       side queue may.joined may.not_closed may.idle (finds side queue (AnEntry len left) found)
     where
       looked : Side → ℕ → LanePart
@@ -106,19 +111,19 @@ module _ (plan : Plan) (lane : LaneName) (pair : PairPart) (reading : Reading) (
   copies : (side : Side) (queue : ℕ) → Copies (other_side side) queue (reading.part side queue)
   copies side queue no_raw = ap (λ (r : Reading). r.part side queue) (reads no_raw)
 
-  pub copy_part : (p : ℕ) (side : Side) (queue : ℕ) → is_copying (lane_to pair side queue).phase ≡ true → nat_lt ((lane_to pair side queue).part + 1) (chunks_in (lane_to pair side queue).len) ≡ true
+  pub copy_part : (p : ℕ) → p ≡ lane.pair → (side : Side) (queue : ℕ) → is_copying (lane_to pair side queue).phase ≡ true → nat_lt ((lane_to pair side queue).part + 1) (chunks_in (lane_to pair side queue).len) ≡ true
       → TurnAt plan lane pair (Copy p side queue) (copied_more pair side queue (lane_to pair side queue) ((lane_to pair side queue).gathered ++ reading.part side queue))
-  copy_part p side queue turn more =
+  copy_part p e side queue turn more =
       by_received_lane lane.from lane.queue
       (λ s sender q. let part = lane_of pair sender q in is_copying part.phase ≡ true → nat_lt (part.part + 1) (chunks_in part.len) ≡ true → Copies sender q bytes
       → TurnAt plan lane pair (Copy p s q) (record { answer = CopiedPart part.got part.part; after = with_lane pair sender q (copied sender q) }))
       (λ turn more are.
       shown_as plan lane pair (Copy p (other_side lane.from) lane.queue) _ (with_lane pair lane.from lane.queue (copied lane.from lane.queue)) _ (sight-lane lane.from lane.queue pair _)
-      (turned (CopiesPart bytes (record { turn = turn; more = more; are = are })) (tells_no plan lane Now.lane (Copy p (other_side lane.from) lane.queue) (CopiedPart Now.lane.got Now.lane.part) refl)))
+      (turned (CopiesPart bytes (record { turn = turn; more = more; are = are })) (tells_part plan lane Now.lane p (other_side lane.from) lane.queue Now.lane.got Now.lane.part true (on-back lane p e))))
       (λ s sender q case off turn more are.
       let part = lane_of pair sender q in
       shown_as plan lane pair (Copy p s q) (CopiedPart part.got part.part) (with_lane pair sender q (copied sender q)) _ (sight-off lane.from lane.queue pair sender q _ off)
-      (rests plan lane pair (Copy p s q) (CopiedPart part.got part.part) refl))
+      (turned (Rests false) (tells_part plan lane Now.lane p s q part.got part.part false (on-off lane p (other_side s) q (received-off lane.from lane.queue s sender q case)))))
       side queue turn more (copies side queue)
     where
       bytes : List ℕ
@@ -127,21 +132,21 @@ module _ (plan : Plan) (lane : LaneName) (pair : PairPart) (reading : Reading) (
       copied : Side → ℕ → LanePart
       copied sender q = record (lane_of pair sender q) { part = (lane_of pair sender q).part + 1; gathered = (lane_of pair sender q).gathered ++ bytes }
 
-  pub copy_entry : (p : ℕ) (side : Side) (queue : ℕ) → is_copying (lane_to pair side queue).phase ≡ true → nat_lt ((lane_to pair side queue).part + 1) (chunks_in (lane_to pair side queue).len) ≡ false
+  pub copy_entry : (p : ℕ) → p ≡ lane.pair → (side : Side) (queue : ℕ) → is_copying (lane_to pair side queue).phase ≡ true → nat_lt ((lane_to pair side queue).part + 1) (chunks_in (lane_to pair side queue).len) ≡ false
       → nat_lt 0 (lane_to pair side queue).left ≡ true
       → TurnAt plan lane pair (Copy p side queue) (copied_entry pair side queue (lane_to pair side queue) ((lane_to pair side queue).gathered ++ reading.part side queue))
-  copy_entry p side queue turn all others =
+  copy_entry p e side queue turn all others =
       by_received_lane lane.from lane.queue
       (λ s sender q. let part = lane_of pair sender q in is_copying part.phase ≡ true → nat_lt (part.part + 1) (chunks_in part.len) ≡ false → nat_lt 0 part.left ≡ true → Copies sender q bytes
       → TurnAt plan lane pair (Copy p s q) (record { answer = CopiedPart part.got part.part; after = with_lane pair sender q (copied sender q) }))
       (λ turn all others are.
       shown_as plan lane pair (Copy p (other_side lane.from) lane.queue) _ (with_lane pair lane.from lane.queue (copied lane.from lane.queue)) _ (sight-lane lane.from lane.queue pair _)
       (turned (CopiesEntry bytes (record { copy = record { turn = turn; more = all; are = are }; left = others }))
-      (tells_no plan lane Now.lane (Copy p (other_side lane.from) lane.queue) (CopiedPart Now.lane.got Now.lane.part) refl)))
+      (tells_part plan lane Now.lane p (other_side lane.from) lane.queue Now.lane.got Now.lane.part true (on-back lane p e))))
       (λ s sender q case off turn all others are.
       let part = lane_of pair sender q in
       shown_as plan lane pair (Copy p s q) (CopiedPart part.got part.part) (with_lane pair sender q (copied sender q)) _ (sight-off lane.from lane.queue pair sender q _ off)
-      (rests plan lane pair (Copy p s q) (CopiedPart part.got part.part) refl))
+      (turned (Rests false) (tells_part plan lane Now.lane p s q part.got part.part false (on-off lane p (other_side s) q (received-off lane.from lane.queue s sender q case)))))
       side queue turn all others (copies side queue)
     where
       bytes : List ℕ
@@ -197,10 +202,10 @@ module _ (plan : Plan) (lane : LaneName) (pair : PairPart) (reading : Reading) (
       (turned (Rests false) (tells_clear plan lane Now.lane p s q part.cleared false (on-off lane p (other_side s) q (received-off lane.from lane.queue s sender q case)))))
       side queue turn
 
-  pub ack : (p : ℕ) (side : Side) (queue : ℕ) → is_cleared (lane_to pair side queue).phase ≡ true
+  pub ack : (p : ℕ) → p ≡ lane.pair → (side : Side) (queue : ℕ) → is_cleared (lane_to pair side queue).phase ≡ true
       → TurnAt plan lane pair (Ack p side queue)
       (record { answer = Acked (lane_to pair side queue).acked; after = posts_through reading (acking pair side queue) side (Index queue (lane_to pair side queue).acked) })
-  ack p side queue turn =
+  ack p e side queue turn =
       by_received_lane lane.from lane.queue (λ s sender q. is_cleared (lane_of pair sender q).phase ≡ true → Done s sender q (posts_through reading (acked sender q) s (label sender q))) own off side queue turn
     where
       label : Side → ℕ → Label
@@ -216,7 +221,7 @@ module _ (plan : Plan) (lane : LaneName) (pair : PairPart) (reading : Reading) (
       own turn =
           let here = label lane.from lane.queue in
           let after = acked lane.from lane.queue in
-          let told = tells_no plan lane Now.lane (Ack p (other_side lane.from) lane.queue) (Acked Now.lane.acked) refl in
+          let told = tells_ack plan lane Now.lane p (other_side lane.from) lane.queue Now.lane.acked true (on-back lane p e) in
           cond_both (reading.reaches (other_side lane.from) here) (posts after (other_side lane.from) here) after (Done (other_side lane.from) lane.from lane.queue)
           (λ reached. shown_as plan lane pair (Ack p (other_side lane.from) lane.queue) (Acked Now.lane.acked) (posts after (other_side lane.from) here) _
           (sight-posts lane.from lane.queue after Receiver here ∙ ap (posted Receiver here) (sight-lane lane.from lane.queue pair _))
@@ -229,16 +234,16 @@ module _ (plan : Plan) (lane : LaneName) (pair : PairPart) (reading : Reading) (
       off s sender q case is turn =
           cond_both (reading.reaches s (label sender q)) (posts (acked sender q) s (label sender q)) (acked sender q) (Done s sender q) (λ reached. said s sender q case is)
           (λ lost. shown_as plan lane pair (Ack p s q) (Acked (lane_of pair sender q).acked) (acked sender q) _ (sight-off lane.from lane.queue pair sender q _ is)
-          (rests plan lane pair (Ack p s q) (Acked (lane_of pair sender q).acked) refl))
+          (turned (Rests false) (tells_ack plan lane Now.lane p s q (lane_of pair sender q).acked false (on-off lane p (other_side s) q (received-off lane.from lane.queue s sender q case)))))
         where
           said : (s sender : Side) (q : ℕ) → OffReceived lane.from lane.queue s sender q → IsOff lane.from lane.queue sender q → Done s sender q (posts (acked sender q) s (label sender q))
           said s sender q (QueueOff ne) is =
               shown_as plan lane pair (Ack p (other_side lane.from) q) (Acked (lane_of pair lane.from q).acked) (posts (acked lane.from q) (other_side lane.from) (label lane.from q)) _
               (sight-posts lane.from lane.queue (acked lane.from q) Receiver (label lane.from q) ∙ ap (posted Receiver (label lane.from q)) (sight-off lane.from lane.queue pair lane.from q _ is))
               (turned (Says Receiver (label lane.from q) (record { foreign = cond-false (q == lane.queue) _ _ (ne_eqb q lane.queue (λ e. ne (sym e))); no_handshake = λ ordinary. refl }))
-              (tells_no plan lane Now.lane (Ack p (other_side lane.from) q) (Acked (lane_of pair lane.from q).acked) refl))
+              (tells_ack plan lane Now.lane p (other_side lane.from) q (lane_of pair lane.from q).acked false (on-off lane p (other_side (other_side lane.from)) q (received-off lane.from lane.queue (other_side lane.from) lane.from q (QueueOff ne)))))
           said s sender q WayOff is =
               let peer = other_side lane.from in
               shown_as plan lane pair (Ack p lane.from q) (Acked (lane_of pair peer q).acked) (posts (acked peer q) lane.from (label peer q)) _
               (sight-posts lane.from lane.queue (acked peer q) Sender (label peer q) ∙ ap (posted Sender (label peer q)) (sight-off lane.from lane.queue pair peer q _ is))
-              (turned (Says Sender (label peer q) (record { foreign = refl; no_handshake = λ ordinary. refl })) (tells_no plan lane Now.lane (Ack p lane.from q) (Acked (lane_of pair peer q).acked) refl))
+              (turned (Says Sender (label peer q) (record { foreign = refl; no_handshake = λ ordinary. refl })) (tells_ack plan lane Now.lane p lane.from q (lane_of pair peer q).acked false (on-off lane p peer q is)))

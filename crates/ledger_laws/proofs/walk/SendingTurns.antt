@@ -24,12 +24,13 @@ use Rattle.ledger_model.specs.Log.{is_on}
 use Rattle.ledger_model.specs.Sending.{begun, begun_lane, frame_begun}
 use Rattle.plan_model.specs.Plans.{pair_plan}
 use Rattle.plan_model.specs.Sizes.{Sizes, sizes_of}
+use Rattle.ledger_laws.specs.LaneChanges.{WriteIsPosted}
 use Rattle.ledger_laws.proofs.walk.Cases.{MaySend, needs, closing, posted_by}
 use Rattle.ledger_laws.proofs.walk.Sight.{Sight, Sender, Receiver, posted, sight, IsOff, OffCase, OtherQueue, OtherWay, by_lane, sight-side, sight-posts, sight-lane, sight-off, sight-tally, sight-tally_off}
 use Rattle.ledger_laws.proofs.walk.Turn.{hand_of, is_handshake, on_queue, more_accepted, Turn, turned, IsRaw, SizesOf, Rests, Begins, Closes, Strays, Shuts, Says}
 use Rattle.ledger_laws.proofs.walk.News.{Tells, no_news, begun_news}
-use Rattle.ledger_laws.proofs.walk.Tells.{tells_no, on-own, on-off, tells_qpdown}
-use Rattle.ledger_laws.proofs.walk.TurnAt.{TurnAt, ReadsLedger, unreached_raw, shown_as, rests}
+use Rattle.ledger_laws.proofs.walk.Tells.{on-own, on-off, tells_qpdown, tells_post}
+use Rattle.ledger_laws.proofs.walk.TurnAt.{TurnAt, ReadsLedger, unreached_raw, shown_as}
 use Rattle.ledger_laws.proofs.Pieces.{HasPieces, has_pieces}
 use Rattle.ledger_laws.proofs.Offers.{list_all-map}
 
@@ -161,10 +162,10 @@ module _ (plan : Plan) (lane : LaneName) (pair : PairPart) (reading : Reading) (
           (turned (Shuts Receiver q false) (tells_qpdown plan lane Now.lane p (other_side lane.from) q _ false (on-off lane p (other_side lane.from) q is)))
 
   -- A write is posted, of this lane or of another: `Ready` says which, and `lane_then` is the lane that posts it by then
-  module _ (p : ℕ) (label : Label) (later : List Label) (lane_then : Side → ℕ → LanePart) (Ready : Side → ℕ → Type 0)
+  module _ (p : ℕ) (same_pair : p ≡ lane.pair) (label : Label) (later : List Label) (lane_then : Side → ℕ → LanePart) (Ready : Side → ℕ → Type 0)
       (on_it : (s : Side) (q : ℕ) → Ready s q → (on_queue q label ≡ true) × (list_all (on_queue q) later ≡ true))
       (same_hand : hand_of (lane_then lane.from lane.queue) ≡ hand_of Now.lane)
-      (own_turn : Ready lane.from lane.queue → Turn plan lane Now (record { step = Post p lane.from lane.queue; answer = Posted label }) no_news
+      (own_turn : Ready lane.from lane.queue → Turn plan lane Now (record { step = Post p lane.from lane.queue; answer = Posted label }) (record no_news { change = WriteIsPosted })
       (posted Sender label (record Now { lane = record (lane_then lane.from lane.queue) { todo = later } }))) where
     abbrev Left : Side → ℕ → PairPart
     Left s q = with_lane pair s q (record (lane_then s q) { todo = later })
@@ -180,15 +181,16 @@ module _ (plan : Plan) (lane : LaneName) (pair : PairPart) (reading : Reading) (
             cond_both (reading.reaches lane.from label) (posts (Left lane.from lane.queue) lane.from label) (Left lane.from lane.queue) (Done lane.from lane.queue)
             (λ reached. shown_as plan lane pair (Post p lane.from lane.queue) (Posted label) (posts (Left lane.from lane.queue) lane.from label) _
             (sight-posts lane.from lane.queue (Left lane.from lane.queue) Sender label ∙ ap (posted Sender label) (sight-lane lane.from lane.queue pair _))
-            (turned (own_turn ready) (tells_no plan lane Now.lane (Post p lane.from lane.queue) (Posted label) refl)))
+            (turned (own_turn ready) (tells_post plan lane Now.lane p lane.from lane.queue label true (on-own lane p same_pair))))
             (λ lost. shown_as plan lane pair (Post p lane.from lane.queue) (Posted label) (Left lane.from lane.queue) _ (sight-lane lane.from lane.queue pair _)
             (turned (Strays _ (record { raw_pair = unreached_raw plan lane pair reading reads lane.from label lost; own = (on_it lane.from lane.queue ready).1; hand = inl same_hand }))
-            (tells_no plan lane Now.lane (Post p lane.from lane.queue) (Posted label) refl)))
+            (tells_post plan lane Now.lane p lane.from lane.queue label true (on-own lane p same_pair))))
 
         off : (s : Side) (q : ℕ) → OffCase lane.from lane.queue s q → IsOff lane.from lane.queue s q → Ready s q → Done s q (posted_by reading pair s q (lane_then s q) later label)
         off s q case is ready =
             cond_both (reading.reaches s label) (posts (Left s q) s label) (Left s q) (Done s q) (λ reached. said s q case is ready)
-            (λ lost. shown_as plan lane pair (Post p s q) (Posted label) (Left s q) _ (sight-off lane.from lane.queue pair s q _ is) (rests plan lane pair (Post p s q) (Posted label) refl))
+            (λ lost. shown_as plan lane pair (Post p s q) (Posted label) (Left s q) _ (sight-off lane.from lane.queue pair s q _ is)
+            (turned (Rests false) (tells_post plan lane Now.lane p s q label false (on-off lane p s q is))))
           where
             said : (s : Side) (q : ℕ) → OffCase lane.from lane.queue s q → IsOff lane.from lane.queue s q → Ready s q → Done s q (posts (Left s q) s label)
             said s q (OtherQueue ne) is ready =
@@ -196,10 +198,10 @@ module _ (plan : Plan) (lane : LaneName) (pair : PairPart) (reading : Reading) (
                 (sight-posts lane.from lane.queue (Left lane.from q) Sender label ∙ ap (posted Sender label) (sight-off lane.from lane.queue pair lane.from q _ is))
                 (turned
                 (Says Sender label (record { foreign = write_of-other q lane.queue label ne (on_it s q ready).0; no_handshake = λ ordinary. lane_label-no_pad q label (on_it s q ready).0 }))
-                (tells_no plan lane Now.lane (Post p lane.from q) (Posted label) refl))
+                (tells_post plan lane Now.lane p lane.from q label false (on-off lane p lane.from q is)))
             said s q OtherWay is ready =
                 shown_as plan lane pair (Post p (other_side lane.from) q) (Posted label) (posts (Left (other_side lane.from) q) (other_side lane.from) label) _
                 (sight-posts lane.from lane.queue (Left (other_side lane.from) q) Receiver label ∙ ap (posted Receiver label) (sight-off lane.from lane.queue pair (other_side lane.from) q _ is))
                 (turned
                 (Says Receiver label (record { foreign = index_of-lane q lane.queue label (on_it s q ready).0; no_handshake = λ ordinary. lane_label-no_pad q label (on_it s q ready).0 }))
-                (tells_no plan lane Now.lane (Post p (other_side lane.from) q) (Posted label) refl))
+                (tells_post plan lane Now.lane p (other_side lane.from) q label false (on-off lane p (other_side lane.from) q is)))

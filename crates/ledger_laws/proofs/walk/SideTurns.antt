@@ -30,7 +30,7 @@ use Rattle.ledger_model.specs.Receiving.{closes}
 use Rattle.ledger_laws.proofs.walk.Sight.{Sight, each_way, with_up, end-own, Role, end_at, with_enabled, posted, side_at, by_role, sight, sight-posts, with_number, ReadyQueues, JoinedQueues, ClosedQueues, OffersMade, PendingBells, MaskedBells}
 use Rattle.ledger_laws.proofs.walk.Turn.{MayTrain, IsForeign, is_handshake, forgotten, dropped_end, turned, Enables, Trains, Breaks, Drops, Forgets, Offers, Checks, Readies, Joins, Shuts, Says, TakesBells, Masks}
 use Rattle.ledger_laws.proofs.walk.News.{Tells, looked_news}
-use Rattle.ledger_laws.proofs.walk.Tells.{is_read, tells_no, tells_train, tells_break, tells_check, tells_irq}
+use Rattle.ledger_laws.proofs.walk.Tells.{is_read, tells_no, tells_train, tells_break, tells_drop, tells_check, tells_irq}
 use Rattle.ledger_laws.proofs.walk.TurnAt.{TurnAt, shown_as}
 
 module _ (plan : Plan) (lane : LaneName) (pair : PairPart) where
@@ -71,10 +71,10 @@ module _ (plan : Plan) (lane : LaneName) (pair : PairPart) where
   pub break : (p : ℕ) → p ≡ lane.pair → cut_refusal pair.link ≡ None → TurnAt plan lane pair (Break p) (record { answer = Done; after = broken pair })
   break p same none = turned (Breaks (record { up = not-false _ ((refused_passed _ NotUp _ none).0) })) (tells_break plan lane Now.lane p same)
 
-  pub drop : (p : ℕ) → drop_refusal pair.link ≡ None → TurnAt plan lane pair (DropDone p) (record { answer = Done; after = dropped pair })
-  drop p none =
+  pub drop : (p : ℕ) → p ≡ lane.pair → drop_refusal pair.link ≡ None → TurnAt plan lane pair (DropDone p) (record { answer = Done; after = dropped pair })
+  drop p same none =
       shown_as plan lane pair (DropDone p) Done (dropped pair) _ (looks_so lane.from)
-      (turned (Drops (record { closing = not-false _ ((refused_passed _ NotClosing _ none).0) })) (tells_no plan lane Now.lane (DropDone p) Done refl))
+      (turned (Drops (record { closing = not-false _ ((refused_passed _ NotClosing _ none).0) })) (tells_drop plan lane Now.lane p same))
     where
       looks_so : (f : Side) → sight f lane.queue (dropped pair)
           ≡ record (sight f lane.queue pair) { state = LinkIsDown; sender = dropped_end (sight f lane.queue pair).sender; receiver = dropped_end (sight f lane.queue pair).receiver }

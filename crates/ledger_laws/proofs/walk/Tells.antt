@@ -9,11 +9,11 @@ use Rattle.step_kinds.specs.declared.names.Side.{Side}
 use Rattle.step_kinds.specs.declared.names.Side.TheVariants.{A, B}
 use Rattle.step_kinds.specs.declared.plan.Plan.{Plan}
 use Rattle.step_kinds.specs.declared.steps.Answer.{Answer}
-use Rattle.step_kinds.specs.declared.steps.Answer.TheVariants.{Ok as Done, OkSession, OkNumber, Up, Landed, Empty, Delivered, Cleared, Irq as IrqBits}
+use Rattle.step_kinds.specs.declared.steps.Answer.TheVariants.{Ok as Done, OkSession, OkNumber, Up, Posted, Landed, Empty, ReadyFrame, Copied as CopiedPart, Delivered, Cleared, Acked, Irq as IrqBits}
 use Rattle.step_kinds.specs.declared.steps.Label.{Label}
 use Rattle.step_kinds.specs.declared.steps.Label.TheVariants.{Bell, Index, Pad}
 use Rattle.step_kinds.specs.declared.steps.Step.{Step}
-use Rattle.step_kinds.specs.declared.steps.Step.TheVariants.{Train, Break, Check, Begin, QpDown, Xbegin, Land, Look, Copy, Clear, Irq}
+use Rattle.step_kinds.specs.declared.steps.Step.TheVariants.{Train, Break, DropDone, Check, Begin, QpDown, Xbegin, Post, Land, Look, Copy, Clear, Ack, Irq}
 use Rattle.lane_model.specs.declared.Write.TheVariants.{Bell as QueueBell}
 use Rattle.ledger_model.specs.Labels.{write_of, index_of}
 use Rattle.ledger_model.specs.Ledger.{LanePart}
@@ -22,8 +22,9 @@ use Rattle.ledger_model.specs.Rings.{RingPart, ring_next, with_write, with_index
 use Rattle.plan_model.specs.Plans.{dev_plan, pair_plan}
 use Rattle.plan_model.specs.Sizes.{Sizes, sizes_of, pieces_in}
 use Rattle.plan_model.specs.Ethernet.{ethernet_frame}
+use Rattle.ledger_laws.specs.LaneChanges.{LaneChange, change_by_write, change_by_index, Unchanged, LinkIsLost, FlightIsDropped, EntryIsBegun, WriteIsPosted, EntryIsFound, PartIsCopied, FlagsAreCleared, IndexIsPosted, change_of}
 use Rattle.ledger_laws.proofs.walk.Cases.{refuses}
-use Rattle.ledger_laws.proofs.walk.News.{News, no_news, Tells, saw_next, pad_next, looked_news, begun_news, pads_landed, ring_checked, ring_cleared, sees_taken}
+use Rattle.ledger_laws.proofs.walk.News.{News, no_news, Tells, saw_next, pad_next, looked_news, begun_news, change_heard, pads_landed, ring_checked, ring_cleared, sees_taken}
 use Rattle.ledger_laws.proofs.walk.Sight.{Role, Sender, Receiver, side_at, other_other, same_side-refl, other_side-not, other_side-across, IsOff}
 use Rattle.ledger_laws.proofs.walk.Turn.{IsForeign}
 
@@ -31,14 +32,18 @@ use Rattle.ledger_laws.proofs.walk.Turn.{IsForeign}
 abbrev pub is_read : Step → Answer → Bool
 is_read (Train p) (OkSession session) = true
 is_read (Break p) Done = true
+is_read (DropDone p) Done = true
 is_read (Check p side) Up = true
 is_read (Begin p side queue frame) (OkNumber n) = true
 is_read (QpDown p side queue) (OkNumber n) = true
 is_read (Xbegin p side queue dev dst kind payload) (OkNumber n) = true
+is_read (Post p side queue) (Posted label) = true
 is_read (Land p side place) (Landed label) = true
 is_read (Look p side queue) answer = true
+is_read (Copy p side queue) (CopiedPart n part) = true
 is_read (Copy p side queue) (Delivered n frame) = true
 is_read (Clear p side queue) (Cleared n) = true
+is_read (Ack p side queue) (Acked n) = true
 is_read (Irq p side) (IrqBits bits) = true
 is_read step answer = false
 
@@ -59,6 +64,7 @@ tells_nothing plan lane part step answer h = record {
   sees = λ saw. sees saw step answer h;
   pads = λ e i now. pads e i now step answer h;
   ring = λ sizes ring. ring_same sizes ring step answer h;
+  change = change step answer h;
 }
   where
     off : (p : ℕ) (b : Bool) {X : Type 0} (x y : X) → (p ≡ lane.pair → ⊥) → (if (p == lane.pair) && b then x else y) ≡ y
@@ -110,6 +116,21 @@ tells_nothing plan lane part step answer h = record {
     ring_same sizes ring (Clear p side queue) (Cleared n) h = off p _ _ ring (h refl)
     ring_same sizes ring step r h = refl
 
+    change : (step : Step) (r : Answer) → IsUnread lane step r → change_of lane (record { step = step; answer = r }) ≡ Unchanged
+    change (Break p) Done h = rw (ne_eqb p lane.pair (h refl)) refl
+    change (DropDone p) Done h = rw (ne_eqb p lane.pair (h refl)) refl
+    change (Begin p side queue frame) (OkNumber n) h = off p _ EntryIsBegun Unchanged (h refl)
+    change (QpDown p side queue) (OkNumber n) h = off p _ EntryIsBegun Unchanged (h refl)
+    change (Xbegin p side queue dev dst kind payload) (OkNumber n) h = off p _ EntryIsBegun Unchanged (h refl)
+    change (Post p side queue) (Posted label) h = off p _ WriteIsPosted Unchanged (h refl)
+    change (Land p side place) (Landed label) h = rw (ne_eqb p lane.pair (h refl)) refl
+    change (Look p side queue) (ReadyFrame n len) h = off p _ EntryIsFound Unchanged (h refl)
+    change (Copy p side queue) (CopiedPart n part) h = off p _ PartIsCopied Unchanged (h refl)
+    change (Copy p side queue) (Delivered n frame) h = off p _ PartIsCopied Unchanged (h refl)
+    change (Clear p side queue) (Cleared n) h = off p _ FlagsAreCleared Unchanged (h refl)
+    change (Ack p side queue) (Acked n) h = off p _ IndexIsPosted Unchanged (h refl)
+    change step r h = refl
+
 -- a step with an answer that no reader reads
 pub tells_no : (plan : Plan) (lane : LaneName) (part : LanePart) (step : Step) (answer : Answer) → is_read step answer ≡ false
     → Tells plan lane part (record { step = step; answer = answer }) no_news
@@ -123,14 +144,18 @@ is_look step = false
 pub unread-refused : (step : Step) (r : Answer) → is_look step ≡ false → refuses r ≡ true → is_read step r ≡ false
 unread-refused (Train p) (OkSession session) not_look e = absurd (false≢true e)
 unread-refused (Break p) Done not_look e = absurd (false≢true e)
+unread-refused (DropDone p) Done not_look e = absurd (false≢true e)
 unread-refused (Check p side) Up not_look e = absurd (false≢true e)
 unread-refused (Begin p side queue frame) (OkNumber n) not_look e = absurd (false≢true e)
 unread-refused (QpDown p side queue) (OkNumber n) not_look e = absurd (false≢true e)
 unread-refused (Xbegin p side queue dev dst kind payload) (OkNumber n) not_look e = absurd (false≢true e)
+unread-refused (Post p side queue) (Posted label) not_look e = absurd (false≢true e)
 unread-refused (Land p side place) (Landed label) not_look e = absurd (false≢true e)
 unread-refused (Look p side queue) r not_look e = absurd (true≢false not_look)
+unread-refused (Copy p side queue) (CopiedPart n part) not_look e = absurd (false≢true e)
 unread-refused (Copy p side queue) (Delivered n frame) not_look e = absurd (false≢true e)
 unread-refused (Clear p side queue) (Cleared n) not_look e = absurd (false≢true e)
+unread-refused (Ack p side queue) (Acked n) not_look e = absurd (false≢true e)
 unread-refused (Irq p side) (IrqBits bits) not_look e = absurd (false≢true e)
 unread-refused step r not_look e = refl
 
@@ -138,6 +163,11 @@ unread-refused step r not_look e = refl
 abbrev pub is_nothing : Answer → Bool
 is_nothing Empty = true
 is_nothing r = false
+
+-- the answer to a look that finds a frame
+abbrev pub is_ready : Answer → Bool
+is_ready (ReadyFrame n len) = true
+is_ready r = false
 
 -- what readers make of a label that lands: room, scratchpads, the ring
 abbrev pub gives_landed : ℕ → Label → Role → Bool
@@ -165,14 +195,23 @@ pub foreign_in_ring : (q : ℕ) (e : Role) (label : Label) (lane : LanePart) (si
 foreign_in_ring q Sender label lane sizes ring none = ap (λ w. record { ring = with_write sizes.entries lane ring.ring w; index_word = ring.index_word }) none
 foreign_in_ring q Receiver label lane sizes ring none = ap (λ n. record { ring = ring.ring; index_word = with_index sizes.entries ring.index_word n }) none
 
+-- so they change nothing of the lane
+pub pad_no_change : (q i value : ℕ) (e : Role) → change_heard q e (Pad i value) ≡ Unchanged
+pad_no_change q i value Sender = refl
+pad_no_change q i value Receiver = refl
+
+pub foreign_no_change : (q : ℕ) (e : Role) (label : Label) → IsForeign q e label → change_heard q e label ≡ Unchanged
+foreign_no_change q Sender label none = ap change_by_write none
+foreign_no_change q Receiver label none = ap change_by_index none
+
 -- the steps that some reader reads
 
 told : {plan : Plan} {lane : LaneName} {part : LanePart} {made : Answered} {news : News} → takes_room plan lane made ≡ news.takes → gives_room lane made ≡ news.gives
     → trains lane.pair made ≡ news.starts → breaks lane.pair made ≡ news.ends → accepts plan lane made ≡ news.accepted → delivers lane made ≡ news.delivered
     → ((saw : Bool) → saw_next lane made saw ≡ news.sees saw) → ((e : Role) (i : ℕ) (now : Option ℕ) → pad_next lane made e i now ≡ news.pads e i now)
-    → ((sizes : Sizes) (ring : RingPart) → ring_next sizes lane part ring made ≡ news.ring sizes ring) → Tells plan lane part made news
-told takes gives starts ends accepted delivered sees pads ring =
-    record { takes = takes; gives = gives; starts = starts; ends = ends; accepted = accepted; delivered = delivered; sees = sees; pads = pads; ring = ring }
+    → ((sizes : Sizes) (ring : RingPart) → ring_next sizes lane part ring made ≡ news.ring sizes ring) → change_of lane made ≡ news.change → Tells plan lane part made news
+told takes gives starts ends accepted delivered sees pads ring change =
+    record { takes = takes; gives = gives; starts = starts; ends = ends; accepted = accepted; delivered = delivered; sees = sees; pads = pads; ring = ring; change = change }
 
 -- whether a step's queue is the lane's
 pub on-own : (lane : LaneName) (p : ℕ) → p ≡ lane.pair → is_on lane p lane.from lane.queue ≡ true
@@ -210,13 +249,16 @@ module _ (plan : Plan) (lane : LaneName) (part : LanePart) (p : ℕ) where
   needed len = pieces_in (sizes_of (pair_plan plan lane.pair) lane.from lane.queue).largest len
 
   pub tells_train : p ≡ lane.pair → (session : ℕ) → IsTold (Train p) (OkSession session) (record no_news { starts = true })
-  tells_train same session = told refl refl (eq-eqb p lane.pair same) refl refl refl (λ saw. refl) (λ e i now. refl) (λ sizes ring. refl)
+  tells_train same session = told refl refl (eq-eqb p lane.pair same) refl refl refl (λ saw. refl) (λ e i now. refl) (λ sizes ring. refl) refl
 
-  pub tells_break : p ≡ lane.pair → IsTold (Break p) Done (record no_news { ends = true })
-  tells_break same = told refl refl refl (eq-eqb p lane.pair same) refl refl (λ saw. refl) (λ e i now. refl) (λ sizes ring. refl)
+  pub tells_break : p ≡ lane.pair → IsTold (Break p) Done (record no_news { ends = true; change = LinkIsLost })
+  tells_break same = told refl refl refl (eq-eqb p lane.pair same) refl refl (λ saw. refl) (λ e i now. refl) (λ sizes ring. refl) (rw (eq-eqb p lane.pair same) refl)
+
+  pub tells_drop : p ≡ lane.pair → IsTold (DropDone p) Done (record no_news { change = FlightIsDropped })
+  tells_drop same = told refl refl refl refl refl refl (λ saw. refl) (λ e i now. refl) (λ sizes ring. refl) (rw (eq-eqb p lane.pair same) refl)
 
   pub tells_check : p ≡ lane.pair → (e : Role) → IsTold (Check p (side_at lane.from e)) Up (record no_news { ring = ring_checked e })
-  tells_check same e = told refl refl refl refl refl refl (λ saw. refl) (λ f i now. refl) (checked e)
+  tells_check same e = told refl refl refl refl refl refl (λ saw. refl) (λ f i now. refl) (checked e) refl
     where
       checked : (e : Role) (sizes : Sizes) (ring : RingPart) → ring_next sizes lane part ring (record { step = Check p (side_at lane.from e); answer = Up }) ≡ ring_checked e sizes ring
       checked Sender sizes ring = rw (eq-eqb p lane.pair same, same_side-refl lane.from) refl
@@ -225,49 +267,81 @@ module _ (plan : Plan) (lane : LaneName) (part : LanePart) (p : ℕ) where
   pub tells_begin : (side : Side) (queue : ℕ) (frame : List ℕ) (n : ℕ) (own : Bool) → is_on lane p side queue ≡ own → IsTold (Begin p side queue frame) (OkNumber n) (begun_news own (needed (length frame)) n frame)
   tells_begin side queue frame n own on =
       told (ap (λ b. if b then needed (length frame) else 0) on) refl refl refl (ap (λ b. if b then record { number = n; bytes = frame } ∷ [] else []) on) refl (λ saw. refl) (λ e i now. refl) (λ sizes ring. refl)
+      (ap (λ b. if b then EntryIsBegun else Unchanged) on)
 
   pub tells_xbegin : (side : Side) (queue dev : ℕ) (dst : List ℕ) (kind : ℕ) (payload : List ℕ) (n : ℕ) (own : Bool) → is_on lane p side queue ≡ own
       → IsTold (Xbegin p side queue dev dst kind payload) (OkNumber n)
       (begun_news own (needed (length (ethernet_frame dst (dev_plan plan.devs dev).address kind payload))) n (ethernet_frame dst (dev_plan plan.devs dev).address kind payload))
   tells_xbegin side queue dev dst kind payload n own on =
       told (ap (λ b. if b then needed (length (ethernet_frame dst (dev_plan plan.devs dev).address kind payload)) else 0) on) refl refl refl (ap (λ b. if b then record { number = n; bytes = ethernet_frame dst (dev_plan plan.devs dev).address kind payload } ∷ [] else []) on) refl
-      (λ saw. refl) (λ e i now. refl) (λ sizes ring. refl)
+      (λ saw. refl) (λ e i now. refl) (λ sizes ring. refl) (ap (λ b. if b then EntryIsBegun else Unchanged) on)
 
-  pub tells_qpdown : (side : Side) (queue n : ℕ) (own : Bool) → is_on lane p side queue ≡ own → IsTold (QpDown p side queue) (OkNumber n) (record no_news { takes = (if own then 1 else 0) })
-  tells_qpdown side queue n own on = told (ap (λ b. if b then 1 else 0) on) refl refl refl refl refl (λ saw. refl) (λ e i now. refl) (λ sizes ring. refl)
+  pub tells_qpdown : (side : Side) (queue n : ℕ) (own : Bool) → is_on lane p side queue ≡ own → IsTold (QpDown p side queue) (OkNumber n)
+      (record no_news { takes = (if own then 1 else 0); change = (if own then EntryIsBegun else Unchanged) })
+  tells_qpdown side queue n own on = told (ap (λ b. if b then 1 else 0) on) refl refl refl refl refl (λ saw. refl) (λ e i now. refl) (λ sizes ring. refl) (ap (λ b. if b then EntryIsBegun else Unchanged) on)
+
+  pub tells_post : (side : Side) (queue : ℕ) (label : Label) (own : Bool) → is_on lane p side queue ≡ own
+      → IsTold (Post p side queue) (Posted label) (record no_news { change = (if own then WriteIsPosted else Unchanged) })
+  tells_post side queue label own on = told refl refl refl refl refl refl (λ saw. refl) (λ e i now. refl) (λ sizes ring. refl) (ap (λ b. if b then WriteIsPosted else Unchanged) on)
 
   pub tells_empty : (side : Side) (queue : ℕ) (own : Bool) → at_receiver lane p side queue ≡ own → IsTold (Look p side queue) Empty (record no_news { sees = λ saw. if own then true else saw })
-  tells_empty side queue own at = told refl refl refl refl refl refl (λ saw. ap (λ b. if b then true else saw) at) (λ e i now. refl) (λ sizes ring. refl)
+  tells_empty side queue own at = told refl refl refl refl refl refl (λ saw. ap (λ b. if b then true else saw) at) (λ e i now. refl) (λ sizes ring. refl) refl
 
-  pub tells_look : (side : Side) (queue : ℕ) (r : Answer) → is_nothing r ≡ false → (own : Bool) → at_receiver lane p side queue ≡ own → IsTold (Look p side queue) r (looked_news own)
-  tells_look side queue r some own at = told refl refl refl refl refl refl (λ saw. seen r some saw ∙ ap (λ b. if b then false else saw) at) (λ e i now. refl) (λ sizes ring. refl)
+  -- what a look that found something tells of the receiver's sight
+  looked_at : (side : Side) (queue : ℕ) (r : Answer) → is_nothing r ≡ false → (saw : Bool)
+      → saw_next lane (record { step = Look p side queue; answer = r }) saw ≡ (if at_receiver lane p side queue then false else saw)
+  looked_at side queue Empty some saw = absurd (true≢false some)
+  looked_at side queue r some saw = refl
+
+  pub tells_look : (side : Side) (queue : ℕ) (r : Answer) → is_nothing r ≡ false → is_ready r ≡ false → (own : Bool) → at_receiver lane p side queue ≡ own
+      → IsTold (Look p side queue) r (looked_news own)
+  tells_look side queue r some no_frame own at =
+      told refl refl refl refl refl refl (λ saw. looked_at side queue r some saw ∙ ap (λ b. if b then false else saw) at) (λ e i now. refl) (λ sizes ring. refl) (unchanged r no_frame)
     where
-      seen : (r : Answer) → is_nothing r ≡ false → (saw : Bool) → saw_next lane (record { step = Look p side queue; answer = r }) saw ≡ (if at_receiver lane p side queue then false else saw)
-      seen Empty some saw = absurd (true≢false some)
-      seen r some saw = refl
+      unchanged : (r : Answer) → is_ready r ≡ false → change_of lane (record { step = Look p side queue; answer = r }) ≡ Unchanged
+      unchanged (ReadyFrame n len) no_frame = absurd (true≢false no_frame)
+      unchanged r no_frame = refl
+
+  pub tells_ready : (side : Side) (queue n len : ℕ) (own : Bool) → at_receiver lane p side queue ≡ own → is_on lane p (other_side side) queue ≡ own
+      → IsTold (Look p side queue) (ReadyFrame n len) (record (looked_news own) { change = (if own then EntryIsFound else Unchanged) })
+  tells_ready side queue n len own at on =
+      told refl refl refl refl refl refl (λ saw. ap (λ b. if b then false else saw) at) (λ e i now. refl) (λ sizes ring. refl) (ap (λ b. if b then EntryIsFound else Unchanged) on)
+
+  pub tells_part : (side : Side) (queue n part : ℕ) (own : Bool) → is_on lane p (other_side side) queue ≡ own
+      → IsTold (Copy p side queue) (CopiedPart n part) (record no_news { change = (if own then PartIsCopied else Unchanged) })
+  tells_part side queue n part own on = told refl refl refl refl refl refl (λ saw. refl) (λ e i now. refl) (λ sizes ring. refl) (ap (λ b. if b then PartIsCopied else Unchanged) on)
 
   pub tells_copy : (side : Side) (queue n : ℕ) (frame : List ℕ) (own : Bool) → is_on lane p (other_side side) queue ≡ own
-      → IsTold (Copy p side queue) (Delivered n frame) (record no_news { delivered = (if own then record { number = n; bytes = frame } ∷ [] else []) })
+      → IsTold (Copy p side queue) (Delivered n frame)
+      (record no_news { delivered = (if own then record { number = n; bytes = frame } ∷ [] else []); change = (if own then PartIsCopied else Unchanged) })
   tells_copy side queue n frame own on =
       told refl refl refl refl refl (ap (λ b. if b then record { number = n; bytes = frame } ∷ [] else []) on) (λ saw. refl) (λ e i now. refl) (λ sizes ring. refl)
+      (ap (λ b. if b then PartIsCopied else Unchanged) on)
 
   pub tells_clear : (side : Side) (queue n : ℕ) (own : Bool) → is_on lane p (other_side side) queue ≡ own
-      → IsTold (Clear p side queue) (Cleared n) (record no_news { ring = λ sizes ring. if own then ring_cleared n sizes ring else ring })
+      → IsTold (Clear p side queue) (Cleared n) (record no_news { ring = λ sizes ring. if own then ring_cleared n sizes ring else ring; change = (if own then FlagsAreCleared else Unchanged) })
   tells_clear side queue n own on = told refl refl refl refl refl refl (λ saw. refl) (λ e i now. refl) (λ sizes ring. ap (λ b. if b then ring_cleared n sizes ring else ring) on)
+      (ap (λ b. if b then FlagsAreCleared else Unchanged) on)
+
+  pub tells_ack : (side : Side) (queue n : ℕ) (own : Bool) → is_on lane p (other_side side) queue ≡ own
+      → IsTold (Ack p side queue) (Acked n) (record no_news { change = (if own then IndexIsPosted else Unchanged) })
+  tells_ack side queue n own on = told refl refl refl refl refl refl (λ saw. refl) (λ e i now. refl) (λ sizes ring. refl) (ap (λ b. if b then IndexIsPosted else Unchanged) on)
 
   pub tells_irq : p ≡ lane.pair → (e : Role) (bits : ℕ) → IsTold (Irq p (side_at lane.from e)) (IrqBits bits) (record no_news { sees = sees_taken lane.queue e bits })
-  tells_irq same e bits = told refl refl refl refl refl refl (taken e) (λ f i now. refl) (λ sizes ring. refl)
+  tells_irq same e bits = told refl refl refl refl refl refl (taken e) (λ f i now. refl) (λ sizes ring. refl) refl
     where
       taken : (e : Role) (saw : Bool) → saw_next lane (record { step = Irq p (side_at lane.from e); answer = IrqBits bits }) saw ≡ sees_taken lane.queue e bits saw
       taken Sender saw = rw (eq-eqb p lane.pair same, other_side-across lane.from) refl
       taken Receiver saw = rw (eq-eqb p lane.pair same, same_side-refl (other_side lane.from)) refl
 
-  pub tells_land : p ≡ lane.pair → (e : Role) (place : ℕ) (label : Label) (gives : Bool) (pads : Role → ℕ → Option ℕ → Option ℕ) (ring : Sizes → RingPart → RingPart)
+  pub tells_land : p ≡ lane.pair → (e : Role) (place : ℕ) (label : Label) (gives : Bool) (pads : Role → ℕ → Option ℕ → Option ℕ) (ring : Sizes → RingPart → RingPart) (change : LaneChange)
       → gives_landed lane.queue label e ≡ gives → ((f : Role) (i : ℕ) (now : Option ℕ) → pads_heard e label f i now ≡ pads f i now)
       → ((sizes : Sizes) (before : RingPart) → ring_heard lane.queue e label part sizes before ≡ ring sizes before)
-      → IsTold (Land p (side_at lane.from e) place) (Landed label) (record no_news { gives = gives; pads = pads; ring = ring })
-  tells_land same e place label gives pads ring gives_so pads_so ring_so =
+      → change_heard lane.queue e label ≡ change
+      → IsTold (Land p (side_at lane.from e) place) (Landed label) (record no_news { gives = gives; pads = pads; ring = ring; change = change })
+  tells_land same e place label gives pads ring change gives_so pads_so ring_so change_so =
       told refl (gives_is e label ∙ gives_so) refl refl refl refl (λ saw. refl) (λ f i now. pads_is e label f i now ∙ pads_so f i now) (λ sizes before. ring_is e sizes before ∙ ring_so sizes before)
+      (change_is e ∙ change_so)
     where
       gives_is : (e : Role) (label : Label) → gives_room lane (record { step = Land p (side_at lane.from e) place; answer = Landed label }) ≡ gives_landed lane.queue label e
       gives_is Sender (Index q n) = rw (eq-eqb p lane.pair same, other_side-not lane.from) refl
@@ -288,3 +362,7 @@ module _ (plan : Plan) (lane : LaneName) (part : LanePart) (p : ℕ) where
           → ring_next sizes lane part ring (record { step = Land p (side_at lane.from e) place; answer = Landed label }) ≡ ring_heard lane.queue e label part sizes ring
       ring_is Sender sizes ring = rw (eq-eqb p lane.pair same, same_side-refl lane.from) refl
       ring_is Receiver sizes ring = rw (eq-eqb p lane.pair same, other_side-not lane.from) refl
+
+      change_is : (e : Role) → change_of lane (record { step = Land p (side_at lane.from e) place; answer = Landed label }) ≡ change_heard lane.queue e label
+      change_is Sender = rw (eq-eqb p lane.pair same, same_side-refl lane.from) refl
+      change_is Receiver = rw (eq-eqb p lane.pair same, other_side-not lane.from) refl

@@ -35,9 +35,10 @@ use Rattle.plan_model.specs.Plans.{pair_plan, side_plan}
 use Rattle.plan_model.specs.Sizes.{Sizes, sizes_of, pieces_in}
 use Rattle.order_rules.specs.Order.{may_land}
 use Rattle.plan_model.specs.Orders.{order_of}
+use Rattle.ledger_laws.specs.LaneChanges.{LaneChange, LinkIsLost, FlightIsDropped, EntryIsBegun, WriteIsPosted, WriteLands, IndexLands, EntryIsFound, PartIsCopied, FlagsAreCleared, IndexIsPosted}
 use Rattle.ledger_laws.specs.Laws.{IsOrdinaryOn}
 use Rattle.ledger_laws.proofs.walk.Sight.{End, Sight, Role, Sender, Receiver, peer_of, end_at, on_sender, on_receiver, with_up, with_pads, with_flight, with_clean, with_enabled, side_at, posted, with_number, ReadyQueues, JoinedQueues, ClosedQueues, OffersMade, PendingBells, MaskedBells}
-use Rattle.ledger_laws.proofs.walk.News.{News, no_news, Tells, looked_news, pads_landed, ring_landed, ring_freed, ring_checked, ring_cleared, sees_taken}
+use Rattle.ledger_laws.proofs.walk.News.{News, no_news, Tells, looked_news, change_heard, pads_landed, ring_landed, ring_freed, ring_checked, ring_cleared, sees_taken}
 
 -- What a step has passed
 
@@ -248,8 +249,8 @@ pub data Turn (plan : Plan) (lane : LaneName) (s : Sight) (made : Answered) : Ne
   -- the link
   Enables : (e : Role) → MayEnable s e → Turn plan lane s made no_news (with_enabled e true s)
   Trains : MayTrain s → Turn plan lane s made (record no_news { starts = true }) (record s { state = LinkIsUp; session = s.session + 1; lane = fresh_lane })
-  Breaks : MayBreak s → Turn plan lane s made (record no_news { ends = true }) (record s { state = Closing })
-  Drops : MayDrop s → Turn plan lane s made no_news (record s { state = LinkIsDown; sender = dropped_end s.sender; receiver = dropped_end s.receiver })
+  Breaks : MayBreak s → Turn plan lane s made (record no_news { ends = true; change = LinkIsLost }) (record s { state = Closing })
+  Drops : MayDrop s → Turn plan lane s made (record no_news { change = FlightIsDropped }) (record s { state = LinkIsDown; sender = dropped_end s.sender; receiver = dropped_end s.receiver })
   Forgets : (e : Role) → MayForget s → Turn plan lane s made no_news (forgotten e s)
   -- the handshake
   Offers : (e : Role) (label : Label) → MayOffer (side_plan (pair_plan plan lane.pair) (side_at lane.from e)) s e label
@@ -261,46 +262,46 @@ pub data Turn (plan : Plan) (lane : LaneName) (s : Sight) (made : Answered) : Ne
   Begins : (bytes : List ℕ) (first : Entry) (others : List Entry)
       → MayBegin (IsRaw plan lane) (SizesOf plan lane) lane.queue s (length bytes) (pieces_in (SizesOf plan lane).largest (length bytes))
       → pieces_of (SizesOf plan lane).largest bytes ≡ first ∷ others
-      → Turn plan lane s made (record no_news { takes = pieces_in (SizesOf plan lane).largest (length bytes); accepted = record { number = s.lane.told; bytes = bytes } ∷ [] })
+      → Turn plan lane s made (record no_news { takes = pieces_in (SizesOf plan lane).largest (length bytes); accepted = record { number = s.lane.told; bytes = bytes } ∷ []; change = EntryIsBegun })
       (record s { lane = frame_begun lane.queue s.lane (first ∷ others); tally = updated s.tally s.session (more_accepted (s.tally s.session)) })
-  Closes : MayBegin (IsRaw plan lane) (SizesOf plan lane) lane.queue s 0 1 → Turn plan lane s made (record no_news { takes = 1 })
+  Closes : MayBegin (IsRaw plan lane) (SizesOf plan lane) lane.queue s 0 1 → Turn plan lane s made (record no_news { takes = 1; change = EntryIsBegun })
       (record s { sender = record s.sender { part = record s.sender.part { closed = with_bit s.sender.closed lane.queue } }; lane = begun_lane lane.queue s.lane (GoesDown ∷ []) })
-  Posts : (label : Label) (rest : List Label) → MayPost lane.queue s label rest → Turn plan lane s made no_news (posted Sender label (record s { lane = record s.lane { todo = rest } }))
+  Posts : (label : Label) (rest : List Label) → MayPost lane.queue s label rest → Turn plan lane s made (record no_news { change = WriteIsPosted }) (posted Sender label (record s { lane = record s.lane { todo = rest } }))
   PostsNext : (entry : Entry) (others : List Entry) (label : Label) (rest : List Label) → MayPostNext lane.queue s entry others label rest
-      → Turn plan lane s made no_news (posted Sender label (record s { lane = record (picked lane.queue s.lane entry others) { todo = rest } }))
+      → Turn plan lane s made (record no_news { change = WriteIsPosted }) (posted Sender label (record s { lane = record (picked lane.queue s.lane entry others) { todo = rest } }))
   -- a write of a raw pair is lost, whichever of the lane's ends it was to be posted by
-  Strays : (after : LanePart) → MayStray (IsRaw plan lane) lane.queue s.lane after → Turn plan lane s made no_news (record s { lane = after })
+  Strays : {change : LaneChange} (after : LanePart) → MayStray (IsRaw plan lane) lane.queue s.lane after → Turn plan lane s made (record no_news { change = change }) (record s { lane = after })
   -- a queue is closed on an end, and a write that isn't the lane's is posted
   Shuts : (e : Role) (queue : ℕ) (looked : Bool) → Turn plan lane s made (looked_news looked) (with_number ClosedQueues e (with_bit (end_at s e).closed queue) s)
   Says : (e : Role) (label : Label) → IsAside lane made e label → Turn plan lane s made no_news (posted e label s)
   -- landing
   LandsFlag : (place : ℕ) (label : Label) (n : ℕ) → MayLandWrite (pair_plan plan lane.pair) lane.from lane.queue s place label (EntryFlag n)
-      → Turn plan lane s made (record no_news { ring = ring_landed s.lane (EntryFlag n) }) (record (taken Sender place s) { lane = record s.lane { flagged = s.lane.flagged + 1 } })
+      → Turn plan lane s made (record no_news { ring = ring_landed s.lane (EntryFlag n); change = WriteLands (EntryFlag n) }) (record (taken Sender place s) { lane = record s.lane { flagged = s.lane.flagged + 1 } })
   LandsField : (place : ℕ) (label : Label) (n : ℕ) (field : Field) → MayLandWrite (pair_plan plan lane.pair) lane.from lane.queue s place label (Data n field)
-      → Turn plan lane s made (record no_news { ring = ring_landed s.lane (Data n field) }) (taken Sender place s)
+      → Turn plan lane s made (record no_news { ring = ring_landed s.lane (Data n field); change = WriteLands (Data n field) }) (taken Sender place s)
   LandsIndex : (place : ℕ) (n : ℕ) → MayLand (pair_plan plan lane.pair) (other_side lane.from) s Receiver place (Index lane.queue n)
-      → Turn plan lane s made (record no_news { gives = true; ring = ring_freed n }) (record (taken Receiver place s) { lane = record s.lane { freed = n + 1 } })
+      → Turn plan lane s made (record no_news { gives = true; ring = ring_freed n; change = IndexLands n }) (record (taken Receiver place s) { lane = record s.lane { freed = n + 1 } })
   LandsBell : (e : Role) (place queue : ℕ) → MayLand (pair_plan plan lane.pair) (side_at lane.from e) s e place (Bell queue)
-      → Turn plan lane s made no_news (with_number PendingBells (peer_of e) (with_bit (end_at s (peer_of e)).pending queue) (taken e place s))
+      → Turn plan lane s made (record no_news { change = change_heard lane.queue e (Bell queue) }) (with_number PendingBells (peer_of e) (with_bit (end_at s (peer_of e)).pending queue) (taken e place s))
   LandsPad : (e : Role) (place i value : ℕ) → MayLand (pair_plan plan lane.pair) (side_at lane.from e) s e place (Pad i value)
       → Turn plan lane s made (record no_news { pads = pads_landed e i value }) (with_pads (peer_of e) (slice_set (end_at s (peer_of e)).pads i value) (taken e place s))
   LandsAside : (e : Role) (place : ℕ) (label : Label) → MayLandAside (pair_plan plan lane.pair) (side_at lane.from e) lane.queue s e place label
       → Turn plan lane s made no_news (taken e place s)
   -- receiving
   Looks : (len left : ℕ) → MayLook (IsRaw plan lane) lane.queue s len left
-      → Turn plan lane s made (looked_news true) (record s { lane = record s.lane { phase = Copying; part = 0; len = len; left = left } })
+      → Turn plan lane s made (record (looked_news true) { change = EntryIsFound }) (record s { lane = record s.lane { phase = Copying; part = 0; len = len; left = left } })
   CopiesPart : (bytes : List ℕ) → MayCopy (IsRaw plan lane) s true bytes
-      → Turn plan lane s made no_news (record s { lane = record s.lane { part = s.lane.part + 1; gathered = s.lane.gathered ++ bytes } })
+      → Turn plan lane s made (record no_news { change = PartIsCopied }) (record s { lane = record s.lane { part = s.lane.part + 1; gathered = s.lane.gathered ++ bytes } })
   CopiesEntry : (bytes : List ℕ) → MayTake (IsRaw plan lane) s true bytes
-      → Turn plan lane s made no_news (record s { lane = record s.lane { got = s.lane.got + 1; phase = Copied; gathered = s.lane.gathered ++ bytes } })
+      → Turn plan lane s made (record no_news { change = PartIsCopied }) (record s { lane = record s.lane { got = s.lane.got + 1; phase = Copied; gathered = s.lane.gathered ++ bytes } })
   CopiesLast : (bytes : List ℕ) → MayTake (IsRaw plan lane) s false bytes
-      → Turn plan lane s made (record no_news { delivered = record { number = s.lane.done; bytes = s.lane.gathered ++ bytes } ∷ [] })
+      → Turn plan lane s made (record no_news { delivered = record { number = s.lane.done; bytes = s.lane.gathered ++ bytes } ∷ []; change = PartIsCopied })
       (record s {
         lane = record s.lane { got = s.lane.got + 1; phase = Copied; gathered = []; done = s.lane.done + 1 };
         tally = updated s.tally s.session (more_delivered (s.tally s.session));
       })
-  Clears : MayClear s → Turn plan lane s made (record no_news { ring = ring_cleared s.lane.cleared }) (record s { lane = record s.lane { cleared = s.lane.cleared + 1; phase = Cleared } })
-  Acks : MayAck s → Turn plan lane s made no_news (posted Receiver (Index lane.queue s.lane.acked) (record s { lane = record s.lane { acked = s.lane.acked + 1; phase = Idle } }))
+  Clears : MayClear s → Turn plan lane s made (record no_news { ring = ring_cleared s.lane.cleared; change = FlagsAreCleared }) (record s { lane = record s.lane { cleared = s.lane.cleared + 1; phase = Cleared } })
+  Acks : MayAck s → Turn plan lane s made (record no_news { change = IndexIsPosted }) (posted Receiver (Index lane.queue s.lane.acked) (record s { lane = record s.lane { acked = s.lane.acked + 1; phase = Idle } }))
   -- doorbells
   TakesBells : (e : Role) → Turn plan lane s made (record no_news { sees = sees_taken lane.queue e (without_bits (end_at s e).pending (end_at s e).masked) }) (with_number PendingBells e (bit_and (end_at s e).pending (end_at s e).masked) s)
   Masks : (e : Role) (masked : ℕ) → Turn plan lane s made no_news (with_number MaskedBells e masked s)

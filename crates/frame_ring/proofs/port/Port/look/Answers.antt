@@ -8,7 +8,7 @@ use Rattle.frame_ring.specs.Port.{PortState}
 use Rattle.frame_ring.specs.Ports.{port_seen}
 use Rattle.frame_ring.specs.Rings.{header_of}
 use Rattle.frame_ring.specs.PortView.{bytes_seen}
-use Rattle.frame_ring.proofs.Finding.{finds, flags_touch, look_touches}
+use Rattle.frame_ring.proofs.Finding.{finds, flags_touch, look_touches, on_err}
 use Rattle.frame_ring.proofs.port.Port.look.Goals as goal
 use Rattle.frame_ring.proofs.port.Port.look.Goals.{In-Ready}
 
@@ -28,6 +28,9 @@ found c =
     let by_header = ap (found_with (sizes_in port.plan (layout_to port.plan port.side port.queue)) port.receiving.got (length port.receiving.gathered)) header in
     let at : FindsEntry port bridge = finds port bridge _ c.in-Ready.number c.in-Ready.len idle by_header c.in-Ready.ensures.value in
     subst (λ (port : PortState). FindsEntry port bridge) c.self.view_is at
+
+pub returns-in_err-find-in-Ready-clause-wants : goal.returns-in_err-find-in-Ready-clause-wants
+returns-in_err-find-in-Ready-clause-wants c = on_err _ (found (goal.at.returns-in_err-find-in-Ready-clause-wants c).In-Ready)
 
 pub returns-in_err-find-in-Ready-clause-pages : goal.returns-in_err-find-in-Ready-clause-pages
 returns-in_err-find-in-Ready-clause-pages c = look_touches c.args.self.now c.args.pair.now _ _ (found (goal.at.returns-in_err-find-in-Ready-clause-pages c).In-Ready) c.find.ensures.pages
