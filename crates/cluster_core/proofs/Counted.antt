@@ -1,10 +1,7 @@
 -- What a cluster counts is what its log has.
-use Rattle.std.proofs.Common.{◌≡◌, ◌∙◌, ℕ, ◌+◌, List, count_by, length, ap, sym}
+use Rattle.std.proofs.Common.{◌∙◌, ℕ, ◌+◌, List, count_by, length, ap, sym}
 use Rattle.step_kinds.specs.declared.names.LaneName.{LaneName}
 use Rattle.step_kinds.specs.declared.plan.Counters.{Counters}
-use Rattle.step_kinds.specs.declared.plan.DevPlan.{DevPlan}
-use Rattle.step_kinds.specs.declared.plan.Plan.{Plan}
-use Rattle.step_kinds.specs.declared.steps.Step.{Step}
 use Rattle.plan_model.specs.Plans.{dev_plan}
 use Rattle.ledger_model.specs.Log.{Answered, Numbered, accepted, counters_in, delivered, first_session, trains}
 use Rattle.memory_model.specs.Memory.{memory_of}
@@ -12,7 +9,7 @@ use Rattle.fabric_core.specs.LogClauses.{AreCounters as AreBridgeCounters, IsAcc
 use Rattle.switch_laws.proofs.Bridges.{bridges_have_a_log}
 use Rattle.switch_laws.proofs.Readings.{log_reads_as_bridges}
 use Rattle.cluster_core.specs.Cluster.{ClusterState}
-use Rattle.cluster_core.specs.LogClauses.{AreCounters, HasMade, IsAccepted, IsDelivered, IsSession, log_after, network_after}
+use Rattle.cluster_core.specs.LogClauses.{AreCounters, IsAccepted, IsDelivered, IsSession, log_after, network_after}
 
 pub accepted_counted : (cluster : ClusterState) (lane : LaneName) (session count : ℕ) → IsBridgeAccepted cluster.fabric lane session count → IsAccepted cluster lane session count
 accepted_counted cluster lane session count own plan steps made =

@@ -1,5 +1,5 @@
 -- The network and the log after one step more, and what a step of each kind comes to.
-use Rattle.std.proofs.Common.{◌≡◌, ◌∙◌, ℕ, List, [], ◌∷◌, ◌++◌, refl, sym, ap}
+use Rattle.std.proofs.Common.{◌≡◌, ℕ, List, [], ◌∷◌, ◌++◌, refl, ap}
 use Rattle.step_kinds.specs.declared.plan.Plan.{Plan}
 use Rattle.step_kinds.specs.declared.steps.Answer.{Answer}
 use Rattle.step_kinds.specs.declared.steps.Step.{Step}
@@ -7,9 +7,8 @@ use Rattle.step_kinds.specs.declared.steps.Step.TheVariants.{Copy, Relay, Xnext}
 use Rattle.ledger_model.specs.Log.{Answered, Memories}
 use Rattle.memory_model.specs.Memory.{memory_of}
 use Rattle.switch_model.specs.Switch.{Switch}
-use Rattle.switch_log.specs.Network.{Network, OnBridge, action_of, items_from, made_after, network_from, next_item, next_network, switches_reached}
+use Rattle.switch_log.specs.Network.{Network, OnBridge, action_of, items_from, network_from, next_item, next_network, switches_reached}
 use Rattle.switch_log.specs.Origins.{Keeping, bytes_kept}
-use Rattle.switch_log.specs.Log.{network_of, switch_log}
 use Rattle.cluster_core.specs.LogClauses.{log_after, network_after}
 use Rattle.cluster_core.specs.Parts.{part_of}
 use Rattle.cluster_core.specs.declared.parts.StepPart.TheVariants.{OnBridges}

@@ -1,5 +1,5 @@
 -- A step that was refused is refused again, and the cluster has made it as often.
-use Rattle.std.proofs.Common.{◌≡◌, ◌∙◌, ℕ, true, false, List, [], ◌∷◌, ◌++◌, Result, Ok, Err, refl, sym, ap, subst}
+use Rattle.std.proofs.Common.{◌≡◌, ◌∙◌, ℕ, true, false, List, [], ◌∷◌, ◌++◌, Ok, refl, sym, ap, subst}
 use Rattle.std.proofs.lemmas.Bool.{true≢false}
 use Rattle.std.proofs.lemmas.List.{append_cancel_left}
 use Rattle.step_kinds.specs.declared.plan.Plan.{Plan}
@@ -12,13 +12,13 @@ use Rattle.ledger_laws.proofs.Facade.{log_of-last}
 use Rattle.ledger_laws.specs.Laws.{is_made}
 use Rattle.memory_model.specs.Memory.{memory_of}
 use Rattle.fabric_core.specs.LogClauses.{HasMade as HasMadeOnBridges, IsAnswered as IsAnsweredOnBridges}
-use Rattle.fabric_core.specs.Refusals.{RefusedAgain as RefusedAgainOnBridges, counts_refusals}
+use Rattle.fabric_core.specs.Refusals.{counts_refusals}
 use Rattle.fabric_core.proofs.RefusedAgain.{refused_again as refused_on_bridges}
 use Rattle.switch_model.specs.Switch.{Switch}
 use Rattle.switch_log.specs.Network.{Action, Network, OnBridge, action_of, item_of, made_after, network_after as network_then, session_after, switches_reached}
 use Rattle.switch_log.specs.Origins.{bytes_kept}
 use Rattle.cluster_core.specs.Cluster.{ClusterState}
-use Rattle.cluster_core.specs.LogClauses.{HasMade, IsAnswered, IsNetwork, log_after, network_after}
+use Rattle.cluster_core.specs.LogClauses.{IsAnswered, IsNetwork, log_after, network_after}
 use Rattle.cluster_core.specs.Refusals.{RefusedAgain, is_plain}
 use Rattle.cluster_core.proofs.Networks.{item_by, log-last, network-last, next_by}
 use Rattle.cluster_core.proofs.Stepping.{answered_so}

@@ -1,5 +1,5 @@
 -- What a cluster has made after one step more.
-use Rattle.std.proofs.Common.{◌≡◌, ◌∙◌, ℕ, Bool, true, false, List, [], ◌∷◌, ◌++◌, Option, Some, Result, Ok, Err, IfOk, OnOk, OnErr, ◌<◌, length, slice_get, refl, sym, ap, subst, arith, inl, inr, None}
+use Rattle.std.proofs.Common.{◌≡◌, ◌∙◌, ℕ, false, List, [], ◌∷◌, ◌++◌, Option, Some, Result, Ok, Err, IfOk, OnOk, OnErr, ◌<◌, length, slice_get, refl, sym, ap, subst, arith, inl, inr, None}
 use Rattle.std.proofs.lemmas.Bool.{true≢false}
 use Rattle.step_kinds.specs.declared.names.LaneName.{LaneName}
 use Rattle.step_kinds.specs.declared.names.Side.{Side}
@@ -7,7 +7,7 @@ use Rattle.step_kinds.specs.declared.plan.DevPlan.{DevPlan}
 use Rattle.step_kinds.specs.declared.plan.Plan.{Plan}
 use Rattle.step_kinds.specs.declared.plan.SwitchPlan.{SwitchPlan}
 use Rattle.step_kinds.specs.declared.steps.Answer.{Answer}
-use Rattle.step_kinds.specs.declared.steps.Answer.TheVariants.{Delivered, Nothing, OkNumber}
+use Rattle.step_kinds.specs.declared.steps.Answer.TheVariants.{Delivered, Nothing}
 use Rattle.step_kinds.specs.declared.steps.Step.{Step}
 use Rattle.step_kinds.specs.declared.steps.Step.TheVariants.{Copy, Relay, Xnext}
 use Rattle.plan_model.specs.Switches.{IsMakeable}

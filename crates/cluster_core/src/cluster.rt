@@ -156,6 +156,7 @@ impl Cluster {
         let Some(frame) = self.switches[place.switch as usize].first(place.port) else {
             return Ok(None);
         };
+        // (so that it is known to be no longer than a frame may be)
         let _len = frame.len();
         Ok(Some(NextFrame {
             place,

@@ -1,7 +1,5 @@
-use Rattle.std.proofs.Common.{◌≡◌, ◌∙◌, List, Result, Ok, Err, OnErr, OnOk, ⊎_elim, ◌⊎◌, inl, inr, sym, ap, subst, arith}
-use Rattle.learn_switch.specs.Frames.{Bytes}
+use Rattle.std.proofs.Common.{List, Result, Ok, Err, OnErr, OnOk, ◌⊎◌, inl, inr, subst, arith}
 use Rattle.step_kinds.specs.declared.plan.SwitchPlan.{SwitchPlan}
-use Rattle.switch_model.specs.Switch.{arrived}
 use Rattle.cluster_core.specs.Parts.{IsPortAmong}
 use Rattle.cluster_core.proofs.HavePorts.{have_arrived, inbox_within, switch_within}
 use Rattle.cluster_core.proofs.cluster.Cluster.arrive.Goals as goal

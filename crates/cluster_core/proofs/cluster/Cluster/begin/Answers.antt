@@ -1,13 +1,10 @@
-use Rattle.std.proofs.Common.{◌≡◌, subst, sym}
+use Rattle.std.proofs.Common.{subst, sym}
 use Rattle.std.proofs.lemmas.Result.{err_from_is_err_and}
-use Rattle.step_kinds.specs.declared.plan.Plan.{Plan}
-use Rattle.plan_model.specs.DeclaredPlans.{IsDeclared}
-use Rattle.plan_model.specs.Switches.{AreSwitches}
 use Rattle.cluster_core.specs.Cluster.{ClusterState, plan_held}
 use Rattle.cluster_core.specs.Clusters.{cluster_seen}
 use Rattle.cluster_core.specs.Parts.{HasDeviceOn}
 use Rattle.cluster_core.proofs.Declared.{device_on_bridges, queue_of_device}
-use Rattle.cluster_core.proofs.Stepping.{plan_after, sends, unstepped}
+use Rattle.cluster_core.proofs.Stepping.{sends, unstepped}
 use Rattle.cluster_core.proofs.cluster.Cluster.begin.Goals as goal
 
 pub step-requires : goal.step-requires

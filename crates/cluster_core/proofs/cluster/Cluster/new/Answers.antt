@@ -1,10 +1,8 @@
 use Rattle.std.proofs.Common.{◌≡◌, ◌∙◌, List, length, map, sym, ap, subst}
-use Rattle.step_kinds.specs.declared.plan.Plan.{Plan}
 use Rattle.step_kinds.specs.declared.plan.SwitchPlan.{SwitchPlan}
 use Rattle.plan_model.specs.DeclaredPlans.{IsDeclared}
 use Rattle.plan_model.specs.Switches.{AreSwitches}
 use Rattle.switch_model.specs.Switch.{new_switch}
-use Rattle.learn_switch.specs.Frames.{Bytes}
 use Rattle.cluster_core.specs.Cluster.{ClusterState}
 use Rattle.cluster_core.specs.Clusters.{HavePorts}
 use Rattle.cluster_core.proofs.Declared.{declared_bare, made_none, plan_new, switches_declared}

@@ -1,10 +1,10 @@
-use Rattle.std.proofs.Common.{◌≡◌, ◌∙◌, ℕ, ◌<◌, List, [], ◌∷◌, Some, length, slice_get, sym, ap, subst, arith}
+use Rattle.std.proofs.Common.{◌≡◌, ◌<◌, List, length, ap, subst, arith}
 use Rattle.step_kinds.specs.declared.plan.SwitchPlan.{SwitchPlan}
-use Rattle.switch_model.specs.Switch.{first, list_of}
+use Rattle.switch_model.specs.Switch.{list_of}
 use Rattle.learn_switch.specs.Frames.{Bytes}
 use Rattle.cluster_core.specs.Cluster.{ClusterState}
 use Rattle.cluster_core.specs.Clusters.{cluster_seen}
-use Rattle.cluster_core.specs.Moves.{CanBeSent, HasWaiting}
+use Rattle.cluster_core.specs.Moves.{HasWaiting}
 use Rattle.cluster_core.specs.Parts.{IsPortAmong}
 use Rattle.cluster_core.proofs.HavePorts.{switch_found, switch_within, waiting_within}
 use Rattle.cluster_core.proofs.Stepping.{sending_is, some_waits}

@@ -1,4 +1,4 @@
-use Rattle.std.proofs.Common.{◌≡◌, ◌∙◌, List, refl, sym, ap, subst, arith, set}
+use Rattle.std.proofs.Common.{◌∙◌, sym, ap, subst, arith, set}
 use Rattle.switch_log.specs.Network.{answer_of}
 use Rattle.switch_log.specs.Ports.{Port}
 use Rattle.learn_switch.specs.Frames.{Bytes, bytes_after_relay, bytes_relay_answer}

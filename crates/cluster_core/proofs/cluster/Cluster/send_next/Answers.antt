@@ -1,4 +1,4 @@
-use Rattle.std.proofs.Common.{◌≡◌, ◌∙◌, sym, ap}
+use Rattle.std.proofs.Common.{◌∙◌, sym, ap}
 use Rattle.cluster_core.specs.Moves.{sends_next}
 use Rattle.cluster_core.proofs.Stepping.{rests}
 use Rattle.cluster_core.proofs.cluster.Cluster.send_next.Goals as goal

@@ -1,4 +1,4 @@
-use Rattle.std.proofs.Common.{◌≡◌, ◌∙◌, sym}
+use Rattle.std.proofs.Common.{◌∙◌, sym}
 use Rattle.cluster_core.specs.Cluster.{plan_held}
 use Rattle.cluster_core.specs.Clusters.{cluster_seen}
 use Rattle.cluster_core.proofs.Stepping.{by_copying, by_relay, by_sending, on_bridges, relays, sending_device}

@@ -1,5 +1,5 @@
-use Rattle.std.proofs.Common.{◌≡◌, ◌∙◌, ◌<◌, List, length, refl, sym, ap, subst, arith, set}
-use Rattle.switch_model.specs.Switch.{list_of, sent}
+use Rattle.std.proofs.Common.{◌<◌, length, sym, subst, arith}
+use Rattle.switch_model.specs.Switch.{list_of}
 use Rattle.learn_switch.specs.Frames.{Bytes}
 use Rattle.cluster_core.specs.Cluster.{ClusterState}
 use Rattle.cluster_core.specs.Moves.{HasWaiting}
