@@ -1,4 +1,4 @@
-use Rattle.std.proofs.Common.{◌≡◌, ◌∙◌, List, replicate, sym, ap, subst}
+use Rattle.std.proofs.Common.{◌≡◌, ◌∙◌, replicate, sym, ap, subst}
 use Rattle.std.specs.List.{All}
 use Rattle.step_kinds.specs.declared.steps.Step.{Step}
 use Rattle.plan_model.specs.Switches.{IsMakeable}
