@@ -5,7 +5,7 @@ DESTDIR =
 lib = $(DESTDIR)$(PREFIX)/lib/ntbsim
 bin = $(DESTDIR)$(PREFIX)/bin
 share = $(DESTDIR)$(PREFIX)/share
-tools = ntblist ntbdraw ntbjoin ntbtest
+tools = ntblist ntbdraw ntbjoin ntbtest ntbcheck ntbpage ntbpcap
 program = crates/ntbsim/out/ntbsim
 
 all:
@@ -22,7 +22,8 @@ install:
 		$(share)/vim/vimfiles/ftdetect
 	cp ntbsim $(lib)
 	for tool in $(tools); do cp tools/$$tool $(lib)/tools && ln -sf ../lib/ntbsim/tools/$$tool $(bin)/$$tool || exit 1; done
-	cp tools/*.awk tools/words.sh tools/program.sh $(lib)/tools
+	cp tools/*.awk tools/forms.txt tools/words.sh tools/program.sh tools/scripts.sh $(lib)/tools
+	cp tools/trace.sh tools/page.html tools/page*.css tools/page*.js $(lib)/tools
 	ln -sf ../lib/ntbsim/ntbsim $(bin)/ntbsim
 	cp docs/ntbsim.1 $(share)/man/man1
 	cp tools/complete/ntbsim.bash $(share)/bash-completion/completions/ntbsim

@@ -92,7 +92,7 @@ build() {
 
 # Where the compiled program without proof is kept, for these sources and this kit.
 unproved_path() {
-    printf '%s/%s\n' "$cache" "$({ source_lines src && rt version; } | sum)"
+    printf '%s/%s\n' "$cache" "$({ source_lines src && rt version </dev/null; } | sum)"
 }
 
 # The compiled program without proof: from the user's cache, or compiled now. The toolchain compiles a program only to run it; so

@@ -1,49 +1,11 @@
 # Draws a script's traffic by sessions, as an SVG: what `run` delivered and left in each, or what `stream` brought, or both side by
 # side. Behind the script stand one or two texts: that of a run, whole or joined by tools/ntbjoin, and that of a stream. Each lane is
 # a band with a row for each session; across stand the frames of its traffic, by their numbers. tools/ntbdraw runs it behind
-# stream.awk. All numbers are whole, so that each awk writes the same bytes.
-
-function escape(text) {
-    gsub(/&/, "\\&amp;", text)
-    gsub(/</, "\\&lt;", text)
-    gsub(/>/, "\\&gt;", text)
-    return text
-}
-
-function keep(element) {
-    page[++elements] = element
-}
-
-function put(x, y, class, text) {
-    keep(sprintf("<text x=\"%d\" y=\"%d\" class=\"%s\">%s</text>", x, y, class, escape(text)))
-}
-
-function rule(x1, y1, x2, y2, class) {
-    keep(sprintf("<line x1=\"%d\" y1=\"%d\" x2=\"%d\" y2=\"%d\" class=\"%s\"/>", x1, y1, x2, y2, class))
-}
-
-function box(x, y, wide, high, class) {
-    keep(sprintf("<rect x=\"%d\" y=\"%d\" width=\"%d\" height=\"%d\" class=\"%s\"/>", x, y, wide, high, class))
-}
+# stream.awk and svg.awk.
 
 function fail(why) {
     print "ntbdraw: " why > "/dev/stderr"
     exit 1
-}
-
-# Writes a text in lines of at most so many letters from y on, and gives back the y behind it.
-function wrapped(x, y, class, text, most,    words, count, i, row) {
-    count = split(text, words, " ")
-    for (i = 1; i <= count; i++) {
-        if (row != "" && length(row) + 1 + length(words[i]) > most) {
-            put(x, y, class, row)
-            y += 19
-            row = ""
-        }
-        row = row (row == "" ? "" : " ") words[i]
-    }
-    put(x, y, class, row)
-    return y + 19
 }
 
 # The script
@@ -269,11 +231,6 @@ function legend(class, text) {
     legend_x += 52 + int(length(text) * 7)
 }
 
-function remark(text) {
-    put(8, legend_y, "note", text)
-    legend_y += 18
-}
-
 function draw_legend(    lane, losses, whole) {
     for (lane = 1; lane <= lanes; lane++)
         if (!hidden[lane] && sessions[lane] > 1)
@@ -326,11 +283,5 @@ END {
         y = wrapped(8, y, "title", title[number], int((wide - 16) * 10 / 72))
     legend_y = draw_lanes(y + 12)
     draw_legend()
-    printf "<svg xmlns=\"http://www.w3.org/2000/svg\" width=\"%d\" height=\"%d\" viewBox=\"0 0 %d %d\">\n", wide, legend_y - 4, wide, legend_y - 4
-    printf "<title>%s</title>\n", escape(titles ? title[1] : "A script's traffic by sessions")
-    style()
-    printf "<rect width=\"%d\" height=\"%d\" class=\"paper\"/>\n", wide, legend_y - 4
-    for (number = 1; number <= elements; number++)
-        print page[number]
-    print "</svg>"
+    print_svg(wide, legend_y - 4, titles ? title[1] : "A script's traffic by sessions")
 }

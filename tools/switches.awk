@@ -1,44 +1,7 @@
 # Draws a script with switches and its answers, as an SVG: its pairs side by side, and between the first pair and the others the
 # switches, with how many frames stand in the inbox of each port and wait there. Time runs downward, one row for each line of
 # the script, or for a run of the same lines. An arrow is an entry of a ring, from the row in which its flags were posted to the row
-# in which they landed. tools/ntbdraw runs it behind stream.awk, where no pair was chosen. All numbers are whole.
-
-function escape(text) {
-    gsub(/&/, "\\&amp;", text)
-    gsub(/</, "\\&lt;", text)
-    gsub(/>/, "\\&gt;", text)
-    return text
-}
-
-function width(letters) {
-    return int(letters * 73 / 10) + 1
-}
-
-function shown(text, most) {
-    text = plain(cut(text, 20, 4))
-    return length(text) > most ? substr(text, 1, most - 2) ".." : text
-}
-
-function keep(element) {
-    page[++elements] = element
-}
-
-function put(x, y, class, text) {
-    keep(sprintf("<text x=\"%d\" y=\"%d\" class=\"%s\">%s</text>", x, y, class, escape(text)))
-}
-
-function rule(x1, y1, x2, y2, class) {
-    keep(sprintf("<line x1=\"%d\" y1=\"%d\" x2=\"%d\" y2=\"%d\" class=\"%s\"/>", x1, y1, x2, y2, class))
-}
-
-function box(x, y, wide, high, class) {
-    keep(sprintf("<rect x=\"%d\" y=\"%d\" width=\"%d\" height=\"%d\" class=\"%s\"/>", x, y, wide, high, class))
-}
-
-function cross(x, y) {
-    rule(x - 4, y - 4, x + 4, y + 4, "cross")
-    rule(x - 4, y + 4, x + 4, y - 4, "cross")
-}
+# in which they landed. tools/ntbdraw runs it behind stream.awk, trace.awk and svg.awk, where no pair was chosen.
 
 function middle(row) {
     return top + (row - 1) * high + int(high / 2)
@@ -52,13 +15,10 @@ function peer(side) {
 
 function declare(words, count,    i) {
     if (words[1] == "pair") {
-        name[++pairs] = words[2]
+        pair_name[++pairs] = words[2]
         pair_at[words[2]] = pairs
         host[pairs, "A"] = words[3]
         host[pairs, "B"] = words[4]
-        for (i = 5; i <= count; i++)
-            if (words[i] == "up")
-                is_up[pairs] = 1
     } else if (words[1] == "dev") {
         dev_pair[words[2]] = pair_at[words[3]]
         dev_side[words[2]] = words[4]
@@ -77,29 +37,26 @@ function declare(words, count,    i) {
 
 # Rings and switches
 
-function post(pair, side, queue, number) {
+# The step that was taken apart posts the flags of an entry, or lands them.
+function post(pair, side) {
     arrows++
     arrow_pair[arrows] = pair
     arrow_side[arrows] = side
     arrow_post[arrows] = rows
-    arrow_how[arrows] = is_up[pair] ? "flying" : "lost"
-    flying[pair, side, queue, number, session[pair] + 0] = arrows
+    arrow_how[arrows] = member["write"] == "null" ? "lost" : "flying"
+    arrow_at[pair, side, member["write"]] = arrows
 }
 
-function land(pair, side, queue, number,    arrow) {
-    arrow = flying[pair, side, queue, number, session[pair] + 0]
-    if (arrow) {
-        arrow_how[arrow] = "landed"
-        arrow_end[arrow] = rows
-    }
+function end_arrow(how, pair, side, write) {
+    if (!((pair, side, write) in arrow_at))
+        return
+    arrow_how[arrow_at[pair, side, write]] = how
+    arrow_end[arrow_at[pair, side, write]] = rows
 }
 
-function drop(pair,    i) {
-    for (i = 1; i <= arrows; i++)
-        if (arrow_pair[i] == pair && arrow_how[i] == "flying") {
-            arrow_how[i] = "dropped"
-            arrow_end[i] = rows
-        }
+function drop(pair, side,    i) {
+    for (i = 0; ("dropped." side "." i) in member; i++)
+        end_arrow("dropped", pair, side, member["dropped." side "." i])
 }
 
 # The frames that stand at a port changed by so many.
@@ -109,101 +66,85 @@ function change(switch_number, port, more_in, more_waiting) {
     count_at[switch_number, port, rows] = inbox[switch_number, port] " / " waiting[switch_number, port]
 }
 
-function relayed(switch_number, port, said,    other) {
-    if (said[1] == "nothing")
+function relayed(switch_number, port, answer,    other) {
+    if (answer == "nothing")
         return
     change(switch_number, port, -1, 0)
-    if (said[1] == "to")
-        change(switch_number, said[2], 0, 1)
-    else if (said[1] == "flood")
+    if (answer == "to")
+        change(switch_number, member["answer.port"], 0, 1)
+    else if (answer == "flood")
         for (other = 0; other < ports[switch_number]; other++)
             if (other != port)
                 change(switch_number, other, 0, 1)
 }
 
-# What one answer changes.
-function follow(words, pair, side, queue, said) {
-    if (said[1] == "posted" && said[2] ~ /^(flag|down)$/)
-        post(pair, side, said[3], said[4])
-    else if (said[1] == "landed" && said[2] ~ /^(flag|down)$/)
-        land(pair, side, said[3], said[4])
-    else if (said[1] == "frame" && (pair, side, queue) in port_switch)
-        change(port_switch[pair, side, queue], port_place[pair, side, queue], 1, 0)
-    else if (words[1] == "relay")
-        relayed(switch_at[words[2]], words[3], said)
-    else if (words[1] == "xnext" && said[1] == "ok")
-        change(port_switch[pair, side, queue], port_place[pair, side, queue], 0, -1)
-    else if (words[1] == "break" && said[1] == "ok")
-        is_up[pair] = 0
-    else if (words[1] == "train" && said[1] == "ok") {
-        is_up[pair] = 1
-        session[pair]++
-    } else if (words[1] == "drop" && said[1] == "ok")
-        drop(pair)
-}
-
-# The text of a row, by its answers: a delivered frame, the number of writes that landed, or the first answer.
-function row_says(words, answer, landed, frame) {
-    if (frame != "")
-        return frame
-    return landed > 1 ? landed " landed" : words[1] ~ /^post$/ ? "posted" : answer
-}
-
-function is_refusal(word) {
-    return word ~ /^(notdown|dirty|notenabled|spent|notup|notclosing|linkdown|already|notyet|notchecked|notready|closed|toolong|busy)$/ ||
-        word ~ /^(stopped|again|idle|nothing|blocked|outofturn|empty|verdiffers|long|short|filtered)$/
-}
-
-function follow_line(number,    words, count, pair, side, queue, said, answer, first_answer, landed, frame) {
-    count = words_of(line[number], words)
-    if (part == "") {
-        if (words[1] == "steps")
-            part = "steps"
+# What the step that was taken apart changes.
+function follow(step, answer,    pair, side, at_port) {
+    pair = pair_at[member["step.pair"]]
+    side = member["step.side"]
+    at_port = pair SUBSEP side SUBSEP member["step.queue"]
+    if ((step == "post" || step == "land") && member["answer.label.name"] ~ /^(flag|down)$/) {
+        if (step == "post")
+            post(pair, side)
         else
-            declare(words, count)
-        return
+            end_arrow("landed", pair, side, member["write"])
+    } else if (answer == "frame" && at_port in port_switch)
+        change(port_switch[at_port], port_place[at_port], 1, 0)
+    else if (step == "relay")
+        relayed(switch_at[member["step.switch"]], member["step.port"], answer)
+    else if (step == "xnext" && answer == "ok")
+        change(port_switch[at_port], port_place[at_port], 0, -1)
+    else if ("dropped.A" in member || "dropped.A.0" in member || "dropped.B.0" in member) {
+        drop(pair, "A")
+        drop(pair, "B")
     }
-    if (!(at <= NR && answers(line[at], number)))
-        return
-    if (words[1] == "relay") {
-        pair = side = queue = ""
-    } else if (words[1] ~ /^(xmit|xbegin|wake|xnext)$/) {
-        pair = dev_pair[words[2]]
-        side = dev_side[words[2]]
-        queue = dev_queue[words[2]]
-    } else {
-        pair = pair_at[words[2]]
-        side = words[3]
-        queue = words[4] + 0
-    }
-    if (!rows || line[number] != line[row_line[rows]] || words[1] !~ /^(post|land)$/) {
+}
+
+# A row for a line, or for a run of the same lines; 0 where the picture is full.
+function new_row(number, word) {
+    if (!rows || line[number] != line[row_line[rows]] || word !~ /^(post|land)$/) {
         if (rows >= 300) {
             left_out++
-            while (at <= NR && answers(line[at], number))
-                at++
-            return
+            return 0
         }
         row_line[++rows] = number
     }
     row_times[rows]++
-    while (at <= NR && answers(line[at], number)) {
-        answer = line[at++]
-        sub(/^[0-9]+ /, "", answer)
-        split(answer, said, " ")
-        if (first_answer == "")
-            first_answer = answer
-        if (said[1] == "landed")
-            landed++
-        if (said[1] == "frame")
-            frame = "frame " said[2] ", " (said[3] == "-" ? 0 : length(said[3]) / 2) " bytes"
-        follow(words, pair, side, queue, said)
+    return 1
+}
+
+# What a row says: a delivered frame, the number of writes that landed, or the first answer; of a switch, the port too.
+function end_row(word, landed, frame, first_said, step, answer) {
+    row_pair[rows] = pair_at[member["step.pair"]]
+    row_side[rows] = word ~ /^land/ ? peer(member["step.side"]) : member["step.side"]
+    row_switch[rows] = word == "relay" ? switch_at[member["step.switch"]] : 0
+    if (word == "relay")
+        row_text[rows] = "port " member["step.port"] ": " first_said
+    else
+        row_text[rows] = frame != "" ? frame : landed > 1 ? landed " landed" : word == "post" ? "posted" : first_said
+    row_look[rows] = frame != "" ? "frame" : is_refusal(step, answer) && !landed ? "refused" : "plain"
+}
+
+# The steps of the line of the script whose first one is at `at`.
+function follow_line(number,    words, has_row, landed, frame, first_said, step, answer) {
+    words_of(line[number], words)
+    has_row = new_row(number, words[1])
+    for (; at <= NR && script_line(at) == number; at++) {
+        if (!has_row)
+            continue
+        take_apart(line[at])
+        if (first_said == "") {
+            first_said = said
+            step = member["step.name"]
+            answer = member["answer.name"]
+        }
+        landed += member["answer.name"] == "landed"
+        if (member["answer.name"] == "frame")
+            frame = "frame " member["answer.number"] ", " length(member["answer.frame"]) / 2 " bytes"
+        follow(member["step.name"], member["answer.name"])
     }
-    row_pair[rows] = pair
-    row_side[rows] = words[1] ~ /^land/ ? peer(side) : side
-    row_switch[rows] = words[1] == "relay" ? switch_at[words[2]] : 0
-    row_text[rows] = words[1] == "relay" ? "port " words[3] ": " first_answer : row_says(words, first_answer, landed, frame)
-    split(frame == "" ? first_answer : frame, said, " ")
-    row_look[rows] = is_refusal(said[1]) && !landed ? "refused" : said[1] == "frame" ? "frame" : "plain"
+    if (has_row)
+        end_row(words[1], landed, frame, first_said, step, answer)
 }
 
 # The page
@@ -254,8 +195,8 @@ function draw_head(    i, port) {
         put(8, 24 + 19 * (i - 1), "title", title[i])
     for (i = 1; i <= pairs; i++) {
         box(at_side[i, "A"], top - 4, 160, bottom - top + 4, "up")
-        put(at_side[i, "A"], top - 12, "head", host[i, "A"] " (" name[i] " A)")
-        put(at_side[i, "B"], top - 12, "head", host[i, "B"] " (" name[i] " B)")
+        put(at_side[i, "A"], top - 12, "head", host[i, "A"] " (" pair_name[i] " A)")
+        put(at_side[i, "B"], top - 12, "head", host[i, "B"] " (" pair_name[i] " B)")
     }
     for (i = 1; i <= switches; i++) {
         box(at_switch[i], top - 4, 64 * ports[i] + 130, bottom - top + 4, "switch")
@@ -269,8 +210,8 @@ function draw_rows(    row, i, port, text) {
     for (row = 1; row <= rows; row++) {
         rule(8, middle(row) - 9, wide - 8, middle(row) - 9, "row")
         put(32, middle(row) + 4, "right script", row_line[row])
-        put(40, middle(row) + 4, "script", shown(line[row_line[row]], 36))
-        text = shown(row_text[row], 17) (row_times[row] > 1 ? ", " row_times[row] "x" : "")
+        put(40, middle(row) + 4, "script", shown(line[row_line[row]], 36, 20))
+        text = shown(row_text[row], 17, 20) (row_times[row] > 1 ? ", " row_times[row] "x" : "")
         if (row_switch[row])
             put(at_switch[row_switch[row]] + 6, middle(row) + 4, row_look[row], text)
         else if (row_side[row] == "A" || row_side[row] == "")
@@ -296,7 +237,7 @@ function draw_arrows(    i, from, to, y) {
             y = arrow_how[i] == "lost" ? middle(arrow_post[i]) + 6 : y
             rule(from, middle(arrow_post[i]), to, y, "flag")
             if (arrow_how[i] != "flying")
-                cross(to, y)
+                cross(to, y, "cross")
         }
     }
     for (i = 1; i <= pairs; i++) {
@@ -305,16 +246,11 @@ function draw_arrows(    i, from, to, y) {
     }
 }
 
-function remark(text) {
-    put(8, legend_y, "note", text)
-    legend_y += 18
-}
-
 function draw_counts(    i) {
     legend_y = bottom + 24
-    for (i = at; i <= NR; i++)
-        if (is_count(line[i])) {
-            put(8, legend_y, "", line[i])
+    for (i = first; i <= NR; i++)
+        if (count_text(i) != "") {
+            put(8, legend_y, "", count_text(i))
             legend_y += 18
         }
     remark("An arrow is an entry, from the post of its flags to their landing. Under a port: frames in its inbox / frames that wait.")
@@ -340,26 +276,23 @@ function style() {
 }
 
 END {
-    first = start_of_report()
-    if (first > NR) {
-        print "ntbdraw: no answers follow the script: give a script and then its report on standard input" > "/dev/stderr"
-        exit 1
-    }
+    first = start_of_trace()
+    check_trace("ntbdraw", first)
     read_title(first)
-    at = first
-    for (number = 2; number < first; number++)
+    for (number = 2; number < first && line[number] !~ /^ *(steps|traffic) *\r?$/; number++)
         if (line[number] !~ /^ *#/)
-            follow_line(number)
+            {
+            count = words_of(line[number], words)
+            declare(words, count)
+        }
+    for (at = first + 1; at <= NR && kind_at(at) == "pair"; at++)
+        ;
+    while (at <= NR && script_line(at))
+        follow_line(script_line(at))
     lay_out()
     draw_head()
     draw_rows()
     draw_arrows()
     draw_counts()
-    printf "<svg xmlns=\"http://www.w3.org/2000/svg\" width=\"%d\" height=\"%d\" viewBox=\"0 0 %d %d\">\n", wide, legend_y, wide, legend_y
-    printf "<title>%s</title>\n", escape(titles ? title[1] : "A script with its answers")
-    style()
-    printf "<rect width=\"%d\" height=\"%d\" class=\"paper\"/>\n", wide, legend_y
-    for (number = 1; number <= elements; number++)
-        print page[number]
-    print "</svg>"
+    print_svg(wide, legend_y, titles ? title[1] : "A script with its answers")
 }

@@ -9,6 +9,8 @@ number=0.1.0
 commands() {
     cat <<'END'
 replay < SCRIPT|make the steps of a script and print the report
+trace < SCRIPT|make the steps of a script and print each with its answer as JSON, one object a line
+check < SCRIPT|say how much a script declares, or at which line and word it is refused, and why
 run < SCRIPT|send a script's traffic by threads and print what each session delivered and left
 stream < SCRIPT|send a script's traffic by threads as resumable streams and print what each lane brought
 reads < TEXT|make the writes and reads of a text on one bridge and print their answers
@@ -19,8 +21,12 @@ END
 # The words that this script answers itself. FILE may be -, standard input.
 options() {
     cat <<'END'
+--check FILE..|how much each script declares, or where it is refused and what was wanted there; of a folder, all scripts below it
 --show FILE|the answers as a listing: each line of the script with its answers under it
 --draw FILE [PAIR] [lines=K-L] [queue=Q]|the answers as a picture, an SVG on standard output
+--json FILE|the trace of a script: each step with its answer as JSON, one object a line
+--page FILE [PAIR]|a page on standard output, in which a browser goes through the steps and shows what stands after each
+--pcap FILE [PAIR]|the Ethernet frames that devices got, as a capture (pcapng) on standard output
 --test [--tap] FILE..|whether the answers are those that the script's conditions say; of a folder, all scripts below it
 --build|prove and build the program, once (some minutes); later runs are then proved
 --program|print the path of the program that answers, for a loop of many calls
@@ -56,28 +62,7 @@ wrong() {
 
 # The command or option that is spelled most nearly as a word, if one is near.
 nearest() {
-    { commands && options; } | LC_ALL=C WORD=$1 awk -F '[ |]' '
-        function least(a, b) { return a < b ? a : b }
-        function distance(a, b,    i, j, row, above, corner) {
-            for (j = 0; j <= length(b); j++) row[j] = j
-            for (i = 1; i <= length(a); i++) {
-                corner = row[0]
-                row[0] = i
-                for (j = 1; j <= length(b); j++) {
-                    above = row[j]
-                    row[j] = least(least(above, row[j - 1]) + 1, corner + (substr(a, i, 1) != substr(b, j, 1)))
-                    corner = above
-                }
-            }
-            return row[length(b)]
-        }
-        BEGIN { word = substr(ENVIRON["WORD"], 1, 40); best = 3 }
-        {
-            far = distance(word, $1)
-            if ($1 ~ /^--/) far = least(far, distance("--" word, $1))
-            if (far < best && far < length($1) - 1) { best = far; name = $1 }
-        }
-        END { print name }'
+    { commands && options; } | LC_ALL=C WORD=$1 awk -f "$top/tools/near.awk" -f "$top/tools/near_command.awk"
 }
 
 # The form of a command, `replay < SCRIPT`; nothing where there is no such command.

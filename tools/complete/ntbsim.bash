@@ -9,9 +9,11 @@ _ntbsim() {
         return
     fi
     case ${COMP_WORDS[1]} in
-    --show | --draw | --test)
+    --check | --show | --draw | --json | --page | --pcap | --test)
         # shellcheck disable=SC2207
-        COMPREPLY=($(compgen -f -X '!*.ntb' -- "$word") $(compgen -f -X '!*.reads' -- "$word") $(compgen -d -- "$word"))
+        COMPREPLY=($(compgen -f -X '!*.ntb' -- "$word") $(compgen -d -- "$word"))
+        # shellcheck disable=SC2207
+        [ "${COMP_WORDS[1]}" = --json ] || COMPREPLY+=($(compgen -f -X '!*.reads' -- "$word"))
         [ "${COMP_WORDS[1]}" != --test ] || [[ --tap != "$word"* ]] || COMPREPLY+=(--tap)
         ;;
     esac

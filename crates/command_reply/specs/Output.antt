@@ -34,4 +34,4 @@ refused_at line cause = one_line Refused (codes "refused line " ++ decimal line 
 
 -- a script with a fault: its first line that has one, and that line's first fault
 abbrev pub refused : ScriptFault → Output
-refused fault = refused_at fault.line (cause_text fault.cause)
+refused fault = refused_at fault.line (cause_text fault.fault.cause)

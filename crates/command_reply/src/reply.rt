@@ -1,6 +1,6 @@
 //! A reply: the exit status and the text that a command answers.
 
-ghost use Rattle.std.specs.Prelude.{◌≡◌, ◌<◌, length};
+ghost use Rattle.std.specs.Prelude.{◌≡◌, ◌<◌, ◌≤◌, length};
 ghost use Rattle.command_reply.specs.Output.{done, one_line, refused, refused_at, too_long, usage};
 
 use crate::Status;
@@ -10,7 +10,7 @@ use script_words::ScriptFault;
 use std::marker::Model;
 
 /// The most bytes of a line that a reply keeps in place, its line feed counted.
-const MOST_LINE_BYTES: usize = 64;
+const MOST_LINE_BYTES: usize = 96;
 
 // A text: one short line, which takes no memory, or bytes that were put together.
 #[derive(Drop)]
@@ -49,9 +49,9 @@ impl Reply {
         }
     }
 
-    /// A reply of one line, kept in place: a text of less than 64 bytes, and a line feed.
+    /// A reply of one line, kept in place: a text of less than 96 bytes, and a line feed.
     pub fn line(status: Status, text: &str) -> Reply
-        requires { length text.now < 64 }
+        requires { length text.now < 96 }
         ensures { result ≡ one_line status text.now }
     {
         let mut line = ArrayString::new();
@@ -77,10 +77,10 @@ impl Reply {
         Reply::line(Status::TooLong, "too long")
     }
 
-    /// The reply to an input that is refused at a line, by a cause of less than 32 bytes: status 3, and
+    /// The reply to an input that is refused at a line, by a cause of at most 64 bytes: status 3, and
     /// `refused line L CAUSE`.
     pub fn refused_at(line: u32, cause: &str) -> Reply
-        requires { length cause.now < 32 }
+        requires { length cause.now ≤ 64 }
         ensures { result ≡ refused_at line cause.now }
     {
         let mut number = Buffer::new();
@@ -100,7 +100,7 @@ impl Reply {
     pub fn refused(fault: ScriptFault) -> Reply
         ensures { result ≡ refused fault }
     {
-        Reply::refused_at(fault.line, fault.cause.word())
+        Reply::refused_at(fault.line, fault.fault.cause.word())
     }
 
     /// The exit status, 0 or 2 to 7.

@@ -1,13 +1,15 @@
 -- What answers a command, given the bytes that were read: the outputs that it may answer, each with what is true of it.
 use Rattle.std.specs.Prelude.{◌≡◌, ℕ, Option, Some, None, List, length, nat_lt, MatchBool}
 use Rattle.step_kinds.specs.Limits.{most_script_bytes}
+use Rattle.check_command.specs.Answers.{IsCheckOf}
 use Rattle.command_reply.specs.Output.{Output, too_long, usage}
 use Rattle.replay_command.specs.Answers.{IsLoadOf, IsReplayOf}
 use Rattle.reads_command.specs.Answers.{IsReadsOf}
 use Rattle.run_command.specs.Answers.{Carried, IsRunOf, nothing_carried}
+use Rattle.trace_command.specs.Answers.{IsTraceOf}
 use Rattle.stream_command.specs.Answers.{IsStreamOf, Streamed, nothing_streamed}
 use Rattle.ntb_top.specs.declared.command.Command.{Command}
-use Rattle.ntb_top.specs.declared.command.Command.TheVariants.{Load, Reads, Replay, Run, Stream}
+use Rattle.ntb_top.specs.declared.command.Command.TheVariants.{Check, Load, Reads, Replay, Run, Stream, Trace}
 
 -- A case for each command: a relation, since several texts of `run` are right. What comes with a text of `run` and of `stream` is said in `Ends`.
 abbrev pub IsReplyOf : Command → List ℕ → Output → Type 0
@@ -16,6 +18,8 @@ IsReplyOf (Load seed frames) bytes output = IsLoadOf seed frames output
 IsReplyOf Run bytes output = (carried : Carried) × IsRunOf bytes output carried
 IsReplyOf Stream bytes output = (streamed : Streamed) × IsStreamOf bytes output streamed
 IsReplyOf Reads bytes output = IsReadsOf bytes output
+IsReplyOf Trace bytes output = IsTraceOf bytes output
+IsReplyOf Check bytes output = IsCheckOf bytes output
 
 -- `usage` where the words are no command, `too long` where too many bytes were read, else what the command answers
 abbrev pub IsAnswerTo : Option Command → List ℕ → Output → Type 0

@@ -5,7 +5,7 @@ use Rattle.std.specs.Str.{bytes_eq}
 use Rattle.script_words.specs.Words.{is_digit, is_plain, value_from}
 use Rattle.traffic_plan.specs.Load.{most_load_frames}
 use Rattle.ntb_top.specs.declared.command.Command.{Command}
-use Rattle.ntb_top.specs.declared.command.Command.TheVariants.{Replay, Load, Run, Stream, Reads}
+use Rattle.ntb_top.specs.declared.command.Command.TheVariants.{Replay, Load, Run, Stream, Reads, Trace, Check}
 
 -- the number below a limit that a word spells: decimal digits without a leading zero but for zero itself
 abbrev pub number_below : ℕ → List ℕ → Option ℕ
@@ -23,9 +23,11 @@ lone_command word =
     else if bytes_eq word (codes "run") then Some Run
     else if bytes_eq word (codes "stream") then Some Stream
     else if bytes_eq word (codes "reads") then Some Reads
+    else if bytes_eq word (codes "trace") then Some Trace
+    else if bytes_eq word (codes "check") then Some Check
     else None
 
--- `replay`, `run`, `stream`, `reads`, or `load SEED FRAMES`
+-- `replay`, `trace`, `check`, `run`, `stream`, `reads`, or `load SEED FRAMES`
 abbrev pub command_of : List (List ℕ) → Option Command
 command_of (word ∷ []) = lone_command word
 command_of (word ∷ seed ∷ frames ∷ []) = if bytes_eq word (codes "load") then load_command (number_below (2 ^ 64) seed) (number_below (2 ^ 32) frames) else None
@@ -47,6 +49,8 @@ command_reads (Load seed frames) = false
 command_reads Run = true
 command_reads Stream = true
 command_reads Reads = true
+command_reads Trace = true
+command_reads Check = true
 
 -- whether words are a command that reads a script
 abbrev pub is_reading : Option Command → Bool

@@ -7,9 +7,11 @@ use Rattle.script_text.specs.Script.{script_of}
 use Rattle.traffic_plan.specs.Load.{load_of}
 use Rattle.replay_command.specs.Headline.{IsTrueLog}
 use Rattle.replay_command.specs.Replays.{load_text, replay_text}
+use Rattle.trace_command.specs.Answers.{HasTrueTrace}
+use Rattle.trace_command.specs.Trace.{trace_text}
 use Rattle.ntb_top.specs.Commands.{command_of}
 use Rattle.ntb_top.specs.Runs.{HasRun, Outside}
-use Rattle.ntb_top.specs.declared.command.Command.TheVariants.{Load, Reads, Replay}
+use Rattle.ntb_top.specs.declared.command.Command.TheVariants.{Load, Reads, Replay, Trace}
 
 -- `replay`: the bytes that were read declare a plan, its report was written whole, and its log is true
 abbrev pub ReplaysAreTrue : Type 0
@@ -28,3 +30,9 @@ abbrev pub ReadsAreTrue : Type 0
 ReadsAreTrue =
     (words : List (List ℕ)) (before after : Outside) → command_of words ≡ Some Reads → (run : HasRun words before after 0) →
     (text : List ℕ) × HoldsAll before.held after.held text × IsTrueReply run.bytes text
+
+-- `trace`: the bytes that were read declare a plan, its trace was written whole, and what it says of writes is true
+abbrev pub TracesAreTrue : Type 0
+TracesAreTrue =
+    (words : List (List ℕ)) (before after : Outside) → command_of words ≡ Some Trace → (run : HasRun words before after 0) →
+    (plan : Plan) × (script_of run.bytes ≡ Ok plan) × HoldsAll before.held after.held (trace_text plan) × HasTrueTrace plan

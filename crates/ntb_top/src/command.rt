@@ -29,6 +29,10 @@ pub enum Command {
     Stream,
     /// To read a text of writes and reads across a bridge, make its steps and write their answers.
     Reads,
+    /// To read a script, make its steps and write a line of JSON for each, with the writes that it concerns.
+    Trace,
+    /// To read a script and write how much it declares, or where and why it is refused.
+    Check,
 }
 
 impl Command {
@@ -37,13 +41,19 @@ impl Command {
         ensures { result ≡ command_reads self }
     {
         match self {
-            Command::Replay | Command::Run | Command::Stream | Command::Reads => true,
+            Command::Replay
+            | Command::Run
+            | Command::Stream
+            | Command::Reads
+            | Command::Trace
+            | Command::Check => true,
             Command::Load { .. } => false,
         }
     }
 }
 
-/// The command that the words of a command line are: `replay`, `run`, `stream`, `reads`, or `load SEED FRAMES`.
+/// The command that the words of a command line are: `replay`, `trace`, `check`, `run`, `stream`,
+/// `reads`, or `load SEED FRAMES`.
 pub fn command_of(words: &[String]) -> Option<Command>
     ensures words { result ≡ command_by_words (map string_bytes words.now) }
     ensures range { IfSome result IsInRange }
@@ -70,6 +80,10 @@ fn lone_command(word: &[u8]) -> Option<Command>
         Some(Command::Stream)
     } else if word == b"reads".as_slice() {
         Some(Command::Reads)
+    } else if word == b"trace".as_slice() {
+        Some(Command::Trace)
+    } else if word == b"check".as_slice() {
+        Some(Command::Check)
     } else {
         None
     }

@@ -2,7 +2,7 @@
 
 ghost use Rattle.std.specs.Prelude.{◌≡◌, ℕ, Some, Ok, List};
 ghost use Rattle.ntb_top.specs.Completeness.{ReplaysComplete, RunsComplete};
-ghost use Rattle.ntb_top.specs.Laws.{LoadsAreTrue, ReadsAreTrue, ReplaysAreTrue};
+ghost use Rattle.ntb_top.specs.Laws.{LoadsAreTrue, ReadsAreTrue, ReplaysAreTrue, TracesAreTrue};
 
 /// Where `replay` ends with status 0, the bytes that were read declare a plan, and the log of that plan is true. No
 /// premise.
@@ -19,6 +19,13 @@ pub fn loads_are_true()
 /// written, and each read in the log of these steps has pushed the posted writes before it. No premise.
 pub fn reads_are_true()
     ensures { ReadsAreTrue }
+{}
+
+/// Where `trace` ends with status 0, the bytes that were read declare a plan, its trace was written, and on each pair that
+/// isn't raw each landing names the write that landed, each number stands once, and each blocked landing names an earlier
+/// write that stops it. No premise.
+pub fn traces_are_true()
+    ensures { TracesAreTrue }
 {}
 
 /// Where the source tells its bytes and neither it nor the sink fails, a command that reads answers just these bytes and

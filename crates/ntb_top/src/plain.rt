@@ -10,11 +10,13 @@ ghost use Rattle.ntb_top.specs.Runs.{HasRun};
 
 use crate::command::{Command, command_of};
 use crate::input::{Input, Stop, read_input};
+use check_command::check_reply;
 use command_reply::{Reply, Status};
 use io_edges::{Sink, Source, WriteFault, write_all};
 use reads_command::reads_reply;
 use replay_command::{load_reply, replay_reply};
 use std::alloc::{AllocError, Global};
+use trace_command::trace_reply;
 
 /// Does all that [`run_program`](crate::run_program) does on words that aren't `run` or `stream`, without threads, and
 /// answers the exit status. It always returns.
@@ -64,6 +66,8 @@ fn reply_of(alloc: Global, command: Command, bytes: &[u8]) -> Result<Reply, Allo
         Command::Replay => replay_reply(alloc, bytes),
         Command::Load { seed, frames } => load_reply(alloc, seed, frames),
         Command::Reads => reads_reply(alloc, bytes),
+        Command::Trace => trace_reply(alloc, bytes),
+        Command::Check => check_reply(alloc, bytes),
         Command::Run => unreachable!(),
         Command::Stream => unreachable!(),
     }

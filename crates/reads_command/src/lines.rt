@@ -11,7 +11,7 @@ use read_model::PathStep;
 use read_model::limits::{MEMORY_BYTES, MOST_READ_BYTES, MOST_SHOW_BYTES, MOST_WRITE_BYTES};
 use script_text::lines::{is_skipped, read_words};
 use script_words::words::{read_bytes, read_number, read_number_between, read_side};
-use script_words::{Cause, LineError};
+use script_words::{Cause, ReadError};
 use std::alloc::Global;
 use step_kinds::limits::MOST_STEPS;
 
@@ -42,7 +42,7 @@ fn write_step(
     at: &[u8],
     hex: &[u8],
     order: &[u8],
-) -> Result<PathStep, LineError>
+) -> Result<PathStep, ReadError>
     ensures step { Reads result (rules.write_step side.now at.now hex.now order.now) }
     ensures fits { IfOk result Fits }
 {
@@ -52,7 +52,7 @@ fn write_step(
     let relaxed = read_order(order).ok_or(Cause::UnknownWord)?;
     let len = bytes.len();
     if len == 0 || MOST_WRITE_BYTES < len || leaves_memory(at, len as u32) {
-        return Err(LineError::Fault(Cause::BadNumber));
+        return Err(ReadError::Fault(Cause::BadNumber));
     }
     Ok(PathStep::Write {
         side,
@@ -63,7 +63,7 @@ fn write_step(
 }
 
 /// `read S AT LEN`
-fn read_step(side: &[u8], at: &[u8], len: &[u8]) -> Result<PathStep, LineError>
+fn read_step(side: &[u8], at: &[u8], len: &[u8]) -> Result<PathStep, ReadError>
     ensures step { Reads result (rules.read_step side.now at.now len.now) }
     ensures fits { IfOk result Fits }
 {
@@ -71,13 +71,13 @@ fn read_step(side: &[u8], at: &[u8], len: &[u8]) -> Result<PathStep, LineError>
     let at = read_number(at)?;
     let len = read_number_between(1, MOST_READ_BYTES, len)?;
     if leaves_memory(at, len) {
-        return Err(LineError::Fault(Cause::BadNumber));
+        return Err(ReadError::Fault(Cause::BadNumber));
     }
     Ok(PathStep::Read { side, at, len })
 }
 
 /// `land S K`
-fn land_step(side: &[u8], place: &[u8]) -> Result<PathStep, LineError>
+fn land_step(side: &[u8], place: &[u8]) -> Result<PathStep, ReadError>
     ensures step { Reads result (rules.land_step side.now place.now) }
     ensures fits { IfOk result Fits }
 {
@@ -87,7 +87,7 @@ fn land_step(side: &[u8], place: &[u8]) -> Result<PathStep, LineError>
 }
 
 /// `show S AT LEN`
-fn show_step(side: &[u8], at: &[u8], len: &[u8]) -> Result<PathStep, LineError>
+fn show_step(side: &[u8], at: &[u8], len: &[u8]) -> Result<PathStep, ReadError>
     ensures step { Reads result (rules.show_step side.now at.now len.now) }
     ensures fits { IfOk result Fits }
 {
@@ -95,13 +95,13 @@ fn show_step(side: &[u8], at: &[u8], len: &[u8]) -> Result<PathStep, LineError>
     let at = read_number(at)?;
     let len = read_number_between(1, MOST_SHOW_BYTES, len)?;
     if leaves_memory(at, len) {
-        return Err(LineError::Fault(Cause::BadNumber));
+        return Err(ReadError::Fault(Cause::BadNumber));
     }
     Ok(PathStep::Show { side, at, len })
 }
 
 /// A step of the link, which is one word.
-fn link_step(word: &[u8]) -> Result<PathStep, LineError>
+fn link_step(word: &[u8]) -> Result<PathStep, ReadError>
     ensures step { Reads result (rules.link_step word.now) }
     ensures fits { IfOk result Fits }
 {
@@ -112,12 +112,12 @@ fn link_step(word: &[u8]) -> Result<PathStep, LineError>
     } else if word == b"relink".as_slice() {
         Ok(PathStep::Relink)
     } else {
-        Err(LineError::Fault(Cause::UnknownWord))
+        Err(ReadError::Fault(Cause::UnknownWord))
     }
 }
 
 /// A step with a side, an address and a length.
-fn range_step(word: &[u8], side: &[u8], at: &[u8], len: &[u8]) -> Result<PathStep, LineError>
+fn range_step(word: &[u8], side: &[u8], at: &[u8], len: &[u8]) -> Result<PathStep, ReadError>
     ensures step { Reads result (rules.range_step word.now side.now at.now len.now) }
     ensures fits { IfOk result Fits }
 {
@@ -126,19 +126,19 @@ fn range_step(word: &[u8], side: &[u8], at: &[u8], len: &[u8]) -> Result<PathSte
     } else if word == b"show".as_slice() {
         show_step(side, at, len)
     } else {
-        Err(LineError::Fault(Cause::UnknownWord))
+        Err(ReadError::Fault(Cause::UnknownWord))
     }
 }
 
 /// A step with a side and a place.
-fn place_step(word: &[u8], side: &[u8], place: &[u8]) -> Result<PathStep, LineError>
+fn place_step(word: &[u8], side: &[u8], place: &[u8]) -> Result<PathStep, ReadError>
     ensures step { Reads result (rules.place_step word.now side.now place.now) }
     ensures fits { IfOk result Fits }
 {
     if word == b"land".as_slice() {
         land_step(side, place)
     } else {
-        Err(LineError::Fault(Cause::UnknownWord))
+        Err(ReadError::Fault(Cause::UnknownWord))
     }
 }
 
@@ -150,29 +150,29 @@ fn bytes_step(
     at: &[u8],
     hex: &[u8],
     order: &[u8],
-) -> Result<PathStep, LineError>
+) -> Result<PathStep, ReadError>
     ensures step { Reads result (rules.bytes_step word.now side.now at.now hex.now order.now) }
     ensures fits { IfOk result Fits }
 {
     if word == b"write".as_slice() {
         write_step(alloc, side, at, hex, order)
     } else {
-        Err(LineError::Fault(Cause::UnknownWord))
+        Err(ReadError::Fault(Cause::UnknownWord))
     }
 }
 
 /// The step of a line's words.
-fn step_of(alloc: Global, words: &[&[u8]]) -> Result<PathStep, LineError>
+fn step_of(alloc: Global, words: &[&[u8]]) -> Result<PathStep, ReadError>
     ensures step { Reads result (rules.step_of (map (λ word. word.now) words.now)) }
     ensures fits { IfOk result Fits }
 {
     match words {
-        [] | [_, _] => Err(LineError::Fault(Cause::UnknownWord)),
+        [] | [_, _] => Err(ReadError::Fault(Cause::UnknownWord)),
         [word] => link_step(word),
         [word, side, place] => place_step(word, side, place),
         [word, side, at, len] => range_step(word, side, at, len),
         [word, side, at, hex, order] => bytes_step(alloc, word, side, at, hex, order),
-        _ => Err(LineError::Fault(Cause::UnknownWord)),
+        _ => Err(ReadError::Fault(Cause::UnknownWord)),
     }
 }
 
@@ -187,15 +187,15 @@ fn is_header(words: &[&[u8]]) -> bool
 }
 
 /// The first line.
-fn header_line<'a>(words: &mut Vec<&'a [u8]>, line: &'a [u8]) -> Result<Option<PathStep>, LineError>
+fn header_line<'a>(words: &mut Vec<&'a [u8]>, line: &'a [u8]) -> Result<Option<PathStep>, ReadError>
     ensures step { Reads result (rules.header_line line.now) }
     ensures none { IfOk result (λ step. step ≡ None) }
 {
     if !read_words(words, line)? {
-        return Err(LineError::Fault(Cause::NotText));
+        return Err(ReadError::Fault(Cause::NotText));
     }
     if !is_header(words) {
-        return Err(LineError::Fault(Cause::BadHeader));
+        return Err(ReadError::Fault(Cause::BadHeader));
     }
     Ok(None)
 }
@@ -208,7 +208,7 @@ pub fn read_line<'a>(
     steps: usize,
     words: &mut Vec<&'a [u8]>,
     line: &'a [u8],
-) -> Result<Option<PathStep>, LineError>
+) -> Result<Option<PathStep>, ReadError>
     ensures step { Reads result (rules.line_gives number steps line.now) }
     ensures fits { IfOk result (λ step. FitsIfThere step) }
     ensures few { IfOk result (λ step. IsSome step → steps ≢ most_steps) }
@@ -220,11 +220,11 @@ pub fn read_line<'a>(
         return Ok(None);
     }
     if !read_words(words, line)? {
-        return Err(LineError::Fault(Cause::NotText));
+        return Err(ReadError::Fault(Cause::NotText));
     }
     let step = step_of(alloc, words)?;
     if steps == MOST_STEPS {
-        return Err(LineError::Fault(Cause::TooMany));
+        return Err(ReadError::Fault(Cause::TooMany));
     }
     Ok(Some(step))
 }

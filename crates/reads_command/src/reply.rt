@@ -13,7 +13,7 @@ use read_laws::laws::each_read_has_pushed;
 use read_path::Path;
 use report_text::append::push_word;
 use script_text::lines::{cut, without_return};
-use script_words::LineError;
+use script_words::ReadError;
 use std::alloc::{AllocError, Global};
 use thiserror::Error;
 
@@ -64,8 +64,8 @@ impl Reply {
         let step = match read_line(alloc, number, self.steps, words, line) {
             Ok(None) => return Ok(()),
             Ok(Some(step)) => step,
-            Err(LineError::Fault(_)) => return Err(ReadsError::BadLine { line: number }),
-            Err(LineError::OutOfMemory) => return Err(ReadsError::OutOfMemory),
+            Err(ReadError::Fault(_)) => return Err(ReadsError::BadLine { line: number }),
+            Err(ReadError::OutOfMemory) => return Err(ReadsError::OutOfMemory),
         };
         let answer = make_step(&mut self.path, &step)?;
         push_line(&mut self.text, number, &answer)?;

@@ -2,10 +2,10 @@
 use Rattle.std.proofs.Common.{◌≡◌, ◌∙◌, ℕ, zero, suc, replicate, ◌+◌, ◌-◌, ◌^◌, ◌≤◌, Bool, true, false, List, [], ◌∷◌, cond, count_by, length, min, refl, ap, arith}
 use Rattle.std.specs.List.{fold}
 use Rattle.step_kinds.specs.declared.plan.Line.{Line}
-use Rattle.step_kinds.specs.declared.plan.LineAnswer.{LineAnswer}
 use Rattle.ledger_model.specs.Log.{Answered}
+use Rattle.report_text.specs.Report.{AnsweredStep}
 use Rattle.replay_command.specs.ReplaySteps.{with_blocked}
-use Rattle.replay_command.specs.Replays.{is_blocked, line_answers}
+use Rattle.replay_command.specs.Replays.{answered_steps, is_blocked}
 
 -- how many of a log were blocked
 abbrev pub blocked_in : List Answered → ℕ
@@ -24,26 +24,26 @@ one_at_most false = omega arith
 
 -- far below 2^64 the count is exact
 pub blocked_counted : (lines : List Line) (log : List Answered) (n : ℕ) → length log ≡ length lines → n + length log ≤ 2 ^ 64 - 1 →
-    fold with_blocked n (line_answers lines log) ≡ fold one_more n log
+    fold with_blocked n (answered_steps lines log) ≡ fold one_more n log
 blocked_counted [] [] n same few = refl
 blocked_counted [] (made ∷ log) n same few = absurd (omega arith)
 blocked_counted (line ∷ lines) [] n same few = absurd (omega arith)
 blocked_counted (line ∷ lines) (made ∷ log) n same few =
     let most = one_at_most (is_blocked made.answer) in
-    ap (λ (count : ℕ). fold with_blocked count (line_answers lines log)) (counted_one (is_blocked made.answer) n (omega arith))
+    ap (λ (count : ℕ). fold with_blocked count (answered_steps lines log)) (counted_one (is_blocked made.answer) n (omega arith))
     ∙ blocked_counted lines log (n + cond (is_blocked made.answer) 1 0) (omega arith) (omega arith)
 
 -- The same answer, so many times
 
-pub blocked_times : (made : LineAnswer) (count n : ℕ) → is_blocked made.answer ≡ true → n ≤ 2 ^ 64 - 1 → fold with_blocked n (replicate count made) ≡ min (n + count) (2 ^ 64 - 1)
-blocked_times made zero n blocked few = omega arith
-blocked_times made (suc count) n blocked few =
-    let one : with_blocked n made ≡ min (n + 1) (2 ^ 64 - 1) = ap (λ (b : Bool). cond b (min (n + 1) (2 ^ 64 - 1)) n) blocked in
+pub blocked_times : (answered : AnsweredStep) (count n : ℕ) → is_blocked answered.made.answer ≡ true → n ≤ 2 ^ 64 - 1 → fold with_blocked n (replicate count answered) ≡ min (n + count) (2 ^ 64 - 1)
+blocked_times answered zero n blocked few = omega arith
+blocked_times answered (suc count) n blocked few =
+    let one : with_blocked n answered ≡ min (n + 1) (2 ^ 64 - 1) = ap (λ (b : Bool). cond b (min (n + 1) (2 ^ 64 - 1)) n) blocked in
     let most : min (n + 1) (2 ^ 64 - 1) ≤ 2 ^ 64 - 1 = omega arith in
     let sum : min (min (n + 1) (2 ^ 64 - 1) + count) (2 ^ 64 - 1) ≡ min (n + suc count) (2 ^ 64 - 1) = omega arith in
-    ap (λ (now : ℕ). fold with_blocked now (replicate count made)) one ∙ blocked_times made count (min (n + 1) (2 ^ 64 - 1)) blocked most ∙ sum
+    ap (λ (now : ℕ). fold with_blocked now (replicate count answered)) one ∙ blocked_times answered count (min (n + 1) (2 ^ 64 - 1)) blocked most ∙ sum
 
-pub others_times : (made : LineAnswer) (count n : ℕ) → is_blocked made.answer ≡ false → fold with_blocked n (replicate count made) ≡ n
-others_times made zero n other = refl
-others_times made (suc count) n other =
-    ap (λ (b : Bool). fold with_blocked (cond b (min (n + 1) (2 ^ 64 - 1)) n) (replicate count made)) other ∙ others_times made count n other
+pub others_times : (answered : AnsweredStep) (count n : ℕ) → is_blocked answered.made.answer ≡ false → fold with_blocked n (replicate count answered) ≡ n
+others_times answered zero n other = refl
+others_times answered (suc count) n other =
+    ap (λ (b : Bool). fold with_blocked (cond b (min (n + 1) (2 ^ 64 - 1)) n) (replicate count answered)) other ∙ others_times answered count n other

@@ -6,7 +6,6 @@ use Rattle.std.proofs.lemmas.List.Concat.{flat_map-append, get_or-flat_map}
 use Rattle.std.proofs.lemmas.List.Folds.{length-flat_map-take}
 use Rattle.std.proofs.lemmas.List.Sums.{fold-append}
 use Rattle.step_kinds.specs.declared.plan.Line.{Line}
-use Rattle.step_kinds.specs.declared.plan.LineAnswer.{LineAnswer}
 use Rattle.step_kinds.specs.declared.plan.Plan.{Plan}
 use Rattle.step_kinds.specs.declared.steps.Answer.{Answer}
 use Rattle.step_kinds.specs.declared.steps.Step.{Step}
@@ -18,8 +17,9 @@ use Rattle.cluster_core.specs.Cluster.{ClusterState, plan_held}
 use Rattle.cluster_core.specs.LogClauses.{HasMade, IsAnswered, log_after}
 use Rattle.script_plan.specs.StepLists.{all_lines, lines_in}
 use Rattle.script_plan.specs.declared.step_list.Stretch.{Stretch}
+use Rattle.report_text.specs.Report.{AnsweredStep}
 use Rattle.replay_command.specs.ReplaySteps.{HasKept, HasReplayed, steps_in}
-use Rattle.replay_command.specs.Replays.{line_answers}
+use Rattle.replay_command.specs.Replays.{answered_steps}
 
 abbrev pub step_in : Line → Step
 step_in line = line.step
@@ -44,12 +44,12 @@ length-answers plan before lines answers log =
     let stretches = length-append before lines in
     omega arith
 
-line_answers-append : (xs ys : List Line) (one two : List Answered) → length one ≡ length xs → line_answers (xs ++ ys) (one ++ two) ≡ line_answers xs one ++ line_answers ys two
-line_answers-append [] ys [] two same = refl
-line_answers-append [] ys (made ∷ one) two same = absurd (omega arith)
-line_answers-append (x ∷ xs) ys [] two same = absurd (omega arith)
-line_answers-append (x ∷ xs) ys (made ∷ one) two same =
-    ap (λ (rest : List LineAnswer). record { line = x.line; answer = made.answer } ∷ rest) (line_answers-append xs ys one two (omega arith))
+answered_steps-append : (xs ys : List Line) (one two : List Answered) → length one ≡ length xs → answered_steps (xs ++ ys) (one ++ two) ≡ answered_steps xs one ++ answered_steps ys two
+answered_steps-append [] ys [] two same = refl
+answered_steps-append [] ys (made ∷ one) two same = absurd (omega arith)
+answered_steps-append (x ∷ xs) ys [] two same = absurd (omega arith)
+answered_steps-append (x ∷ xs) ys (made ∷ one) two same =
+    ap (λ (rest : List AnsweredStep). record { step = x.step; made = record { line = x.line; answer = made.answer } } ∷ rest) (answered_steps-append xs ys one two (omega arith))
 
 -- a list of the same item is folded item by item
 pub fold_more : {K X : Type 0} (with_item : K → X → K) (old : K) (count : ℕ) (x : X) → fold with_item old (replicate (count + 1) x) ≡ with_item (fold with_item old (replicate count x)) x
@@ -58,7 +58,7 @@ fold_more with_item old count x =
 
 -- What is kept, of no lines, of one, and of lines behind lines
 
-module _ {K : Type 0} (with_answer : K → LineAnswer → K) (plan : Plan) (before : List Line) where
+module _ {K : Type 0} (with_answer : K → AnsweredStep → K) (plan : Plan) (before : List Line) where
   pub kept_none : (cluster : ClusterState) (old : K) → HasReplayed plan before cluster → HasKept with_answer plan before [] cluster old old
   kept_none cluster old replayed = record {
     replayed = subst (λ (lines : List Line). HasReplayed plan lines cluster) (sym (append-nil before)) replayed;
@@ -69,7 +69,7 @@ module _ {K : Type 0} (with_answer : K → LineAnswer → K) (plan : Plan) (befo
 
   pub kept_one : (line : ℕ) (step : Step) (answer : Answer) (was cluster : ClusterState) (old new : K) → HasReplayed plan before was →
       HasMade plan (steps_in before ++ step ∷ []) cluster → plan_held cluster ≡ plan_held was → IsAnswered plan (steps_in before) step answer →
-      new ≡ with_answer old (record { line = line; answer = answer }) → HasKept with_answer plan before (record { line = line; step = step } ∷ []) cluster old new
+      new ≡ with_answer old (record { step = step; made = record { line = line; answer = answer } }) → HasKept with_answer plan before (record { line = line; step = step } ∷ []) cluster old new
   kept_one line step answer was cluster old new replayed made same answered kept =
       let last : Line = record { line = line; step = step } in
       let more : steps_in (before ++ last ∷ []) ≡ steps_in before ++ step ∷ [] = map-append step_in before (last ∷ []) in
@@ -87,7 +87,7 @@ module _ {K : Type 0} (with_answer : K → LineAnswer → K) (plan : Plan) (befo
       HasKept with_answer plan (before ++ xs) ys two mid new → HasKept with_answer plan before (xs ++ ys) two old new
   kept_both xs ys one two old mid new first second =
       let log : List Line → List Answered = λ lines. log_after plan (steps_in lines) in
-      let own : List LineAnswer → K → K = λ answers kept. fold with_answer kept answers in
+      let own : List AnsweredStep → K → K = λ answers kept. fold with_answer kept answers in
       let same = length-answers plan before xs first.answers first.log in
       record {
         replayed = subst (λ (lines : List Line). HasReplayed plan lines two) (append_assoc before xs ys) second.replayed;
@@ -96,9 +96,9 @@ module _ {K : Type 0} (with_answer : K → LineAnswer → K) (plan : Plan) (befo
             ap log (sym (append_assoc before xs ys)) ∙ second.log ∙ ap (λ (answers : List Answered). answers ++ second.answers) first.log
             ∙ append_assoc (log before) first.answers second.answers;
         kept =
-            second.kept ∙ ap (own (line_answers ys second.answers)) first.kept
-            ∙ sym (fold-append with_answer old (line_answers xs first.answers) (line_answers ys second.answers))
-            ∙ ap (λ (answers : List LineAnswer). fold with_answer old answers) (sym (line_answers-append xs ys first.answers second.answers same));
+            second.kept ∙ ap (own (answered_steps ys second.answers)) first.kept
+            ∙ sym (fold-append with_answer old (answered_steps xs first.answers) (answered_steps ys second.answers))
+            ∙ ap (λ (answers : List AnsweredStep). fold with_answer old answers) (sym (answered_steps-append xs ys first.answers second.answers same));
       }
 
 -- the steps of one stretch more

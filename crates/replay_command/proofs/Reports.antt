@@ -11,11 +11,11 @@ use Rattle.traffic_plan.specs.Load.{load_of}
 use Rattle.cluster_core.specs.Cluster.{declared_part}
 use Rattle.ledger_model.specs.Log.{Answered, accepted, counters_in, delivered}
 use Rattle.fabric_core.specs.LogClauses.{lane_of_device}
-use Rattle.step_kinds.specs.declared.plan.LineAnswer.{LineAnswer}
-use Rattle.report_text.specs.Report.{answer_line, device_lines, end_line, ending}
+use Rattle.step_kinds.specs.declared.plan.Line.{Line}
+use Rattle.report_text.specs.Report.{AnsweredStep, answer_line, device_lines, end_line, ending}
 use Rattle.report_text.specs.declared.whole.LaneCount.{LaneCount}
 use Rattle.replay_command.specs.ReplaySteps.{filled}
-use Rattle.replay_command.specs.Replays.{answers_text, device_counts, lane_counts, load_lane, load_text, log_of_plan, replay_text, summary_text}
+use Rattle.replay_command.specs.Replays.{answered_steps, answers_text, device_counts, lane_counts, load_lane, load_text, log_of_plan, replay_text, summary_text}
 use Rattle.replay_command.proofs.Counting.{all_known, lines_of_filled}
 use Rattle.replay_command.proofs.Blocked.{blocked_in}
 
@@ -37,9 +37,13 @@ replay_text_is plan lanes devs answers text same_answers same_lanes same_devs h 
     ∙ ap (λ (lines : List ℕ). answers_text plan.steps (log_of_plan plan) ++ lines) (report_same plan lanes devs same_lanes same_devs)
 
 -- the text of the answers, kept one after another, is that of all
-pub answers_kept : (answers : List LineAnswer) (text : List ℕ) → fold (λ text made. text ++ answer_line made) text answers ≡ text ++ flat_map answer_line answers
-answers_kept [] text = sym (append-nil text)
-answers_kept (made ∷ answers) text = answers_kept answers (text ++ answer_line made) ∙ append_assoc text (answer_line made) (flat_map answer_line answers)
+pub answers_kept : (lines : List Line) (log : List Answered) (text : List ℕ) →
+    fold (λ (text : List ℕ) (answered : AnsweredStep). text ++ answer_line answered.made) text (answered_steps lines log) ≡ text ++ answers_text lines log
+answers_kept [] log text = sym (append-nil text)
+answers_kept (line ∷ lines) [] text = sym (append-nil text)
+answers_kept (line ∷ lines) (made ∷ log) text =
+    let own : List ℕ = answer_line (record { line = line.line; answer = made.answer }) in
+    answers_kept lines log (text ++ own) ∙ append_assoc text own (answers_text lines log)
 
 -- what the report asks of the counts
 

@@ -5,7 +5,6 @@ use Rattle.step_kinds.specs.Sides.{other_side}
 use Rattle.step_kinds.specs.declared.names.LaneName.{LaneName}
 use Rattle.step_kinds.specs.declared.names.Side.{Side}
 use Rattle.step_kinds.specs.declared.plan.Line.{Line}
-use Rattle.step_kinds.specs.declared.plan.LineAnswer.{LineAnswer}
 use Rattle.step_kinds.specs.declared.plan.Plan.{Plan}
 use Rattle.step_kinds.specs.declared.steps.Step.{Step}
 use Rattle.plan_model.specs.DeclaredPlans.{IsPairOf, IsQueueOf}
@@ -13,8 +12,9 @@ use Rattle.plan_model.specs.Plans.{pair_plan}
 use Rattle.ledger_model.specs.Log.{Answered}
 use Rattle.cluster_core.specs.Cluster.{ClusterState, declared_part, plan_held}
 use Rattle.cluster_core.specs.LogClauses.{HasMade, log_after}
+use Rattle.report_text.specs.Report.{AnsweredStep}
 use Rattle.report_text.specs.declared.whole.LaneCount.{LaneCount}
-use Rattle.replay_command.specs.Replays.{is_blocked, line_answers}
+use Rattle.replay_command.specs.Replays.{answered_steps, is_blocked}
 
 -- the steps of lines
 abbrev pub steps_in : List Line → List Step
@@ -25,12 +25,12 @@ pub record HasReplayed (plan : Plan) (lines : List Line) (cluster : ClusterState
   pub made : HasMade plan (steps_in lines) cluster
   pub kept : plan_held cluster ≡ declared_part plan
 
--- The cluster has made these lines behind those before, and what is kept of their answers was added in turn to what was there.
-pub record HasKept {K : Type 0} (with_answer : K → LineAnswer → K) (plan : Plan) (before lines : List Line) (cluster : ClusterState) (old new : K) : Type 0 where
+-- The cluster has made these lines after those before, and what is kept of their answers was added in turn to what was there.
+pub record HasKept {K : Type 0} (with_answer : K → AnsweredStep → K) (plan : Plan) (before lines : List Line) (cluster : ClusterState) (old new : K) : Type 0 where
   pub replayed : HasReplayed plan (before ++ lines) cluster
   pub answers : List Answered
   pub log : log_after plan (steps_in (before ++ lines)) ≡ log_after plan (steps_in before) ++ answers
-  pub kept : new ≡ fold with_answer old (line_answers lines answers)
+  pub kept : new ≡ fold with_answer old (answered_steps lines answers)
 
 -- a lane of the plan: its queue is one of both sides'
 pub record IsLaneOf (plan : Plan) (lane : LaneName) : Type 0 where
@@ -59,5 +59,5 @@ abbrev pub lanes_from : ℕ → Side → ℕ → List LaneName
 lanes_from pair from queues = map (λ queue. record { pair = pair; from = from; queue = queue }) (range_with_len 0 queues)
 
 -- one answer more, counted where it is `blocked`, up to 2^64 - 1
-abbrev pub with_blocked : ℕ → LineAnswer → ℕ
-with_blocked count made = if is_blocked made.answer then min (count + 1) (2 ^ 64 - 1) else count
+abbrev pub with_blocked : ℕ → AnsweredStep → ℕ
+with_blocked count answered = if is_blocked answered.made.answer then min (count + 1) (2 ^ 64 - 1) else count

@@ -16,7 +16,7 @@ use Rattle.ledger_model.specs.Log.{Answered, accepted, counters_in, delivered, f
 use Rattle.memory_model.specs.Memory.{memory_of}
 use Rattle.switch_log.specs.Log.{switch_log}
 use Rattle.fabric_core.specs.LogClauses.{lane_of_device}
-use Rattle.report_text.specs.Report.{answer_line, line_of, report_of}
+use Rattle.report_text.specs.Report.{AnsweredStep, answer_line, line_of, report_of}
 use Rattle.report_text.specs.Texts.{numbers_text}
 use Rattle.report_text.specs.declared.whole.LaneCount.{LaneCount}
 use Rattle.traffic_plan.specs.Load.{load_of}
@@ -27,6 +27,12 @@ steps_of plan = map (λ line. line.step) plan.steps
 
 abbrev pub log_of_plan : Plan → List Answered
 log_of_plan plan = switch_log plan (memory_of plan) (steps_of plan)
+
+-- each step with its answer
+abbrev pub answered_steps : List Line → List Answered → List AnsweredStep
+answered_steps [] log = []
+answered_steps (line ∷ lines) [] = []
+answered_steps (line ∷ lines) (made ∷ log) = record { step = line.step; made = record { line = line.line; answer = made.answer } } ∷ answered_steps lines log
 
 -- each step's line with its answer
 abbrev pub line_answers : List Line → List Answered → List LineAnswer

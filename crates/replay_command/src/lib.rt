@@ -3,7 +3,7 @@
 
 mod command;
 mod load;
-mod replay;
-mod steps;
+pub mod replay;
+pub mod steps;
 
 pub use command::{load_reply, replay_reply};

@@ -10,7 +10,7 @@ use cluster_core::Cluster;
 use script_plan::StepList;
 use std::alloc::{AllocError, Global};
 use std::marker::Model;
-use step_kinds::{Answer, LaneName, LineAnswer, Side};
+use step_kinds::{Answer, LaneName, LineAnswer, Side, Step};
 use traffic_plan::{LoadFrames, load_without_steps};
 
 /// The one lane of a load.
@@ -40,14 +40,19 @@ impl Model for BlockedCount {
 impl KeepsAnswers for BlockedCount {
     ghost with_answer = { with_blocked };
 
-    fn keep(&mut self, made: &LineAnswer) -> Result<(), AllocError> {
+    fn keep(&mut self, _step: &Step, made: &LineAnswer) -> Result<(), AllocError> {
         if is_blocked(&made.answer) {
             self.count = self.count.saturating_add(1);
         }
         Ok(())
     }
 
-    fn keep_times(&mut self, made: &LineAnswer, count: u32) -> Result<(), AllocError> {
+    fn keep_times(
+        &mut self,
+        _step: &Step,
+        made: &LineAnswer,
+        count: u32,
+    ) -> Result<(), AllocError> {
         if is_blocked(&made.answer) {
             self.count = self.count.saturating_add(u64::from(count));
         }

@@ -22,7 +22,7 @@ use report_text::{LaneCount, push_answer_line, push_ending};
 use script_plan::Script;
 use std::alloc::{AllocError, Global};
 use std::marker::Model;
-use step_kinds::{Counters, LaneName, LineAnswer, Side};
+use step_kinds::{Counters, LaneName, LineAnswer, Side, Step};
 
 /// The lines of the answers so far, and room for one line that comes again and again. Contracts see the bytes of the lines.
 #[derive(Drop)]
@@ -40,13 +40,18 @@ impl Model for AnswerLines {
 }
 
 impl KeepsAnswers for AnswerLines {
-    ghost with_answer = { λ text made. text ++ answer_line made };
+    ghost with_answer = { λ text answered. text ++ answer_line answered.made };
 
-    fn keep(&mut self, made: &LineAnswer) -> Result<(), AllocError> {
+    fn keep(&mut self, _step: &Step, made: &LineAnswer) -> Result<(), AllocError> {
         push_answer_line(&mut self.text, made)
     }
 
-    fn keep_times(&mut self, made: &LineAnswer, count: u32) -> Result<(), AllocError> {
+    fn keep_times(
+        &mut self,
+        _step: &Step,
+        made: &LineAnswer,
+        count: u32,
+    ) -> Result<(), AllocError> {
         self.line.clear();
         push_answer_line(&mut self.line, made)?;
         for _ in 0..count {
@@ -75,8 +80,9 @@ pub fn replay_text(alloc: Global, script: &Script) -> Result<Vec<u8>, AllocError
     Ok(text)
 }
 
-// What the lanes of all pairs accepted and delivered, in each session where either isn't 0.
-fn lane_counts(
+/// What the lanes of all pairs accepted and delivered, in each session where either isn't 0. The cluster has made the
+/// script's steps. The only error is out of memory.
+pub fn lane_counts(
     alloc: Global,
     script: &Script,
     cluster: &Cluster,
@@ -148,8 +154,8 @@ fn push_session(
     Ok(())
 }
 
-// What the devices of a script counted.
-fn device_counts(
+/// What the devices of a script counted. The cluster has made the script's steps. The only error is out of memory.
+pub fn device_counts(
     alloc: Global,
     script: &Script,
     cluster: &Cluster,

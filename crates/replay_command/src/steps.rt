@@ -1,9 +1,8 @@
 //! Steps made on a cluster, one after another.
 
-ghost use Rattle.std.specs.Prelude.{◌≡◌, ◌∷◌, [], List, replicate, true, OnOk};
+ghost use Rattle.std.specs.Prelude.{◌≡◌, ◌∷◌, [], List, replicate, false, true, OnOk};
 ghost use Rattle.std.specs.List.{All, fold};
 ghost use Rattle.step_kinds.specs.declared.plan.Line.{Line};
-ghost use Rattle.step_kinds.specs.declared.plan.LineAnswer.{LineAnswer as LineAnswerValue};
 ghost use Rattle.step_kinds.specs.declared.plan.Plan.{Plan};
 ghost use Rattle.plan_model.specs.Switches.{IsMakeable};
 ghost use Rattle.plan_model.specs.Macros.{receive};
@@ -11,7 +10,9 @@ ghost use Rattle.script_words.specs.Compact.{lines_with, step_again};
 ghost use Rattle.script_plan.specs.StepLists.{lines_in};
 ghost use Rattle.cluster_core.specs.Cluster.{plan_held};
 ghost use Rattle.cluster_core.specs.Refusals.{is_plain};
+ghost use Rattle.ledger_laws.specs.Laws.{is_made as is_made_by};
 ghost use Rattle.replay_command.specs.ReplaySteps.{HasKept, HasReplayed};
+ghost use Rattle.report_text.specs.Report.{AnsweredStep};
 
 use cluster_core::{Cluster, is_made, refused_again};
 use script_plan::{StepList, Stretch};
@@ -21,15 +22,16 @@ use step_kinds::{LineAnswer, Side, Step};
 
 /// What is kept of the answers to steps.
 pub trait KeepsAnswers {
-    ghost with_answer: { Self → LineAnswerValue → Self };
+    ghost with_answer: { Self → AnsweredStep → Self };
 
-    /// Keeps one more answer. The only error is want of memory.
-    fn keep(&mut self, made: &LineAnswer) -> Result<(), AllocError>
-        ensures { OnOk result (self.new ≡ with_answer self.old made.now) };
+    /// Keeps the answer to one more step. The only error is out of memory.
+    fn keep(&mut self, step: &Step, made: &LineAnswer) -> Result<(), AllocError>
+        ensures { OnOk result (self.new ≡ with_answer self.old (record { step = step.now; made = made.now })) };
 
-    /// Keeps the same answer so many times. The only error is want of memory.
-    fn keep_times(&mut self, made: &LineAnswer, count: u32) -> Result<(), AllocError>
-        ensures { OnOk result (self.new ≡ fold with_answer self.old (replicate count made.now)) };
+    /// Keeps the same answer to a step that is refused so many times. The only error is out of memory.
+    fn keep_times(&mut self, step: &Step, made: &LineAnswer, count: u32) -> Result<(), AllocError>
+        requires { is_made_by step.now made.now.answer ≡ false }
+        ensures { OnOk result (self.new ≡ fold with_answer self.old (replicate count (record { step = step.now; made = made.now }))) };
 }
 
 /// Makes steps, which a script of the cluster's plan may make, and keeps what there is to keep of each answer. The only
@@ -156,9 +158,9 @@ fn make_again<K: KeepsAnswers>(
         let answered = LineAnswer { line, answer };
         if made + 1 < count && !is_made(step, &answered.answer) {
             refused_again();
-            return kept.keep_times(&answered, count - made);
+            return kept.keep_times(step, &answered, count - made);
         }
-        kept.keep(&answered)?;
+        kept.keep(step, &answered)?;
     }
     Ok(())
 }
@@ -176,5 +178,5 @@ fn make_step<K: KeepsAnswers>(
     ensures kept { (plan : Plan) (before : List Line) → HasReplayed plan before cluster.old → OnOk result (HasKept K.with_answer plan before (lines_with line (step.now ∷ [])) cluster.new kept.old kept.new) }
 {
     let answer = cluster.step(step)?;
-    kept.keep(&LineAnswer { line, answer })
+    kept.keep(step, &LineAnswer { line, answer })
 }

@@ -10,7 +10,7 @@ use Rattle.std.specs.List.{slice_split, onto_first}
 use Rattle.std.specs.Result.{IsOk}
 use Rattle.script_words.specs.Before.{Before, Given, nothing_before}
 use Rattle.script_words.specs.Words.{lines_of, without_return}
-use Rattle.script_words.specs.declared.fault.Cause.{Cause}
+use Rattle.script_words.specs.declared.fault.LineFault.{LineFault}
 use Rattle.script_words.specs.declared.fault.ScriptFault.{ScriptFault}
 use Rattle.script_text.specs.Laws.{FaultEndsAt}
 use Rattle.script_text.specs.ParseClauses.{after_line}
@@ -115,9 +115,9 @@ fault_later : (n : ℕ) (before : Before) (lines : List (List ℕ)) (fault : Scr
 fault_later n before [] fault e = cc e
 fault_later n before (line ∷ lines) fault e = by (line_gives n before line) (sym (next_line n before line lines) ∙ e) (λ b h. fault_later (n + 1) b lines fault h)
   where
-    by : (r : Result Given Cause) → then_lines n lines (after_line n before r) ≡ Err fault → ((b : Before) → read_lines (n + 1) b lines ≡ Err fault → n + 1 ≤ fault.line) → n ≤ fault.line
+    by : (r : Result Given LineFault) → then_lines n lines (after_line n before r) ≡ Err fault → ((b : Before) → read_lines (n + 1) b lines ≡ Err fault → n + 1 ≤ fault.line) → n ≤ fault.line
     by (Ok given) h later = let after = later _ h in omega arith
-    by (Err cause) h later = let same : record { line = n; cause = cause } ≡ fault = cc in let here : n ≡ fault.line = ap (λ f. f.line) same in omega arith
+    by (Err found) h later = let same : record { line = n; fault = found } ≡ fault = cc in let here : n ≡ fault.line = ap (λ f. f.line) same in omega arith
 
 plan_fault : (r : Result Before ScriptFault) (fault : ScriptFault) → plan_of r ≡ Err fault → r ≡ Err fault
 plan_fault (Ok before) fault e = cc e

@@ -5,7 +5,7 @@ use Rattle.std.specs.Option.{option_map_or}
 use Rattle.step_kinds.specs.declared.plan.Plan.{Plan}
 use Rattle.script_words.specs.Before.{Before, Given}
 use Rattle.script_words.specs.Words.{lines_of, without_return}
-use Rattle.script_words.specs.declared.fault.Cause.{Cause}
+use Rattle.script_words.specs.declared.fault.LineFault.{LineFault}
 use Rattle.script_words.specs.declared.fault.ScriptFault.{ScriptFault}
 use Rattle.script_text.specs.ParseClauses.{Parses, after_line}
 use Rattle.script_text.specs.Script.{line_gives, plan_of, read_lines}
@@ -20,7 +20,7 @@ then_lines n lines (Err fault) = Err fault
 pub next_line : (n : ℕ) (before : Before) (line : List ℕ) (lines : List (List ℕ)) → read_lines n before (line ∷ lines) ≡ then_lines n lines (after_line n before (line_gives n before line))
 next_line n before line lines = by (line_gives n before line) refl
   where
-    by : (r : Result Given Cause) → line_gives n before line ≡ r → read_lines n before (line ∷ lines) ≡ then_lines n lines (after_line n before (line_gives n before line))
+    by : (r : Result Given LineFault) → line_gives n before line ≡ r → read_lines n before (line ∷ lines) ≡ then_lines n lines (after_line n before (line_gives n before line))
     by (Ok given) is = rw is refl
     by (Err cause) is = rw is refl
 

@@ -3,13 +3,14 @@ use Rattle.std.proofs.Common.{◌≡◌, ℕ, zero, suc, ◌≤◌, ◌%◌, ◌
 use Rattle.std.proofs.lemmas.Bool.{eqb-true, eq-eqb, leb-true, and_parts, or_cases, or_left, or_right, not-true, both_ways}
 use Rattle.std.specs.List.{list_all}
 use Rattle.std.specs.Option.{option_or}
-use Rattle.step_kinds.specs.Limits.{most_queues, most_windows, least_size, most_size, size_step, least_mtu, most_mtu, IsSize, IsMtu, IsClass}
+use Rattle.step_kinds.specs.Limits.{most_queues, size_step, IsSize, IsMtu, IsClass}
 use Rattle.step_kinds.specs.Sides.{other_side}
 use Rattle.step_kinds.specs.declared.names.Side.{Side}
 use Rattle.step_kinds.specs.declared.names.Side.TheVariants.{A, B}
 use Rattle.step_kinds.specs.declared.plan.PairPlan.{PairPlan}
 use Rattle.plan_model.specs.DeclaredPlans.{IsSide, IsPair, Agree, SizesFit}
-use Rattle.script_words.specs.Settings.{same_key, same_scope, is_within, is_size, in_range, number_at, side_number, size_of, side_with, mtu_in, sizes_fit, agrees, has_room_for_header, goes_together, pair_with}
+use Rattle.script_words.specs.Settings.{same_key, same_scope, is_within, is_stepped, mtu_range, key_range, in_range, number_at, side_number, size_of, side_with, mtu_in, sizes_fit, agrees, has_room_for_header, goes_together, pair_with}
+use Rattle.script_words.specs.declared.fault.Range.{Range}
 use Rattle.script_words.specs.declared.settings.SideKey.{SideKey}
 use Rattle.script_words.specs.declared.settings.SideKey.TheVariants.{Size, Cap, Windows, Queues, Version}
 use Rattle.script_words.specs.declared.settings.Setting.{Setting}
@@ -45,11 +46,7 @@ same_key_is Version Version h = refl
 
 -- a range doesn't ask which side it is for
 in_range_scope : (key : SideKey) (one other : Option Side) (n : ℕ) → in_range (OfSide key one n) ≡ in_range (OfSide key other n)
-in_range_scope Size one other n = refl
-in_range_scope Cap one other n = refl
-in_range_scope Windows one other n = refl
-in_range_scope Queues one other n = refl
-in_range_scope Version one other n = refl
+in_range_scope key one other n = refl
 
 here_or_later : (key other : SideKey) (side scope : Option Side) (m : ℕ) (settings : List Setting) (n : ℕ) (t : Bool) → (same_key key other && same_scope side scope) ≡ t → in_range (OfSide other scope m) ≡ true
     → (number_at key side settings ≡ Some n → in_range (OfSide key None n) ≡ true) → cond t (Some m) (number_at key side settings) ≡ Some n → in_range (OfSide key None n) ≡ true
@@ -82,24 +79,26 @@ side_in_range settings key side default all h = by (number_at key (Some side) se
     by None is (Some n) e = number_in_range key None settings n all e
     by None is None e = h
 
-within : (least most n : ℕ) → is_within least most n ≡ true → (least ≤ n) × (n ≤ most)
-within least most n h = let parts = and_parts (nat_le least n) (nat_le n most) h in (leb-true least n parts.0, leb-true n most parts.1)
+within : (range : Range) (n : ℕ) → is_within range n ≡ true → (range.least ≤ n) × (n ≤ range.most)
+within range n h = let parts = and_parts (nat_le range.least n) (nat_le n range.most) h in (leb-true range.least n parts.0, leb-true n range.most parts.1)
 
-sized : (n : ℕ) → is_size n ≡ true → IsSize n
+within_key : (key : SideKey) (n : ℕ) → in_range (OfSide key None n) ≡ true → ((key_range key).least ≤ n) × (n ≤ (key_range key).most)
+within_key key n h = within (key_range key) n (and_parts (is_within (key_range key) n) (is_stepped key n) h).0
+
+sized : (n : ℕ) → in_range (OfSide Size None n) ≡ true → IsSize n
 sized n h =
-    let parts = and_parts (is_within least_size most_size n) (n % size_step == 0) h in
-    let range = within least_size most_size n parts.0 in
-    (range.0, range.1, eqb-true (n % size_step) 0 parts.1)
+    let range = within_key Size n h in
+    (range.0, range.1, eqb-true (n % size_step) 0 (and_parts (is_within (key_range Size) n) (is_stepped Size n) h).1)
 
 -- each side
-size_in_range : (settings : List Setting) (side : Side) → list_all in_range settings ≡ true → is_size (size_of settings side) ≡ true
+size_in_range : (settings : List Setting) (side : Side) → list_all in_range settings ≡ true → in_range (OfSide Size None (size_of settings side)) ≡ true
 size_in_range settings side all = side_in_range settings Size side 65536 all refl
 
 side_fits : (settings : List Setting) (side : Side) → list_all in_range settings ≡ true → IsSide (side_with settings side)
 side_fits settings side all = record {
-  known_version = within 3 5 (side_number settings Version side 4) (side_in_range settings Version side 4 all refl);
-  queues = within 1 most_queues (side_number settings Queues side 1) (side_in_range settings Queues side 1 all refl);
-  windows = within 1 most_windows (side_number settings Windows side 1) (side_in_range settings Windows side 1 all refl);
+  known_version = within_key Version (side_number settings Version side 4) (side_in_range settings Version side 4 all refl);
+  queues = within_key Queues (side_number settings Queues side 1) (side_in_range settings Queues side 1 all refl);
+  windows = within_key Windows (side_number settings Windows side 1) (side_in_range settings Windows side 1 all refl);
   size = sized (size_of settings side) (size_in_range settings side all);
   cap = sized (side_number settings Cap side (size_of settings (other_side side)))
       (side_in_range settings Cap side (size_of settings (other_side side)) all (size_in_range settings (other_side side) all));
@@ -110,7 +109,7 @@ mtu_fits [] all = (lit≤ tt, lit≤ tt)
 mtu_fits (Up ∷ settings) all = mtu_fits settings all
 mtu_fits (Strict ∷ settings) all = mtu_fits settings all
 mtu_fits (Raw ∷ settings) all = mtu_fits settings all
-mtu_fits (Mtu n ∷ settings) all = within least_mtu most_mtu n (and_parts (in_range (Mtu n)) (list_all in_range settings) all).0
+mtu_fits (Mtu n ∷ settings) all = within mtu_range n (and_parts (in_range (Mtu n)) (list_all in_range settings) all).0
 mtu_fits (OfSide key side n ∷ settings) all = mtu_fits settings (and_parts (in_range (OfSide key side n)) (list_all in_range settings) all).1
 
 -- The tests of the pair as a whole

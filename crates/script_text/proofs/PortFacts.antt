@@ -9,10 +9,11 @@ use Rattle.std.specs.List.{All, AllPairs, Contains, list_any}
 use Rattle.step_kinds.specs.declared.plan.SwitchPlan.{SwitchPlan}
 use Rattle.plan_model.specs.Plans.{ports_in}
 use Rattle.script_words.specs.Before.{Before}
-use Rattle.script_words.specs.Ports.{is_among, is_port, with_port, ports_from}
+use Rattle.script_words.specs.Ports.{is_among, is_port, port_place, with_port, ports_from}
+use Rattle.script_words.specs.Tests.{fault_at}
 use Rattle.script_words.specs.declared.fault.Cause.TheVariants.{Repeated}
 use Rattle.script_text.proofs.Fits.{AddsPorts}
-use Rattle.script_text.proofs.Gives.{Gives, gives_ok, gives_then, gives_passed}
+use Rattle.script_text.proofs.Gives.{Gives, gives_ok, gives_then, gives_passed, gives_at}
 use Rattle.script_text.proofs.WordFacts.{dev_declared}
 
 -- Devices that are none of the ports
@@ -50,8 +51,8 @@ one_more : (before : Before) (devs : List ℕ) (word : List ℕ) → AddsPorts b
 one_more before devs word adds =
     let apart : ℕ → ℕ → Type 0 = λ one other. one ≡ other → ⊥ in
     let ports = ports_in before.plan.switches in
-    gives_then _ _ _ (dev_declared before word) (λ dev lt.
-    gives_then _ _ _ (gives_passed (is_port before dev || is_among devs dev) Repeated) (λ _ e.
+    gives_then _ _ _ (gives_at _ (port_place devs) _ (dev_declared before word)) (λ dev lt.
+    gives_then _ _ _ (gives_passed (is_port before dev || is_among devs dev) (fault_at (port_place devs) Repeated)) (λ _ e.
     let parts = or_parts (is_port before dev) (is_among devs dev) e in
     let news : All (λ other. other ≡ dev → ⊥) (ports ++ devs) =
     All-append (λ other. other ≡ dev → ⊥) ports devs (none_port before.plan.switches dev parts.0) (none_among devs dev parts.1) in
@@ -79,8 +80,8 @@ no_ports before apart = record { declared = All-nil (λ d. d < length before.pla
 one_declared : (before : Before) (devs : List ℕ) (word : List ℕ) → All (λ dev. dev < length before.plan.devs) devs
     → Gives (λ more. All (λ dev. dev < length before.plan.devs) more) (with_port before devs word)
 one_declared before devs word all =
-    gives_then _ _ _ (dev_declared before word) (λ dev lt.
-    gives_then _ _ _ (gives_passed (is_port before dev || is_among devs dev) Repeated) (λ _ _.
+    gives_then _ _ _ (gives_at _ (port_place devs) _ (dev_declared before word)) (λ dev lt.
+    gives_then _ _ _ (gives_passed (is_port before dev || is_among devs dev) (fault_at (port_place devs) Repeated)) (λ _ _.
     gives_ok _ (devs ++ dev ∷ []) (All-push (λ d. d < length before.plan.devs) devs dev all lt)))
 
 pub all_declared : (before : Before) (devs : List ℕ) (words : List (List ℕ)) → All (λ dev. dev < length before.plan.devs) devs

@@ -20,14 +20,15 @@ use Rattle.script_words.specs.Before.{Before, MoreSteps, TrafficBegins}
 use Rattle.script_words.specs.StepLines as rules
 use Rattle.script_words.specs.Ports.{is_port}
 use Rattle.script_words.specs.StepLines.{NumberedSteps, largest_number, reach, relay_step, ethernet_steps}
+use Rattle.script_words.specs.Tests.{fault_at, unknown_line, whole, at}
 use Rattle.script_words.specs.Words.{number_word}
-use Rattle.script_words.specs.declared.fault.Cause.TheVariants.{UnknownWord, BadNumber, UnknownName, BadPair, TooMany}
+use Rattle.script_words.specs.declared.fault.Cause.TheVariants.{BadNumber, UnknownName, BadPair, TooMany}
 use Rattle.script_words.specs.declared.parts.Part.TheVariants.{Declarations}
 use Rattle.script_text.specs.SoundLines.{Filled}
 use Rattle.script_text.proofs.Fits.{Fits}
-use Rattle.script_text.proofs.Gives.{Gives, gives_ok, gives_fault, gives_then, gives_passed, gives_any, gives_if, gives_known, if_some, none_some}
+use Rattle.script_text.proofs.Gives.{Gives, gives_ok, gives_fault, gives_then, gives_passed, gives_any, gives_at, gives_if, gives_known, if_some, none_some}
 use Rattle.script_text.proofs.PortFacts.{port_is_there}
-use Rattle.script_text.proofs.WordFacts.{below, pair_declared, dev_declared, switch_declared, side_declared, queue_declared, number_within, bytes_spelled, bytes_counted, kind_is_small}
+use Rattle.script_text.proofs.WordFacts.{below, pair_declared, dev_declared, switch_declared, side_declared, queue_declared, number_ranged, bytes_spelled, bytes_counted, kind_is_small}
 
 -- Lists of steps
 
@@ -116,7 +117,7 @@ pad_is_free i raw e = elim (and_cases (nat_lt i 12) (not raw) e) [ inl x ↦ inl
 module _ (before : Before) (part : before.part ≡ Declarations → ⊥) (devices : All (IsDevice before.plan) before.plan.devs) (switches : All (IsSwitch before.plan) before.plan.switches) where
   made_fit : (steps : List Step) → All (IsMakeable before.plan) steps → Gives (Fits before) (rules.steps_within before steps)
   made_fit steps all =
-      gives_then _ _ _ (gives_passed (nat_lt most_steps (length before.plan.steps + length steps)) TooMany) (λ _ e.
+      gives_then _ _ _ (gives_passed (nat_lt most_steps (length before.plan.steps + length steps)) (whole TooMany)) (λ _ e.
       gives_ok (Fits before) (MoreSteps steps) (record { part = part; few = ltb-false most_steps (length before.plan.steps + length steps) e; makeable = all }))
 
   steps_fit : (steps : List Step) → All (IsPermitted before.plan) steps → Gives (Fits before) (rules.steps_within before steps)
@@ -126,33 +127,33 @@ module _ (before : Before) (part : before.part ≡ Declarations → ⊥) (device
   step_fits_made step may = made_fit (step ∷ []) (All-cons (IsMakeable before.plan) step [] may (All-nil (IsMakeable before.plan)))
 
   pair_step_fits : (step : ℕ → Step) → ((pair : ℕ) → pair < length before.plan.pairs → IsPermitted before.plan (step pair)) → (pair_text : List ℕ) → Gives (Fits before) (rules.pair_step_line before step pair_text)
-  pair_step_fits step ok pair_text = gives_then _ _ _ (pair_declared before pair_text) (λ pair lt. steps_fit (step pair ∷ []) (one before.plan (step pair) (ok pair lt)))
+  pair_step_fits step ok pair_text = gives_then _ _ _ (gives_at _ 2 _ (pair_declared before pair_text)) (λ pair lt. steps_fit (step pair ∷ []) (one before.plan (step pair) (ok pair lt)))
 
   side_line_fits : (steps : PairPlan → ℕ → Side → List Step) → ((pair : ℕ) (side : Side) → pair < length before.plan.pairs → All (IsPermitted before.plan) (steps (pair_plan before.plan pair) pair side))
       → (pair_text side_text : List ℕ) → Gives (Fits before) (rules.side_line before steps pair_text side_text)
   side_line_fits steps ok pair_text side_text =
-      gives_then _ _ _ (side_declared before pair_text side_text) (λ name lt.
+      gives_then _ _ _ (side_declared before 2 pair_text side_text) (λ name lt.
       steps_fit (steps (pair_plan before.plan name.pair) name.pair name.side) (ok name.pair name.side lt))
 
   queue_line_fits : (steps : ℕ → Side → ℕ → List Step) → ((pair : ℕ) (side : Side) (queue : ℕ) → IsQueueOf before.plan pair side queue → All (IsPermitted before.plan) (steps pair side queue))
       → (pair_text side_text queue_text : List ℕ) → Gives (Fits before) (rules.queue_line before steps pair_text side_text queue_text)
   queue_line_fits steps ok pair_text side_text queue_text =
-      gives_then _ _ _ (queue_declared before pair_text side_text queue_text) (λ name queue.
+      gives_then _ _ _ (queue_declared before 2 pair_text side_text queue_text) (λ name queue.
       steps_fit (steps name.pair name.side name.queue) (ok name.pair name.side name.queue queue))
 
   receive_line_fits : (pair_text side_text queue_text copies_text : List ℕ) → Gives (Fits before) (rules.receive_line before pair_text side_text queue_text copies_text)
   receive_line_fits pair_text side_text queue_text copies_text =
-      gives_then _ _ _ (queue_declared before pair_text side_text queue_text) (λ name queue.
-      gives_then _ _ _ (number_within 1 512 copies_text) (λ copies _.
+      gives_then _ _ _ (queue_declared before 2 pair_text side_text queue_text) (λ name queue.
+      gives_then _ _ _ (number_ranged 5 1 512 copies_text) (λ copies _.
       steps_fit (receive name.pair name.side name.queue copies) (received before.plan name.pair name.side name.queue copies queue)))
 
   frame_line_fits : (steps : PairPlan → ℕ → Side → ℕ → List ℕ → List Step)
       → ((pair : ℕ) (side : Side) (queue : ℕ) (frame : List ℕ) → IsQueueOf before.plan pair side queue → IsFrame frame → All (IsPermitted before.plan) (steps (pair_plan before.plan pair) pair side queue frame))
       → (pair_text side_text queue_text frame_text : List ℕ) → 0 < length frame_text → Gives (Fits before) (rules.frame_line before steps pair_text side_text queue_text frame_text)
   frame_line_fits steps ok pair_text side_text queue_text frame_text some =
-      gives_then _ _ _ (queue_declared before pair_text side_text queue_text) (λ name queue.
-      gives_then _ _ _ (bytes_spelled frame_text some) (λ frame filled.
-      gives_then _ _ _ (gives_passed (nat_lt most_frame_bytes (length frame)) TooMany) (λ _ e.
+      gives_then _ _ _ (queue_declared before 2 pair_text side_text queue_text) (λ name queue.
+      gives_then _ _ _ (gives_at _ 5 _ (bytes_spelled frame_text some)) (λ frame filled.
+      gives_then _ _ _ (gives_passed (nat_lt most_frame_bytes (length frame)) (whole TooMany)) (λ _ e.
       steps_fit (steps (pair_plan before.plan name.pair) name.pair name.side name.queue frame)
       (ok name.pair name.side name.queue frame queue (filled, ltb-false most_frame_bytes (length frame) e)))))
 
@@ -160,45 +161,45 @@ module _ (before : Before) (part : before.part ≡ Declarations → ⊥) (device
       → ((pair : ℕ) (side : Side) (n : ℕ) → pair < length before.plan.pairs → (numbered.least ≤ n) × (n ≤ numbered.most) → All (IsPermitted before.plan) (numbered.steps pair side n))
       → (pair_text side_text number_text : List ℕ) → Gives (Fits before) (rules.numbered_line before numbered pair_text side_text number_text)
   numbered_line_fits numbered ok pair_text side_text number_text =
-      gives_then _ _ _ (side_declared before pair_text side_text) (λ name lt.
-      gives_then _ _ _ (number_within numbered.least numbered.most number_text) (λ n range. steps_fit (numbered.steps name.pair name.side n) (ok name.pair name.side n lt range)))
+      gives_then _ _ _ (side_declared before 2 pair_text side_text) (λ name lt.
+      gives_then _ _ _ (number_ranged 4 numbered.least numbered.most number_text) (λ n range. steps_fit (numbered.steps name.pair name.side n) (ok name.pair name.side n lt range)))
 
   spad_line_fits : (pair_text side_text index_text value_text : List ℕ) → Gives (Fits before) (rules.spad_line before pair_text side_text index_text value_text)
   spad_line_fits pair_text side_text index_text value_text =
-      gives_then _ _ _ (side_declared before pair_text side_text) (λ name lt.
-      gives_then _ _ _ (number_within 0 15 index_text) (λ i range.
-      gives_then _ _ _ (gives_any (number_word value_text)) (λ value _.
-      gives_then _ _ _ (gives_passed (nat_lt i 12 && not (pair_plan before.plan name.pair).raw) BadPair) (λ _ e.
+      gives_then _ _ _ (side_declared before 2 pair_text side_text) (λ name lt.
+      gives_then _ _ _ (number_ranged 4 0 15 index_text) (λ i range.
+      gives_then _ _ _ (gives_any (at 5 (number_word value_text))) (λ value _.
+      gives_then _ _ _ (gives_passed (nat_lt i 12 && not (pair_plan before.plan name.pair).raw) (whole BadPair)) (λ _ e.
       steps_fit (Spad name.pair name.side i value ∷ [])
       (one before.plan (Spad name.pair name.side i value) (lt, record { among = let most = range.1 in omega arith; free = pad_is_free i (pair_plan before.plan name.pair).raw e }))))))
 
-  show_memory_fits : (pair_text side_text at_text len_text : List ℕ) → Gives (Fits before) (rules.show_memory_line before pair_text side_text at_text len_text)
-  show_memory_fits pair_text side_text at_text len_text =
-      gives_then _ _ _ (side_declared before pair_text side_text) (λ name lt.
-      gives_then _ _ _ (gives_any (number_word at_text)) (λ at _.
-      gives_then _ _ _ (number_within 1 64 len_text) (λ len range.
+  show_memory_fits : (pair_text side_text start_text len_text : List ℕ) → Gives (Fits before) (rules.show_memory_line before pair_text side_text start_text len_text)
+  show_memory_fits pair_text side_text start_text len_text =
+      gives_then _ _ _ (side_declared before 2 pair_text side_text) (λ name lt.
+      gives_then _ _ _ (gives_any (at 4 (number_word start_text))) (λ start _.
+      gives_then _ _ _ (number_ranged 5 1 64 len_text) (λ len range.
       gives_then _ _ _
-      (gives_passed (nat_lt ((side_plan (pair_plan before.plan name.pair) name.side).windows * (side_plan (pair_plan before.plan name.pair) name.side).cap) (at + len)) BadNumber) (λ _ e.
-      steps_fit (ShowMem name.pair name.side at len ∷ []) (one before.plan (ShowMem name.pair name.side at len) (
+      (gives_passed (nat_lt ((side_plan (pair_plan before.plan name.pair) name.side).windows * (side_plan (pair_plan before.plan name.pair) name.side).cap) (start + len)) (fault_at 5 BadNumber)) (λ _ e.
+      steps_fit (ShowMem name.pair name.side start len ∷ []) (one before.plan (ShowMem name.pair name.side start len) (
         lt,
         record {
           some = range.0;
           few = range.1;
-          within = ltb-false ((side_plan (pair_plan before.plan name.pair) name.side).windows * (side_plan (pair_plan before.plan name.pair) name.side).cap) (at + len) e;
+          within = ltb-false ((side_plan (pair_plan before.plan name.pair) name.side).windows * (side_plan (pair_plan before.plan name.pair) name.side).cap) (start + len) e;
         },
       ))))))
 
   poke_line_fits : (pair_text side_text window_text offset_text bytes_text : List ℕ) → 0 < length bytes_text
       → Gives (Fits before) (rules.poke_line before pair_text side_text window_text offset_text bytes_text)
   poke_line_fits pair_text side_text window_text offset_text bytes_text some =
-      gives_then _ _ _ (side_declared before pair_text side_text) (λ name lt.
-      gives_then _ _ _ (gives_any (number_word window_text)) (λ window _.
-      gives_then _ _ _ (gives_passed (not (nat_lt window (pair_plan before.plan name.pair).a.windows && nat_lt window (pair_plan before.plan name.pair).b.windows)) UnknownName) (λ _ known.
-      gives_then _ _ _ (gives_any (number_word offset_text)) (λ offset _.
-      gives_then _ _ _ (bytes_spelled bytes_text some) (λ bytes filled.
-      gives_then _ _ _ (gives_passed (nat_lt (reach (pair_plan before.plan name.pair) name.side) (offset + length bytes)) BadNumber) (λ _ within.
-      gives_then _ _ _ (gives_passed (not (pair_plan before.plan name.pair).raw) BadPair) (λ _ raw.
-      gives_then _ _ _ (gives_passed (nat_lt 128 (length bytes)) TooMany) (λ _ few.
+      gives_then _ _ _ (side_declared before 2 pair_text side_text) (λ name lt.
+      gives_then _ _ _ (gives_any (at 4 (number_word window_text))) (λ window _.
+      gives_then _ _ _ (gives_passed (not (nat_lt window (pair_plan before.plan name.pair).a.windows && nat_lt window (pair_plan before.plan name.pair).b.windows)) (fault_at 4 UnknownName)) (λ _ known.
+      gives_then _ _ _ (gives_any (at 5 (number_word offset_text))) (λ offset _.
+      gives_then _ _ _ (gives_at _ 6 _ (bytes_spelled bytes_text some)) (λ bytes filled.
+      gives_then _ _ _ (gives_passed (nat_lt (reach (pair_plan before.plan name.pair) name.side) (offset + length bytes)) (fault_at 6 BadNumber)) (λ _ within.
+      gives_then _ _ _ (gives_passed (not (pair_plan before.plan name.pair).raw) (whole BadPair)) (λ _ raw.
+      gives_then _ _ _ (gives_passed (nat_lt 128 (length bytes)) (whole TooMany)) (λ _ few.
       let both = and_parts (nat_lt window (pair_plan before.plan name.pair).a.windows) (nat_lt window (pair_plan before.plan name.pair).b.windows)
       (not-false (nat_lt window (pair_plan before.plan name.pair).a.windows && nat_lt window (pair_plan before.plan name.pair).b.windows) known) in
       steps_fit (Poke name.pair name.side window offset bytes ∷ []) (one before.plan (Poke name.pair name.side window offset bytes) (
@@ -217,16 +218,16 @@ module _ (before : Before) (part : before.part ≡ Declarations → ⊥) (device
 
   wake_line_fits : (dev_text : List ℕ) → Gives (Fits before) (rules.wake_line before dev_text)
   wake_line_fits dev_text =
-      gives_then _ _ _ (dev_declared before dev_text) (λ dev lt.
+      gives_then _ _ _ (gives_at _ 2 _ (dev_declared before dev_text)) (λ dev lt.
       steps_fit (Wake (dev_plan before.plan.devs dev).pair (dev_plan before.plan.devs dev).side (dev_plan before.plan.devs dev).queue dev ∷ [])
       (one before.plan (Wake (dev_plan before.plan.devs dev).pair (dev_plan before.plan.devs dev).side (dev_plan before.plan.devs dev).queue dev)
       (its_queue dev lt, record { declared = lt; its_pair = refl; its_side = refl; its_queue = refl })))
 
   relay_line_fits : (switch_text port_text : List ℕ) → Gives (Fits before) (rules.relay_line before switch_text port_text)
   relay_line_fits switch_text port_text =
-      gives_then _ _ _ (switch_declared before switch_text) (λ switch lt.
-      gives_then _ _ _ (gives_any (number_word port_text)) (λ port _.
-      gives_then _ _ _ (gives_passed (not (nat_lt port (length (switch_plan before.plan switch).ports))) UnknownName) (λ _ known.
+      gives_then _ _ _ (gives_at _ 2 _ (switch_declared before switch_text)) (λ switch lt.
+      gives_then _ _ _ (gives_any (at 3 (number_word port_text))) (λ port _.
+      gives_then _ _ _ (gives_passed (not (nat_lt port (length (switch_plan before.plan switch).ports))) (fault_at 3 UnknownName)) (λ _ known.
       step_fits_made (relay_step before.plan switch port) (inr (on_port switch port lt (below port (length (switch_plan before.plan switch).ports) known))))))
     where
       on_port : (switch port : ℕ) → switch < length before.plan.switches → port < length (switch_plan before.plan switch).ports
@@ -239,8 +240,8 @@ module _ (before : Before) (part : before.part ≡ Declarations → ⊥) (device
 
   xnext_line_fits : (dev_text : List ℕ) → Gives (Fits before) (rules.xnext_line before dev_text)
   xnext_line_fits dev_text =
-      gives_then _ _ _ (dev_declared before dev_text) (λ dev lt.
-      gives_then _ _ _ (gives_passed (not (is_port before dev)) UnknownName) (λ _ known.
+      gives_then _ _ _ (gives_at _ 2 _ (dev_declared before dev_text)) (λ dev lt.
+      gives_then _ _ _ (gives_passed (not (is_port before dev)) (fault_at 2 UnknownName)) (λ _ known.
       step_fits_made (Xnext (dev_plan before.plan.devs dev).pair (dev_plan before.plan.devs dev).side (dev_plan before.plan.devs dev).queue dev)
       (inr (record {
         port = port_is_there before.plan.switches dev (not-false (is_port before dev) known);
@@ -262,11 +263,11 @@ module _ (before : Before) (part : before.part ≡ Declarations → ⊥) (device
   ethernet_line_fits : (is_macro : Bool) (dev_text address_text kind_text payload_text : List ℕ) → 0 < length payload_text
       → Gives (Fits before) (rules.ethernet_line before is_macro dev_text address_text kind_text payload_text)
   ethernet_line_fits is_macro dev_text address_text kind_text payload_text some =
-      gives_then _ _ _ (dev_declared before dev_text) (λ dev lt.
-      gives_then _ _ _ (bytes_counted 6 address_text) (λ dst six.
-      gives_then _ _ _ (kind_is_small kind_text) (λ kind small.
-      gives_then _ _ _ (bytes_spelled payload_text some) (λ payload filled.
-      gives_then _ _ _ (gives_passed (nat_lt most_frame_bytes (length payload + ethernet_header)) TooMany) (λ _ e.
+      gives_then _ _ _ (gives_at _ 2 _ (dev_declared before dev_text)) (λ dev lt.
+      gives_then _ _ _ (gives_at _ 3 _ (bytes_counted 6 address_text)) (λ dst six.
+      gives_then _ _ _ (gives_at _ 4 _ (kind_is_small kind_text)) (λ kind small.
+      gives_then _ _ _ (gives_at _ 5 _ (bytes_spelled payload_text some)) (λ payload filled.
+      gives_then _ _ _ (gives_passed (nat_lt most_frame_bytes (length payload + ethernet_header)) (whole TooMany)) (λ _ e.
       steps_fit (ethernet_steps before.plan is_macro dev dst kind payload)
       (ethernet_permitted is_macro dev dst kind payload lt (record { address = six; small_kind = small; some = filled; fits = ltb-false most_frame_bytes (length payload + ethernet_header) e })))))))
 
@@ -302,13 +303,13 @@ module _ (before : Before) (part : before.part ≡ Declarations → ⊥) (device
       (gives_known _ (rules.frame_steps word) _ (λ steps e. frame_line_fits steps (frame_steps before.plan word steps e) a b c d some))))))
 
   five_words_fit : (word a b c d e : List ℕ) → 0 < length e → Gives (Fits before) (rules.line_of_five before word a b c d e)
-  five_words_fit word a b c d e some = gives_if _ (bytes_eq word (codes "poke")) _ _ (poke_line_fits a b c d e some) (gives_fault (Fits before) UnknownWord)
+  five_words_fit word a b c d e some = gives_if _ (bytes_eq word (codes "poke")) _ _ (poke_line_fits a b c d e some) (gives_fault (Fits before) unknown_line)
 
   pub step_fits : (word : List ℕ) (words : List (List ℕ)) → Filled words → Gives (Fits before) (rules.step_line before word words)
-  step_fits word [] h = gives_if _ (bytes_eq word (codes "traffic")) _ _ (gives_ok (Fits before) TrafficBegins tt) (gives_fault (Fits before) UnknownWord)
+  step_fits word [] h = gives_if _ (bytes_eq word (codes "traffic")) _ _ (gives_ok (Fits before) TrafficBegins tt) (gives_fault (Fits before) unknown_line)
   step_fits word (a ∷ []) h = one_word_fits word a
   step_fits word (a ∷ b ∷ []) h = two_words_fit word a b
   step_fits word (a ∷ b ∷ c ∷ []) h = three_words_fit word a b c
   step_fits word (a ∷ b ∷ c ∷ d ∷ []) h = four_words_fit word a b c d h.1.1.1.0
   step_fits word (a ∷ b ∷ c ∷ d ∷ e ∷ []) h = five_words_fit word a b c d e h.1.1.1.1.0
-  step_fits word (a ∷ b ∷ c ∷ d ∷ e ∷ f ∷ words) h = gives_fault (Fits before) UnknownWord
+  step_fits word (a ∷ b ∷ c ∷ d ∷ e ∷ f ∷ words) h = gives_fault (Fits before) unknown_line

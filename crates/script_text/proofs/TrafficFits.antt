@@ -19,15 +19,16 @@ use Rattle.plan_model.specs.Sizes.{sizes_of}
 use Rattle.plan_model.specs.TrafficPlans.{frames_in, bytes_in, is_break_of, MayHaveTraffic, IsTrafficLane, IsTraffic}
 use Rattle.script_words.specs.Before.{Before, MoreTraffic}
 use Rattle.script_words.specs.Settings.{agrees}
+use Rattle.script_words.specs.Tests.{unknown_line, whole}
 use Rattle.script_words.specs.TrafficLines.{may_have_traffic, is_little, traffic_within, lane_of, traffic_frame_line, flood_frame, flood_line, break_line, traffic_line}
-use Rattle.script_words.specs.declared.fault.Cause.TheVariants.{UnknownWord, BadGeometry, BadPair, TooMany}
+use Rattle.script_words.specs.declared.fault.Cause.TheVariants.{BadGeometry, BadPair, TooMany}
 use Rattle.script_words.specs.declared.parts.Part.TheVariants.{Declarations}
 use Rattle.script_plan.proofs.Floods.{length_flood_frame}
 use Rattle.script_text.specs.SoundLines.{Filled}
 use Rattle.script_text.proofs.Fits.{Fits}
-use Rattle.script_text.proofs.Gives.{Gives, gives_ok, gives_fault, gives_then, gives_passed, gives_if}
+use Rattle.script_text.proofs.Gives.{Gives, gives_ok, gives_fault, gives_then, gives_passed, gives_at, gives_if}
 use Rattle.script_text.proofs.PairFits.{sides_agree}
-use Rattle.script_text.proofs.WordFacts.{below, pair_declared, queue_declared, number_within, bytes_spelled}
+use Rattle.script_text.proofs.WordFacts.{below, pair_declared, queue_declared, number_ranged, bytes_spelled}
 
 may_have : (pair : PairPlan) → may_have_traffic pair ≡ true → MayHaveTraffic pair
 may_have pair h = let parts = and_parts (not pair.raw) (agrees pair) h in record { ordinary = not-true pair.raw parts.0; agree = sides_agree pair parts.1 }
@@ -71,9 +72,9 @@ module _ (before : Before) (part : before.part ≡ Declarations → ⊥) (few : 
   within_fits lane len more declared among items unbroken =
       gives_then _ _ _
       (gives_passed (nat_lt (sizes_of (pair_plan before.plan lane.pair) lane.from lane.queue).largest len
-      || nat_lt most_traffic_entries (sizes_of (pair_plan before.plan lane.pair) lane.from lane.queue).entries) BadGeometry) (λ _ sizes.
-      gives_then _ _ _ (gives_passed (not (may_have_traffic (pair_plan before.plan lane.pair))) BadPair) (λ _ may.
-      gives_then _ _ _ (gives_passed (not (is_little before.plan.traffic more)) TooMany) (λ _ little.
+      || nat_lt most_traffic_entries (sizes_of (pair_plan before.plan lane.pair) lane.from lane.queue).entries) (whole BadGeometry)) (λ _ sizes.
+      gives_then _ _ _ (gives_passed (not (may_have_traffic (pair_plan before.plan lane.pair))) (whole BadPair)) (λ _ may.
+      gives_then _ _ _ (gives_passed (not (is_little before.plan.traffic more)) (whole TooMany)) (λ _ little.
       let fit = or_parts (nat_lt (sizes_of (pair_plan before.plan lane.pair) lane.from lane.queue).largest len)
       (nat_lt most_traffic_entries (sizes_of (pair_plan before.plan lane.pair) lane.from lane.queue).entries) sizes in
       let has : MayHaveTraffic (pair_plan before.plan lane.pair) = may_have (pair_plan before.plan lane.pair) (not-false (may_have_traffic (pair_plan before.plan lane.pair)) may) in
@@ -94,8 +95,8 @@ module _ (before : Before) (part : before.part ≡ Declarations → ⊥) (few : 
 
   frame_fits : (pair_text side_text queue_text frame_text : List ℕ) → 0 < length frame_text → Gives (Fits before) (traffic_frame_line before pair_text side_text queue_text frame_text)
   frame_fits pair_text side_text queue_text frame_text some =
-      gives_then _ _ _ (queue_declared before pair_text side_text queue_text) (λ name queue.
-      gives_then _ _ _ (bytes_spelled frame_text some) (λ frame filled.
+      gives_then _ _ _ (queue_declared before 2 pair_text side_text queue_text) (λ name queue.
+      gives_then _ _ _ (gives_at _ 5 _ (bytes_spelled frame_text some)) (λ frame filled.
       within_fits (lane_of name) (length frame) (Send (lane_of name) frame ∷ []) queue.declared queue.among
       (λ lane short. All-cons (IsTraffic before.plan) (Send (lane_of name) frame) [] (lane, filled, short) (All-nil (IsTraffic before.plan)))
       (λ other. refl)))
@@ -106,9 +107,9 @@ module _ (before : Before) (part : before.part ≡ Declarations → ⊥) (few : 
 
   flood_fits : (pair_text side_text queue_text count_text len_text : List ℕ) → Gives (Fits before) (flood_line before pair_text side_text queue_text count_text len_text)
   flood_fits pair_text side_text queue_text count_text len_text =
-      gives_then _ _ _ (queue_declared before pair_text side_text queue_text) (λ name queue.
-      gives_then _ _ _ (number_within 1 100000 count_text) (λ count _.
-      gives_then _ _ _ (number_within 1 65536 len_text) (λ len range.
+      gives_then _ _ _ (queue_declared before 2 pair_text side_text queue_text) (λ name queue.
+      gives_then _ _ _ (number_ranged 5 1 100000 count_text) (λ count _.
+      gives_then _ _ _ (number_ranged 6 1 65536 len_text) (λ len range.
       within_fits (lane_of name) len
       (map (λ i. Send (lane_of name) (flood_frame len i)) (count_from 0 count)) queue.declared queue.among
       (λ lane short. All-map (IsTraffic before.plan) (λ i. Send (lane_of name) (flood_frame len i)) (count_from 0 count)
@@ -117,9 +118,9 @@ module _ (before : Before) (part : before.part ≡ Declarations → ⊥) (few : 
 
   break_fits : (pair_text : List ℕ) → Gives (Fits before) (break_line before pair_text)
   break_fits pair_text =
-      gives_then _ _ _ (pair_declared before pair_text) (λ pair lt.
-      gives_then _ _ _ (gives_passed (not (may_have_traffic (pair_plan before.plan pair))) BadPair) (λ _ may.
-      gives_then _ _ _ (gives_passed (not (nat_lt (count_by (is_break_of pair) before.plan.traffic) most_breaks)) TooMany) (λ _ room.
+      gives_then _ _ _ (gives_at _ 2 _ (pair_declared before pair_text)) (λ pair lt.
+      gives_then _ _ _ (gives_passed (not (may_have_traffic (pair_plan before.plan pair))) (whole BadPair)) (λ _ may.
+      gives_then _ _ _ (gives_passed (not (nat_lt (count_by (is_break_of pair) before.plan.traffic) most_breaks)) (whole TooMany)) (λ _ room.
       let has : MayHaveTraffic (pair_plan before.plan pair) = may_have (pair_plan before.plan pair) (not-false (may_have_traffic (pair_plan before.plan pair)) may) in
       gives_ok (Fits before) (MoreTraffic (Break pair ∷ [])) (record {
         part = part;
@@ -130,10 +131,10 @@ module _ (before : Before) (part : before.part ≡ Declarations → ⊥) (few : 
       }))))
 
   pub traffic_fits : (word : List ℕ) (words : List (List ℕ)) → Filled words → Gives (Fits before) (traffic_line before word words)
-  traffic_fits word [] h = gives_fault (Fits before) UnknownWord
-  traffic_fits word (a ∷ []) h = gives_if _ (bytes_eq word (codes "break")) _ _ (break_fits a) (gives_fault (Fits before) UnknownWord)
-  traffic_fits word (a ∷ b ∷ []) h = gives_fault (Fits before) UnknownWord
-  traffic_fits word (a ∷ b ∷ c ∷ []) h = gives_fault (Fits before) UnknownWord
-  traffic_fits word (a ∷ b ∷ c ∷ d ∷ []) h = gives_if _ (bytes_eq word (codes "frame")) _ _ (frame_fits a b c d h.1.1.1.0) (gives_fault (Fits before) UnknownWord)
-  traffic_fits word (a ∷ b ∷ c ∷ d ∷ e ∷ []) h = gives_if _ (bytes_eq word (codes "flood")) _ _ (flood_fits a b c d e) (gives_fault (Fits before) UnknownWord)
-  traffic_fits word (a ∷ b ∷ c ∷ d ∷ e ∷ f ∷ words) h = gives_fault (Fits before) UnknownWord
+  traffic_fits word [] h = gives_fault (Fits before) unknown_line
+  traffic_fits word (a ∷ []) h = gives_if _ (bytes_eq word (codes "break")) _ _ (break_fits a) (gives_fault (Fits before) unknown_line)
+  traffic_fits word (a ∷ b ∷ []) h = gives_fault (Fits before) unknown_line
+  traffic_fits word (a ∷ b ∷ c ∷ []) h = gives_fault (Fits before) unknown_line
+  traffic_fits word (a ∷ b ∷ c ∷ d ∷ []) h = gives_if _ (bytes_eq word (codes "frame")) _ _ (frame_fits a b c d h.1.1.1.0) (gives_fault (Fits before) unknown_line)
+  traffic_fits word (a ∷ b ∷ c ∷ d ∷ e ∷ []) h = gives_if _ (bytes_eq word (codes "flood")) _ _ (flood_fits a b c d e) (gives_fault (Fits before) unknown_line)
+  traffic_fits word (a ∷ b ∷ c ∷ d ∷ e ∷ f ∷ words) h = gives_fault (Fits before) unknown_line

@@ -24,8 +24,9 @@ use Rattle.plan_model.specs.Switches.{AreSwitches, IsMakeable, IsSwitch}
 use Rattle.plan_model.specs.TrafficPlans.{frames_in, bytes_in, is_break_of, IsTraffic, IsWhole}
 use Rattle.script_words.specs.Before.{Before, nothing_before, with_given, with_class, Given, Nothing, Host, APair, ADevice, AClass, ASwitch, StepsBegin, TrafficBegins, MoreSteps, MoreTraffic}
 use Rattle.script_words.specs.Declarations.{sits_on, same_side}
+use Rattle.script_words.specs.Tests.{whole}
 use Rattle.script_words.specs.Words.{lines_of, words_of, is_skipped, is_text}
-use Rattle.script_words.specs.declared.fault.Cause.{Cause}
+use Rattle.script_words.specs.declared.fault.LineFault.{LineFault}
 use Rattle.script_words.specs.declared.fault.Cause.TheVariants.{NotText, BadHeader}
 use Rattle.script_words.specs.declared.fault.ScriptFault.{ScriptFault}
 use Rattle.script_words.specs.declared.parts.Part.{Part}
@@ -321,20 +322,20 @@ words_fit before held TrafficPart is (word ∷ words) h =
 
 header_fits : (before : Before) (line : List ℕ) → Gives (Fits before) (header_line line)
 header_fits before line =
-    gives_then _ _ _ (gives_passed (not (is_text line)) NotText) (λ _ _.
-    gives_then _ _ _ (gives_passed (not (is_header (words_of line))) BadHeader) (λ _ _. gives_ok (Fits before) Nothing tt))
+    gives_then _ _ _ (gives_passed (not (is_text line)) (whole NotText)) (λ _ _.
+    gives_then _ _ _ (gives_passed (not (is_header (words_of line))) (whole BadHeader)) (λ _ _. gives_ok (Fits before) Nothing tt))
 
 pub line_fits : (n : ℕ) (before : Before) (line : List ℕ) → Held before → Gives (Fits before) (line_gives n before line)
 line_fits n before line held =
     gives_if _ (n == 1) _ _ (header_fits before line)
     (gives_if _ (is_skipped line) _ _ (gives_ok (Fits before) Nothing tt)
-    (gives_then _ _ _ (gives_passed (not (is_text line)) NotText) (λ _ _.
+    (gives_then _ _ _ (gives_passed (not (is_text line)) (whole NotText)) (λ _ _.
     words_fit before held before.part refl (words_of line) (filter_filled (slice_split (λ b. b == 32) line)))))
 
 pub after_held : (n : ℕ) (before : Before) (line : List ℕ) → Held before → Gives Held (after_line n before (line_gives n before line))
 after_held n before line held = by (line_gives n before line) (line_fits n before line held)
   where
-    by : (r : Result Given Cause) → Gives (Fits before) r → Gives Held (after_line n before r)
+    by : (r : Result Given LineFault) → Gives (Fits before) r → Gives Held (after_line n before r)
     by (Ok given) fits = gives_ok Held (with_given n before given) (kept n before given held (fits.holds given refl))
     by (Err cause) fits = record { holds = λ x e. cc e }
 

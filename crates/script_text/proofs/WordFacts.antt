@@ -13,11 +13,11 @@ use Rattle.plan_model.specs.DeclaredPlans.{IsQueueOf}
 use Rattle.plan_model.specs.Plans.{side_plan, pair_plan}
 use Rattle.script_words.specs.Before.{Before, number_named, has_name, pair_names, dev_names, switch_names, pair_word, dev_word, switch_word, queue_word, named_side, named_queue}
 use Rattle.script_words.specs.Declarations.{new_name}
-use Rattle.script_words.specs.Tests.{found_or}
-use Rattle.script_words.specs.Words.{name_word, side_word, number_word, number_between, hex_word, hex_of, kind_word, high_low, is_filled}
+use Rattle.script_words.specs.Tests.{found_or, at}
+use Rattle.script_words.specs.Words.{name_word, side_word, number_word, number_between, number_in, hex_word, hex_of, kind_word, high_low, is_filled}
 use Rattle.script_words.specs.declared.fault.Cause.TheVariants.{BadNumber, BadHex, Repeated, UnknownName}
 use Rattle.script_text.specs.SoundLines.{Filled}
-use Rattle.script_text.proofs.Gives.{Gives, gives_ok, gives_then, gives_passed, gives_found, gives_any}
+use Rattle.script_text.proofs.Gives.{Gives, gives_ok, gives_then, gives_passed, gives_found, gives_any, gives_at, gives_within}
 
 -- Words have bytes
 
@@ -71,14 +71,16 @@ queue_among before pair side word =
     gives_then _ _ _ (gives_passed (not (nat_lt queue (side_plan (pair_plan before.plan pair) side).queues)) UnknownName) (λ _ e.
     gives_ok _ queue (below queue (side_plan (pair_plan before.plan pair) side).queues e)))
 
-pub side_declared : (before : Before) (pair_text side_text : List ℕ) → Gives (λ name. name.pair < length before.plan.pairs) (named_side before pair_text side_text)
-side_declared before pair_text side_text =
-    gives_then _ _ _ (pair_declared before pair_text) (λ pair lt. gives_then _ _ _ (gives_any (side_word side_text)) (λ side _. gives_ok _ (record { pair = pair; side = side }) lt))
+pub side_declared : (before : Before) (n : ℕ) (pair_text side_text : List ℕ) → Gives (λ name. name.pair < length before.plan.pairs) (named_side before n pair_text side_text)
+side_declared before n pair_text side_text =
+    gives_then _ _ _ (gives_at _ n _ (pair_declared before pair_text)) (λ pair lt.
+    gives_then _ _ _ (gives_any (at (n + 1) (side_word side_text))) (λ side _. gives_ok _ (record { pair = pair; side = side }) lt))
 
-pub queue_declared : (before : Before) (pair_text side_text queue_text : List ℕ) → Gives (λ name. IsQueueOf before.plan name.pair name.side name.queue) (named_queue before pair_text side_text queue_text)
-queue_declared before pair_text side_text queue_text =
-    gives_then _ _ _ (side_declared before pair_text side_text) (λ name lt.
-    gives_then _ _ _ (queue_among before name.pair name.side queue_text) (λ queue among.
+pub queue_declared : (before : Before) (n : ℕ) (pair_text side_text queue_text : List ℕ)
+    → Gives (λ name. IsQueueOf before.plan name.pair name.side name.queue) (named_queue before n pair_text side_text queue_text)
+queue_declared before n pair_text side_text queue_text =
+    gives_then _ _ _ (side_declared before n pair_text side_text) (λ name lt.
+    gives_then _ _ _ (gives_at _ (n + 2) _ (queue_among before name.pair name.side queue_text)) (λ queue among.
     gives_ok _ (record { pair = name.pair; side = name.side; queue = queue }) (record { declared = lt; among = among })))
 
 pub name_is_new : (names : List (List ℕ)) (word : List ℕ) → Gives (λ name. has_name names name ≡ false) (new_name names word)
@@ -88,12 +90,15 @@ name_is_new names word =
 
 -- Numbers
 
-pub number_within : (least most : ℕ) (word : List ℕ) → Gives (λ n. (least ≤ n) × (n ≤ most)) (number_between least most word)
+number_within : (least most : ℕ) (word : List ℕ) → Gives (λ n. (least ≤ n) × (n ≤ most)) (number_between least most word)
 number_within least most word =
     gives_then _ _ _ (gives_any (number_word word)) (λ n _.
     gives_then _ _ _ (gives_passed (nat_lt n least || nat_lt most n) BadNumber) (λ _ e.
     let parts = or_parts (nat_lt n least) (nat_lt most n) e in
     gives_ok (λ k. (least ≤ k) × (k ≤ most)) n (ltb-false n least parts.0, ltb-false most n parts.1)))
+
+pub number_ranged : (n least most : ℕ) (word : List ℕ) → Gives (λ k. (least ≤ k) × (k ≤ most)) (number_in n least most word)
+number_ranged n least most word = gives_within _ n least most _ (number_within least most word)
 
 -- Bytes
 

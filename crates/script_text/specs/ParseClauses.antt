@@ -1,9 +1,9 @@
 -- What the code owes of a script's value, and a line's value as the lines after it take it.
 use Rattle.std.specs.Prelude.{◌≡◌, ℕ, Result, Ok, Err}
 use Rattle.script_words.specs.Before.{Before, Given, with_given}
-use Rattle.script_words.specs.Reads.{Reads, result_map}
-use Rattle.script_words.specs.declared.fault.Cause.{Cause}
+use Rattle.script_words.specs.Reads.{ReadsLine, result_map}
 use Rattle.script_words.specs.declared.fault.LineError.{LineError}
+use Rattle.script_words.specs.declared.fault.LineFault.{LineFault}
 use Rattle.script_words.specs.declared.fault.ScriptFault.{ScriptFault}
 use Rattle.script_text.specs.declared.error.ParseError.{ParseError}
 use Rattle.script_text.specs.declared.error.ParseError.TheVariants.{Fault, OutOfMemory}
@@ -15,10 +15,10 @@ Parses (Err (Fault fault)) due = due ≡ Err fault
 Parses (Err OutOfMemory) due = Unit {0}
 
 -- the lines so far with line n, where it gives something
-abbrev pub after_line : ℕ → Before → Result Given Cause → Result Before ScriptFault
+abbrev pub after_line : ℕ → Before → Result Given LineFault → Result Before ScriptFault
 after_line n before (Ok given) = Ok (with_given n before given)
-after_line n before (Err cause) = Err (record { line = n; cause = cause })
+after_line n before (Err fault) = Err (record { line = n; fault = fault })
 
 -- line n added to the lines so far: they are as the lines after it take them, or the line has its fault; only want of memory is free
-abbrev pub Adds : ℕ → Before → Before → Result (Unit {0}) LineError → Result Given Cause → Type 0
-Adds n old new result due = Reads (result_map (λ _. new) result) (result_map (with_given n old) due)
+abbrev pub Adds : ℕ → Before → Before → Result (Unit {0}) LineError → Result Given LineFault → Type 0
+Adds n old new result due = ReadsLine (result_map (λ _. new) result) (result_map (with_given n old) due)

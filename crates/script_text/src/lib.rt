@@ -14,4 +14,4 @@ mod traffic_lines;
 pub use error::ParseError;
 pub use script::{parse, read_script};
 pub use script_plan::Script;
-pub use script_words::{Cause, ScriptFault};
+pub use script_words::{Cause, LineFault, Range, ScriptFault};

@@ -1,7 +1,7 @@
 //! Words that name what is declared.
 #![tactic(auto, unfolding(script_words::specs::Tests::and_then))]
 
-ghost use Rattle.std.specs.Prelude.{◌≡◌, ◌<◌, length, IfOk};
+ghost use Rattle.std.specs.Prelude.{◌≡◌, ◌<◌, ◌≤◌, length, IfOk};
 ghost use Rattle.plan_model.specs.Plans.{side_plan, pair_plan, dev_plan};
 ghost use Rattle.script_words.specs.Before.{pair_word, dev_word, switch_word, queue_word, named_side, named_queue, pair_names, dev_names, switch_names};
 ghost use Rattle.script_words.specs.Declarations.{host_word, new_name};
@@ -9,7 +9,7 @@ ghost use Rattle.script_words.specs.Declarations.{host_word, new_name};
 use script_plan::rings::side_of;
 use script_plan::{Names, Reader};
 use script_words::words::{is_name, read_name, read_number, read_side};
-use script_words::{Cause, QueueName, SideName};
+use script_words::{Cause, LineFault, QueueName, SideName, at};
 use step_kinds::{Name, Side};
 
 /// The words that name a side of a pair.
@@ -111,13 +111,14 @@ pub fn read_switch(before: &Reader, word: &[u8]) -> Result<u32, Cause>
     before.switches().number(word).ok_or(Cause::UnknownName)
 }
 
-/// The side of a pair that two words name.
-pub fn read_side_name(before: &Reader, words: SideWords<'_>) -> Result<SideName, Cause>
-    ensures value { result ≡ named_side before.now words.entry.pair.now words.entry.side.now }
+/// The side of a pair that two words name, the first of which is word `n` of the line.
+pub fn read_side_name(before: &Reader, n: u32, words: SideWords<'_>) -> Result<SideName, LineFault>
+    requires { n ≤ 6 }
+    ensures value { result ≡ named_side before.now n words.entry.pair.now words.entry.side.now }
     ensures declared { IfOk result (λ name. name.pair < length before.now.plan.pairs) }
 {
-    let pair = read_pair(before, words.pair)?;
-    let side = read_side(words.side)?;
+    let pair = at(n, read_pair(before, words.pair))?;
+    let side = at(n + 1, read_side(words.side))?;
     Ok(SideName { pair, side })
 }
 
@@ -134,14 +135,19 @@ fn read_queue(before: &Reader, pair: u32, side: Side, word: &[u8]) -> Result<u32
     Ok(queue)
 }
 
-/// The queue of a side of a pair that three words name.
-pub fn read_queue_name(before: &Reader, words: QueueWords<'_>) -> Result<QueueName, Cause>
-    ensures value { result ≡ named_queue before.now words.entry.pair.now words.entry.side.now words.entry.queue.now }
+/// The queue of a side of a pair that three words name, the first of which is word `n` of the line.
+pub fn read_queue_name(
+    before: &Reader,
+    n: u32,
+    words: QueueWords<'_>,
+) -> Result<QueueName, LineFault>
+    requires { n ≤ 6 }
+    ensures value { result ≡ named_queue before.now n words.entry.pair.now words.entry.side.now words.entry.queue.now }
     ensures declared { IfOk result (λ name. name.pair < length before.now.plan.pairs) }
     ensures among { IfOk result (λ name. name.queue < (side_plan (pair_plan before.now.plan name.pair) name.side).queues) }
 {
     let QueueWords { pair, side, queue } = words;
-    let SideName { pair, side } = read_side_name(before, SideWords { pair, side })?;
-    let queue = read_queue(before, pair, side, queue)?;
+    let SideName { pair, side } = read_side_name(before, n, SideWords { pair, side })?;
+    let queue = at(n + 2, read_queue(before, pair, side, queue))?;
     Ok(QueueName { pair, side, queue })
 }

@@ -4,7 +4,7 @@
 ghost use Rattle.std.specs.Prelude.{◌≡◌, ◌≤◌, ◌+◌, ◌^◌, ◌<◌, length, map};
 ghost use Rattle.step_kinds.specs.Limits.{most_script_bytes};
 ghost use Rattle.script_words.specs.Before.{Nothing};
-ghost use Rattle.script_words.specs.Reads.{Reads, result_map};
+ghost use Rattle.script_words.specs.Reads.{ReadsLine, result_map};
 ghost use Rattle.script_plan.specs.Scripts.{plan_in};
 ghost use Rattle.script_text.specs.SoundLines.{Held, Filled};
 ghost use Rattle.script_text.specs.ParseClauses.{Parses, Adds, after_line};
@@ -22,13 +22,13 @@ use step_kinds::Plan;
 
 /// The first line.
 fn header_line<'a>(words: &mut Vec<&'a [u8]>, line: &'a [u8]) -> AddResult
-    ensures { Reads (result_map (λ _. Nothing) result) (rules.header_line line.now) }
+    ensures { ReadsLine (result_map (λ _. Nothing) result) (rules.header_line line.now) }
 {
     if !read_words(words, line)? {
-        return Err(LineError::Fault(Cause::NotText));
+        return Err(LineError::Fault(Cause::NotText.of_line()));
     }
     if !is_header(words) {
-        return Err(LineError::Fault(Cause::BadHeader));
+        return Err(LineError::Fault(Cause::BadHeader.of_line()));
     }
     Ok(())
 }
@@ -44,6 +44,7 @@ fn is_header(words: &[&[u8]]) -> bool
 }
 
 /// Adds what the words of a line give in the part of the script that it stands in.
+#[inline(always)]
 fn words_line(alloc: Global, before: &mut Reader, line: u32, words: &[&[u8]]) -> AddResult
     requires held { Held before.old }
     requires filled { Filled (map (λ word. word.now) words.now) }
@@ -68,6 +69,7 @@ fn words_line(alloc: Global, before: &mut Reader, line: u32, words: &[&[u8]]) ->
 }
 
 /// Adds what line `number` gives to the lines so far. Its words are read into `words`.
+#[inline(always)]
 fn read_line<'a>(
     alloc: Global,
     number: u32,
@@ -85,12 +87,13 @@ fn read_line<'a>(
         return Ok(());
     }
     if !read_words(words, line)? {
-        return Err(LineError::Fault(Cause::NotText));
+        return Err(LineError::Fault(Cause::NotText.of_line()));
     }
     words_line(alloc, before, number, words)
 }
 
 /// The same, where the fault has its line.
+#[inline(always)]
 fn add_line<'a>(
     alloc: Global,
     number: u32,
@@ -103,9 +106,9 @@ fn add_line<'a>(
 {
     match read_line(alloc, number, before, words, line) {
         Ok(()) => Ok(()),
-        Err(LineError::Fault(cause)) => Err(ParseError::Fault(ScriptFault {
+        Err(LineError::Fault(fault)) => Err(ParseError::Fault(ScriptFault {
             line: number,
-            cause,
+            fault,
         })),
         Err(LineError::OutOfMemory) => Err(ParseError::OutOfMemory),
     }

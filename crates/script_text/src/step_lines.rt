@@ -20,8 +20,10 @@ use script_words::step_words::{
     FrameWord, NumberWord, PairWord, QueueWord, SideWord, frame_word_of, number_word_of,
     pair_word_of, queue_word_of, side_word_of,
 };
-use script_words::words::{read_array, read_bytes, read_kind, read_number, read_number_between};
-use script_words::{Cause, Given, LineError, Macro, QueueName, Repeated, SideName};
+use script_words::words::{read_array, read_bytes_at, read_kind, read_number, read_number_in};
+use script_words::{
+    Cause, Given, LineError, Macro, QueueName, Repeated, SideName, at, unknown_line,
+};
 use std::alloc::Global;
 use step_kinds::limits::{MOST_FRAME_BYTES, MOST_STEPS};
 use step_kinds::{Frame, PairPlan, Side, Step};
@@ -32,7 +34,7 @@ fn add_steps(before: &mut Reader, line: u32, steps: Macro) -> AddResult
     ensures { Adds line before.old before.new result (rules.steps_within before.old (steps_of steps)) }
 {
     if before.step_count() as u64 + steps.count() > MOST_STEPS as u64 {
-        return Err(LineError::Fault(Cause::TooMany));
+        return Err(LineError::Fault(Cause::TooMany.of_line()));
     }
     before.add_steps(line, steps)?;
     Ok(())
@@ -43,7 +45,7 @@ fn add_step(before: &mut Reader, line: u32, step: Step) -> AddResult
     ensures { Adds line before.old before.new result (rules.steps_within before.old (step ∷ [])) }
 {
     if before.step_count() >= MOST_STEPS as usize {
-        return Err(LineError::Fault(Cause::TooMany));
+        return Err(LineError::Fault(Cause::TooMany.of_line()));
     }
     before.add_step(line, step)?;
     Ok(())
@@ -53,7 +55,7 @@ fn add_step(before: &mut Reader, line: u32, step: Step) -> AddResult
 fn pair_step_line(before: &mut Reader, line: u32, word: PairWord, pair: &[u8]) -> AddResult
     ensures { Adds line before.old before.new result (rules.pair_step_line before.old (pair_step_of word) pair.now) }
 {
-    let pair = read_pair(before, pair)?;
+    let pair = at(2, read_pair(before, pair))?;
     add_step(before, line, word.step(pair))
 }
 
@@ -61,7 +63,7 @@ fn pair_step_line(before: &mut Reader, line: u32, word: PairWord, pair: &[u8]) -
 fn side_line(before: &mut Reader, line: u32, word: SideWord, of: SideWords<'_>) -> AddResult
     ensures { Adds line before.old before.new result (rules.side_line before.old (side_steps_of word) of.entry.pair.now of.entry.side.now) }
 {
-    let SideName { pair, side } = read_side_name(before, of)?;
+    let SideName { pair, side } = read_side_name(before, 2, of)?;
     let windows = side_of(before.pair(pair), side).windows;
     add_steps(before, line, word.steps(windows, pair, side))
 }
@@ -70,7 +72,7 @@ fn side_line(before: &mut Reader, line: u32, word: SideWord, of: SideWords<'_>) 
 fn queue_line(before: &mut Reader, line: u32, word: QueueWord, on: QueueWords<'_>) -> AddResult
     ensures { Adds line before.old before.new result (rules.queue_line before.old (queue_steps_of word) on.entry.pair.now on.entry.side.now on.entry.queue.now) }
 {
-    let QueueName { pair, side, queue } = read_queue_name(before, on)?;
+    let QueueName { pair, side, queue } = read_queue_name(before, 2, on)?;
     add_steps(before, line, word.steps(pair, side, queue))
 }
 
@@ -78,8 +80,8 @@ fn queue_line(before: &mut Reader, line: u32, word: QueueWord, on: QueueWords<'_
 fn receive_line(before: &mut Reader, line: u32, on: QueueWords<'_>, copies: &[u8]) -> AddResult
     ensures { Adds line before.old before.new result (rules.receive_line before.old on.entry.pair.now on.entry.side.now on.entry.queue.now copies.now) }
 {
-    let QueueName { pair, side, queue } = read_queue_name(before, on)?;
-    let copies = read_number_between(1, 512, copies)?;
+    let QueueName { pair, side, queue } = read_queue_name(before, 2, on)?;
+    let copies = read_number_in(5, 1, 512, copies)?;
     add_steps(
         before,
         line,
@@ -102,8 +104,8 @@ fn numbered_line(
 ) -> AddResult
     ensures { Adds line before.old before.new result (rules.numbered_line before.old (numbered_of word) of.entry.pair.now of.entry.side.now number.now) }
 {
-    let SideName { pair, side } = read_side_name(before, of)?;
-    let number = read_number_between(word.least(), word.most(), number)?;
+    let SideName { pair, side } = read_side_name(before, 2, of)?;
+    let number = read_number_in(4, word.least(), word.most(), number)?;
     add_steps(before, line, word.steps(pair, side, number))
 }
 
@@ -117,11 +119,11 @@ fn spad_line(
 ) -> AddResult
     ensures { Adds line before.old before.new result (rules.spad_line before.old of.entry.pair.now of.entry.side.now index.now value.now) }
 {
-    let SideName { pair, side } = read_side_name(before, of)?;
-    let index = read_number_between(0, 15, index)?;
-    let value = read_number(value)?;
+    let SideName { pair, side } = read_side_name(before, 2, of)?;
+    let index = read_number_in(4, 0, 15, index)?;
+    let value = at(5, read_number(value))?;
     if index < 12 && !before.pair(pair).raw {
-        return Err(LineError::Fault(Cause::BadPair));
+        return Err(LineError::Fault(Cause::BadPair.of_line()));
     }
     add_step(
         before,
@@ -140,17 +142,17 @@ fn show_memory_line(
     before: &mut Reader,
     line: u32,
     of: SideWords<'_>,
-    at: &[u8],
+    start: &[u8],
     len: &[u8],
 ) -> AddResult
-    ensures { Adds line before.old before.new result (rules.show_memory_line before.old of.entry.pair.now of.entry.side.now at.now len.now) }
+    ensures { Adds line before.old before.new result (rules.show_memory_line before.old of.entry.pair.now of.entry.side.now start.now len.now) }
 {
-    let SideName { pair, side } = read_side_name(before, of)?;
-    let at = read_number(at)? as u64;
-    let len = read_number_between(1, 64, len)?;
+    let SideName { pair, side } = read_side_name(before, 2, of)?;
+    let start = at(4, read_number(start))? as u64;
+    let len = read_number_in(5, 1, 64, len)?;
     let own = side_of(before.pair(pair), side);
-    if own.windows as u64 * own.cap < at + len as u64 {
-        return Err(LineError::Fault(Cause::BadNumber));
+    if own.windows as u64 * own.cap < start + len as u64 {
+        return Err(LineError::Fault(Cause::BadNumber.at(5)));
     }
     add_step(
         before,
@@ -158,7 +160,7 @@ fn show_memory_line(
         Step::ShowMem {
             pair,
             side,
-            at,
+            at: start,
             len,
         },
     )
@@ -168,7 +170,7 @@ fn show_memory_line(
 fn wake_line(before: &mut Reader, line: u32, dev: &[u8]) -> AddResult
     ensures { Adds line before.old before.new result (rules.wake_line before.old dev.now) }
 {
-    let dev = read_device(before, dev)?;
+    let dev = at(2, read_device(before, dev))?;
     let device = before.device(dev);
     let step = Step::Wake {
         pair: device.pair,
@@ -183,11 +185,11 @@ fn wake_line(before: &mut Reader, line: u32, dev: &[u8]) -> AddResult
 fn relay_line(before: &mut Reader, line: u32, switch: &[u8], port: &[u8]) -> AddResult
     ensures { Adds line before.old before.new result (rules.relay_line before.old switch.now port.now) }
 {
-    let switch = read_switch(before, switch)?;
-    let port = read_number(port)?;
+    let switch = at(2, read_switch(before, switch))?;
+    let port = at(3, read_number(port))?;
     let ports = before.switch(switch).ports.as_slice();
     if port as usize >= ports.len() {
-        return Err(LineError::Fault(Cause::UnknownName));
+        return Err(LineError::Fault(Cause::UnknownName.at(3)));
     }
     let device = before.device(ports[port as usize]);
     let step = Step::Relay {
@@ -204,9 +206,9 @@ fn relay_line(before: &mut Reader, line: u32, switch: &[u8], port: &[u8]) -> Add
 fn xnext_line(before: &mut Reader, line: u32, dev: &[u8]) -> AddResult
     ensures { Adds line before.old before.new result (rules.xnext_line before.old dev.now) }
 {
-    let dev = read_device(before, dev)?;
+    let dev = at(2, read_device(before, dev))?;
     if !before.is_port(dev) {
-        return Err(LineError::Fault(Cause::UnknownName));
+        return Err(LineError::Fault(Cause::UnknownName.at(2)));
     }
     let device = before.device(dev);
     let step = Step::Xnext {
@@ -239,22 +241,22 @@ fn poke_line(
 ) -> AddResult
     ensures { Adds line before.old before.new result (rules.poke_line before.old of.entry.pair.now of.entry.side.now window.now offset.now bytes.now) }
 {
-    let SideName { pair, side } = read_side_name(before, of)?;
-    let window = read_number(window)?;
+    let SideName { pair, side } = read_side_name(before, 2, of)?;
+    let window = at(4, read_number(window))?;
     let plan = before.pair(pair);
     if window >= plan.a.windows || window >= plan.b.windows {
-        return Err(LineError::Fault(Cause::UnknownName));
+        return Err(LineError::Fault(Cause::UnknownName.at(4)));
     }
-    let offset = read_number(offset)? as u64;
-    let bytes = read_bytes(alloc, bytes)?;
+    let offset = at(5, read_number(offset))? as u64;
+    let bytes = read_bytes_at(alloc, 6, bytes)?;
     if offset + bytes.len() as u64 > reach(plan, side) {
-        return Err(LineError::Fault(Cause::BadNumber));
+        return Err(LineError::Fault(Cause::BadNumber.at(6)));
     }
     if !plan.raw {
-        return Err(LineError::Fault(Cause::BadPair));
+        return Err(LineError::Fault(Cause::BadPair.of_line()));
     }
     if bytes.len() > 128 {
-        return Err(LineError::Fault(Cause::TooMany));
+        return Err(LineError::Fault(Cause::TooMany.of_line()));
     }
     let bytes = Frame::of_vec(bytes.into_vec());
     add_step(
@@ -305,10 +307,10 @@ fn frame_line(
 ) -> AddResult
     ensures { Adds line before.old before.new result (rules.frame_line before.old (frame_steps_of word) on.entry.pair.now on.entry.side.now on.entry.queue.now frame.now) }
 {
-    let name = read_queue_name(before, on)?;
-    let bytes = read_bytes(alloc, frame)?;
+    let name = read_queue_name(before, 2, on)?;
+    let bytes = read_bytes_at(alloc, 5, frame)?;
     if bytes.len() > MOST_FRAME_BYTES as usize {
-        return Err(LineError::Fault(Cause::TooMany));
+        return Err(LineError::Fault(Cause::TooMany.of_line()));
     }
     let frame = Frame::of_vec(bytes.into_vec());
     let steps = frame_steps(word, before.pair(name.pair), name, frame);
@@ -365,12 +367,12 @@ fn ethernet_line(
 ) -> AddResult
     ensures { Adds line before.old before.new result (rules.ethernet_line before.old is_macro dev.now address.now kind.now payload.now) }
 {
-    let dev = read_device(before, dev)?;
-    let dst = read_array::<6>(address)?;
-    let kind = read_kind(kind)?;
-    let bytes = read_bytes(alloc, payload)?;
+    let dev = at(2, read_device(before, dev))?;
+    let dst = at(3, read_array::<6>(address))?;
+    let kind = at(4, read_kind(kind))?;
+    let bytes = read_bytes_at(alloc, 5, payload)?;
     if bytes.len() > MOST_FRAME_BYTES as usize - 14 {
-        return Err(LineError::Fault(Cause::TooMany));
+        return Err(LineError::Fault(Cause::TooMany.of_line()));
     }
     let payload = Frame::of_vec(bytes.into_vec());
     let steps = ethernet_steps(before, is_macro, dev, dst, kind, payload);
@@ -389,7 +391,7 @@ fn line_of_one(before: &mut Reader, line: u32, word: &[u8], a: &[u8]) -> AddResu
     }
     match pair_word_of(word) {
         Some(step) => pair_step_line(before, line, step, a),
-        None => Err(LineError::Fault(Cause::UnknownWord)),
+        None => Err(LineError::Fault(unknown_line())),
     }
 }
 
@@ -403,7 +405,7 @@ fn line_of_two(before: &mut Reader, line: u32, word: &[u8], a: &[u8], b: &[u8]) 
     let (pair, side) = (a, b);
     match side_word_of(word) {
         Some(steps) => side_line(before, line, steps, SideWords { pair, side }),
-        None => Err(LineError::Fault(Cause::UnknownWord)),
+        None => Err(LineError::Fault(unknown_line())),
     }
 }
 
@@ -421,7 +423,7 @@ fn line_of_three(before: &mut Reader, line: u32, word: &[u8], on: QueueWords<'_>
     }
     match queue_word_of(word) {
         Some(steps) => queue_line(before, line, steps, on),
-        None => Err(LineError::Fault(Cause::UnknownWord)),
+        None => Err(LineError::Fault(unknown_line())),
     }
 }
 
@@ -459,7 +461,7 @@ fn line_of_four(
             d,
         )
     } else {
-        Err(LineError::Fault(Cause::UnknownWord))
+        Err(LineError::Fault(unknown_line()))
     }
 }
 
@@ -479,7 +481,7 @@ fn line_of_five(
     if word == b"poke".as_slice() {
         poke_line(alloc, before, line, of, window, offset, bytes)
     } else {
-        Err(LineError::Fault(Cause::UnknownWord))
+        Err(LineError::Fault(unknown_line()))
     }
 }
 
@@ -488,7 +490,7 @@ fn lone_line(alloc: Global, before: &mut Reader, line: u32, word: &[u8]) -> AddR
     ensures { Adds line before.old before.new result (rules.step_line before.old word.now []) }
 {
     if word != b"traffic".as_slice() {
-        return Err(LineError::Fault(Cause::UnknownWord));
+        return Err(LineError::Fault(unknown_line()));
     }
     before.add(alloc, line, Given::TrafficBegins)?;
     Ok(())
@@ -516,6 +518,6 @@ pub fn step_line(
             let of = SideWords { pair, side };
             line_of_five(alloc, before, line, word, of, window, offset, bytes)
         }
-        _ => Err(LineError::Fault(Cause::UnknownWord)),
+        _ => Err(LineError::Fault(unknown_line())),
     }
 }

@@ -1,35 +1,38 @@
 //! Declarations of switches.
 #![tactic(auto, unfolding(script_words::specs::Tests::and_then))]
 
-ghost use Rattle.std.specs.Prelude.{◌≡◌, ◌∷◌, ◌++◌, ◌<◌, [], length, map};
+ghost use Rattle.std.specs.Prelude.{◌≡◌, ◌∷◌, ◌++◌, ◌<◌, ◌≤◌, [], length, map};
 ghost use Rattle.std.specs.List.{All};
 ghost use Rattle.script_words.specs.Compact.{given_of};
 ghost use Rattle.script_words.specs.Declarations as rules;
 ghost use Rattle.script_words.specs.Ports.{on_one_host, ports_from, with_port};
-ghost use Rattle.script_words.specs.Reads.{Reads, result_map};
+ghost use Rattle.script_words.specs.Reads.{ReadsLine, result_map};
 
 use crate::lines::LineResult;
 use crate::lookups::{new_switch, read_device};
 use script_plan::{Reader, is_among};
-use script_words::{Cause, Given, LineError};
+use script_words::{Cause, Given, LineError, LineFault, at, unknown_line};
 use std::alloc::Global;
 use step_kinds::limits::{LEAST_PORTS, MOST_PORTS, MOST_SWITCHES};
 use step_kinds::{Items, SwitchPlan};
 
 /// The device that a word names, which is neither a port yet nor one of these.
-fn new_port(before: &Reader, devs: &[u32], word: &[u8]) -> Result<u32, Cause>
+fn new_port(before: &Reader, devs: &[u32], word: &[u8]) -> Result<u32, LineFault>
+    requires { length devs.now ≤ 16 }
     ensures { result_map (λ dev. devs.now ++ dev ∷ []) result ≡ with_port before.now devs.now word.now }
 {
-    let dev = read_device(before, word)?;
+    let place = 3 + devs.len() as u32;
+    let dev = at(place, read_device(before, word))?;
     if before.is_port(dev) || is_among(devs, dev) {
-        return Err(Cause::Repeated);
+        return Err(Cause::Repeated.at(place));
     }
     Ok(dev)
 }
 
 /// The devices that words name as ports of one switch, in order.
 fn read_ports(alloc: Global, before: &Reader, words: &[&[u8]]) -> Result<Items<u32>, LineError>
-    ensures { Reads result (ports_from before.now [] (map (λ word. word.now) words.now)) }
+    requires { length words.now ≤ 16 }
+    ensures { ReadsLine result (ports_from before.now [] (map (λ word. word.now) words.now)) }
 {
     let mut ports = Items::new(alloc);
     for word in words {
@@ -58,15 +61,16 @@ fn on_one_host(before: &Reader, devs: &[u32]) -> bool
 
 /// `switch NAME DEV DEV..`
 fn switch_line(alloc: Global, before: &Reader, name: &[u8], devs: &[&[u8]]) -> LineResult
-    ensures { Reads (result_map given_of result) (rules.switch_line before.now name.now (map (λ word. word.now) devs.now)) }
+    requires { length devs.now ≤ 16 }
+    ensures { ReadsLine (result_map given_of result) (rules.switch_line before.now name.now (map (λ word. word.now) devs.now)) }
 {
-    let name = new_switch(before, name)?;
+    let name = at(2, new_switch(before, name))?;
     let ports = read_ports(alloc, before, devs)?;
     if !on_one_host(before, ports.as_slice()) {
-        return Err(LineError::Fault(Cause::BadSwitch));
+        return Err(LineError::Fault(Cause::BadSwitch.of_line()));
     }
     if before.switches().len() >= MOST_SWITCHES {
-        return Err(LineError::Fault(Cause::TooMany));
+        return Err(LineError::Fault(Cause::TooMany.of_line()));
     }
     Ok(Given::Switch {
         switch: SwitchPlan { name, ports },
@@ -82,14 +86,14 @@ fn is_ports(ports: usize) -> bool
 
 /// The words behind `switch`.
 pub fn switch_words(alloc: Global, before: &Reader, words: &[&[u8]]) -> LineResult
-    ensures { Reads (result_map given_of result) (rules.switch_words before.now (map (λ word. word.now) words.now)) }
+    ensures { ReadsLine (result_map given_of result) (rules.switch_words before.now (map (λ word. word.now) words.now)) }
 {
     let [name, devs @ ..] = words else {
-        return Err(LineError::Fault(Cause::UnknownWord));
+        return Err(LineError::Fault(unknown_line()));
     };
     if is_ports(devs.len()) {
         switch_line(alloc, before, name, devs)
     } else {
-        Err(LineError::Fault(Cause::UnknownWord))
+        Err(LineError::Fault(unknown_line()))
     }
 }

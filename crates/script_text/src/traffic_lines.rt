@@ -7,7 +7,7 @@ ghost use Rattle.plan_model.specs.Plans.{side_plan, pair_plan};
 ghost use Rattle.plan_model.specs.TrafficPlans.{frames_in, bytes_in};
 ghost use Rattle.script_words.specs.Before.{MoreTraffic};
 ghost use Rattle.script_words.specs.Compact.{given_of};
-ghost use Rattle.script_words.specs.Reads.{Reads, result_map};
+ghost use Rattle.script_words.specs.Reads.{ReadsLine, result_map};
 ghost use Rattle.script_words.specs.TrafficLines as rules;
 
 use crate::lines::LineResult;
@@ -15,8 +15,8 @@ use crate::lookups::{QueueWords, read_pair, read_queue_name};
 use script_plan::Reader;
 use script_plan::rings::ring_of;
 use script_words::options::agrees;
-use script_words::words::{read_bytes, read_number_between};
-use script_words::{Cause, Given, LineError, QueueName};
+use script_words::words::{read_bytes_at, read_number_in};
+use script_words::{Cause, Given, LineError, LineFault, QueueName, at, unknown_line};
 use std::alloc::Global;
 use step_kinds::limits::{MOST_BREAKS, MOST_TRAFFIC_ENTRIES};
 use step_kinds::{Frame, LaneName, PairPlan};
@@ -29,7 +29,7 @@ fn may_have_traffic(pair: &PairPlan) -> bool
 }
 
 /// Whether so many frames of so many bytes may be sent on a lane.
-fn test_lane(before: &Reader, lane: LaneName, len: u64, count: u64) -> Result<(), Cause>
+fn test_lane(before: &Reader, lane: LaneName, len: u64, count: u64) -> Result<(), LineFault>
     requires declared { lane.pair < length before.now.plan.pairs }
     requires among { lane.queue < (side_plan (pair_plan before.now.plan lane.pair) lane.from).queues }
     requires count { count ≤ 100000 }
@@ -39,27 +39,27 @@ fn test_lane(before: &Reader, lane: LaneName, len: u64, count: u64) -> Result<()
     let pair = before.pair(lane.pair);
     let ring = ring_of(pair, lane.from, lane.queue);
     if len > ring.max_payload() as u64 || ring.entries() > MOST_TRAFFIC_ENTRIES {
-        return Err(Cause::BadGeometry);
+        return Err(Cause::BadGeometry.of_line());
     }
     if !may_have_traffic(pair) {
-        return Err(Cause::BadPair);
+        return Err(Cause::BadPair.of_line());
     }
     if !before.traffic().has_room(count, count * len) {
-        return Err(Cause::TooMany);
+        return Err(Cause::TooMany.of_line());
     }
     Ok(())
 }
 
 /// `break PAIR`
-fn break_line(before: &Reader, pair: &[u8]) -> Result<Given, Cause>
+fn break_line(before: &Reader, pair: &[u8]) -> Result<Given, LineFault>
     ensures { result_map given_of result ≡ rules.break_line before.now pair.now }
 {
-    let pair = read_pair(before, pair)?;
+    let pair = at(2, read_pair(before, pair))?;
     if !may_have_traffic(before.pair(pair)) {
-        return Err(Cause::BadPair);
+        return Err(Cause::BadPair.of_line());
     }
     if before.traffic().breaks_of(pair) >= MOST_BREAKS {
-        return Err(Cause::TooMany);
+        return Err(Cause::TooMany.of_line());
     }
     Ok(Given::Break { pair })
 }
@@ -77,57 +77,62 @@ fn lane_of(name: QueueName) -> LaneName
 
 /// `frame PAIR SIDE QUEUE HEX`
 fn frame_line(alloc: Global, before: &Reader, on: QueueWords<'_>, frame: &[u8]) -> LineResult
-    ensures { Reads (result_map given_of result) (rules.traffic_frame_line before.now on.entry.pair.now on.entry.side.now on.entry.queue.now frame.now) }
+    ensures { ReadsLine (result_map given_of result) (rules.traffic_frame_line before.now on.entry.pair.now on.entry.side.now on.entry.queue.now frame.now) }
 {
-    let name = read_queue_name(before, on)?;
+    let name = read_queue_name(before, 2, on)?;
     let lane = lane_of(name);
-    let bytes = read_bytes(alloc, frame)?;
+    let bytes = read_bytes_at(alloc, 5, frame)?;
     test_lane(before, lane, bytes.len() as u64, 1)?;
     let frame = Frame::of_vec(bytes.into_vec());
     Ok(Given::Frame { lane, frame })
 }
 
 /// `flood PAIR SIDE QUEUE COUNT LEN`
-fn flood_line(before: &Reader, on: QueueWords<'_>, count: &[u8], len: &[u8]) -> Result<Given, Cause>
+fn flood_line(
+    before: &Reader,
+    on: QueueWords<'_>,
+    count: &[u8],
+    len: &[u8],
+) -> Result<Given, LineFault>
     ensures { result_map given_of result ≡ rules.flood_line before.now on.entry.pair.now on.entry.side.now on.entry.queue.now count.now len.now }
 {
-    let name = read_queue_name(before, on)?;
+    let name = read_queue_name(before, 2, on)?;
     let lane = lane_of(name);
-    let count = read_number_between(1, 100_000, count)?;
-    let len = read_number_between(1, 65_536, len)?;
+    let count = read_number_in(5, 1, 100_000, count)?;
+    let len = read_number_in(6, 1, 65_536, len)?;
     test_lane(before, lane, len as u64, count as u64)?;
     Ok(Given::Flood { lane, count, len })
 }
 
 /// A line among the traffic.
 pub fn traffic_line(alloc: Global, before: &Reader, word: &[u8], words: &[&[u8]]) -> LineResult
-    ensures { Reads (result_map given_of result) (rules.traffic_line before.now word.now (map (λ word. word.now) words.now)) }
+    ensures { ReadsLine (result_map given_of result) (rules.traffic_line before.now word.now (map (λ word. word.now) words.now)) }
 {
     match words {
-        [] => Err(LineError::Fault(Cause::UnknownWord)),
+        [] => Err(LineError::Fault(unknown_line())),
         [pair] => {
             if word == b"break".as_slice() {
                 Ok(break_line(before, pair)?)
             } else {
-                Err(LineError::Fault(Cause::UnknownWord))
+                Err(LineError::Fault(unknown_line()))
             }
         }
-        [_, _] => Err(LineError::Fault(Cause::UnknownWord)),
-        [_, _, _] => Err(LineError::Fault(Cause::UnknownWord)),
+        [_, _] => Err(LineError::Fault(unknown_line())),
+        [_, _, _] => Err(LineError::Fault(unknown_line())),
         [pair, side, queue, frame] => {
             if word == b"frame".as_slice() {
                 frame_line(alloc, before, QueueWords { pair, side, queue }, frame)
             } else {
-                Err(LineError::Fault(Cause::UnknownWord))
+                Err(LineError::Fault(unknown_line()))
             }
         }
         [pair, side, queue, count, len] => {
             if word == b"flood".as_slice() {
                 Ok(flood_line(before, QueueWords { pair, side, queue }, count, len)?)
             } else {
-                Err(LineError::Fault(Cause::UnknownWord))
+                Err(LineError::Fault(unknown_line()))
             }
         }
-        _ => Err(LineError::Fault(Cause::UnknownWord)),
+        _ => Err(LineError::Fault(unknown_line())),
     }
 }

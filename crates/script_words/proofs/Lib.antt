@@ -1,3 +1,4 @@
+pub mod FewSettings
 pub mod HexTexts
 pub mod HexWords
 pub mod Keys

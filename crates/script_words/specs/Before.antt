@@ -12,7 +12,7 @@ use Rattle.step_kinds.specs.declared.plan.Plan.{Plan}
 use Rattle.step_kinds.specs.declared.plan.Traffic.{Traffic}
 use Rattle.step_kinds.specs.declared.steps.Step.{Step}
 use Rattle.plan_model.specs.Plans.{side_plan, pair_plan}
-use Rattle.script_words.specs.Tests.{◌>>=◌, fault_if, found_or}
+use Rattle.script_words.specs.Tests.{◌>>=◌, fault_if, found_or, at}
 use Rattle.script_words.specs.Words.{name_word, side_word, number_word}
 use Rattle.script_words.specs.declared.parts.Part.{Part}
 use Rattle.script_words.specs.declared.parts.Part.TheVariants.{Declarations, Steps, Traffic as TrafficPart}
@@ -21,6 +21,7 @@ use Rattle.script_words.specs.declared.parts.SideName.{SideName}
 use Rattle.script_words.specs.declared.parts.QueueName.{QueueName}
 use Rattle.script_words.specs.declared.fault.Cause.{Cause}
 use Rattle.script_words.specs.declared.fault.Cause.TheVariants.{UnknownName}
+use Rattle.script_words.specs.declared.fault.LineFault.{LineFault}
 
 -- The part that the next line stands in, the names of the hosts, the plan so far, the hosts of its pairs, and the queues whose class
 -- was declared.
@@ -118,16 +119,16 @@ queue_word before pair side word = do
   _ ← fault_if (not (nat_lt queue (side_plan (pair_plan before.plan pair) side).queues)) UnknownName
   Ok queue
 
--- the side of a pair that two words name
-abbrev pub named_side : Before → List ℕ → List ℕ → Result SideName Cause
-named_side before pair_text side_text = do
-  pair ← pair_word before pair_text
-  side ← side_word side_text
+-- the side of a pair that two words name, the first of which is word n of the line
+abbrev pub named_side : Before → ℕ → List ℕ → List ℕ → Result SideName LineFault
+named_side before n pair_text side_text = do
+  pair ← at n (pair_word before pair_text)
+  side ← at (n + 1) (side_word side_text)
   Ok (record { pair = pair; side = side })
 
--- the queue of a side of a pair that three words name
-abbrev pub named_queue : Before → List ℕ → List ℕ → List ℕ → Result QueueName Cause
-named_queue before pair_text side_text queue_text = do
-  name ← named_side before pair_text side_text
-  queue ← queue_word before name.pair name.side queue_text
+-- the queue of a side of a pair that three words name, the first of which is word n of the line
+abbrev pub named_queue : Before → ℕ → List ℕ → List ℕ → List ℕ → Result QueueName LineFault
+named_queue before n pair_text side_text queue_text = do
+  name ← named_side before n pair_text side_text
+  queue ← at (n + 2) (queue_word before name.pair name.side queue_text)
   Ok (record { pair = name.pair; side = name.side; queue = queue })

@@ -1,15 +1,15 @@
 -- The ports of switches: which devices are ports, the hosts of devices, and the devices that a line names as ports.
-use Rattle.std.specs.Prelude.{ℕ, ◌==◌, Bool, true, ◌||◌, Result, Ok, List, [], ◌∷◌, ◌++◌, slice_index_or}
+use Rattle.std.specs.Prelude.{ℕ, ◌+◌, ◌==◌, Bool, true, ◌||◌, Result, Ok, List, [], ◌∷◌, ◌++◌, length, slice_index_or}
 use Rattle.std.specs.List.{list_all, list_any}
 use Rattle.std.specs.Str.{bytes_eq}
 use Rattle.step_kinds.specs.declared.names.Side.{Side}
 use Rattle.step_kinds.specs.declared.names.Side.TheVariants.{A, B}
 use Rattle.plan_model.specs.Plans.{dev_plan}
 use Rattle.script_words.specs.Before.{Before, dev_word}
-use Rattle.script_words.specs.Tests.{◌>>=◌, fault_if}
+use Rattle.script_words.specs.Tests.{◌>>=◌, fault_if, fault_at, at}
 use Rattle.script_words.specs.declared.parts.PairHosts.{PairHosts}
-use Rattle.script_words.specs.declared.fault.Cause.{Cause}
 use Rattle.script_words.specs.declared.fault.Cause.TheVariants.{Repeated}
+use Rattle.script_words.specs.declared.fault.LineFault.{LineFault}
 
 abbrev pub no_hosts : PairHosts
 no_hosts = record { a = []; b = [] }
@@ -38,15 +38,19 @@ is_among devs dev = list_any (λ other. other == dev) devs
 abbrev pub is_port : Before → ℕ → Bool
 is_port before dev = list_any (λ switch. is_among switch.ports dev) before.plan.switches
 
+-- the word of a line that names the next port behind these: the first stands in word 3
+abbrev pub port_place : List ℕ → ℕ
+port_place devs = 3 + length devs
+
 -- the devices with the one that a word names, which is neither a port yet nor one of them
-abbrev pub with_port : Before → List ℕ → List ℕ → Result (List ℕ) Cause
+abbrev pub with_port : Before → List ℕ → List ℕ → Result (List ℕ) LineFault
 with_port before devs word = do
-  dev ← dev_word before word
-  _ ← fault_if (is_port before dev || is_among devs dev) Repeated
+  dev ← at (port_place devs) (dev_word before word)
+  _ ← fault_if (is_port before dev || is_among devs dev) (fault_at (port_place devs) Repeated)
   Ok (devs ++ dev ∷ [])
 
 -- the devices with those that further words name, in order
-abbrev pub ports_from : Before → List ℕ → List (List ℕ) → Result (List ℕ) Cause
+abbrev pub ports_from : Before → List ℕ → List (List ℕ) → Result (List ℕ) LineFault
 ports_from before devs [] = Ok devs
 ports_from before devs (word ∷ words) = do
   more ← with_port before devs word

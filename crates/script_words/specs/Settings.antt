@@ -1,5 +1,5 @@
 -- The options of a pair: their spelling, their ranges, and the pair that they declare.
-use Rattle.std.specs.Prelude.{ℕ, ◌%◌, ◌==◌, Bool, true, false, not, ◌&&◌, ◌||◌, Option, Some, None, Result, Ok, Err, List, [], ◌∷◌, ◌++◌, codes, nat_le, replicate, unwrap_or, if◌then◌else◌}
+use Rattle.std.specs.Prelude.{ℕ, ◌+◌, ◌%◌, ◌==◌, Bool, true, false, not, ◌&&◌, ◌||◌, Option, Some, None, Result, Ok, Err, List, [], ◌∷◌, ◌++◌, codes, length, nat_le, replicate, unwrap_or, if◌then◌else◌}
 use Rattle.std.specs.List.{list_any}
 use Rattle.std.specs.Option.{option_or}
 use Rattle.std.specs.Str.{bytes_eq}
@@ -9,10 +9,12 @@ use Rattle.step_kinds.specs.declared.names.Side.{Side}
 use Rattle.step_kinds.specs.declared.names.Side.TheVariants.{A, B}
 use Rattle.step_kinds.specs.declared.plan.SidePlan.{SidePlan}
 use Rattle.step_kinds.specs.declared.plan.PairPlan.{PairPlan}
-use Rattle.script_words.specs.Tests.{◌>>=◌, fault_if, found_or}
+use Rattle.script_words.specs.Tests.{◌>>=◌, fault_if, found_or, fault_at, at}
 use Rattle.script_words.specs.Words.{number_word, behind}
 use Rattle.script_words.specs.declared.fault.Cause.{Cause}
 use Rattle.script_words.specs.declared.fault.Cause.TheVariants.{UnknownWord, Repeated, BadGeometry}
+use Rattle.script_words.specs.declared.fault.LineFault.{LineFault}
+use Rattle.script_words.specs.declared.fault.Range.{Range}
 use Rattle.script_words.specs.declared.settings.SideKey.{SideKey}
 use Rattle.script_words.specs.declared.settings.SideKey.TheVariants.{Size, Cap, Windows, Queues, Version}
 use Rattle.script_words.specs.declared.settings.Setting.{Setting}
@@ -106,31 +108,51 @@ same_setting (Mtu n) (Mtu m) = true
 same_setting (OfSide key side n) (OfSide other scope m) = same_key key other && same_scope side scope
 same_setting one other = false
 
-abbrev pub is_within : ℕ → ℕ → ℕ → Bool
-is_within least most number = nat_le least number && nat_le number most
+abbrev pub mtu_range : Range
+mtu_range = record { least = least_mtu; most = most_mtu }
 
-abbrev pub is_size : ℕ → Bool
-is_size bytes = is_within least_size most_size bytes && (bytes % size_step == 0)
+-- the range of a side's number
+abbrev pub key_range : SideKey → Range
+key_range Size = record { least = least_size; most = most_size }
+key_range Cap = record { least = least_size; most = most_size }
+key_range Windows = record { least = 1; most = most_windows }
+key_range Queues = record { least = 1; most = most_queues }
+key_range Version = record { least = 3; most = 5 }
 
--- whether an option's number, taken by itself, is in its range
+-- the range of an option's number, where it has one
+abbrev pub range_of : Setting → Option Range
+range_of (Mtu number) = Some mtu_range
+range_of (OfSide key side number) = Some (key_range key)
+range_of setting = None
+
+abbrev pub is_within : Range → ℕ → Bool
+is_within range number = nat_le range.least number && nat_le number range.most
+
+-- whether a number of bytes is a whole number of steps, where the key's is one of bytes
+abbrev pub is_stepped : SideKey → ℕ → Bool
+is_stepped Size bytes = bytes % size_step == 0
+is_stepped Cap bytes = bytes % size_step == 0
+is_stepped key number = true
+
+-- whether an option's number, taken by itself, is one that it may have
 abbrev pub in_range : Setting → Bool
-in_range (Mtu number) = is_within least_mtu most_mtu number
-in_range (OfSide Size side number) = is_size number
-in_range (OfSide Cap side number) = is_size number
-in_range (OfSide Windows side number) = is_within 1 most_windows number
-in_range (OfSide Queues side number) = is_within 1 most_queues number
-in_range (OfSide Version side number) = is_within 3 5 number
+in_range (Mtu number) = is_within mtu_range number
+in_range (OfSide key side number) = is_within (key_range key) number && is_stepped key number
 in_range setting = true
 
+-- the word of a line that has the next option behind these: the first stands in word 5
+abbrev pub option_place : List Setting → ℕ
+option_place settings = 5 + length settings
+
 -- the options with one more
-abbrev pub with_setting : List Setting → List ℕ → Result (List Setting) Cause
+abbrev pub with_setting : List Setting → List ℕ → Result (List Setting) LineFault
 with_setting settings word = do
-  setting ← setting_word word
-  _ ← fault_if (list_any (same_setting setting) settings) Repeated
-  _ ← fault_if (not (in_range setting)) BadGeometry
+  setting ← at (option_place settings) (setting_word word)
+  _ ← fault_if (list_any (same_setting setting) settings) (fault_at (option_place settings) Repeated)
+  _ ← fault_if (not (in_range setting)) (record { word = option_place settings; cause = BadGeometry; range = range_of setting })
   Ok (settings ++ setting ∷ [])
 
-abbrev pub settings_from : List Setting → List (List ℕ) → Result (List Setting) Cause
+abbrev pub settings_from : List Setting → List (List ℕ) → Result (List Setting) LineFault
 settings_from settings [] = Ok settings
 settings_from settings (word ∷ words) = do
   more ← with_setting settings word

@@ -1,4 +1,4 @@
--- Lines of steps and macros, grouped by their arguments: P is a pair, S a side, Q a queue of that side.
+-- Lines of steps and macros, grouped by their arguments: P is a pair, S a side, Q a queue of that side. The first word is word 1.
 use Rattle.std.specs.Prelude.{ℕ, ◌+◌, ◌*◌, Bool, true, false, not, ◌&&◌, Option, Some, None, Result, Ok, Err, List, [], ◌∷◌, length, codes, min, nat_lt, if◌then◌else◌}
 use Rattle.std.specs.Str.{bytes_eq}
 use Rattle.step_kinds.specs.Limits.{most_frame_bytes, most_steps}
@@ -13,17 +13,17 @@ use Rattle.plan_model.specs.Macros.{send, xmit, land_all, receive, offer_all}
 use Rattle.plan_model.specs.Plans.{side_plan, pair_plan, dev_plan, switch_plan, port_device}
 use Rattle.script_words.specs.Before.{Before, Given, MoreSteps, TrafficBegins, pair_word, dev_word, switch_word, named_side, named_queue}
 use Rattle.script_words.specs.Ports.{is_port}
-use Rattle.script_words.specs.Tests.{◌>>=◌, fault_if}
-use Rattle.script_words.specs.Words.{number_word, number_between, hex_word, hex_of, kind_word}
-use Rattle.script_words.specs.declared.fault.Cause.{Cause}
-use Rattle.script_words.specs.declared.fault.Cause.TheVariants.{UnknownWord, BadNumber, UnknownName, BadPair, TooMany}
+use Rattle.script_words.specs.Tests.{◌>>=◌, fault_if, fault_at, unknown_line, whole, at}
+use Rattle.script_words.specs.Words.{number_word, number_in, hex_word, hex_of, kind_word}
+use Rattle.script_words.specs.declared.fault.Cause.TheVariants.{BadNumber, UnknownName, BadPair, TooMany}
+use Rattle.script_words.specs.declared.fault.LineFault.{LineFault}
 
 -- A kind of line, by its first word; each function answers none for a word of another kind.
 
 -- the steps of a line, where they don't pass the script's limit
-abbrev pub steps_within : Before → List Step → Result Given Cause
+abbrev pub steps_within : Before → List Step → Result Given LineFault
 steps_within before steps = do
-  _ ← fault_if (nat_lt most_steps (length before.plan.steps + length steps)) TooMany
+  _ ← fault_if (nat_lt most_steps (length before.plan.steps + length steps)) (whole TooMany)
   Ok (MoreSteps steps)
 
 -- P
@@ -34,9 +34,9 @@ pair_step word =
     else if bytes_eq word (codes "drop") then Some (λ pair. DropDone pair)
     else None
 
-abbrev pub pair_step_line : Before → (ℕ → Step) → List ℕ → Result Given Cause
+abbrev pub pair_step_line : Before → (ℕ → Step) → List ℕ → Result Given LineFault
 pair_step_line before step pair_text = do
-  pair ← pair_word before pair_text
+  pair ← at 2 (pair_word before pair_text)
   steps_within before (step pair ∷ [])
 
 -- P S
@@ -50,9 +50,9 @@ side_steps word =
     else if bytes_eq word (codes "offerall") then Some (λ plan pair side. offer_all pair side (side_plan plan side).windows)
     else None
 
-abbrev pub side_line : Before → (PairPlan → ℕ → Side → List Step) → List ℕ → List ℕ → Result Given Cause
+abbrev pub side_line : Before → (PairPlan → ℕ → Side → List Step) → List ℕ → List ℕ → Result Given LineFault
 side_line before steps pair_text side_text = do
-  name ← named_side before pair_text side_text
+  name ← named_side before 2 pair_text side_text
   steps_within before (steps (pair_plan before.plan name.pair) name.pair name.side)
 
 -- P S Q
@@ -69,16 +69,16 @@ queue_steps word =
     else if bytes_eq word (codes "recv") then Some (λ pair side queue. receive pair side queue 1)
     else None
 
-abbrev pub queue_line : Before → (ℕ → Side → ℕ → List Step) → List ℕ → List ℕ → List ℕ → Result Given Cause
+abbrev pub queue_line : Before → (ℕ → Side → ℕ → List Step) → List ℕ → List ℕ → List ℕ → Result Given LineFault
 queue_line before steps pair_text side_text queue_text = do
-  name ← named_queue before pair_text side_text queue_text
+  name ← named_queue before 2 pair_text side_text queue_text
   steps_within before (steps name.pair name.side name.queue)
 
 -- `recv P S Q COPIES`
-abbrev pub receive_line : Before → List ℕ → List ℕ → List ℕ → List ℕ → Result Given Cause
+abbrev pub receive_line : Before → List ℕ → List ℕ → List ℕ → List ℕ → Result Given LineFault
 receive_line before pair_text side_text queue_text copies_text = do
-  name ← named_queue before pair_text side_text queue_text
-  copies ← number_between 1 512 copies_text
+  name ← named_queue before 2 pair_text side_text queue_text
+  copies ← number_in 5 1 512 copies_text
   steps_within before (receive name.pair name.side name.queue copies)
 
 -- P S Q HEX
@@ -88,11 +88,11 @@ frame_steps word =
     else if bytes_eq word (codes "send") then Some send
     else None
 
-abbrev pub frame_line : Before → (PairPlan → ℕ → Side → ℕ → List ℕ → List Step) → List ℕ → List ℕ → List ℕ → List ℕ → Result Given Cause
+abbrev pub frame_line : Before → (PairPlan → ℕ → Side → ℕ → List ℕ → List Step) → List ℕ → List ℕ → List ℕ → List ℕ → Result Given LineFault
 frame_line before steps pair_text side_text queue_text frame_text = do
-  name ← named_queue before pair_text side_text queue_text
-  frame ← hex_word frame_text
-  _ ← fault_if (nat_lt most_frame_bytes (length frame)) TooMany
+  name ← named_queue before 2 pair_text side_text queue_text
+  frame ← at 5 (hex_word frame_text)
+  _ ← fault_if (nat_lt most_frame_bytes (length frame)) (whole TooMany)
   steps_within before (steps (pair_plan before.plan name.pair) name.pair name.side name.queue frame)
 
 -- P S and a number: which numbers it takes, and what its steps are
@@ -115,29 +115,29 @@ numbered_steps word =
     else if bytes_eq word (codes "showspad") then Some (record { least = 0; most = 15; steps = λ pair side i. ShowPad pair side i ∷ [] })
     else None
 
-abbrev pub numbered_line : Before → NumberedSteps → List ℕ → List ℕ → List ℕ → Result Given Cause
+abbrev pub numbered_line : Before → NumberedSteps → List ℕ → List ℕ → List ℕ → Result Given LineFault
 numbered_line before numbered pair_text side_text number_text = do
-  name ← named_side before pair_text side_text
-  number ← number_between numbered.least numbered.most number_text
+  name ← named_side before 2 pair_text side_text
+  number ← number_in 4 numbered.least numbered.most number_text
   steps_within before (numbered.steps name.pair name.side number)
 
 -- `spad P S INDEX VALUE`: the scratchpads below 12 are the transport's own
-abbrev pub spad_line : Before → List ℕ → List ℕ → List ℕ → List ℕ → Result Given Cause
+abbrev pub spad_line : Before → List ℕ → List ℕ → List ℕ → List ℕ → Result Given LineFault
 spad_line before pair_text side_text index_text value_text = do
-  name ← named_side before pair_text side_text
-  i ← number_between 0 15 index_text
-  value ← number_word value_text
-  _ ← fault_if (nat_lt i 12 && not (pair_plan before.plan name.pair).raw) BadPair
+  name ← named_side before 2 pair_text side_text
+  i ← number_in 4 0 15 index_text
+  value ← at 5 (number_word value_text)
+  _ ← fault_if (nat_lt i 12 && not (pair_plan before.plan name.pair).raw) (whole BadPair)
   steps_within before (Spad name.pair name.side i value ∷ [])
 
 -- `showmem P S AT LEN`: within the side's memory
-abbrev pub show_memory_line : Before → List ℕ → List ℕ → List ℕ → List ℕ → Result Given Cause
-show_memory_line before pair_text side_text at_text len_text = do
-  name ← named_side before pair_text side_text
-  at ← number_word at_text
-  len ← number_between 1 64 len_text
-  _ ← fault_if (nat_lt ((side_plan (pair_plan before.plan name.pair) name.side).windows * (side_plan (pair_plan before.plan name.pair) name.side).cap) (at + len)) BadNumber
-  steps_within before (ShowMem name.pair name.side at len ∷ [])
+abbrev pub show_memory_line : Before → List ℕ → List ℕ → List ℕ → List ℕ → Result Given LineFault
+show_memory_line before pair_text side_text start_text len_text = do
+  name ← named_side before 2 pair_text side_text
+  start ← at 4 (number_word start_text)
+  len ← number_in 5 1 64 len_text
+  _ ← fault_if (nat_lt ((side_plan (pair_plan before.plan name.pair) name.side).windows * (side_plan (pair_plan before.plan name.pair) name.side).cap) (start + len)) (fault_at 5 BadNumber)
+  steps_within before (ShowMem name.pair name.side start len ∷ [])
 
 -- the bytes of a window that reach the peer's memory
 abbrev pub reach : PairPlan → Side → ℕ
@@ -145,22 +145,22 @@ reach pair side = min (side_plan pair side).size (side_plan pair (other_side sid
 
 -- `poke P S WINDOW OFFSET HEX`: in a window that both sides have, within what reaches the peer's memory, on a raw pair, at most 128
 -- bytes
-abbrev pub poke_line : Before → List ℕ → List ℕ → List ℕ → List ℕ → List ℕ → Result Given Cause
+abbrev pub poke_line : Before → List ℕ → List ℕ → List ℕ → List ℕ → List ℕ → Result Given LineFault
 poke_line before pair_text side_text window_text offset_text bytes_text = do
-  name ← named_side before pair_text side_text
-  window ← number_word window_text
-  _ ← fault_if (not (nat_lt window (pair_plan before.plan name.pair).a.windows && nat_lt window (pair_plan before.plan name.pair).b.windows)) UnknownName
-  offset ← number_word offset_text
-  bytes ← hex_word bytes_text
-  _ ← fault_if (nat_lt (reach (pair_plan before.plan name.pair) name.side) (offset + length bytes)) BadNumber
-  _ ← fault_if (not (pair_plan before.plan name.pair).raw) BadPair
-  _ ← fault_if (nat_lt 128 (length bytes)) TooMany
+  name ← named_side before 2 pair_text side_text
+  window ← at 4 (number_word window_text)
+  _ ← fault_if (not (nat_lt window (pair_plan before.plan name.pair).a.windows && nat_lt window (pair_plan before.plan name.pair).b.windows)) (fault_at 4 UnknownName)
+  offset ← at 5 (number_word offset_text)
+  bytes ← at 6 (hex_word bytes_text)
+  _ ← fault_if (nat_lt (reach (pair_plan before.plan name.pair) name.side) (offset + length bytes)) (fault_at 6 BadNumber)
+  _ ← fault_if (not (pair_plan before.plan name.pair).raw) (whole BadPair)
+  _ ← fault_if (nat_lt 128 (length bytes)) (whole TooMany)
   steps_within before (Poke name.pair name.side window offset bytes ∷ [])
 
 -- `wake DEV`
-abbrev pub wake_line : Before → List ℕ → Result Given Cause
+abbrev pub wake_line : Before → List ℕ → Result Given LineFault
 wake_line before dev_text = do
-  dev ← dev_word before dev_text
+  dev ← at 2 (dev_word before dev_text)
   steps_within before (Wake (dev_plan before.plan.devs dev).pair (dev_plan before.plan.devs dev).side (dev_plan before.plan.devs dev).queue dev ∷ [])
 
 -- DEV ADDRESS KIND HEX, where `is_macro` says whether all writes are posted too
@@ -171,13 +171,13 @@ ethernet_steps plan is_macro dev dst kind payload =
     then xmit (pair_plan plan device.pair) device.pair device.side device.queue dev dst kind payload
     else Xbegin device.pair device.side device.queue dev dst kind payload ∷ []
 
-abbrev pub ethernet_line : Before → Bool → List ℕ → List ℕ → List ℕ → List ℕ → Result Given Cause
+abbrev pub ethernet_line : Before → Bool → List ℕ → List ℕ → List ℕ → List ℕ → Result Given LineFault
 ethernet_line before is_macro dev_text address_text kind_text payload_text = do
-  dev ← dev_word before dev_text
-  dst ← hex_of 6 address_text
-  kind ← kind_word kind_text
-  payload ← hex_word payload_text
-  _ ← fault_if (nat_lt most_frame_bytes (length payload + ethernet_header)) TooMany
+  dev ← at 2 (dev_word before dev_text)
+  dst ← at 3 (hex_of 6 address_text)
+  kind ← at 4 (kind_word kind_text)
+  payload ← at 5 (hex_word payload_text)
+  _ ← fault_if (nat_lt most_frame_bytes (length payload + ethernet_header)) (whole TooMany)
   steps_within before (ethernet_steps before.plan is_macro dev dst kind payload)
 
 -- a switch takes a frame from a port, whose device says the queue
@@ -187,44 +187,44 @@ relay_step plan switch port =
     Relay device.pair device.side device.queue switch port
 
 -- `relay SWITCH PORT`
-abbrev pub relay_line : Before → List ℕ → List ℕ → Result Given Cause
+abbrev pub relay_line : Before → List ℕ → List ℕ → Result Given LineFault
 relay_line before switch_text port_text = do
-  switch ← switch_word before switch_text
-  port ← number_word port_text
-  _ ← fault_if (not (nat_lt port (length (switch_plan before.plan switch).ports))) UnknownName
+  switch ← at 2 (switch_word before switch_text)
+  port ← at 3 (number_word port_text)
+  _ ← fault_if (not (nat_lt port (length (switch_plan before.plan switch).ports))) (fault_at 3 UnknownName)
   steps_within before (relay_step before.plan switch port ∷ [])
 
 -- `xnext DEV`
-abbrev pub xnext_line : Before → List ℕ → Result Given Cause
+abbrev pub xnext_line : Before → List ℕ → Result Given LineFault
 xnext_line before dev_text = do
-  dev ← dev_word before dev_text
-  _ ← fault_if (not (is_port before dev)) UnknownName
+  dev ← at 2 (dev_word before dev_text)
+  _ ← fault_if (not (is_port before dev)) (fault_at 2 UnknownName)
   steps_within before (Xnext (dev_plan before.plan.devs dev).pair (dev_plan before.plan.devs dev).side (dev_plan before.plan.devs dev).queue dev ∷ [])
 
 -- A line among the steps, by its first word and the number of its words
 
-abbrev pub or_unknown : {X : Type 0} → Option X → (X → Result Given Cause) → Result Given Cause
-or_unknown None line = Err UnknownWord
+abbrev pub or_unknown : {X : Type 0} → Option X → (X → Result Given LineFault) → Result Given LineFault
+or_unknown None line = Err unknown_line
 or_unknown (Some x) line = line x
 
-abbrev pub line_of_one : Before → List ℕ → List ℕ → Result Given Cause
+abbrev pub line_of_one : Before → List ℕ → List ℕ → Result Given LineFault
 line_of_one before word a =
     if bytes_eq word (codes "wake") then wake_line before a
     else if bytes_eq word (codes "xnext") then xnext_line before a
     else or_unknown (pair_step word) (λ step. pair_step_line before step a)
 
-abbrev pub line_of_two : Before → List ℕ → List ℕ → List ℕ → Result Given Cause
+abbrev pub line_of_two : Before → List ℕ → List ℕ → List ℕ → Result Given LineFault
 line_of_two before word a b =
     if bytes_eq word (codes "relay") then relay_line before a b
     else or_unknown (side_steps word) (λ steps. side_line before steps a b)
 
-abbrev pub line_of_three : Before → List ℕ → List ℕ → List ℕ → List ℕ → Result Given Cause
+abbrev pub line_of_three : Before → List ℕ → List ℕ → List ℕ → List ℕ → Result Given LineFault
 line_of_three before word a b c = by_number (numbered_steps word) where
-  by_number : Option NumberedSteps → Result Given Cause
+  by_number : Option NumberedSteps → Result Given LineFault
   by_number (Some numbered) = numbered_line before numbered a b c
   by_number None = or_unknown (queue_steps word) (λ steps. queue_line before steps a b c)
 
-abbrev pub line_of_four : Before → List ℕ → List ℕ → List ℕ → List ℕ → List ℕ → Result Given Cause
+abbrev pub line_of_four : Before → List ℕ → List ℕ → List ℕ → List ℕ → List ℕ → Result Given LineFault
 line_of_four before word a b c d =
     if bytes_eq word (codes "recv") then receive_line before a b c d
     else if bytes_eq word (codes "spad") then spad_line before a b c d
@@ -233,14 +233,14 @@ line_of_four before word a b c d =
     else if bytes_eq word (codes "xmit") then ethernet_line before true a b c d
     else or_unknown (frame_steps word) (λ steps. frame_line before steps a b c d)
 
-abbrev pub line_of_five : Before → List ℕ → List ℕ → List ℕ → List ℕ → List ℕ → List ℕ → Result Given Cause
-line_of_five before word a b c d e = if bytes_eq word (codes "poke") then poke_line before a b c d e else Err UnknownWord
+abbrev pub line_of_five : Before → List ℕ → List ℕ → List ℕ → List ℕ → List ℕ → List ℕ → Result Given LineFault
+line_of_five before word a b c d e = if bytes_eq word (codes "poke") then poke_line before a b c d e else Err unknown_line
 
-abbrev pub step_line : Before → List ℕ → List (List ℕ) → Result Given Cause
-step_line before word [] = if bytes_eq word (codes "traffic") then Ok TrafficBegins else Err UnknownWord
+abbrev pub step_line : Before → List ℕ → List (List ℕ) → Result Given LineFault
+step_line before word [] = if bytes_eq word (codes "traffic") then Ok TrafficBegins else Err unknown_line
 step_line before word (a ∷ []) = line_of_one before word a
 step_line before word (a ∷ b ∷ []) = line_of_two before word a b
 step_line before word (a ∷ b ∷ c ∷ []) = line_of_three before word a b c
 step_line before word (a ∷ b ∷ c ∷ d ∷ []) = line_of_four before word a b c d
 step_line before word (a ∷ b ∷ c ∷ d ∷ e ∷ []) = line_of_five before word a b c d e
-step_line before word words = Err UnknownWord
+step_line before word words = Err unknown_line

@@ -12,11 +12,11 @@ use Rattle.plan_model.specs.Sizes.{sizes_of}
 use Rattle.plan_model.specs.TrafficPlans.{frames_in, bytes_in, is_break_of}
 use Rattle.script_words.specs.Before.{Before, Given, MoreTraffic, pair_word, named_queue}
 use Rattle.script_words.specs.Settings.{agrees}
-use Rattle.script_words.specs.Tests.{◌>>=◌, fault_if}
-use Rattle.script_words.specs.Words.{number_between, hex_word}
+use Rattle.script_words.specs.Tests.{◌>>=◌, fault_if, unknown_line, whole, at}
+use Rattle.script_words.specs.Words.{number_in, hex_word}
 use Rattle.script_words.specs.declared.parts.QueueName.{QueueName}
-use Rattle.script_words.specs.declared.fault.Cause.{Cause}
-use Rattle.script_words.specs.declared.fault.Cause.TheVariants.{UnknownWord, BadGeometry, BadPair, TooMany}
+use Rattle.script_words.specs.declared.fault.Cause.TheVariants.{BadGeometry, BadPair, TooMany}
+use Rattle.script_words.specs.declared.fault.LineFault.{LineFault}
 
 -- whether a pair may have traffic: its sides can be brought up and nothing is written past the transport
 abbrev pub may_have_traffic : PairPlan → Bool
@@ -29,12 +29,12 @@ is_little before more =
     && nat_le (sum (map bytes_in before) + sum (map bytes_in more)) most_traffic_bytes
 
 -- frames of so many bytes each on a lane: they have to fit an entry of its ring, and the ring must not be too long
-abbrev pub traffic_within : Before → LaneName → ℕ → List Traffic → Result Given Cause
+abbrev pub traffic_within : Before → LaneName → ℕ → List Traffic → Result Given LineFault
 traffic_within before lane len more = do
   _ ← fault_if (nat_lt (sizes_of (pair_plan before.plan lane.pair) lane.from lane.queue).largest len
-      || nat_lt most_traffic_entries (sizes_of (pair_plan before.plan lane.pair) lane.from lane.queue).entries) BadGeometry
-  _ ← fault_if (not (may_have_traffic (pair_plan before.plan lane.pair))) BadPair
-  _ ← fault_if (not (is_little before.plan.traffic more)) TooMany
+      || nat_lt most_traffic_entries (sizes_of (pair_plan before.plan lane.pair) lane.from lane.queue).entries) (whole BadGeometry)
+  _ ← fault_if (not (may_have_traffic (pair_plan before.plan lane.pair))) (whole BadPair)
+  _ ← fault_if (not (is_little before.plan.traffic more)) (whole TooMany)
   Ok (MoreTraffic more)
 
 -- the lane that begins at a queue of a side
@@ -42,10 +42,10 @@ abbrev pub lane_of : QueueName → LaneName
 lane_of name = record { pair = name.pair; from = name.side; queue = name.queue }
 
 -- `frame PAIR SIDE QUEUE HEX`
-abbrev pub traffic_frame_line : Before → List ℕ → List ℕ → List ℕ → List ℕ → Result Given Cause
+abbrev pub traffic_frame_line : Before → List ℕ → List ℕ → List ℕ → List ℕ → Result Given LineFault
 traffic_frame_line before pair_text side_text queue_text frame_text = do
-  name ← named_queue before pair_text side_text queue_text
-  frame ← hex_word frame_text
+  name ← named_queue before 2 pair_text side_text queue_text
+  frame ← at 5 (hex_word frame_text)
   traffic_within before (lane_of name) (length frame) (Send (lane_of name) frame ∷ [])
 
 -- frame i of a flood: byte j is the sum of both, in a byte
@@ -53,24 +53,24 @@ abbrev pub flood_frame : ℕ → ℕ → List ℕ
 flood_frame len i = map (λ j. (i + j) % 256) (count_from 0 len)
 
 -- `flood PAIR SIDE QUEUE COUNT LEN`
-abbrev pub flood_line : Before → List ℕ → List ℕ → List ℕ → List ℕ → List ℕ → Result Given Cause
+abbrev pub flood_line : Before → List ℕ → List ℕ → List ℕ → List ℕ → List ℕ → Result Given LineFault
 flood_line before pair_text side_text queue_text count_text len_text = do
-  name ← named_queue before pair_text side_text queue_text
-  count ← number_between 1 100000 count_text
-  len ← number_between 1 65536 len_text
+  name ← named_queue before 2 pair_text side_text queue_text
+  count ← number_in 5 1 100000 count_text
+  len ← number_in 6 1 65536 len_text
   traffic_within before (lane_of name) len
       (map (λ i. Send (lane_of name) (flood_frame len i)) (count_from 0 count))
 
 -- `break PAIR`
-abbrev pub break_line : Before → List ℕ → Result Given Cause
+abbrev pub break_line : Before → List ℕ → Result Given LineFault
 break_line before pair_text = do
-  pair ← pair_word before pair_text
-  _ ← fault_if (not (may_have_traffic (pair_plan before.plan pair))) BadPair
-  _ ← fault_if (not (nat_lt (count_by (is_break_of pair) before.plan.traffic) most_breaks)) TooMany
+  pair ← at 2 (pair_word before pair_text)
+  _ ← fault_if (not (may_have_traffic (pair_plan before.plan pair))) (whole BadPair)
+  _ ← fault_if (not (nat_lt (count_by (is_break_of pair) before.plan.traffic) most_breaks)) (whole TooMany)
   Ok (MoreTraffic (Break pair ∷ []))
 
-abbrev pub traffic_line : Before → List ℕ → List (List ℕ) → Result Given Cause
-traffic_line before word (a ∷ []) = if bytes_eq word (codes "break") then break_line before a else Err UnknownWord
-traffic_line before word (a ∷ b ∷ c ∷ d ∷ []) = if bytes_eq word (codes "frame") then traffic_frame_line before a b c d else Err UnknownWord
-traffic_line before word (a ∷ b ∷ c ∷ d ∷ e ∷ []) = if bytes_eq word (codes "flood") then flood_line before a b c d e else Err UnknownWord
-traffic_line before word words = Err UnknownWord
+abbrev pub traffic_line : Before → List ℕ → List (List ℕ) → Result Given LineFault
+traffic_line before word (a ∷ []) = if bytes_eq word (codes "break") then break_line before a else Err unknown_line
+traffic_line before word (a ∷ b ∷ c ∷ d ∷ []) = if bytes_eq word (codes "frame") then traffic_frame_line before a b c d else Err unknown_line
+traffic_line before word (a ∷ b ∷ c ∷ d ∷ e ∷ []) = if bytes_eq word (codes "flood") then flood_line before a b c d e else Err unknown_line
+traffic_line before word words = Err unknown_line

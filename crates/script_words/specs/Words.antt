@@ -6,9 +6,10 @@ use Rattle.std.specs.Result.{result_ok}
 use Rattle.hex.specs.Hex.{decode_of}
 use Rattle.step_kinds.specs.declared.names.Side.{Side}
 use Rattle.step_kinds.specs.declared.names.Side.TheVariants.{A, B}
-use Rattle.script_words.specs.Tests.{◌>>=◌, fault_if, found_or}
+use Rattle.script_words.specs.Tests.{◌>>=◌, fault_if, found_or, within}
 use Rattle.script_words.specs.declared.fault.Cause.{Cause}
 use Rattle.script_words.specs.declared.fault.Cause.TheVariants.{BadNumber, BadName, BadHex}
+use Rattle.script_words.specs.declared.fault.LineFault.{LineFault}
 
 -- Lines and words
 
@@ -88,6 +89,10 @@ number_between least most word = do
   number ← number_word word
   _ ← fault_if (nat_lt number least || nat_lt most number) BadNumber
   Ok number
+
+-- the same of word n of a line, whose fault tells the range
+abbrev pub number_in : ℕ → ℕ → ℕ → List ℕ → Result ℕ LineFault
+number_in n least most word = within n least most (number_between least most word)
 
 -- Bytes
 

@@ -2,7 +2,7 @@
 
 ghost use Rattle.std.specs.Prelude.{◌≡◌};
 ghost use Rattle.script_words.specs.Causes.{cause_text};
-ghost use Rattle.script_words.specs.declared.fault.LineError.TheVariants.{Fault, OutOfMemory};
+ghost use Rattle.script_words.specs.Tests as tests;
 
 use std::alloc::AllocError;
 
@@ -61,6 +61,88 @@ impl Cause {
             Cause::BadSwitch => "badswitch",
         }
     }
+
+    /// The fault at a word of the line, the first of which is word 1.
+    #[inline]
+    pub fn at(self, word: u32) -> LineFault
+        ensures { result ≡ tests.fault_at word self }
+    {
+        LineFault {
+            word,
+            cause: self,
+            range: None,
+        }
+    }
+
+    /// The fault of the line as a whole.
+    #[inline]
+    pub fn of_line(self) -> LineFault
+        ensures { result ≡ tests.whole self }
+    {
+        self.at(0)
+    }
+
+    /// The fault at a word that should spell a number of a range.
+    #[inline]
+    pub fn outside(self, word: u32, range: Range) -> LineFault
+        ensures { result ≡ tests.outside word range.least range.most self }
+    {
+        LineFault {
+            word,
+            cause: self,
+            range: Some(range),
+        }
+    }
+}
+
+/// The numbers that a word may spell, both ends included.
+#[derive(Clone, Copy, Debug, PartialEq, Eq)]
+pub struct Range {
+    /// The least of them.
+    pub least: u32,
+    /// The largest of them.
+    pub most: u32,
+}
+
+/// Why a line is refused, and where.
+#[derive(Clone, Copy, Debug, PartialEq, Eq)]
+pub struct LineFault {
+    /// The word at which the fault was found, from 1; 0 for the line as a whole.
+    pub word: u32,
+    /// Why the line is refused.
+    pub cause: Cause,
+    /// The range of the number that the word should spell, where it has one by itself.
+    pub range: Option<Range>,
+}
+
+/// The fault of a line whose first word isn't known in its part of the script, or whose words are too few or too many.
+#[inline]
+pub fn unknown_line() -> LineFault
+    ensures { result ≡ tests.unknown_line }
+{
+    Cause::UnknownWord.at(1)
+}
+
+/// What a word gives, or the fault at that word.
+#[inline(always)]
+pub fn at<T>(word: u32, given: Result<T, Cause>) -> Result<T, LineFault>
+    ensures { result ≡ tests.at word given }
+{
+    match given {
+        Ok(value) => Ok(value),
+        Err(cause) => Err(cause.at(word)),
+    }
+}
+
+/// What a word gives that should spell a number of a range, or the fault at that word.
+#[inline(always)]
+pub fn within<T>(word: u32, range: Range, given: Result<T, Cause>) -> Result<T, LineFault>
+    ensures { result ≡ tests.within word range.least range.most given }
+{
+    match given {
+        Ok(value) => Ok(value),
+        Err(cause) => Err(cause.outside(word, range)),
+    }
 }
 
 /// The first line of a script that has a fault, and its first fault.
@@ -68,28 +150,61 @@ impl Cause {
 pub struct ScriptFault {
     /// The line's number, from 1.
     pub line: u32,
-    /// Why the line is refused.
-    pub cause: Cause,
+    /// Why the line is refused, and where.
+    pub fault: LineFault,
+}
+
+/// Why a reader gives nothing.
+#[derive(Clone, Copy, Debug, PartialEq, Eq)]
+pub enum ReadError {
+    /// What it reads has a fault.
+    Fault(Cause),
+    /// There is no memory for what it gives.
+    OutOfMemory,
+}
+
+impl From<Cause> for ReadError {
+    ghost use Rattle.script_words.specs.declared.fault.ReadError.TheVariants.{Fault};
+
+    ghost from_gives = { λ cause error. error ≡ Fault cause };
+
+    fn from(cause: Cause) -> ReadError {
+        ReadError::Fault(cause)
+    }
+}
+
+impl From<AllocError> for ReadError {
+    ghost use Rattle.script_words.specs.declared.fault.ReadError.TheVariants.{OutOfMemory};
+
+    ghost from_gives = { λ _ error. error ≡ OutOfMemory };
+
+    fn from(_error: AllocError) -> ReadError {
+        ReadError::OutOfMemory
+    }
 }
 
 /// Why a line gives nothing.
 #[derive(Clone, Copy, Debug, PartialEq, Eq)]
 pub enum LineError {
     /// The line has a fault.
-    Fault(Cause),
+    Fault(LineFault),
     /// There is no memory for what the line gives.
     OutOfMemory,
 }
 
-impl From<Cause> for LineError {
-    ghost from_gives = { λ cause error. error ≡ Fault cause };
+impl From<LineFault> for LineError {
+    ghost use Rattle.script_words.specs.declared.fault.LineError.TheVariants.{Fault};
 
-    fn from(cause: Cause) -> LineError {
-        LineError::Fault(cause)
+    ghost from_gives = { λ fault error. error ≡ Fault fault };
+
+    fn from(fault: LineFault) -> LineError {
+        LineError::Fault(fault)
     }
 }
 
 impl From<AllocError> for LineError {
+    ghost use Rattle.script_words.specs.declared.fault.LineError.TheVariants.{OutOfMemory};
+
     ghost from_gives = { λ _ error. error ≡ OutOfMemory };
 
     fn from(_error: AllocError) -> LineError {

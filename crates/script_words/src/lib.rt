@@ -20,7 +20,9 @@ pub mod settings;
 pub mod step_words;
 pub mod words;
 
-pub use fault::{Cause, LineError, ScriptFault};
+pub use fault::{
+    Cause, LineError, LineFault, Range, ReadError, ScriptFault, at, unknown_line, within,
+};
 pub use line_gives::Given;
 pub use macros::{Macro, Repeated};
 pub use parts::{PairHosts, Part, QueueName, SideName};

@@ -1,12 +1,12 @@
 //! The pair that its options declare, and whether its numbers go together.
 #![tactic(auto, unfolding(crate::specs::Tests::and_then))]
 
-ghost use Rattle.std.specs.Prelude.{◌≡◌, ◌∷◌, ◌++◌, [], map};
+ghost use Rattle.std.specs.Prelude.{◌≡◌, ◌≤◌, ◌∷◌, ◌++◌, [], false, length, map, IfOk};
 ghost use Rattle.std.specs.List.{list_any};
-ghost use Rattle.script_words.specs.Reads.{Reads, result_map};
+ghost use Rattle.script_words.specs.Reads.{ReadsLine, result_map};
 ghost use Rattle.script_words.specs.Settings as rules;
 
-use crate::fault::{Cause, LineError};
+use crate::fault::{Cause, LineError, LineFault, at};
 use crate::settings::{Setting, SideKey, is_same_scope, read_setting};
 use std::alloc::Global;
 use step_kinds::limits::MOST_MTU;
@@ -20,22 +20,30 @@ fn has_setting(setting: Setting, settings: &[Setting]) -> bool
 }
 
 /// One more option: it isn't there yet, and its number is in its range.
-fn new_setting(settings: &[Setting], word: &[u8]) -> Result<Setting, Cause>
-    ensures { result_map (λ setting. settings.now ++ setting ∷ []) result ≡ rules.with_setting settings.now word.now }
+fn new_setting(settings: &[Setting], word: &[u8]) -> Result<Setting, LineFault>
+    requires { length settings.now ≤ 19 }
+    ensures value { result_map (λ setting. settings.now ++ setting ∷ []) result ≡ rules.with_setting settings.now word.now }
+    ensures is_new { IfOk result (λ setting. rules.has_setting setting settings.now ≡ false) }
 {
-    let setting = read_setting(word)?;
+    let place = 5 + settings.len() as u32;
+    let setting = at(place, read_setting(word))?;
     if has_setting(setting, settings) {
-        return Err(Cause::Repeated);
+        return Err(Cause::Repeated.at(place));
     }
     if !setting.is_in_range() {
-        return Err(Cause::BadGeometry);
+        return Err(LineFault {
+            word: place,
+            cause: Cause::BadGeometry,
+            range: setting.range(),
+        });
     }
     Ok(setting)
 }
 
-/// The options that words spell.
+/// The options that the words of a pair's line from the fifth on spell.
+#[tactic(auto, using(crate::proofs::FewSettings::apart_none, crate::proofs::FewSettings::few_settings), unfolding(crate::specs::Tests::and_then))]
 pub fn read_settings(alloc: Global, words: &[&[u8]]) -> Result<Items<Setting>, LineError>
-    ensures { Reads result (rules.settings_from [] (map (λ word. word.now) words.now)) }
+    ensures { ReadsLine result (rules.settings_from [] (map (λ word. word.now) words.now)) }
 {
     let mut settings = Items::new(alloc);
     for word in words {

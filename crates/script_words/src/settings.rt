@@ -7,7 +7,7 @@ ghost use Rattle.std.specs.Option.{option_map, option_map_or, option_copied, opt
 ghost use Rattle.script_words.specs.Settings as rules;
 ghost use Rattle.script_words.specs.Words.{behind};
 
-use crate::fault::Cause;
+use crate::fault::{Cause, Range};
 use crate::words::read_number;
 use step_kinds::Side;
 use step_kinds::limits::{
@@ -64,6 +64,37 @@ impl SideKey {
         }
     }
 
+    /// The range of a number of this key.
+    pub fn range(self) -> Range
+        ensures { result ≡ rules.key_range self }
+    {
+        match self {
+            SideKey::Size | SideKey::Cap => Range {
+                least: LEAST_SIZE as u32,
+                most: MOST_SIZE as u32,
+            },
+            SideKey::Windows => Range {
+                least: 1,
+                most: MOST_WINDOWS,
+            },
+            SideKey::Queues => Range {
+                least: 1,
+                most: MOST_QUEUES,
+            },
+            SideKey::Version => Range { least: 3, most: 5 },
+        }
+    }
+
+    /// Whether a number of bytes is a whole number of steps, where the key's is one of bytes.
+    fn is_stepped(self, number: u32) -> bool
+        ensures { result ≡ rules.is_stepped self number }
+    {
+        match self {
+            SideKey::Size | SideKey::Cap => number % SIZE_STEP as u32 == 0,
+            SideKey::Windows | SideKey::Queues | SideKey::Version => true,
+        }
+    }
+
     /// Whether this is the same key.
     pub fn is_same(self, other: SideKey) -> bool
         ensures { result ≡ rules.same_key self other }
@@ -94,19 +125,27 @@ impl Setting {
         }
     }
 
-    /// Whether the option's number, taken by itself, is in its range.
+    /// The range of the option's number, where it has one.
+    pub fn range(&self) -> Option<Range>
+        ensures { result ≡ rules.range_of self.now }
+    {
+        match *self {
+            Setting::Up | Setting::Strict | Setting::Raw => None,
+            Setting::Mtu { .. } => Some(mtu_range()),
+            Setting::OfSide { key, .. } => Some(key.range()),
+        }
+    }
+
+    /// Whether the option's number, taken by itself, is one that it may have.
     pub fn is_in_range(&self) -> bool
         ensures { result ≡ rules.in_range self.now }
     {
         match *self {
             Setting::Up | Setting::Strict | Setting::Raw => true,
-            Setting::Mtu { number } => is_within(LEAST_MTU, MOST_MTU, number),
-            Setting::OfSide { key, number, .. } => match key {
-                SideKey::Size | SideKey::Cap => is_size(number),
-                SideKey::Windows => is_within(1, MOST_WINDOWS, number),
-                SideKey::Queues => is_within(1, MOST_QUEUES, number),
-                SideKey::Version => is_within(3, 5, number),
-            },
+            Setting::Mtu { number } => is_within(mtu_range(), number),
+            Setting::OfSide { key, number, .. } => {
+                is_within(key.range(), number) && key.is_stepped(number)
+            }
         }
     }
 }
@@ -123,16 +162,19 @@ pub fn is_same_scope(side: Option<Side>, other: Option<Side>) -> bool
     }
 }
 
-fn is_within(least: u32, most: u32, number: u32) -> bool
-    ensures { result ≡ rules.is_within least most number }
+fn mtu_range() -> Range
+    ensures { result ≡ rules.mtu_range }
 {
-    least <= number && number <= most
+    Range {
+        least: LEAST_MTU,
+        most: MOST_MTU,
+    }
 }
 
-fn is_size(bytes: u32) -> bool
-    ensures { result ≡ rules.is_size bytes }
+fn is_within(range: Range, number: u32) -> bool
+    ensures { result ≡ rules.is_within range number }
 {
-    is_within(LEAST_SIZE as u32, MOST_SIZE as u32, bytes) && bytes % SIZE_STEP as u32 == 0
+    range.least <= number && number <= range.most
 }
 
 /// The option without a number that a word spells.

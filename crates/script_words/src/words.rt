@@ -3,11 +3,12 @@
 
 ghost use Rattle.std.specs.Prelude.{◌≡◌, ◌||◌};
 ghost use Rattle.std.specs.List.{list_all};
-ghost use Rattle.script_words.specs.Reads.{Reads};
+ghost use Rattle.script_words.specs.Reads.{Reads, ReadsLine};
 ghost use Rattle.script_words.specs.Declarations.{same_side};
+ghost use Rattle.script_words.specs.Tests as tests;
 ghost use Rattle.script_words.specs.Words as spelled;
 
-use crate::fault::{Cause, LineError};
+use crate::fault::{Cause, LineError, LineFault, Range, ReadError, within};
 use hex::FromHexError;
 use std::alloc::Global;
 use step_kinds::{Items, Name, Side};
@@ -104,14 +105,37 @@ pub fn read_number_between(least: u32, most: u32, word: &[u8]) -> Result<u32, Ca
     Ok(number)
 }
 
+/// The number that word `n` of a line spells, from the least to the most. The fault tells the range.
+pub fn read_number_in(n: u32, least: u32, most: u32, word: &[u8]) -> Result<u32, LineFault>
+    ensures { result ≡ spelled.number_in n least most word.now }
+{
+    within(
+        n,
+        Range { least, most },
+        read_number_between(least, most, word),
+    )
+}
+
 /// The bytes that a word spells by pairs of hexadecimal digits.
-pub fn read_bytes(alloc: Global, word: &[u8]) -> Result<Items<u8>, LineError>
+pub fn read_bytes(alloc: Global, word: &[u8]) -> Result<Items<u8>, ReadError>
     ensures { Reads result (spelled.hex_word word.now) }
 {
     match hex::decode(alloc, word) {
         Ok(bytes) => Ok(Items::of_vec(bytes)),
-        Err(FromHexError::OutOfMemory) => Err(LineError::OutOfMemory),
-        Err(_) => Err(LineError::Fault(Cause::BadHex)),
+        Err(FromHexError::OutOfMemory) => Err(ReadError::OutOfMemory),
+        Err(_) => Err(ReadError::Fault(Cause::BadHex)),
+    }
+}
+
+/// The bytes that word `n` of a line spells.
+#[inline(always)]
+pub fn read_bytes_at(alloc: Global, n: u32, word: &[u8]) -> Result<Items<u8>, LineError>
+    ensures { ReadsLine result (tests.at n (spelled.hex_word word.now)) }
+{
+    match read_bytes(alloc, word) {
+        Ok(bytes) => Ok(bytes),
+        Err(ReadError::Fault(cause)) => Err(LineError::Fault(cause.at(n))),
+        Err(ReadError::OutOfMemory) => Err(LineError::OutOfMemory),
     }
 }
 

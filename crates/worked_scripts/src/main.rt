@@ -1,9 +1,9 @@
 //! Runs the program on worked scripts, and says of each whether its status and its text are those that were worked out by hand.
 //!
-//! Standard input has the cases. A line `@case STATUS ABOUT` begins one of `replay`, `@run STATUS ABOUT` one of `run`,
-//! `@stream STATUS ABOUT` one of `stream`, `@reads STATUS ABOUT` one of `reads`; the lines after it are its script. `@part` begins lines that have to stand in the text that the
-//! program writes, one behind the other, `@whole` the whole text, `@sessions` what the lanes of a run have to come to, and `@end` ends
-//! the case. Each case is run over sources and sinks of several piece sizes. A table that hasn't this form fails.
+//! Standard input has the cases. A line `@case STATUS ABOUT` begins one of `replay`, and `@trace`, `@check`, `@run`, `@stream` and
+//! `@reads` with the same words one of that command; the lines after it are its script. `@part` begins lines that have to stand in
+//! the text that the program writes, one after the other, `@whole` the whole text, `@sessions` what the lanes of a run have to come
+//! to, and `@end` ends the case. Each case is run over sources and sinks of several piece sizes. A table that hasn't this form fails.
 #![tactic(auto)]
 
 mod cases;

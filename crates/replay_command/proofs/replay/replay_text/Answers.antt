@@ -1,9 +1,7 @@
 use Rattle.std.proofs.Common.{◌≡◌, ◌∙◌, ◌++◌, [], ℕ, List, refl, ap, sym}
-use Rattle.std.specs.List.{flat_map}
 use Rattle.ledger_model.specs.Log.{Answered}
-use Rattle.report_text.specs.Report.{answer_line}
 use Rattle.script_plan.specs.Scripts.{plan_in}
-use Rattle.replay_command.specs.Replays.{answers_text, line_answers, log_of_plan}
+use Rattle.replay_command.specs.Replays.{answers_text, log_of_plan}
 use Rattle.replay_command.proofs.PermittedSteps.{steps_permitted}
 use Rattle.replay_command.proofs.Reports.{answers_kept, devices_known, lanes_known, replay_text_is}
 use Rattle.replay_command.proofs.replay.replay_text.Goals as goal
@@ -40,8 +38,8 @@ returns c =
     (record { made = c.in_ok-cluster.ensures.made plan refl; kept = c.in_ok-cluster.ensures.plan }) in
     let answers : List Answered = made.answers in
     let text : c.lines.inside.text.items ≡ answers_text script.steps (log_of_plan plan) =
-    c.lines.view_is ∙ made.kept ∙ answers_kept (line_answers script.steps answers) c.new-2.result.items
-    ∙ ap (λ (before : List ℕ). before ++ flat_map answer_line (line_answers script.steps answers)) c.new-2.ensures.items
-    ∙ ap (λ (log : List Answered). flat_map answer_line (line_answers script.steps log)) (sym made.log) in
+    c.lines.view_is ∙ made.kept ∙ answers_kept script.steps answers c.new-2.result.items
+    ∙ ap (λ (before : List ℕ). before ++ answers_text script.steps answers) c.new-2.ensures.items
+    ∙ ap (answers_text script.steps) (sym made.log) in
     replay_text_is plan c.deref.result.now c.deref-2.result.now _ _ text (c.deref.ensures.value ∙ c.in_ok-lanes.ensures)
     (c.deref-2.ensures.value ∙ c.in_ok-devs.ensures) c.in_ok-push_ending.ensures

@@ -1,0 +1,90 @@
+//! The trace of a script.
+
+ghost use Rattle.std.specs.Prelude.{◌≡◌, ◌++◌, IfOk, OnOk, false, replicate};
+ghost use Rattle.std.specs.List.{fold};
+ghost use Rattle.plan_model.specs.DeclaredPlans.{IsDeclared};
+ghost use Rattle.plan_model.specs.TrafficPlans.{IsWhole};
+ghost use Rattle.script_plan.specs.Scripts.{plan_in};
+ghost use Rattle.trace_command.specs.Trace.{trace_start, trace_text as text_of_plan, with_line};
+
+use crate::head::push_head;
+use cluster_core::Cluster;
+use replay_command::replay::{device_counts, lane_counts};
+use replay_command::steps::{KeepsAnswers, make_steps};
+use script_plan::Script;
+use std::alloc::{AllocError, Global};
+use std::marker::Model;
+use step_kinds::{LineAnswer, Plan, Step};
+use trace_text::{WriteNumbers, push_ending, push_step_line};
+
+/// The lines of a trace so far, the numbers of the writes in flight, and room for one line that repeats. Contracts see the
+/// plan, the numbers and the bytes of the lines.
+#[derive(Drop)]
+struct TraceLines<'a> {
+    plan: &'a Plan,
+    writes: WriteNumbers,
+    text: Vec<u8>,
+    line: Vec<u8>,
+}
+
+impl<'a> Model for TraceLines<'a> {
+    ghost use Rattle.trace_command.specs.Trace.{Traced};
+
+    ghost Value = { Traced };
+
+    ghost view = { λ lines. record { plan = lines.plan.now; writes = lines.writes; text = lines.text.items } };
+}
+
+impl<'a> KeepsAnswers for TraceLines<'a> {
+    ghost with_answer = { with_line };
+
+    fn keep(&mut self, step: &Step, made: &LineAnswer) -> Result<(), AllocError> {
+        push_step_line(&mut self.text, self.plan, &self.writes, step, made)?;
+        self.writes
+            .follow(self.plan.pairs.as_slice(), step, &made.answer)
+    }
+
+    fn keep_times(&mut self, step: &Step, made: &LineAnswer, count: u32) -> Result<(), AllocError> {
+        self.line.clear();
+        push_step_line(&mut self.line, self.plan, &self.writes, step, made)?;
+        for _ in 0..count {
+            self.text.extend_from_slice(&self.line)?;
+        }
+        Ok(())
+    }
+}
+
+impl<'a> TraceLines<'a> {
+    // No line but the head's, and no write in flight.
+    fn new(alloc: Global, plan: &'a Plan) -> Result<TraceLines<'a>, AllocError>
+        requires { IsDeclared plan.now }
+        ensures { IfOk result (λ lines. lines ≡ trace_start plan.now) }
+    {
+        let mut text = Vec::new(alloc);
+        push_head(&mut text, plan.pairs.as_slice())?;
+        Ok(TraceLines {
+            plan,
+            writes: WriteNumbers::new(alloc, plan.pairs.as_slice())?,
+            text,
+            line: Vec::new(alloc),
+        })
+    }
+}
+
+/// The trace of a script: its head, with the version of its form and a line for
+/// each pair; a line for each step, in the order in which they are
+/// made; a line for each lane in each session where a frame was accepted or delivered, for each device, and the end. The
+/// only error is out of memory.
+pub fn trace_text(alloc: Global, script: &Script) -> Result<Vec<u8>, AllocError>
+    requires { IsWhole (plan_in script.now) }
+    ensures { IfOk result (λ text. text.items ≡ text_of_plan (plan_in script.now)) }
+{
+    let mut cluster = Cluster::new(alloc, &script.declared)?;
+    let mut lines = TraceLines::new(alloc, &script.declared)?;
+    make_steps(&script.steps, &mut cluster, &mut lines)?;
+    let lanes = lane_counts(alloc, script, &cluster)?;
+    let devs = device_counts(alloc, script, &cluster)?;
+    let mut text = lines.text;
+    push_ending(&mut text, &script.declared, &lanes, &devs)?;
+    Ok(text)
+}

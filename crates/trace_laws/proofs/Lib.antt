@@ -1,0 +1,9 @@
+pub mod AnswersFit
+pub mod BlockedWait
+pub mod LandingsOfLabels
+pub mod LinesAreTrue
+pub mod LogsInStep
+pub mod NumbersInStep
+pub mod NumbersOfItems
+pub mod NumbersStandOnce
+pub mod TracesFollow
