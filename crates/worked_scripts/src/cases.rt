@@ -3,16 +3,6 @@
 use std::alloc::{AllocError, Global};
 use std::io;
 
-/// How the head of a case of each command begins.
-const HEADS: [(&str, &str); 6] = [
-    ("@case ", "replay"),
-    ("@trace ", "trace"),
-    ("@check ", "check"),
-    ("@run ", "run"),
-    ("@stream ", "stream"),
-    ("@reads ", "reads"),
-];
-
 /// A text that the program has to write.
 #[derive(Drop)]
 pub enum Wanted {
@@ -80,10 +70,23 @@ fn is_complete(case: &Case) -> bool {
 
 // Adds a line to a case, and says whether it may stand there.
 fn take_line(alloc: Global, case: &mut Case, line: &str) -> Result<bool, AllocError> {
-    for (word, command) in HEADS {
-        if let Some(head) = line.strip_prefix(word) {
-            return take_head(alloc, case, command, head);
-        }
+    if let Some(head) = line.strip_prefix("@case ") {
+        return take_head(alloc, case, "replay", head);
+    }
+    if let Some(head) = line.strip_prefix("@trace ") {
+        return take_head(alloc, case, "trace", head);
+    }
+    if let Some(head) = line.strip_prefix("@check ") {
+        return take_head(alloc, case, "check", head);
+    }
+    if let Some(head) = line.strip_prefix("@run ") {
+        return take_head(alloc, case, "run", head);
+    }
+    if let Some(head) = line.strip_prefix("@stream ") {
+        return take_head(alloc, case, "stream", head);
+    }
+    if let Some(head) = line.strip_prefix("@reads ") {
+        return take_head(alloc, case, "reads", head);
     }
     if line == "@part" {
         let mut lines = Vec::new(alloc);
