@@ -12,3 +12,4 @@ pub mod Views
 pub mod Lending
 pub mod Words
 pub mod Laws
+pub mod Same

@@ -8,6 +8,7 @@ ghost use Rattle.plan_model.specs.Orders.{order_of};
 ghost use Rattle.bridge_pair.specs.Flights.{Flying, flying_order};
 ghost use Rattle.bridge_pair.specs.declared.flying_write.Arrival.TheVariants.{AtAddress};
 ghost use Rattle.bridge_pair.specs.Pages.{PagesGrow};
+ghost use Rattle.bridge_pair.specs.Same.{IsSameEnd};
 ghost use Rattle.bridge_regs.specs.Doorbell.{with_pending};
 ghost use Rattle.host_memory.specs.Memory.{AreAbsent, ArePromised, AreZero, Touches, bytes_at, word_at, word_bytes};
 ghost use Rattle.posted_queue.specs.Flight.{discarded, given_back, posted, promised};
@@ -15,6 +16,7 @@ ghost use Rattle.posted_queue.specs.Landing.{after_landing, land_answer};
 
 use crate::flying_bytes::{Buffer, FEW, FlyingBytes};
 use crate::flying_write::{Arrival, FlyingWrite};
+use crate::same::{have_same_bytes, have_same_writes};
 use bridge_regs::{Bells, Pads};
 use host_memory::Memory;
 use posted_queue::{LandAnswer, Queue};
@@ -59,6 +61,16 @@ impl Endpoint {
         let _word = self.pads.get(0);
         let _pending = self.bells.pending();
         let _masked = self.bells.masked();
+    }
+
+    /// Whether two ends have the same registers, bytes and writes in flight.
+    pub fn is_same(&self, other: &Endpoint) -> bool
+        ensures { IsTrue result ↔ IsSameEnd self.now other.now }
+    {
+        self.pads == other.pads
+            && self.bells == other.bells
+            && have_same_writes(&self.coming, &other.coming)
+            && have_same_bytes(&self.memory, &other.memory)
     }
 
     // What comes

@@ -1,6 +1,6 @@
 //! Posted writes in flight.
 
-ghost use Rattle.std.specs.Prelude.{◌≡◌, ◌<◌};
+ghost use Rattle.std.specs.Prelude.{◌≡◌, ◌↔◌, ◌<◌, IsTrue};
 ghost use Rattle.plan_model.specs.DeclaredPlans.{IsPair};
 ghost use Rattle.plan_model.specs.Orders.{order_of};
 
@@ -19,6 +19,26 @@ pub enum Arrival {
     AtPad { index: u32, value: u32 },
     /// At a bit of the peer's doorbell.
     AtBell { bit: u32 },
+}
+
+impl Arrival {
+    /// Whether two writes arrive at the same place, with the same bytes or value.
+    pub fn is_same(&self, other: &Arrival) -> bool
+        ensures { IsTrue result ↔ (self.now ≡ other.now) }
+    {
+        match (self, other) {
+            (Arrival::AtAddress { at, bytes }, Arrival::AtAddress { at: place, bytes: others }) => {
+                at == place && bytes.as_slice() == others.as_slice()
+            }
+            (Arrival::AtPad { index, value }, Arrival::AtPad { index: pad, value: word }) => {
+                index == pad && value == word
+            }
+            (Arrival::AtBell { bit }, Arrival::AtBell { bit: rung }) => bit == rung,
+            (Arrival::AtAddress { .. }, Arrival::AtPad { .. } | Arrival::AtBell { .. })
+            | (Arrival::AtPad { .. }, Arrival::AtAddress { .. } | Arrival::AtBell { .. })
+            | (Arrival::AtBell { .. }, Arrival::AtAddress { .. } | Arrival::AtPad { .. }) => false,
+        }
+    }
 }
 
 /// A write in flight: its label, how bridges order it, and where it arrives.
@@ -59,6 +79,16 @@ impl FlyingWrite {
             class: class_among(classes_of(plan, side), label),
             arrival,
         }
+    }
+
+    /// Whether two writes have the same label and order, and arrive alike.
+    pub fn is_same(&self, other: &FlyingWrite) -> bool
+        ensures { IsTrue result ↔ (self.now ≡ other.now) }
+    {
+        self.label == other.label
+            && self.kind == other.kind
+            && self.class == other.class
+            && self.arrival.is_same(&other.arrival)
     }
 }
 

@@ -19,6 +19,7 @@ mod fresh;
 pub mod laws;
 mod pair;
 mod plans;
+mod same;
 mod write;
 
 pub use book::SideBook;

@@ -55,6 +55,7 @@ impl Pair {
     ghost use Rattle.bridge_pair.specs.Lending.{LendsBellsOf};
     ghost use Rattle.std.specs.Borrow.{sem};
     ghost use Rattle.bridge_pair.specs.Links.{after_clean, after_cut, after_drop, after_enable, after_train};
+    ghost use Rattle.bridge_pair.specs.Same.{IsSameBridge};
 
     /// The pair of a plan before any step, with nothing in flight. Its memories are zero and its link is down; where the plan
     /// says that the pair starts up, all is as after a whole handshake in session 1: the scratchpads have the peer's offer,
@@ -115,6 +116,19 @@ impl Pair {
         self.a.law();
         self.b.law();
         &self.plan
+    }
+
+    /// Whether two pairs are in the same state: link, books, scratchpads, doorbells, each byte of both memories and all
+    /// writes in flight are the same. What is promised may differ, and plans aren't compared. Pages that neither memory has
+    /// aren't looked at one by one. It takes no memory.
+    pub fn is_same(&self, other: &Pair) -> bool
+        ensures { IsTrue result ↔ IsSameBridge self.now other.now }
+    {
+        self.link == other.link
+            && self.book_a == other.book_a
+            && self.book_b == other.book_b
+            && self.a.is_same(&other.a)
+            && self.b.is_same(&other.b)
     }
 
     /// What a side has reached in the handshake.

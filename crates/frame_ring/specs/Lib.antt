@@ -8,3 +8,4 @@ pub mod PortView
 pub mod Ports
 pub mod Promises
 pub mod Rings
+pub mod Same

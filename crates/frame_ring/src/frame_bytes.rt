@@ -1,6 +1,6 @@
 //! The bytes of the frame that is received.
 
-ghost use Rattle.std.specs.Prelude.{◌≡◌, ◌+◌, ◌-◌, ◌<◌, ◌≤◌, ◌++◌, OnErr, OnOk, length};
+ghost use Rattle.std.specs.Prelude.{◌≡◌, ◌↔◌, ◌+◌, ◌-◌, ◌<◌, ◌≤◌, ◌++◌, IsTrue, OnErr, OnOk, length};
 ghost use Rattle.bridge_pair.specs.Bridge.{bytes_of};
 ghost use Rattle.frame_ring.specs.Gathering.{nothing_gathered};
 ghost use Rattle.host_memory.specs.Memory.{bytes_at};
@@ -38,6 +38,13 @@ impl Gathered {
         ensures few { result ≤ most_frame_bytes }
     {
         self.filled as u32
+    }
+
+    /// Whether the same bytes were gathered, whatever room there is.
+    pub fn is_same(&self, other: &Gathered) -> bool
+        ensures { IsTrue result ↔ (self.now.bytes ≡ other.now.bytes) }
+    {
+        self.bytes[..self.filled] == other.bytes[..other.filled]
     }
 
     /// Takes room for `more` bytes. Want of memory leaves the bytes as they were.

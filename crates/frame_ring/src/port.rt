@@ -1,6 +1,6 @@
 //! One queue of one side.
 
-ghost use Rattle.std.specs.Prelude.{◌≡◌, ◌+◌, ◌-◌, ◌<◌, ◌≤◌, IfOk, OnErr, OnOk, false, length, true};
+ghost use Rattle.std.specs.Prelude.{◌≡◌, ◌↔◌, ◌+◌, ◌-◌, ◌<◌, ◌≤◌, IfOk, IsTrue, OnErr, OnOk, false, length, true};
 ghost use Rattle.bridge_pair.specs.Bridge.{flight_of, pages_of, with_pages};
 ghost use Rattle.bridge_pair.specs.Pages.{PagesGrow};
 ghost use Rattle.byte_model.specs.Addresses.{own_header};
@@ -47,6 +47,7 @@ impl Port {
     ghost use Rattle.frame_ring.specs.Calls.{FindsEntry, down_begun, frame_begun, room_answer, TouchedByBegin, TouchedByDown, TouchedByFlags, TouchedByLook, ack_answer, acked_by, after_ack, after_begin, after_clear, after_copy, after_down, after_look, after_post, begin_answer, clear_answer, cleared_by, copy_answer, down_answer, free_answer, look_answer, post_answer, posted_by, refuses_answer, reset_by};
     ghost use Rattle.frame_ring.specs.Port.{fresh_port, is_busy, unused_of, with_receiving, writes_left};
     ghost use Rattle.frame_ring.specs.PortView.{FitsRings, HasPagesIn, HasRoomIn, TouchesLeft, TouchesWrite, with_room};
+    ghost use Rattle.frame_ring.specs.Same.{IsSamePort};
 
     /// The port of one of a side's queues, with nothing sent and nothing received. It takes no memory yet; the
     /// allocator is kept for [`Port::look`].
@@ -251,6 +252,18 @@ impl Port {
         ensures few { result < 16 }
     {
         self.rings.queue()
+    }
+
+    /// Whether two ports of one queue are in the same state, so that no later call tells them apart: counts, all that is left
+    /// to post with the entries that it is of, and where the receiver stands with the bytes copied so far. Of what was posted
+    /// whole nothing is compared. Both have to be of one plan, side and queue. It takes no memory.
+    pub fn is_same(&self, other: &Port) -> bool
+        requires plan { self.now.plan ≡ other.now.plan }
+        requires side { self.now.side ≡ other.now.side }
+        requires queue { self.now.queue ≡ other.now.queue }
+        ensures { IsTrue result ↔ IsSamePort self.now other.now }
+    {
+        self.sender.is_same(&other.sender) && self.receiver.is_same(&other.receiver)
     }
 
     /// What [`Port::begin`] answers for a frame of `len` bytes, at most 65,536, but for want of memory. It takes no memory.

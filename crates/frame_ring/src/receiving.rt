@@ -1,6 +1,6 @@
 //! The receiver's end: where it stands with the entry at hand.
 
-ghost use Rattle.std.specs.Prelude.{◌≡◌, ℕ, ◌+◌, ◌-◌, ◌*◌, ◌^◌, ◌<◌, ◌≤◌, ◌++◌, OnErr, OnOk, length, min, true};
+ghost use Rattle.std.specs.Prelude.{◌≡◌, ◌↔◌, ℕ, ◌+◌, ◌-◌, ◌*◌, ◌^◌, ◌<◌, ◌≤◌, ◌++◌, IsTrue, OnErr, OnOk, length, min, true};
 ghost use Rattle.bridge_pair.specs.Bridge.{bytes_of};
 ghost use Rattle.byte_model.specs.Headers.{found_with};
 ghost use Rattle.frame_ring.specs.Calls.{last_got, look_found, part_answer, part_copied};
@@ -54,6 +54,19 @@ impl Receiver {
             left: 0,
             gathered: Gathered::new(alloc),
         }
+    }
+
+    /// Whether two receivers stand at the same place of the same bytes.
+    pub fn is_same(&self, other: &Receiver) -> bool
+        ensures { IsTrue result ↔ (self.now ≡ other.now) }
+    {
+        self.got == other.got
+            && self.done == other.done
+            && self.phase == other.phase
+            && self.part == other.part
+            && self.len == other.len
+            && self.left == other.left
+            && self.gathered.is_same(&other.gathered)
     }
 
     /// How many entries were taken whole.

@@ -4,6 +4,7 @@ ghost use Rattle.std.specs.Prelude.{◌≡◌, ◌↔◌, IsTrue, ◌+◌, ◌-�
 ghost use Rattle.frame_ring.specs.Calls.{entries_begun, first_label, let_go, next_begun, rest_of};
 ghost use Rattle.frame_ring.specs.Outgoing.{IsLabelOf, all_writes_in, count_left, entries_under, entry_at, label_by, most_numbers, with_progress, writes_in};
 ghost use Rattle.frame_ring.specs.Port.{is_busy as is_busy_by, nothing_sent};
+ghost use Rattle.frame_ring.specs.Same.{IsSameSending};
 ghost use Rattle.lane_model.specs.Lane.{GoesDown, bytes_of, chunk_of, chunks_in, left_of};
 ghost use Rattle.lane_model.specs.Tests.{is_empty_list};
 ghost use Rattle.plan_model.specs.Pieces.{pieces_of};
@@ -70,6 +71,18 @@ impl Sender {
         ensures { result ≡ is_busy_by self.now.sending }
     {
         self.left != 0
+    }
+
+    /// Whether two senders of one queue have begun as much and have the same left to post.
+    pub fn is_same(&self, other: &Sender) -> bool
+        requires queue { self.now.queue ≡ other.now.queue }
+        requires largest { self.now.largest ≡ other.now.largest }
+        ensures { IsTrue result ↔ IsSameSending self.now.sending other.now.sending }
+    {
+        self.begun == other.begun
+            && self.told == other.told
+            && self.next == other.next
+            && have_same_entries(self.largest, &self.frame, self.piece, &other.frame, other.piece)
     }
 
     /// How many.
@@ -221,6 +234,40 @@ pub fn piece_bytes(bytes: &[u8], largest: u32, piece: u32) -> &[u8]
     let rest = &bytes[start..];
     let end = rest.len().min(largest as usize);
     &rest[..end]
+}
+
+// The bytes of a frame from a piece of it on.
+fn bytes_from(bytes: &[u8], largest: u32, piece: u32) -> &[u8]
+    requires among { piece < pieces_by largest (length bytes.now) }
+    requires some { 4 ≤ largest }
+    requires most { largest ≤ 65536 }
+    requires fits { length bytes.now ≤ 65536 }
+    ensures { result.now ≡ drop (largest * piece) bytes.now }
+{
+    &bytes[largest as usize * piece as usize..]
+}
+
+// Whether two frames under way have the same entries from these pieces on. Of those before nothing is compared.
+fn have_same_entries(
+    largest: u32,
+    one: &Option<Frame>,
+    piece: u32,
+    other: &Option<Frame>,
+    place: u32,
+) -> bool
+    requires here { piece < length (entries_under largest one.now) }
+    requires there { place < length (entries_under largest other.now) }
+    requires some { 4 ≤ largest }
+    requires most { largest ≤ 65536 }
+    ensures { IsTrue result ↔ (drop piece (entries_under largest one.now) ≡ drop place (entries_under largest other.now)) }
+{
+    match (one, other) {
+        (None, None) => true,
+        (Some(frame), Some(with)) => {
+            bytes_from(frame.bytes(), largest, piece) == bytes_from(with.bytes(), largest, place)
+        }
+        (None, Some(_)) | (Some(_), None) => false,
+    }
 }
 
 // The payload of an entry of the frame under way.

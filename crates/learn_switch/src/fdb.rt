@@ -1,6 +1,6 @@
 //! The forwarding database of a switch.
 
-ghost use Rattle.std.specs.Prelude.{◌≡◌, ◌<◌, [], length, IfOk, IfSome};
+ghost use Rattle.std.specs.Prelude.{◌≡◌, ◌↔◌, ◌<◌, [], length, IfOk, IfSome, IsTrue};
 ghost use Rattle.switch_model.specs.Fdb.{is_multicast, learned_source, lookup, place_of};
 
 use std::alloc::{AllocError, Global};
@@ -28,6 +28,13 @@ impl Fdb {
         Ok(Fdb {
             stations: Vec::with_capacity(alloc, MOST_STATIONS)?,
         })
+    }
+
+    /// Whether the same stations are known, in one order and on the same ports.
+    pub fn is_same(&self, other: &Fdb) -> bool
+        ensures { IsTrue result ↔ (self.now ≡ other.now) }
+    {
+        self.stations.as_slice() == other.stations.as_slice()
     }
 
     /// The port on which a station was seen last, where it is known. It looks at each station.

@@ -1,6 +1,6 @@
 //! Frames in the order in which they came.
 
-ghost use Rattle.std.specs.Prelude.{◌≡◌, ◌++◌, ◌∷◌, [], drop, map, replicate, slice_get, IfOk, OnErr, OnOk, option_copied};
+ghost use Rattle.std.specs.Prelude.{◌≡◌, ◌↔◌, ◌++◌, ◌∷◌, [], drop, map, replicate, slice_get, IfOk, IsTrue, OnErr, OnOk, option_copied};
 ghost use Rattle.switch_model.specs.Switch.{flooded};
 
 use std::alloc::{AllocError, Global};
@@ -45,6 +45,21 @@ impl FrameQueue {
         self.frames.front()
     }
 
+    /// Whether two queues have the same frames, in one order.
+    pub fn is_same(&self, other: &FrameQueue) -> bool
+        ensures { IsTrue result ↔ (self.now ≡ other.now) }
+    {
+        if self.frames.len() != other.frames.len() {
+            return false;
+        }
+        for place in 0..self.frames.len() {
+            if self.frames[place].bytes() != other.frames[place].bytes() {
+                return false;
+            }
+        }
+        true
+    }
+
     /// Drops the first frame, where there is one. It takes no memory.
     pub fn drop_first(&mut self)
         ensures { self.new ≡ drop 1 self.old }
@@ -59,6 +74,21 @@ impl Model for FrameQueue {
     ghost Value = { List (List ℕ) };
 
     ghost view = { λ queue. queue.frames.items };
+}
+
+/// Whether two lists have the same queues, in one order.
+pub fn are_same_queues(queues: &[FrameQueue], others: &[FrameQueue]) -> bool
+    ensures { IsTrue result ↔ (queues.now ≡ others.now) }
+{
+    if queues.len() != others.len() {
+        return false;
+    }
+    for place in 0..queues.len() {
+        if !queues[place].is_same(&others[place]) {
+            return false;
+        }
+    }
+    true
 }
 
 /// A copy of the frame joins each of these queues, as the last one.

@@ -1,12 +1,12 @@
 //! A switch.
 
-ghost use Rattle.std.specs.Prelude.{◌≡◌, ◌<◌, ◌≤◌, [], length, IfErr, IfOk, IfSome, OnErr, OnOk, option_copied};
+ghost use Rattle.std.specs.Prelude.{◌≡◌, ◌↔◌, ◌<◌, ◌≤◌, [], length, IfErr, IfOk, IfSome, IsTrue, OnErr, OnOk, option_copied};
 ghost use Rattle.switch_model.specs.Switch.{arrived, first, forward_answer, forwarded, header_bytes, list_of, new_switch, sent};
 ghost use Rattle.switch_model.specs.Fdb.{AreBelow, destination, learned_source, lookup, source};
 ghost use Rattle.learn_switch.specs.Frames.{GoesBelow, HasHeader, HaveHeaders, bytes_after_relay, bytes_relay_answer};
 
 use crate::fdb::{Fdb, is_multicast};
-use crate::frame_queue::{FrameQueue, empty_queues, push_to_others};
+use crate::frame_queue::{FrameQueue, are_same_queues, empty_queues, push_to_others};
 use net_dev::{Header, Short, decode};
 use std::alloc::{AllocError, Global};
 use std::marker::Model;
@@ -115,6 +115,16 @@ impl Switch {
         ensures { self.new ≡ sent self.old port }
     {
         self.waiting[port as usize].drop_first();
+    }
+
+    /// Whether two switches are in the same state: of each port the frames that arrived and those that wait, and the
+    /// stations in the order in which they were learned. It takes no memory.
+    pub fn is_same(&self, other: &Switch) -> bool
+        ensures { IsTrue result ↔ (self.now ≡ other.now) }
+    {
+        self.fdb.is_same(&other.fdb)
+            && are_same_queues(&self.inboxes, &other.inboxes)
+            && are_same_queues(&self.waiting, &other.waiting)
     }
 
     /// The port on which a station was seen last, and `None` exactly where it isn't known.

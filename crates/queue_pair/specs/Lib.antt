@@ -2,3 +2,4 @@ pub mod Gates
 pub mod Laws
 pub mod Needs
 pub mod Queue
+pub mod Same

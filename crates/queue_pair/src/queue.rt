@@ -1,6 +1,6 @@
 //! Queue pairs and doorbell interrupts.
 
-ghost use Rattle.std.specs.Prelude.{◌≡◌, ◌+◌, ◌-◌, ◌<◌, ◌≤◌, true, IfOk, OnErr, OnOk, length};
+ghost use Rattle.std.specs.Prelude.{◌≡◌, ◌↔◌, ◌+◌, ◌-◌, ◌<◌, ◌≤◌, true, IfOk, IsTrue, OnErr, OnOk, length};
 ghost use Rattle.bridge_pair.specs.Bridge.{flight_of, pages_of, with_pages};
 ghost use Rattle.bridge_pair.specs.Pages.{PagesGrow};
 ghost use Rattle.plan_model.specs.DeclaredPlans.{IsPair};
@@ -33,6 +33,7 @@ impl QueuePair {
     ghost use Rattle.frame_ring.specs.PortView.{FitsRings, HasPagesIn, HasRoomIn, with_room};
     ghost use Rattle.queue_pair.specs.Gates.{FindsEntry, after_begin, after_look, after_qpdown, begin_answer, is_joined, look_answer, qpdown_answer, refuses_answer, sender_refusal};
     ghost use Rattle.queue_pair.specs.Queue.{fresh_queue, with_port};
+    ghost use Rattle.queue_pair.specs.Same.{IsSameQueue};
 
     /// The queue pair of one of a side's queues, open, with nothing sent and nothing received.
     pub fn new(alloc: Global, plan: &PairPlan, side: Side, queue: u32) -> QueuePair
@@ -182,6 +183,17 @@ impl QueuePair {
         ensures ready { HasPagesIn self.new.port pair.new }
     {
         self.port.ack(pair)
+    }
+
+    /// Whether two queue pairs of one queue are in the same state, so that no later call tells them apart: whether they are
+    /// closed, and their ports, as [`Port::is_same`]. Both have to be of one plan, side and queue. It takes no memory.
+    pub fn is_same(&self, other: &QueuePair) -> bool
+        requires plan { self.now.port.plan ≡ other.now.port.plan }
+        requires side { self.now.port.side ≡ other.now.port.side }
+        requires queue { self.now.port.queue ≡ other.now.port.queue }
+        ensures { IsTrue result ↔ IsSameQueue self.now other.now }
+    {
+        self.closed == other.closed && self.port.is_same(&other.port)
     }
 
     /// What [`QueuePair::begin`] answers for a frame of `len` bytes, at most 65,536, but for want of memory. It takes no memory.
