@@ -33,6 +33,15 @@ plain_action plan switches (Relay pair side queue switch port) e = absurd (true�
 plain_action plan switches (Xnext pair side queue dev) e = absurd (true≢false (sym e))
 plain_action plan switches step e = refl
 
+-- as the log of the bridges goes on, the network answers
+pub answer_on_bridges : (plan : Plan) (net : Network (List ℕ)) (step : Step) (answer : Answer) → IsAnsweredOnBridges plan net.steps step answer → is_plain step ≡ true → (item_by plan net step).answer ≡ answer
+answer_on_bridges plan net step answer goes plain =
+    let made = made_after plan (memory_of plan) net.steps step in
+    ap (λ (action : Action (List ℕ)). (item_of bytes_kept plan (memory_of plan) net step action).answer) (plain_action plan net.switches step plain)
+    ∙ ap (λ (made : Answered). made.answer)
+    (same_head made (record { step = step; answer = answer })
+    (append_cancel_left (Rattle.fabric_core.specs.LogClauses.log_after plan net.steps) (made ∷ []) (record { step = step; answer = answer } ∷ []) (sym (log_of-last plan (memory_of plan) net.steps step) ∙ goes)))
+
 plain_uncounted : (step : Step) → is_plain step ≡ true → counts_refusals step ≡ false
 plain_uncounted (Xbegin pair side queue dev dst kind payload) e = absurd (true≢false (sym e))
 plain_uncounted step e = refl
@@ -80,7 +89,7 @@ module _ (plan : Plan) (step : Step) (answer : Answer) (refused : is_made step a
         record { bridges = next.1; plans = stands.plans; switches = stands.switches },
       )
 
-item_answer : (plan : Plan) (steps : List Step) (step : Step) (answer : Answer) → IsAnswered plan steps step answer → (item_by plan (network_after plan steps) step).answer ≡ answer
+pub item_answer : (plan : Plan) (steps : List Step) (step : Step) (answer : Answer) → IsAnswered plan steps step answer → (item_by plan (network_after plan steps) step).answer ≡ answer
 item_answer plan steps step answer is =
     let item : Answered = item_by plan (network_after plan steps) step in
     ap (λ (made : Answered). made.answer)

@@ -1,6 +1,8 @@
 pub mod Cluster
 pub mod ClusterStep
 pub mod Clusters
+pub mod InFlight
+pub mod Laws
 pub mod LogClauses
 pub mod Moves
 pub mod Parts

@@ -1,13 +1,15 @@
 //! The cluster.
 
-ghost use Rattle.std.specs.Prelude.{◌≡◌, ◌<◌, ℕ, [], IfOk, IfSome, OnErr, OnOk, Some, length};
+ghost use Rattle.std.specs.Prelude.{◌≡◌, ◌++◌, ◌↔◌, ◌<◌, ℕ, [], IfOk, IfSome, IsTrue, List, OnErr, OnOk, Some, length, true};
 ghost use Rattle.step_kinds.specs.Sides.{other_side};
 ghost use Rattle.step_kinds.specs.declared.plan.Plan.{Plan as PlanValue};
+ghost use Rattle.step_kinds.specs.declared.steps.Step.{Step as MadeStep};
 ghost use Rattle.step_kinds.specs.declared.steps.Step.TheVariants.{Copy, Xnext};
 ghost use Rattle.plan_model.specs.DeclaredPlans.{IsDeclared, IsPairOf, IsQueueOf};
 ghost use Rattle.plan_model.specs.Switches.{AreSwitches, IsMakeable};
 ghost use Rattle.cluster_core.specs.Cluster.{declared_part, plan_held};
 ghost use Rattle.cluster_core.specs.ClusterStep.{HasStepped};
+ghost use Rattle.cluster_core.specs.InFlight.{LandsNoneFrom, key_of};
 ghost use Rattle.cluster_core.specs.LogClauses.{AreCounters, HasMade, IsAccepted, IsDelivered, IsSession};
 ghost use Rattle.cluster_core.specs.Moves.{CanBeSent, HasWaiting, arrived_in, brought_in, relay_answer_in, relayed_in, sending_in, sends_next, taken_in};
 ghost use Rattle.cluster_core.specs.Parts.{HasDeviceOn, IsPortAmong};
@@ -20,7 +22,7 @@ use fabric_core::Fabric;
 use learn_switch::Switch;
 use std::alloc::{AllocError, Global};
 use std::marker::Model;
-use step_kinds::{Answer, Counters, Frame, LaneName, Plan, Step, SwitchPlan};
+use step_kinds::{Answer, Counters, Frame, LaneName, Plan, Side, Step, SwitchPlan};
 
 /// A cluster in bytes: its bridges, and the switches that its plan declares. Contracts see the fabric of the bridges, the
 /// declarations of the switches, and the switches.
@@ -231,6 +233,42 @@ impl Cluster {
     }
 }
 
+impl Cluster {
+    /// Whether no step can tell two clusters apart, which have to be of the same pairs, devices and switches. Left out
+    /// are promised room and pages, and what a queue keeps of an entry that it has posted whole.
+    ///
+    /// Where the answer is `true`, whatever steps the one has made, the other has made too. Where both have made one
+    /// list of steps, it is `true`. It takes no memory.
+    pub fn is_same(&self, other: &Cluster) -> bool
+        requires { plan_held self.now ≡ plan_held other.now }
+        ensures merges { result ≡ true → (plan : PlanValue) (steps : List MadeStep) → HasMade plan steps self.now → HasMade plan steps other.now }
+        ensures apart { (plan : PlanValue) (steps : List MadeStep) → HasMade plan steps self.now → HasMade plan steps other.now → result ≡ true }
+    {
+        self.fabric.is_same(&other.fabric) && are_same_switches(&self.switches, &other.switches)
+    }
+
+    /// How many writes a side of a pair has in flight. The pair has to be one of the cluster's. Whatever steps the
+    /// cluster has made, a `land` of that side at this place, or at a later one, is answered `nothing` after them.
+    pub fn in_flight(&self, pair: u32, side: Side) -> usize
+        requires { IsPairOf (plan_held self.now) pair }
+        ensures { LandsNoneFrom self.now pair side result }
+    {
+        self.fabric.in_flight(pair, side)
+    }
+
+    /// Adds the key of all that is in flight, by which clusters that may be the same are found among others: those that
+    /// have made one list of steps have the same key.
+    ///
+    /// # Errors
+    ///
+    /// [`AllocError`] from want of memory alone. A part of the key may then be there.
+    pub fn push_key(&self, key: &mut Vec<u8>) -> Result<(), AllocError>
+        ensures { OnOk result (key.new.items ≡ key.old.items ++ key_of self.now) }
+    {
+        self.fabric.push_key(key)
+    }
+}
+
 impl Model for Cluster {
     ghost use Rattle.cluster_core.specs.Cluster.{ClusterState};
 
@@ -248,4 +286,19 @@ impl Model for Cluster {
 struct NextFrame {
     place: PortPlace,
     frame: Frame,
+}
+
+// Whether switches are the same, one after the other.
+fn are_same_switches(switches: &[Switch], others: &[Switch]) -> bool
+    ensures { IsTrue result ↔ (switches.now ≡ others.now) }
+{
+    if switches.len() != others.len() {
+        return false;
+    }
+    for number in 0..switches.len() {
+        if !switches[number].is_same(&others[number]) {
+            return false;
+        }
+    }
+    true
 }

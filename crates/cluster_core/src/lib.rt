@@ -2,6 +2,7 @@
 #![tactic(auto)]
 
 mod cluster;
+pub mod laws;
 mod parts;
 mod plans;
 mod ports;

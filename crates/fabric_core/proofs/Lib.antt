@@ -3,6 +3,7 @@ pub mod Forgetting
 pub mod FrameTurns
 pub mod FreshFabrics
 pub mod FreshQueues
+pub mod InFlight
 pub mod Keeping
 pub mod LogCounts
 pub mod MorePages
@@ -12,6 +13,8 @@ pub mod QueueCalls
 pub mod QueueParts
 pub mod RefusedAgain
 pub mod RefusedMoves
+pub mod SameFabrics
+pub mod SameParts
 pub mod SessionTallies
 pub mod Standing
 pub mod SteppedPairs

@@ -2,6 +2,7 @@ pub mod Counts
 pub mod Fabric
 pub mod FabricStep
 pub mod Fabrics
+pub mod InFlight
 pub mod Lawful
 pub mod LogClauses
 pub mod Numbers
@@ -11,5 +12,6 @@ pub mod Promises
 pub mod QueueBoxes
 pub mod QueueCalls
 pub mod Refusals
+pub mod Same
 pub mod Sessions
 pub mod Turns

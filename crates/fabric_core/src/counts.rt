@@ -1,6 +1,7 @@
 //! How many frames of a lane there were in each session.
 
-ghost use Rattle.std.specs.Prelude.{◌≡◌, ◌≢◌, ◌<◌, ◌≤◌, All, IfNone, IfSome, OnErr, OnOk, ℕ, length, map, slice_index_or, true};
+ghost use Rattle.std.specs.Prelude.{◌↔◌, ◌≡◌, ◌≢◌, ◌<◌, ◌≤◌, All, IfNone, IfSome, IsTrue, OnErr, OnOk, ℕ, length, map, slice_index_or, true};
+ghost use Rattle.fabric_core.specs.Same.{AreSameCounts, AreSameWhereCounted};
 ghost use Rattle.fabric_core.specs.Sessions.{AreApart, AreUpTo, IsNowhere, IsPlaceOf, count_seen, no_count, nothing_tallied};
 ghost use Rattle.fabric_rule.specs.Parts.{count_in, one_more};
 
@@ -84,6 +85,27 @@ impl SessionCounts {
             Some(place) => self.counts[place].count,
             None => 0,
         }
+    }
+}
+
+impl SessionCounts {
+    /// Whether there were as many frames in each session.
+    pub fn is_same(&self, other: &SessionCounts) -> bool
+        ensures { IsTrue result ↔ AreSameCounts self.now.counts other.now.counts }
+    {
+        self.is_in(other) && other.is_in(self)
+    }
+
+    // Whether each session that is counted here has as many frames there.
+    fn is_in(&self, other: &SessionCounts) -> bool
+        ensures { IsTrue result ↔ AreSameWhereCounted self.now.counts other.now.counts }
+    {
+        for one in &self.counts {
+            if other.count_in(one.session) != one.count {
+                return false;
+            }
+        }
+        true
     }
 }
 

@@ -1,9 +1,13 @@
 //! The fabric.
 
-ghost use Rattle.std.specs.Prelude.{IfOk, IsErr, List, OnErr, OnOk, [], length, true, ◌++◌, ◌<◌, ◌∷◌, ◌≡◌};
+ghost use Rattle.std.specs.Prelude.{IfOk, IsErr, IsTrue, List, OnErr, OnOk, [], length, map, true, ◌++◌, ◌↔◌, ◌<◌, ◌∷◌, ◌≡◌};
+ghost use Rattle.std.specs.List.{flat_map};
+ghost use Rattle.bridge_pair.specs.Bridge.{flight_of};
 ghost use Rattle.fabric_core.specs.Fabric.{StandsFor, bare_plan, may_want_memory, pair_of, plain, plan_kept};
-ghost use Rattle.fabric_core.specs.LogClauses.{AreCounters, IsAccepted, IsDelivered, IsSession};
+ghost use Rattle.fabric_core.specs.InFlight.{LandsNoneFrom, fabric_key, pair_key};
+ghost use Rattle.fabric_core.specs.LogClauses.{AreCounters, HasMade, IsAccepted, IsDelivered, IsSession};
 ghost use Rattle.fabric_core.specs.FabricStep.{HasStepped};
+ghost use Rattle.fabric_core.specs.Same.{AreSamePairs, plan_at};
 ghost use Rattle.fabric_rule.specs.Parts.{queue_of};
 ghost use Rattle.plan_model.specs.DeclaredPlans.{IsDeclared, IsPairOf, IsPermitted, IsQueueOf};
 ghost use Rattle.step_kinds.specs.Sides.{other_side};
@@ -128,6 +132,43 @@ impl Fabric {
     }
 }
 
+impl Fabric {
+    /// Whether no step can tell two fabrics apart, which have to be of the same pairs and devices. Left out are
+    /// promised room and pages, and what a queue keeps of an entry that it has posted whole.
+    ///
+    /// Where the answer is `true`, whatever steps the one stands for, so does the other. Where both stand for one list
+    /// of steps, it is `true`. It takes no memory.
+    pub fn is_same(&self, other: &Fabric) -> bool
+        requires { plan_kept self.now ≡ plan_kept other.now }
+        ensures merges { result ≡ true → (plan : DeclaredPlan) (steps : List MadeStep) → HasMade plan steps self.now → HasMade plan steps other.now }
+        ensures apart { (plan : DeclaredPlan) (steps : List MadeStep) → HasMade plan steps self.now → HasMade plan steps other.now → result ≡ true }
+    {
+        are_same_pairs(&self.pairs, &other.pairs)
+    }
+
+    /// How many writes a side of a pair has in flight. The pair has to be one of the fabric's. A `land` of that side at
+    /// this place, or at a later one, is answered `nothing`.
+    pub fn in_flight(&self, pair: u32, side: Side) -> usize
+        requires { IsPairOf (plan_kept self.now) pair }
+        ensures count { result ≡ length (flight_of (pair_of self.now pair).bridge side).writes }
+        ensures beyond { LandsNoneFrom self.now pair side result }
+    {
+        self.pair(pair).in_flight(side)
+    }
+
+    /// Adds the key of all that is in flight, by which fabrics that may be the same are found among others: those that
+    /// stand for one list of steps have the same key.
+    ///
+    /// # Errors
+    ///
+    /// [`AllocError`] from want of memory alone. A part of the key may then be there.
+    pub fn push_key(&self, key: &mut Vec<u8>) -> Result<(), AllocError>
+        ensures { OnOk result (key.new.items ≡ key.old.items ++ fabric_key self.now) }
+    {
+        push_keys(key, &self.pairs)
+    }
+}
+
 impl Model for Fabric {
     ghost use Rattle.fabric_core.specs.Fabric.{FabricState};
 
@@ -138,6 +179,29 @@ impl Model for Fabric {
     ghost view = { fabric_seen };
 
     ghost invariant = { IsFabric };
+}
+
+// Whether no step can tell pairs apart, which are of the same plans.
+fn are_same_pairs(pairs: &[PairBox], others: &[PairBox]) -> bool
+    requires { map plan_at pairs.now ≡ map plan_at others.now }
+    ensures { IsTrue result ↔ AreSamePairs pairs.now others.now }
+{
+    for k in 0..pairs.len() {
+        if !pairs[k].is_same(&others[k]) {
+            return false;
+        }
+    }
+    true
+}
+
+// Adds the keys of pairs.
+fn push_keys(key: &mut Vec<u8>, pairs: &[PairBox]) -> Result<(), AllocError>
+    ensures { OnOk result (key.new.items ≡ key.old.items ++ flat_map pair_key pairs.now) }
+{
+    for pair in pairs {
+        pair.push_key(key)?;
+    }
+    Ok(())
 }
 
 // The same devices.

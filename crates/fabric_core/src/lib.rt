@@ -6,10 +6,13 @@ mod bridge_steps;
 mod counting;
 mod counts;
 mod fabric;
+mod keys;
 mod pairs;
 mod places;
 mod queues;
 mod refusals;
+mod same;
 
 pub use fabric::Fabric;
 pub use refusals::{is_made, refused_again};
+pub use same::{one_list_makes_same, same_has_made_same, same_keys};

@@ -1,10 +1,12 @@
 //! A pair with its queues.
 
-ghost use Rattle.std.specs.Prelude.{IfOk, IsErr, OnErr, OnOk, length, map, slice_index_or, slice_set, true, ◌<◌, ◌≡◌};
-ghost use Rattle.bridge_pair.specs.Bridge.{pages_of};
+ghost use Rattle.std.specs.Prelude.{IfOk, IsErr, IsTrue, OnErr, OnOk, length, map, slice_index_or, slice_set, true, ◌++◌, ◌↔◌, ◌<◌, ◌≡◌};
+ghost use Rattle.bridge_pair.specs.Bridge.{flight_of, pages_of};
 ghost use Rattle.fabric_core.specs.Fabric.{may_want_memory};
+ghost use Rattle.fabric_core.specs.InFlight.{pair_key};
 ghost use Rattle.fabric_core.specs.Parts.{Agrees, AreAlone, AreFreshQueues, AreLimitsOn, CanForget, CanMake, CanTurnQueue, HasOtherRoom, KeepsPort};
 ghost use Rattle.fabric_core.specs.Promises.{CanTurn};
+ghost use Rattle.fabric_core.specs.Same.{AreOfOneSide, AreSameParts, IsSamePair};
 ghost use Rattle.fabric_core.specs.Turns.{bridge_turn, queue_turn, turned};
 ghost use Rattle.fabric_rule.specs.Laws.{IsFreshPair};
 ghost use Rattle.fabric_rule.specs.Moves.{bridge_move, clean_move, forgotten_queue};
@@ -18,6 +20,7 @@ ghost use Rattle.step_kinds.specs.declared.names.Side.TheVariants.{A, B};
 
 use crate::answers::refusal_answer;
 use crate::bridge_steps::bridge_step;
+use crate::keys::push_flight;
 use crate::places::{StepPlace, place_of};
 use crate::queues::QueueBox;
 use bridge_pair::{Pair, side_plan};
@@ -152,6 +155,37 @@ impl PairBox {
     }
 }
 
+impl PairBox {
+    /// Whether no step can tell two pairs of one plan apart, by their bridges and all queues. It takes no memory.
+    pub fn is_same(&self, other: &PairBox) -> bool
+        requires { self.now.bridge.plan ≡ other.now.bridge.plan }
+        ensures { IsTrue result ↔ IsSamePair self.now other.now }
+    {
+        self.pair.is_same(&other.pair)
+            && are_same_queues(&self.queues_a, &other.queues_a)
+            && are_same_queues(&self.queues_b, &other.queues_b)
+    }
+
+    /// How many writes a side has in flight.
+    pub fn in_flight(&self, side: Side) -> usize
+        ensures { result ≡ length (flight_of self.now.bridge side).writes }
+    {
+        self.pair.in_flight(side)
+    }
+
+    /// Adds the key of what both sides have in flight.
+    ///
+    /// # Errors
+    ///
+    /// [`AllocError`] from want of memory alone. A part of the key may then be there.
+    pub fn push_key(&self, key: &mut Vec<u8>) -> Result<(), AllocError>
+        ensures { OnOk result (key.new.items ≡ key.old.items ++ pair_key self.now) }
+    {
+        push_flight(key, &self.pair, Side::A)?;
+        push_flight(key, &self.pair, Side::B)
+    }
+}
+
 impl Model for PairBox {
     ghost use Rattle.fabric_rule.specs.Parts.{PairState};
 
@@ -191,6 +225,19 @@ fn make_at(
 {
     let part = &mut queues[queue as usize];
     part.make(pair, alloc, devs, step)
+}
+
+// Whether no step can tell the queues of two sides apart, which are of one plan and side.
+fn are_same_queues(queues: &[QueueBox], others: &[QueueBox]) -> bool
+    requires { AreOfOneSide queues.now others.now }
+    ensures { IsTrue result ↔ AreSameParts queues.now others.now }
+{
+    for number in 0..queues.len() {
+        if !queues[number].is_same(&others[number]) {
+            return false;
+        }
+    }
+    true
 }
 
 // All queues of a side forget the session.

@@ -1,10 +1,11 @@
 //! One queue of one side, with what is counted of it.
 
-ghost use Rattle.std.specs.Prelude.{IfOk, IsErr, OnErr, OnOk, length, true, ◌<◌, ◌≡◌};
+ghost use Rattle.std.specs.Prelude.{IfOk, IsErr, IsTrue, OnErr, OnOk, length, true, ◌↔◌, ◌<◌, ◌≡◌};
 ghost use Rattle.fabric_core.specs.Numbers.{HasRoomToSend};
 ghost use Rattle.fabric_core.specs.Fabric.{may_want_memory};
 ghost use Rattle.fabric_core.specs.Parts.{CanTurnQueue, KeepsPort, fresh_part};
 ghost use Rattle.fabric_core.specs.QueueCalls.{CanBegin, CanPost, HasTurned, HasTurnedUnlessWanting};
+ghost use Rattle.fabric_core.specs.Same.{AreOfOnePlace, IsSamePart};
 ghost use Rattle.fabric_core.specs.Turns.{ack_turn, begin_turn, clear_turn, copy_turn, counted_begun, frame_turn, look_turn, post_turn, qpdown_turn, queue_turn, wake_turn};
 ghost use Rattle.fabric_rule.specs.Moves.{forgotten_queue};
 ghost use Rattle.fabric_rule.specs.Parts.{count_in, plain_bridge};
@@ -265,6 +266,21 @@ impl QueueBox {
         ensures { result ≡ self.now.counters }
     {
         self.counters
+    }
+}
+
+impl QueueBox {
+    /// Whether no step can tell two queues apart, which have to be of one plan, side and number. Their queue pairs are
+    /// compared, whether a device is stopped, its counters, and the frames of each session. It takes no memory.
+    pub fn is_same(&self, other: &QueueBox) -> bool
+        requires { AreOfOnePlace self.now other.now }
+        ensures { IsTrue result ↔ IsSamePart self.now other.now }
+    {
+        self.queue.is_same(&other.queue)
+            && self.flow.stopped() == other.flow.stopped()
+            && self.counters == other.counters
+            && self.accepted.is_same(&other.accepted)
+            && self.delivered.is_same(&other.delivered)
     }
 }
 

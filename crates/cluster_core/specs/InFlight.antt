@@ -1,0 +1,20 @@
+-- What is in flight: from which place on nothing lands, and a key by which few clusters are looked at.
+use Rattle.std.specs.Prelude.{◌≡◌, ℕ, ◌≤◌, List}
+use Rattle.step_kinds.specs.declared.names.Side.{Side}
+use Rattle.step_kinds.specs.declared.plan.Plan.{Plan}
+use Rattle.step_kinds.specs.declared.steps.Answer.TheVariants.{Nothing}
+use Rattle.step_kinds.specs.declared.steps.Step.{Step}
+use Rattle.step_kinds.specs.declared.steps.Step.TheVariants.{Land}
+use Rattle.fabric_core.specs.InFlight.{fabric_key}
+use Rattle.cluster_core.specs.Cluster.{ClusterState}
+use Rattle.cluster_core.specs.LogClauses.{HasMade, answer_after}
+
+-- whatever steps a cluster has made, a landing of that side at this place or a later one is answered `nothing` after
+-- them
+abbrev pub LandsNoneFrom : ClusterState → ℕ → Side → ℕ → Type 0
+LandsNoneFrom cluster pair side count =
+    (plan : Plan) (steps : List Step) → HasMade plan steps cluster → (place : ℕ) → count ≤ place → answer_after plan steps (Land pair side place) ≡ Nothing
+
+-- of the labels in flight, by their kinds and low bytes of their numbers
+abbrev pub key_of : ClusterState → List ℕ
+key_of cluster = fabric_key cluster.fabric

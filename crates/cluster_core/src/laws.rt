@@ -1,0 +1,20 @@
+//! The laws of the clusters that have made a list of steps, each the clause of a function with an empty body.
+
+ghost use Rattle.cluster_core.specs.Laws.{OneAnswer, SameKeys, SameSteps};
+
+/// Of two clusters that have made one common list of steps of a plan, whatever other list the one has made, the other
+/// has made too. No premise.
+pub fn same_steps()
+    ensures { SameSteps }
+{}
+
+/// Two clusters that have made one common list of steps of a plan have the same key. No premise.
+pub fn same_keys()
+    ensures { SameKeys }
+{}
+
+/// The answer with which the log goes on after a list of steps is the one that it gives to the step: there is no other.
+/// So that is what [`Cluster::step`](crate::Cluster::step) answers, whatever steps the cluster has made. No premise.
+pub fn one_answer()
+    ensures { OneAnswer }
+{}

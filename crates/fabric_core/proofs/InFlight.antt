@@ -1,0 +1,90 @@
+-- From which place on nothing lands, and the keys of what is in flight.
+use Rattle.std.proofs.Common.{◌≡◌, ◌∙◌, ℕ, zero, suc, ◌+◌, ◌<◌, ◌≤◌, List, [], ◌∷◌, ◌++◌, Option, Some, None, length, map, take, refl, sym, ap, subst, arith}
+use Rattle.std.specs.Prelude.{option_map, slice_get}
+use Rattle.std.specs.List.{flat_map}
+use Rattle.std.proofs.lemmas.List.{append-nil, append_assoc}
+use Rattle.std.proofs.lemmas.List.Concat.{flat_map-cons}
+use Rattle.std.proofs.lemmas.Option.{slice_get_past}
+use Rattle.step_kinds.specs.declared.names.Side.{Side}
+use Rattle.step_kinds.specs.declared.names.Side.TheVariants.{A, B}
+use Rattle.step_kinds.specs.declared.plan.Plan.{Plan}
+use Rattle.step_kinds.specs.declared.steps.Answer.TheVariants.{Nothing}
+use Rattle.step_kinds.specs.declared.steps.Label.{Label}
+use Rattle.step_kinds.specs.declared.steps.Step.TheVariants.{Land}
+use Rattle.order_rules.specs.Order.{may_land}
+use Rattle.plan_model.specs.DeclaredPlans.{IsPairOf}
+use Rattle.posted_queue.specs.Landing.{answer_for}
+use Rattle.bridge_pair.specs.Bridge.{Bridge, flight_of}
+use Rattle.bridge_pair.specs.Calls.{landing}
+use Rattle.bridge_pair.specs.Ends.{label_landed}
+use Rattle.bridge_pair.specs.Flights.{Flying, flying_order}
+use Rattle.fabric_rule.specs.Answers.{of_land}
+use Rattle.fabric_rule.specs.Parts.{PairState, plain_bridge}
+use Rattle.fabric_rule.proofs.Facade.{each_step_stands}
+use Rattle.fabric_core.specs.Fabric.{FabricState, pair_of, plan_kept}
+use Rattle.fabric_core.specs.InFlight.{LandsNoneFrom, fabric_key, flight_key, label_key, pair_key}
+use Rattle.fabric_core.specs.Same.{AreSamePairs, IsSameFabric}
+use Rattle.fabric_core.proofs.Standing.{goes_on, plan_of_standing}
+
+-- From a place on nothing lands
+
+none_there : (bridge : Bridge) (side : Side) (place : ℕ) → length (flight_of bridge side).writes ≤ place → of_land (label_landed (landing bridge side place)) ≡ Nothing
+none_there bridge side place beyond =
+    ap (λ (found : Option Flying). of_land (label_landed (answer_for found (may_land (map flying_order (flight_of bridge side).writes) place))))
+    (slice_get_past (flight_of bridge side).writes place beyond)
+
+pub lands_none : (fabric : FabricState) (pair : ℕ) (side : Side) → IsPairOf (plan_kept fabric) pair → LandsNoneFrom fabric pair side (length (flight_of (pair_of fabric pair).bridge side).writes)
+lands_none fabric pair side among plan steps made place beyond =
+    let may : IsPairOf plan pair = subst (λ (plan : Plan). IsPairOf plan pair) (plan_of_standing plan steps fabric made.stands) among in
+    goes_on plan steps (Land pair side place) Nothing
+    (sym (none_there (pair_of fabric pair).bridge side place beyond)
+    ∙ (each_step_stands plan steps (Land pair side place) (pair_of fabric pair) made.declared made.permitted may may (made.stands.pairs pair may)).0)
+
+-- The key of one write more
+
+abbrev flying_key : Flying → List ℕ
+flying_key flying = label_key flying.label
+
+-- the key of the writes before a place
+abbrev pub key_before : List Flying → ℕ → List ℕ
+key_before writes place = flat_map flying_key (take place writes)
+
+abbrev pub label_at : List Flying → ℕ → Option Label
+label_at writes place = option_map (λ (flying : Flying). flying.label) (slice_get writes place)
+
+pub key_more : (writes : List Flying) (place : ℕ) (label : Label) → Some label ≡ label_at writes place →
+    key_before writes (suc place) ≡ key_before writes place ++ label_key label
+key_more [] place label is = absurd (cc is)
+key_more (flying ∷ writes) zero label is =
+    let same : label ≡ flying.label = cc in
+    flat_map-cons flying_key flying [] ∙ append-nil (flying_key flying) ∙ ap label_key (sym same)
+key_more (flying ∷ writes) (suc place) label is =
+    flat_map-cons flying_key flying (take (suc place) writes) ∙ ap (λ (rest : List ℕ). flying_key flying ++ rest) (key_more writes place label is)
+    ∙ sym (append_assoc (flying_key flying) (flat_map flying_key (take place writes)) (label_key label)) ∙ ap (λ (front : List ℕ). front ++ label_key label) (sym (flat_map-cons flying_key flying (take place writes)))
+
+pub some_there : (writes : List Flying) (place : ℕ) → place < length writes → None ≡ label_at writes place → ⊥
+some_there [] place below is = omega (arith, below)
+some_there (flying ∷ writes) zero below is = cc is
+some_there (flying ∷ writes) (suc place) below is = some_there writes place (omega (arith, below)) is
+
+-- The same pairs have the same keys
+
+flight_same : (one other : Bridge) (side : Side) → plain_bridge one ≡ plain_bridge other → flight_key one side ≡ flight_key other side
+flight_same one other A same = ap (λ (bridge : Bridge). flight_key bridge A) same
+flight_same one other B same = ap (λ (bridge : Bridge). flight_key bridge B) same
+
+keys_same : (pairs others : List PairState) → AreSamePairs pairs others → flat_map pair_key pairs ≡ flat_map pair_key others
+keys_same [] [] same = refl
+keys_same [] (other ∷ others) same = absurd (omega (arith, same.all))
+keys_same (pair ∷ pairs) [] same = absurd (omega (arith, same.all))
+keys_same (pair ∷ pairs) (other ∷ others) same =
+    let first = (same.each 0 (omega arith)).bridge in
+    let rest = keys_same pairs others (record { all = omega (arith, same.all); each = λ k below. same.each (suc k) (omega (arith, below)) }) in
+    flat_map-cons pair_key pair pairs
+    ∙ ap (λ (front : List ℕ). (front ++ flight_key pair.bridge B) ++ flat_map pair_key pairs) (flight_same pair.bridge other.bridge A first)
+    ∙ ap (λ (back : List ℕ). (flight_key other.bridge A ++ back) ++ flat_map pair_key pairs) (flight_same pair.bridge other.bridge B first)
+    ∙ ap (λ (behind : List ℕ). pair_key other ++ behind) rest
+    ∙ sym (flat_map-cons pair_key other others)
+
+pub same_fabric_keys : (fabric other : FabricState) → IsSameFabric fabric other → fabric_key fabric ≡ fabric_key other
+same_fabric_keys fabric other same = keys_same fabric.pairs other.pairs same.pairs

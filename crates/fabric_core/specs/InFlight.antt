@@ -1,0 +1,53 @@
+-- What is in flight: from which place on nothing lands, and a key by which few fabrics are looked at.
+use Rattle.std.specs.Prelude.{◌≡◌, ℕ, ◌%◌, ◌≤◌, List, [], ◌∷◌, ◌++◌}
+use Rattle.std.specs.List.{flat_map}
+use Rattle.step_kinds.specs.declared.names.Side.{Side}
+use Rattle.step_kinds.specs.declared.names.Side.TheVariants.{A, B}
+use Rattle.step_kinds.specs.declared.plan.Plan.{Plan}
+use Rattle.step_kinds.specs.declared.steps.Answer.TheVariants.{Nothing}
+use Rattle.step_kinds.specs.declared.steps.Label.{Label}
+use Rattle.step_kinds.specs.declared.steps.Label.TheVariants.{Chunk, Len, Ver, Flag, Down, Bell, Index, Pad, Raw}
+use Rattle.step_kinds.specs.declared.steps.Step.{Step}
+use Rattle.step_kinds.specs.declared.steps.Step.TheVariants.{Land}
+use Rattle.bridge_pair.specs.Bridge.{Bridge, flight_of}
+use Rattle.bridge_pair.specs.Flights.{Flying}
+use Rattle.fabric_rule.specs.Parts.{PairState}
+use Rattle.fabric_core.specs.Fabric.{FabricState}
+use Rattle.fabric_core.specs.LogClauses.{HasMade, IsAnswered}
+
+-- whatever steps a fabric stands for, a landing of that side at this place or a later one is answered `nothing` after
+-- them
+abbrev pub LandsNoneFrom : FabricState → ℕ → Side → ℕ → Type 0
+LandsNoneFrom fabric pair side count =
+    (plan : Plan) (steps : List Step) → HasMade plan steps fabric → (place : ℕ) → count ≤ place → IsAnswered plan steps (Land pair side place) Nothing
+
+-- The key: of each write in flight what its label is, and three of its numbers, each modulo 256
+
+abbrev pub low_byte : ℕ → ℕ
+low_byte n = n % 256
+
+abbrev pub label_key : Label → List ℕ
+label_key (Chunk queue n part) = 1 ∷ low_byte queue ∷ low_byte n ∷ low_byte part ∷ []
+label_key (Len queue n) = 2 ∷ low_byte queue ∷ low_byte n ∷ 0 ∷ []
+label_key (Ver queue n) = 3 ∷ low_byte queue ∷ low_byte n ∷ 0 ∷ []
+label_key (Flag queue n) = 4 ∷ low_byte queue ∷ low_byte n ∷ 0 ∷ []
+label_key (Down queue n) = 5 ∷ low_byte queue ∷ low_byte n ∷ 0 ∷ []
+label_key (Bell queue) = 6 ∷ low_byte queue ∷ 0 ∷ 0 ∷ []
+label_key (Index queue n) = 7 ∷ low_byte queue ∷ low_byte n ∷ 0 ∷ []
+label_key (Pad i value) = 8 ∷ low_byte i ∷ low_byte value ∷ 0 ∷ []
+label_key (Raw window offset len) = 9 ∷ low_byte window ∷ low_byte offset ∷ low_byte len ∷ []
+
+-- of all writes of a side in the order in which they were posted, and a zero after them
+abbrev pub flight_key : Bridge → Side → List ℕ
+flight_key bridge side = flat_map (λ (flying : Flying). label_key flying.label) (flight_of bridge side).writes ++ 0 ∷ []
+
+abbrev pub pair_key : PairState → List ℕ
+pair_key pair = flight_key pair.bridge A ++ flight_key pair.bridge B
+
+abbrev pub fabric_key : FabricState → List ℕ
+fabric_key fabric = flat_map pair_key fabric.pairs
+
+-- Fabrics that have made one list of steps have the same key.
+abbrev pub SameKeys : Type 0
+SameKeys = (plan : Plan) (steps : List Step) (fabric other : FabricState) →
+    HasMade plan steps fabric → HasMade plan steps other → fabric_key fabric ≡ fabric_key other

@@ -1,0 +1,20 @@
+//! Fabrics that no step can tell apart.
+
+ghost use Rattle.fabric_core.specs.InFlight.{SameKeys};
+ghost use Rattle.fabric_core.specs.Same.{OneListMakesSame, SameHasMadeSame};
+
+/// Two fabrics are the same, and the one has made a list of steps of a plan. Where the other has made any list of that
+/// plan, it has made this one too. It does nothing: its clause is the law.
+pub fn same_has_made_same()
+    ensures { SameHasMadeSame }
+{}
+
+/// Two fabrics that have made one list of steps are the same. It does nothing: its clause is the law.
+pub fn one_list_makes_same()
+    ensures { OneListMakesSame }
+{}
+
+/// Two fabrics that have made one list of steps have the same key. It does nothing: its clause is the law.
+pub fn same_keys()
+    ensures { SameKeys }
+{}
