@@ -6,3 +6,6 @@ pub mod OfferedPads
 pub mod Places
 pub mod Promises
 pub mod Sides
+pub mod SameBytes
+pub mod SameWrites
+pub mod SameBridges

@@ -27,12 +27,20 @@ impl Arrival {
         ensures { IsTrue result ↔ (self.now ≡ other.now) }
     {
         match (self, other) {
-            (Arrival::AtAddress { at, bytes }, Arrival::AtAddress { at: place, bytes: others }) => {
-                at == place && bytes.as_slice() == others.as_slice()
-            }
-            (Arrival::AtPad { index, value }, Arrival::AtPad { index: pad, value: word }) => {
-                index == pad && value == word
-            }
+            (
+                Arrival::AtAddress { at, bytes },
+                Arrival::AtAddress {
+                    at: place,
+                    bytes: others,
+                },
+            ) => { at == place && bytes.as_slice() == others.as_slice() }
+            (
+                Arrival::AtPad { index, value },
+                Arrival::AtPad {
+                    index: pad,
+                    value: word,
+                },
+            ) => { index == pad && value == word }
             (Arrival::AtBell { bit }, Arrival::AtBell { bit: rung }) => bit == rung,
             (Arrival::AtAddress { .. }, Arrival::AtPad { .. } | Arrival::AtBell { .. })
             | (Arrival::AtPad { .. }, Arrival::AtAddress { .. } | Arrival::AtBell { .. })

@@ -55,7 +55,7 @@ impl Pair {
     ghost use Rattle.bridge_pair.specs.Lending.{LendsBellsOf};
     ghost use Rattle.std.specs.Borrow.{sem};
     ghost use Rattle.bridge_pair.specs.Links.{after_clean, after_cut, after_drop, after_enable, after_train};
-    ghost use Rattle.bridge_pair.specs.Same.{IsSameBridge};
+    ghost use Rattle.bridge_pair.specs.Same.{HasSameEnds, IsSameBridge};
 
     /// The pair of a plan before any step, with nothing in flight. Its memories are zero and its link is down; where the plan
     /// says that the pair starts up, all is as after a whole handshake in session 1: the scratchpads have the peer's offer,
@@ -124,11 +124,21 @@ impl Pair {
     pub fn is_same(&self, other: &Pair) -> bool
         ensures { IsTrue result ↔ IsSameBridge self.now other.now }
     {
-        self.link == other.link
-            && self.book_a == other.book_a
-            && self.book_b == other.book_b
-            && self.a.is_same(&other.a)
-            && self.b.is_same(&other.b)
+        self.link == other.link && self.has_same_books(other) && self.has_same_ends(other)
+    }
+
+    // Whether both sides have reached the same in the handshake.
+    fn has_same_books(&self, other: &Pair) -> bool
+        ensures { IsTrue result ↔ (self.now.books ≡ other.now.books) }
+    {
+        self.book_a == other.book_a && self.book_b == other.book_b
+    }
+
+    // Whether both ends are the same, with what is in flight towards them.
+    fn has_same_ends(&self, other: &Pair) -> bool
+        ensures { IsTrue result ↔ HasSameEnds self.now other.now }
+    {
+        self.a.is_same(&other.a) && self.b.is_same(&other.b)
     }
 
     /// What a side has reached in the handshake.

@@ -53,9 +53,9 @@ fn have_same_range(one: &Memory, other: &Memory, at: u64, len: u64) -> bool
     if len <= PAGE_SIZE {
         return have_same_few(one, other, at, len as usize);
     }
+    prove!(at <= one.len() - len);
     let half = len.div_ceil(PAGE_SIZE) / 2 * PAGE_SIZE;
-    have_same_range(one, other, at, half)
-        && have_same_range(one, other, at + half, len - half)
+    have_same_range(one, other, at, half) && have_same_range(one, other, at + half, len - half)
 }
 
 // The same of few bytes, which are read.
@@ -67,7 +67,23 @@ fn have_same_few(one: &Memory, other: &Memory, at: u64, len: usize) -> bool
 {
     let mut bytes = [0u8; 4096];
     let mut others = [0u8; 4096];
-    one.read(at, &mut bytes[..len]);
-    other.read(at, &mut others[..len]);
-    bytes[..len] == others[..len]
+    are_read_alike(one, other, at, &mut bytes[..len], &mut others[..len])
+}
+
+// Reads bytes of both memories, and says whether they are the same.
+fn are_read_alike(
+    one: &Memory,
+    other: &Memory,
+    at: u64,
+    bytes: &mut [u8],
+    others: &mut [u8],
+) -> bool
+    requires count { length others.old ≡ length bytes.old }
+    requires here { at + length bytes.old ≤ length one.now.bytes }
+    requires there { at + length bytes.old ≤ length other.now.bytes }
+    ensures { IsTrue result ↔ (bytes_at at (length bytes.old) one.now.bytes ≡ bytes_at at (length bytes.old) other.now.bytes) }
+{
+    one.read(at, bytes);
+    other.read(at, others);
+    *bytes == *others
 }

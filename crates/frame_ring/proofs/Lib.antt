@@ -1,5 +1,7 @@
 pub mod Beginning
 pub mod Entries
+pub mod SameEntries
+pub mod SameSenders
 pub mod EntryPages
 pub mod Finding
 pub mod NextLabel

@@ -49,15 +49,7 @@ impl FrameQueue {
     pub fn is_same(&self, other: &FrameQueue) -> bool
         ensures { IsTrue result ↔ (self.now ≡ other.now) }
     {
-        if self.frames.len() != other.frames.len() {
-            return false;
-        }
-        for place in 0..self.frames.len() {
-            if self.frames[place].bytes() != other.frames[place].bytes() {
-                return false;
-            }
-        }
-        true
+        are_same_frames(&self.frames, &other.frames)
     }
 
     /// Drops the first frame, where there is one. It takes no memory.
@@ -74,6 +66,21 @@ impl Model for FrameQueue {
     ghost Value = { List (List ℕ) };
 
     ghost view = { λ queue. queue.frames.items };
+}
+
+// Whether two lists have the same frames, in one order.
+fn are_same_frames(frames: &VecDeque<Frame>, others: &VecDeque<Frame>) -> bool
+    ensures { IsTrue result ↔ (frames.now.items ≡ others.now.items) }
+{
+    if frames.len() != others.len() {
+        return false;
+    }
+    for place in 0..frames.len() {
+        if frames[place].bytes() != others[place].bytes() {
+            return false;
+        }
+    }
+    true
 }
 
 /// Whether two lists have the same queues, in one order.
