@@ -117,8 +117,16 @@ counters_test one other =
     let tests = both_tests _ _ _ _ (numbers_test one.tx other.tx) (both_tests _ _ _ _ (numbers_test one.tx_bytes other.tx_bytes) (both_tests _ _ _ _ (numbers_test one.refused other.refused)
     (both_tests _ _ _ _ (numbers_test one.rx other.rx) (both_tests _ _ _ _ (numbers_test one.rx_bytes other.rx_bytes) (numbers_test one.short other.short))))) in (
       λ yes. let same = tests.0 yes in counted_alike one other same.0 same.1.0 same.1.1.0 same.1.1.1.0 same.1.1.1.1.0 same.1.1.1.1.1,
-      λ e. tests.1 (ap (λ (counters : Counters). counters.tx) e, (ap (λ (counters : Counters). counters.tx_bytes) e, (ap (λ (counters : Counters). counters.refused) e,
-          (ap (λ (counters : Counters). counters.rx) e, (ap (λ (counters : Counters). counters.rx_bytes) e, ap (λ (counters : Counters). counters.short) e))))),
+      λ e. tests.1 (
+        ap (λ (counters : Counters). counters.tx) e,
+        (
+          ap (λ (counters : Counters). counters.tx_bytes) e,
+          (
+            ap (λ (counters : Counters). counters.refused) e,
+            (ap (λ (counters : Counters). counters.rx) e, (ap (λ (counters : Counters). counters.rx_bytes) e, ap (λ (counters : Counters). counters.short) e)),
+          ),
+        ),
+      ),
     )
 
 -- of all that a queue has

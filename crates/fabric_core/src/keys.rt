@@ -28,7 +28,16 @@ fn label_key(label: Label) -> [u8; 4]
     ensures { result ≡ key_of_label label }
 {
     match label {
-        Label::Chunk { queue, number, part } => [1, low_byte(queue.into()), low_byte(number), low_byte(part.into())],
+        Label::Chunk {
+            queue,
+            number,
+            part,
+        } => [
+            1,
+            low_byte(queue.into()),
+            low_byte(number),
+            low_byte(part.into()),
+        ],
         Label::Len { queue, number } => [2, low_byte(queue.into()), low_byte(number), 0],
         Label::Ver { queue, number } => [3, low_byte(queue.into()), low_byte(number), 0],
         Label::Flag { queue, number } => [4, low_byte(queue.into()), low_byte(number), 0],
@@ -36,7 +45,16 @@ fn label_key(label: Label) -> [u8; 4]
         Label::Bell { queue } => [6, low_byte(queue.into()), 0, 0],
         Label::Index { queue, number } => [7, low_byte(queue.into()), low_byte(number), 0],
         Label::Pad { index, value } => [8, low_byte(index.into()), low_byte(value.into()), 0],
-        Label::Raw { window, offset, len } => [9, low_byte(window.into()), low_byte(offset), low_byte(len.into())],
+        Label::Raw {
+            window,
+            offset,
+            len,
+        } => [
+            9,
+            low_byte(window.into()),
+            low_byte(offset),
+            low_byte(len.into()),
+        ],
     }
 }
 
