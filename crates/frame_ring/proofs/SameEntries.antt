@@ -14,6 +14,7 @@ abbrev pieces_over : ℕ → List ℕ → ℕ → List Entry
 pieces_over largest rest zero = []
 pieces_over largest rest (suc more) = Carries (take largest rest) more ∷ pieces_over largest (drop largest rest) more
 
+-- where the next piece begins
 next_start : (largest piece : ℕ) → largest * (piece + 1) ≡ largest * piece + largest
 next_start largest piece = ap (λ n. largest * n) (let one : piece + 1 ≡ suc piece = omega arith in one) ∙ mul-suc largest piece
 
@@ -70,6 +71,7 @@ covered largest len some =
     let enough = mul-le largest all largest (pieces_in largest len) (omega arith) (omega arith) in
     omega (arith, div-add-mod (len + largest - 1) largest, mod-lt (len + largest - 1) some, enough)
 
+-- from two pieces on the same bytes are the same entries
 pub same_from : (largest piece place : ℕ) (one other : List ℕ) → 0 < largest → piece < pieces_in largest (length one) → place < pieces_in largest (length other)
     → (drop (largest * piece) one ≡ drop (largest * place) other) ↔ (drop piece (pieces_of largest one) ≡ drop place (pieces_of largest other))
 same_from largest piece place one other some here there = (forth, back)
@@ -98,8 +100,7 @@ same_from largest piece place one other some here there = (forth, back)
         same_rest largest more n (drop (largest * piece) one) (drop (largest * place) other)
         (omega (arith, fit, length-drop (largest * piece) one)) (omega (arith, fits, length-drop (largest * place) other)) (sym ones ∙ same ∙ others)
 
--- The same of frames under way.
-
+-- the same of frames under way
 pub same_frames : (largest piece place : ℕ) (frame with : List ℕ) (one other : Option (List ℕ)) → 0 < largest → one ≡ Some frame → other ≡ Some with
     → piece < length (entries_under largest one) → place < length (entries_under largest other)
     → (drop (largest * piece) frame ≡ drop (largest * place) with) ↔ (drop piece (entries_under largest one) ≡ drop place (entries_under largest other))

@@ -1,5 +1,5 @@
 -- Two senders of one queue are the same exactly where their counts, the next write and the entries from the one at hand on are.
-use Rattle.std.proofs.Common.{◌≡◌, ◌∙◌, ℕ, ◌+◌, ◌-◌, ◌<◌, ◌≤◌, ◌==◌, ◌||◌, Bool, true, false, not, Option, Some, None, List, [], ◌∷◌, length, drop, refl, sym, ap, subst, arith}
+use Rattle.std.proofs.Common.{◌≡◌, ◌∙◌, ◌+◌, ◌-◌, ◌<◌, ◌==◌, ◌||◌, Bool, true, false, not, None, List, [], ◌∷◌, length, drop, refl, sym, ap, subst, arith}
 use Rattle.std.proofs.lemmas.Bool.Decides.{nat_tests}
 use Rattle.std.proofs.lemmas.List.{drop_more}
 use Rattle.lane_model.specs.Lane.{Entry, GoesDown}
@@ -11,6 +11,7 @@ use Rattle.frame_ring.specs.Same.{IsSameSending}
 use Rattle.frame_ring.specs.declared.sending.Sender.TheInside.{Inside as SenderInside}
 use Rattle.frame_ring.proofs.Entries.{busy_is, length-todo}
 
+-- the entries of the frame under way
 abbrev entries_of : SenderInside → List Entry
 entries_of sender = entries_under sender.largest sender.frame
 
@@ -21,6 +22,7 @@ pub record HasSameProgress (one other : SenderInside) : Type 0 where
   pub next : one.next ≡ other.next
   pub entries : drop one.piece (entries_under one.largest one.frame) ≡ drop other.piece (entries_under one.largest other.frame)
 
+-- the entry at hand is one of them
 among : (sender : SenderInside) → IsSender sender → sender.piece < length (entries_of sender)
 among sender is = omega (arith, is.pieces, is.piece)
 
@@ -55,6 +57,7 @@ record KeepsNothing (sender : SenderInside) : Type 0 where
   piece : sender.piece ≡ 0
   next : sender.next ≡ 4
 
+-- which is so where the sender isn't busy
 idle_keeps : (sender : SenderInside) → IsSender sender → is_busy (sender_seen sender).sending ≡ false → KeepsNothing sender
 idle_keeps sender is idle =
     let told : not (sender.left == 0) ≡ false = busy_is (entries_of sender) sender.queue (sender.begun - 1) sender.piece sender.next sender.left (among sender is) is.next is.left ∙ idle in
@@ -66,6 +69,7 @@ idle_keeps sender is idle =
     ap (λ frame. all_writes_in (drop sender.piece (entries_under sender.largest frame))) gone ∙ ap (λ piece. all_writes_in (drop piece (GoesDown ∷ []))) piece in
     record { frame = gone; piece = piece; next = omega (arith, is.left, all, left) }
 
+-- then its entries are a link-down entry alone
 down_alone : (sender : SenderInside) → KeepsNothing sender → drop sender.piece (entries_of sender) ≡ GoesDown ∷ []
 down_alone sender keeps = ap (λ frame. drop sender.piece (entries_under sender.largest frame)) keeps.frame ∙ ap (λ piece. drop piece (GoesDown ∷ [])) keeps.piece
 
@@ -109,14 +113,15 @@ progress_same one other is are largest same = by_busy (is_busy (sender_seen one)
           entries = down_alone one mine ∙ sym (down_alone other theirs) ∙ own;
         }
 
--- The same of what contracts see of two senders of one queue.
-
+-- what contracts see to be one queue is so of what is kept
 own_queue : (one other : SenderInside) (seen shown : Outgoing) → sender_seen one ≡ seen → sender_seen other ≡ shown → seen.queue ≡ shown.queue → one.queue ≡ other.queue
 own_queue one other seen shown is are same = ap (λ (outgoing : Outgoing). outgoing.queue) is ∙ same ∙ sym (ap (λ (outgoing : Outgoing). outgoing.queue) are)
 
-pub own_largest : (one other : SenderInside) (seen shown : Outgoing) → sender_seen one ≡ seen → sender_seen other ≡ shown → seen.largest ≡ shown.largest → one.largest ≡ other.largest
+-- and so are the most bytes of an entry
+own_largest : (one other : SenderInside) (seen shown : Outgoing) → sender_seen one ≡ seen → sender_seen other ≡ shown → seen.largest ≡ shown.largest → one.largest ≡ other.largest
 own_largest one other seen shown is are same = ap (λ (outgoing : Outgoing). outgoing.largest) is ∙ same ∙ sym (ap (λ (outgoing : Outgoing). outgoing.largest) are)
 
+-- so contracts see two senders of one queue as the same where what is compared is
 pub same_sending : (one other : SenderInside) (seen shown : Outgoing) → IsSender one → IsSender other → sender_seen one ≡ seen → sender_seen other ≡ shown
     → seen.queue ≡ shown.queue → seen.largest ≡ shown.largest → HasSameProgress one other → IsSameSending seen.sending shown.sending
 same_sending one other seen shown kept held is are queue largest same =
@@ -124,6 +129,7 @@ same_sending one other seen shown kept held is are queue largest same =
     (subst (λ (outgoing : Outgoing). IsSameSending (sender_seen one).sending outgoing.sending) are
     (seen_same one other kept held (own_queue one other seen shown is are queue) (own_largest one other seen shown is are largest) same))
 
+-- and what is compared is the same where contracts see them so
 pub same_progress : (one other : SenderInside) (seen shown : Outgoing) → IsSender one → IsSender other → sender_seen one ≡ seen → sender_seen other ≡ shown
     → seen.largest ≡ shown.largest → IsSameSending seen.sending shown.sending → HasSameProgress one other
 same_progress one other seen shown kept held is are largest same =

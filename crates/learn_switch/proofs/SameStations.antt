@@ -5,20 +5,23 @@ use Rattle.std.proofs.lemmas.Bool.Decides.{Decides-eqb}
 use Rattle.std.proofs.lemmas.Slice.Eq.{bytes_eq-Decides}
 use Rattle.switch_model.specs.declared.Station.{Station}
 
+-- two tests hold where both of them together do
 both_true : (one other : Bool) → (one && other) ≡ true → (one ≡ true) × (other ≡ true)
 both_true true true e = (refl, refl)
 both_true true false e = absurd (cc e)
 both_true false other e = absurd (cc e)
 
+-- and both together where each does
 true_by_both : (one other : Bool) → one ≡ true → other ≡ true → (one && other) ≡ true
 true_by_both true other e f = f
 true_by_both false other e f = e
 
+-- stations with the same address and port are the same
 same_fields : (one other : Station) → one.address ≡ other.address → one.port ≡ other.port → one ≡ other
 same_fields one other address port =
     ap (λ bytes. record { address = bytes; port = one.port }) address ∙ ap (λ number. record { address = other.address; port = number }) port
 
--- it decides whether they are the same
+-- comparing addresses and ports decides whether they are the same
 pub told_stations : (one other : Station) → Decides (bytes_eq one.address other.address && (one.port == other.port)) (one ≡ other)
 told_stations one other = (forth, back)
   where
