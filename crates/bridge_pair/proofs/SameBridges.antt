@@ -1,5 +1,5 @@
 -- Two bridges have the same ends exactly where both ends of the two pairs are the same.
-use Rattle.std.proofs.Common.{◌≡◌, ℕ, List, ap, subst, ◌∙◌, sym}
+use Rattle.std.proofs.Common.{◌≡◌, ℕ, List, ap, subst, sym}
 use Rattle.bridge_regs.specs.Doorbell.{Doorbell}
 use Rattle.plan_model.specs.Both.{Both}
 use Rattle.step_kinds.specs.declared.names.Side.{Side}
@@ -9,6 +9,7 @@ use Rattle.bridge_pair.specs.Same.{HasSameEnds, IsSameEnd}
 use Rattle.bridge_pair.specs.Views.{bridge_seen}
 use Rattle.bridge_pair.specs.declared.pair.Pair.TheInside.{Inside}
 
+-- where both ends are the same, the bridges have the same ends
 ends_seen : (one other : Inside) → IsSameEnd one.a other.a → IsSameEnd one.b other.b → HasSameEnds (bridge_seen one) (bridge_seen other)
 ends_seen one other a b =
     record {
@@ -26,15 +27,18 @@ ends_seen one other a b =
     writes A = b.writes
     writes B = a.writes
 
+-- also as contracts see the bridges
 pub same_ends : (one other : Inside) (seen shown : Bridge) → bridge_seen one ≡ seen → bridge_seen other ≡ shown → IsSameEnd one.a other.a → IsSameEnd one.b other.b
     → HasSameEnds seen shown
 same_ends one other seen shown is are a b =
     subst (λ (bridge : Bridge). HasSameEnds bridge shown) is (subst (λ (bridge : Bridge). HasSameEnds (bridge_seen one) bridge) are (ends_seen one other a b))
 
+-- what contracts see to be the same is so of what is kept
 unseen : (one other : Inside) (seen shown : Bridge) → bridge_seen one ≡ seen → bridge_seen other ≡ shown → HasSameEnds seen shown → HasSameEnds (bridge_seen one) (bridge_seen other)
 unseen one other seen shown is are same =
     subst (λ (bridge : Bridge). HasSameEnds bridge (bridge_seen other)) (sym is) (subst (λ (bridge : Bridge). HasSameEnds seen bridge) (sym are) same)
 
+-- then side A's end is the same
 pub end_a : (one other : Inside) (seen shown : Bridge) → bridge_seen one ≡ seen → bridge_seen other ≡ shown → HasSameEnds seen shown → IsSameEnd one.a other.a
 end_a one other seen shown is are both =
     let same = unseen one other seen shown is are both in
@@ -45,6 +49,7 @@ end_a one other seen shown is are both =
       writes = same.writes B;
     }
 
+-- and side B's
 pub end_b : (one other : Inside) (seen shown : Bridge) → bridge_seen one ≡ seen → bridge_seen other ≡ shown → HasSameEnds seen shown → IsSameEnd one.b other.b
 end_b one other seen shown is are both =
     let same = unseen one other seen shown is are both in

@@ -1,7 +1,5 @@
 pub mod Beginning
 pub mod Entries
-pub mod SameEntries
-pub mod SameSenders
 pub mod EntryPages
 pub mod Finding
 pub mod NextLabel
@@ -9,5 +7,7 @@ pub mod NextNumber
 pub mod PostedBytes
 pub mod Progress
 pub mod Ready
+pub mod SameEntries
+pub mod SameSenders
 pub mod Spare
 pub mod WritePages

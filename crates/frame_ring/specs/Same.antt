@@ -1,6 +1,6 @@
 -- When two ports of one queue can't be told apart by a later call.
 use Rattle.std.specs.Prelude.{◌≡◌, true}
-use Rattle.frame_ring.specs.Port.{PortState, Receiving, Sending, is_busy}
+use Rattle.frame_ring.specs.Port.{PortState, Sending, is_busy}
 
 -- the same counts, the same left to post, and the same entry at hand; of an entry that was posted whole nothing is asked
 pub record IsSameSending (one other : Sending) : Type 0 where

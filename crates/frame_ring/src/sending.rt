@@ -82,7 +82,13 @@ impl Sender {
         self.begun == other.begun
             && self.told == other.told
             && self.next == other.next
-            && have_same_entries(self.largest, &self.frame, self.piece, &other.frame, other.piece)
+            && have_same_entries(
+                self.largest,
+                &self.frame,
+                self.piece,
+                &other.frame,
+                other.piece,
+            )
     }
 
     /// How many.

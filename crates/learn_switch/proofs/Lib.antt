@@ -1,3 +1,4 @@
 mod Answered
 mod Headers
 mod LongFrames
+mod SameStations

@@ -1,4 +1,4 @@
-use Rattle.std.proofs.Common.{◌≡◌, length, refl, sym, ◌∙◌, arith}
+use Rattle.std.proofs.Common.{◌≡◌, length, refl, arith}
 use Rattle.bridge_pair.proofs.SameWrites.{same_lists}
 use Rattle.bridge_pair.proofs.same.have_same_writes.Goals as goal
 

@@ -1,4 +1,3 @@
-use Rattle.std.proofs.Common.{◌≡◌}
 use Rattle.bridge_pair.proofs.SameBridges.{end_a, end_b, same_ends}
 use Rattle.bridge_pair.proofs.pair.Pair.has_same_ends.Goals as goal
 
