@@ -1,5 +1,5 @@
 -- What is the same stands for the same steps, and what stands for one list of steps is the same.
-use Rattle.std.proofs.Common.{◌≡◌, ◌∙◌, ℕ, ◌<◌, ◌||◌, Bool, true, false, not, List, length, get_or, refl, sym, ap, subst, if◌then◌else◌}
+use Rattle.std.proofs.Common.{◌≡◌, ◌∙◌, ℕ, ◌<◌, ◌||◌, Bool, true, false, not, List, length, refl, sym, ap, subst, if◌then◌else◌}
 use Rattle.std.proofs.lemmas.Bool.{false≢true}
 use Rattle.step_kinds.specs.declared.names.Side.{Side}
 use Rattle.step_kinds.specs.declared.plan.DevPlan.{DevPlan}
@@ -10,14 +10,14 @@ use Rattle.step_kinds.specs.declared.steps.Step.{Step}
 use Rattle.lane_model.specs.Lane.{Entry}
 use Rattle.lane_model.specs.Tests.{is_empty_list}
 use Rattle.plan_model.specs.Link.{Link}
-use Rattle.plan_model.specs.Plans.{pair_plan, side_plan}
+use Rattle.plan_model.specs.Plans.{pair_plan}
 use Rattle.memory_model.specs.Memory.{Site, site_of}
 use Rattle.bridge_pair.specs.Bridge.{Bridge}
 use Rattle.frame_ring.specs.Port.{PortState, Receiving, Sending}
 use Rattle.frame_ring.specs.Same.{IsSamePort}
 use Rattle.fabric_rule.specs.InPlace.{SendingEnd, last_entry}
-use Rattle.fabric_rule.specs.Parts.{PairState, QueuePart, no_queue, queue_of, queues_of}
-use Rattle.fabric_rule.specs.StandsFor.{PairStands, QueueStands, QueueView, SideStandsIn, bridge_for, has_forgotten, is_left, port_for, sending_for, view_of}
+use Rattle.fabric_rule.specs.Parts.{PairState, QueuePart, queue_of, queues_of}
+use Rattle.fabric_rule.specs.StandsFor.{PairStands, QueueStands, QueueView, SideStandsIn, has_forgotten, is_left, port_for, sending_for, view_of}
 use Rattle.fabric_core.specs.Fabric.{FabricState, StandsFor, bare_plan, pair_of, plan_kept}
 use Rattle.fabric_core.specs.InFlight.{SameKeys}
 use Rattle.fabric_core.specs.LogClauses.{HasMade}

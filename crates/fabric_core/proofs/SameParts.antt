@@ -16,10 +16,10 @@ use Rattle.bridge_pair.specs.Same.{IsSameBridge}
 use Rattle.queue_pair.specs.Same.{IsSameQueue}
 use Rattle.step_kinds.specs.declared.plan.Counters.{Counters}
 use Rattle.bridge_pair.specs.declared.book.SideBook.{SideBook}
-use Rattle.fabric_rule.specs.Parts.{PairState, QueuePart, SessionCount, count_in, no_queue, plain_bridge, queue_of, queues_of}
+use Rattle.fabric_rule.specs.Parts.{PairState, QueuePart, SessionCount, count_in, no_queue, plain_bridge, queues_of}
 use Rattle.fabric_core.specs.Fabric.{no_state}
-use Rattle.fabric_core.specs.Parts.{IsInPlace, IsWhole}
-use Rattle.fabric_core.specs.Same.{AreOfOnePlace, AreOfOneSide, AreSameCounts, AreSameParts, AreSameWhereCounted, IsSamePair, IsSamePart, plan_at}
+use Rattle.fabric_core.specs.Parts.{IsWhole}
+use Rattle.fabric_core.specs.Same.{AreOfOneSide, AreSameCounts, AreSameParts, AreSameWhereCounted, IsSamePair, IsSamePart, plan_at}
 use Rattle.fabric_core.specs.Sessions.{AreApart, IsNowhere, IsPlaceOf, count_seen, no_count}
 use Rattle.fabric_core.specs.declared.counts.OfSession.{OfSession}
 use Rattle.fabric_core.proofs.SessionTallies.{count_in-nowhere, count_in-there}

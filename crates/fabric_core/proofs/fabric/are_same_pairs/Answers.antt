@@ -1,4 +1,4 @@
-use Rattle.std.proofs.Common.{◌≡◌, ◌∙◌, ◌<◌, below_more, get_or, length, ap, subst, sym}
+use Rattle.std.proofs.Common.{◌∙◌, ◌<◌, below_more, get_or, ap, subst, sym}
 use Rattle.fabric_rule.specs.Parts.{PairState}
 use Rattle.fabric_core.specs.Fabric.{no_state}
 use Rattle.fabric_core.specs.Same.{IsSamePair, plan_at}

@@ -1,4 +1,4 @@
-use Rattle.std.proofs.Common.{◌≡◌, ◌∙◌, ◌++◌, ◌+◌, ◌<◌, Global, List, Vec, ℕ, ap, arith, length, subst, suc, sym}
+use Rattle.std.proofs.Common.{◌≡◌, ◌∙◌, ◌++◌, ◌+◌, ◌<◌, Global, List, Vec, ℕ, ap, arith, subst, suc, sym}
 use Rattle.std.proofs.lemmas.List.{append_assoc}
 use Rattle.bridge_pair.specs.Bridge.{flight_of}
 use Rattle.fabric_core.proofs.InFlight.{key_before, key_more, some_there}

@@ -1,4 +1,4 @@
-use Rattle.std.proofs.Common.{◌≡◌, ◌<◌, ◌∙◌, List, ap, get_or, length, map, subst, sym}
+use Rattle.std.proofs.Common.{◌≡◌, ◌∙◌, List, ap, get_or, map, subst, sym}
 use Rattle.std.proofs.lemmas.List.{get_or_default}
 use Rattle.fabric_rule.specs.Parts.{SessionCount}
 use Rattle.fabric_core.specs.Same.{AreSameWhereCounted}

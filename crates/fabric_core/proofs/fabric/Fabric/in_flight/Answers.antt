@@ -1,4 +1,4 @@
-use Rattle.std.proofs.Common.{◌≡◌, ◌∙◌, ◌≤◌, ℕ, ap, subst, sym, length}
+use Rattle.std.proofs.Common.{◌≡◌, ◌∙◌, ℕ, ap, subst, sym, length}
 use Rattle.bridge_pair.specs.Bridge.{flight_of}
 use Rattle.fabric_rule.specs.Parts.{PairState}
 use Rattle.fabric_core.specs.Fabric.{pair_of}

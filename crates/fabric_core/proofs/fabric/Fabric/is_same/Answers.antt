@@ -1,7 +1,6 @@
-use Rattle.std.proofs.Common.{◌≡◌, ◌∙◌, List, ap, subst, sym}
+use Rattle.std.proofs.Common.{◌∙◌, List, ap, subst, sym}
 use Rattle.fabric_rule.specs.Parts.{PairState}
 use Rattle.fabric_core.specs.Fabric.{FabricState, plan_kept}
-use Rattle.fabric_core.specs.Fabrics.{fabric_seen}
 use Rattle.fabric_core.specs.Same.{AreSamePairs}
 use Rattle.fabric_core.proofs.SameFabrics.{merged, one_list_makes_same}
 use Rattle.fabric_core.proofs.Standing.{MadeSome, some}

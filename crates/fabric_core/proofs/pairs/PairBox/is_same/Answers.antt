@@ -1,4 +1,4 @@
-use Rattle.std.proofs.Common.{◌≡◌, ◌↔◌, ◌∙◌, IsTrue, List, ap, refl, subst, sym}
+use Rattle.std.proofs.Common.{◌↔◌, ◌∙◌, IsTrue, List, ap, refl, subst, sym}
 use Rattle.step_kinds.specs.declared.names.Side.TheVariants.{A, B}
 use Rattle.fabric_rule.specs.Parts.{PairState, QueuePart}
 use Rattle.fabric_core.specs.PairBoxes.{pair_seen}
