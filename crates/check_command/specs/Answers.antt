@@ -29,8 +29,9 @@ abbrev pub counts_text : Before → List ℕ
 counts_text declared =
     let plan = declared.plan in
     line_of
-    (count_text (codes "ok hosts") (length declared.hosts) ++ count_text (codes " pairs") (length plan.pairs) ++ count_text (codes " devices") (length plan.devs) ++ count_text (codes " switches") (length plan.switches)
-    ++ count_text (codes " steps") (length plan.steps) ++ count_text (codes " frames") (frames_of plan) ++ count_text (codes " breaks") (breaks_of plan))
+    (count_text (codes "ok pairs") (length plan.pairs) ++ count_text (codes " devices") (length plan.devs) ++ count_text (codes " switches") (length plan.switches)
+    ++ count_text (codes " steps") (length plan.steps) ++ count_text (codes " frames") (frames_of plan) ++ count_text (codes " breaks") (breaks_of plan)
+    ++ count_text (codes " hosts") (length declared.hosts))
 
 -- the least and the largest number that the word may spell, where it has a range
 abbrev pub range_text : Option Range → List ℕ

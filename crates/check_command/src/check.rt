@@ -46,13 +46,13 @@ fn counts_of(alloc: Global, declared: Reader) -> Result<Vec<u8>, AllocError>
     let plan = &script.declared;
     let frames = frames_in(plan.traffic.as_slice());
     let mut text = Vec::new(alloc);
-    push_count(&mut text, "ok hosts", hosts)?;
-    push_count(&mut text, " pairs", plan.pairs.len())?;
+    push_count(&mut text, "ok pairs", plan.pairs.len())?;
     push_count(&mut text, " devices", plan.devs.len())?;
     push_count(&mut text, " switches", plan.switches.len())?;
     push_count(&mut text, " steps", steps_in(script.steps.stretches()))?;
     push_count(&mut text, " frames", frames)?;
     push_count(&mut text, " breaks", plan.traffic.len() - frames)?;
+    push_count(&mut text, " hosts", hosts)?;
     push_word(&mut text, "\n")?;
     Ok(text)
 }

@@ -1,6 +1,6 @@
 //! The text of an exploration.
 
-ghost use Rattle.std.specs.Prelude.{◌≡◌, ◌++◌, ◌∷◌, ◌<◌, [], IfOk, OnOk, length, map};
+ghost use Rattle.std.specs.Prelude.{◌≡◌, ◌++◌, ◌∷◌, ◌<◌, [], IfOk, List, OnOk, length, map};
 ghost use Rattle.std.specs.List.{All, flat_map, range_with_len};
 ghost use Rattle.explore_command.specs.Landings.{LandsOnPairs};
 ghost use Rattle.explore_model.specs.Texts.{
@@ -11,13 +11,17 @@ ghost use Rattle.explore_model.specs.Texts.{
   explored_text as text_of_outcomes,
   first_answer as answer_of_first,
   head_line,
+  land_text,
   landing_line,
   line_at as line_by_place,
   outcome_lines,
   place_in_line as place_among_steps,
+  place_text,
   step_numbers,
   text_line,
 };
+ghost use Rattle.explore_model.specs.declared.outcome.Landing.{Landing as LandingValue};
+ghost use Rattle.explore_model.specs.declared.outcome.Outcome.{Outcome as OutcomeValue};
 ghost use Rattle.plan_model.specs.DeclaredPlans.{IsPairOf};
 ghost use Rattle.report_text.specs.Report.{side_text};
 
@@ -55,11 +59,7 @@ fn agreed_steps(
 ) -> Result<Vec<bool>, AllocError>
     ensures { IfOk result (λ agreed. agreed.items ≡ map (agree_by_answers outcomes.now) (range_with_len 0 count)) }
 {
-    let mut agreed = Vec::new(alloc);
-    for k in 0..count {
-        agreed.push(agree_on(outcomes, k))?;
-    }
-    Ok(agreed)
+    (0..count).map(|k| agree_on(outcomes, k)).collect(alloc)
 }
 
 // Whether all outcomes have the same answer to the step with a number.
@@ -145,7 +145,7 @@ fn push_landings(
     plan: &Plan,
     landings: &[Landing],
 ) -> Result<(), AllocError>
-    requires { All (λ landing. IsPairOf plan.now landing.pair) landings.now }
+    requires { All (λ (landing : LandingValue). IsPairOf plan.now landing.pair) landings.now }
     ensures { OnOk result (text.new.items ≡ text.old.items ++ flat_map (landing_line plan.now) landings.now) }
 {
     for landing in landings {
@@ -159,18 +159,31 @@ fn push_landing(text: &mut Vec<u8>, plan: &Plan, landing: &Landing) -> Result<()
     requires { IsPairOf plan.now landing.now.pair }
     ensures { OnOk result (text.new.items ≡ text.old.items ++ landing_line plan.now landing.now) }
 {
+    push_place(text, plan, landing.at)?;
+    push_land(text, plan, landing)?;
+    push_word(text, "\n")
+}
+
+// Adds the step of the script before which a further landing is made.
+fn push_place(text: &mut Vec<u8>, plan: &Plan, at: usize) -> Result<(), AllocError>
+    ensures { OnOk result (text.new.items ≡ text.old.items ++ place_text plan.now at) }
+{
     let steps = plan.steps.as_slice();
-    let line = line_at(steps, landing.at);
+    let line = line_at(steps, at);
+    let numbers = [u64::from(line), place_in_line(steps, line, at)];
     push_word(text, "by")?;
-    push_numbers(
-        text,
-        &[u64::from(line), place_in_line(steps, line, landing.at)],
-    )?;
+    push_numbers(text, &numbers)
+}
+
+// Adds a landing as a script writes it.
+fn push_land(text: &mut Vec<u8>, plan: &Plan, landing: &Landing) -> Result<(), AllocError>
+    requires { IsPairOf plan.now landing.now.pair }
+    ensures { OnOk result (text.new.items ≡ text.old.items ++ land_text plan.now landing.now) }
+{
     push_word(text, " land ")?;
     text.extend_from_slice(plan.pairs.as_slice()[landing.pair as usize].name.bytes())?;
     push_word(text, side_word(landing.side))?;
-    push_numbers(text, &[u64::from(landing.place)])?;
-    push_word(text, "\n")
+    push_numbers(text, &[u64::from(landing.place)])
 }
 
 // A side behind a space.
@@ -214,11 +227,26 @@ fn push_differing(
     ensures { OnOk result (text.new.items ≡ text.old.items ++ flat_map (differing_line plan.now outcomes.now outcome.now) (step_numbers plan.now)) }
 {
     for k in 0..plan.steps.len() {
-        if !agreed[k] {
-            push_answer(text, plan, k, answer_at(outcome, k))?;
-        }
+        push_unless(text, plan, was_agreed(plan, outcomes, agreed, k), outcome, k)?;
     }
     Ok(())
+}
+
+// Adds the answer of an outcome to the step with a number, unless all outcomes agree there.
+fn push_unless(
+    text: &mut Vec<u8>,
+    plan: &Plan,
+    is_agreed: bool,
+    outcome: &Outcome,
+    k: usize,
+) -> Result<(), AllocError>
+    ensures { (outcomes : List OutcomeValue) → is_agreed ≡ agree_by_answers outcomes k →
+        OnOk result (text.new.items ≡ text.old.items ++ differing_line plan.now outcomes outcome.now k) }
+{
+    if is_agreed {
+        return Ok(());
+    }
+    push_answer(text, plan, k, answer_at(outcome, k))
 }
 
 // Adds the answers on which all outcomes agree.
@@ -232,12 +260,36 @@ fn push_common(
     ensures { OnOk result (text.new.items ≡ text.old.items ++ flat_map (common_line plan.now outcomes.now) (step_numbers plan.now)) }
 {
     for k in 0..plan.steps.len() {
-        if agreed[k] {
-            push_word(text, "always ")?;
-            push_answer(text, plan, k, first_answer(outcomes, k))?;
-        }
+        push_where(text, plan, was_agreed(plan, outcomes, agreed, k), outcomes, k)?;
     }
     Ok(())
+}
+
+// Adds the answer of all outcomes to the step with a number, where they agree there.
+fn push_where(
+    text: &mut Vec<u8>,
+    plan: &Plan,
+    is_agreed: bool,
+    outcomes: &[Outcome],
+    k: usize,
+) -> Result<(), AllocError>
+    requires { is_agreed ≡ agree_by_answers outcomes.now k }
+    ensures { OnOk result (text.new.items ≡ text.old.items ++ common_line plan.now outcomes.now k) }
+{
+    if !is_agreed {
+        return Ok(());
+    }
+    push_word(text, "always ")?;
+    push_answer(text, plan, k, first_answer(outcomes, k))
+}
+
+// Whether all outcomes agree on the step with a number, as it was found before.
+fn was_agreed(plan: &Plan, outcomes: &[Outcome], agreed: &[bool], k: usize) -> bool
+    requires among { k < length plan.now.steps }
+    requires agreed { agreed.now ≡ map (agree_by_answers outcomes.now) (step_numbers plan.now) }
+    ensures { result ≡ agree_by_answers outcomes.now k }
+{
+    agreed[k]
 }
 
 // Adds an answer behind the number of its line.

@@ -1,17 +1,16 @@
 -- Worked examples: a script that begins a frame, posts its first write, and shows what is in flight. The write may have landed
 -- before it is shown, or not.
-use Rattle.std.specs.Prelude.{◌≡◌, ℕ, List, [], ◌∷◌, ◌++◌, codes}
+use Rattle.std.specs.Prelude.{◌≡◌, false, List, [], ◌∷◌, ◌++◌, codes}
 use Rattle.std.specs.declared.cmp.Ordering.TheVariants.{Less}
 use Rattle.step_kinds.specs.declared.names.Side.TheVariants.{A}
-use Rattle.step_kinds.specs.declared.plan.Line.{Line}
 use Rattle.step_kinds.specs.declared.plan.Plan.{Plan}
 use Rattle.step_kinds.specs.declared.steps.Step.{Step}
-use Rattle.step_kinds.specs.declared.steps.Step.TheVariants.{Begin, Land, Post, ShowQueue}
+use Rattle.step_kinds.specs.declared.steps.Step.TheVariants.{Begin, Post, ShowQueue}
 use Rattle.ledger_model.specs.Examples.{letter, small_pair}
 use Rattle.report_text.specs.Report.{line_of}
 use Rattle.explore_model.specs.Outcomes.{IsOutcome, answers_cmp}
-use Rattle.explore_model.specs.Schedules.{Runs}
-use Rattle.explore_model.specs.Texts.{explored_text}
+use Rattle.explore_model.specs.Schedules.{answer_after, is_landed, landing_step}
+use Rattle.explore_model.specs.Texts.{explored_text, landing_line}
 use Rattle.explore_model.specs.declared.outcome.Landing.{Landing}
 use Rattle.explore_model.specs.declared.outcome.Outcome.{Outcome}
 
@@ -48,7 +47,10 @@ pub record BothAreOutcomes : Type 0 where
   pub in_flight_then : IsOutcome plan script in_flight
   pub order : answers_cmp landed.answers in_flight.answers ≡ Less
 
--- a landing before the write is posted is answered `nothing`, so it is in no schedule
+-- before the write is posted no landing is answered `landed`, and after it no second one
+pub record NoOtherLands : Type 0 where
+  pub early : is_landed (answer_after plan (Begin 0 A 0 letter ∷ []) (landing_step landing)) ≡ false
+  pub late : is_landed (answer_after plan (Begin 0 A 0 letter ∷ Post 0 A 0 ∷ landing_step landing ∷ []) (landing_step landing)) ≡ false
 
 -- One state before the first step and one before the second; two before the third. After it one where the write had landed, and
 -- two where it is in flight: it may land then.
@@ -60,8 +62,8 @@ Shown =
     ++ line_of (codes "always 7 posted chunk 0 0 0") ++ line_of (codes "end")
 
 -- a landing before the second of a line's steps
-abbrev pub early : Landing
-early = record { at = 1; pair = 0; side = A; place = 0 }
+abbrev pub ShownEarlier : Type 0
+ShownEarlier = landing_line plan (record landing { at = 1 }) ≡ line_of (codes "by 7 2 land p A 0")
 
 abbrev pub ExamplesHold : Type 0
-ExamplesHold = BothAreOutcomes × Shown
+ExamplesHold = BothAreOutcomes × NoOtherLands × Shown × ShownEarlier

@@ -1,5 +1,5 @@
 -- The states that the schedules of a script reach, and how many there are.
-use Rattle.std.specs.Prelude.{◌≡◌, ℕ, ◌+◌, ¬◌, List, ◌++◌, length}
+use Rattle.std.specs.Prelude.{◌≡◌, ℕ, ◌<◌, List, ◌++◌, length}
 use Rattle.std.specs.List.{AllPairs, Any}
 use Rattle.step_kinds.specs.declared.plan.Plan.{Plan}
 use Rattle.step_kinds.specs.declared.steps.Step.{Step}
@@ -46,5 +46,5 @@ module _ {Machine : Type 0} (has_made : Machine → Plan → List Step → Type 
   -- they reach more than so many
   pub record HasMoreThan (plan : Plan) (script : List Step) (limit : ℕ) : Type 0 where
     pub states : List (Passing plan script)
-    pub counted : length states ≡ limit + 1
+    pub counted : limit < length states
     pub apart : AreApart plan script states

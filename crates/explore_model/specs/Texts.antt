@@ -1,13 +1,10 @@
 -- The text of an exploration. Each line ends with a line feed.
-use Rattle.std.specs.Prelude.{ℕ, ◌+◌, ◌==◌, Bool, List, [], ◌∷◌, ◌++◌, codes, count_by, if◌then◌else◌, length, slice_index_or, take}
+use Rattle.std.specs.Prelude.{ℕ, ◌+◌, ◌==◌, Bool, List, [], ◌∷◌, ◌++◌, codes, count_by, if◌then◌else◌, length, nat_eq, slice_index_or, take}
 use Rattle.std.specs.Cmp.Lexicographic.{pointwise}
 use Rattle.std.specs.Fmt.{decimal}
 use Rattle.std.specs.List.{flat_map, list_all, range_with_len}
-use Rattle.std.specs.Prelude.{nat_eq}
-use Rattle.step_kinds.specs.declared.names.Side.TheVariants.{A}
 use Rattle.step_kinds.specs.declared.plan.Line.{Line}
 use Rattle.step_kinds.specs.declared.plan.Plan.{Plan}
-use Rattle.step_kinds.specs.declared.steps.Step.{Step}
 use Rattle.step_kinds.specs.declared.steps.Step.TheVariants.{Train}
 use Rattle.report_text.specs.Report.{end_line, line_of, pair_name, side_text}
 use Rattle.report_text.specs.Texts.{numbers_text}
@@ -38,12 +35,17 @@ agree_on outcomes k = list_all (λ outcome. pointwise nat_eq (answer_at outcome 
 abbrev pub head_line : List Outcome → ℕ → List ℕ
 head_line outcomes states = line_of (codes "outcomes" ++ numbers_text (length outcomes ∷ []) ++ codes " states" ++ numbers_text (states ∷ []))
 
--- a further landing, by the step before which it is made
+-- the step of the script before which a further landing is made: its line, and which of the line's steps it is
+abbrev pub place_text : Plan → ℕ → List ℕ
+place_text plan at = codes "by" ++ numbers_text (line_at plan.steps at ∷ place_in_line plan.steps at ∷ [])
+
+-- a landing as a script writes it
+abbrev pub land_text : Plan → Landing → List ℕ
+land_text plan landing = codes " land " ++ pair_name plan.pairs landing.pair ++ 32 ∷ side_text landing.side ++ numbers_text (landing.place ∷ [])
+
+-- a further landing
 abbrev pub landing_line : Plan → Landing → List ℕ
-landing_line plan landing =
-    line_of
-    (codes "by" ++ numbers_text (line_at plan.steps landing.at ∷ place_in_line plan.steps landing.at ∷ []) ++ codes " land "
-    ++ pair_name plan.pairs landing.pair ++ 32 ∷ side_text landing.side ++ numbers_text (landing.place ∷ []))
+landing_line plan landing = line_of (place_text plan landing.at ++ land_text plan landing)
 
 -- an answer behind the number of its line
 abbrev pub text_line : Plan → ℕ → List ℕ → List ℕ
@@ -69,7 +71,7 @@ no_outcome = record { answers = []; landings = [] }
 abbrev pub outcome_lines : Plan → List Outcome → ℕ → List ℕ
 outcome_lines plan outcomes k =
     let outcome = slice_index_or outcomes k no_outcome in
-    line_of (codes "outcome" ++ numbers_text (k + 1 ∷ [])) ++ flat_map (landing_line plan) outcome.landings
+    line_of (codes "outcome" ++ numbers_text ((k + 1) ∷ [])) ++ flat_map (landing_line plan) outcome.landings
     ++ flat_map (differing_line plan outcomes outcome) (step_numbers plan)
 
 -- the text of the outcomes of a plan, in whose exploration so many states were reached
