@@ -272,7 +272,7 @@ $work/checks/below/bad.ntb:2:1: unknownword: hosts
     ^^^^^
 no line of the declarations begins so; did you mean host? It is written: host NAME
 $work/checks/below/good.reads: ok steps 2
-$work/checks/good.ntb: ok pairs 1 devices 0 switches 0 steps 3 frames 5 breaks 1
+$work/checks/good.ntb: ok pairs 1 devices 0 switches 0 steps 3 frames 5 breaks 1 hosts 2
 END
     ./ntbsim --check "$work/checks" >"$work/out" 2>"$work/err"
     is '--check of a folder: status' $? 3

@@ -5,7 +5,8 @@ use Rattle.command_reply.specs.Output.{Output, done, refused_at}
 use Rattle.plan_model.specs.TrafficPlans.{frames_in}
 use Rattle.report_text.specs.Report.{line_of}
 use Rattle.report_text.specs.Texts.{numbers_text}
-use Rattle.script_text.specs.Script.{script_of}
+use Rattle.script_text.specs.Script.{declared_by}
+use Rattle.script_words.specs.Before.{Before}
 use Rattle.script_words.specs.Causes.{cause_text}
 use Rattle.script_words.specs.declared.fault.LineFault.{LineFault}
 use Rattle.script_words.specs.declared.fault.Range.{Range}
@@ -24,11 +25,13 @@ abbrev pub breaks_of : Plan → ℕ
 breaks_of plan = length plan.traffic - frames_of plan
 
 -- how much a script declares, as one line
-abbrev pub counts_text : Plan → List ℕ
-counts_text plan =
+abbrev pub counts_text : Before → List ℕ
+counts_text declared =
+    let plan = declared.plan in
     line_of
     (count_text (codes "ok pairs") (length plan.pairs) ++ count_text (codes " devices") (length plan.devs) ++ count_text (codes " switches") (length plan.switches)
-    ++ count_text (codes " steps") (length plan.steps) ++ count_text (codes " frames") (frames_of plan) ++ count_text (codes " breaks") (breaks_of plan))
+    ++ count_text (codes " steps") (length plan.steps) ++ count_text (codes " frames") (frames_of plan) ++ count_text (codes " breaks") (breaks_of plan)
+    ++ count_text (codes " hosts") (length declared.hosts))
 
 -- the least and the largest number that the word may spell, where it has a range
 abbrev pub range_text : Option Range → List ℕ
@@ -39,11 +42,11 @@ range_text (Some range) = numbers_text (range.least ∷ range.most ∷ [])
 abbrev pub place_text : LineFault → List ℕ
 place_text fault = codes "word " ++ decimal fault.word ++ 32 ∷ cause_text fault.cause ++ range_text fault.range
 
--- how much the plan of a script declares, or the script's fault with its place
-abbrev pub checked : Result Plan ScriptFault → Output
-checked (Ok plan) = done (counts_text plan)
+-- how much a script declares, or its fault with its place
+abbrev pub checked : Result Before ScriptFault → Output
+checked (Ok declared) = done (counts_text declared)
 checked (Err fault) = refused_at fault.line (place_text fault.fault)
 
 -- the answer of `check` to the bytes of a script
 pub record IsCheckOf (bytes : List ℕ) (output : Output) : Type 0 where
-  pub answer : output ≡ checked (script_of bytes)
+  pub answer : output ≡ checked (declared_by bytes)

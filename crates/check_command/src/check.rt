@@ -11,8 +11,8 @@ use arrayvec::ArrayString;
 use command_reply::Reply;
 use itoa::Buffer;
 use report_text::append::{push_numbers, push_word};
-use script_plan::{Script, Stretch};
-use script_text::{ParseError, read_script};
+use script_plan::Stretch;
+use script_text::{ParseError, Reader, read_declared};
 use script_words::LineFault;
 use std::alloc::{AllocError, Global};
 use step_kinds::Traffic;
@@ -27,8 +27,8 @@ pub fn check_reply(alloc: Global, bytes: &[u8]) -> Result<Reply, AllocError>
     requires { length bytes.now ≤ most_script_bytes }
     ensures { IfOk result (λ reply. IsCheckOf bytes.now reply) }
 {
-    match read_script(alloc, bytes) {
-        Ok(script) => Ok(Reply::done(counts_of(alloc, &script)?)),
+    match read_declared(alloc, bytes) {
+        Ok(declared) => Ok(Reply::done(counts_of(alloc, declared)?)),
         Err(ParseError::Fault(fault)) => {
             Ok(Reply::refused_at(fault.line, place_of(fault.fault).as_str()))
         }
@@ -37,10 +37,12 @@ pub fn check_reply(alloc: Global, bytes: &[u8]) -> Result<Reply, AllocError>
 }
 
 // How much a script declares, as one line.
-fn counts_of(alloc: Global, script: &Script) -> Result<Vec<u8>, AllocError>
-    requires { IsWhole (plan_in script.now) }
-    ensures { IfOk result (λ text. text.items ≡ counts_text (plan_in script.now)) }
+fn counts_of(alloc: Global, declared: Reader) -> Result<Vec<u8>, AllocError>
+    requires { IsWhole declared.plan }
+    ensures { IfOk result (λ text. text.items ≡ counts_text declared) }
 {
+    let hosts = declared.hosts().len();
+    let script = declared.into_script(alloc);
     let plan = &script.declared;
     let frames = frames_in(plan.traffic.as_slice());
     let mut text = Vec::new(alloc);
@@ -50,6 +52,7 @@ fn counts_of(alloc: Global, script: &Script) -> Result<Vec<u8>, AllocError>
     push_count(&mut text, " steps", steps_in(script.steps.stretches()))?;
     push_count(&mut text, " frames", frames)?;
     push_count(&mut text, " breaks", plan.traffic.len() - frames)?;
+    push_count(&mut text, " hosts", hosts)?;
     push_word(&mut text, "\n")?;
     Ok(text)
 }

@@ -6,7 +6,7 @@ use Rattle.script_words.specs.Causes.{cause_text}
 use Rattle.script_words.specs.declared.fault.ScriptFault.{ScriptFault}
 use Rattle.command_reply.specs.Statuses.{number_of}
 use Rattle.command_reply.specs.declared.status.Status.{Status}
-use Rattle.command_reply.specs.declared.status.Status.TheVariants.{Done, Refused, TooLong, Usage}
+use Rattle.command_reply.specs.declared.status.Status.TheVariants.{Done, Refused, TooLong, TooManyStates, Usage}
 
 pub record Output : Type 0 where
   pub status : ℕ
@@ -27,6 +27,10 @@ usage = one_line Usage (codes "usage")
 -- an input of too many bytes
 abbrev pub too_long : Output
 too_long = one_line TooLong (codes "too long")
+
+-- an exploration that would reach more states than it may
+abbrev pub too_many_states : Output
+too_many_states = one_line TooManyStates (codes "too many states")
 
 -- an input that is refused at a line, by a cause in one word
 abbrev pub refused_at : ℕ → List ℕ → Output

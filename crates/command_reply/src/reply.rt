@@ -1,7 +1,7 @@
 //! A reply: the exit status and the text that a command answers.
 
 ghost use Rattle.std.specs.Prelude.{◌≡◌, ◌<◌, ◌≤◌, length};
-ghost use Rattle.command_reply.specs.Output.{done, one_line, refused, refused_at, too_long, usage};
+ghost use Rattle.command_reply.specs.Output.{done, one_line, refused, refused_at, too_long, too_many_states, usage};
 
 use crate::Status;
 use arrayvec::ArrayString;
@@ -77,6 +77,13 @@ impl Reply {
         Reply::line(Status::TooLong, "too long")
     }
 
+    /// The reply to an exploration that would reach more states than it may: status 8, and `too many states`.
+    pub fn too_many_states() -> Reply
+        ensures { result ≡ too_many_states }
+    {
+        Reply::line(Status::TooManyStates, "too many states")
+    }
+
     /// The reply to an input that is refused at a line, by a cause of at most 64 bytes: status 3, and
     /// `refused line L CAUSE`.
     pub fn refused_at(line: u32, cause: &str) -> Reply
@@ -103,7 +110,7 @@ impl Reply {
         Reply::refused_at(fault.line, fault.fault.cause.word())
     }
 
-    /// The exit status, 0 or 2 to 7.
+    /// The exit status, 0 or 2 to 8.
     pub fn status(&self) -> u8
         ensures { result ≡ self.now.status }
     {

@@ -16,14 +16,16 @@ pub enum Status {
     SourceFailed,
     /// The sink failed: 5.
     SinkFailed,
-    /// Want of memory: 6.
+    /// Out of memory: 6.
     OutOfMemory,
     /// The input has more bytes than a script may have: 7.
     TooLong,
+    /// An exploration would reach more states than it may: 8.
+    TooManyStates,
 }
 
 impl Status {
-    /// The exit status that it is, 0 or 2 to 7.
+    /// The exit status that it is, 0 or 2 to 8.
     pub fn number(self) -> u8
         ensures { result ≡ number_of self }
     {
@@ -35,6 +37,7 @@ impl Status {
             Status::SinkFailed => 5,
             Status::OutOfMemory => 6,
             Status::TooLong => 7,
+            Status::TooManyStates => 8,
         }
     }
 }

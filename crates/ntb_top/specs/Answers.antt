@@ -3,13 +3,14 @@ use Rattle.std.specs.Prelude.{◌≡◌, ℕ, Option, Some, None, List, length, 
 use Rattle.step_kinds.specs.Limits.{most_script_bytes}
 use Rattle.check_command.specs.Answers.{IsCheckOf}
 use Rattle.command_reply.specs.Output.{Output, too_long, usage}
+use Rattle.explore_command.specs.Answers.{IsExploreOf}
 use Rattle.replay_command.specs.Answers.{IsLoadOf, IsReplayOf}
 use Rattle.reads_command.specs.Answers.{IsReadsOf}
 use Rattle.run_command.specs.Answers.{Carried, IsRunOf, nothing_carried}
 use Rattle.trace_command.specs.Answers.{IsTraceOf}
 use Rattle.stream_command.specs.Answers.{IsStreamOf, Streamed, nothing_streamed}
 use Rattle.ntb_top.specs.declared.command.Command.{Command}
-use Rattle.ntb_top.specs.declared.command.Command.TheVariants.{Check, Load, Reads, Replay, Run, Stream, Trace}
+use Rattle.ntb_top.specs.declared.command.Command.TheVariants.{Check, Explore, Load, Reads, Replay, Run, Stream, Trace}
 
 -- A case for each command: a relation, since several texts of `run` are right. What comes with a text of `run` and of `stream` is said in `Ends`.
 abbrev pub IsReplyOf : Command → List ℕ → Output → Type 0
@@ -20,6 +21,7 @@ IsReplyOf Stream bytes output = (streamed : Streamed) × IsStreamOf bytes output
 IsReplyOf Reads bytes output = IsReadsOf bytes output
 IsReplyOf Trace bytes output = IsTraceOf bytes output
 IsReplyOf Check bytes output = IsCheckOf bytes output
+IsReplyOf Explore bytes output = IsExploreOf bytes output
 
 -- `usage` where the words are no command, `too long` where too many bytes were read, else what the command answers
 abbrev pub IsAnswerTo : Option Command → List ℕ → Output → Type 0

@@ -5,7 +5,7 @@ use Rattle.std.specs.Str.{bytes_eq}
 use Rattle.script_words.specs.Words.{is_digit, is_plain, value_from}
 use Rattle.traffic_plan.specs.Load.{most_load_frames}
 use Rattle.ntb_top.specs.declared.command.Command.{Command}
-use Rattle.ntb_top.specs.declared.command.Command.TheVariants.{Replay, Load, Run, Stream, Reads, Trace, Check}
+use Rattle.ntb_top.specs.declared.command.Command.TheVariants.{Replay, Load, Run, Stream, Reads, Trace, Check, Explore}
 
 -- the number below a limit that a word spells: decimal digits without a leading zero but for zero itself
 abbrev pub number_below : ℕ → List ℕ → Option ℕ
@@ -25,9 +25,10 @@ lone_command word =
     else if bytes_eq word (codes "reads") then Some Reads
     else if bytes_eq word (codes "trace") then Some Trace
     else if bytes_eq word (codes "check") then Some Check
+    else if bytes_eq word (codes "explore") then Some Explore
     else None
 
--- `replay`, `trace`, `check`, `run`, `stream`, `reads`, or `load SEED FRAMES`
+-- `replay`, `trace`, `check`, `explore`, `run`, `stream`, `reads`, or `load SEED FRAMES`
 abbrev pub command_of : List (List ℕ) → Option Command
 command_of (word ∷ []) = lone_command word
 command_of (word ∷ seed ∷ frames ∷ []) = if bytes_eq word (codes "load") then load_command (number_below (2 ^ 64) seed) (number_below (2 ^ 32) frames) else None
@@ -51,6 +52,7 @@ command_reads Stream = true
 command_reads Reads = true
 command_reads Trace = true
 command_reads Check = true
+command_reads Explore = true
 
 -- whether words are a command that reads a script
 abbrev pub is_reading : Option Command → Bool

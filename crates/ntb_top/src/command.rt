@@ -33,6 +33,8 @@ pub enum Command {
     Trace,
     /// To read a script and write how much it declares, or where and why it is refused.
     Check,
+    /// To read a script, make its steps with every choice of further landings, and write all outcomes.
+    Explore,
 }
 
 impl Command {
@@ -46,13 +48,14 @@ impl Command {
             | Command::Stream
             | Command::Reads
             | Command::Trace
-            | Command::Check => true,
+            | Command::Check
+            | Command::Explore => true,
             Command::Load { .. } => false,
         }
     }
 }
 
-/// The command that the words of a command line are: `replay`, `trace`, `check`, `run`, `stream`,
+/// The command that the words of a command line are: `replay`, `trace`, `check`, `explore`, `run`, `stream`,
 /// `reads`, or `load SEED FRAMES`.
 pub fn command_of(words: &[String]) -> Option<Command>
     ensures words { result ≡ command_by_words (map string_bytes words.now) }
@@ -84,6 +87,8 @@ fn lone_command(word: &[u8]) -> Option<Command>
         Some(Command::Trace)
     } else if word == b"check".as_slice() {
         Some(Command::Check)
+    } else if word == b"explore".as_slice() {
+        Some(Command::Explore)
     } else {
         None
     }

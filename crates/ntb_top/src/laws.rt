@@ -2,7 +2,7 @@
 
 ghost use Rattle.std.specs.Prelude.{◌≡◌, ℕ, Some, Ok, List};
 ghost use Rattle.ntb_top.specs.Completeness.{ReplaysComplete, RunsComplete};
-ghost use Rattle.ntb_top.specs.Laws.{LoadsAreTrue, ReadsAreTrue, ReplaysAreTrue, TracesAreTrue};
+ghost use Rattle.ntb_top.specs.Laws.{ExplorationsAreTrue, LoadsAreTrue, ReadsAreTrue, ReplaysAreTrue, TracesAreTrue};
 
 /// Where `replay` ends with status 0, the bytes that were read declare a plan, and the log of that plan is true. No
 /// premise.
@@ -26,6 +26,13 @@ pub fn reads_are_true()
 /// write that stops it. No premise.
 pub fn traces_are_true()
     ensures { TracesAreTrue }
+{}
+
+/// Where `explore` ends with status 0, the bytes that were read declare a plan, and the text was written of all outcomes of
+/// its schedules: each is one of a schedule, whose further landings are shown, each schedule's is shown, and none twice. The
+/// number of states is that of those that the schedules reach. No premise.
+pub fn explorations_are_true()
+    ensures { ExplorationsAreTrue }
 {}
 
 /// Where the source tells its bytes and neither it nor the sink fails, a command that reads answers just these bytes and

@@ -12,6 +12,7 @@ use crate::command::{Command, command_of};
 use crate::input::{Input, Stop, read_input};
 use check_command::check_reply;
 use command_reply::{Reply, Status};
+use explore_command::explore_reply;
 use io_edges::{Sink, Source, WriteFault, write_all};
 use reads_command::reads_reply;
 use replay_command::{load_reply, replay_reply};
@@ -68,6 +69,7 @@ fn reply_of(alloc: Global, command: Command, bytes: &[u8]) -> Result<Reply, Allo
         Command::Reads => reads_reply(alloc, bytes),
         Command::Trace => trace_reply(alloc, bytes),
         Command::Check => check_reply(alloc, bytes),
+        Command::Explore => explore_reply(alloc, bytes),
         Command::Run => unreachable!(),
         Command::Stream => unreachable!(),
     }

@@ -30,13 +30,14 @@ use std::thread::Threads;
 ///
 /// | status | cause | text |
 /// |---|---|---|
-/// | 0 | none of the others | `replay`: the report; `trace`: the trace; `check`: how much the script declares; `run` and `stream`: the text of the record; `load`: the summary of a load; `reads`: the answers |
+/// | 0 | none of the others | `replay`: the report; `trace`: the trace; `check`: how much the script declares; `explore`: all outcomes of its schedules; `run` and `stream`: the text of the record; `load`: the summary of a load; `reads`: the answers |
 /// | 2 | the words are no command | `usage` |
 /// | 3 | a line of the script has a fault | `refused line L CAUSE`; of `reads`, whose cause is always `badline`; of `check` with the word and the range |
 /// | 4 | the source failed | nothing |
 /// | 5 | the sink failed | a part from the front of the text |
-/// | 6 | want of memory | nothing |
+/// | 6 | out of memory | nothing |
 /// | 7 | the input has more than 16,777,216 bytes | `too long` |
+/// | 8 | the schedules of `explore` reach more than 1,000,000 states | `too many states` |
 ///
 /// The order is words, reading, parsing, work, writing: the text is whole before its first byte is written.
 pub fn run_program<R: Threads + Wait + Sync, S: Source, K: Sink, G: Gate>(
@@ -60,7 +61,8 @@ pub fn run_program<R: Threads + Wait + Sync, S: Source, K: Sink, G: Gate>(
             | Command::Load { .. }
             | Command::Reads
             | Command::Trace
-            | Command::Check,
+            | Command::Check
+            | Command::Explore,
         )
         | None => { Ended::alone(alloc, plain_program(alloc, words, source, sink)) }
     }

@@ -2,13 +2,12 @@
 use Rattle.std.proofs.Common.{◌≡◌, ℕ, ◌+◌, ◌<◌, ◌≤◌, ◌==◌, Option, Some, None, Result, Ok, Err, List, [], ◌∷◌, length, map, Bor, IfSome, refl, sym, ◌∙◌, ap, arith}
 use Rattle.std.specs.List.{slice_split}
 use Rattle.std.specs.Option.{option_map_or}
-use Rattle.step_kinds.specs.declared.plan.Plan.{Plan}
 use Rattle.script_words.specs.Before.{Before, Given}
 use Rattle.script_words.specs.Words.{lines_of, without_return}
 use Rattle.script_words.specs.declared.fault.LineFault.{LineFault}
 use Rattle.script_words.specs.declared.fault.ScriptFault.{ScriptFault}
 use Rattle.script_text.specs.ParseClauses.{Parses, after_line}
-use Rattle.script_text.specs.Script.{line_gives, plan_of, read_lines}
+use Rattle.script_text.specs.Script.{line_gives, read_lines}
 use Rattle.script_text.specs.declared.error.ParseError.{ParseError}
 use Rattle.script_text.specs.declared.error.ParseError.TheVariants.{Fault, OutOfMemory}
 
@@ -45,6 +44,6 @@ count_turn None text n total shorter few = omega arith
 count_turn (Some more) text n total shorter few = omega arith
 
 -- an error at a line is the script's
-pub error_stays : (n : ℕ) (lines : List (List ℕ)) (error : ParseError) (due : Result Before ScriptFault) → Parses {X = Before} (Err error) due → Parses {X = Plan} (Err error) (plan_of (then_lines n lines due))
-error_stays n lines (Fault fault) due h = ap (λ read. plan_of (then_lines n lines read)) h
+pub error_stays : (n : ℕ) (lines : List (List ℕ)) (error : ParseError) (due : Result Before ScriptFault) → Parses {X = Before} (Err error) due → Parses {X = Before} (Err error) (then_lines n lines due)
+error_stays n lines (Fault fault) due h = ap (then_lines n lines) h
 error_stays n lines OutOfMemory due h = tt

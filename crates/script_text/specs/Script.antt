@@ -54,6 +54,10 @@ abbrev pub plan_of : Result Before ScriptFault → Result Plan ScriptFault
 plan_of (Ok before) = Ok before.plan
 plan_of (Err fault) = Err fault
 
+-- what all lines of a script declare, or its first fault
+abbrev pub declared_by : List ℕ → Result Before ScriptFault
+declared_by bytes = read_lines 1 nothing_before (lines_of bytes)
+
 -- the plan of a script, or its first fault
 abbrev pub script_of : List ℕ → Result Plan ScriptFault
-script_of bytes = plan_of (read_lines 1 nothing_before (lines_of bytes))
+script_of bytes = plan_of (declared_by bytes)

@@ -12,6 +12,6 @@ mod switch_lines;
 mod traffic_lines;
 
 pub use error::ParseError;
-pub use script::{parse, read_script};
-pub use script_plan::Script;
+pub use script::{parse, read_declared, read_script};
+pub use script_plan::{Reader, Script};
 pub use script_words::{Cause, LineFault, Range, ScriptFault};

@@ -114,12 +114,11 @@ fn add_line<'a>(
     }
 }
 
-/// What a script of at most 16,777,216 bytes declares, with its steps as its lines have them, or its fault: the first line
-/// that has one, and that line's first fault. `OutOfMemory` says that there is no memory for what it declares, and nothing
-/// of the script.
-pub fn read_script(alloc: Global, bytes: &[u8]) -> Result<Script, ParseError>
+/// What the lines of a script of at most 16,777,216 bytes declare, or its fault: the first line that has one, and that
+/// line's first fault. `OutOfMemory` says that there is no memory for what it declares, and nothing of the script.
+pub fn read_declared(alloc: Global, bytes: &[u8]) -> Result<Reader, ParseError>
     requires { length bytes.now ≤ most_script_bytes }
-    ensures { Parses (result_map plan_in result) (rules.script_of bytes.now) }
+    ensures { Parses result (rules.declared_by bytes.now) }
 {
     let mut before = Reader::new(alloc);
     let mut words = Vec::new(alloc);
@@ -131,7 +130,17 @@ pub fn read_script(alloc: Global, bytes: &[u8]) -> Result<Script, ParseError>
         number += 1;
         rest = more;
     }
-    Ok(before.into_script(alloc))
+    Ok(before)
+}
+
+/// What a script of at most 16,777,216 bytes declares, with its steps as its lines have them, or its fault, as
+/// [`read_declared`] gives it. `OutOfMemory` says that there is no memory for what it declares, and nothing of the script.
+pub fn read_script(alloc: Global, bytes: &[u8]) -> Result<Script, ParseError>
+    requires { length bytes.now ≤ most_script_bytes }
+    ensures { Parses (result_map plan_in result) (rules.script_of bytes.now) }
+{
+    let declared = read_declared(alloc, bytes)?;
+    Ok(declared.into_script(alloc))
 }
 
 /// The plan that a script of at most 16,777,216 bytes declares, in which each step stands by itself, or its fault as

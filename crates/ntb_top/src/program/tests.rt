@@ -57,6 +57,29 @@ item 1 6263
 end
 ";
 
+const ONE_WRITE: &str = "ntb 1
+host a
+host b
+pair p a b up size=4096 mtu=1023
+steps
+begin p A 0 61
+post p A 0
+showq p A 0
+";
+
+// The write lands before the last step, or not. States: one before each of the first two steps, two before the third, and
+// after it one where the write had landed, and two where it may land still.
+const ONE_WRITE_TEXT: &str = "outcomes 2 states 7
+outcome 1
+by 8 1 land p A 0
+8 queue 0 -
+outcome 2
+8 queue 1 chunk 0 0 0
+always 6 ok 0
+always 7 posted chunk 0 0 0
+end
+";
+
 // Words of a command line.
 fn words_of(alloc: Global, texts: &[&str]) -> Result<Vec<String>, AllocError> {
     let mut words = Vec::new(alloc);
@@ -182,6 +205,15 @@ fn workers_meet(rt: HostRuntime) -> Result<(), Fail> {
     assert_eq!(rt; ended.proofs.len(), 1);
     assert!(rt; gate.sender_saw.load(Ordering::SeqCst));
     assert!(rt; gate.receiver_saw.load(Ordering::SeqCst));
+    Ok(())
+}
+
+// All outcomes of a script whose one write may land or not.
+#[test]
+fn both_outcomes_are_found(rt: HostRuntime) -> Result<(), Fail> {
+    let (ended, sink) = answer_to(&rt, rt.alloc(), &["explore"], ONE_WRITE, &NoGate)?;
+    assert_eq!(rt; ended.status, 0);
+    assert_eq!(rt; sink.held(), ONE_WRITE_TEXT.as_bytes());
     Ok(())
 }
 

@@ -1,6 +1,7 @@
-use Rattle.script_plan.specs.Scripts.{plan_in}
+use Rattle.std.proofs.Common.{ap}
 use Rattle.script_text.proofs.Whole.{plan_is_whole}
+use Rattle.script_text.specs.Script.{plan_of}
 use Rattle.check_command.proofs.check.check_reply.Goals as goal
 
 pub counts_of-requires : goal.counts_of-requires
-counts_of-requires c = plan_is_whole c.args.bytes.now (plan_in c.in-Ok.script) c.in-Ok.ensures
+counts_of-requires c = plan_is_whole c.args.bytes.now c.in-Ok.declared.plan (ap plan_of c.in-Ok.ensures)

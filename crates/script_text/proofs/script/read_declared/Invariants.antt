@@ -4,7 +4,7 @@ use Rattle.script_words.specs.Before.{nothing_before}
 use Rattle.script_words.specs.Words.{lines_of}
 use Rattle.script_text.specs.SoundLines.{Held}
 use Rattle.script_text.specs.Script.{read_lines}
-use Rattle.script_text.proofs.script.read_script.Given as goal
+use Rattle.script_text.proofs.script.read_declared.Given as goal
 
 abbrev pub invariant-loop-rest : goal.invariant-loop-rest
 invariant-loop-rest l = record {

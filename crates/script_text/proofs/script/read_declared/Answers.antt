@@ -1,15 +1,14 @@
 use Rattle.std.proofs.Common.{◌+◌, ◌≤◌, Result, Err, [], length, sym, ◌∙◌, ap, subst}
 use Rattle.std.proofs.lemmas.Result.{err_from_is_err_and}
 use Rattle.std.specs.Option.{option_map_or}
-use Rattle.step_kinds.specs.declared.plan.Plan.{Plan}
 use Rattle.script_words.specs.Before.{Before}
 use Rattle.script_words.specs.Words.{lines_of}
 use Rattle.script_words.specs.declared.fault.ScriptFault.{ScriptFault}
 use Rattle.script_text.specs.ParseClauses.{Parses, after_line}
-use Rattle.script_text.specs.Script.{line_gives, plan_of, read_lines}
+use Rattle.script_text.specs.Script.{line_gives, read_lines}
 use Rattle.script_text.proofs.LinesRead.{then_lines, line_turn, count_turn, error_stays}
 use Rattle.script_text.proofs.Whole.{after_held}
-use Rattle.script_text.proofs.script.read_script.Goals as goal
+use Rattle.script_text.proofs.script.read_declared.Goals as goal
 
 pub loop-rest-preserved : goal.loop-rest-preserved
 loop-rest-preserved c =
@@ -35,7 +34,7 @@ returns-in_err-add_line c =
     let turn = line_turn n before c.in-Some.text.now c.cut.result.0.now c.without_return.result.now rest c.cut.ensures.parts c.without_return.ensures in
     let read = c.loop-rest.invariant.read ∙ (ap (λ o. read_lines n before (option_map_or (λ text. lines_of text.now) o [])) c.in-Some.is ∙ turn) in
     let error = c.in_err-add_line.field-0.0 in
-    let P : Result Before ScriptFault → Type 0 = λ read. Parses {X = Plan} (Err error) (plan_of read) in
+    let P : Result Before ScriptFault → Type 0 = λ read. Parses {X = Before} (Err error) read in
     let p = err_from_is_err_and c.from_residual.result c.from_residual.ensures.1 in
     rw (p.1, p.2)
     (subst P (sym read)

@@ -1,0 +1,8 @@
+use Rattle.explore_model.specs.Texts.{outcome_lines}
+use Rattle.explore_command.proofs.Ranges.{text_more}
+use Rattle.explore_command.proofs.text.push_outcomes.Goals as goal
+
+pub loop-k-preserved : goal.loop-k-preserved
+loop-k-preserved c =
+    text_more (outcome_lines c.args.plan.now c.args.outcomes.now) c.loop-k.k c.loop-k.text.items c.push_outcome.new.text.items c.args.text.now.items
+    c.loop-k.invariant c.in_ok-push_outcome.ensures
