@@ -143,7 +143,7 @@ pair p a b|send p A 0 61
 5:1: unknownword: send
     send p A 0 61
     ^^^^
-send stands among the steps, behind a line: steps
+send stands among the steps, after a line: steps
 --
 pair p a b|steps|poke p A 0 0 61
 6:1: badpair: poke p A 0 0 61

@@ -76,7 +76,7 @@ function wanted_part(first,    i, home) {
         return "line " began[first] " begins the " first " already"
     if (home == "declarations" || part == "traffic")
         return first " stands among the " home ", and line " began[part] " begins the " part
-    return first " stands among the " home ", behind a line: " home
+    return first " stands among the " home ", after a line: " home
 }
 
 function wanted_line(    sentence, i) {

@@ -46,7 +46,7 @@ Until the program is built, and after one of its sources was changed, answers co
 seconds, since the sources are compiled, and the next ones come at once. Other words are answered `usage`, with what was meant.
 
 Exit status: 0 done; 2 the words are no command; 3 a line of the script has a fault; 4 standard input failed; 5 standard
-output failed; 6 want of memory; 7 the input has more than 16,777,216 bytes; 1 a condition of --test doesn't hold, or this
+output failed; 6 out of memory; 7 the input has more than 16,777,216 bytes; 1 a condition of --test doesn't hold, or this
 shell script itself failed.
 
 To begin: README.md, docs/GUIDE.md, examples/README.md; docs/CALLING.md for programs that call the crates.

@@ -3,9 +3,9 @@ use Rattle.std.proofs.Common.{◌∙◌, ℕ, ◌+◌, List, count_by, length, a
 use Rattle.step_kinds.specs.declared.names.LaneName.{LaneName}
 use Rattle.step_kinds.specs.declared.plan.Counters.{Counters}
 use Rattle.plan_model.specs.Plans.{dev_plan}
-use Rattle.ledger_model.specs.Log.{Answered, Numbered, accepted, counters_in, delivered, first_session, trains}
+use Rattle.ledger_model.specs.Log.{Answered, Numbered, accepted, counters_in, delivered, first_session, lane_of_device, trains}
 use Rattle.memory_model.specs.Memory.{memory_of}
-use Rattle.fabric_core.specs.LogClauses.{AreCounters as AreBridgeCounters, IsAccepted as IsBridgeAccepted, IsDelivered as IsBridgeDelivered, IsSession as IsBridgeSession, lane_of_device}
+use Rattle.fabric_core.specs.LogClauses.{AreCounters as AreBridgeCounters, IsAccepted as IsBridgeAccepted, IsDelivered as IsBridgeDelivered, IsSession as IsBridgeSession}
 use Rattle.switch_laws.proofs.Bridges.{bridges_have_a_log}
 use Rattle.switch_laws.proofs.Readings.{log_reads_as_bridges}
 use Rattle.cluster_core.specs.Cluster.{ClusterState}

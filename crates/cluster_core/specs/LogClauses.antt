@@ -6,9 +6,9 @@ use Rattle.step_kinds.specs.declared.plan.Plan.{Plan}
 use Rattle.step_kinds.specs.declared.steps.Answer.{Answer}
 use Rattle.step_kinds.specs.declared.steps.Step.{Step}
 use Rattle.plan_model.specs.Plans.{dev_plan}
-use Rattle.ledger_model.specs.Log.{Answered, accepted, counters_in, delivered, first_session, trains}
+use Rattle.ledger_model.specs.Log.{Answered, accepted, counters_in, delivered, first_session, lane_of_device, trains}
 use Rattle.memory_model.specs.Memory.{memory_of}
-use Rattle.fabric_core.specs.LogClauses.{HasMade as HasMadeOnBridges, lane_of_device}
+use Rattle.fabric_core.specs.LogClauses.{HasMade as HasMadeOnBridges}
 use Rattle.switch_log.specs.Log.{network_of, switch_log}
 use Rattle.switch_log.specs.Network.{Network, next_item}
 use Rattle.switch_log.specs.Origins.{bytes_kept}

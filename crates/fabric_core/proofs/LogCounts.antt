@@ -11,14 +11,14 @@ use Rattle.plan_model.specs.DeclaredPlans.{IsPairOf, IsQueueOf}
 use Rattle.plan_model.specs.Plans.{dev_plan, pair_plan}
 use Rattle.ledger_laws.proofs.Facade.{counters_are_counts, sessions_are_counts, tallies_are_counts}
 use Rattle.ledger_model.specs.Ledger.{PairPart, Tally, dev_of, tally_of}
-use Rattle.ledger_model.specs.Log.{accepted, counters_in, delivered, first_session, trains}
+use Rattle.ledger_model.specs.Log.{accepted, counters_in, delivered, first_session, lane_of_device, trains}
 use Rattle.memory_model.specs.Memory.{memory_of, site_of}
 use Rattle.byte_laws.proofs.Facade.{sites_are_the_ledger}
 use Rattle.bridge_pair.specs.Bridge.{Bridge}
 use Rattle.fabric_rule.specs.Parts.{queue_of}
 use Rattle.fabric_rule.specs.StandsFor.{QueueStands, has_forgotten, view_of}
 use Rattle.fabric_core.specs.Fabric.{FabricState, accepted_of, delivered_of, pair_of, plan_kept}
-use Rattle.fabric_core.specs.LogClauses.{HasMade, lane_of_device, log_after}
+use Rattle.fabric_core.specs.LogClauses.{HasMade, log_after}
 use Rattle.fabric_core.proofs.Standing.{plan_of_standing, queue_of_bare}
 
 module _ (plan : Plan) (steps : List Step) (fabric : FabricState) (made : HasMade plan steps fabric) where

@@ -4,14 +4,13 @@ use Rattle.std.specs.List.{AllByRecursion}
 use Rattle.step_kinds.specs.Subject.{subject_of}
 use Rattle.step_kinds.specs.declared.names.LaneName.{LaneName}
 use Rattle.step_kinds.specs.declared.plan.Counters.{Counters}
-use Rattle.step_kinds.specs.declared.plan.DevPlan.{DevPlan}
 use Rattle.step_kinds.specs.declared.plan.Plan.{Plan}
 use Rattle.step_kinds.specs.declared.steps.Answer.{Answer}
 use Rattle.step_kinds.specs.declared.steps.Step.{Step}
 use Rattle.plan_model.specs.DeclaredPlans.{IsDeclared, IsPermitted}
 use Rattle.plan_model.specs.Plans.{dev_plan}
 use Rattle.ledger_laws.specs.Laws.{GoesOn, IsOrdinaryPair, is_unlike}
-use Rattle.ledger_model.specs.Log.{Answered, accepted, counters_in, delivered, first_session, log_of, trains}
+use Rattle.ledger_model.specs.Log.{Answered, accepted, counters_in, delivered, first_session, lane_of_device, log_of, trains}
 use Rattle.memory_model.specs.Memory.{memory_of}
 use Rattle.fabric_core.specs.Fabric.{FabricState, StandsFor}
 
@@ -32,10 +31,6 @@ IsAnswered plan steps step answer = GoesOn plan (memory_of plan) steps step answ
 -- an ordinary pair never finds what no sender of the transport has written
 abbrev pub IsLikely : Plan → Step → Answer → Type 0
 IsLikely plan step answer = IsOrdinaryPair plan (subject_of step) → is_unlike answer ≡ false
-
--- the lane on which a device sends, by which the log counts its frames
-abbrev pub lane_of_device : DevPlan → LaneName
-lane_of_device dev = record { pair = dev.pair; from = dev.side; queue = dev.queue }
 
 -- whatever steps a fabric stands for, these are the frames of a lane in a session that their log has
 

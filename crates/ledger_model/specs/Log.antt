@@ -7,6 +7,7 @@ use Rattle.step_kinds.specs.declared.names.LaneName.{LaneName}
 use Rattle.step_kinds.specs.declared.names.Side.{Side}
 use Rattle.step_kinds.specs.declared.names.Side.TheVariants.{A, B}
 use Rattle.step_kinds.specs.declared.plan.Counters.{Counters}
+use Rattle.step_kinds.specs.declared.plan.DevPlan.{DevPlan}
 use Rattle.step_kinds.specs.declared.plan.Plan.{Plan}
 use Rattle.step_kinds.specs.declared.steps.Label.{Label}
 use Rattle.step_kinds.specs.declared.steps.Label.TheVariants.{Index, Pad}
@@ -135,6 +136,9 @@ abbrev pub delivered : Plan → List Answered → LaneName → ℕ → List Numb
 delivered plan log lane session = flat_map (delivers lane) (made_in lane.pair session (first_session plan lane.pair) log)
 
 -- Devices. A device stands on a side and a queue of a pair, and is named as the lane on which it sends.
+
+abbrev pub lane_of_device : DevPlan → LaneName
+lane_of_device dev = record { pair = dev.pair; from = dev.side; queue = dev.queue }
 
 -- the frame of a device that this accepts
 abbrev pub device_accepts : Plan → LaneName → Answered → List (List ℕ)

@@ -13,9 +13,8 @@ use Rattle.step_kinds.specs.declared.plan.DevPlan.{DevPlan}
 use Rattle.step_kinds.specs.declared.plan.PairPlan.{PairPlan}
 use Rattle.step_kinds.specs.declared.plan.Plan.{Plan}
 use Rattle.plan_model.specs.Plans.{dev_plan, no_dev, no_pair, pair_plan}
-use Rattle.ledger_model.specs.Log.{Answered, counters_in}
+use Rattle.ledger_model.specs.Log.{Answered, counters_in, lane_of_device}
 use Rattle.cluster_core.specs.Cluster.{declared_part}
-use Rattle.fabric_core.specs.LogClauses.{lane_of_device}
 use Rattle.report_text.specs.Report.{count_line, count_lines}
 use Rattle.report_text.specs.declared.whole.LaneCount.{LaneCount}
 use Rattle.replay_command.specs.ReplaySteps.{HasQueues, counts_some, filled, lanes_from}

@@ -9,8 +9,7 @@ use Rattle.step_kinds.specs.declared.names.Side.TheVariants.{A, B}
 use Rattle.plan_model.specs.DeclaredPlans.{IsQueueOf}
 use Rattle.traffic_plan.specs.Load.{load_of}
 use Rattle.cluster_core.specs.Cluster.{declared_part}
-use Rattle.ledger_model.specs.Log.{Answered, accepted, counters_in, delivered}
-use Rattle.fabric_core.specs.LogClauses.{lane_of_device}
+use Rattle.ledger_model.specs.Log.{Answered, accepted, counters_in, delivered, lane_of_device}
 use Rattle.step_kinds.specs.declared.plan.Line.{Line}
 use Rattle.report_text.specs.Report.{AnsweredStep, answer_line, device_lines, end_line, ending}
 use Rattle.report_text.specs.declared.whole.LaneCount.{LaneCount}

@@ -1,7 +1,6 @@
 use Rattle.std.proofs.Common.{[], ◌∷◌, ◌++◌, List, map, take, ap, ◌∙◌, arith}
 use Rattle.step_kinds.specs.declared.plan.Counters.{Counters}
-use Rattle.ledger_model.specs.Log.{counters_in}
-use Rattle.fabric_core.specs.LogClauses.{lane_of_device}
+use Rattle.ledger_model.specs.Log.{counters_in, lane_of_device}
 use Rattle.script_plan.specs.Scripts.{plan_in}
 use Rattle.replay_command.specs.Replays.{log_of_plan, steps_of}
 use Rattle.replay_command.proofs.Counting.{devices_more}

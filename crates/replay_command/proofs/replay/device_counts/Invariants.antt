@@ -1,6 +1,5 @@
 use Rattle.std.proofs.Common.{◌≡◌, map, take}
-use Rattle.ledger_model.specs.Log.{counters_in}
-use Rattle.fabric_core.specs.LogClauses.{lane_of_device}
+use Rattle.ledger_model.specs.Log.{counters_in, lane_of_device}
 use Rattle.script_plan.specs.Scripts.{plan_in}
 use Rattle.replay_command.specs.Replays.{log_of_plan}
 use Rattle.replay_command.proofs.replay.device_counts.Given as goal
