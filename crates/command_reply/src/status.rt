@@ -16,7 +16,7 @@ pub enum Status {
     SourceFailed,
     /// The sink failed: 5.
     SinkFailed,
-    /// Want of memory: 6.
+    /// Out of memory: 6.
     OutOfMemory,
     /// The input has more bytes than a script may have: 7.
     TooLong,

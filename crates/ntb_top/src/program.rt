@@ -35,7 +35,7 @@ use std::thread::Threads;
 /// | 3 | a line of the script has a fault | `refused line L CAUSE`; of `reads`, whose cause is always `badline`; of `check` with the word and the range |
 /// | 4 | the source failed | nothing |
 /// | 5 | the sink failed | a part from the front of the text |
-/// | 6 | want of memory | nothing |
+/// | 6 | out of memory | nothing |
 /// | 7 | the input has more than 16,777,216 bytes | `too long` |
 ///
 /// The order is words, reading, parsing, work, writing: the text is whole before its first byte is written.
