@@ -94,7 +94,7 @@ impl LoadFrames {
 
     /// Puts the steps of the next frame in place of those in `steps`; the number of their line is that of the frame, from
     /// 1. A load has at most 30,000 frames. The only error is running out of memory: then `steps` is empty, and the
-    ///   same frame is still the next one.
+    /// same frame is still the next one.
     pub fn put_next(&mut self, alloc: Global, steps: &mut StepList) -> Result<(), AllocError>
         requires { self.old.given < most_load_frames }
         ensures steps { OnOk result (steps.new ≡ lines_of_frame self.old.seed self.old.given) }
