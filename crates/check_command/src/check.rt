@@ -85,7 +85,7 @@ fn frames_in(traffic: &[Traffic]) -> usize
         .count()
 }
 
-// Adds a count behind a word.
+// Adds a count after a word.
 fn push_count(text: &mut Vec<u8>, word: &str, count: usize) -> Result<(), AllocError>
     ensures { OnOk result (text.new.items ≡ text.old.items ++ count_text word.now count) }
 {
@@ -111,7 +111,7 @@ fn place_of(fault: LineFault) -> ArrayString<MOST_PLACE_BYTES>
     text
 }
 
-// Adds a number behind a space, where there is room for the longest.
+// Adds a number after a space, where there is room for the longest.
 fn push_number(text: &mut ArrayString<MOST_PLACE_BYTES>, number: u32)
     requires { length text.old.bytes + 11 ≤ 64 }
     ensures text { text.new.bytes ≡ text.old.bytes ++ 32 ∷ decimal number }

@@ -30,7 +30,7 @@ pub(crate) struct LaneWork {
 impl LaneWork {
     ghost use Rattle.cluster_run.specs.LaneKeys.{LaneKey};
 
-    /// A lane in its first session. The only error is want of memory.
+    /// A lane in its first session. The only error is running out of memory.
     pub(crate) fn new(
         alloc: Global,
         name: LaneName,
@@ -99,7 +99,7 @@ impl LaneWork {
     }
 
     /// Where the session was cut and is not the last, ends it and begins the next one, which has the frames to send that
-    /// were not accepted. The only error is want of memory.
+    /// were not accepted. The only error is running out of memory.
     pub(crate) fn renewed(self, alloc: Global) -> Result<LaneWork, AllocError>
         ensures { IfOk result (λ work. work.key ≡ self.key) }
     {
@@ -129,7 +129,7 @@ impl LaneWork {
         })
     }
 
-    /// Ends a lane that is over: its record, and the proofs of its sessions. The only error is want of memory.
+    /// Ends a lane that is over: its record, and the proofs of its sessions. The only error is running out of memory.
     pub(crate) fn ended(self, alloc: Global) -> Result<(LaneRun, Vec<LaneProof>), AllocError>
         requires { self.over ≡ true }
         ensures { IfOk result (λ end. ComesTo self.key (lane_shown end.0) end.1.items) }

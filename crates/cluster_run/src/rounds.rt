@@ -89,7 +89,7 @@ fn renewed(alloc: Global, works: Vec<LaneWork>) -> Result<Vec<LaneWork>, AllocEr
     Ok(next)
 }
 
-/// Rounds of these lanes, until all are over. What their work comes to stays. The only error is want of memory.
+/// Rounds of these lanes, until all are over. What their work comes to stays. The only error is running out of memory.
 pub(crate) fn finished<R: Threads + Wait + Sync, G: Gate>(
     rt: &R,
     alloc: Global,

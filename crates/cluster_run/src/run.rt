@@ -31,7 +31,7 @@ use table_lane::LaneProof;
 ///
 /// # Errors
 ///
-/// [`AllocError`] from want of memory alone.
+/// [`AllocError`] only when out of memory.
 pub fn run_plan<R: Threads + Wait + Sync, G: Gate>(
     rt: &R,
     alloc: Global,

@@ -58,7 +58,7 @@ fn trimmed(alloc: Global, mut list: FrameList) -> Result<FrameList, AllocError>
 
 impl Session {
     /// A session of the lane with this number, in a ring of so many entries, that has these frames to send: each has a
-    /// byte. The only error is want of memory.
+    /// byte. The only error is running out of memory.
     pub(crate) fn new(
         alloc: Global,
         number: u32,
@@ -157,7 +157,7 @@ impl Session {
         self.cutting.is_cut()
     }
 
-    /// Ends the session. The only error is want of memory.
+    /// Ends the session. The only error is running out of memory.
     pub(crate) fn ended(self, alloc: Global) -> Result<SessionEnd, AllocError>
         ensures { IfOk result (λ end. EndsWith self end.run end.proof end.rest) }
     {

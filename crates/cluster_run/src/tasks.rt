@@ -69,7 +69,7 @@ impl LaneTask {
         }
     }
 
-    /// Opens the lane's ring for its first session. The only error is want of memory.
+    /// Opens the lane's ring for its first session. The only error is running out of memory.
     pub(crate) fn opened(self, alloc: Global) -> Result<LaneWork, AllocError>
         ensures { IfOk result (λ work. work.key ≡ self) }
     {

@@ -121,7 +121,7 @@ pub struct Receiving {
 
 impl Receiving {
     /// The worker with this number, before its first turn in a session, with room for so many frames. Its end has received
-    /// nothing. The only error is want of memory.
+    /// nothing. The only error is running out of memory.
     pub fn new(
         alloc: Global,
         end: RecvEnd,

@@ -1,6 +1,6 @@
 mod EndOfSession
-mod Giving
+mod NextFrame
 mod KeptItems
 mod StreamEnds
 mod StreamLists
-mod Waiting
+mod StreamsByPlan

@@ -15,7 +15,7 @@ const MOST_OPEN: u32 = 1_000_000;
 const MOST_ENTRIES: u32 = 131_070;
 
 /// Opens the stream `first` and those of the lanes that wait which may be open together with it, in order, where so
-/// many lanes have traffic. The only error is want of memory.
+/// many lanes have traffic. The only error is running out of memory.
 pub(crate) fn next_group(
     alloc: Global,
     lanes: u32,

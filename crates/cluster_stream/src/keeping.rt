@@ -15,7 +15,8 @@ const MOST_EMPTY: u32 = 1_024;
 
 const EMPTY_TO_YIELD: u32 = 16;
 
-// One turn: where a frame has landed, the stream takes it, and true is answered. The only error is want of memory.
+// One turn: where a frame has landed, the stream takes it, and true is answered. The only error is running out of
+// memory.
 fn keep_next(end: &mut RecvEnd, receiver: &mut StreamReceiver) -> Result<bool, AllocError>
     requires { length receiver.old.items + 1 < 2 ^ 32 }
     ensures taken { OnOk result ((start : Receiver) → receiver.old ≡ fold taken start end.old.part.got → receiver.new ≡ fold taken start end.new.part.got) }
@@ -44,7 +45,7 @@ fn empty_after(empty: u32, came: bool) -> u32 {
 }
 
 /// Makes at least 1 and at most so many turns, and answers how many. Before each it passes the gate with the turn's
-/// number, counted from `first`. It ends early where nothing came for a while. The only error is want of memory.
+/// number, counted from `first`. It ends early where nothing came for a while. The only error is running out of memory.
 pub(crate) fn keep_pass<G: Gate>(
     end: &mut RecvEnd,
     receiver: &mut StreamReceiver,
@@ -70,7 +71,8 @@ pub(crate) fn keep_pass<G: Gate>(
     Ok(made)
 }
 
-/// Sends how many items the stream keeps, and answers whether the lane took it. The only error is want of memory.
+/// Sends how many items the stream keeps, and answers whether the lane took it. The only error is running out of
+/// memory.
 pub(crate) fn acknowledge(receiver: &StreamReceiver, end: &mut SendEnd) -> Result<bool, AllocError>
     requires { length end.old.part.sent < 2 ^ 62 }
     ensures sent { IfOk result (λ told. end.new.part.sent ≡ (if told then end.old.part.sent ++ ack_frame receiver.now ∷ [] else end.old.part.sent)) }

@@ -33,7 +33,7 @@ pub(crate) struct StreamWork {
 }
 
 impl StreamWork {
-    /// A stream in its first session, where so many lanes have traffic. The only error is want of memory.
+    /// A stream in its first session, where so many lanes have traffic. The only error is running out of memory.
     pub(crate) fn new(alloc: Global, lanes: u32, task: LaneTask) -> Result<StreamWork, AllocError>
         requires { lanes ≤ 65535 }
         ensures { IfOk result (λ work. work.key ≡ task) }
@@ -116,7 +116,7 @@ impl StreamWork {
     }
 
     /// Where the session was cut and is not the last, ends it and begins the next one, from the item that was
-    /// acknowledged. The only error is want of memory.
+    /// acknowledged. The only error is running out of memory.
     pub(crate) fn renewed(self, alloc: Global) -> Result<StreamWork, AllocError>
         ensures { IfOk result (λ work. work.key ≡ self.key) }
     {
@@ -149,7 +149,7 @@ impl StreamWork {
         })
     }
 
-    /// Ends a stream that is over: its record, and the proofs of its sessions. The only error is want of memory.
+    /// Ends a stream that is over: its record, and the proofs of its sessions. The only error is running out of memory.
     pub(crate) fn ended(self) -> Result<(StreamRun, Vec<LaneProof>), AllocError>
         requires { self.over ≡ true }
         ensures { IfOk result (λ end. ComesTo self.key (stream_shown end.0) end.1.items) }

@@ -5,6 +5,6 @@
 pub(crate) struct LaneNumbers {
     /// Of the lane of items: the stream's place among the lanes with traffic.
     pub(crate) items: u32,
-    /// Of the lane of acknowledgements: behind all lanes of items.
+    /// Of the lane of acknowledgements: after all lanes of items.
     pub(crate) acks: u32,
 }

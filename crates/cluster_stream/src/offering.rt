@@ -35,7 +35,8 @@ pub(crate) struct Pass {
 /// After so many refused turns in a row a pass ends. After each it lets other threads run.
 const MOST_REFUSED: u32 = 64;
 
-// One turn: the stream's next frame is sent, or given back where the lane refuses it. The only error is want of memory.
+// One turn: the stream's next frame is sent, or given back where the lane refuses it. The only error is running out of
+// memory.
 fn offer(sender: &mut StreamSender, end: &mut SendEnd) -> Result<Turn, AllocError>
     requires { HasOffered sender.old end.old.part.sent }
     ensures offered { HasOffered sender.new end.new.part.sent }
@@ -75,7 +76,7 @@ fn refused_after(refused: u32, turn: Turn) -> u32 {
 
 /// Makes at least 1 and at most so many turns. Before each it passes the gate with the turn's number, counted from
 /// `first`. It ends early where nothing is left to send, where the link was cut, or where the ring had no room for a
-/// while. The only error is want of memory.
+/// while. The only error is running out of memory.
 pub(crate) fn offer_pass<G: Gate>(
     sender: &mut StreamSender,
     end: &mut SendEnd,

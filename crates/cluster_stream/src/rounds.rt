@@ -75,7 +75,8 @@ fn are_over(works: &[StreamWork]) -> bool
     works.iter().all(|work| work.is_over())
 }
 
-// Begins the next session of each stream whose session was cut. The only error is want of memory, also in a session.
+// Begins the next session of each stream whose session was cut. The only error is running out of memory, also in a
+// session.
 fn renewed(alloc: Global, works: Vec<StreamWork>) -> Result<Vec<StreamWork>, AllocError>
     ensures { IfOk result (λ next. keys_of next.items ≡ keys_of works.items) }
 {
@@ -92,7 +93,8 @@ fn renewed(alloc: Global, works: Vec<StreamWork>) -> Result<Vec<StreamWork>, All
     Ok(next)
 }
 
-/// Rounds of these streams, until all are over. What their work comes to stays. The only error is want of memory.
+/// Rounds of these streams, until all are over. What their work comes to stays. The only error is running out of
+/// memory.
 pub(crate) fn finished<R: Threads + Wait + Sync, G: Gate>(
     rt: &R,
     alloc: Global,

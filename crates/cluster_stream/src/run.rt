@@ -34,7 +34,7 @@ use table_lane::LaneProof;
 ///
 /// # Errors
 ///
-/// [`AllocError`] from want of memory alone.
+/// [`AllocError`] only when out of memory.
 pub fn run_stream<R: Threads + Wait + Sync, G: Gate>(
     rt: &R,
     alloc: Global,

@@ -162,7 +162,7 @@ impl Session {
         self.source.is_wanting || self.sink.is_wanting
     }
 
-    /// Ends the session. The only error is want of memory, which a worker may have met before.
+    /// Ends the session. The only error is running out of memory, which a worker may have met before.
     pub(crate) fn ended(self) -> Result<SessionEnd, AllocError>
         ensures { IfOk result (λ end. EndsWith self end) }
     {

@@ -93,7 +93,7 @@ impl Sink {
         self.acknowledge(gate);
     }
 
-    // The turns that keep. After want of memory there are none.
+    // The turns that keep. After running out of memory there are none.
     fn keep<G: Gate>(&mut self, gate: &G, turns: u32)
         ensures { self.new.key ≡ self.old.key }
     {
@@ -144,7 +144,7 @@ impl Sink {
 }
 
 impl Sink {
-    /// What it leaves at the end of a session. The only error is want of memory, where it met that before.
+    /// What it leaves at the end of a session. The only error is running out of memory, where it met that before.
     pub(crate) fn ended(self) -> Result<SinkEnd, AllocError>
         ensures { IfOk result (λ end. LeavesSink self end) }
     {

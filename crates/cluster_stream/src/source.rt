@@ -47,7 +47,7 @@ const ACK_TURNS: u32 = 4;
 
 impl Source {
     /// The source of a stream in a new session, by the numbers of its two lanes. Nothing was sent or received. The only
-    /// error is want of memory.
+    /// error is running out of memory.
     pub(crate) fn new(
         alloc: Global,
         sender: StreamSender,
@@ -107,7 +107,7 @@ impl Source {
 }
 
 impl Source {
-    /// What it leaves at the end of a session. The only error is want of memory, where it met that before.
+    /// What it leaves at the end of a session. The only error is running out of memory, where it met that before.
     pub(crate) fn ended(self) -> Result<SourceEnd, AllocError>
         ensures { IfOk result (λ end. LeavesSource self end) }
     {

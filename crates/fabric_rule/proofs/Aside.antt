@@ -29,7 +29,7 @@ use Rattle.fabric_rule.specs.Parts.{PairState, QueuePart}
 use Rattle.fabric_rule.specs.StandsFor.{sent_of, writes_labelled}
 use Rattle.fabric_rule.proofs.Flights.{labels-writes, length-writes}
 use Rattle.fabric_rule.proofs.Follows.{AllSides, Follows, state_for}
-use Rattle.fabric_rule.proofs.Posting.{posts_one, posts_with}
+use Rattle.fabric_rule.proofs.PostSteps.{posts_one, posts_with}
 use Rattle.fabric_rule.proofs.RingPlaces.{in_window}
 use Rattle.fabric_rule.proofs.StoredBytes.{read_inside}
 

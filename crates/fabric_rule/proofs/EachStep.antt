@@ -28,16 +28,16 @@ use Rattle.fabric_rule.specs.Laws.{EachStepStands}
 use Rattle.fabric_rule.specs.StandsFor.{PairStands}
 use Rattle.fabric_rule.specs.Steps.{move_of}
 use Rattle.fabric_rule.proofs.Aside.{poke_follows, show_mem_follows, show_queue_follows, spad_follows}
-use Rattle.fabric_rule.proofs.Beginning.{begin_follows, qpdown_follows, xbegin_follows}
+use Rattle.fabric_rule.proofs.BeginSteps.{begin_follows, qpdown_follows, xbegin_follows}
 use Rattle.fabric_rule.proofs.BothReadings.{bytes_say_the_ledger, sites_are_the_ledger}
-use Rattle.fabric_rule.proofs.Copying.{copy_follows}
+use Rattle.fabric_rule.proofs.CopySteps.{copy_follows}
 use Rattle.fabric_rule.proofs.Follows.{Follows, follows_if, made_by_bytes, pages_in, spare_in}
 use Rattle.fabric_rule.proofs.GivingBack.{ack_follows, clear_follows}
 use Rattle.fabric_rule.proofs.GoingOn.{wake_follows}
 use Rattle.fabric_rule.proofs.Handshake.{check_follows, join_follows, offer_follows, ready_follows}
-use Rattle.fabric_rule.proofs.Landing.{land_follows}
+use Rattle.fabric_rule.proofs.LandSteps.{land_follows}
 use Rattle.fabric_rule.proofs.Links.{break_follows, clean_follows, drop_follows, enable_follows, train_follows}
-use Rattle.fabric_rule.proofs.Looking.{look_follows}
+use Rattle.fabric_rule.proofs.LookSteps.{look_follows}
 use Rattle.fabric_rule.proofs.OneQueue.{Standing, kept}
 use Rattle.fabric_rule.proofs.PostingNext.{post_follows}
 use Rattle.fabric_rule.proofs.Registers.{irq_follows, mask_follows, show_pad_follows, unmask_follows}

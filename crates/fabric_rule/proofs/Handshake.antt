@@ -47,7 +47,7 @@ use Rattle.byte_model.specs.Stores.{bytes_in}
 use Rattle.bridge_pair.specs.Ends.{bytes_after}
 use Rattle.fabric_rule.proofs.Follows.{AllSides, Follows, by_side, state_for}
 use Rattle.fabric_rule.proofs.Links.{not_down_up}
-use Rattle.fabric_rule.proofs.Posting.{posts_one}
+use Rattle.fabric_rule.proofs.PostSteps.{posts_one}
 use Rattle.fabric_rule.proofs.RingPlaces.{rings_inside}
 use Rattle.fabric_rule.proofs.StoredBytes.{all_stored}
 

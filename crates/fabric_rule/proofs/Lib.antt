@@ -1,9 +1,9 @@
 pub mod Arrivals
 pub mod Aside
-pub mod Beginning
+pub mod BeginSteps
 pub mod BothReadings
 pub mod Changes
-pub mod Copying
+pub mod CopySteps
 pub mod Counts
 pub mod EachStep
 pub mod Facade
@@ -14,12 +14,12 @@ pub mod Gates
 pub mod GivingBack
 pub mod GoingOn
 pub mod Handshake
-pub mod Landing
+pub mod LandSteps
 pub mod Links
-pub mod Looking
+pub mod LookSteps
 pub mod NewEntries
 pub mod OneQueue
-pub mod Posting
+pub mod PostSteps
 pub mod PostingNext
 pub mod Queues
 pub mod Registers

@@ -32,7 +32,7 @@ use Rattle.fabric_rule.specs.InPlace.{HaveBytes, IsBegun, IsWriteOf, LiesIn}
 use Rattle.fabric_rule.specs.StandsFor.{PairStands, write_of, flying_labelled, raw_bytes, sent_of}
 use Rattle.fabric_rule.proofs.Follows.{two_same}
 use Rattle.fabric_rule.proofs.OneQueue.{stands_now, Standing, kept}
-use Rattle.fabric_rule.proofs.Posting.{posts_one}
+use Rattle.fabric_rule.proofs.PostSteps.{posts_one}
 use Rattle.fabric_rule.proofs.RingPlaces.{RingLies, fields_lie, in_window, lies_of}
 use Rattle.fabric_rule.proofs.WhatIsRead.{peer_fits}
 

@@ -33,8 +33,8 @@ const WINDOWS_PAD: u32 = 3;
 ///
 /// # Errors
 ///
-/// [`AllocError`] from want of memory alone, where the side was to come up. Some pages of those that it writes may then be
-/// promised, and nothing else changes. A header that is zero already needs no page.
+/// [`AllocError`] only when out of memory, where the side was to come up. Some pages of those that it writes may then
+/// be promised, and nothing else changes. A header that is zero already needs no page.
 pub fn check(pair: &mut Pair, side: Side) -> Result<CheckAnswer, AllocError>
     requires { answer_by pair.old side ≡ Up → WindowsFit pair.old.plan side }
     ensures answer { IfOk result (λ answer. answer ≡ answer_by pair.old side) }

@@ -23,7 +23,7 @@ use step_kinds::{Side, SidePlan};
 ///
 /// # Errors
 ///
-/// [`AllocError`] from want of memory alone, where a scratchpad was to be posted, and then nothing changes.
+/// [`AllocError`] only when out of memory, where a scratchpad was to be posted, and then nothing changes.
 pub fn offer(pair: &mut Pair, side: Side) -> Result<OfferAnswer, AllocError>
     ensures answer { IfOk result (λ answer. answer ≡ offer_answer pair.old side) }
     ensures after { OnOk result (pair.new ≡ after_offer pair.old side) }

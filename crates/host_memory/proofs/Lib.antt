@@ -1,6 +1,6 @@
 pub mod Blank
 pub mod MemoryPages
 pub mod Pieces
-pub mod Promised
+pub mod PromisedPages
 pub mod Table
 pub mod Writes

@@ -151,7 +151,7 @@ impl Memory {
     ///
     /// # Errors
     ///
-    /// [`AllocError`] from want of memory alone. Some of the pages may then be promised, and no others.
+    /// [`AllocError`] only when out of memory. Some of the pages may then be promised, and no others.
     #[inline]
     pub fn promise(&mut self, at: u64, len: u64) -> Result<(), AllocError>
         requires { at + len ≤ length self.old.bytes }

@@ -56,7 +56,7 @@ impl Pages {
         }
     }
 
-    /// Puts a page of zeros there, in place of any that was. Want of memory leaves all pages as they were.
+    /// Puts a page of zeros there, in place of any that was. Running out of memory leaves all pages as they were.
     pub fn put_zeros(&mut self, number: u64) -> Result<(), AllocError>
         ensures ok { OnOk result (IsSomeAnd (page_at self.new.groups.items number) (λ page. page.value ≡ replicate 4096 0)) }
         ensures others { (other : ℕ) → other ≢ number → page_at self.new.groups.items other ≡ page_at self.old.groups.items other }

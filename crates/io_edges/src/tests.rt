@@ -56,7 +56,7 @@ fn a_read_fails_in_mid_stream(rt: HostRuntime) -> Result<(), Fail> {
     Ok(())
 }
 
-// The read that fails is the one behind those that are needed, so it is still to come.
+// The read that fails is the one after those that are needed, so it is still to come.
 #[test]
 fn no_read_is_made_in_vain(rt: HostRuntime) -> Result<(), Fail> {
     let alloc = rt.alloc();

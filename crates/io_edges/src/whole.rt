@@ -56,15 +56,15 @@ impl From<Failed> for WriteFault {
 const PIECE: usize = 65_536;
 
 /// Reads all the bytes of a source, which may be `limit` bytes at most; `limit` is below 2^32 - 1. It takes `limit +
-/// 1` bytes at most. Each read but the last one gives a byte: nothing is read behind the end, behind a fault or
-/// behind a byte too many.
+/// 1` bytes at most. Each read but the last one gives a byte: nothing is read after the end, after a fault or
+/// after a byte too many.
 ///
 /// `Ok` has all the bytes, and the source is at its end.
 ///
 /// # Errors
 ///
 /// [`ReadError::TooLong`] exactly where more than `limit` bytes were taken, which are then `limit + 1`.
-/// [`ReadError::ReadFault`] only where a read failed, and [`ReadError::OutOfMemory`] from want of memory alone: at most
+/// [`ReadError::ReadFault`] only where a read failed, and [`ReadError::OutOfMemory`] only when out of memory: at most
 /// `limit` bytes from the front of the source are taken then. In every case but `ReadFault` the source's count of faults
 /// stays.
 pub fn read_all<S: Source>(
@@ -111,7 +111,7 @@ fn zeros(alloc: Global, len: usize) -> Result<Vec<u8>, AllocError>
     vec![in alloc; 0; len]
 }
 
-/// Reads once through the buffer, and puts what came behind the bytes. Returns how many came. Room for them is made
+/// Reads once through the buffer, and puts what came after the bytes. Returns how many came. Room for them is made
 /// before the read, so that an error takes nothing from the source.
 fn read_piece<S: Source>(
     source: &mut S,

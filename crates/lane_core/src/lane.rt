@@ -61,7 +61,7 @@ impl Lane {
     ///
     /// # Errors
     ///
-    /// [`AllocError`] from want of memory alone: the ring takes `entries` times `max` bytes, and some more.
+    /// [`AllocError`] only when out of memory: the ring takes `entries` times `max` bytes, and some more.
     pub fn new(
         alloc: Global,
         queue: u32,
@@ -112,7 +112,7 @@ impl Lane {
     ///
     /// # Errors
     ///
-    /// [`AllocError`] from want of memory alone, where the frame was to be begun, and then nothing changes. Room for the
+    /// [`AllocError`] only when out of memory, where the frame was to be begun, and then nothing changes. Room for the
     /// frame's posts is taken here.
     pub fn begin(&mut self, frame: Frame) -> Result<Begun, AllocError>
         requires some_bytes { 0 < length frame }
@@ -143,7 +143,7 @@ impl Lane {
     ///
     /// # Errors
     ///
-    /// [`AllocError`] from want of memory alone, where the entry was to be begun, and then nothing changes.
+    /// [`AllocError`] only when out of memory, where the entry was to be begun, and then nothing changes.
     pub fn down(&mut self) -> Result<Begun, AllocError>
         requires open { IsOpen self.old.lane }
         requires few { length self.old.lane.sent < 2 ^ 46 }
@@ -257,7 +257,7 @@ impl Lane {
     ///
     /// # Errors
     ///
-    /// [`AllocError`] from want of memory alone, where a frame was found, and then nothing changes. Room for the frame's
+    /// [`AllocError`] only when out of memory, where a frame was found, and then nothing changes. Room for the frame's
     /// copies and its index write is taken here.
     pub fn look(&mut self) -> Result<LaneLook, AllocError>
         ensures answer { IfOk result (λ look. look ≡ look_answer self.old.lane) }

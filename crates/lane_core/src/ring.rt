@@ -76,7 +76,7 @@ pub fn put_flags(ring: &mut [Slot], entries: u32, number: u64, flags: u32)
     place.flags = flags;
 }
 
-/// Copies part `part` of the frame that stands in a slot behind what was copied before, in room that was reserved, and
+/// Copies part `part` of the frame that stands in a slot after what was copied before, in room that was reserved, and
 /// answers whether more of the frame is left.
 pub fn copy_chunk(copied: &mut Vec<u8>, place: &Slot, part: u32) -> bool
     requires begins { chunk_size * part ≤ place.now.len }

@@ -68,7 +68,7 @@ pub fn post<W: Ordered + Drop>(flight: &mut Queue<W>, up: bool, write: W)
     }
 }
 
-/// Puts the writes of an entry behind those that are left to post, in room that was reserved.
+/// Puts the writes of an entry after those that are left to post, in room that was reserved.
 pub fn fill_todo(todo: &mut VecDeque<Write>, number: u64, entry: &Entry)
     requires { deque_len todo.old + chunks_in (length (bytes_of (entry_seen entry.now))) + 4 ≤ deque_capacity todo.old }
     ensures { todo.new.items ≡ todo.old.items ++ writes_of number (entry_seen entry.now) }

@@ -7,7 +7,7 @@ use Rattle.lane_laws.specs.Laws.{LookSees, CopySees, FreshHolds, BeginKeeps, Pos
 use Rattle.lane_laws.proofs.Numbers as numbers
 use Rattle.lane_laws.proofs.Receiver as receiver
 use Rattle.lane_laws.proofs.Sender as sender
-use Rattle.lane_laws.proofs.Landing as landing
+use Rattle.lane_laws.proofs.LandedWrites as landing
 
 pub fresh_holds : FreshHolds
 fresh_holds lane fresh = ([], [], sender.fresh_holds lane fresh)

@@ -1,6 +1,6 @@
 pub mod Chunks
 pub mod Facade
-pub mod Landing
+pub mod LandedWrites
 pub mod LaneLaws
 pub mod NewLanes
 pub mod Numbers

@@ -107,7 +107,7 @@ pub fn empty_where_nothing_landed()
 {}
 
 /// A look is answered `peerdown` exactly where the queue is joined on the side and isn't closed, the side holds no entry
-/// of it, and of the flags that landed in the session those behind the entries that the side cleared are a link-down
+/// of it, and of the flags that landed in the session those after the entries that the side cleared are a link-down
 /// entry's. Premise: the pair is ordinary.
 pub fn peer_down_where_down_landed()
     ensures { PeerDownWhereDownLanded }
@@ -315,7 +315,7 @@ pub fn in_flight_is_posted()
 
 /// What may land among all that a side has in flight may land in the part of its lane, by the kinds alone: the writes of
 /// a lane in one direction have one traffic class. A write of the lane that the side sends on a queue, and so an index
-/// write of the lane that it receives there, stands in the part behind those of the lane that stand before it in flight,
+/// write of the lane that it receives there, stands in the part after those of the lane that stand before it in flight,
 /// may land there as if the lane were alone, and leaves the rest of the part. Premise: the write at that place may land
 /// among all that is in flight.
 pub fn lane_part_lands()

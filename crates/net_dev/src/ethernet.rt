@@ -36,7 +36,7 @@ pub struct Short {
 ///
 /// # Errors
 ///
-/// [`AllocError`] from want of memory alone.
+/// [`AllocError`] only when out of memory.
 pub fn encode(
     alloc: Global,
     dst: [u8; 6],

@@ -1,4 +1,4 @@
-pub mod Completing
+pub mod CompleteRuns
 pub mod Digits
-pub mod Ending
-pub mod Replying
+pub mod Endings
+pub mod RunOutcomes

@@ -42,7 +42,7 @@ pub fn run_arguments<R: Threads + Wait + Sync, S: Source, K: Sink, G: Gate>(
     }
 }
 
-// The words of a process's arguments. The only error is want of memory.
+// The words of a process's arguments. The only error is running out of memory.
 fn words_after_name(alloc: Global, arguments: io::Result<Args>) -> Result<Vec<String>, AllocError>
     ensures words { IfOk result (λ words. map string_bytes words.items ≡ words_of arguments) }
     ensures wanting { AreWanting arguments → IsErr result }

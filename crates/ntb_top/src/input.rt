@@ -21,7 +21,7 @@ pub enum Input {
 pub enum Stop {
     /// The source failed.
     SourceFailed,
-    /// Want of memory.
+    /// Out of memory.
     OutOfMemory,
 }
 

@@ -56,7 +56,7 @@ fn reply_to<S: Source>(alloc: Global, words: &[String], source: &mut S) -> Resul
     }
 }
 
-// The reply of a command to the bytes that it read. The only error is want of memory.
+// The reply of a command to the bytes that it read. The only error is running out of memory.
 fn reply_of(alloc: Global, command: Command, bytes: &[u8]) -> Result<Reply, AllocError>
     requires plain { IsPlain (Some command) }
     requires range { IsInRange command }

@@ -59,7 +59,7 @@ impl<W: Ordered> BlockQueue<W> {
 
     /// Promises room for `more` writes, on top of those that are promised already.
     ///
-    /// An `Err` comes only from want of memory, never to a promise of 0 writes, and leaves the queue as it was. It comes
+    /// An `Err` comes only when out of memory, never to a promise of 0 writes, and leaves the queue as it was. It comes
     /// also where the blocks can't take so many: they take 67,109,120 writes at most, and fewer where landings out of
     /// order left most of each block empty. Where they can, and the machine gives the memory, it never comes.
     #[inline]
@@ -86,7 +86,7 @@ impl<W: Ordered> BlockQueue<W> {
         self.spare -= count;
     }
 
-    /// Posts a write behind all others, into room that was promised for at least one more. It takes no memory.
+    /// Posts a write after all others, into room that was promised for at least one more. It takes no memory.
     #[inline]
     pub fn push(&mut self, write: W)
         requires { 0 < self.old.spare }
@@ -156,7 +156,7 @@ impl<W: Ordered> Model for BlockQueue<W> {
     ghost invariant = { λ queue. (queue.spare ≤ queue.blocks.spare) × (length queue.blocks.writes + queue.spare < 2 ^ 64) };
 }
 
-// Makes room for so many writes, or answers the error that it answers for want of memory.
+// Makes room for so many writes, or answers the error that it answers when out of memory.
 #[inline(never)]
 fn make_room<W: Ordered>(blocks: &mut Blocks<W>, count: usize) -> Result<(), AllocError>
     ensures writes { blocks.new.writes ≡ blocks.old.writes }

@@ -1,4 +1,4 @@
-//! The blocks of a queue: one at its front, and levels of them behind it.
+//! The blocks of a queue: one at its front, and levels of them after it.
 
 ghost use Rattle.std.specs.Prelude.{◌≡◌, [], ◌∷◌, ◌++◌, ◌+◌, ◌<◌, ◌≤◌, ◌^◌, length, take, remove, slice_get, min, IsTrue, ◌↔◌, OnOk, IfNone, IfSome, OnSome, is_none, option_copied};
 ghost use Rattle.std.specs.Option.{ForSome};
@@ -65,7 +65,7 @@ impl<W: Ordered> Blocks<W> {
         self.rest.get(place - front)
     }
 
-    /// Puts a write behind all others, into the room that there is.
+    /// Puts a write after all others, into the room that there is.
     #[inline]
     pub fn push(&mut self, write: W)
         requires room { 0 < self.old.spare }

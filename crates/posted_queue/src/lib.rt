@@ -109,7 +109,7 @@ impl<W: Ordered> Queue<W> {
 
     /// Promises room for `more` writes, on top of those that are promised already.
     ///
-    /// An `Err` comes only from want of memory, never to a promise of 0 writes, and leaves the queue as it was. It comes
+    /// An `Err` comes only when out of memory, never to a promise of 0 writes, and leaves the queue as it was. It comes
     /// also where the queue's blocks can't take so many: they take 67,109,120 writes at most, and fewer where landings
     /// out of order left most of each block empty. Where they can, and the machine gives the memory, it never comes.
     #[inline]
@@ -132,7 +132,7 @@ impl<W: Ordered> Queue<W> {
         self.tickets.give_back(count);
     }
 
-    /// Posts a write behind all others, into room that was promised for at least one more. It takes no memory.
+    /// Posts a write after all others, into room that was promised for at least one more. It takes no memory.
     #[inline]
     pub fn push(&mut self, write: W)
         requires { 0 < self.old.spare }

@@ -1,4 +1,4 @@
-//! What a queue is made of: writes that stand in a row, and room behind them for more.
+//! What a queue is made of: writes that stand in a row, and room after them for more.
 
 ghost use Rattle.std.specs.Prelude.{◌≡◌, ℕ, [], ◌∷◌, ◌++◌, ◌+◌, ◌<◌, ◌≤◌, ◌^◌, length, take, remove, slice_get, min, OnOk, IfNone, IfSome, OnSome, is_none, option_copied};
 ghost use Rattle.std.specs.Option.{ForSome};
@@ -7,7 +7,7 @@ ghost use Rattle.posted_queue.specs.Rows.{PartState, is_held_back};
 use crate::Ordered;
 use std::alloc::{AllocError, Global};
 
-/// Writes that stand in a row, and the room behind them for more.
+/// Writes that stand in a row, and the room after them for more.
 pub trait Part<W: Ordered>: Sized {
     ghost state: { Self → PartState W };
 
@@ -27,7 +27,7 @@ pub trait Part<W: Ordered>: Sized {
     fn get(&self, place: usize) -> Option<&W>
         ensures { option_copied result ≡ slice_get (state self.now).writes place };
 
-    /// Puts a write behind all others, into the room that there is.
+    /// Puts a write after all others, into the room that there is.
     fn push(&mut self, write: W)
         requires room { 0 < (state self.old).spare }
         requires countable { length (state self.old).writes + 1 < 2 ^ 64 }

@@ -68,7 +68,7 @@ impl<W: Ordered, P: Part<W>> Counted<W, P> {
         self.part.get(place)
     }
 
-    /// Puts a write behind all others, into the room that there is.
+    /// Puts a write after all others, into the room that there is.
     #[inline]
     pub fn push(&mut self, write: W)
         requires room { 0 < self.old.spare }

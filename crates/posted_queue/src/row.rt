@@ -1,4 +1,4 @@
-//! A row of counted parts: those in use, and behind them emptied ones that are kept for later.
+//! A row of counted parts: those in use, and after them emptied ones that are kept for later.
 
 ghost use Rattle.std.specs.Prelude.{◌≡◌, ◌+◌, ◌-◌, ◌<◌, ◌≤◌, ◌^◌, ◌⊎◌, suc, true, false, [], ◌∷◌, ◌++◌, length, min, take, drop, remove, slice_get, slice_index_or, IfNone, IfSome, OnSome, MatchOption, is_none, vec_len, vec_capacity, OnOk, IfOk};
 ghost use Rattle.std.specs.Option.{ForSome};
@@ -89,7 +89,7 @@ pub fn room_from<W: Ordered, P: Part<W>>(row: &[Counted<W, P>], from: usize) -> 
     room
 }
 
-/// Puts a write behind those of a part, where the parts behind that have none.
+/// Puts a write after those of a part, where the parts after that have none.
 #[inline]
 pub fn push_at<W: Ordered, P: Part<W>>(row: &mut Vec<Counted<W, P>>, number: usize, write: W)
     requires there { number < length row.old.items }
@@ -151,7 +151,7 @@ pub fn take_from<W: Ordered, P: Part<W>>(
 }
 
 /// Makes room for `more` writes in the parts from this one on, by parts that are added where need be, or for as many
-/// as the row can take there where they are fewer. The only error is want of memory.
+/// as the row can take there where they are fewer. The only error is running out of memory.
 pub fn reserve_from<W: Ordered, P: Part<W>>(
     row: &mut Vec<Counted<W, P>>,
     from: usize,
@@ -208,7 +208,7 @@ fn add_missing_part<W: Ordered, P: Part<W>>(
     Ok(())
 }
 
-/// Moves a part with no write behind all others, and says how much room it has.
+/// Moves a part with no write after all others, and says how much room it has.
 #[inline(never)]
 pub fn move_last<W: Ordered, P: Part<W>>(row: &mut Vec<Counted<W, P>>, number: usize) -> usize
     requires there { number < length row.old.items }

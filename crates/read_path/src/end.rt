@@ -37,8 +37,8 @@ impl End {
         })
     }
 
-    /// Posts a write of 1 to 128 bytes to the address `at` of the peer. The only error is want of memory, and then
-    /// nothing changes.
+    /// Posts a write of 1 to 128 bytes to the address `at` of the peer. The only error is running out of memory, and
+    /// then nothing changes.
     pub fn post(&mut self, at: u32, bytes: &[u8], relaxed: bool) -> Result<(), AllocError>
         requires some { 1 ≤ length bytes.now }
         requires fits { length bytes.now ≤ most_write_bytes }
@@ -98,8 +98,8 @@ impl End {
 }
 
 /// One side asks for 1 to 512 bytes of its peer's memory from the address `at` on, and this is the number of its read. Room
-/// is taken for the request, for its completions and for the bytes. The only error is want of memory, and then nothing
-/// changes.
+/// is taken for the request, for its completions and for the bytes. The only error is running out of memory, and then
+/// nothing changes.
 pub fn ask(
     alloc: Global,
     from: &mut End,

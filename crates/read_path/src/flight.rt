@@ -80,8 +80,8 @@ impl Flight {
         self.items.len()
     }
 
-    /// Promises room for so many more, on top of those that are promised already. The only error is want of memory, and
-    /// then nothing changes.
+    /// Promises room for so many more, on top of those that are promised already. The only error is running out of
+    /// memory, and then nothing changes.
     pub fn promise(&mut self, more: usize) -> Result<(), AllocError>
         ensures ok { OnOk result (self.new ≡ record self.old { spare = self.old.spare + more }) }
         ensures err { OnErr result (self.new ≡ self.old) }

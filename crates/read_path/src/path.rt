@@ -29,7 +29,7 @@ impl Path {
     ///
     /// # Errors
     ///
-    /// [`AllocError`] from want of memory alone.
+    /// [`AllocError`] only when out of memory.
     pub fn new(alloc: Global) -> Result<Path, AllocError>
         ensures { IfOk result (λ path. path ≡ fresh_path) }
     {
@@ -47,7 +47,7 @@ impl Path {
     ///
     /// # Errors
     ///
-    /// [`AllocError`] from want of memory alone, and then nothing changes.
+    /// [`AllocError`] only when out of memory, and then nothing changes.
     pub fn write(
         &mut self,
         side: Side,
@@ -80,7 +80,7 @@ impl Path {
     ///
     /// # Errors
     ///
-    /// [`AllocError`] from want of memory alone, and then nothing changes. It comes also to a side's 2^64th read.
+    /// [`AllocError`] only when out of memory, and then nothing changes. It comes also to a side's 2^64th read.
     pub fn read(&mut self, side: Side, at: u32, len: u32) -> Result<ReadAnswer, AllocError>
         requires some { 1 ≤ len }
         requires few { len ≤ most_read_bytes }
@@ -170,7 +170,7 @@ impl Path {
     ///
     /// # Errors
     ///
-    /// [`AllocError`] from want of memory alone.
+    /// [`AllocError`] only when out of memory.
     pub fn show(&self, side: Side, at: u32, len: u32) -> Result<Frame, AllocError>
         requires { at + len ≤ memory_bytes }
         ensures { IfOk result (λ frame. frame ≡ shown self.now side at len) }

@@ -10,7 +10,7 @@ use std::alloc::{AllocError, Global};
 
 /// The reply of `reads` to a text of at most 16,777,216 bytes: with status 0 a line `LINE ANSWER` for each step, and
 /// `end`; with status 3 `refused line L badline`, for the first bad line. Where the status is 0, each read in the log of
-/// the steps has pushed the posted writes before it. The only error is want of memory.
+/// the steps has pushed the posted writes before it. The only error is running out of memory.
 pub fn reads_reply(alloc: Global, bytes: &[u8]) -> Result<Reply, AllocError>
     requires { length bytes.now ≤ most_script_bytes }
     ensures { IfOk result (IsReadsOf bytes.now) }

@@ -1,8 +1,8 @@
-pub mod Blocked
-pub mod Counting
+pub mod BlockedAnswers
+pub mod LaneCounts
 pub mod PermittedSteps
 pub mod RefusedSteps
-pub mod Replaying
+pub mod StepsMade
 pub mod Reports
 pub mod Texts
 pub mod TrueLogs

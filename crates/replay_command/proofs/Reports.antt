@@ -15,8 +15,8 @@ use Rattle.report_text.specs.Report.{AnsweredStep, answer_line, device_lines, en
 use Rattle.report_text.specs.declared.whole.LaneCount.{LaneCount}
 use Rattle.replay_command.specs.ReplaySteps.{filled}
 use Rattle.replay_command.specs.Replays.{answered_steps, answers_text, device_counts, lane_counts, load_lane, load_text, log_of_plan, replay_text, summary_text}
-use Rattle.replay_command.proofs.Counting.{all_known, lines_of_filled}
-use Rattle.replay_command.proofs.Blocked.{blocked_in}
+use Rattle.replay_command.proofs.LaneCounts.{all_known, lines_of_filled}
+use Rattle.replay_command.proofs.BlockedAnswers.{blocked_in}
 
 report_same : (plan : Plan) (lanes : List LaneCount) (devs : List Counters) → lanes ≡ filled (lane_counts plan (log_of_plan plan)) → devs ≡ device_counts plan (log_of_plan plan) →
     ending plan lanes devs ≡ ending plan (lane_counts plan (log_of_plan plan)) (device_counts plan (log_of_plan plan))

@@ -62,7 +62,7 @@ impl KeepsAnswers for AnswerLines {
 }
 
 /// The report of a script: the answers to its steps, what its lanes accepted and delivered in each session, and what its
-/// devices counted. The only error is want of memory.
+/// devices counted. The only error is running out of memory.
 pub fn replay_text(alloc: Global, script: &Script) -> Result<Vec<u8>, AllocError>
     requires { IsWhole (plan_in script.now) }
     ensures { IfOk result (λ text. text.items ≡ text_of_plan (plan_in script.now)) }

@@ -35,7 +35,7 @@ pub trait KeepsAnswers {
 }
 
 /// Makes steps, which a script of the cluster's plan may make, and keeps what there is to keep of each answer. The only
-/// error is want of memory.
+/// error is running out of memory.
 pub fn make_steps<K: KeepsAnswers>(
     steps: &StepList,
     cluster: &mut Cluster,

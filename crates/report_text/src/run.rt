@@ -20,7 +20,7 @@ struct FrameCounts {
 
 /// The text of a threaded run: for each lane of the record and each of its sessions, from session 1 on, a line with how
 /// many frames were accepted, delivered and left, then these frames, numbered from 0 in each session, those that were
-/// left behind those that were delivered; and `end`. The only error is want of memory.
+/// left after those that were delivered; and `end`. The only error is running out of memory.
 ///
 /// Each lane names a pair of the plan.
 pub fn record_text(alloc: Global, plan: &Plan, run: &RunRecord) -> Result<Vec<u8>, AllocError>
@@ -94,7 +94,7 @@ fn push_counts(text: &mut Vec<u8>, counts: FrameCounts) -> Result<(), AllocError
     push_word(text, "\n")
 }
 
-/// Adds frames behind a word, numbered from `first` on.
+/// Adds frames after a word, numbered from `first` on.
 #[tactic(auto, using(crate::proofs::Runs::frame_lines_more))]
 pub(crate) fn push_frames(
     text: &mut Vec<u8>,
@@ -116,7 +116,7 @@ pub(crate) fn push_frames(
     Ok(())
 }
 
-// Adds a frame behind a word and its number.
+// Adds a frame after a word and its number.
 fn push_frame_line(
     text: &mut Vec<u8>,
     word: &str,

@@ -47,9 +47,9 @@ pub fn report(
     Ok(text)
 }
 
-/// Adds what a report ends with, behind its answers: a line for each lane and session where a frame was accepted or
-/// delivered; a line for each device of the plan; and `end`. The only error is want of memory, and then some part of the
-/// text may have been added.
+/// Adds what a report ends with, after its answers: a line for each lane and session where a frame was accepted or
+/// delivered; a line for each device of the plan; and `end`. The only error is running out of memory, and then some
+/// part of the text may have been added.
 ///
 /// Each lane names a pair of the plan, and there are as many counters as the plan has devices.
 pub fn push_ending(
@@ -93,7 +93,7 @@ pub fn push_answer_line(text: &mut Vec<u8>, made: &LineAnswer) -> Result<(), All
     }
 }
 
-// Adds the line of an answer up to the bytes that the answer ends with, and behind it a word of one byte at most.
+// Adds the line of an answer up to the bytes that the answer ends with, and after it a word of one byte at most.
 #[inline]
 fn push_start<const N: usize>(
     text: &mut Vec<u8>,
@@ -154,7 +154,7 @@ pub fn push_lane(
     push_numbers(text, &[u64::from(lane.queue), session])
 }
 
-/// A side behind a space.
+/// A side after a space.
 pub(crate) fn side_word(side: Side) -> &'static str
     ensures { result.now ≡ 32 ∷ side_text side }
 {

@@ -7,7 +7,7 @@ use byteorder::{ByteOrder, LittleEndian};
 use std::alloc::{AllocError, Global};
 use step_kinds::Frame;
 
-/// The frame that says a number. The only error is want of memory.
+/// The frame that says a number. The only error is running out of memory.
 pub fn number_frame(alloc: Global, number: u32) -> Result<Frame, AllocError>
     ensures { IfOk result (λ frame. frame ≡ number_frame number) }
 {

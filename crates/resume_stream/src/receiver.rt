@@ -38,12 +38,12 @@ impl StreamReceiver {
     /// - A session's first frame is [`TakeAnswer::Start`], and its number is that of the next item. It is
     ///   [`TakeAnswer::Bad`] exactly where it hasn't four bytes, or its number is above the number of items that are
     ///   kept. After such a `Bad` all frames of the session are `Bad`, and are dropped.
-    /// - A later frame is the next item. It is [`TakeAnswer::Kept`], and kept behind all others, exactly where its number
-    ///   is the number of items that are kept; else it is [`TakeAnswer::Old`], and is dropped.
+    /// - A later frame is the next item. It is [`TakeAnswer::Kept`], and kept after all others, exactly where its
+    ///   number is the number of items that are kept; else it is [`TakeAnswer::Old`], and is dropped.
     ///
     /// # Errors
     ///
-    /// [`AllocError`] from want of memory alone. Then the frame is dropped, and the receiver is as it was.
+    /// [`AllocError`] only when out of memory. Then the frame is dropped, and the receiver is as it was.
     pub fn take(&mut self, frame: Frame) -> Result<TakeAnswer, AllocError>
         requires { length self.old.items < most_items }
         ensures answer { IfOk result (λ answer. answer ≡ take_answer self.old frame) }
@@ -71,7 +71,8 @@ impl StreamReceiver {
         }
     }
 
-    /// The acknowledgement: a frame of four bytes that says how many items are kept. The only error is want of memory.
+    /// The acknowledgement: a frame of four bytes that says how many items are kept. The only error is running out of
+    /// memory.
     pub fn ack_frame(&self) -> Result<Frame, AllocError>
         ensures { IfOk result (λ frame. frame ≡ ack_frame self.now) }
     {

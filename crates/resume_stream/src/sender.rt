@@ -46,7 +46,7 @@ impl StreamSender {
     ///
     /// # Errors
     ///
-    /// [`AllocError`] from want of memory alone, and then nothing changes.
+    /// [`AllocError`] only when out of memory, and then nothing changes.
     pub fn next_frame(&mut self) -> Result<Option<Frame>, AllocError>
         ensures frame { IfOk result (λ frame. frame ≡ next_frame self.old) }
         ensures after { OnOk result (self.new ≡ after_next_frame self.old) }

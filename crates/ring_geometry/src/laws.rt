@@ -21,12 +21,12 @@ pub fn slots_stand_apart()
     ensures { SlotsStandApart }
 {}
 
-/// A header stands right behind the largest payload, and ends its entry.
+/// A header stands right after the largest payload, and ends its entry.
 pub fn header_ends_slot()
     ensures { HeaderEndsSlot }
 {}
 
-/// The index word stands behind all entries, and in the area.
+/// The index word stands after all entries, and in the area.
 pub fn index_follows_slots()
     ensures { IndexFollowsSlots }
 {}

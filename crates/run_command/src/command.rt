@@ -35,7 +35,7 @@ pub struct RunReply {
 
 /// The reply of `run` to a script of at most 16,777,216 bytes. Where it declares a plan, threads send the plan's traffic, and
 /// the reply is the text of the record of that, with status 0, beside the record and its proofs; else it is the first line
-/// with a fault, with status 3. The only error is want of memory.
+/// with a fault, with status 3. The only error is running out of memory.
 ///
 /// Each worker of the run passes the gate before each of its turns.
 pub fn run_reply<R: Threads + Wait + Sync, G: Gate>(

@@ -65,7 +65,7 @@ impl<T: Named> Declared<T> {
         self.names.number(name)
     }
 
-    /// Adds one whose name is new. The only error is want of memory, and then nothing is added.
+    /// Adds one whose name is new. The only error is running out of memory, and then nothing is added.
     pub fn push(&mut self, alloc: Global, item: T) -> Result<(), AllocError>
         requires new { has_name (map T.called self.old) (T.called item) ≡ false }
         requires few { length self.old < 64 }

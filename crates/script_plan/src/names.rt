@@ -65,7 +65,7 @@ impl Names {
         }
     }
 
-    /// Adds a name that isn't there yet. The only error is want of memory, and then nothing is added.
+    /// Adds a name that isn't there yet. The only error is running out of memory, and then nothing is added.
     pub fn push(&mut self, alloc: Global, name: &[u8]) -> Result<(), AllocError>
         requires new { has_name self.old name.now ≡ false }
         requires few { length self.old < 64 }

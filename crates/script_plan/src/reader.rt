@@ -218,7 +218,7 @@ impl Reader {
         Ok(())
     }
 
-    /// Adds the steps of line `line`. The only error is want of memory, and then nothing is added.
+    /// Adds the steps of line `line`. The only error is running out of memory, and then nothing is added.
     #[inline(always)]
     pub fn add_steps(&mut self, line: u32, more: Macro) -> Result<(), AllocError>
         requires { length self.old.plan.steps + length (steps_of more) ≤ most_steps }
@@ -231,7 +231,7 @@ impl Reader {
         Ok(())
     }
 
-    /// Adds the only step of line `line`. The only error is want of memory, and then nothing is added.
+    /// Adds the only step of line `line`. The only error is running out of memory, and then nothing is added.
     pub fn add_step(&mut self, line: u32, step: Step) -> Result<(), AllocError>
         requires { length self.old.plan.steps < most_steps }
         ensures ok { OnOk result (self.new ≡ with_given line self.old (MoreSteps (step ∷ []))) }
@@ -242,8 +242,8 @@ impl Reader {
         Ok(())
     }
 
-    /// Adds what a line gives, whose number is `line`. The only error is want of memory, and then no more is said of what
-    /// the lines so far give.
+    /// Adds what a line gives, whose number is `line`. The only error is running out of memory, and then no more is
+    /// said of what the lines so far give.
     pub fn add(&mut self, alloc: Global, line: u32, given: Given) -> Result<(), AllocError>
         requires suits { Suits self.old given }
         ensures { OnOk result (self.new ≡ with_given line self.old (given_of given)) }

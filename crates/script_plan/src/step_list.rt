@@ -69,7 +69,7 @@ impl StepList {
         &self.stretches
     }
 
-    /// Adds a step of line `line`. The only error is want of memory, and then nothing is added.
+    /// Adds a step of line `line`. The only error is running out of memory, and then nothing is added.
     pub fn push_step(&mut self, line: u32, step: Step) -> Result<(), AllocError>
         ensures ok { OnOk result (self.new ≡ self.old ++ lines_with line (step ∷ [])) }
         ensures err { OnErr result (self.new ≡ self.old) }
@@ -83,7 +83,7 @@ impl StepList {
         }
     }
 
-    /// Adds the steps of line `line`. The only error is want of memory, and then nothing is added.
+    /// Adds the steps of line `line`. The only error is running out of memory, and then nothing is added.
     #[inline(always)]
     pub fn push(&mut self, line: u32, more: Macro) -> Result<(), AllocError>
         ensures ok { OnOk result (self.new ≡ self.old ++ lines_with line (steps_of more)) }
@@ -118,7 +118,7 @@ impl StepList {
         }
     }
 
-    // Adds a stretch. Want of memory adds nothing.
+    // Adds a stretch. Running out of memory adds nothing.
     fn push_stretch(&mut self, stretch: Stretch) -> Result<(), AllocError>
         ensures ok { OnOk result (self.new ≡ self.old ++ lines_in stretch) }
         ensures err { OnErr result (self.new ≡ self.old) }
@@ -142,7 +142,7 @@ impl StepList {
         self.stretches.clear();
     }
 
-    /// All steps, one by one. The only error is want of memory.
+    /// All steps, one by one. The only error is running out of memory.
     pub fn into_items(self, alloc: Global) -> Result<Items<Line>, AllocError>
         ensures { IfOk result (λ lines. lines ≡ self) }
     {

@@ -53,7 +53,7 @@ impl TrafficList {
         self.breaks[pair as usize]
     }
 
-    /// Adds a frame. The only error is want of memory, and then nothing is added.
+    /// Adds a frame. The only error is running out of memory, and then nothing is added.
     pub fn push_frame(&mut self, lane: LaneName, frame: Frame) -> Result<(), AllocError>
         requires frames { sum (map frames_in self.old) + 1 ≤ most_traffic_frames }
         requires bytes { sum (map bytes_in self.old) + length frame ≤ most_traffic_bytes }
@@ -66,7 +66,7 @@ impl TrafficList {
         Ok(())
     }
 
-    /// Adds a link loss of a pair. The only error is want of memory, and then nothing is added.
+    /// Adds a link loss of a pair. The only error is running out of memory, and then nothing is added.
     pub fn push_break(&mut self, pair: u32) -> Result<(), AllocError>
         requires pair { pair < 16 }
         requires few { count_by (is_break_of pair) self.old < most_breaks }
@@ -77,7 +77,8 @@ impl TrafficList {
         Ok(())
     }
 
-    /// Adds so many frames of so many bytes each. The only error is want of memory, and then some of them may be added.
+    /// Adds so many frames of so many bytes each. The only error is running out of memory, and then some of them may be
+    /// added.
     pub fn push_flood(
         &mut self,
         alloc: Global,

@@ -1,7 +1,7 @@
 //! Reads scripts, and says of each whether its plan or its fault is the one that was worked out by hand from the rules.
 //!
 //! Standard input has the rows. A line `@ ANSWER: ABOUT` begins one, and the lines after it are its script. ANSWER is
-//! `line NUMBER word WORD CAUSE` of a fault, with `LEAST to MOST` behind it where the word should spell a number of a
+//! `line NUMBER word WORD CAUSE` of a fault, with `LEAST to MOST` after it where the word should spell a number of a
 //! range, or `plan PAIRS DEVICES STEPS TRAFFIC` with how many of each a plan has.
 #![tactic(auto)]
 

@@ -9,7 +9,7 @@ pub mod PortFacts
 pub mod Returns
 pub mod Splits
 pub mod StepFits
-pub mod Suiting
+pub mod LinesSuit
 pub mod TrafficFits
 pub mod Whole
 pub mod WordFacts

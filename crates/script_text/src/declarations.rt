@@ -84,7 +84,7 @@ fn threshold_of(digits: &[u8]) -> Result<u32, Cause>
     Ok(number)
 }
 
-/// The same behind its key, in word `n` of the line.
+/// The same after its key, in word `n` of the line.
 fn read_threshold(n: u32, key: &[u8], word: &[u8]) -> Result<u32, LineFault>
     ensures { result ≡ rules.threshold_word n key.now word.now }
 {
@@ -127,7 +127,7 @@ fn dev_line(before: &Reader, words: DevWords<'_>) -> Result<Given, LineFault>
     })
 }
 
-/// The words of a device's line behind the first.
+/// The words of a device's line after the first.
 #[derive(Clone, Copy)]
 struct DevWords<'a> {
     name: &'a [u8],
@@ -149,7 +149,7 @@ fn class_line(before: &Reader, on: QueueWords<'_>, class: &[u8]) -> Result<Given
     Ok(Given::Class { queue, class })
 }
 
-/// The words behind `host`.
+/// The words after `host`.
 fn host_words(before: &Reader, words: &[&[u8]]) -> Result<Given, LineFault>
     ensures { result_map given_of result ≡ rules.host_words before.now (map (λ word. word.now) words.now) }
 {
@@ -159,7 +159,7 @@ fn host_words(before: &Reader, words: &[&[u8]]) -> Result<Given, LineFault>
     }
 }
 
-/// The words behind `pair`.
+/// The words after `pair`.
 fn pair_words(alloc: Global, before: &Reader, words: &[&[u8]]) -> LineResult
     ensures { ReadsLine (result_map given_of result) (rules.pair_words before.now (map (λ word. word.now) words.now)) }
 {
@@ -171,7 +171,7 @@ fn pair_words(alloc: Global, before: &Reader, words: &[&[u8]]) -> LineResult
     }
 }
 
-/// The words behind `dev`.
+/// The words after `dev`.
 fn dev_words(before: &Reader, words: &[&[u8]]) -> Result<Given, LineFault>
     ensures { result_map given_of result ≡ rules.dev_words before.now (map (λ word. word.now) words.now) }
 {
@@ -190,7 +190,7 @@ fn dev_words(before: &Reader, words: &[&[u8]]) -> Result<Given, LineFault>
     }
 }
 
-/// The words behind `class`.
+/// The words after `class`.
 fn class_words(before: &Reader, words: &[&[u8]]) -> Result<Given, LineFault>
     ensures { result_map given_of result ≡ rules.class_words before.now (map (λ word. word.now) words.now) }
 {

@@ -10,7 +10,7 @@ pub fn each_plan_is_whole()
     ensures { EachPlanIsWhole }
 {}
 
-/// A script that is cut behind a line feed is still one: where the whole bytes declare a plan, so do the first `end` of
+/// A script that is cut after a line feed is still one: where the whole bytes declare a plan, so do the first `end` of
 /// them, the last of which is a line feed.
 pub fn cut_plan(bytes: &[u8], end: usize)
     requires plan { IsOk (script_of bytes.now) }
@@ -20,7 +20,7 @@ pub fn cut_plan(bytes: &[u8], end: usize)
     ensures { IsOk (script_of (take end bytes.now)) }
 {}
 
-/// A script's fault hangs on nothing behind its line: where the line with the fault ends with the line feed before place
+/// A script's fault hangs on nothing after its line: where the line with the fault ends with the line feed before place
 /// `end`, any other bytes that begin with the same `end` bytes have the same fault, in the same line.
 pub fn same_fault(bytes: &[u8], other: &[u8], end: usize)
     requires fault { FaultEndsAt bytes.now end }

@@ -18,8 +18,8 @@ pub type LineResult = Result<Given, LineError>;
 /// Nothing where what a line gives is added, or why it isn't.
 pub type AddResult = Result<(), LineError>;
 
-/// What stands before the first of such bytes, and what stands behind it where there is one. A short text is read byte by
-/// byte, which takes less there than a search of many bytes at a time.
+/// What stands before the first of such bytes, and what stands after it where there is one. A short text is read byte
+/// by byte, which takes less there than a search of many bytes at a time.
 pub fn cut(text: &[u8], at: u8) -> (&[u8], Option<&[u8]>)
     ensures parts { slice_split (λ b. b == at) text.now ≡ result.0.now ∷ option_map_or (λ rest. slice_split (λ b. b == at) rest.now) result.1 [] }
     ensures shorter { IfSome result.1 (λ rest. length rest.now < length text.now) }
@@ -61,7 +61,7 @@ pub fn without_return(line: &[u8]) -> &[u8]
     }
 }
 
-/// Whether a line says nothing: it has no words, or its first byte behind its spaces is a number sign.
+/// Whether a line says nothing: it has no words, or its first byte after its spaces is a number sign.
 pub fn is_skipped(line: &[u8]) -> bool
     ensures { result ≡ spelled.is_skipped line.now }
 {
@@ -85,7 +85,7 @@ fn is_text(line: &[u8]) -> bool
 }
 
 /// Reads the words of a line, what stands between its spaces, into `words` in place of what was there, and says whether
-/// the line is text. Where it isn't, its words may be any. The only error is want of memory.
+/// the line is text. Where it isn't, its words may be any. The only error is running out of memory.
 pub fn read_words<'a>(words: &mut Vec<&'a [u8]>, line: &'a [u8]) -> Result<bool, AllocError>
     ensures text { IfOk result (λ text. text ≡ spelled.is_text line.now) }
     ensures words { IfOk result (λ text. IsTrue text → map (λ word. word.now) words.new.items ≡ spelled.words_of line.now) }

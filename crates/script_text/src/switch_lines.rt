@@ -84,7 +84,7 @@ fn is_ports(ports: usize) -> bool
     LEAST_PORTS <= ports && ports <= MOST_PORTS
 }
 
-/// The words behind `switch`.
+/// The words after `switch`.
 pub fn switch_words(alloc: Global, before: &Reader, words: &[&[u8]]) -> LineResult
     ensures { ReadsLine (result_map given_of result) (rules.switch_words before.now (map (λ word. word.now) words.now)) }
 {

@@ -42,7 +42,7 @@ pub enum Setting {
     Mtu {
         number: u32,
     },
-    /// `KEY=NUMBER`: a number of both sides, or of one where `A` or `B` stands behind the key.
+    /// `KEY=NUMBER`: a number of both sides, or of one where `A` or `B` stands after the key.
     OfSide {
         key: SideKey,
         side: Option<Side>,
@@ -188,7 +188,7 @@ fn plain_setting(word: &[u8]) -> Option<Setting>
     }
 }
 
-/// What stands before and behind the first equals sign of a word.
+/// What stands before and after the first equals sign of a word.
 fn split_at_equals(word: &[u8]) -> Option<(&[u8], &[u8])>
     ensures key { option_map_or (λ parts. parts.0.now) result word.now ≡ rules.before_equals word.now }
     ensures number { option_map (λ parts. parts.1.now) result ≡ rules.behind_equals word.now }
@@ -201,14 +201,14 @@ fn split_at_equals(word: &[u8]) -> Option<(&[u8], &[u8])>
     None
 }
 
-/// What a word has behind a key.
+/// What a word has after a key.
 pub fn behind_key<'a>(key: &[u8], word: &'a [u8]) -> Option<&'a [u8]>
     ensures { option_copied result ≡ behind key.now word.now }
 {
     word.strip_prefix(key)
 }
 
-/// The sides that a word means where it begins with the key: both, or the one that stands behind it.
+/// The sides that a word means where it begins with the key: both, or the one that stands after it.
 fn sides_behind(key: SideKey, word: &[u8]) -> Option<(SideKey, Option<Side>)>
     ensures { option_map (λ scope. λ number. Setting.OfSide scope.0 scope.1 number) result ≡ rules.scoped key (behind (rules.key_text key) word.now) }
 {

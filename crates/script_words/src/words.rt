@@ -25,7 +25,7 @@ pub fn is_name(word: &[u8]) -> bool
     }
 }
 
-/// Whether bytes may stand in a name behind its first.
+/// Whether bytes may stand in a name after its first.
 fn are_name_bytes(bytes: &[u8]) -> bool
     ensures { result ≡ list_all (λ b. spelled.is_letter b || spelled.is_digit b) bytes.now }
 {

@@ -34,7 +34,7 @@ impl FrameList {
     ///
     /// # Errors
     ///
-    /// [`AllocError`] from want of memory alone, and then the list and its promises are as they were.
+    /// [`AllocError`] only when out of memory, and then the list and its promises are as they were.
     pub fn promise(&mut self, more: usize) -> Result<(), AllocError>
         ensures ok { OnOk result (self.new ≡ promised self.old more) }
         ensures err { OnErr result (self.new ≡ self.old) }
@@ -45,7 +45,7 @@ impl FrameList {
         Ok(())
     }
 
-    /// Puts a frame behind all others, into room that was promised for at least one more. It takes no memory.
+    /// Puts a frame after all others, into room that was promised for at least one more. It takes no memory.
     pub fn push(&mut self, frame: Frame)
         requires { 0 < self.old.spare }
         ensures { self.new ≡ with_last self.old frame }

@@ -311,7 +311,7 @@ pub enum Answer {
     /// The step was made before in this session.
     Already,
     /// The scratchpad of this number, 0 to 15, was posted: for each window the high half of its size at 4 and every
-    /// second one from there, and the low half behind it; then the number of windows at 3, that of queues at 2 and the
+    /// second one from there, and the low half after it; then the number of windows at 3, that of queues at 2 and the
     /// version at 0.
     Offered { index: u32 },
     /// The peer has not said so yet.

@@ -12,7 +12,7 @@ use std::alloc::{AllocError, Global};
 use step_kinds::{PairPlan, Plan};
 
 /// The text of a record of streams: for each lane a line with how many items it brought over how many sessions, then
-/// the items, numbered from 0; and `end`. The only error is want of memory.
+/// the items, numbered from 0; and `end`. The only error is running out of memory.
 ///
 /// Each lane names a pair of the plan.
 pub(crate) fn streams_text(

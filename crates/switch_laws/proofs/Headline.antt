@@ -23,7 +23,7 @@ use Rattle.switch_log.specs.Ports.{Port, port_on, switch_of}
 use Rattle.switch_laws.specs.Laws.{FramesComeInOrder, FramesComeOnce, ItemsAgainWhereNoRoom, ItemsLinkDownWhereNotUp, ReadsAlike}
 use Rattle.switch_laws.specs.Paths.{IsFrom, KeepsOrder, PathsKeepOrder, StandsIn, numbered}
 use Rattle.switch_laws.proofs.Bridges.{bridges_have_a_log}
-use Rattle.switch_laws.proofs.Erasing.{origins_change_nothing}
+use Rattle.switch_laws.proofs.ErasedOrigins.{origins_change_nothing}
 use Rattle.switch_laws.proofs.PathOrder.{bridge_paths_keep_order}
 use Rattle.switch_laws.proofs.Readings.{deliveries_on_bridges, log_reads_as_bridges}
 use Rattle.switch_laws.proofs.Subsequences.{all-weaker}

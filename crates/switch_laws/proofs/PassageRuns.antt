@@ -19,12 +19,12 @@ use Rattle.switch_log.specs.Origins.{Carried, origins_kept}
 use Rattle.switch_log.specs.Paths.{deliveries, placed}
 use Rattle.switch_log.specs.Ports.{Port, new_switches, port_on, receiver_of, switch_of}
 use Rattle.switch_laws.proofs.Passages.{AllLead, LeadsTo, Routed, arrival_keeps, relay_keeps, send_keeps}
-use Rattle.switch_laws.proofs.Placed.{placed_from-last, session_from, session_from-count}
+use Rattle.switch_laws.proofs.PlacedFrames.{placed_from-last, session_from, session_from-count}
 use Rattle.switch_laws.proofs.Places.{lane_is, receiver-towards}
 use Rattle.switch_laws.proofs.PortLists.{first_first}
 use Rattle.switch_laws.proofs.Routes.{acceptances, begun_on, from_lane, inbox, part-more, queue, where_port}
 use Rattle.switch_laws.proofs.Subsequences.{IsPartOf, Ends, Takes}
-use Rattle.switch_laws.proofs.Waiting.{all-get}
+use Rattle.switch_laws.proofs.WaitingHeaders.{all-get}
 
 module _ (plan : Plan) (memories : Memories) (one other : LaneName) where
   pub record Kept (net : Network Carried) : Type 0 where

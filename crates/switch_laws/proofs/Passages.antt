@@ -19,7 +19,7 @@ use Rattle.switch_laws.proofs.Places.{same_lane-true}
 use Rattle.switch_laws.proofs.PortLists.{MayJoin, first_first, list-kept, list-set, list-there, waiting-forwarded}
 use Rattle.switch_laws.proofs.Routes.{begun_as, begun_on, fewer_wait, from_lane, goes, gone, inbox, moved, moved_other, one_came, part-more, passes_on, queue, where_port}
 use Rattle.switch_laws.proofs.Subsequences.{IsPartOf, Ends, Drops, all-append, part-append, part-of_part, part-whole}
-use Rattle.switch_laws.proofs.Waiting.{all-drop_one}
+use Rattle.switch_laws.proofs.WaitingHeaders.{all-drop_one}
 
 abbrev bytes_in : Carried → List ℕ
 bytes_in frame = frame.bytes

@@ -14,7 +14,7 @@ use Rattle.switch_log.specs.Origins.{Carried, Origin, Passage}
 use Rattle.switch_log.specs.Paths.{deliveries, gone_back, leads, path_back, same_lane, same_origin}
 use Rattle.switch_laws.specs.Paths.{AreOrdinary, IsBefore, IsFrom, KeepsOrder, Rises, StandsIn, numbered}
 use Rattle.switch_laws.proofs.PassageRuns.{passages_kept}
-use Rattle.switch_laws.proofs.Placed.{all_on_lane, number_tells, placed_rise, placed_stands}
+use Rattle.switch_laws.proofs.PlacedFrames.{all_on_lane, number_tells, placed_rise, placed_stands}
 use Rattle.switch_laws.proofs.Places.{before-another, before-differs, before-one_way, lane_itself, same_origin-true}
 use Rattle.switch_laws.proofs.Routes.{acceptances, begun_as, begun_on, goes, gone, part-more}
 use Rattle.switch_laws.proofs.Subsequences.{IsPartOf, Ends, Drops, Takes, all-at, all-filter_map, all-weaker, compare-rises, found-stands, part-map, part-of_part, part-whole, rises-both, rises-filter_map, rises-mapped, rises-part, rises-unmapped, stands-append, stands-filter, stands-map, stands-part}

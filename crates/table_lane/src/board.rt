@@ -28,7 +28,7 @@ pub(crate) struct Standing {
 }
 
 impl Standing {
-    /// At a table that other ends stand at too. The only error is want of memory.
+    /// At a table that other ends stand at too. The only error is running out of memory.
     pub(crate) fn beside(
         table: &Arc<LaneTable, Global>,
         seat: LaneSeat,

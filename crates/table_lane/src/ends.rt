@@ -66,7 +66,7 @@ fn split_off(board: &Board, send: &mut LaneSeat) -> (LaneSeat, LaneSeat, LaneSea
 }
 
 /// Makes a lane with a ring of `entries` entries, from 2 to 65,535, of which one always stays free. Its five ends may
-/// go to any threads. The only error is want of memory; no other call of the ends takes any.
+/// go to any threads. The only error is running out of memory; no other call of the ends takes any.
 pub fn make(
     alloc: Global,
     entries: u32,

@@ -11,7 +11,7 @@ pub mod Owners
 pub mod ReceiverShows
 pub mod RecvSteps
 pub mod SeatChanges
-pub mod Seated
+pub mod SeatedSlots
 pub mod Seats
 pub mod SendSteps
 pub mod SenderShows

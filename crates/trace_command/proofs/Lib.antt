@@ -1,5 +1,5 @@
 pub mod Heads
-pub mod Refused
+pub mod RefusedLines
 pub mod Rings
 pub mod SamePlan
 pub mod Traces

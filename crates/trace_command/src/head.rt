@@ -105,7 +105,7 @@ fn push_rings(
     Ok(())
 }
 
-// Adds the ring that a side sends to on a queue, behind a comma where it isn't the first.
+// Adds the ring that a side sends to on a queue, after a comma where it isn't the first.
 fn push_ring(text: &mut Vec<u8>, pair: &PairPlan, side: Side, queue: u32) -> Result<(), AllocError>
     requires declared { IsPair pair.now }
     requires among { queue < (side_plan pair.now side).queues }

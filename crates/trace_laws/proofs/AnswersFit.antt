@@ -29,10 +29,7 @@ use Rattle.ledger_model.specs.Outcome.{Outcome, decided, refuse_if}
 use Rattle.ledger_model.specs.Reading.{reading_of}
 use Rattle.ledger_model.specs.Receiving.{land_found, land_step, lands_on, taken_out}
 use Rattle.ledger_laws.specs.Flights.{Outbox}
-use Rattle.ledger_laws.proofs.walk.Cases.{drop_cases, land_cases, post_cases, refuses}
-use Rattle.ledger_laws.proofs.walk.Logs.{OwnTodos}
-use Rattle.ledger_laws.proofs.walk.SendingTurns.{on_queue-labels}
-use Rattle.ledger_laws.proofs.walk.Turn.{on_queue}
+use Rattle.ledger_laws.proofs.Facade.{OwnTodos, drop_cases, land_cases, on_queue, on_queue-labels, post_cases, refuses}
 use Rattle.trace_laws.proofs.NumbersOfItems.{Fits}
 
 -- Drops and posts

@@ -20,8 +20,7 @@ use Rattle.plan_model.specs.Orders.{class_of, classes_of, kind_of, order_of}
 use Rattle.plan_model.specs.Plans.{pair_plan}
 use Rattle.ledger_model.specs.Log.{ledger_of, log_of}
 use Rattle.ledger_laws.specs.Flights.{in_flight}
-use Rattle.ledger_laws.proofs.FlightOfLog.{in_flight_is_posted}
-use Rattle.ledger_laws.proofs.LogGrowth.{answer_of}
+use Rattle.ledger_laws.proofs.Facade.{answer_of, in_flight_is_posted}
 use Rattle.trace_text.specs.Writes.{last_of_class, no_write, number_at, write_at}
 use Rattle.trace_text.specs.declared.writes.FlyingWrite.{FlyingWrite}
 use Rattle.trace_laws.specs.Laws.{BlockedLandingsWait, side_writes}

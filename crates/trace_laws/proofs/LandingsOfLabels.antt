@@ -7,8 +7,7 @@ use Rattle.step_kinds.specs.declared.steps.Label.{Label}
 use Rattle.step_kinds.specs.declared.steps.Step.TheVariants.{Land}
 use Rattle.ledger_model.specs.Log.{log_of}
 use Rattle.ledger_laws.specs.Flights.{in_flight}
-use Rattle.ledger_laws.proofs.LogGrowth.{answer_of}
-use Rattle.ledger_laws.proofs.walk.Sight.{same_side-refl}
+use Rattle.ledger_laws.proofs.Facade.{answer_of, same_side-refl}
 use Rattle.trace_text.specs.Writes.{number_at}
 use Rattle.trace_text.specs.declared.writes.FlyingWrite.{FlyingWrite}
 use Rattle.trace_laws.specs.Laws.{LandingsAreOfTheirLabels, side_writes}

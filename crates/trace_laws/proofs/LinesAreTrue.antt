@@ -9,12 +9,12 @@ use Rattle.step_kinds.specs.declared.steps.Step.{Step}
 use Rattle.step_kinds.specs.declared.steps.Step.TheVariants.{Land}
 use Rattle.ledger_model.specs.Log.{Answered, Memories, log_of}
 use Rattle.ledger_laws.specs.Laws.{GoesOn}
-use Rattle.ledger_laws.proofs.LogGrowth.{log_of-last}
+use Rattle.ledger_laws.proofs.Facade.{log_of-last}
 use Rattle.plan_model.specs.Both.{at_side}
 use Rattle.switch_log.specs.Log.{bridge_steps, network_of}
 use Rattle.switch_log.specs.Network.{Network, items_from, network_from, new_network, next_item, next_network}
 use Rattle.switch_log.specs.Origins.{bytes_kept}
-use Rattle.switch_laws.proofs.Bridges.{bridges_have_a_log}
+use Rattle.switch_laws.proofs.Facade.{bridges_have_a_log}
 use Rattle.report_text.specs.Report.{AnsweredStep}
 use Rattle.trace_text.specs.Writes.{PairWrites, SideWrites, number_at, numbers_in, stopped_by}
 use Rattle.trace_laws.specs.Laws.{HaveTheirAnswers, IsStoppedBy, dropped_numbers, how_often, landed_numbers, posted_labels, side_writes, steps_of}

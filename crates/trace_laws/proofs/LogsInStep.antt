@@ -19,11 +19,7 @@ use Rattle.ledger_model.specs.Ledger.{link_up, side_of}
 use Rattle.ledger_model.specs.Log.{Answered, Memories, answered, ledger_of, log_of, same_side, up_at}
 use Rattle.ledger_laws.specs.Flights.{Outbox, outbox_next, outbox_start}
 use Rattle.ledger_laws.specs.Laws.{IsOrdinaryPair}
-use Rattle.ledger_laws.proofs.FlightOfLog.{in_flight_is_posted}
-use Rattle.ledger_laws.proofs.LinkDownWhereNotUp.{up_known}
-use Rattle.ledger_laws.proofs.LogGrowth.{log_of-last}
-use Rattle.ledger_laws.proofs.LogReaders.{up_after-last, up_step}
-use Rattle.ledger_laws.proofs.StepsOfLane.{own_todos}
+use Rattle.ledger_laws.proofs.Facade.{in_flight_is_posted, log_of-last, own_todos, up_after-last, up_known, up_step}
 use Rattle.plan_model.specs.Both.{at_side, both_of}
 use Rattle.plan_model.specs.Orders.{classes_of}
 use Rattle.trace_text.specs.Writes.{PairWrites, no_writes, pair_start}

@@ -19,8 +19,7 @@ use Rattle.plan_model.specs.Pads.{links_pad, offers}
 use Rattle.plan_model.specs.Plans.{pair_plan, side_plan}
 use Rattle.ledger_model.specs.Log.{Answered, same_side}
 use Rattle.ledger_laws.specs.Flights.{Outbox, goes_out, outbox_next}
-use Rattle.ledger_laws.proofs.Offers.{offer-is_pad}
-use Rattle.ledger_laws.proofs.walk.Turn.{is_pad}
+use Rattle.ledger_laws.proofs.Facade.{is_pad, offer-is_pad}
 use Rattle.trace_text.specs.Writes.{PairWrites, SideWrites, class_on, pair_after}
 use Rattle.trace_text.specs.declared.changes.Change.TheVariants.{Trains, Breaks, Drops, Posts, Lands, Waits, Nothing}
 use Rattle.trace_laws.specs.Laws.{takes_out, with_item}

@@ -20,8 +20,7 @@ use Rattle.plan_model.specs.Plans.{pair_plan}
 use Rattle.posted_queue.proofs.CountLemmas.{count_by-remove}
 use Rattle.ledger_model.specs.Log.{Answered, Memories, log_of, same_side}
 use Rattle.ledger_laws.specs.Laws.{IsOrdinaryPair}
-use Rattle.ledger_laws.proofs.InFlight.{count_by-last, get-map}
-use Rattle.ledger_laws.proofs.LogGrowth.{log_of-last}
+use Rattle.ledger_laws.proofs.Facade.{count_by-last, get-map, log_of-last}
 use Rattle.trace_text.specs.Writes.{PairWrites, SideWrites, change_by, number_at, numbers_in, pair_after, pair_start, with_posted}
 use Rattle.trace_text.specs.declared.changes.Change.{Change}
 use Rattle.trace_text.specs.declared.changes.Change.TheVariants.{Trains, Breaks, Drops, Posts, Lands, Waits, Nothing}

@@ -11,7 +11,7 @@ use report_text::append::push_word;
 use std::alloc::AllocError;
 use step_kinds::{Counters, DevPlan, LaneName, PairPlan, Plan};
 
-/// Adds the first line of a trace, with the version of its form. The only error is want of memory.
+/// Adds the first line of a trace, with the version of its form. The only error is running out of memory.
 pub fn push_first_line(text: &mut Vec<u8>) -> Result<(), AllocError>
     ensures { OnOk result (text.new.items ≡ text.old.items ++ first_line) }
 {
@@ -19,8 +19,8 @@ pub fn push_first_line(text: &mut Vec<u8>) -> Result<(), AllocError>
 }
 
 /// Adds what follows the steps: a line for each lane and session where a frame was accepted or delivered; a line for each
-/// device of the plan with its counters; and the line of the end. The only error is want of memory, and then some part of
-/// the text may have been added.
+/// device of the plan with its counters; and the line of the end. The only error is running out of memory, and then
+/// some part of the text may have been added.
 pub fn push_ending(
     text: &mut Vec<u8>,
     plan: &Plan,

@@ -1,4 +1,4 @@
-//! Members of a JSON object. A member's name is given with the comma before it and the colon behind it.
+//! Members of a JSON object. A member's name is given with the comma before it and the colon after it.
 
 ghost use Rattle.std.specs.Prelude.{◌≡◌, ◌++◌, OnOk};
 ghost use Rattle.std.specs.Fmt.{decimal};

@@ -212,7 +212,7 @@ impl PairNumbers {
         }
     }
 
-    // The pair after a change. The only error is want of memory, or a side that has posted 2^64 - 1 writes.
+    // The pair after a change. The only error is running out of memory, or a side that has posted 2^64 - 1 writes.
     fn follow(&mut self, change: Change) -> Result<(), AllocError>
         ensures { OnOk result (self.new ≡ pair_after self.old change) }
     {
@@ -256,7 +256,7 @@ pub struct WriteNumbers {
 }
 
 impl WriteNumbers {
-    /// No write was posted, and each pair's link is as it is declared. The only error is want of memory.
+    /// No write was posted, and each pair's link is as it is declared. The only error is running out of memory.
     pub fn new(alloc: Global, pairs: &[PairPlan]) -> Result<WriteNumbers, AllocError>
         ensures { IfOk result (λ writes. writes ≡ writes_start pairs.now) }
     {
@@ -281,8 +281,8 @@ impl WriteNumbers {
     }
 
     /// What a step of a script on these pairs changes, where it was answered so: a write more, a write less, a link that is
-    /// up or down. A step on a pair that isn't there changes nothing. The only error is want of memory, which is also the
-    /// answer where a side has posted 2^64 - 1 writes.
+    /// up or down. A step on a pair that isn't there changes nothing. The only error is running out of memory, which is
+    /// also the answer where a side has posted 2^64 - 1 writes.
     pub fn follow(
         &mut self,
         pairs: &[PairPlan],

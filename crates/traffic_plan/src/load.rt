@@ -93,8 +93,8 @@ impl LoadFrames {
     }
 
     /// Puts the steps of the next frame in place of those in `steps`; the number of their line is that of the frame, from
-    /// 1. A load has at most 30,000 frames. The only error is want of memory: then `steps` is empty, and the same frame
-    /// is still the next one.
+    /// 1. A load has at most 30,000 frames. The only error is running out of memory: then `steps` is empty, and the
+    /// same frame is still the next one.
     pub fn put_next(&mut self, alloc: Global, steps: &mut StepList) -> Result<(), AllocError>
         requires { self.old.given < most_load_frames }
         ensures steps { OnOk result (steps.new ≡ lines_of_frame self.old.seed self.old.given) }
@@ -140,7 +140,8 @@ fn load_lines(alloc: Global, seed: u64, frames: u32) -> Result<Items<Line>, Allo
 }
 
 /// The plan of each load, but for its steps: its pair, named `p`, starts up with version 4, one queue, one window of 4,096
-/// bytes and an mtu of 1,023 on both sides, not strict, not raw, and each class 0. The only error is want of memory.
+/// bytes and an mtu of 1,023 on both sides, not strict, not raw, and each class 0. The only error is running out of
+/// memory.
 pub fn load_without_steps(alloc: Global) -> Result<Plan, AllocError>
     ensures { IfOk result (λ plan. plan ≡ plan_of []) }
 {
@@ -155,7 +156,7 @@ pub fn load_without_steps(alloc: Global) -> Result<Plan, AllocError>
     })
 }
 
-/// The plan of a load of so many frames, 1 to 30,000, by a seed. The only error is want of memory.
+/// The plan of a load of so many frames, 1 to 30,000, by a seed. The only error is running out of memory.
 ///
 /// Its pair is that of [`load_without_steps`]. SplitMix64 (Steele, Lea and Flood) gives two words of 64 bits a frame. By
 /// the first a frame has 1 to 300 bytes, which are the word's own, the lowest first, again and again. It is sent on queue

@@ -6,7 +6,8 @@ use std::io;
 /// A text that the program has to write.
 #[derive(Drop)]
 pub enum Wanted {
-    /// These lines stand in it, one behind the other. They begin with a line feed, so that they are compared from the start of a line.
+    /// These lines stand in it, one after the other. They begin with a line feed, so that they are compared from the
+    /// start of a line.
     Lines(Vec<u8>),
     /// It is this.
     Whole(Vec<u8>),

@@ -63,7 +63,8 @@ pub fn write_faults_are_told<R: Threads + Wait + Sync>(
     Ok(kept >= whole.len())
 }
 
-/// Whether the case's script, cut behind each of its line feeds, is a script, and gives the same text without its last line feed.
+/// Whether the case's script, cut after each of its line feeds, is a script, and gives the same text without its last
+/// line feed.
 pub fn cuts_are_told<R: Threads + Wait + Sync>(
     rt: &R,
     alloc: Global,

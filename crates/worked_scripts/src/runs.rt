@@ -79,7 +79,7 @@ pub fn status_of<R: Threads + Wait + Sync, S: Source, K: Sink>(
     Ok(run_program(rt, alloc, &words, source, sink, &NoGate).status)
 }
 
-// A text behind a line feed, so that each of its lines is.
+// A text after a line feed, so that each of its lines is.
 fn behind_line_feed(alloc: Global, text: &[u8]) -> Result<Vec<u8>, AllocError> {
     let mut all = Vec::new(alloc);
     all.push(b'\n')?;
@@ -87,7 +87,7 @@ fn behind_line_feed(alloc: Global, text: &[u8]) -> Result<Vec<u8>, AllocError> {
     Ok(all)
 }
 
-// Whether what is wanted stands in a text that is behind a line feed.
+// Whether what is wanted stands in a text that is after a line feed.
 fn is_there(alloc: Global, text: &[u8], wanted: &Wanted) -> Result<bool, AllocError> {
     match wanted {
         Wanted::Lines(lines) => Ok(has_lines(text, lines)),
@@ -96,7 +96,7 @@ fn is_there(alloc: Global, text: &[u8], wanted: &Wanted) -> Result<bool, AllocEr
     }
 }
 
-// Whether these lines stand in a text, one behind the other.
+// Whether these lines stand in a text, one after the other.
 fn has_lines(text: &[u8], lines: &[u8]) -> bool {
     !lines.is_empty() && text.windows(lines.len()).any(|window| window == lines)
 }

@@ -1,5 +1,5 @@
 use Rattle.std.proofs.Common.{sym, ◌∙◌}
-use Rattle.cluster_stream.proofs.Giving.{number_has_byte}
+use Rattle.cluster_stream.proofs.NextFrame.{number_has_byte}
 use Rattle.cluster_stream.proofs.keeping.acknowledge.Goals as goal
 
 pub send-requires-clause-byte : goal.send-requires-clause-byte

@@ -1,5 +1,5 @@
 use Rattle.std.proofs.Common.{sym, ◌∙◌}
-use Rattle.cluster_stream.proofs.Giving.{next_has_byte, offered_sent}
+use Rattle.cluster_stream.proofs.NextFrame.{next_has_byte, offered_sent}
 use Rattle.cluster_stream.proofs.offering.offer.Goals as goal
 
 pub send-requires-clause-byte : goal.send-requires-clause-byte

@@ -4,7 +4,7 @@ use Rattle.cluster_run.specs.LaneKeys.{LaneKey}
 use Rattle.cluster_stream.specs.Keys.{keys_of}
 use Rattle.cluster_stream.specs.Streams.{AreResumed, stream_shown}
 use Rattle.cluster_stream.specs.declared.record.StreamRun.{StreamRun}
-use Rattle.cluster_stream.proofs.Waiting.{HasCome, group_over, all_over, are_resumed}
+use Rattle.cluster_stream.proofs.StreamsByPlan.{HasCome, group_over, all_over, are_resumed}
 use Rattle.cluster_stream.proofs.run.run_stream.Goals as goal
 
 pub loop-first-preserved : goal.loop-first-preserved

@@ -1,6 +1,6 @@
 use Rattle.std.proofs.Common.{length, map}
 use Rattle.cluster_stream.specs.Streams.{stream_shown}
-use Rattle.cluster_stream.proofs.Waiting.{HasCome}
+use Rattle.cluster_stream.proofs.StreamsByPlan.{HasCome}
 use Rattle.cluster_stream.proofs.run.run_stream.Given as goal
 
 abbrev pub invariant-loop-first : goal.invariant-loop-first

@@ -1,6 +1,6 @@
 use Rattle.std.proofs.Common.{◌<◌, length, rules, arith}
 use Rattle.std.proofs.lemmas.Result.{err_from_is_err_and}
-use Rattle.io_edges.proofs.Writing.{fewer_left, written_at_writes, written_more, written_part}
+use Rattle.io_edges.proofs.WrittenBytes.{fewer_left, written_at_writes, written_more, written_part}
 use Rattle.io_edges.proofs.whole.write_all.Goals as goal
 
 pub returns-in_err-count-clause-part : goal.returns-in_err-count-clause-part

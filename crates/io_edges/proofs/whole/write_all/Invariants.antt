@@ -1,5 +1,5 @@
 use Rattle.std.proofs.Common.{◌≡◌, ◌+◌, ◌≤◌, length}
-use Rattle.io_edges.proofs.Writing.{WrittenSoFar}
+use Rattle.io_edges.proofs.WrittenBytes.{WrittenSoFar}
 use Rattle.io_edges.proofs.whole.write_all.Given as goal
 
 abbrev pub invariant-loop-rest : goal.invariant-loop-rest

@@ -1,7 +1,7 @@
 use Rattle.std.proofs.Common.{◌%◌, get_or, sym, ap, ◌∙◌, refl, arith}
 use Rattle.lane_model.specs.Lane.{with_flags}
 use Rattle.lane_core.specs.declared.slot.Slot.{Slot}
-use Rattle.lane_core.proofs.Storing.{place_stored}
+use Rattle.lane_core.proofs.StoredSlots.{place_stored}
 use Rattle.lane_core.proofs.ring.put_flags.Goals as goal
 
 pub returns : goal.returns

@@ -2,7 +2,7 @@ use Rattle.std.proofs.Common.{◌%◌, map, get_or, sym, ap, ◌∙◌, arith}
 use Rattle.lane_model.specs.Lane.{with_field, flags_of}
 use Rattle.lane_model.specs.declared.Write.TheVariants.{Data, Flag}
 use Rattle.lane_core.specs.Parts.{CanStore, entry_in, entry_seen, place_seen, with_flags_at}
-use Rattle.lane_core.proofs.Storing.{entry_read, place_stored}
+use Rattle.lane_core.proofs.StoredSlots.{entry_read, place_stored}
 use Rattle.lane_core.specs.declared.slot.Slot.{Slot}
 use Rattle.lane_core.proofs.ring.store.Goals as goal
 

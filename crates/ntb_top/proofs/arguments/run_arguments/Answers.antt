@@ -1,5 +1,5 @@
 use Rattle.std.proofs.Common.{◌∙◌}
-use Rattle.ntb_top.proofs.Ending.{nothing_ended}
+use Rattle.ntb_top.proofs.Endings.{nothing_ended}
 use Rattle.ntb_top.proofs.arguments.run_arguments.Goals as goal
 
 pub returns-in-Err-clause-run : goal.returns-in-Err-clause-run

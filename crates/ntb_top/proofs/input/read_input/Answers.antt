@@ -1,6 +1,6 @@
 use Rattle.std.proofs.Common.{◌≡◌, ◌∙◌, ◌+◌, ◌<◌, Option, Some, Err, ℕ, List, length, drop, ap}
 use Rattle.step_kinds.specs.Limits.{most_script_bytes}
-use Rattle.ntb_top.proofs.Replying.{err_known, input_too_long, not_failed}
+use Rattle.ntb_top.proofs.RunOutcomes.{err_known, input_too_long, not_failed}
 use Rattle.ntb_top.proofs.input.read_input.Goals as goal
 
 pub returns-in-Err-TooLong : goal.returns-in-Err-TooLong

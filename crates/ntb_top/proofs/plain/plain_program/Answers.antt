@@ -1,4 +1,4 @@
-use Rattle.ntb_top.proofs.Replying.{run_answered}
+use Rattle.ntb_top.proofs.RunOutcomes.{run_answered}
 use Rattle.ntb_top.proofs.plain.plain_program.Goals as goal
 
 pub returns-in-Ok : goal.returns-in-Ok

@@ -1,4 +1,4 @@
-use Rattle.ntb_top.proofs.Ending.{run_ended}
+use Rattle.ntb_top.proofs.Endings.{run_ended}
 use Rattle.ntb_top.proofs.program.run_traffic.Goals as goal
 
 pub returns-in-Ok : goal.returns-in-Ok

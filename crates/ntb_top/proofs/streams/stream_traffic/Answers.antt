@@ -1,4 +1,4 @@
-use Rattle.ntb_top.proofs.Ending.{streams_ended}
+use Rattle.ntb_top.proofs.Endings.{streams_ended}
 use Rattle.ntb_top.proofs.streams.stream_traffic.Goals as goal
 
 pub returns-in-Ok : goal.returns-in-Ok

@@ -8,9 +8,9 @@ use Rattle.traffic_plan.specs.Load.{LoadGiven, frames_given, lines_of_frame, loa
 use Rattle.traffic_plan.proofs.Frames.{frames_more}
 use Rattle.traffic_plan.proofs.Whole.{lines_permitted, load_is_whole}
 use Rattle.replay_command.specs.ReplaySteps.{HasKept, with_blocked}
-use Rattle.replay_command.proofs.Blocked.{blocked_counted, blocked_in}
+use Rattle.replay_command.proofs.BlockedAnswers.{blocked_counted, blocked_in}
 use Rattle.replay_command.proofs.PermittedSteps.{steps_permitted}
-use Rattle.replay_command.proofs.Replaying.{kept_both, length-answers}
+use Rattle.replay_command.proofs.StepsMade.{kept_both, length-answers}
 use Rattle.replay_command.proofs.load.count_blocked.Goals as goal
 
 -- the steps of the next frame

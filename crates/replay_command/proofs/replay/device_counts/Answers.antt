@@ -3,7 +3,7 @@ use Rattle.step_kinds.specs.declared.plan.Counters.{Counters}
 use Rattle.ledger_model.specs.Log.{counters_in, lane_of_device}
 use Rattle.script_plan.specs.Scripts.{plan_in}
 use Rattle.replay_command.specs.Replays.{log_of_plan, steps_of}
-use Rattle.replay_command.proofs.Counting.{devices_more}
+use Rattle.replay_command.proofs.LaneCounts.{devices_more}
 use Rattle.replay_command.proofs.replay.device_counts.Goals as goal
 
 pub loop-dev-preserved : goal.loop-dev-preserved

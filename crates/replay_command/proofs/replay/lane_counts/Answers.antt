@@ -2,7 +2,7 @@ use Rattle.std.proofs.Common.{List, length, get_or, ap, ◌∙◌, arith}
 use Rattle.step_kinds.specs.declared.plan.PairPlan.{PairPlan}
 use Rattle.script_plan.specs.Scripts.{plan_in}
 use Rattle.replay_command.specs.Replays.{log_of_plan, steps_of}
-use Rattle.replay_command.proofs.Counting.{adds_pair, has_queues}
+use Rattle.replay_command.proofs.LaneCounts.{adds_pair, has_queues}
 use Rattle.replay_command.proofs.replay.lane_counts.Goals as goal
 
 pub push_lanes-requires : goal.push_lanes-requires

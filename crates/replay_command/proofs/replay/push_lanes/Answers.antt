@@ -6,7 +6,7 @@ use Rattle.cluster_core.specs.LogClauses.{log_after}
 use Rattle.report_text.specs.declared.whole.LaneCount.{LaneCount}
 use Rattle.replay_command.specs.ReplaySteps.{filled, lanes_from}
 use Rattle.replay_command.specs.Replays.{sessions_of_lane}
-use Rattle.replay_command.proofs.Counting.{adds_both, lanes_more}
+use Rattle.replay_command.proofs.LaneCounts.{adds_both, lanes_more}
 use Rattle.replay_command.proofs.replay.push_lanes.Goals as goal
 
 pub loop-queue-preserved : goal.loop-queue-preserved

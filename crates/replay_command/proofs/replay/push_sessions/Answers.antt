@@ -5,7 +5,7 @@ use Rattle.cluster_core.specs.LogClauses.{log_after}
 use Rattle.report_text.specs.declared.whole.LaneCount.{LaneCount}
 use Rattle.replay_command.specs.ReplaySteps.{filled}
 use Rattle.replay_command.specs.Replays.{lane_count}
-use Rattle.replay_command.proofs.Counting.{adds_both, sessions_more}
+use Rattle.replay_command.proofs.LaneCounts.{adds_both, sessions_more}
 use Rattle.replay_command.proofs.replay.push_sessions.Goals as goal
 
 pub loop-before-preserved : goal.loop-before-preserved

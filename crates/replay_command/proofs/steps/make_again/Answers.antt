@@ -7,7 +7,7 @@ use Rattle.script_words.specs.Compact.{lines_with}
 use Rattle.script_plan.proofs.Repeats.{repeats_more}
 use Rattle.replay_command.specs.ReplaySteps.{HasKept, steps_in}
 use Rattle.replay_command.proofs.PermittedSteps.{again_permitted}
-use Rattle.replay_command.proofs.Replaying.{kept_both, kept_one}
+use Rattle.replay_command.proofs.StepsMade.{kept_both, kept_one}
 use Rattle.replay_command.proofs.RefusedSteps.{kept_rest}
 use Rattle.replay_command.proofs.steps.make_again.Goals as goal
 

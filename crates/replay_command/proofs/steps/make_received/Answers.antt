@@ -9,7 +9,7 @@ use Rattle.script_words.specs.Compact.{lines_with}
 use Rattle.cluster_core.specs.Cluster.{plan_held}
 use Rattle.replay_command.specs.ReplaySteps.{HasKept}
 use Rattle.replay_command.proofs.PermittedSteps.{lines_received, received_permitted}
-use Rattle.replay_command.proofs.Replaying.{kept_both}
+use Rattle.replay_command.proofs.StepsMade.{kept_both}
 use Rattle.replay_command.proofs.steps.make_received.Goals as goal
 
 pub make_step-requires : goal.make_step-requires

@@ -1,6 +1,6 @@
 use Rattle.std.proofs.lemmas.Result.{on_ok_weaker}
 use Rattle.replay_command.specs.ReplaySteps.{steps_in}
-use Rattle.replay_command.proofs.Replaying.{kept_one}
+use Rattle.replay_command.proofs.StepsMade.{kept_one}
 use Rattle.replay_command.proofs.steps.make_step.Goals as goal
 
 pub returns-clause-kept : goal.returns-clause-kept

@@ -7,7 +7,7 @@ use Rattle.plan_model.specs.Switches.{IsMakeable}
 use Rattle.script_plan.specs.StepLists.{all_lines, lines_in}
 use Rattle.cluster_core.specs.Cluster.{plan_held}
 use Rattle.replay_command.specs.ReplaySteps.{HasKept}
-use Rattle.replay_command.proofs.Replaying.{all_of_one, kept_both, stretches_more}
+use Rattle.replay_command.proofs.StepsMade.{all_of_one, kept_both, stretches_more}
 use Rattle.replay_command.proofs.steps.make_steps.Goals as goal
 
 pub make_stretch-requires : goal.make_stretch-requires

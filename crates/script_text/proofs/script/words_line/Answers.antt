@@ -8,7 +8,7 @@ use Rattle.script_words.specs.declared.parts.Part.TheVariants.{Declarations, Tra
 use Rattle.script_plan.specs.Sound.{Suits}
 use Rattle.script_text.specs.Script.{words_line}
 use Rattle.script_text.specs.SoundLines.{Held, Filled}
-use Rattle.script_text.proofs.Suiting.{suits}
+use Rattle.script_text.proofs.LinesSuit.{suits}
 use Rattle.script_text.proofs.Whole.{words_fit}
 use Rattle.script_text.proofs.script.words_line.Goals as goal
 

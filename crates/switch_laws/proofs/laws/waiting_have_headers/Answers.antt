@@ -1,4 +1,4 @@
-use Rattle.switch_laws.proofs.Waiting.{waiting_have_headers}
+use Rattle.switch_laws.proofs.WaitingHeaders.{waiting_have_headers}
 use Rattle.switch_laws.proofs.laws.waiting_have_headers.Goals as goal
 
 pub returns : goal.returns

@@ -1,4 +1,4 @@
-use Rattle.table_rule.proofs.Seated.{slots_out_are_with_seats}
+use Rattle.table_rule.proofs.SeatedSlots.{slots_out_are_with_seats}
 use Rattle.table_rule.proofs.laws.slots_out_are_with_seats.Goals as goal
 
 -- src/laws.rt:53:1

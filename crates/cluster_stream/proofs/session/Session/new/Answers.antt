@@ -1,6 +1,6 @@
 use Rattle.std.proofs.Common.{ap}
 use Rattle.table_rule.specs.declared.parts.SendPart.{SendPart}
-use Rattle.cluster_stream.proofs.Giving.{offers_nothing}
+use Rattle.cluster_stream.proofs.NextFrame.{offers_nothing}
 use Rattle.cluster_stream.proofs.session.Session.new.Goals as goal
 
 pub new-requires-clause-offered : goal.new-requires-clause-offered

@@ -5,7 +5,7 @@ use Rattle.std.proofs.lemmas.List.Elements.{Contains-push, Contains-push_cases}
 use Rattle.host_memory.specs.Memory.{Contents}
 use Rattle.host_memory.specs.Pages.{page_at}
 use Rattle.host_memory.proofs.MemoryPages.{zeros_added}
-use Rattle.host_memory.proofs.Promised.{among_more, no_repeats_more, there_more}
+use Rattle.host_memory.proofs.PromisedPages.{among_more, no_repeats_more, there_more}
 use Rattle.host_memory.proofs.memory.Memory.make_page.Goals as goal
 
 is_some_page : (found : Option (Box (List ℕ))) (P : Box (List ℕ) → Type 0) → IsSomeAnd found P → IsSome found

@@ -8,7 +8,7 @@ use Rattle.lane_laws.proofs.Facade.{begin_keeps}
 use Rattle.lane_core.specs.Calls.{LaneValue}
 use Rattle.lane_core.specs.Parts.{entry_seen}
 use Rattle.lane_core.specs.LaneView.{lane_seen}
-use Rattle.lane_core.proofs.Beginning.{free_seen, begun_lane, buffers_stay}
+use Rattle.lane_core.proofs.BegunEntries.{free_seen, begun_lane, buffers_stay}
 use Rattle.lane_core.proofs.Writes.{length-writes_of}
 use Rattle.lane_core.proofs.lane.Lane.begin_entry.Goals as goal
 

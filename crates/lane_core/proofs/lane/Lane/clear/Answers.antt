@@ -9,7 +9,7 @@ use Rattle.lane_laws.proofs.Facade.{clear_keeps}
 use Rattle.lane_core.specs.Parts.{place_seen, with_flags_at}
 use Rattle.lane_core.specs.LaneView.{index_room, lane_seen}
 use Rattle.lane_core.proofs.Parts.{not_copying}
-use Rattle.lane_core.proofs.Storing.{with_flags_at-is}
+use Rattle.lane_core.proofs.StoredSlots.{with_flags_at-is}
 use Rattle.lane_core.proofs.lane.Lane.clear.Goals as goal
 
 pub invariant_of-self : goal.invariant_of-self

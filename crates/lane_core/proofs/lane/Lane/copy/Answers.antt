@@ -10,8 +10,8 @@ use Rattle.lane_laws.proofs.Facade.{copy_keeps}
 use Rattle.lane_core.specs.Calls.{LaneValue, with_lane, after_copying, copy_answer, is_copying}
 use Rattle.lane_core.specs.Parts.{place_seen}
 use Rattle.lane_core.specs.LaneView.{index_room, lane_seen, value_seen}
-use Rattle.lane_core.proofs.Copying.{IsWhole, answer_whole, bytes_at, copies_from, is_whole, more_left}
-use Rattle.lane_core.proofs.Looking.{read_place}
+use Rattle.lane_core.proofs.CopiedBytes.{IsWhole, answer_whole, bytes_at, copies_from, is_whole, more_left}
+use Rattle.lane_core.proofs.NextEntry.{read_place}
 use Rattle.lane_core.proofs.Parts.{not_copying}
 use Rattle.lane_core.proofs.lane.Lane.copy.Goals as goal
 

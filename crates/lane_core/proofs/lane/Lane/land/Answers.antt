@@ -14,7 +14,7 @@ use Rattle.lane_core.specs.declared.answers.LaneLand.TheVariants.{Landed, Blocke
 use Rattle.lane_core.specs.declared.entry.Entry.{Entry}
 use Rattle.lane_core.specs.declared.slot.Slot.{Slot}
 use Rattle.lane_core.specs.declared.write.PostedWrite.{PostedWrite}
-use Rattle.lane_core.proofs.Landing.{order_of_write, was_nothing, was_blocked, has_landed, is_held_back, landed_lane, past_the_end, answer_nothing, after_nothing, answer_landed, after_landed}
+use Rattle.lane_core.proofs.LandSteps.{order_of_write, was_nothing, was_blocked, has_landed, is_held_back, landed_lane, past_the_end, answer_nothing, after_nothing, answer_landed, after_landed}
 use Rattle.lane_core.proofs.lane.Lane.land.Goals as goal
 
 pub invariant_of-self : goal.invariant_of-self

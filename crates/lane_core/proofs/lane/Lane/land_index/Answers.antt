@@ -3,7 +3,7 @@ use Rattle.std.proofs.lemmas.List.{length-map}
 use Rattle.lane_core.specs.Parts.{entry_seen}
 use Rattle.lane_core.specs.Calls.{LaneValue, with_lane, after_land_index}
 use Rattle.lane_core.specs.LaneView.{value_seen}
-use Rattle.lane_core.proofs.Returning.{has_returned, returned_answer, none_returned, blocked_return, unmoved_answer, unmoved_after}
+use Rattle.lane_core.proofs.IndexLandings.{has_returned, returned_answer, none_returned, blocked_return, unmoved_answer, unmoved_after}
 use Rattle.lane_core.proofs.lane.Lane.land_index.Goals as goal
 
 pub invariant_of-self : goal.invariant_of-self

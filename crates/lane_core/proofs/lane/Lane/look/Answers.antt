@@ -4,7 +4,7 @@ use Rattle.lane_model.specs.Lane.{Slot, bytes_of, entry_of}
 use Rattle.lane_laws.proofs.Facade.{look_keeps}
 use Rattle.lane_core.specs.Parts.{place_seen}
 use Rattle.lane_core.specs.LaneView.{lane_seen}
-use Rattle.lane_core.proofs.Looking.{read_place, finds_entry}
+use Rattle.lane_core.proofs.NextEntry.{read_place, finds_entry}
 use Rattle.lane_core.proofs.lane.Lane.look.Goals as goal
 
 pub invariant_of-self-in-Frame : goal.invariant_of-self-in-Frame

@@ -1,7 +1,7 @@
 use Rattle.std.proofs.Common.{length, ap, arith}
 use Rattle.lane_model.specs.declared.Phase.TheVariants.{Idle}
 use Rattle.lane_core.proofs.Parts.{not_copying}
-use Rattle.lane_core.proofs.Starting.{started}
+use Rattle.lane_core.proofs.FreshLaw.{started}
 use Rattle.lane_core.proofs.lane.Lane.new.Goals as goal
 
 pub invariant_of-result : goal.invariant_of-result

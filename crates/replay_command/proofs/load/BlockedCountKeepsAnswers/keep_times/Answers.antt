@@ -1,5 +1,5 @@
 use Rattle.std.proofs.Common.{◌≡◌, ◌∙◌, ◌+◌, ◌-◌, ◌^◌, ◌≤◌, min, sym, arith}
-use Rattle.replay_command.proofs.Blocked.{blocked_times, others_times}
+use Rattle.replay_command.proofs.BlockedAnswers.{blocked_times, others_times}
 use Rattle.replay_command.proofs.load.BlockedCountKeepsAnswers.keep_times.Goals as goal
 
 pub returns-then-is_blocked : goal.returns-then-is_blocked

@@ -1,7 +1,7 @@
 use Rattle.std.proofs.Common.{◌≡◌, ◌∙◌, ◌++◌, ℕ, List, ap, sym, arith, replicate}
 use Rattle.std.specs.List.{fold}
 use Rattle.report_text.specs.Report.{AnsweredStep, answer_line}
-use Rattle.replay_command.proofs.Replaying.{fold_more}
+use Rattle.replay_command.proofs.StepsMade.{fold_more}
 use Rattle.replay_command.proofs.replay.AnswerLinesKeepsAnswers.keep_times.Goals as goal
 
 abbrev with_line : List ℕ → AnsweredStep → List ℕ

@@ -17,7 +17,7 @@ use Rattle.lane_core.specs.declared.answers.LaneLand.{LaneLand}
 use Rattle.lane_core.specs.declared.answers.LaneLand.TheVariants.{Landed, Blocked, Nothing}
 use Rattle.lane_core.specs.declared.lane.Lane.TheInside.{Inside}
 use Rattle.lane_core.specs.declared.write.IndexWrite.{IndexWrite}
-use Rattle.lane_core.proofs.Landing.{was_landed, was_blocked, was_nothing, first_apart, past_the_end}
+use Rattle.lane_core.proofs.LandSteps.{was_landed, was_blocked, was_nothing, first_apart, past_the_end}
 use Rattle.lane_core.proofs.OneClass.{relaxed_or_first}
 use Rattle.lane_core.proofs.Parts.{map-remove}
 

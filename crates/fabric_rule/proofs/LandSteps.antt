@@ -32,7 +32,7 @@ use Rattle.fabric_rule.proofs.Arrivals.{bell_comes, bytes_come, pad_comes, unsee
 use Rattle.fabric_rule.proofs.Flights.{all_get, all_remove, have-remove, label-write, labels-writes, orders-writes, poked_at, poked_left, writes-get, writes-remove}
 use Rattle.fabric_rule.proofs.Follows.{Follows, by_side, site_made}
 use Rattle.fabric_rule.proofs.OneQueue.{Standing, kept}
-use Rattle.fabric_rule.proofs.Posting.{with_writes}
+use Rattle.fabric_rule.proofs.PostSteps.{with_writes}
 
 no_value : {X Y : Type 0} (f : X → Y) (found : Option X) → option_map f found ≡ None → found ≡ None
 no_value f None none = refl

@@ -13,7 +13,7 @@ use Rattle.run_command.specs.Replies.{carried_by}
 use Rattle.run_command.specs.declared.command.RunReply.{RunReply}
 use Rattle.script_text.specs.Script.{script_of}
 use Rattle.script_words.specs.declared.fault.ScriptFault.{ScriptFault}
-use Rattle.ntb_top.proofs.Replying.{run_answered, run_nothing, sink_of, source_of}
+use Rattle.ntb_top.proofs.RunOutcomes.{run_answered, run_nothing, sink_of, source_of}
 use Rattle.ntb_top.specs.Answers.{IsAnswerTo, IsRunAnswerTo, IsStreamAnswerTo}
 use Rattle.ntb_top.specs.Commands.{is_reading}
 use Rattle.ntb_top.specs.Ends.{Beside, HasEnded, IsTrueRun, IsTrueStream, beside_run, beside_stream, nothing_beside}
