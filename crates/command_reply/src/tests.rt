@@ -31,6 +31,9 @@ fn each_reply_has_its_status_and_text(rt: HostRuntime) -> Result<(), Fail> {
     assert_eq!(rt; Reply::too_long().status(), 7);
     assert_eq!(rt; Reply::too_long().text(), b"too long\n".as_slice());
     assert_eq!(rt; Reply::too_many_states().status(), 8);
-    assert_eq!(rt; Reply::too_many_states().text(), b"too many states\n".as_slice());
+    assert_eq!(rt;
+        Reply::too_many_states().text(),
+        b"too many states\n".as_slice()
+    );
     Ok(())
 }

@@ -52,11 +52,7 @@ pub fn explored_text(
 }
 
 // Whether all outcomes have the same answer, for each of so many steps.
-fn agreed_steps(
-    alloc: Global,
-    outcomes: &[Outcome],
-    count: usize,
-) -> Result<Vec<bool>, AllocError>
+fn agreed_steps(alloc: Global, outcomes: &[Outcome], count: usize) -> Result<Vec<bool>, AllocError>
     ensures { IfOk result (λ agreed. agreed.items ≡ map (agree_by_answers outcomes.now) (range_with_len 0 count)) }
 {
     (0..count).map(|k| agree_on(outcomes, k)).collect(alloc)
@@ -67,7 +63,9 @@ fn agree_on(outcomes: &[Outcome], k: usize) -> bool
     ensures { result ≡ agree_by_answers outcomes.now k }
 {
     let first = first_answer(outcomes, k);
-    outcomes.iter().all(|outcome| answer_at(outcome, k) == first)
+    outcomes
+        .iter()
+        .all(|outcome| answer_at(outcome, k) == first)
 }
 
 // The answer of the first outcome to the step with a number.
@@ -140,11 +138,7 @@ fn push_outcome(
 }
 
 // Adds the lines of further landings.
-fn push_landings(
-    text: &mut Vec<u8>,
-    plan: &Plan,
-    landings: &[Landing],
-) -> Result<(), AllocError>
+fn push_landings(text: &mut Vec<u8>, plan: &Plan, landings: &[Landing]) -> Result<(), AllocError>
     requires { All (λ (landing : LandingValue). IsPairOf plan.now landing.pair) landings.now }
     ensures { OnOk result (text.new.items ≡ text.old.items ++ flat_map (landing_line plan.now) landings.now) }
 {
@@ -227,7 +221,13 @@ fn push_differing(
     ensures { OnOk result (text.new.items ≡ text.old.items ++ flat_map (differing_line plan.now outcomes.now outcome.now) (step_numbers plan.now)) }
 {
     for k in 0..plan.steps.len() {
-        push_unless(text, plan, was_agreed(plan, outcomes, agreed, k), outcome, k)?;
+        push_unless(
+            text,
+            plan,
+            was_agreed(plan, outcomes, agreed, k),
+            outcome,
+            k,
+        )?;
     }
     Ok(())
 }
@@ -260,7 +260,13 @@ fn push_common(
     ensures { OnOk result (text.new.items ≡ text.old.items ++ flat_map (common_line plan.now outcomes.now) (step_numbers plan.now)) }
 {
     for k in 0..plan.steps.len() {
-        push_where(text, plan, was_agreed(plan, outcomes, agreed, k), outcomes, k)?;
+        push_where(
+            text,
+            plan,
+            was_agreed(plan, outcomes, agreed, k),
+            outcomes,
+            k,
+        )?;
     }
     Ok(())
 }
@@ -293,12 +299,7 @@ fn was_agreed(plan: &Plan, outcomes: &[Outcome], agreed: &[bool], k: usize) -> b
 }
 
 // Adds an answer behind the number of its line.
-fn push_answer(
-    text: &mut Vec<u8>,
-    plan: &Plan,
-    k: usize,
-    answer: &[u8],
-) -> Result<(), AllocError>
+fn push_answer(text: &mut Vec<u8>, plan: &Plan, k: usize, answer: &[u8]) -> Result<(), AllocError>
     ensures { OnOk result (text.new.items ≡ text.old.items ++ text_line plan.now k answer.now) }
 {
     let mut digits = Buffer::new();
