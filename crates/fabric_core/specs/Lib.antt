@@ -13,3 +13,4 @@ pub mod QueueCalls
 pub mod Refusals
 pub mod Sessions
 pub mod Turns
+pub mod Wants
