@@ -1,5 +1,5 @@
 -- A pair stays whole where a side forgets its session, and its queues with it.
-use Rattle.std.proofs.Common.{◌≡◌, ℕ, ◌<◌, ◌≤◌, Contains, List, map, sym, ap, subst, arith}
+use Rattle.std.proofs.Common.{◌≡◌, ◌<◌, Contains, List, map, sym, ap, subst}
 use Rattle.step_kinds.specs.Sides.{other_side}
 use Rattle.step_kinds.specs.declared.names.Side.{Side}
 use Rattle.step_kinds.specs.declared.names.Side.TheVariants.{A, B}
@@ -13,14 +13,10 @@ use Rattle.fabric_core.specs.Parts.{CanForget, HasOtherRoom, IsWhole}
 use Rattle.fabric_core.proofs.Forgetting.{other_plan}
 use Rattle.fabric_core.proofs.Whole.{SideIsWhole, both_whole, side_forgotten, side_kept, side_whole}
 
--- of numbers alone
-no_less : (n m : ℕ) → n ≡ m → m ≤ n
-no_less n m e = omega (arith, e)
-
 kept_side : (old new : Bridge) (side : Side) (parts : List QueuePart) → KeepsPromises old new → SideIsWhole old side parts → SideIsWhole new side parts
 kept_side old new side parts keeps whole =
     side_kept old new side parts keeps.plan (λ any page had. subst (λ pages. Contains pages page) (sym (keeps.pages any)) had)
-    (no_less (flight_of new side).spare (flight_of old side).spare (keeps.spare side)) whole
+    (keeps.spare side) whole
 
 pub can_forget : (old new : Bridge) (side : Side) (parts : List QueuePart) → KeepsPromises old new → SideIsWhole old side parts → CanForget new side parts
 can_forget old new side parts keeps before =
@@ -39,18 +35,18 @@ peer_still : (old new : Bridge) (side : Side) (parts : List QueuePart) → HasOt
 peer_still old new side parts other whole =
     side_kept old new (other_side side) parts (other_plan old new side other)
     (λ any page had. subst (λ pages. Contains pages page) (sym (ap (λ (bridge : Bridge). pages_of bridge any) other.rest)) had)
-    (no_less (flight_of new (other_side side)).spare (flight_of old (other_side side)).spare (ap (λ (flight : Flight Flying). flight.spare) (other_flight old new side other))) whole
+    (ap (λ (flight : Flight Flying). flight.spare) (other_flight old new side other)) whole
 
-pub forgot_a : (old mid new : Bridge) (a b forgotten : List QueuePart) → IsWhole (record { bridge = old; queues = record { a = a; b = b } }) → KeepsPromises old mid → HasOtherRoom mid A new
+pub forgot_a : (old mid new : Bridge) (a b forgotten : List QueuePart) → IsWhole (record { bridge = old; queues = record { a = a; b = b } }) → KeepsPromises old mid → HasOtherRoom mid A new → (flight_of new A).spare ≡ 0
     → forgotten ≡ map forgotten_queue a → IsWhole (record { bridge = new; queues = record { a = forgotten; b = b } })
-forgot_a old mid new a b forgotten whole keeps other is =
+forgot_a old mid new a b forgotten whole keeps other none is =
     both_whole new forgotten b
-    (subst (λ parts. SideIsWhole new A parts) (sym is) (side_forgotten mid new A a (other_plan mid new A other) (kept_side old mid A a keeps (side_whole _ A whole))))
+    (subst (λ parts. SideIsWhole new A parts) (sym is) (side_forgotten mid new A a (other_plan mid new A other) none (kept_side old mid A a keeps (side_whole _ A whole))))
     (peer_still mid new A b other (kept_side old mid B b keeps (side_whole _ B whole)))
 
-pub forgot_b : (old mid new : Bridge) (a b forgotten : List QueuePart) → IsWhole (record { bridge = old; queues = record { a = a; b = b } }) → KeepsPromises old mid → HasOtherRoom mid B new
+pub forgot_b : (old mid new : Bridge) (a b forgotten : List QueuePart) → IsWhole (record { bridge = old; queues = record { a = a; b = b } }) → KeepsPromises old mid → HasOtherRoom mid B new → (flight_of new B).spare ≡ 0
     → forgotten ≡ map forgotten_queue b → IsWhole (record { bridge = new; queues = record { a = a; b = forgotten } })
-forgot_b old mid new a b forgotten whole keeps other is =
+forgot_b old mid new a b forgotten whole keeps other none is =
     both_whole new a forgotten
     (peer_still mid new B a other (kept_side old mid A a keeps (side_whole _ A whole)))
-    (subst (λ parts. SideIsWhole new B parts) (sym is) (side_forgotten mid new B b (other_plan mid new B other) (kept_side old mid B b keeps (side_whole _ B whole))))
+    (subst (λ parts. SideIsWhole new B parts) (sym is) (side_forgotten mid new B b (other_plan mid new B other) none (kept_side old mid B b keeps (side_whole _ B whole))))

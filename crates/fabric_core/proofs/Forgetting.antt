@@ -76,20 +76,20 @@ sum_then xs i part within is =
     sum_by-drop_more (λ (part : QueuePart). unused_of part.queue.port) xs i no_queue within ∙ ap (λ (part : QueuePart). unused_of part.queue.port + all_unused (drop (i + 1) xs)) is
 
 -- of numbers alone
-first_fits : (sum first others spare : ℕ) → sum ≡ first + others → sum ≤ spare → first ≤ spare
+first_fits : (sum first others spare : ℕ) → sum ≡ first + others → spare ≡ sum → first ≤ spare
 first_fits sum first others spare is fits = omega (arith, is, fits)
 
-others_fit : (sum first others spare spare_after : ℕ) → sum ≡ first + others → sum ≤ spare → spare_after ≡ spare - first → others ≤ spare_after
+others_fit : (sum first others spare spare_after : ℕ) → sum ≡ first + others → spare ≡ sum → spare_after ≡ spare - first → spare_after ≡ others
 others_fit sum first others spare spare_after is fits after = omega (arith, is, fits, after)
 
 pub room_then : (mid : Bridge) (side : Side) (xs : List QueuePart) (i : ℕ) (part : QueuePart) → i < length xs → get_or xs i no_queue ≡ part → part.queue.port.side ≡ side
-    → all_unused (drop i xs) ≤ (flight_of mid side).spare → unused_of part.queue.port ≤ (flight_of mid part.queue.port.side).spare
+    → (flight_of mid side).spare ≡ all_unused (drop i xs) → unused_of part.queue.port ≤ (flight_of mid part.queue.port.side).spare
 room_then mid side xs i part within is same room =
     subst (λ side. unused_of part.queue.port ≤ (flight_of mid side).spare) (sym same)
     (first_fits (all_unused (drop i xs)) (unused_of part.queue.port) (all_unused (drop (i + 1) xs)) (flight_of mid side).spare (sum_then xs i part within is) room)
 
 pub room_behind : (mid new : Bridge) (side : Side) (xs : List QueuePart) (i : ℕ) (part : QueuePart) → i < length xs → get_or xs i no_queue ≡ part → part.queue.port.side ≡ side
-    → new ≡ reset_by part.queue.port mid → all_unused (drop i xs) ≤ (flight_of mid side).spare → all_unused (drop (i + 1) xs) ≤ (flight_of new side).spare
+    → new ≡ reset_by part.queue.port mid → (flight_of mid side).spare ≡ all_unused (drop i xs) → (flight_of new side).spare ≡ all_unused (drop (i + 1) xs)
 room_behind mid new side xs i part within is same reset room =
     let after : (flight_of new side).spare ≡ (flight_of mid side).spare - unused_of part.queue.port =
     ap (λ (bridge : Bridge). (flight_of bridge side).spare) (reset_at mid new side part.queue.port same reset) ∙ ap (λ (flight : Flight Flying). flight.spare) (flight_is mid side _) in

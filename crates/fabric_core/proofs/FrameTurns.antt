@@ -1,28 +1,28 @@
 -- A device's frame: begun and then counted, or refused and counted.
-use Rattle.std.proofs.Common.{◌≡◌, ◌∙◌, ℕ, ◌+◌, Bool, nat_le, true, false, Some, None, Option, List, length, refl, sym, ap, if◌then◌else◌}
+use Rattle.std.proofs.Common.{◌≡◌, ◌∙◌, ℕ, ◌+◌, Bool, nat_le, true, false, Some, None, Option, List, length, refl, sym, ap, subst, if◌then◌else◌, arith, length-append}
 use Rattle.step_kinds.specs.declared.lanes.Begun.{Begun}
 use Rattle.step_kinds.specs.declared.lanes.Begun.TheVariants.{Ok as BegunOk}
 use Rattle.step_kinds.specs.declared.names.Side.{Side}
 use Rattle.step_kinds.specs.declared.names.Side.TheVariants.{A, B}
 use Rattle.step_kinds.specs.declared.steps.Answer.{Answer}
-use Rattle.step_kinds.specs.declared.steps.Answer.TheVariants.{OkNumber, Stopped}
+use Rattle.step_kinds.specs.declared.steps.Answer.TheVariants.{OkNumber}
 use Rattle.bridge_pair.specs.Bridge.{Bridge, bytes_of, memory_size}
 use Rattle.byte_model.specs.Addresses.{own_index_word}
 use Rattle.byte_model.specs.Headers.{free_in_memory, index_word_in}
 use Rattle.host_memory.specs.Memory.{bytes_at}
 use Rattle.frame_ring.specs.Calls.{begin_answer as port_begin_answer, frame_begun, free_answer, head_seen, sizes_seen, where_begun}
 use Rattle.frame_ring.specs.Port.{PortState}
-use Rattle.queue_pair.specs.Gates.{after_begin, answer_unless, begin_answer, port_unless, refuses_answer, sender_refusal}
-use Rattle.queue_pair.proofs.Refusals.{refuses_where_begin_would as refuses_as_begin}
-use Rattle.queue_pair.specs.Laws.{is_refusal}
+use Rattle.queue_pair.specs.Gates.{after_begin, answer_unless, begin_answer, port_unless, sender_refusal}
 use Rattle.queue_pair.specs.Queue.{QueueState}
 use Rattle.queue_pair.specs.declared.BeginAnswer.{BeginAnswer}
-use Rattle.queue_pair.specs.declared.BeginAnswer.TheVariants.{Ok as IsBegun, LinkDown, NotReady, Closed, TooLong, Busy, NoRoom}
+use Rattle.queue_pair.specs.declared.BeginAnswer.TheVariants.{Ok as QueueBegun, LinkDown, NotReady, Closed, TooLong, Busy, NoRoom}
 use Rattle.fabric_rule.specs.Answers.{of_begin, of_xbegin}
 use Rattle.fabric_rule.specs.Moves.{accepted_where_begun, xbegun}
-use Rattle.fabric_rule.specs.Parts.{QueuePart, plain_bridge}
-use Rattle.fabric_core.specs.Turns.{bare_pair, begin_turn, counted_begun, frame_turn}
-use Rattle.plan_model.specs.Device.{count_refused}
+use Rattle.fabric_rule.specs.Parts.{QueuePart, one_more, plain_bridge}
+use Rattle.fabric_core.specs.QueueCalls.{IsBegun, is_begun}
+use Rattle.fabric_core.proofs.QueueParts.{not_begun}
+use Rattle.fabric_core.specs.Turns.{bare_pair, begin_turn, counted_begun, frame_answer, frame_turn, refused_once}
+use Rattle.plan_model.specs.Ethernet.{ethernet_frame}
 
 -- Free entries depend on bytes alone
 
@@ -44,7 +44,7 @@ free_same port before after plain =
 -- A frame that wasn't begun leaves the queue as it was
 
 was_begun : BeginAnswer → Bool
-was_begun (IsBegun number) = true
+was_begun (QueueBegun number) = true
 was_begun answer = false
 
 unbegun_by : (refusal : Option BeginAnswer) (begun : Begun) (queue : QueueState) (new : PortState) → was_begun (answer_unless refusal begun) ≡ false
@@ -60,69 +60,98 @@ unbegun queue bridge frame =
 
 -- Begun and then counted
 
-counted_by : (answer : BeginAnswer) (part : QueuePart) (bridge : Bridge) (frame : List ℕ) → (was_begun answer ≡ false → after_begin part.queue bridge frame ≡ part.queue)
-    → (let begun = accepted_where_begun (of_begin answer) bridge.link.session (record part { queue = after_begin part.queue bridge frame }) in
-    counted_begun (of_begin answer) begun (free_answer begun.queue.port bridge) (length frame) ≡ xbegun (of_begin answer) (bare_pair bridge) part frame)
-unfolding was_begun
-counted_by (IsBegun number) part bridge frame unbegun = refl
-counted_by answer part bridge frame unbegun = ap (λ (queue : QueueState). record part { queue = queue; counters = count_refused part.counters }) (unbegun refl)
+-- what is begun is counted in its session
+pub begun_counts : (answer : Answer) (session : ℕ) (part : QueuePart) → IsBegun answer → accepted_where_begun answer session part ≡ record part { accepted = one_more part.accepted session }
+begun_counts (OkNumber number) session part begun = refl
+begun_counts answer session part begun = absurd (cc begun)
 
--- the device isn't stopped, or the queue refuses whatever room there is
-goes_on : (stopped refuses : Bool) (answer : BeginAnswer) → refuses ≡ is_refusal answer → (stopped ≡ true → refuses ≡ true) → of_xbegin stopped answer ≡ of_begin answer
-goes_on false refuses answer is may = refl
-goes_on true refuses LinkDown is may = refl
-goes_on true refuses NotReady is may = refl
-goes_on true refuses Closed is may = refl
-goes_on true refuses (TooLong len most) is may = refl
-goes_on true refuses Busy is may = refl
-goes_on true refuses (IsBegun number) is may = absurd (cc (may refl))
-goes_on true refuses (NoRoom head tail) is may = absurd (cc (may refl))
+-- and once a device's frame is begun, the device and its counters are as the move has them
+counted_by : (answer : Answer) (part : QueuePart) (bridge : Bridge) (frame : List ℕ) → IsBegun answer
+    → (let begun = accepted_where_begun answer bridge.link.session (record part { queue = after_begin part.queue bridge frame }) in
+    counted_begun begun (free_answer begun.queue.port bridge) (length frame) ≡ xbegun answer (bare_pair bridge) part frame)
+counted_by (OkNumber number) part bridge frame begun = refl
+counted_by answer part bridge frame begun = absurd (cc begun)
 
--- a stopped device is refused where the queue doesn't refuse
-stops_by : (refuses : Bool) (answer : BeginAnswer) → refuses ≡ is_refusal answer → refuses ≡ false → of_xbegin true answer ≡ Stopped
-stops_by refuses LinkDown is none = absurd (cc (is, none))
-stops_by refuses NotReady is none = absurd (cc (is, none))
-stops_by refuses Closed is none = absurd (cc (is, none))
-stops_by refuses (TooLong len most) is none = absurd (cc (is, none))
-stops_by refuses Busy is none = absurd (cc (is, none))
-stops_by refuses (IsBegun number) is none = refl
-stops_by refuses (NoRoom head tail) is none = refl
+-- a device whose frame is begun isn't stopped, so the queue's answer is the device's
+pub begun_same : (stopped : Bool) (answer : BeginAnswer) → IsBegun (of_xbegin stopped answer) → of_xbegin stopped answer ≡ of_begin answer
+begun_same false answer begun = refl
+begun_same true LinkDown begun = refl
+begun_same true NotReady begun = refl
+begun_same true Closed begun = refl
+begun_same true (TooLong len most) begun = refl
+begun_same true Busy begun = refl
+begun_same true (QueueBegun number) begun = absurd (cc begun)
+begun_same true (NoRoom head tail) begun = absurd (cc begun)
 
 pub record FrameTurned (part : QueuePart) (bridge : Bridge) (frame : List ℕ) (answer : Answer) (new : QueuePart) : Type 0 where
   pub answered : answer ≡ (frame_turn part bridge frame).answer
   pub turned : new ≡ (frame_turn part bridge frame).part
 
-pub frame_counted : (part begun new : QueuePart) (bridge after : Bridge) (frame : List ℕ) (answer : Answer)
-    → (part.flow.stopped ≡ true → refuses_answer part.queue bridge (length frame) ≡ true) → answer ≡ (begin_turn part bridge frame).answer
-    → begun ≡ (begin_turn part bridge frame).part → plain_bridge after ≡ plain_bridge bridge
-    → new ≡ counted_begun answer begun (free_answer begun.queue.port after) (length frame) → FrameTurned part bridge frame answer new
-frame_counted part begun new bridge after frame answer may answered turned plain counted =
+-- a frame that was begun and then counted took its turn
+pub frame_counted : (part begun new : QueuePart) (bridge after : Bridge) (frame : List ℕ) (answer : Answer) → IsBegun (frame_turn part bridge frame).answer
+    → answer ≡ (begin_turn part bridge frame).answer → begun ≡ (begin_turn part bridge frame).part → plain_bridge after ≡ plain_bridge bridge
+    → new ≡ counted_begun begun (free_answer begun.queue.port after) (length frame) → FrameTurned part bridge frame answer new
+frame_counted part begun new bridge after frame answer begins answered turned plain counted =
     let ended = begin_answer part.queue bridge (length frame) in
     let started = (begin_turn part bridge frame).part in
-    let same : of_xbegin part.flow.stopped ended ≡ of_begin ended =
-    goes_on part.flow.stopped (refuses_answer part.queue bridge (length frame)) ended (refuses_as_begin part.queue bridge (length frame)) may in
+    let same : of_xbegin part.flow.stopped ended ≡ of_begin ended = begun_same part.flow.stopped ended begins in
     record {
       answered = answered ∙ sym same;
       turned = counted
-          ∙ ap (λ (answer : Answer). counted_begun answer begun (free_answer begun.queue.port after) (length frame)) answered
-          ∙ ap (λ (begun : QueuePart). counted_begun (of_begin ended) begun (free_answer begun.queue.port after) (length frame)) turned
-          ∙ ap (λ (free : ℕ). counted_begun (of_begin ended) started free (length frame)) (free_same started.queue.port bridge after plain)
-          ∙ counted_by ended part bridge frame (unbegun part.queue bridge frame)
+          ∙ ap (λ (begun : QueuePart). counted_begun begun (free_answer begun.queue.port after) (length frame)) turned
+          ∙ ap (λ (free : ℕ). counted_begun started free (length frame)) (free_same started.queue.port bridge after plain)
+          ∙ counted_by (of_begin ended) part bridge frame (subst IsBegun same begins)
           ∙ ap (λ (answer : Answer). xbegun answer (bare_pair bridge) part frame) (sym same);
     }
 
-pub frame_stopped : (part new : QueuePart) (bridge : Bridge) (frame : List ℕ) → part.flow.stopped ≡ true → refuses_answer part.queue bridge (length frame) ≡ false
-    → new ≡ record part { counters = count_refused part.counters } → FrameTurned part bridge frame Stopped new
-frame_stopped part new bridge frame stopped none counted =
-    let ended = begin_answer part.queue bridge (length frame) in
-    let stops : of_xbegin part.flow.stopped ended ≡ Stopped =
-    ap (λ (stopped : Bool). of_xbegin stopped ended) stopped ∙ stops_by (refuses_answer part.queue bridge (length frame)) ended (refuses_as_begin part.queue bridge (length frame)) none in
-    record {
-      answered = sym stops;
-      turned = counted ∙ ap (λ (answer : Answer). xbegun answer (bare_pair bridge) part frame) (sym stops);
-    }
+-- an Ethernet frame has its header before its payload
+pub frame_length : (dst src : List ℕ) (kind : ℕ) (payload : List ℕ) → length dst ≡ 6 → length src ≡ 6 → length (ethernet_frame dst src kind payload) ≡ 14 + length payload
+frame_length dst src kind payload to from = simp length-append (omega (arith, to, from))
 
--- What a beginning leaves of the counters, and counting of the queue
+-- what a device's frame is answered follows from its length
+pub answered_by_length : (part : QueuePart) (bridge : Bridge) (dst src : List ℕ) (kind : ℕ) (payload : List ℕ) (given : Answer) (size : ℕ) → length dst ≡ 6 → length src ≡ 6
+    → size ≡ length payload → given ≡ frame_answer part bridge (14 + size) → given ≡ (frame_turn part bridge (ethernet_frame dst src kind payload)).answer
+answered_by_length part bridge dst src kind payload given size to from same is =
+    is ∙ ap (frame_answer part bridge) (ap (λ size. 14 + size) same ∙ sym (frame_length dst src kind payload to from))
+
+-- an answer by which a frame was begun
+pub begins_by : (given answer : Answer) (number : ℕ) → given ≡ answer → given ≡ OkNumber number → IsBegun answer
+begins_by given answer number same begun = ap is_begun (sym same ∙ begun)
+
+-- the same, where it wasn't
+begins_not : (given : Answer) → ((number : ℕ) → given ≡ OkNumber number → ⊥) → is_begun given ≡ false
+begins_not (OkNumber number) other = absurd (other number refl)
+begins_not given other = refl
+
+-- so a turn of another answer is refused
+pub refused_by_answer : (given answer : Answer) → given ≡ answer → ((number : ℕ) → given ≡ OkNumber number → ⊥) → is_begun answer ≡ false
+refused_by_answer given answer same other = ap is_begun (sym same) ∙ begins_not given other
+
+-- Refusals
+
+-- an answer other than a beginning's
+not_was : (answer : BeginAnswer) → ((number : ℕ) → answer ≡ QueueBegun number → ⊥) → was_begun answer ≡ false
+unfolding was_begun
+not_was (QueueBegun number) other = absurd (other number refl)
+not_was answer other = refl
+
+-- a begin that is refused leaves the queue and its counts
+pub refused_begin : (part : QueuePart) (bridge : Bridge) (frame : List ℕ) → ((number : ℕ) → begin_answer part.queue bridge (length frame) ≡ QueueBegun number → ⊥) → part ≡ (begin_turn part bridge frame).part
+refused_begin part bridge frame other =
+    let answer = begin_answer part.queue bridge (length frame) in
+    ap (λ (queue : QueueState). record part { queue = queue }) (sym (unbegun part.queue bridge frame (not_was answer other)))
+    ∙ sym (not_begun answer bridge.link.session (record part { queue = after_begin part.queue bridge frame }) other)
+
+-- a device's begin that is refused is counted once
+refused_by : (answer : Answer) (bridge : Bridge) (part : QueuePart) (frame : List ℕ) → is_begun answer ≡ false → refused_once part ≡ xbegun answer (bare_pair bridge) part frame
+refused_by (OkNumber number) bridge part frame other = absurd (cc other)
+refused_by answer bridge part frame other = refl
+
+-- the same of the frame's own turn
+pub refused_frame : (part : QueuePart) (bridge : Bridge) (frame : List ℕ) → is_begun (frame_turn part bridge frame).answer ≡ false → refused_once part ≡ (frame_turn part bridge frame).part
+refused_frame part bridge frame other = refused_by (frame_turn part bridge frame).answer bridge part frame other
+
+-- What a beginning leaves of the counters
 
 begun_counters : (answer : Answer) (session : ℕ) (part : QueuePart) → (accepted_where_begun answer session part).counters ≡ part.counters
 begun_counters (OkNumber number) session part = refl
@@ -131,7 +160,3 @@ begun_counters answer session part = refl
 pub begin_counters : (part : QueuePart) (bridge : Bridge) (frame : List ℕ) → (begin_turn part bridge frame).part.counters ≡ part.counters
 begin_counters part bridge frame =
     begun_counters (of_begin (begin_answer part.queue bridge (length frame))) bridge.link.session (record part { queue = after_begin part.queue bridge frame })
-
-pub counted_queue : (answer : Answer) (part : QueuePart) (free len : ℕ) → (counted_begun answer part free len).queue ≡ part.queue
-counted_queue (OkNumber number) part free len = refl
-counted_queue answer part free len = refl

@@ -6,7 +6,7 @@ use Rattle.step_kinds.specs.declared.plan.DevPlan.{DevPlan}
 use Rattle.step_kinds.specs.declared.plan.PairPlan.{PairPlan}
 use Rattle.plan_model.specs.Both.{Both}
 use Rattle.plan_model.specs.Plans.{dev_plan, side_plan}
-use Rattle.bridge_pair.specs.Bridge.{Bridge}
+use Rattle.bridge_pair.specs.Bridge.{Bridge, flight_of}
 use Rattle.bridge_pair.specs.Fresh.{fresh_bridge}
 use Rattle.frame_ring.specs.Port.{fresh_port}
 use Rattle.queue_pair.specs.Queue.{QueueState}
@@ -66,6 +66,10 @@ limits_none devs k side queue n stop start all none = λ d below on. absurd (non
 
 -- A pair of such queues
 
+nothing_promised : (plan : PairPlan) (pages : Both (List ℕ)) (side : Side) → (flight_of (fresh_bridge plan pages) side).spare ≡ 0
+nothing_promised plan pages A = refl
+nothing_promised plan pages B = refl
+
 pub fresh_whole : (devs : List DevPlan) (plan : PairPlan) (k : ℕ) (bridge : Bridge) (pages : Both (List ℕ)) (a b : List QueuePart) → bridge ≡ fresh_bridge plan pages
     → AreFreshQueues devs plan k A a → AreFreshQueues devs plan k B b → IsWhole (record { bridge = bridge; queues = record { a = a; b = b } })
 fresh_whole devs plan k bridge pages a b fresh fresh_a fresh_b =
@@ -74,7 +78,7 @@ fresh_whole devs plan k bridge pages a b fresh fresh_a fresh_b =
     of_side : (side : Side) (parts : List QueuePart) → AreFreshQueues devs plan k side parts → SideIsWhole bridge side parts
     of_side side parts are =
         let plans : bridge.plan ≡ plan = ap (λ (bridge : Bridge). bridge.plan) fresh in
-        side_fresh bridge side parts (are.all_queues ∙ ap (λ (plan : PairPlan). (side_plan plan side).queues) (sym plans))
+        side_fresh bridge side parts (ap (λ (bridge : Bridge). (flight_of bridge side).spare) fresh ∙ nothing_promised plan pages side) (are.all_queues ∙ ap (λ (plan : PairPlan). (side_plan plan side).queues) (sym plans))
         (λ j below. ap (λ (queue : QueueState). queue.port) (are.queues j (subst (λ n. j < n) are.all_queues below)).queue_is ∙ ap (λ (plan : PairPlan). fresh_port plan side j) (sym plans))
 
 pub fresh_pair : (devs : List DevPlan) (plan : PairPlan) (k : ℕ) (bridge : Bridge) (pages : Both (List ℕ)) (a b : List QueuePart) → bridge ≡ fresh_bridge plan pages

@@ -61,11 +61,11 @@ grown_plain bridge A pages more = refl
 grown_plain bridge B pages more = refl
 
 -- of numbers alone
-more_room : (spare spare_after unused unused_after : ℕ) → spare_after ≡ spare + (unused_after - unused) → spare + unused_after ≤ spare_after + unused
-more_room spare spare_after unused unused_after e = omega (arith, e)
+more_room : (spare spare_after unused unused_after : ℕ) → unused ≤ unused_after → spare_after ≡ spare + (unused_after - unused) → spare_after + unused ≡ spare + unused_after
+more_room spare spare_after unused unused_after grows e = omega (arith, grows, e)
 
-no_less : (n m : ℕ) → n ≡ m → m ≤ n
-no_less n m e = omega (arith, e)
+no_less : (n : ℕ) → n ≤ n
+no_less n = omega arith
 
 either_side : (P : Side → Type 0) (side : Side) → P side → P (other_side side) → (any : Side) → P any
 either_side P A own peer A = own
@@ -89,10 +89,10 @@ IsGrown old new before after = after ≡ with_room (with_pages before (other_sid
 pub plain_grown : (old new : PortState) (before after : Bridge) → IsGrown old new before after → plain_bridge after ≡ plain_bridge before
 plain_grown old new before after rest = ap plain_bridge rest ∙ grown_plain before old.side (pages_of after (other_side old.side)) (unused_of new - unused_of old)
 
-keeps_grown : (old new : PortState) (before after : Bridge) (touched : ℕ → Type 0) → SamePlace new old
+keeps_grown : (old new : PortState) (before after : Bridge) (touched : ℕ → Type 0) → SamePlace new old → unused_of old ≤ unused_of new
     → IsGrown old new before after
     → PagesGrow touched (pages_of before (other_side old.side)) (pages_of after (other_side old.side)) → HasPagesIn new after → KeepsPort old new before after
-keeps_grown old new before after touched same rest grow ready =
+keeps_grown old new before after touched same grows rest grow ready =
     let side = old.side in
     let pages = pages_of after (other_side side) in
     let more = unused_of new - unused_of old in
@@ -108,8 +108,8 @@ keeps_grown old new before after touched same rest grow ready =
       pages =
           either_side (λ any. (page : ℕ) → Contains (pages_of before any) page → Contains (pages_of after any) page) side
           (λ page had. subst (λ pages. Contains pages page) (sym own) had) grow.stay;
-      room = more_room (flight_of before side).spare (flight_of after side).spare (unused_of old) (unused_of new) spare;
-      peer_room = no_less (flight_of after (other_side side)).spare (flight_of before (other_side side)).spare peer;
+      room = more_room (flight_of before side).spare (flight_of after side).spare (unused_of old) (unused_of new) grows spare;
+      peer_room = peer;
       ready = ready;
     }
 
@@ -156,11 +156,11 @@ pub plain_grown_both : (old new : PortState) (before after : Bridge) → IsGrown
 plain_grown_both old new before after rest =
     ap plain_bridge rest ∙ both_plain before old.side (pages_of after (other_side old.side)) (pages_of after old.side) (unused_of new - unused_of old)
 
-keeps_both : (old new : PortState) (before after : Bridge) (touched flags : ℕ → Type 0) → SamePlace new old
+keeps_both : (old new : PortState) (before after : Bridge) (touched flags : ℕ → Type 0) → SamePlace new old → unused_of old ≤ unused_of new
     → IsGrownBoth old new before after
     → PagesGrow touched (pages_of before (other_side old.side)) (pages_of after (other_side old.side)) → PagesGrow flags (pages_of before old.side) (pages_of after old.side)
     → HasPagesIn new after → KeepsPort old new before after
-keeps_both old new before after touched flags same rest grow own_grow ready =
+keeps_both old new before after touched flags same grows rest grow own_grow ready =
     let side = old.side in
     let peer = pages_of after (other_side side) in
     let own = pages_of after side in
@@ -174,8 +174,8 @@ keeps_both old new before after touched flags same rest grow own_grow ready =
       same_queue = same.same_queue;
       plan = ap (λ (bridge : Bridge). bridge.plan) rest;
       pages = either_side (λ any. (page : ℕ) → Contains (pages_of before any) page → Contains (pages_of after any) page) side own_grow.stay grow.stay;
-      room = more_room (flight_of before side).spare (flight_of after side).spare (unused_of old) (unused_of new) spare;
-      peer_room = no_less (flight_of after (other_side side)).spare (flight_of before (other_side side)).spare peer_spare;
+      room = more_room (flight_of before side).spare (flight_of after side).spare (unused_of old) (unused_of new) grows spare;
+      peer_room = peer_spare;
       ready = ready;
     }
 
@@ -190,8 +190,8 @@ ready_both old new before after touched flags grow own_grow ready same =
 -- A call that changed no promise but those that it used
 
 pub keeps_exact : (old new : PortState) (before after : Bridge) → SamePlace new old → after.plan ≡ before.plan → ((any : Side) → pages_of after any ≡ pages_of before any)
-    → (flight_of before old.side).spare + unused_of new ≤ (flight_of after old.side).spare + unused_of old
-    → (flight_of before (other_side old.side)).spare ≤ (flight_of after (other_side old.side)).spare → HasPagesIn new after → KeepsPort old new before after
+    → (flight_of after old.side).spare + unused_of old ≡ (flight_of before old.side).spare + unused_of new
+    → (flight_of after (other_side old.side)).spare ≡ (flight_of before (other_side old.side)).spare → HasPagesIn new after → KeepsPort old new before after
 keeps_exact old new before after same plan pages room peer ready =
     record {
       same_plan = same.same_plan;
@@ -216,28 +216,32 @@ keeps_seen seen part new next before after view is place keeps ready had =
 
 -- the same of a call that grew the pages at the peer, and where it answered want of memory
 pub begun_keeps : (seen part : QueuePart) (new next : QueueState) (before after : Bridge) (touched : ℕ → Type 0) → seen ≡ part → new ≡ next → SamePlace next.port seen.queue.port
+    → unused_of seen.queue.port ≤ unused_of next.port
     → IsGrown seen.queue.port new.port before after
     → PagesGrow touched (pages_of before (other_side seen.queue.port.side)) (pages_of after (other_side seen.queue.port.side))
     → (HasPagesIn seen.queue.port before → HasPagesIn new.port after) → HasPagesIn part.queue.port before → KeepsPort part.queue.port new.port before after
-begun_keeps seen part new next before after touched view is place rest grow =
-    keeps_seen seen part new next before after view is place (λ same. keeps_grown seen.queue.port new.port before after touched same rest grow)
+begun_keeps seen part new next before after touched view is place grows rest grow =
+    keeps_seen seen part new next before after view is place
+    (λ same. keeps_grown seen.queue.port new.port before after touched same (subst (λ (queue : QueueState). unused_of seen.queue.port ≤ unused_of queue.port) (sym is) grows) rest grow)
 
 pub wanted_keeps : (seen part : QueuePart) (new : QueueState) (before after : Bridge) (touched : ℕ → Type 0) → seen ≡ part → new ≡ seen.queue
     → IsGrown seen.queue.port new.port before after
     → PagesGrow touched (pages_of before (other_side seen.queue.port.side)) (pages_of after (other_side seen.queue.port.side))
     → HasPagesIn part.queue.port before → KeepsPort part.queue.port new.port before after
 wanted_keeps seen part new before after touched view is rest grow =
-    begun_keeps seen part new seen.queue before after touched view is (same_place seen.queue.port) rest grow
+    begun_keeps seen part new seen.queue before after touched view is (same_place seen.queue.port) (no_less (unused_of seen.queue.port)) rest grow
     (λ had. ready_after seen.queue.port new.port before after touched rest grow had (ap (λ (queue : QueueState). queue.port) is))
 
 -- and of a look
 pub looked_keeps : (seen part : QueuePart) (new next : QueueState) (before after : Bridge) (touched flags : ℕ → Type 0) → seen ≡ part → new ≡ next → SamePlace next.port seen.queue.port
+    → unused_of seen.queue.port ≤ unused_of next.port
     → IsGrownBoth seen.queue.port new.port before after
     → PagesGrow touched (pages_of before (other_side seen.queue.port.side)) (pages_of after (other_side seen.queue.port.side))
     → PagesGrow flags (pages_of before seen.queue.port.side) (pages_of after seen.queue.port.side)
     → (HasPagesIn seen.queue.port before → HasPagesIn new.port after) → HasPagesIn part.queue.port before → KeepsPort part.queue.port new.port before after
-looked_keeps seen part new next before after touched flags view is place rest grow own_grow =
-    keeps_seen seen part new next before after view is place (λ same. keeps_both seen.queue.port new.port before after touched flags same rest grow own_grow)
+looked_keeps seen part new next before after touched flags view is place grows rest grow own_grow =
+    keeps_seen seen part new next before after view is place
+    (λ same. keeps_both seen.queue.port new.port before after touched flags same (subst (λ (queue : QueueState). unused_of seen.queue.port ≤ unused_of queue.port) (sym is) grows) rest grow own_grow)
 
 pub look_wanted_keeps : (seen part : QueuePart) (new : QueueState) (before after : Bridge) (touched flags : ℕ → Type 0) → seen ≡ part → new ≡ seen.queue
     → IsGrownBoth seen.queue.port new.port before after
@@ -245,7 +249,7 @@ pub look_wanted_keeps : (seen part : QueuePart) (new : QueueState) (before after
     → PagesGrow flags (pages_of before seen.queue.port.side) (pages_of after seen.queue.port.side)
     → HasPagesIn part.queue.port before → KeepsPort part.queue.port new.port before after
 look_wanted_keeps seen part new before after touched flags view is rest grow own_grow =
-    looked_keeps seen part new seen.queue before after touched flags view is (same_place seen.queue.port) rest grow own_grow
+    looked_keeps seen part new seen.queue before after touched flags view is (same_place seen.queue.port) (no_less (unused_of seen.queue.port)) rest grow own_grow
     (λ had. ready_both seen.queue.port new.port before after touched flags grow own_grow had (ap (λ (queue : QueueState). queue.port) is))
 
 -- The port after each call is of the same queue, and but for a look and a copy it receives as before

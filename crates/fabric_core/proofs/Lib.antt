@@ -3,6 +3,7 @@ pub mod Forgetting
 pub mod FrameTurns
 pub mod FreshFabrics
 pub mod FreshQueues
+pub mod Growing
 pub mod InFlight
 pub mod Keeping
 pub mod LogCounts
@@ -19,4 +20,5 @@ pub mod SessionTallies
 pub mod Standing
 pub mod SteppedPairs
 pub mod Turning
+pub mod Wants
 pub mod Whole

@@ -1,5 +1,5 @@
 -- A bridge that differs in one side's flight alone, as a post and an ack leave it, and one that differs in bytes alone.
-use Rattle.std.proofs.Common.{◌≡◌, ◌∙◌, ℕ, ◌+◌, ◌≤◌, Bool, true, false, List, [], ◌∷◌, refl, sym, ap, subst, arith, if◌then◌else◌}
+use Rattle.std.proofs.Common.{◌≡◌, ◌∙◌, ℕ, ◌+◌, Bool, true, false, List, [], ◌∷◌, refl, sym, ap, subst, arith, if◌then◌else◌}
 use Rattle.step_kinds.specs.Sides.{other_side}
 use Rattle.step_kinds.specs.declared.names.Side.{Side}
 use Rattle.step_kinds.specs.declared.names.Side.TheVariants.{A, B}
@@ -77,21 +77,13 @@ other_flight : (bridge : Bridge) (side : Side) (flight : Flight Flying) → flig
 other_flight bridge A flight = refl
 other_flight bridge B flight = refl
 
--- of numbers alone
-no_more : (before after old new : ℕ) → after + old ≡ before + new → before + new ≤ after + old
-no_more before after old new e = omega (arith, e)
-
-no_less : (n m : ℕ) → n ≡ m → m ≤ n
-no_less n m e = omega (arith, e)
-
 keeps_flight : (old new : PortState) (before after : Bridge) → SamePlace new old → OneFlight before old.side after
     → (flight_of after old.side).spare + unused_of old ≡ (flight_of before old.side).spare + unused_of new → HasPagesIn new after → KeepsPort old new before after
 keeps_flight old new before after same one room ready =
     let peer : (flight_of after (other_side old.side)).spare ≡ (flight_of before (other_side old.side)).spare =
     ap (λ (bridge : Bridge). (flight_of bridge (other_side old.side)).spare) one.rest ∙ ap (λ (flight : Flight Flying). flight.spare) (other_flight before old.side one.flight) in
     keeps_exact old new before after same (ap (λ (bridge : Bridge). bridge.plan) one.rest) (λ any. ap (λ (bridge : Bridge). pages_of bridge any) one.rest)
-    (no_more (flight_of before old.side).spare (flight_of after old.side).spare (unused_of old) (unused_of new) room)
-    (no_less (flight_of after (other_side old.side)).spare (flight_of before (other_side old.side)).spare peer) ready
+    room peer ready
 
 -- a call of a queue that changed one flight alone, as its part is seen
 pub flight_keeps : (seen part : QueuePart) (new next : QueueState) (before after posted : Bridge) → seen ≡ part → new ≡ next → SamePlace next.port seen.queue.port
@@ -131,8 +123,8 @@ keeps_bytes old new before after same other room ready =
     keeps_exact old new before after same (ap (λ (bridge : Bridge). bridge.plan) other.rest)
     (λ any. ap (λ (bridge : Bridge). pages_of bridge any) other.rest ∙ pages_stay before old.side any other.bytes)
     (same_room (flight_of before old.side).spare (flight_of after old.side).spare (unused_of old) (unused_of new) (flights old.side) room)
-    (no_less (flight_of after (other_side old.side)).spare (flight_of before (other_side old.side)).spare (flights (other_side old.side))) ready where
-      same_room : (spare after unused unused_after : ℕ) → after ≡ spare → unused_after ≡ unused → spare + unused_after ≤ after + unused
+    (flights (other_side old.side)) ready where
+      same_room : (spare after unused unused_after : ℕ) → after ≡ spare → unused_after ≡ unused → after + unused ≡ spare + unused_after
       same_room spare after unused unused_after e f = omega (arith, e, f)
 
 -- a clear, which uses no promise, as the part of its queue is seen

@@ -98,3 +98,14 @@ look_at answer queue port same = same_place queue.port
 pub look_place : (queue : QueueState) (bridge : Bridge) → SamePlace (after_look queue bridge).port queue.port
 look_place queue bridge =
     look_at (look_answer queue bridge) queue (port_after_look queue.port bridge) (place_if queue.port (entry_found queue.port.receiving (found_seen queue.port bridge)) (is_idle queue.port.receiving.phase))
+
+-- a look that finds no entry leaves the receiver as it was
+
+unfound_by : (answer : LookAnswer) (queue : QueueState) (port : PortState) → ((number len : ℕ) → answer ≡ Ready number len → ⊥)
+    → (after_look_answer answer queue port).port.receiving ≡ queue.port.receiving
+unfound_by (Ready number len) queue port other = absurd (other number len refl)
+unfound_by answer queue port other = refl
+
+pub unfound_receives : (queue : QueueState) (bridge : Bridge) → ((number len : ℕ) → look_answer queue bridge ≡ Ready number len → ⊥)
+    → (after_look queue bridge).port.receiving ≡ queue.port.receiving
+unfound_receives queue bridge = unfound_by (look_answer queue bridge) queue (port_after_look queue.port bridge)

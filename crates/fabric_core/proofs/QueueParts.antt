@@ -1,6 +1,5 @@
 -- A queue's part of a pair, put together.
-use Rattle.std.proofs.Common.{◌≡◌, ◌∙◌, ℕ, ◌+◌, ◌≤◌, true, List, refl, sym, ap, arith}
-use Rattle.step_kinds.specs.Sides.{other_side}
+use Rattle.std.proofs.Common.{◌≡◌, ◌∙◌, ℕ, ◌+◌, true, List, refl, sym, ap, arith}
 use Rattle.step_kinds.specs.declared.lanes.LaneCopy.{LaneCopy}
 use Rattle.step_kinds.specs.declared.lanes.LaneCopy.TheVariants.{Whole}
 use Rattle.step_kinds.specs.declared.plan.Counters.{Counters}
@@ -44,16 +43,14 @@ not_whole (Whole number frame) session part other = absurd (other number frame r
 not_whole copy session part other = refl
 
 -- of numbers alone
-same_room : (spare unused unused_after : ℕ) → unused_after ≡ unused → spare + unused_after ≤ spare + unused
+same_room : (spare unused unused_after : ℕ) → unused_after ≡ unused → spare + unused ≡ spare + unused_after
 same_room spare unused unused_after e = omega (arith, e)
 
 pub keeps_copy : (port : PortState) (bridge : Bridge) → HasPagesIn (after_copy port bridge) bridge → KeepsPort port (after_copy port bridge) bridge bridge
 keeps_copy port bridge ready =
     keeps_exact port (after_copy port bridge) bridge bridge (copy_place port bridge) refl (λ any. refl)
     (same_room (flight_of bridge port.side).spare (unused_of port) (unused_of (after_copy port bridge)) (unused_copied port bridge))
-    (at_most (flight_of bridge (other_side port.side)).spare) ready where
-      at_most : (n : ℕ) → n ≤ n
-      at_most n = omega arith
+    refl ready
 
 pub not_begun : (answer : BeginAnswer) (session : ℕ) (part : QueuePart) → ((number : ℕ) → answer ≡ IsBegun number → ⊥)
     → accepted_where_begun (of_begin answer) session part ≡ part

@@ -43,6 +43,7 @@ use Rattle.fabric_core.specs.declared.fabric.Fabric.TheInside.{Inside}
 use Rattle.fabric_core.proofs.RefusedMoves.{refused_left}
 use Rattle.fabric_core.specs.Lawful.{IsLawful}
 use Rattle.fabric_core.specs.FabricStep.{HasStepped}
+use Rattle.fabric_core.specs.Wants.{MayWant, counters_at}
 use Rattle.fabric_core.specs.LogClauses.{HasMade, IsAnswered, IsLikely, log_after}
 
 -- A pair that differs in promises alone
@@ -176,36 +177,36 @@ module _ (plan : Plan) (steps : List Step) (k : ℕ) (declared : IsDeclared plan
 queue_there : (plan : Plan) (k : ℕ) (side : Side) (queue : ℕ) (bridge : Bridge) → bridge.plan ≡ pair_plan plan k → IsQueueOf plan k side queue → queue < (side_plan bridge.plan side).queues
 queue_there plan k side queue bridge is may = subst (λ (pair : PairPlan). queue < (side_plan pair side).queues) (sym is) may.among
 
-pub can_make : (plan : Plan) (step : Step) (bridge : Bridge) → bridge.plan ≡ pair_plan plan (subject_of step) → Agrees bridge → IsPermitted plan step → CanMake plan.devs bridge step
-can_make plan (Enable p side) bridge is agrees may = record { place = tt; queue = tt; bridge = tt }
-can_make plan (Train p) bridge is agrees may = record { place = tt; queue = tt; bridge = tt }
-can_make plan (Break p) bridge is agrees may = record { place = tt; queue = tt; bridge = tt }
-can_make plan (DropDone p) bridge is agrees may = record { place = tt; queue = tt; bridge = tt }
-can_make plan (Clean p side) bridge is agrees may = record { place = tt; queue = tt; bridge = tt }
-can_make plan (Offer p side) bridge is agrees may = record { place = tt; queue = tt; bridge = tt }
-can_make plan (Check p side) bridge is agrees may = record { place = tt; queue = tt; bridge = agrees.up side }
-can_make plan (Ready p side queue) bridge is agrees may = record { place = tt; queue = tt; bridge = queue_there plan p side queue bridge is may }
-can_make plan (Join p side queue) bridge is agrees may = record { place = tt; queue = tt; bridge = queue_there plan p side queue bridge is may }
-can_make plan (Begin p side queue frame) bridge is agrees may = record { place = queue_there plan p side queue bridge is may.0; queue = may.1.0; bridge = tt }
-can_make plan (QpDown p side queue) bridge is agrees may = record { place = queue_there plan p side queue bridge is may; queue = tt; bridge = tt }
-can_make plan (Xbegin p side queue dev dst kind payload) bridge is agrees may = record { place = queue_there plan p side queue bridge is may.0; queue = (may.1.declared, may.2); bridge = tt }
-can_make plan (Post p side queue) bridge is agrees may = record { place = queue_there plan p side queue bridge is may; queue = tt; bridge = tt }
-can_make plan (Land p side place) bridge is agrees may = record { place = tt; queue = tt; bridge = tt }
-can_make plan (Look p side queue) bridge is agrees may = record { place = queue_there plan p side queue bridge is may; queue = tt; bridge = tt }
-can_make plan (Copy p side queue) bridge is agrees may = record { place = queue_there plan p side queue bridge is may; queue = tt; bridge = tt }
-can_make plan (Clear p side queue) bridge is agrees may = record { place = queue_there plan p side queue bridge is may; queue = tt; bridge = tt }
-can_make plan (Ack p side queue) bridge is agrees may = record { place = queue_there plan p side queue bridge is may; queue = tt; bridge = tt }
-can_make plan (Wake p side queue dev) bridge is agrees may = record { place = queue_there plan p side queue bridge is may.0; queue = tt; bridge = tt }
-can_make plan (Irq p side) bridge is agrees may = record { place = tt; queue = tt; bridge = tt }
-can_make plan (Mask p side bits) bridge is agrees may = record { place = tt; queue = tt; bridge = tt }
-can_make plan (Unmask p side bits) bridge is agrees may = record { place = tt; queue = tt; bridge = tt }
-can_make plan (Spad p side i value) bridge is agrees may = record { place = tt; queue = tt; bridge = may.1.among }
-can_make plan (Poke p side window offset bytes) bridge is agrees may = record { place = tt; queue = tt; bridge = subst (λ (pair : PairPlan). IsPoke pair side window offset bytes) (sym is) may.1 }
-can_make plan (ShowMem p side at len) bridge is agrees may = record { place = tt; queue = tt; bridge = subst (λ (pair : PairPlan). IsShown (side_plan pair side) at len) (sym is) may.1 }
-can_make plan (ShowPad p side i) bridge is agrees may = record { place = tt; queue = tt; bridge = may.1 }
-can_make plan (ShowQueue p side place) bridge is agrees may = record { place = tt; queue = tt; bridge = tt }
-can_make plan (Relay p side queue switch port) bridge is agrees may = absurd may
-can_make plan (Xnext p side queue dev) bridge is agrees may = absurd may
+pub can_make : (plan : Plan) (step : Step) (bridge : Bridge) → IsDeclared plan → bridge.plan ≡ pair_plan plan (subject_of step) → Agrees bridge → IsPermitted plan step → CanMake plan.devs bridge step
+can_make plan (Enable p side) bridge declared is agrees may = record { place = tt; queue = tt; bridge = tt }
+can_make plan (Train p) bridge declared is agrees may = record { place = tt; queue = tt; bridge = tt }
+can_make plan (Break p) bridge declared is agrees may = record { place = tt; queue = tt; bridge = tt }
+can_make plan (DropDone p) bridge declared is agrees may = record { place = tt; queue = tt; bridge = tt }
+can_make plan (Clean p side) bridge declared is agrees may = record { place = tt; queue = tt; bridge = tt }
+can_make plan (Offer p side) bridge declared is agrees may = record { place = tt; queue = tt; bridge = tt }
+can_make plan (Check p side) bridge declared is agrees may = record { place = tt; queue = tt; bridge = agrees.up side }
+can_make plan (Ready p side queue) bridge declared is agrees may = record { place = tt; queue = tt; bridge = queue_there plan p side queue bridge is may }
+can_make plan (Join p side queue) bridge declared is agrees may = record { place = tt; queue = tt; bridge = queue_there plan p side queue bridge is may }
+can_make plan (Begin p side queue frame) bridge declared is agrees may = record { place = queue_there plan p side queue bridge is may.0; queue = may.1.0; bridge = tt }
+can_make plan (QpDown p side queue) bridge declared is agrees may = record { place = queue_there plan p side queue bridge is may; queue = tt; bridge = tt }
+can_make plan (Xbegin p side queue dev dst kind payload) bridge declared is agrees may = record { place = queue_there plan p side queue bridge is may.0; queue = (may.1.declared, (declared.devices dev may.1.declared).address, may.2); bridge = tt }
+can_make plan (Post p side queue) bridge declared is agrees may = record { place = queue_there plan p side queue bridge is may; queue = tt; bridge = tt }
+can_make plan (Land p side place) bridge declared is agrees may = record { place = tt; queue = tt; bridge = tt }
+can_make plan (Look p side queue) bridge declared is agrees may = record { place = queue_there plan p side queue bridge is may; queue = tt; bridge = tt }
+can_make plan (Copy p side queue) bridge declared is agrees may = record { place = queue_there plan p side queue bridge is may; queue = tt; bridge = tt }
+can_make plan (Clear p side queue) bridge declared is agrees may = record { place = queue_there plan p side queue bridge is may; queue = tt; bridge = tt }
+can_make plan (Ack p side queue) bridge declared is agrees may = record { place = queue_there plan p side queue bridge is may; queue = tt; bridge = tt }
+can_make plan (Wake p side queue dev) bridge declared is agrees may = record { place = queue_there plan p side queue bridge is may.0; queue = tt; bridge = tt }
+can_make plan (Irq p side) bridge declared is agrees may = record { place = tt; queue = tt; bridge = tt }
+can_make plan (Mask p side bits) bridge declared is agrees may = record { place = tt; queue = tt; bridge = tt }
+can_make plan (Unmask p side bits) bridge declared is agrees may = record { place = tt; queue = tt; bridge = tt }
+can_make plan (Spad p side i value) bridge declared is agrees may = record { place = tt; queue = tt; bridge = may.1.among }
+can_make plan (Poke p side window offset bytes) bridge declared is agrees may = record { place = tt; queue = tt; bridge = subst (λ (pair : PairPlan). IsPoke pair side window offset bytes) (sym is) may.1 }
+can_make plan (ShowMem p side at len) bridge declared is agrees may = record { place = tt; queue = tt; bridge = subst (λ (pair : PairPlan). IsShown (side_plan pair side) at len) (sym is) may.1 }
+can_make plan (ShowPad p side i) bridge declared is agrees may = record { place = tt; queue = tt; bridge = may.1 }
+can_make plan (ShowQueue p side place) bridge declared is agrees may = record { place = tt; queue = tt; bridge = tt }
+can_make plan (Relay p side queue switch port) bridge declared is agrees may = absurd may
+can_make plan (Xnext p side queue dev) bridge declared is agrees may = absurd may
 
 -- One step more
 
@@ -352,6 +353,7 @@ pub record PairMoved {E : Type 0} (devs : List DevPlan) (step : Step) (old new :
   pub answer : IfOk result (λ answer. answer ≡ (move_of devs old step).answer)
   pub after : OnOk result (plain_pair new ≡ plain_pair (move_of devs old step).after)
   pub err : OnErr result (plain_pair new ≡ plain_pair old)
+  pub border : OnErr result (MayWant (counters_at old step) step (move_of devs old step).answer)
 
 -- it stands for some steps still
 
@@ -387,6 +389,7 @@ module _ (old : FabricState) (step : Step) (pair : PairState) (may : IsPermitted
         still_stands = λ plan steps made. tt;
         err = tt;
         wants = wants;
+        border = λ plan steps made. tt;
         plan = same_plan old new (record { steps = some.steps ++ step ∷ []; made = step_made (plan_kept old) some.steps step old new some.made may answer moves });
       }
   fabric_moved (Err e) some wants moved =
@@ -401,6 +404,9 @@ module _ (old : FabricState) (step : Step) (pair : PairState) (may : IsPermitted
         still_stands = λ plan steps made. still_made plan steps old new same made;
         err = same;
         wants = wants;
+        border = λ plan steps made.
+            let next = move_of old.devs (pair_of old (subject_of step)) step in
+            (next.answer, step_answered plan steps step old (with_pair old (subject_of step) next.after) made (permitted_by plan steps made) next.answer (set_moved old step next.after next.answer among_pairs refl refl), moved.border);
         plan = same_plan old new (record { steps = some.steps; made = still_made (plan_kept old) some.steps old new same some.made });
       }
 
@@ -429,6 +435,6 @@ pub pair_can : (fabric : FabricState) (step : Step) → MadeSome (plan_kept fabr
 pair_can fabric step some may =
     let k = subject_of step in
     let among = pair_among (plan_kept fabric) step may in
-    can_make (plan_kept fabric) step (pair_of fabric k).bridge
+    can_make (plan_kept fabric) step (pair_of fabric k).bridge some.made.declared
     (plan_of_pair fabric.devs (pair_plan (plan_kept fabric) k) k (site_of (plan_kept fabric) k some.steps) (pair_of fabric k) (some.made.stands.pairs k among))
     (pair_agrees fabric k some (among_pairs fabric step (pair_of fabric k) may)) may

@@ -1,5 +1,5 @@
 -- A step on a pair is a turn of the part that it touches, and a step on the bridge keeps all that was promised.
-use Rattle.std.proofs.Common.{◌≡◌, ◌∙◌, ℕ, ◌≤◌, Bool, true, false, Contains, IfOk, List, OnOk, Result, length, refl, sym, ap, subst, arith, if◌then◌else◌}
+use Rattle.std.proofs.Common.{◌≡◌, ◌∙◌, ℕ, Bool, true, false, Contains, IfOk, List, OnOk, Result, length, refl, sym, ap, subst, if◌then◌else◌}
 use Rattle.step_kinds.specs.Bits.{with_bit}
 use Rattle.step_kinds.specs.declared.names.Side.{Side}
 use Rattle.step_kinds.specs.declared.names.Side.TheVariants.{A, B}
@@ -32,7 +32,7 @@ use Rattle.hand_shake.specs.declared.ReadyAnswer.TheVariants.{Ok as IsReady}
 use Rattle.fabric_rule.specs.Moves.{Move, bridge_move, clean_move, posted_aside, xbegun}
 use Rattle.fabric_rule.specs.Parts.{PairState, QueuePart, plain_bridge, plain_pair, queue_of}
 use Rattle.fabric_rule.specs.Steps.{move_of}
-use Rattle.fabric_core.specs.Promises.{HasMorePages, KeepsPromised}
+use Rattle.fabric_core.specs.Promises.{HasMorePages, KeepsPromised, with_promised}
 use Rattle.fabric_core.specs.Turns.{bare_pair, bridge_turn, place_of, queue_turn, turned}
 use Rattle.fabric_core.specs.declared.places.StepPlace.{StepPlace}
 use Rattle.fabric_core.specs.declared.places.StepPlace.TheVariants.{OnQueue, OnSide, OnBridge}
@@ -81,10 +81,8 @@ still old new keeps =
     record {
       plan = keeps.plan;
       pages = λ side page had. subst (λ pages. Contains pages page) (sym (keeps.pages side)) had;
-      spare = λ side. no_less (flight_of new side).spare (flight_of old side).spare (keeps.spare side);
-    } where
-      no_less : (n m : ℕ) → n ≡ m → m ≤ n
-      no_less n m e = omega (arith, e)
+      spare = keeps.spare;
+    }
 
 -- a write that asks for its own room
 posted_keeps : (bridge : Bridge) (side : Side) (write : PostedWrite) → KeepsPromises bridge (with_posted bridge side write)
@@ -150,20 +148,18 @@ more_keeps old new more =
     record {
       plan = ap (λ (bridge : Bridge). bridge.plan) more.rest;
       pages = more.stay;
-      spare = λ side. subst (λ (bridge : Bridge). (flight_of old side).spare ≤ (flight_of bridge side).spare) (sym more.rest) (no_less (flight_of old side).spare);
+      spare = λ side. ap (λ (bridge : Bridge). (flight_of bridge side).spare) more.rest ∙ same_spare old new.memories.a.promised new.memories.b.promised side;
     } where
-      no_less : (n : ℕ) → n ≤ n
-      no_less n = omega arith
+      same_spare : (bridge : Bridge) (a b : List ℕ) (side : Side) → (flight_of (with_promised bridge a b) side).spare ≡ (flight_of bridge side).spare
+      same_spare bridge a b side = refl
 
 kept_twice : (old mid new : Bridge) → KeepsPromised old mid → KeepsPromised mid new → KeepsPromised old new
 kept_twice old mid new first second =
     record {
       plan = second.plan ∙ first.plan;
       pages = λ side page had. second.pages side page (first.pages side page had);
-      spare = λ side. at_most (flight_of old side).spare (flight_of mid side).spare (flight_of new side).spare (first.spare side) (second.spare side);
-    } where
-      at_most : (n m k : ℕ) → n ≤ m → m ≤ k → n ≤ k
-      at_most n m k few more = omega (arith, few, more)
+      spare = λ side. second.spare side ∙ first.spare side;
+    }
 
 pub more_plain : (old new : Bridge) → HasMorePages old new → plain_bridge new ≡ plain_bridge old
 more_plain old new more = ap plain_bridge more.rest

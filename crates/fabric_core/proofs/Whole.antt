@@ -1,5 +1,5 @@
 -- What is so of every pair stays so: through calls of one of its queues, through steps on its bridge, and where a side forgets its session.
-use Rattle.std.proofs.Common.{◌≡◌, ◌∙◌, ℕ, suc, ◌+◌, ◌<◌, ◌≤◌, ◌⊎◌, Contains, List, [], ◌∷◌, length, get_or, map, set, rules, inl, inr, refl, sym, ap, subst, arith}
+use Rattle.std.proofs.Common.{◌≡◌, ◌∙◌, ℕ, suc, ◌+◌, ◌<◌, ◌⊎◌, Contains, List, [], ◌∷◌, length, get_or, map, set, rules, inl, inr, refl, sym, ap, subst, arith}
 use Rattle.std.proofs.lemmas.Bool.{cases_eq}
 use Rattle.std.proofs.lemmas.List.{get_or-map, get_or-set_other, get_or-set_same, length-map, length-set}
 use Rattle.std.proofs.lemmas.List.Sums.{sum_by-cons, sum_by-set}
@@ -38,7 +38,7 @@ place_kept old new side queue part plan stay is =
 pub record SideIsWhole (bridge : Bridge) (side : Side) (parts : List QueuePart) : Type 0 where
   pub all_queues : length parts ≡ (side_plan bridge.plan side).queues
   pub queues : (queue : ℕ) → queue < (side_plan bridge.plan side).queues → IsInPlace bridge side queue (get_or parts queue no_queue)
-  pub room : all_unused parts ≤ (flight_of bridge side).spare
+  pub room : (flight_of bridge side).spare ≡ all_unused parts
 
 by_side : (P : Side → Type 0) → P A → P B → (side : Side) → P side
 by_side P a b A = a
@@ -50,26 +50,22 @@ both_whole bridge a b whole_a whole_b =
     record {
       all_queues = by_side (λ side. length (queues_of state side) ≡ (side_plan bridge.plan side).queues) whole_a.all_queues whole_b.all_queues;
       queues = by_side (λ side. (queue : ℕ) → queue < (side_plan bridge.plan side).queues → IsInPlace bridge side queue (queue_of state side queue)) whole_a.queues whole_b.queues;
-      room = by_side (λ side. all_unused (queues_of state side) ≤ (flight_of bridge side).spare) whole_a.room whole_b.room;
+      room = by_side (λ side. (flight_of bridge side).spare ≡ all_unused (queues_of state side)) whole_a.room whole_b.room;
     }
 
 pub side_whole : (state : PairState) (side : Side) → IsWhole state → SideIsWhole state.bridge side (queues_of state side)
 side_whole state side whole = record { all_queues = whole.all_queues side; queues = whole.queues side; room = whole.room side }
 
--- of numbers alone
-pub at_most : (n m k : ℕ) → n ≤ m → m ≤ k → n ≤ k
-at_most n m k few more = omega (arith, few, more)
+-- A side that has the same room, on a bridge whose pages stay
 
--- A side that has no less room, on a bridge whose pages stay
-
-pub side_kept : (old new : Bridge) (side : Side) (parts : List QueuePart) → new.plan ≡ old.plan → PagesStay old new → (flight_of old side).spare ≤ (flight_of new side).spare
+pub side_kept : (old new : Bridge) (side : Side) (parts : List QueuePart) → new.plan ≡ old.plan → PagesStay old new → (flight_of new side).spare ≡ (flight_of old side).spare
     → SideIsWhole old side parts → SideIsWhole new side parts
-side_kept old new side parts plan stay more whole =
+side_kept old new side parts plan stay same whole =
     record {
       all_queues = whole.all_queues ∙ ap (λ (plan : PairPlan). (side_plan plan side).queues) (sym plan);
       queues = λ queue below.
           place_kept old new side queue (get_or parts queue no_queue) plan stay (whole.queues queue (subst (λ (plan : PairPlan). queue < (side_plan plan side).queues) plan below));
-      room = at_most (all_unused parts) (flight_of old side).spare (flight_of new side).spare whole.room more;
+      room = same ∙ whole.room;
     }
 
 pub whole_kept : (state : PairState) (new : Bridge) → IsWhole state → KeepsPromised state.bridge new → IsWhole (with_bridge state new)
@@ -79,8 +75,9 @@ whole_kept state new whole keeps =
 
 -- A call of one of a side's queues
 
-room_after : (spare spare_after sum sum_after unused unused_after : ℕ) → sum_after + unused ≡ sum + unused_after → sum ≤ spare → spare + unused_after ≤ spare_after + unused
-    → sum_after ≤ spare_after
+-- of numbers alone
+room_after : (spare spare_after sum sum_after unused unused_after : ℕ) → sum_after + unused ≡ sum + unused_after → spare ≡ sum → spare_after + unused ≡ spare + unused_after
+    → spare_after ≡ sum_after
 room_after spare spare_after sum sum_after unused unused_after sums room keeps = omega (arith, sums, room, keeps)
 
 pub side_turned : (old new : Bridge) (side : Side) (parts : List QueuePart) (queue : ℕ) (part : QueuePart) → queue < length parts
@@ -88,7 +85,7 @@ pub side_turned : (old new : Bridge) (side : Side) (parts : List QueuePart) (que
 side_turned old new side parts queue part within keeps whole =
     let before = (get_or parts queue no_queue).queue.port in
     let is = whole.queues queue (subst (λ n. queue < n) whole.all_queues within) in
-    let room = subst (λ side. (flight_of old side).spare + unused_of part.queue.port ≤ (flight_of new side).spare + unused_of before) is.its_side keeps.room in
+    let room = subst (λ side. (flight_of new side).spare + unused_of before ≡ (flight_of old side).spare + unused_of part.queue.port) is.its_side keeps.room in
     record {
       all_queues = length-set parts queue part ∙ whole.all_queues ∙ ap (λ (plan : PairPlan). (side_plan plan side).queues) (sym keeps.plan);
       queues = λ k below. by_place k (subst (λ (plan : PairPlan). k < (side_plan plan side).queues) keeps.plan below) (cases_eq k queue);
@@ -120,7 +117,7 @@ pub peer_kept : (old new : Bridge) (side : Side) (parts peer_parts : List QueueP
 peer_kept old new side parts peer_parts queue part within keeps whole peer =
     let is = whole.queues queue (subst (λ n. queue < n) whole.all_queues within) in
     side_kept old new (other_side side) peer_parts keeps.plan keeps.pages
-    (subst (λ side. (flight_of old (other_side side)).spare ≤ (flight_of new (other_side side)).spare) is.its_side keeps.peer_room) peer
+    (subst (λ side. (flight_of new (other_side side)).spare ≡ (flight_of old (other_side side)).spare) is.its_side keeps.peer_room) peer
 
 -- A side that forgets its session
 
@@ -147,20 +144,18 @@ place_fresh bridge side queue part fresh =
       ready = subst (λ (port : PortState). HasPagesIn port bridge) (sym fresh) (forgets bridge bridge.plan side queue);
     }
 
-pub side_fresh : (bridge : Bridge) (side : Side) (parts : List QueuePart) → length parts ≡ (side_plan bridge.plan side).queues
+pub side_fresh : (bridge : Bridge) (side : Side) (parts : List QueuePart) → (flight_of bridge side).spare ≡ 0 → length parts ≡ (side_plan bridge.plan side).queues
     → ((k : ℕ) → k < length parts → (get_or parts k no_queue).queue.port ≡ fresh_port bridge.plan side k) → SideIsWhole bridge side parts
-side_fresh bridge side parts all fresh =
+side_fresh bridge side parts none all fresh =
     record {
       all_queues = all;
       queues = λ queue below. place_fresh bridge side queue (get_or parts queue no_queue) (fresh queue (subst (λ n. queue < n) (sym all) below));
-      room = none_at_all (all_unused parts) (flight_of bridge side).spare (none_unused parts (λ k below. ap unused_of (fresh k below)));
-    } where
-      none_at_all : (n m : ℕ) → n ≡ 0 → n ≤ m
-      none_at_all n m none = omega (arith, none)
+      room = none ∙ sym (none_unused parts (λ k below. ap unused_of (fresh k below)));
+    }
 
-pub side_forgotten : (old new : Bridge) (side : Side) (parts : List QueuePart) → new.plan ≡ old.plan → SideIsWhole old side parts → SideIsWhole new side (map forgotten_queue parts)
-side_forgotten old new side parts plan whole =
-    side_fresh new side (map forgotten_queue parts) (length-map parts forgotten_queue ∙ whole.all_queues ∙ ap (λ (plan : PairPlan). (side_plan plan side).queues) (sym plan))
+pub side_forgotten : (old new : Bridge) (side : Side) (parts : List QueuePart) → new.plan ≡ old.plan → (flight_of new side).spare ≡ 0 → SideIsWhole old side parts → SideIsWhole new side (map forgotten_queue parts)
+side_forgotten old new side parts plan none whole =
+    side_fresh new side (map forgotten_queue parts) none (length-map parts forgotten_queue ∙ whole.all_queues ∙ ap (λ (plan : PairPlan). (side_plan plan side).queues) (sym plan))
     (λ k below. at k (subst (λ n. k < n) (length-map parts forgotten_queue) below))
   where
     at : (k : ℕ) → k < length parts → (get_or (map forgotten_queue parts) k no_queue).queue.port ≡ fresh_port new.plan side k

@@ -8,6 +8,7 @@ use Rattle.fabric_core.specs.Fabric.{FabricState, may_want_memory, plain, plan_k
 use Rattle.fabric_core.specs.Lawful.{IsLawful, IsRight}
 use Rattle.fabric_core.specs.LogClauses.{HasMade, IsAnswered, IsLikely}
 use Rattle.fabric_core.specs.Refusals.{refused_in}
+use Rattle.fabric_core.specs.Wants.{IsWantedAfter}
 
 -- whatever steps of a plan it stood for before
 pub record HasStepped {E : Type 0} (old new : FabricState) (step : Step) (result : Result Answer E) : Type 0 where
@@ -25,5 +26,7 @@ pub record HasStepped {E : Type 0} (old new : FabricState) (step : Step) (result
   pub err : OnErr result (plain new ≡ plain old)
   -- of the steps that post, promise or hand out bytes alone
   pub wants : IsErr result → may_want_memory step ≡ true
+  -- and only where the log of those steps answers it with no refusal, or where a device has as many refusals as it can count
+  pub border : (plan : Plan) (steps : List Step) → HasMade plan steps old → OnErr result (IsWantedAfter plan steps old step)
   -- its pairs and devices stay
   pub plan : plan_kept new ≡ plan_kept old

@@ -15,3 +15,4 @@ pub mod Refusals
 pub mod Same
 pub mod Sessions
 pub mod Turns
+pub mod Wants

@@ -1,5 +1,5 @@
 -- What a step on a queue needs, and what it keeps of all that was promised.
-use Rattle.std.specs.Prelude.{◌≡◌, ℕ, ◌+◌, ◌<◌, ◌≤◌, true, false, Contains, List, [], length, slice_index_or}
+use Rattle.std.specs.Prelude.{◌≡◌, ℕ, ◌+◌, ◌<◌, true, false, Contains, List, [], length, slice_index_or}
 use Rattle.std.specs.List.{sum_by}
 use Rattle.step_kinds.specs.Bits.{has_bit}
 use Rattle.step_kinds.specs.Sides.{other_side}
@@ -40,19 +40,19 @@ fresh_part plan side queue stop start =
 -- what a step on a queue needs of what it carries
 abbrev pub CanTurnQueue : List DevPlan → Step → Type 0
 CanTurnQueue devs (Begin p side queue frame) = 0 < length frame
-CanTurnQueue devs (Xbegin p side queue dev dst kind payload) = (dev < length devs) × IsPayload dst kind payload
+CanTurnQueue devs (Xbegin p side queue dev dst kind payload) = (dev < length devs) × (length (dev_plan devs dev).address ≡ 6) × IsPayload dst kind payload
 CanTurnQueue devs step = Unit {0}
 
--- What a call of a port keeps: its own promises are there still, the room grows with what it hasn't used, no page that was promised
--- is lost, and the peer's room stays.
+-- What a call of a port keeps: its own promises are there still, the room grows and shrinks with what it hasn't used, no page that
+-- was promised is lost, and the peer's room stays.
 pub record KeepsPort (old new : PortState) (before after : Bridge) : Type 0 where
   pub same_plan : new.plan ≡ old.plan
   pub same_side : new.side ≡ old.side
   pub same_queue : new.queue ≡ old.queue
   pub plan : after.plan ≡ before.plan
   pub pages : (side : Side) (page : ℕ) → Contains (pages_of before side) page → Contains (pages_of after side) page
-  pub room : (flight_of before old.side).spare + unused_of new ≤ (flight_of after old.side).spare + unused_of old
-  pub peer_room : (flight_of before (other_side old.side)).spare ≤ (flight_of after (other_side old.side)).spare
+  pub room : (flight_of after old.side).spare + unused_of old ≡ (flight_of before old.side).spare + unused_of new
+  pub peer_room : (flight_of after (other_side old.side)).spare ≡ (flight_of before (other_side old.side)).spare
   pub ready : HasPagesIn new after
 
 -- what the ports of these queues were promised and haven't used
@@ -66,11 +66,11 @@ pub record IsInPlace (bridge : Bridge) (side : Side) (queue : ℕ) (part : Queue
   pub its_queue : part.queue.port.queue ≡ queue
   pub ready : HasPagesIn part.queue.port bridge
 
--- What is so of every pair: each side has all its queues, and room for all that their ports were promised.
+-- What is so of every pair: each side has all its queues, and room for just what their ports were promised and haven't used.
 pub record IsWhole (state : PairState) : Type 0 where
   pub all_queues : (side : Side) → length (queues_of state side) ≡ (side_plan state.bridge.plan side).queues
   pub queues : (side : Side) (queue : ℕ) → queue < (side_plan state.bridge.plan side).queues → IsInPlace state.bridge side queue (queue_of state side queue)
-  pub room : (side : Side) → all_unused (queues_of state side) ≤ (flight_of state.bridge side).spare
+  pub room : (side : Side) → (flight_of state.bridge side).spare ≡ all_unused (queues_of state side)
 
 -- a queue is joined on a side only where its rings fit, and a side that would come up has windows that fit
 pub record Agrees (bridge : Bridge) : Type 0 where
@@ -102,11 +102,11 @@ pub record AreFreshQueues (devs : List DevPlan) (plan : PairPlan) (k : ℕ) (sid
   pub all_queues : length parts ≡ (side_plan plan side).queues
   pub queues : (queue : ℕ) → queue < (side_plan plan side).queues → IsFreshQueue devs plan k side queue (slice_index_or parts queue no_queue)
 
--- the queues of one side of a bridge, which has room for what they haven't used
+-- the queues of one side of a bridge, which has room for just what they haven't used
 pub record CanForget (bridge : Bridge) (side : Side) (queues : List QueuePart) : Type 0 where
   pub its_plan : (k : ℕ) → k < length queues → (slice_index_or queues k no_queue).queue.port.plan ≡ bridge.plan
   pub its_side : (k : ℕ) → k < length queues → (slice_index_or queues k no_queue).queue.port.side ≡ side
-  pub room : all_unused queues ≤ (flight_of bridge side).spare
+  pub room : (flight_of bridge side).spare ≡ all_unused queues
 
 -- a bridge that differs in the room of a side alone
 pub record HasOtherRoom (old : Bridge) (side : Side) (new : Bridge) : Type 0 where

@@ -1,5 +1,5 @@
 -- What is promised of a bridge stays so through steps, and a bridge that differs in promised pages alone.
-use Rattle.std.specs.Prelude.{◌≡◌, ℕ, ◌<◌, ◌≤◌, Contains, List}
+use Rattle.std.specs.Prelude.{◌≡◌, ℕ, ◌<◌, Contains, List}
 use Rattle.step_kinds.specs.declared.names.Side.{Side}
 use Rattle.step_kinds.specs.declared.steps.Step.{Step}
 use Rattle.step_kinds.specs.declared.steps.Step.TheVariants.{Ready, Join, Check, Spad, Poke, ShowMem, ShowPad}
@@ -14,7 +14,7 @@ use Rattle.hand_shake.specs.declared.CheckAnswer.TheVariants.{Up}
 pub record KeepsPromised (old new : Bridge) : Type 0 where
   pub plan : new.plan ≡ old.plan
   pub pages : (side : Side) (page : ℕ) → Contains (pages_of old side) page → Contains (pages_of new side) page
-  pub spare : (side : Side) → (flight_of old side).spare ≤ (flight_of new side).spare
+  pub spare : (side : Side) → (flight_of new side).spare ≡ (flight_of old side).spare
 
 -- the same bridge with these pages promised at its sides
 abbrev pub with_promised : Bridge → List ℕ → List ℕ → Bridge

@@ -1,12 +1,15 @@
 -- What a call on a queue needs of the queue and of its pair, and what comes of it.
-use Rattle.std.specs.Prelude.{◌≡◌, true, IfOk, OnErr, OnOk, Result}
+use Rattle.std.specs.Prelude.{◌≡◌, ◌≤◌, ◌⊎◌, Bool, false, true, IfOk, OnErr, OnOk, Result}
+use Rattle.step_kinds.specs.declared.plan.Counters.{Counters}
 use Rattle.step_kinds.specs.declared.steps.Answer.{Answer}
+use Rattle.step_kinds.specs.declared.steps.Answer.TheVariants.{OkNumber, ReadyFrame}
 use Rattle.bridge_pair.specs.Bridge.{Bridge}
 use Rattle.frame_ring.specs.Port.{PortState}
 use Rattle.frame_ring.specs.PortView.{FitsRings, HasPagesIn, HasRoomIn}
 use Rattle.queue_pair.specs.Gates.{is_joined}
 use Rattle.queue_pair.specs.Queue.{QueueState}
 use Rattle.fabric_rule.specs.Parts.{QueuePart, plain_bridge}
+use Rattle.fabric_core.specs.Numbers.{most_count}
 use Rattle.fabric_core.specs.Parts.{KeepsPort}
 use Rattle.fabric_core.specs.Turns.{QueueTurn}
 
@@ -30,10 +33,33 @@ pub record HasTurned (turn : QueueTurn) (result : Answer) (old new : QueuePart) 
   pub bridge : new_bridge ≡ turn.bridge
   pub keeps : KeepsPort old.queue.port new.queue.port old_bridge new_bridge
 
--- the queue took this turn, or nothing changed of it where memory is wanted; of the bridge only promises changed
-pub record HasTurnedUnlessWanting {E : Type 0} (turn : QueueTurn) (result : Result Answer E) (old new : QueuePart) (old_bridge new_bridge : Bridge) : Type 0 where
+-- the answers at which a queue may be out of memory: where an entry is begun
+abbrev pub is_begun : Answer → Bool
+is_begun (OkNumber number) = true
+is_begun answer = false
+
+-- and where one is found
+abbrev pub is_found : Answer → Bool
+is_found (ReadyFrame number len) = true
+is_found answer = false
+
+-- the same as statements
+abbrev pub IsBegun : Answer → Type 0
+IsBegun answer = is_begun answer ≡ true
+
+abbrev pub IsFound : Answer → Type 0
+IsFound answer = is_found answer ≡ true
+
+-- where a device's frame is begun, or where its refusal is one more than can be counted
+abbrev pub IsBegunOrUncounted : Counters → Answer → Type 0
+IsBegunOrUncounted counters answer = IsBegun answer ⊎ (most_count ≤ counters.refused)
+
+-- the queue took this turn, or nothing changed of it where it is out of memory, which is at these answers alone; of the bridge only
+-- promises changed
+pub record HasTurnedUnlessWanting {E : Type 0} (MayWant : Answer → Type 0) (turn : QueueTurn) (result : Result Answer E) (old new : QueuePart) (old_bridge new_bridge : Bridge) : Type 0 where
   pub answer : IfOk result (λ answer. answer ≡ turn.answer)
   pub after : OnOk result (new ≡ turn.part)
   pub err : OnErr result (new ≡ old)
+  pub wants : OnErr result (MayWant turn.answer)
   pub plain : plain_bridge new_bridge ≡ plain_bridge old_bridge
   pub keeps : KeepsPort old.queue.port new.queue.port old_bridge new_bridge

@@ -3,7 +3,7 @@ use Rattle.std.specs.Prelude.{ℕ, List, [], length, if◌then◌else◌}
 use Rattle.step_kinds.specs.declared.names.Side.{Side}
 use Rattle.step_kinds.specs.declared.plan.DevPlan.{DevPlan}
 use Rattle.step_kinds.specs.declared.steps.Answer.{Answer}
-use Rattle.step_kinds.specs.declared.steps.Answer.TheVariants.{Ok as Done, OkNumber, Stopped, Awake}
+use Rattle.step_kinds.specs.declared.steps.Answer.TheVariants.{Ok as Done, Stopped, Awake}
 use Rattle.step_kinds.specs.declared.steps.Step.{Step}
 use Rattle.step_kinds.specs.declared.steps.Step.TheVariants.{Enable, Train, Break, DropDone, Clean, Offer, Check, Ready, Join, Begin, QpDown, Xbegin, Post, Land, Look, Copy, Clear, Ack, Wake, Irq, Mask, Unmask, Spad, Poke, ShowMem, ShowPad, ShowQueue}
 use Rattle.plan_model.specs.Both.{both_of}
@@ -93,20 +93,26 @@ abbrev pub qpdown_turn : QueuePart → Bridge → QueueTurn
 qpdown_turn part bridge =
     record { answer = of_begin (qpdown_answer part.queue bridge); part = record part { queue = after_qpdown part.queue bridge }; bridge = bridge }
 
--- a device's frame
+-- a device's frame, whose answer follows from its length
+abbrev pub frame_answer : QueuePart → Bridge → ℕ → Answer
+frame_answer part bridge len = of_xbegin part.flow.stopped (begin_answer part.queue bridge len)
+
 abbrev pub frame_turn : QueuePart → Bridge → List ℕ → QueueTurn
 frame_turn part bridge frame =
-    let answer = of_xbegin part.flow.stopped (begin_answer part.queue bridge (length frame)) in
+    let answer = frame_answer part bridge (length frame) in
     record { answer = answer; part = xbegun answer (bare_pair bridge) part frame; bridge = bridge }
 
 abbrev pub xbegin_turn : DevPlan → QueuePart → Bridge → List ℕ → ℕ → List ℕ → QueueTurn
 xbegin_turn dev part bridge dst kind payload = frame_turn part bridge (ethernet_frame dst dev.address kind payload)
 
--- a device's frame is counted, once it was begun, which left so many entries free, or refused
-abbrev pub counted_begun : Answer → QueuePart → ℕ → ℕ → QueuePart
-counted_begun (OkNumber number) part free len =
+-- a device's frame is counted, once it was begun, which left so many entries free
+abbrev pub counted_begun : QueuePart → ℕ → ℕ → QueuePart
+counted_begun part free len =
     record part { flow = record part.flow { stopped = stopped_after_send part.flow free }; counters = count_accepted part.counters len }
-counted_begun answer part free len = record part { counters = count_refused part.counters }
+
+-- and counted where it was refused
+abbrev pub refused_once : QueuePart → QueuePart
+refused_once part = record part { counters = count_refused part.counters }
 
 -- what a call of the queue's port comes to
 abbrev pub port_turn : QueuePart → Answer → PortState → Bridge → QueueTurn

@@ -84,6 +84,20 @@ pub fn begin_answer(begun: BeginAnswer) -> Answer
     }
 }
 
+/// A beginning of a device's frame: a stopped device is refused before the ring's room is tested.
+pub fn xbegin_answer(stopped: bool, begun: BeginAnswer) -> Answer
+    ensures { result ≡ of.of_xbegin stopped begun }
+{
+    if !stopped {
+        return begin_answer(begun);
+    }
+    same_name! { begun: BeginAnswer;
+        LinkDown, NotReady, Closed, TooLong { len, max }, Busy;
+        BeginAnswer::Ok { .. } => Answer::Stopped;
+        BeginAnswer::NoRoom { .. } => Answer::Stopped
+    }
+}
+
 /// A post.
 pub fn post_answer(posted: Option<Label>) -> Answer
     ensures { result ≡ of.of_post posted }

@@ -13,6 +13,7 @@ ghost use Rattle.fabric_core.specs.Turns.{bridge_turn, register_turn};
 ghost use Rattle.fabric_rule.specs.Answers.{of_link};
 ghost use Rattle.fabric_rule.specs.Moves.{posted_aside};
 ghost use Rattle.hand_shake.specs.Offers.{with_posted};
+ghost use Rattle.ledger_laws.specs.Laws.{is_made};
 ghost use Rattle.host_memory.specs.Memory.{bytes_at};
 ghost use Rattle.plan_model.specs.DeclaredPlans.{IsPoke};
 ghost use Rattle.plan_model.specs.Link.{is_up, train_refusal};
@@ -43,6 +44,7 @@ pub fn bridge_step(pair: &mut Pair, alloc: Global, step: &Step) -> Result<Answer
     ensures after { OnOk result (HasMorePages (bridge_turn pair.old step.now).bridge pair.new) }
     ensures err { OnErr result (HasMorePages pair.old pair.new) }
     ensures wants { IsErr result → may_want_memory step.now ≡ true }
+    ensures border { OnErr result (is_made step.now (bridge_turn pair.old step.now).answer ≡ true) }
 {
     match step {
         Step::Enable { side, .. } => Ok(link_answer(pair.enable(*side))),

@@ -1,7 +1,7 @@
 //! Counting the frames of a device.
 
-ghost use Rattle.std.specs.Prelude.{IsTrue, ◌↔◌, ◌≡◌, ◌≤◌};
-ghost use Rattle.fabric_core.specs.Numbers.{HasRoomToDeliver, HasRoomToSend};
+ghost use Rattle.std.specs.Prelude.{IsTrue, ◌<◌, ◌↔◌, ◌≡◌, ◌≤◌};
+ghost use Rattle.fabric_core.specs.Numbers.{HasRoomToDeliver, HasRoomToSend, most_count};
 ghost use Rattle.plan_model.specs.Device.{count_accepted, count_delivered, count_refused, no_counts as nothing_counted};
 
 use step_kinds::Counters;
@@ -10,7 +10,7 @@ use step_kinds::Counters;
 const MOST_COUNT: u64 = 1 << 62;
 
 /// The bytes of an Ethernet header: a shorter frame is counted apart.
-const HEADER_BYTES: u32 = 14;
+pub const HEADER_BYTES: u32 = 14;
 
 /// No frame was counted.
 pub fn no_counts() -> Counters
@@ -31,6 +31,13 @@ pub fn can_send(counters: Counters) -> bool
     ensures { IsTrue result ↔ HasRoomToSend counters }
 {
     counters.tx < MOST_COUNT && counters.tx_bytes < MOST_COUNT && counters.refused < MOST_COUNT
+}
+
+/// Whether one more frame can be counted as refused.
+pub fn can_refuse(counters: Counters) -> bool
+    ensures { IsTrue result ↔ (counters.refused < most_count) }
+{
+    counters.refused < MOST_COUNT
 }
 
 /// Whether one more frame can be counted as delivered.
@@ -54,7 +61,7 @@ pub fn accepted(counters: Counters, len: u32) -> Counters
 
 /// One frame more was refused.
 pub fn refused(counters: Counters) -> Counters
-    requires { HasRoomToSend counters }
+    requires { counters.refused < most_count }
     ensures { result ≡ count_refused counters }
 {
     Counters {

@@ -65,8 +65,9 @@ impl Fabric {
     ///
     /// # Errors
     ///
-    /// [`AllocError`] from want of memory alone: of a step that posts, promises or hands out bytes. The fabric stands for the
-    /// same steps as before then, and nothing but promised room and pages has changed.
+    /// [`AllocError`] from want of memory alone: of a step that posts, promises or hands out bytes, and that the log doesn't
+    /// refuse. The fabric stands for the same steps as before then, and nothing but promised room and pages has changed. A
+    /// device's frame gets it too where its refusal would be one more than 2^62.
     #[inline(always)]
     pub fn step(&mut self, step: &Step) -> Result<Answer, AllocError>
         requires { IsPermitted (plan_kept self.old) step.now }

@@ -1,6 +1,6 @@
 //! A pair with its queues.
 
-ghost use Rattle.std.specs.Prelude.{IfOk, IsErr, IsTrue, OnErr, OnOk, length, map, slice_index_or, slice_set, true, ◌++◌, ◌↔◌, ◌<◌, ◌≡◌};
+ghost use Rattle.std.specs.Prelude.{IfOk, IsErr, IsTrue, OnErr, OnOk, length, map, slice_index_or, slice_set, true, ◌++◌, ◌<◌, ◌↔◌, ◌≡◌};
 ghost use Rattle.bridge_pair.specs.Bridge.{flight_of, pages_of};
 ghost use Rattle.fabric_core.specs.Fabric.{may_want_memory};
 ghost use Rattle.fabric_core.specs.InFlight.{pair_key};
@@ -8,6 +8,8 @@ ghost use Rattle.fabric_core.specs.Parts.{Agrees, AreAlone, AreFreshQueues, AreL
 ghost use Rattle.fabric_core.specs.Promises.{CanTurn};
 ghost use Rattle.fabric_core.specs.Same.{AreOfOneSide, AreSameParts, IsSamePair};
 ghost use Rattle.fabric_core.specs.Turns.{bridge_turn, queue_turn, turned};
+ghost use Rattle.fabric_core.specs.Wants.{MayWant, counters_at};
+ghost use Rattle.ledger_laws.specs.Laws.{is_made};
 ghost use Rattle.fabric_rule.specs.Laws.{IsFreshPair};
 ghost use Rattle.fabric_rule.specs.Moves.{bridge_move, clean_move, forgotten_queue};
 ghost use Rattle.fabric_rule.specs.Parts.{no_queue, plain_bridge, plain_pair, queue_of};
@@ -74,6 +76,7 @@ impl PairBox {
         ensures after { OnOk result (plain_pair self.new ≡ plain_pair (move_of devs.now self.old step.now).after) }
         ensures err { OnErr result (plain_pair self.new ≡ plain_pair self.old) }
         ensures wants { IsErr result → may_want_memory step.now ≡ true }
+        ensures border { OnErr result (MayWant (counters_at self.old step.now) step.now (move_of devs.now self.old step.now).answer) }
     {
         match place_of(step) {
             StepPlace::OnQueue { side, queue } => self.queue_step(side, queue, devs, step),
@@ -90,6 +93,7 @@ impl PairBox {
         ensures after { OnOk result (plain_pair self.new ≡ plain_pair (bridge_move self.old (bridge_turn self.old.bridge step.now).answer (bridge_turn self.old.bridge step.now).bridge).after) }
         ensures err { OnErr result (plain_pair self.new ≡ plain_pair self.old) }
         ensures wants { IsErr result → may_want_memory step.now ≡ true }
+        ensures border { OnErr result (is_made step.now (bridge_turn self.old.bridge step.now).answer ≡ true) }
     {
         let alloc = self.alloc;
         bridge_step(&mut self.pair, alloc, step)
@@ -111,6 +115,7 @@ impl PairBox {
         ensures after { OnOk result (plain_pair self.new ≡ plain_pair (turned self.old side queue (queue_turn devs.now (queue_of self.old side queue) self.old.bridge step.now)).after) }
         ensures err { OnErr result (plain_pair self.new ≡ plain_pair self.old) }
         ensures wants { IsErr result → may_want_memory step.now ≡ true }
+        ensures border { OnErr result (MayWant (queue_of self.old side queue).counters step.now (queue_turn devs.now (queue_of self.old side queue) self.old.bridge step.now).answer) }
     {
         let alloc = self.alloc;
         match side {
@@ -222,6 +227,7 @@ fn make_at(
     ensures err_bridge { OnErr result (plain_bridge pair.new ≡ plain_bridge pair.old) }
     ensures keeps { KeepsPort (slice_index_or queues.old.items queue no_queue).queue.port (slice_index_or queues.new.items queue no_queue).queue.port pair.old pair.new }
     ensures wants { IsErr result → may_want_memory step.now ≡ true }
+    ensures border { OnErr result (MayWant (slice_index_or queues.old.items queue no_queue).counters step.now (queue_turn devs.now (slice_index_or queues.old.items queue no_queue) pair.old step.now).answer) }
 {
     let part = &mut queues[queue as usize];
     part.make(pair, alloc, devs, step)
@@ -240,11 +246,12 @@ fn are_same_queues(queues: &[QueueBox], others: &[QueueBox]) -> bool
     true
 }
 
-// All queues of a side forget the session.
+// All queues of a side forget the session, and give back all room that they were promised.
 fn forget_all(pair: &mut Pair, queues: &mut Vec<QueueBox>, side: Side)
     requires { CanForget pair.old side queues.old.items }
     ensures queues { queues.new.items ≡ map forgotten_queue queues.old.items }
     ensures bridge { HasOtherRoom pair.old side pair.new }
+    ensures room { (flight_of pair.new side).spare ≡ 0 }
 {
     for number in 0..queues.len() {
         let queue = &mut queues[number];

@@ -1,28 +1,33 @@
 //! One queue of one side, with what is counted of it.
 
-ghost use Rattle.std.specs.Prelude.{IfOk, IsErr, IsTrue, OnErr, OnOk, length, true, ◌↔◌, ◌<◌, ◌≡◌};
-ghost use Rattle.fabric_core.specs.Numbers.{HasRoomToSend};
+ghost use Rattle.std.specs.Prelude.{IfOk, IsErr, IsTrue, OnErr, OnOk, length, true, ◌<◌, ◌↔◌, ◌≡◌, ◌≤◌};
+ghost use Rattle.fabric_core.specs.Numbers.{HasRoomToSend, most_count};
 ghost use Rattle.fabric_core.specs.Fabric.{may_want_memory};
 ghost use Rattle.fabric_core.specs.Parts.{CanTurnQueue, KeepsPort, fresh_part};
-ghost use Rattle.fabric_core.specs.QueueCalls.{CanBegin, CanPost, HasTurned, HasTurnedUnlessWanting};
+ghost use Rattle.fabric_core.specs.QueueCalls.{CanBegin, CanPost, HasTurned, HasTurnedUnlessWanting, IsBegun, IsBegunOrUncounted, IsFound};
 ghost use Rattle.fabric_core.specs.Same.{AreOfOnePlace, IsSamePart};
-ghost use Rattle.fabric_core.specs.Turns.{ack_turn, begin_turn, clear_turn, copy_turn, counted_begun, frame_turn, look_turn, post_turn, qpdown_turn, queue_turn, wake_turn};
+ghost use Rattle.fabric_core.specs.Wants.{MayWant};
+ghost use Rattle.plan_model.specs.Ethernet.{ethernet_frame};
+ghost use Rattle.fabric_core.specs.Turns.{ack_turn, begin_turn, clear_turn, copy_turn, counted_begun, frame_answer, frame_turn, look_turn, post_turn, qpdown_turn, queue_turn, refused_once, wake_turn};
 ghost use Rattle.fabric_rule.specs.Moves.{forgotten_queue};
 ghost use Rattle.fabric_rule.specs.Parts.{count_in, plain_bridge};
 ghost use Rattle.frame_ring.specs.Calls.{free_answer, reset_by};
 ghost use Rattle.frame_ring.specs.PortView.{FitsRings, HasPagesIn, HasRoomIn};
-ghost use Rattle.plan_model.specs.DeclaredPlans.{IsPair};
+ghost use Rattle.plan_model.specs.DeclaredPlans.{IsPair, IsPayload};
 ghost use Rattle.plan_model.specs.Plans.{side_plan as side_plan_of};
 ghost use Rattle.queue_pair.specs.Gates.{is_joined};
+ghost use Rattle.step_kinds.specs.Limits.{most_frame_bytes};
 
 use crate::answers::{
-    ack_answer, begin_answer, clear_answer, copy_answer, look_answer, post_answer,
+    ack_answer, begin_answer, clear_answer, copy_answer, look_answer, post_answer, xbegin_answer,
 };
-use crate::counting::{accepted, can_deliver, can_send, delivered, no_counts, refused};
+use crate::counting::{
+    HEADER_BYTES, accepted, can_deliver, can_refuse, can_send, delivered, no_counts, refused,
+};
 use crate::counts::SessionCounts;
 use bridge_pair::Pair;
-use net_dev::{Flow, encode};
-use queue_pair::{BeginAnswer, QueuePair};
+use net_dev::{Flow, Header, encode};
+use queue_pair::{BeginAnswer, LookAnswer, QueuePair};
 use std::alloc::{AllocError, Global};
 use std::marker::Model;
 use step_kinds::{Answer, Counters, DevPlan, Frame, LaneCopy, PairPlan, Side, Step};
@@ -85,9 +90,10 @@ impl QueueBox {
         ensures err_bridge { OnErr result (plain_bridge pair.new ≡ plain_bridge pair.old) }
         ensures keeps { KeepsPort self.old.queue.port self.new.queue.port pair.old pair.new }
         ensures wants { IsErr result → may_want_memory step.now ≡ true }
+        ensures border { OnErr result (MayWant self.old.counters step.now (queue_turn devs.now self.old pair.old step.now).answer) }
     {
         match step {
-            Step::Begin { frame, .. } => self.begin(pair, frame.copy_of(alloc)?),
+            Step::Begin { frame, .. } => self.begin(pair, alloc, frame),
             Step::QpDown { .. } => self.qpdown(pair),
             Step::Xbegin {
                 dev,
@@ -96,9 +102,13 @@ impl QueueBox {
                 payload,
                 ..
             } => {
-                let from = devs[*dev as usize].address;
-                let frame = encode(alloc, *dst, from, *kind, payload.bytes())?;
-                self.xbegin(pair, frame)
+                let src = devs[*dev as usize].address;
+                let header = Header {
+                    dst: *dst,
+                    src,
+                    kind: *kind,
+                };
+                self.xbegin(pair, alloc, header, payload)
             }
             Step::Post { .. } => Ok(self.post(pair)),
             Step::Look { .. } => self.look(pair),
@@ -110,36 +120,106 @@ impl QueueBox {
         }
     }
 
-    // Begins a frame, and counts it where it was begun.
-    fn begin(&mut self, pair: &mut Pair, frame: Frame) -> Result<Answer, AllocError>
-        requires some { 0 < length frame }
+    // Begins a frame, where it isn't refused.
+    fn begin(&mut self, pair: &mut Pair, alloc: Global, frame: &Frame) -> Result<Answer, AllocError>
+        requires some { 0 < length frame.now }
         requires ready { CanBegin self.old.queue pair.old }
-        ensures { HasTurnedUnlessWanting (begin_turn self.old pair.old frame) result self.old self.new pair.old pair.new }
+        ensures { HasTurnedUnlessWanting IsBegun (begin_turn self.old pair.old frame.now) result self.old self.new pair.old pair.new }
     {
-        self.accepted.make_room()?;
-        let begun = self.queue.begin(pair, frame)?;
+        let begun = self.queue.begin_answer(pair, frame.len());
         if let BeginAnswer::Ok { .. } = begun {
-            self.accepted.one_more(pair.link().session());
+            let frame = frame.copy_of(alloc)?;
+            return self.begin_frame(pair, frame);
         }
         Ok(begin_answer(begun))
     }
 
-    // Begins a device's frame, counts it, and stops the device where it leaves too few entries free; or counts a refusal.
-    fn xbegin(&mut self, pair: &mut Pair, frame: Frame) -> Result<Answer, AllocError>
+    // Begins a frame that isn't refused, and counts it.
+    fn begin_frame(&mut self, pair: &mut Pair, frame: Frame) -> Result<Answer, AllocError>
         requires some { 0 < length frame }
         requires ready { CanBegin self.old.queue pair.old }
-        ensures { HasTurnedUnlessWanting (frame_turn self.old pair.old frame) result self.old self.new pair.old pair.new }
+        requires begins { IsBegun (begin_turn self.old pair.old frame).answer }
+        ensures { HasTurnedUnlessWanting IsBegun (begin_turn self.old pair.old frame) result self.old self.new pair.old pair.new }
+    {
+        self.accepted.make_room()?;
+        let begun = self.queue.begin(pair, frame)?;
+        self.accepted.one_more(pair.link().session());
+        Ok(begin_answer(begun))
+    }
+
+    // Begins a device's frame, where it isn't refused, or counts the refusal.
+    fn xbegin(
+        &mut self,
+        pair: &mut Pair,
+        alloc: Global,
+        header: Header,
+        payload: &Frame,
+    ) -> Result<Answer, AllocError>
+        requires payload { IsPayload header.dst header.kind payload.now }
+        requires address { length header.src ≡ 6 }
+        requires ready { CanBegin self.old.queue pair.old }
+        ensures { HasTurnedUnlessWanting (IsBegunOrUncounted self.old.counters) (frame_turn self.old pair.old (ethernet_frame header.dst header.src header.kind payload.now)) result self.old self.new pair.old pair.new }
+    {
+        let answer = self.frame_answer(pair, HEADER_BYTES + payload.len());
+        if let Answer::OkNumber { .. } = answer {
+            return self.begin_encoded(pair, alloc, header, payload);
+        }
+        self.refuse(answer)
+    }
+
+    // What a device's frame of so many bytes is answered. It takes no memory.
+    fn frame_answer(&self, pair: &Pair, len: u32) -> Answer
+        requires ready { CanBegin self.now.queue pair.now }
+        requires few { len ≤ most_frame_bytes }
+        ensures { result ≡ frame_answer self.now pair.now len }
+    {
+        xbegin_answer(self.flow.stopped(), self.queue.begin_answer(pair, len))
+    }
+
+    // Begins a device's frame that isn't refused, once it has its header before its payload.
+    fn begin_encoded(
+        &mut self,
+        pair: &mut Pair,
+        alloc: Global,
+        header: Header,
+        payload: &Frame,
+    ) -> Result<Answer, AllocError>
+        requires payload { IsPayload header.dst header.kind payload.now }
+        requires ready { CanBegin self.old.queue pair.old }
+        requires begins { IsBegun (frame_turn self.old pair.old (ethernet_frame header.dst header.src header.kind payload.now)).answer }
+        ensures { HasTurnedUnlessWanting IsBegun (frame_turn self.old pair.old (ethernet_frame header.dst header.src header.kind payload.now)) result self.old self.new pair.old pair.new }
+    {
+        let frame = encode(alloc, header.dst, header.src, header.kind, payload.bytes())?;
+        self.begin_counted(pair, frame)
+    }
+
+    // Counts a refusal of the device.
+    fn refuse(&mut self, answer: Answer) -> Result<Answer, AllocError>
+        ensures answer { IfOk result (λ given. given ≡ answer) }
+        ensures after { OnOk result (self.new ≡ refused_once self.old) }
+        ensures err { OnErr result (self.new ≡ self.old) }
+        ensures wants { OnErr result (most_count ≤ self.old.counters.refused) }
+    {
+        if !can_refuse(self.counters) {
+            return Err(AllocError);
+        }
+        self.counters = refused(self.counters);
+        Ok(answer)
+    }
+
+    // Begins a device's frame that isn't refused, counts it, and stops the device where it leaves too few entries free.
+    fn begin_counted(&mut self, pair: &mut Pair, frame: Frame) -> Result<Answer, AllocError>
+        requires some { 0 < length frame }
+        requires ready { CanBegin self.old.queue pair.old }
+        requires begins { IsBegun (frame_turn self.old pair.old frame).answer }
+        ensures { HasTurnedUnlessWanting IsBegun (frame_turn self.old pair.old frame) result self.old self.new pair.old pair.new }
     {
         if !can_send(self.counters) {
             return Err(AllocError);
         }
         let len = frame.len();
-        if self.flow.stopped() && !self.queue.refuses(pair, len) {
-            self.counters = refused(self.counters);
-            return Ok(Answer::Stopped);
-        }
-        let answer = self.begin(pair, frame)?;
-        self.count_begun(pair, len, &answer);
+        let answer = self.begin_frame(pair, frame)?;
+        self.count_begun(pair, len);
         Ok(answer)
     }
 
@@ -154,16 +234,29 @@ impl QueueBox {
     // Begins a link-down entry.
     fn qpdown(&mut self, pair: &mut Pair) -> Result<Answer, AllocError>
         requires { CanBegin self.old.queue pair.old }
-        ensures { HasTurnedUnlessWanting (qpdown_turn self.old pair.old) result self.old self.new pair.old pair.new }
+        ensures { HasTurnedUnlessWanting IsBegun (qpdown_turn self.old pair.old) result self.old self.new pair.old pair.new }
     {
         let begun = self.queue.qpdown(pair)?;
         Ok(begin_answer(begun))
     }
 
-    // Looks for the next entry. Where one is found, the frame that it may be the last of can be counted.
+    // Looks for the next entry.
     fn look(&mut self, pair: &mut Pair) -> Result<Answer, AllocError>
         requires { CanBegin self.old.queue pair.old }
-        ensures { HasTurnedUnlessWanting (look_turn self.old pair.old) result self.old self.new pair.old pair.new }
+        ensures { HasTurnedUnlessWanting IsFound (look_turn self.old pair.old) result self.old self.new pair.old pair.new }
+    {
+        if let LookAnswer::Ready { .. } = self.queue.look_answer(pair) {
+            return self.find(pair);
+        }
+        let look = self.queue.look(pair)?;
+        Ok(look_answer(look))
+    }
+
+    // Finds the next entry, which is there, so that the frame that it may be the last of can be counted.
+    fn find(&mut self, pair: &mut Pair) -> Result<Answer, AllocError>
+        requires ready { CanBegin self.old.queue pair.old }
+        requires found { IsFound (look_turn self.old pair.old).answer }
+        ensures { HasTurnedUnlessWanting IsFound (look_turn self.old pair.old) result self.old self.new pair.old pair.new }
     {
         if !can_deliver(self.counters) {
             return Err(AllocError);
@@ -220,20 +313,15 @@ impl QueueBox {
         }
     }
 
-    // A device's frame was begun or refused: it is counted, and the device stops where it leaves too few entries free.
-    fn count_begun(&mut self, pair: &Pair, len: u32, answer: &Answer)
+    // A device's frame was begun: it is counted, and the device stops where it leaves too few entries free.
+    fn count_begun(&mut self, pair: &Pair, len: u32)
         requires plan { pair.now.plan ≡ self.old.queue.port.plan }
         requires room { HasRoomToSend self.old.counters }
-        ensures { self.new ≡ counted_begun answer.now self.old (free_answer self.old.queue.port pair.now) len }
+        ensures { self.new ≡ counted_begun self.old (free_answer self.old.queue.port pair.now) len }
     {
-        match answer {
-            Answer::OkNumber { .. } => {
-                let free = self.queue.free(pair);
-                self.flow.after_send(free);
-                self.counters = accepted(self.counters, len);
-            }
-            _ => self.counters = refused(self.counters),
-        }
+        let free = self.queue.free(pair);
+        self.flow.after_send(free);
+        self.counters = accepted(self.counters, len);
     }
 
     /// Forgets the session, as the queue's side does at a clean: nothing is sent or received, and the device isn't stopped.

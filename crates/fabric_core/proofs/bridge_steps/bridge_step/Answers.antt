@@ -25,4 +25,5 @@ returns-in_default c =
       after = subst (λ (turn : BridgeTurn). HasMorePages turn.bridge new) (sym others) (subst (λ (bridge : Bridge). HasMorePages bridge new) made.after (same_pages new));
       err = tt;
       wants = λ no. absurd (false≢true no);
+      border = tt;
     }

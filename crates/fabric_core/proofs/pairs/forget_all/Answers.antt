@@ -1,5 +1,6 @@
-use Rattle.std.proofs.Common.{◌<◌, length, rules}
+use Rattle.std.proofs.Common.{◌≡◌, ◌∙◌, ◌<◌, [], ap, drop, length, rules}
 use Rattle.std.proofs.lemmas.List.{drop_all, take_all}
+use Rattle.fabric_core.specs.Parts.{all_unused}
 use Rattle.fabric_core.proofs.Forgetting.{items_then, its_turn, one_forgot, plan_then, room_behind, room_then, same_room, side_then}
 use Rattle.fabric_core.proofs.pairs.forget_all.Goals as goal
 
@@ -39,3 +40,8 @@ returns-clause-queues c = search (rules, take_all, drop_all)
 
 pub returns-clause-bridge : goal.returns-clause-bridge
 returns-clause-bridge c = c.loop-number.invariant.bridge
+
+pub returns-clause-room : goal.returns-clause-room
+returns-clause-room c =
+    let none : drop c.loop-number.number c.args.queues.now.items ≡ [] = search (rules, drop_all) in
+    c.loop-number.invariant.room ∙ ap all_unused none

@@ -55,9 +55,9 @@ invariant_of-self c =
     (some_made kept new c.args.step.now c.make.result (plan_kept kept) (some c.self.inside c.self.invariant)
     (outcome c.self.inside kept c.args.step.now c.subject-k.result c.deref.result.now c.index_mut-pair.result.now c.make.new.self c.make.result refl c.self.invariant
     (subst (λ fabric. IsPermitted (plan_kept fabric) c.args.step.now) (sym c.self.view_is) c.requires) c.subject-k.ensures c.deref.ensures.value c.index_mut-pair.ensures.value c.make.ensures.wants
-    (record { answer = c.make.ensures.answer; after = c.make.ensures.after; err = c.make.ensures.err }))))
+    (record { answer = c.make.ensures.answer; after = c.make.ensures.after; err = c.make.ensures.err; border = c.make.ensures.border }))))
 
 pub returns : goal.returns
 returns c =
     outcome c.self.inside c.args.self.now c.args.step.now c.subject-k.result c.deref.result.now c.index_mut-pair.result.now c.make.new.self c.make.result c.self.view_is c.self.invariant c.requires c.subject-k.ensures
-    c.deref.ensures.value c.index_mut-pair.ensures.value c.make.ensures.wants (record { answer = c.make.ensures.answer; after = c.make.ensures.after; err = c.make.ensures.err })
+    c.deref.ensures.value c.index_mut-pair.ensures.value c.make.ensures.wants (record { answer = c.make.ensures.answer; after = c.make.ensures.after; err = c.make.ensures.err; border = c.make.ensures.border })

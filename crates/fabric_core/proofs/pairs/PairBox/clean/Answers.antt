@@ -17,7 +17,7 @@ pub invariant_of-self : goal.invariant_of-self
 invariant_of-self c =
     let keeps = subst (λ (bridge : Bridge). KeepsPromises c.self.inside.pair bridge) (sym c.clean.ensures.after) (link_steps_keep_promises.clean c.self.inside.pair c.args.side) in
     forgot_a c.self.inside.pair c.clean.new.self c.forget_all.new.pair c.self.inside.queues_a.items c.self.inside.queues_b.items c.forget_all.new.queues.items c.self.invariant keeps
-    c.forget_all.ensures.bridge c.forget_all.ensures.queues
+    c.forget_all.ensures.bridge c.forget_all.ensures.room c.forget_all.ensures.queues
 
 pub forget_all-requires-in-B : goal.forget_all-requires-in-B
 forget_all-requires-in-B c =
@@ -28,4 +28,4 @@ pub invariant_of-self-in-B : goal.invariant_of-self-in-B
 invariant_of-self-in-B c =
     let keeps = subst (λ (bridge : Bridge). KeepsPromises c.self.inside.pair bridge) (sym c.clean.ensures.after) (link_steps_keep_promises.clean c.self.inside.pair c.args.side) in
     forgot_b c.self.inside.pair c.clean.new.self c.forget_all-in-B.new.pair c.self.inside.queues_a.items c.self.inside.queues_b.items c.forget_all-in-B.new.queues.items c.self.invariant keeps
-    c.forget_all-in-B.ensures.bridge c.forget_all-in-B.ensures.queues
+    c.forget_all-in-B.ensures.bridge c.forget_all-in-B.ensures.room c.forget_all-in-B.ensures.queues

@@ -1,4 +1,5 @@
 use Rattle.fabric_core.proofs.Turning.{answered, left, made_there}
+use Rattle.fabric_core.proofs.Wants.{bridge_wants, queue_wants}
 use Rattle.fabric_core.proofs.pairs.PairBox.make.Goals as goal
 
 pub returns-in-OnQueue-clause-answer : goal.returns-in-OnQueue-clause-answer
@@ -14,3 +15,9 @@ returns-in-OnBridge-clause-answer c = answered c.step_aside.result _ _ (made_the
 pub returns-in-OnBridge-clause-after : goal.returns-in-OnBridge-clause-after
 returns-in-OnBridge-clause-after c =
     left c.step_aside.result c.step_aside.new.self _ _ (made_there c.args.devs.now c.args.self.now c.args.step.now _ c.in-OnBridge.ensures) c.step_aside.ensures.after
+
+pub returns-in-OnQueue-clause-border : goal.returns-in-OnQueue-clause-border
+returns-in-OnQueue-clause-border c = queue_wants c.queue_step.result c.args.devs.now c.args.self.now c.args.step.now c.in-OnQueue.side c.in-OnQueue.queue c.in-OnQueue.ensures c.queue_step.ensures.border
+
+pub returns-in-OnBridge-clause-border : goal.returns-in-OnBridge-clause-border
+returns-in-OnBridge-clause-border c = bridge_wants c.step_aside.result c.args.devs.now c.args.self.now c.args.step.now c.in-OnBridge.ensures c.step_aside.ensures.border

@@ -1,4 +1,5 @@
-use Rattle.std.proofs.Common.{◌≡◌, IfOk, OnOk, subst}
+use Rattle.std.proofs.Common.{◌≡◌, IfOk, OnErr, OnOk, subst, true}
+use Rattle.ledger_laws.specs.Laws.{is_made}
 use Rattle.fabric_core.specs.PairBoxes.{pair_seen}
 use Rattle.fabric_core.specs.Turns.{bridge_turn}
 use Rattle.fabric_rule.specs.Parts.{PairState, plain_pair, with_bridge}
@@ -18,3 +19,7 @@ returns-clause-after c =
     subst
     (λ (state : PairState). OnOk c.bridge_step.result (plain_pair (with_bridge (pair_seen c.self.inside) c.bridge_step.new.pair) ≡ plain_pair (with_bridge state (bridge_turn state.bridge c.args.step.now).bridge)))
     c.self.view_is (stepped_after (pair_seen c.self.inside) c.bridge_step.new.pair c.args.step.now c.bridge_step.result c.bridge_step.ensures.after)
+
+pub returns-clause-border : goal.returns-clause-border
+returns-clause-border c =
+    subst (λ (state : PairState). OnErr c.bridge_step.result (is_made c.args.step.now (bridge_turn state.bridge c.args.step.now).answer ≡ true)) c.self.view_is c.bridge_step.ensures.border

@@ -1,68 +1,42 @@
-use Rattle.std.proofs.Common.{◌≡◌, ◌∙◌, IsTrue, false, rules, ap, length, refl, subst, sym, true, arith}
-use Rattle.std.proofs.lemmas.Grind.{common_steps}
-use Rattle.step_kinds.specs.declared.steps.Answer.TheVariants.{Stopped}
-use Rattle.plan_model.specs.Device.{count_refused}
-use Rattle.queue_pair.specs.Gates.{refuses_answer}
+use Rattle.std.proofs.Common.{◌≡◌, ◌∙◌, ◌≤◌, Result, Ok, Err, IfOk, OnErr, OnOk, inl, inr, refl, subst, sym}
+use Rattle.step_kinds.specs.declared.steps.Answer.{Answer}
+use Rattle.bridge_pair.specs.Bridge.{Bridge}
+use Rattle.frame_ring.specs.PortView.{HasPagesIn}
+use Rattle.plan_model.specs.Ethernet.{ethernet_frame}
 use Rattle.fabric_rule.specs.Parts.{QueuePart}
-use Rattle.frame_ring.specs.Calls.{free_answer}
-use Rattle.queue_pair.specs.Queue.{QueueState}
-use Rattle.fabric_core.specs.Numbers.{HasRoomToSend}
+use Rattle.fabric_core.specs.Numbers.{most_count}
 use Rattle.fabric_core.specs.Parts.{KeepsPort}
-use Rattle.fabric_core.specs.Turns.{counted_begun}
-use Rattle.fabric_core.proofs.FrameTurns.{FrameTurned, begin_counters, counted_queue, frame_counted, frame_stopped}
-use Rattle.fabric_core.proofs.QueueParts.{part_with, same_part}
-use Rattle.fabric_core.proofs.QueueCalls.{turn_taken}
+use Rattle.fabric_core.specs.QueueCalls.{HasTurnedUnlessWanting, IsBegunOrUncounted}
+use Rattle.fabric_core.specs.Turns.{QueueTurn, frame_turn, refused_once}
+use Rattle.fabric_core.proofs.FrameTurns.{answered_by_length, begins_by, refused_by_answer, refused_frame}
+use Rattle.fabric_core.proofs.QueueCalls.{keeps_same, turn_taken, unmade_turn, wants_more}
 use Rattle.fabric_core.proofs.queues.QueueBox.xbegin.Goals as goal
-use Rattle.fabric_core.proofs.queues.QueueBox.xbegin.Goals.{After-count_begun, After-drop-frame-inside-then-not-refuses, else-stopped-via-then-stopped+else-not-refuses, else-stopped-via-else-stopped}
 
-pub count_begun-requires-clause-room : goal.count_begun-requires-clause-room
-count_begun-requires-clause-room c =
-    let same = ap (λ (part : QueuePart). part.counters) c.in_ok-answer.ensures.after ∙ begin_counters c.args.self.now c.args.pair.now c.args.frame
-    ∙ sym (ap (λ (part : QueuePart). part.counters) c.self.view_is) in
-    let can : IsTrue c.can_send.result = search rules in
-    subst HasRoomToSend (sym same) (c.can_send.ensures.0 can)
+-- a refusal that is counted, or can't be
+refused_where : {E : Type 0} (turn : QueueTurn) (part new : QueuePart) (bridge : Bridge) (given : Answer) (result : Result Answer E) → given ≡ turn.answer → refused_once part ≡ turn.part
+    → IfOk result (λ answer. answer ≡ given) → OnOk result (new ≡ refused_once part) → OnErr result (new ≡ part) → OnErr result (most_count ≤ part.counters.refused) → HasPagesIn part.queue.port bridge
+    → HasTurnedUnlessWanting (IsBegunOrUncounted part.counters) turn result part new bridge bridge
+refused_where turn part new bridge given (Ok answer) is counted says after err wants ready =
+    turn_taken turn answer part new bridge bridge (says ∙ is) (after ∙ counted) refl
+    (subst (λ (new : QueuePart). KeepsPort part.queue.port new.queue.port bridge bridge) (sym after) (keeps_same part.queue.port bridge ready))
+refused_where turn part new bridge given (Err error) is counted says after err wants ready =
+    subst (λ (new : QueuePart). HasTurnedUnlessWanting (IsBegunOrUncounted part.counters) turn (Err error) part new bridge bridge) (sym err)
+    (unmade_turn turn error part bridge (inr wants) ready)
 
-stopped : (c : After-drop-frame-inside-then-not-refuses)
-    → FrameTurned c.args.self.now c.args.pair.now c.args.frame Stopped
-    (record { queue = c.self.inside.queue; flow = c.self.inside.flow; counters = c.refused-self-inside.result; accepted = c.self.inside.accepted.counts; delivered = c.self.inside.delivered.counts })
-stopped c =
-    let inside = c.self.inside in
-    let bridge = c.args.pair.now in
-    let seen = part_with inside.queue inside.flow inside.counters inside.accepted.counts inside.delivered.counts in
-    let new = part_with inside.queue inside.flow c.refused-self-inside.result inside.accepted.counts inside.delivered.counts in
-    let none : refuses_answer inside.queue bridge (length c.args.frame) ≡ false =
-    ap (refuses_answer inside.queue bridge) (sym c.len-len.ensures.value) ∙ sym c.refuses.ensures ∙ c.if-not-refuses.true in
-    subst (λ (part : QueuePart). FrameTurned part bridge c.args.frame Stopped new) c.self.view_is
-    (frame_stopped seen new bridge c.args.frame (sym c.stopped.ensures ∙ c.if-stopped.true) none
-    (same_part inside.queue inside.queue inside.flow inside.flow c.refused-self-inside.result (count_refused inside.counters) inside.accepted.counts inside.accepted.counts inside.delivered.counts inside.delivered.counts
-    refl refl c.refused-self-inside.ensures refl refl))
+pub begin_encoded-requires-clause-begins : goal.begin_encoded-requires-clause-begins
+begin_encoded-requires-clause-begins c =
+    let answered = answered_by_length c.args.self.now c.args.pair.now c.args.header.dst c.args.header.src c.args.header.kind c.args.payload.now c.frame_answer-answer.result c.len.result
+    c.requires.payload.address c.requires.address c.len.ensures.value c.frame_answer-answer.ensures in
+    begins_by _ _ c.in-OkNumber.number answered c.in-OkNumber.is
 
-pub returns-then-not-refuses : goal.returns-then-not-refuses
-returns-then-not-refuses c =
-    turn_taken _ _ _ _ _ _ ((stopped c).answered) ((stopped c).turned)
-    refl
-    (first_of (search rules, grind (arith, common_steps)))
-
-turned : (c : After-count_begun) → FrameTurned c.args.self.now c.args.pair.now c.args.frame c.in_ok-answer.answer c.count_begun.new.self
-turned c =
-    let part = c.args.self.now in
-    let bridge = c.args.pair.now in
-    let may : part.flow.stopped ≡ true → refuses_answer part.queue bridge (length c.args.frame) ≡ true =
-    subst (λ (part : QueuePart). part.flow.stopped ≡ true → refuses_answer part.queue bridge (length c.args.frame) ≡ true) c.self.view_is
-    (elim c.else-stopped.branch [
-      | else-stopped-via-then-stopped+else-not-refuses w ↦ λ is.
-          ap (refuses_answer c.self.inside.queue bridge) (sym c.len-len.ensures.value) ∙ sym w.refuses.ensures ∙ w.if-not-refuses.false
-      | else-stopped-via-else-stopped w ↦ λ is. absurd (cc (w.if-stopped.false, c.stopped.ensures, is))
-    ]) in
-    frame_counted part c.begin.new.self c.count_begun.new.self bridge c.begin.new.pair c.args.frame c.in_ok-answer.answer may c.in_ok-answer.ensures.answer c.in_ok-answer.ensures.after
-    c.begin.ensures.plain
-    (c.count_begun.ensures ∙ ap (counted_begun c.in_ok-answer.answer c.begin.new.self (free_answer c.begin.new.self.queue.port c.begin.new.pair)) c.len-len.ensures.value)
+pub returns-in-OkNumber : goal.returns-in-OkNumber
+returns-in-OkNumber c = wants_more (λ answer begun. inl begun) c.begin_encoded.ensures
 
 pub returns : goal.returns
 returns c =
-    turn_taken _ _ _ _ _ _ ((turned c).answered) ((turned c).turned)
-    (first_of (search rules, grind (arith, common_steps)))
-    (let left : c.count_begun.new.self.queue ≡ c.begin.new.self.queue =
-    ap (λ (part : QueuePart). part.queue) c.count_begun.ensures
-    ∙ counted_queue c.in_ok-answer.answer c.begin.new.self (free_answer c.begin.new.self.queue.port c.begin.new.pair) c.len-len.result in
-    subst (λ (queue : QueueState). KeepsPort c.args.self.now.queue.port queue.port c.args.pair.now c.begin.new.pair) (sym left) c.begin.ensures.keeps)
+    let answered = answered_by_length c.args.self.now c.args.pair.now c.args.header.dst c.args.header.src c.args.header.kind c.args.payload.now c.frame_answer-answer.result c.len.result
+    c.requires.payload.address c.requires.address c.len.ensures.value c.frame_answer-answer.ensures in
+    let frame = ethernet_frame c.args.header.dst c.args.header.src c.args.header.kind c.args.payload.now in
+    refused_where (frame_turn c.args.self.now c.args.pair.now frame) c.args.self.now c.refuse.new.self c.args.pair.now c.frame_answer-answer.result c.refuse.result answered
+    (refused_frame c.args.self.now c.args.pair.now frame (refused_by_answer _ _ answered c.in_default.not-OkNumber)) c.refuse.ensures.answer c.refuse.ensures.after c.refuse.ensures.err
+    c.refuse.ensures.wants c.requires.ready.pages
