@@ -1,6 +1,9 @@
 //! The command `explore`: the outcomes of all schedules of a script, and the text that shows them.
 #![tactic(auto)]
 
+mod command;
+mod machine;
 mod text;
 
+pub use command::explore_reply;
 pub use text::explored_text;

@@ -1,0 +1,58 @@
+//! A cluster, as a search drives it.
+
+ghost use Rattle.cluster_core.specs.Cluster.{ClusterState, plan_held as plan_of_cluster};
+ghost use Rattle.cluster_core.specs.InFlight.{key_of as key_of_cluster};
+ghost use Rattle.explore_command.specs.Answers.{has_made as cluster_has_made};
+ghost use Rattle.explore_command.proofs.Clusters.{same_keys as clusters_have_same_keys, same_steps as clusters_have_same_steps};
+
+use cluster_core::Cluster;
+use explore_search::Machine;
+use std::alloc::{AllocError, Global};
+use std::marker::Model;
+use step_kinds::{Answer, Plan, Side, Step};
+
+/// A cluster that a search makes anew along each path. Contracts see the cluster.
+#[derive(Drop)]
+pub struct PathCluster {
+    cluster: Cluster,
+}
+
+impl Model for PathCluster {
+    ghost Value = { ClusterState };
+
+    ghost view = { λ path. path.cluster };
+}
+
+impl Machine for PathCluster {
+    ghost has_made = { cluster_has_made };
+
+    ghost plan_held = { plan_of_cluster };
+
+    ghost key_of = { key_of_cluster };
+
+    fn fresh(alloc: Global, plan: &Plan) -> Result<PathCluster, AllocError> {
+        Ok(PathCluster {
+            cluster: Cluster::new(alloc, plan)?,
+        })
+    }
+
+    fn step(&mut self, step: &Step) -> Result<Answer, AllocError> {
+        self.cluster.step(step)
+    }
+
+    fn is_same(&self, other: &PathCluster) -> bool {
+        self.cluster.is_same(&other.cluster)
+    }
+
+    fn in_flight(&self, pair: u32, side: Side) -> usize {
+        self.cluster.in_flight(pair, side)
+    }
+
+    fn push_key(&self, key: &mut Vec<u8>) -> Result<(), AllocError> {
+        self.cluster.push_key(key)
+    }
+
+    ghost same_steps = { clusters_have_same_steps };
+
+    ghost same_keys = { clusters_have_same_keys };
+}
