@@ -1,21 +1,17 @@
 -- Clusters that have made one common list of steps, what they have made else, and their keys.
-use Rattle.std.proofs.Common.{◌≡◌, ◌∙◌, ℕ, ◌≤◌, List, sym, ap, refl, subst}
+use Rattle.std.proofs.Common.{◌≡◌, ◌∙◌, ℕ, List, sym, ap, refl}
 use Rattle.step_kinds.specs.declared.names.Side.{Side}
 use Rattle.step_kinds.specs.declared.plan.Plan.{Plan}
-use Rattle.step_kinds.specs.declared.plan.SwitchPlan.{SwitchPlan}
-use Rattle.step_kinds.specs.declared.steps.Answer.{Answer}
 use Rattle.step_kinds.specs.declared.steps.Answer.TheVariants.{Nothing}
 use Rattle.step_kinds.specs.declared.steps.Step.{Step}
 use Rattle.step_kinds.specs.declared.steps.Step.TheVariants.{Land}
-use Rattle.ledger_model.specs.Log.{Answered}
-use Rattle.fabric_core.specs.Fabric.{FabricState}
 use Rattle.fabric_core.specs.InFlight.{LandsNoneFrom as LandsNoneOnBridges}
 use Rattle.fabric_core.specs.LogClauses.{HasMade as HasMadeOnBridges}
 use Rattle.fabric_core.proofs.SameFabrics.{one_list_makes_same, same_has_made_same, same_keys as same_fabrics_keys}
 use Rattle.cluster_core.specs.Cluster.{ClusterState, plan_held}
 use Rattle.cluster_core.specs.InFlight.{LandsNoneFrom}
 use Rattle.cluster_core.specs.Laws.{OneAnswer, SameKeys, SameSteps}
-use Rattle.cluster_core.specs.LogClauses.{HasMade, answer_after, network_after}
+use Rattle.cluster_core.specs.LogClauses.{HasMade, network_after}
 use Rattle.cluster_core.proofs.Refused.{answer_on_bridges, item_answer}
 
 -- The laws
