@@ -16,6 +16,7 @@ use Rattle.cluster_core.proofs.Refused.{answer_on_bridges, item_answer}
 
 -- The laws
 
+-- what the one has made, by its fabric and its switches
 pub same_steps : SameSteps
 same_steps plan common steps cluster other made owns goes =
     let net = network_after plan steps in
@@ -26,10 +27,12 @@ same_steps plan common steps cluster other made owns goes =
       switches = owns.switches ∙ sym made.switches ∙ goes.switches;
     }
 
+-- the keys are those of the fabrics
 pub same_keys : SameKeys
 same_keys plan common cluster other made owns =
     same_fabrics_keys plan (network_after plan common).steps cluster.fabric other.fabric made.bridges owns.bridges
 
+-- the last item of the log has the answer
 pub one_answer : OneAnswer
 one_answer plan steps step answer is = sym (item_answer plan steps step answer is)
 
@@ -44,11 +47,13 @@ merged cluster other plans merges switches plan steps made =
       switches = sym switches ∙ made.switches;
     }
 
+-- what has made one list has the same switches
 pub same_switches : (plan : Plan) (steps : List Step) (cluster other : ClusterState) → HasMade plan steps cluster → HasMade plan steps other → cluster.switches ≡ other.switches
 same_switches plan steps cluster other made owns = made.switches ∙ sym owns.switches
 
 -- From a place on nothing lands
 
+-- the network answers as the log of its bridges goes on
 pub lands_none : (cluster : ClusterState) (pair : ℕ) (side : Side) (count : ℕ) → LandsNoneOnBridges cluster.fabric pair side count → LandsNoneFrom cluster pair side count
 lands_none cluster pair side count none plan steps made place beyond =
     let net = network_after plan steps in
