@@ -1,25 +1,22 @@
 -- Clusters that have made one common list of steps, what they have made else, and their keys.
-use Rattle.std.proofs.Common.{◌≡◌, ◌∙◌, ℕ, ◌≤◌, List, sym, ap, refl, subst}
+use Rattle.std.proofs.Common.{◌≡◌, ◌∙◌, ℕ, List, sym, ap, refl}
 use Rattle.step_kinds.specs.declared.names.Side.{Side}
 use Rattle.step_kinds.specs.declared.plan.Plan.{Plan}
-use Rattle.step_kinds.specs.declared.plan.SwitchPlan.{SwitchPlan}
-use Rattle.step_kinds.specs.declared.steps.Answer.{Answer}
 use Rattle.step_kinds.specs.declared.steps.Answer.TheVariants.{Nothing}
 use Rattle.step_kinds.specs.declared.steps.Step.{Step}
 use Rattle.step_kinds.specs.declared.steps.Step.TheVariants.{Land}
-use Rattle.ledger_model.specs.Log.{Answered}
-use Rattle.fabric_core.specs.Fabric.{FabricState}
 use Rattle.fabric_core.specs.InFlight.{LandsNoneFrom as LandsNoneOnBridges}
 use Rattle.fabric_core.specs.LogClauses.{HasMade as HasMadeOnBridges}
 use Rattle.fabric_core.proofs.SameFabrics.{one_list_makes_same, same_has_made_same, same_keys as same_fabrics_keys}
 use Rattle.cluster_core.specs.Cluster.{ClusterState, plan_held}
 use Rattle.cluster_core.specs.InFlight.{LandsNoneFrom}
 use Rattle.cluster_core.specs.Laws.{OneAnswer, SameKeys, SameSteps}
-use Rattle.cluster_core.specs.LogClauses.{HasMade, answer_after, network_after}
+use Rattle.cluster_core.specs.LogClauses.{HasMade, network_after}
 use Rattle.cluster_core.proofs.Refused.{answer_on_bridges, item_answer}
 
 -- The laws
 
+-- what the one has made, by its fabric and its switches
 pub same_steps : SameSteps
 same_steps plan common steps cluster other made owns goes =
     let net = network_after plan steps in
@@ -30,10 +27,12 @@ same_steps plan common steps cluster other made owns goes =
       switches = owns.switches ∙ sym made.switches ∙ goes.switches;
     }
 
+-- the keys are those of the fabrics
 pub same_keys : SameKeys
 same_keys plan common cluster other made owns =
     same_fabrics_keys plan (network_after plan common).steps cluster.fabric other.fabric made.bridges owns.bridges
 
+-- the last item of the log has the answer
 pub one_answer : OneAnswer
 one_answer plan steps step answer is = sym (item_answer plan steps step answer is)
 
@@ -48,11 +47,13 @@ merged cluster other plans merges switches plan steps made =
       switches = sym switches ∙ made.switches;
     }
 
+-- what has made one list has the same switches
 pub same_switches : (plan : Plan) (steps : List Step) (cluster other : ClusterState) → HasMade plan steps cluster → HasMade plan steps other → cluster.switches ≡ other.switches
 same_switches plan steps cluster other made owns = made.switches ∙ sym owns.switches
 
 -- From a place on nothing lands
 
+-- the network answers as the log of its bridges goes on
 pub lands_none : (cluster : ClusterState) (pair : ℕ) (side : Side) (count : ℕ) → LandsNoneOnBridges cluster.fabric pair side count → LandsNoneFrom cluster pair side count
 lands_none cluster pair side count none plan steps made place beyond =
     let net = network_after plan steps in

@@ -28,11 +28,13 @@ use Rattle.fabric_core.proofs.Standing.{goes_on, plan_of_standing}
 
 -- From a place on nothing lands
 
+-- the answer at a place behind all writes
 none_there : (bridge : Bridge) (side : Side) (place : ℕ) → length (flight_of bridge side).writes ≤ place → of_land (label_landed (landing bridge side place)) ≡ Nothing
 none_there bridge side place beyond =
     ap (λ (found : Option Flying). of_land (label_landed (answer_for found (may_land (map flying_order (flight_of bridge side).writes) place))))
     (slice_get_past (flight_of bridge side).writes place beyond)
 
+-- so the log answers it too
 pub lands_none : (fabric : FabricState) (pair : ℕ) (side : Side) → IsPairOf (plan_kept fabric) pair → LandsNoneFrom fabric pair side (length (flight_of (pair_of fabric pair).bridge side).writes)
 lands_none fabric pair side among plan steps made place beyond =
     let may : IsPairOf plan pair = subst (λ (plan : Plan). IsPairOf plan pair) (plan_of_standing plan steps fabric made.stands) among in
@@ -62,6 +64,7 @@ key_more (flying ∷ writes) (suc place) label is =
     flat_map-cons flying_key flying (take (suc place) writes) ∙ ap (λ (rest : List ℕ). flying_key flying ++ rest) (key_more writes place label is)
     ∙ sym (append_assoc (flying_key flying) (flat_map flying_key (take place writes)) (label_key label)) ∙ ap (λ (front : List ℕ). front ++ label_key label) (sym (flat_map-cons flying_key flying (take place writes)))
 
+-- a write stands at each place below their number
 pub some_there : (writes : List Flying) (place : ℕ) → place < length writes → None ≡ label_at writes place → ⊥
 some_there [] place below is = omega (arith, below)
 some_there (flying ∷ writes) zero below is = cc is
@@ -69,10 +72,12 @@ some_there (flying ∷ writes) (suc place) below is = some_there writes place (o
 
 -- The same pairs have the same keys
 
+-- bridges that differ in promises alone have the same key
 flight_same : (one other : Bridge) (side : Side) → plain_bridge one ≡ plain_bridge other → flight_key one side ≡ flight_key other side
 flight_same one other A same = ap (λ (bridge : Bridge). flight_key bridge A) same
 flight_same one other B same = ap (λ (bridge : Bridge). flight_key bridge B) same
 
+-- so have lists of pairs
 keys_same : (pairs others : List PairState) → AreSamePairs pairs others → flat_map pair_key pairs ≡ flat_map pair_key others
 keys_same [] [] same = refl
 keys_same [] (other ∷ others) same = absurd (omega (arith, same.all))
@@ -86,5 +91,6 @@ keys_same (pair ∷ pairs) (other ∷ others) same =
     ∙ ap (λ (behind : List ℕ). pair_key other ++ behind) rest
     ∙ sym (flat_map-cons pair_key other others)
 
+-- and fabrics
 pub same_fabric_keys : (fabric other : FabricState) → IsSameFabric fabric other → fabric_key fabric ≡ fabric_key other
 same_fabric_keys fabric other same = keys_same fabric.pairs other.pairs same.pairs

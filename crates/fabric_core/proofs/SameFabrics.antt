@@ -27,6 +27,7 @@ use Rattle.fabric_core.specs.Same.{AreSamePairs, IsSameFabric, IsSamePair, IsSam
 
 -- Whether something is left to post, by the port and by the ledger
 
+-- something is left by the ledger where it is by the port
 left_where_busy : (todo : List Label) (waiting : List Entry) → (not (is_empty_list todo) || not (is_empty_list waiting)) ≡ true → (sends : SendingEnd) → todo ≡ sends.todo → waiting ≡ sends.waiting → is_left sends ≡ true
 left_where_busy todo waiting busy sends same same_waiting = by_tests (is_empty_list sends.todo) (is_empty_list sends.waiting)
     (subst (λ (waiting : List Entry). (not (is_empty_list sends.todo) || not (is_empty_list waiting)) ≡ true) same_waiting
@@ -37,6 +38,7 @@ left_where_busy todo waiting busy sends same same_waiting = by_tests (is_empty_l
     by_tests true false busy = refl
     by_tests false nor busy = refl
 
+-- and by the port where it is by the ledger
 busy_where_left : (todo : List Label) (waiting : List Entry) (sends : SendingEnd) → todo ≡ sends.todo → waiting ≡ sends.waiting → is_left sends ≡ true → (not (is_empty_list todo) || not (is_empty_list waiting)) ≡ true
 busy_where_left todo waiting sends same same_waiting left =
     subst (λ (waiting : List Entry). (not (is_empty_list todo) || not (is_empty_list waiting)) ≡ true) (sym same_waiting)
@@ -60,6 +62,7 @@ port_of_parts port plan side queue sending receiving is_plan is_side is_queue se
     made : PairPlan → Side → ℕ → Sending → Receiving → PortState
     made plan side queue sending receiving = record { plan = plan; side = side; queue = queue; sending = sending; receiving = receiving }
 
+-- a sending end of these parts, with its own entry
 sending_of_parts : (sending : Sending) (begun told : ℕ) (todo : List Label) (waiting : List Entry) → sending.begun ≡ begun → sending.told ≡ told → sending.todo ≡ todo → sending.waiting ≡ waiting →
     sending ≡ record { begun = begun; told = told; entry = sending.entry; todo = todo; waiting = waiting }
 sending_of_parts sending begun told todo waiting is_begun is_told is_todo is_waiting =
@@ -93,6 +96,7 @@ module _ (devs : List DevPlan) (plan : PairPlan) (k : ℕ) (side : Side) (queue 
       (ap (λ (port : PortState). port.sending.todo) stands.port) (ap (λ (port : PortState). port.sending.waiting) stands.port) left))
       ∙ stands.entry is left
 
+  -- a queue that is the same stands for the same view
   queue_stands : (forgotten : Bool) (own : QueueView) (part other : QueuePart) → IsSamePart part other →
       QueueStands devs plan k side queue forgotten view part → QueueStands devs plan k side queue forgotten own other →
       QueueStands devs plan k side queue forgotten view other
@@ -134,6 +138,7 @@ module _ (devs : List DevPlan) (plan : PairPlan) (k : ℕ) (side : Side) (queue 
         receiving = ap (λ (port : PortState). port.receiving) stands.port ∙ sym (ap (λ (port : PortState). port.receiving) owns.port);
       }
 
+  -- two queues that stand for one view are the same
   same_part : (forgotten : Bool) (part other : QueuePart) → QueueStands devs plan k side queue forgotten view part → QueueStands devs plan k side queue forgotten view other →
       IsSamePart part other
   same_part forgotten part other stands owns =
@@ -152,6 +157,7 @@ module _ (devs : List DevPlan) (plan : PairPlan) (k : ℕ) (site : Site) (pair o
   same_link : (own : Site) → IsSamePair pair other → PairStands devs plan k own other → own.pair.link ≡ site.pair.link
   same_link own same owns = sym (ap (λ (bridge : Bridge). bridge.link) owns.bridge) ∙ sym (ap (λ (bridge : Bridge). bridge.link) same.bridge) ∙ ap (λ (bridge : Bridge). bridge.link) stands.bridge
 
+  -- a side that is the same stands for the same ledger
   side_stands : (own : Site) → IsSamePair pair other → PairStands devs plan k own other → (side : Side) → SideStandsIn devs plan k site.pair side (queues_of other side)
   side_stands own same owns side =
       let its = stands.sides side in
@@ -166,9 +172,11 @@ module _ (devs : List DevPlan) (plan : PairPlan) (k : ℕ) (site : Site) (pair o
             (subst (λ (link : Link). QueueStands devs plan k side queue (has_forgotten link side) (view_of own.pair side queue) (queue_of other side queue)) (same_link own same owns) (theirs.queues queue below));
       }
 
+  -- so does a pair
   pair_stands : (own : Site) → IsSamePair pair other → PairStands devs plan k own other → PairStands devs plan k site other
   pair_stands own same owns = record { bridge = sym same.bridge ∙ stands.bridge; link = stands.link; sides = side_stands own same owns }
 
+  -- two pairs that stand for one ledger are the same
   same_pair : PairStands devs plan k site other → IsSamePair pair other
   same_pair owns =
       record {
@@ -187,6 +195,7 @@ module _ (devs : List DevPlan) (plan : PairPlan) (k : ℕ) (site : Site) (pair o
 
 -- A fabric
 
+-- a fabric that is the same stands for the same steps
 pub same_stands : (plan : Plan) (steps own : List Step) (fabric other : FabricState) → IsSameFabric fabric other → StandsFor plan steps fabric → StandsFor plan own other → StandsFor plan steps other
 same_stands plan steps own fabric other same stands owns =
     record {
@@ -197,10 +206,12 @@ same_stands plan steps own fabric other same stands owns =
           (same.pairs.each k (subst (λ n. k < n) (sym stands.all_pairs) below)) (owns.pairs k below);
     }
 
+-- so it has made them
 pub same_has_made_same : SameHasMadeSame
 same_has_made_same plan steps own fabric other same made owns =
     record { declared = made.declared; permitted = made.permitted; stands = same_stands plan steps own fabric other same made.stands owns.stands }
 
+-- two fabrics that have made one list of steps are the same
 pub one_list_makes_same : OneListMakesSame
 one_list_makes_same plan steps fabric other made owns =
     record {
@@ -231,5 +242,6 @@ merged fabric other plans some same plan steps made =
 
 -- Keys
 
+-- so their keys are
 pub same_keys : SameKeys
 same_keys plan steps fabric other made owns = same_fabric_keys fabric other (one_list_makes_same plan steps fabric other made owns)

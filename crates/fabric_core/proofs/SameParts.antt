@@ -38,15 +38,19 @@ abbrev pub SameBefore : List SessionCount → List SessionCount → ℕ → Type
 SameBefore counts other before = (k : ℕ) → k < before → count_in counts (get_or counts k no_count).session ≡ count_in other (get_or counts k no_count).session
 
 module _ (counts : List OfSession) (other : List SessionCount) (place : ℕ) (one : OfSession) (apart : AreApart (map count_seen counts)) (within : place < length counts) (is : one ≡ get_or counts place one) where
+  -- what is seen at the place
   seen : get_or (map count_seen counts) place no_count ≡ count_seen one
   seen = get_or-map count_seen counts place one no_count within ∙ ap count_seen (sym is)
 
+  -- and its count
   own : count_in (map count_seen counts) (get_or (map count_seen counts) place no_count).session ≡ one.count
   own = its_count (map count_seen counts) place apart (subst (λ n. place < n) (sym (length-map counts count_seen)) within) ∙ ap (λ (one : SessionCount). one.count) seen
 
+  -- one place more at which the counts are the same
   pub same_more : SameBefore (map count_seen counts) other place → count_in other one.session ≡ one.count → SameBefore (map count_seen counts) other (place + 1)
   same_more before same = below_more _ _ before (own ∙ sym same ∙ ap (λ (one : SessionCount). count_in other one.session) (sym seen))
 
+  -- where all counts are the same, so is the one at this place
   pub differs_there : AreSameWhereCounted (map count_seen counts) other → count_in other one.session ≡ one.count
   differs_there same =
       ap (λ (one : SessionCount). count_in other one.session) (sym seen)
@@ -59,6 +63,7 @@ record Found (counts : List SessionCount) (session : ℕ) : Type 0 where
   within : place < length counts
   there : (get_or counts place no_count).session ≡ session
 
+-- either it is found, or no place has it
 found_or_not : (counts : List SessionCount) (session : ℕ) → Found counts session ⊎ IsNowhere counts session (length counts)
 found_or_not [] session = inr (λ k below. absurd (omega (arith, below)))
 found_or_not (one ∷ counts) session = first (cases_eq one.session session) (found_or_not counts session) where
@@ -71,6 +76,7 @@ found_or_not (one ∷ counts) session = first (cases_eq one.session session) (fo
   first (inr differs) (inl found) = inl (record { place = suc found.place; within = omega (arith, found.within); there = found.there })
   first (inr differs) (inr none) = inr (behind none differs)
 
+-- where each session counted in either is the same in the other, all are
 pub same_both_ways : (counts other : List SessionCount) → AreSameWhereCounted counts other → AreSameWhereCounted other counts → AreSameCounts counts other
 same_both_ways counts other same back session = by_place (found_or_not counts session) (found_or_not other session) where
   by_place : Found counts session ⊎ IsNowhere counts session (length counts) → Found other session ⊎ IsNowhere other session (length other) → count_in counts session ≡ count_in other session
@@ -80,18 +86,22 @@ same_both_ways counts other same back session = by_place (found_or_not counts se
 
 -- Tests one after the other
 
+-- a first test holds, so both hold exactly where the second does
 pub both_then : (P Q : Type 0) (value test : Bool) → P → (IsTrue test ↔ Q) → value ≡ test → IsTrue value ↔ (P × Q)
 both_then P Q value test has tests is =
     (λ yes. (has, tests.0 (subst (λ (test : Bool). IsTrue test) is yes)), λ both. subst (λ (test : Bool). IsTrue test) (sym is) (tests.1 both.1))
 
+-- a first test fails, so both don't hold
 pub both_else : (P Q : Type 0) (value test : Bool) → (IsTrue test ↔ P) → test ≡ false → value ≡ test → IsTrue value ↔ (P × Q)
 both_else P Q value test tests fails is =
     (λ yes. absurd (false≢true (sym fails ∙ sym is ∙ yes)), λ both. absurd (false≢true (sym fails ∙ tests.1 both.0)))
 
+-- two tests, of which the second is made only where the first holds
 both_tests : (P Q : Type 0) (test and : Bool) → (IsTrue test ↔ P) → (IsTrue and ↔ Q) → IsTrue (test && and) ↔ (P × Q)
 both_tests P Q true and first second = both_then P Q and and (first.0 refl) second refl
 both_tests P Q false and first second = both_else P Q false false first refl refl
 
+-- a test on numbers says whether they are equal
 numbers_test : (n m : ℕ) → IsTrue (eqb n m) ↔ (n ≡ m)
 numbers_test n m = (eqb-true n m, eq-eqb n m)
 
@@ -105,12 +115,14 @@ stopped_test false false = (λ yes. refl, λ e. refl)
 abbrev counted : ℕ → ℕ → ℕ → ℕ → ℕ → ℕ → Counters
 counted tx tx_bytes refused rx rx_bytes short = record { tx = tx; tx_bytes = tx_bytes; refused = refused; rx = rx; rx_bytes = rx_bytes; short = short }
 
+-- counters with the same six numbers are equal
 counted_alike : (one other : Counters) → one.tx ≡ other.tx → one.tx_bytes ≡ other.tx_bytes → one.refused ≡ other.refused → one.rx ≡ other.rx → one.rx_bytes ≡ other.rx_bytes → one.short ≡ other.short → one ≡ other
 counted_alike one other tx tx_bytes refused rx rx_bytes short =
     ap (λ (n : ℕ). counted n one.tx_bytes one.refused one.rx one.rx_bytes one.short) tx ∙ ap (λ (n : ℕ). counted other.tx n one.refused one.rx one.rx_bytes one.short) tx_bytes
     ∙ ap (λ (n : ℕ). counted other.tx other.tx_bytes n one.rx one.rx_bytes one.short) refused ∙ ap (λ (n : ℕ). counted other.tx other.tx_bytes other.refused n one.rx_bytes one.short) rx
     ∙ ap (λ (n : ℕ). counted other.tx other.tx_bytes other.refused other.rx n one.short) rx_bytes ∙ ap (λ (n : ℕ). counted other.tx other.tx_bytes other.refused other.rx other.rx_bytes n) short
 
+-- the test on six numbers says whether counters are equal
 pub counters_test : (one other : Counters) →
     IsTrue (eqb one.tx other.tx && (eqb one.tx_bytes other.tx_bytes && (eqb one.refused other.refused && (eqb one.rx other.rx && (eqb one.rx_bytes other.rx_bytes && eqb one.short other.short))))) ↔ (one ≡ other)
 counters_test one other =
@@ -167,6 +179,7 @@ bare plan link books pads bells a b from_a from_b =
       flights = record { a = record { writes = from_a; spare = 0 }; b = record { writes = from_b; spare = 0 } };
     }
 
+-- of two bridges of one plan with the same parts nothing but promises differs
 pub plain_same : (one other : Bridge) → one.plan ≡ other.plan → IsSameBridge one other → plain_bridge one ≡ plain_bridge other
 plain_same one other plans same =
     ap (λ (plan : PairPlan). bare plan one.link one.books one.pads one.bells (bytes_of one A) (bytes_of one B) (flight_of one A).writes (flight_of one B).writes) plans
@@ -179,6 +192,7 @@ plain_same one other plans same =
     ∙ ap (λ (from_a : List Flying). bare other.plan other.link other.books other.pads other.bells (bytes_of other A) (bytes_of other B) from_a (flight_of one B).writes) (same.writes A)
     ∙ ap (λ (from_b : List Flying). bare other.plan other.link other.books other.pads other.bells (bytes_of other A) (bytes_of other B) (flight_of other A).writes from_b) (same.writes B)
 
+-- and where nothing but promises differs, the parts are the same
 pub same_by_plain : (one other : Bridge) → plain_bridge one ≡ plain_bridge other → IsSameBridge one other
 same_by_plain one other same =
     record {
@@ -198,12 +212,14 @@ same_by_plain one other same =
     same_writes one other same A = ap (λ (bridge : Bridge). (flight_of bridge A).writes) same
     same_writes one other same B = ap (λ (bridge : Bridge). (flight_of bridge B).writes) same
 
+-- pairs are the same where their bridges and the queues of both sides are
 pub same_pair_of : (pair other : PairState) → pair.bridge.plan ≡ other.bridge.plan → IsSameBridge pair.bridge other.bridge → AreSameParts pair.queues.a other.queues.a → AreSameParts pair.queues.b other.queues.b → IsSamePair pair other
 same_pair_of pair other plans bridge a b = record { bridge = plain_same pair.bridge other.bridge plans bridge; queues = by_side } where
   by_side : (side : Side) → AreSameParts (queues_of pair side) (queues_of other side)
   by_side A = a
   by_side B = b
 
+-- so the tests on these say whether the pairs are the same
 pub pair_test : (pair other : PairState) (value : Bool) → pair.bridge.plan ≡ other.bridge.plan →
     (IsTrue value ↔ ((IsSameBridge pair.bridge other.bridge × AreSameParts pair.queues.a other.queues.a) × AreSameParts pair.queues.b other.queues.b)) → IsTrue value ↔ IsSamePair pair other
 pair_test pair other value plans tests = (

@@ -4,7 +4,7 @@ use Rattle.step_kinds.specs.declared.steps.Step.{Step}
 use Rattle.cluster_core.specs.Cluster.{ClusterState, plan_held}
 use Rattle.cluster_core.specs.Clusters.{cluster_seen}
 use Rattle.cluster_core.specs.LogClauses.{HasMade, network_after}
-use Rattle.cluster_core.proofs.SameClusters.{merged, same_switches}
+use Rattle.cluster_core.proofs.SameClusters.{merged}
 use Rattle.cluster_core.proofs.cluster.Cluster.is_same.Goals as goal
 
 pub returns-then-is_same-clause-merges : goal.returns-then-is_same-clause-merges
