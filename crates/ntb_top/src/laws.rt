@@ -37,13 +37,13 @@ pub fn explorations_are_true()
 
 /// Where the source tells its bytes and neither it nor the sink fails, a command that reads answers just these bytes and
 /// writes its text whole, or it is out of memory and writes nothing. No other end is possible.
-#[tactic(auto, using(crate::proofs::Completing::runs_complete))]
+#[tactic(auto, using(crate::proofs::CompleteRuns::runs_complete))]
 pub fn runs_are_complete()
     ensures { RunsComplete }
 {}
 
 /// So `replay` of a script without a fault ends with status 0 and the report of its plan, or with status 6 and nothing.
-#[tactic(auto, using(crate::proofs::Completing::replays_complete))]
+#[tactic(auto, using(crate::proofs::CompleteRuns::replays_complete))]
 pub fn replays_are_complete()
     ensures { ReplaysComplete }
 {}

@@ -50,7 +50,7 @@ pub fn other_steps_are_of_the_lane()
 
 /// A slot that is out is with the seat whose part says so: with the sender, which is to send the next entry in it; with
 /// the mover, which took its entry; or with the receiver, which looked at its entry. And each of these has it out.
-#[tactic(auto, using(crate::proofs::Seated::seats_have_slots_out))]
+#[tactic(auto, using(crate::proofs::SeatedSlots::seats_have_slots_out))]
 pub fn slots_out_are_with_seats()
     ensures out { SlotsOutAreWithSeats }
     ensures had { SeatsHaveSlotsOut }
