@@ -5,7 +5,7 @@ DESTDIR =
 lib = $(DESTDIR)$(PREFIX)/lib/ntbsim
 bin = $(DESTDIR)$(PREFIX)/bin
 share = $(DESTDIR)$(PREFIX)/share
-tools = ntblist ntbdraw ntbjoin ntbtest ntbcheck ntbpage ntbpcap
+tools = ntblist ntbdraw ntbjoin ntbtest ntbcheck ntbpage ntbpcap ntbexplore
 program = crates/ntbsim/out/ntbsim
 
 all:
