@@ -4,7 +4,7 @@
 
 # Whether the program that answers knows the command.
 explore_is_known() {
-    [ "$(printf 'ntb 1\n' | crates/ntbsim/out/ntbsim explore 2>/dev/null | head -n 1)" != usage ]
+    [ "$(printf 'ntb 1\n' | crates/ntbsim/out/ntbsim explore 2>/dev/null | head -n 1)" = 'outcomes 1 states 1' ]
 }
 
 # The head of each litmus test, its conditions, and its line in the gallery.
