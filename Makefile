@@ -5,7 +5,7 @@ DESTDIR =
 lib = $(DESTDIR)$(PREFIX)/lib/ntbsim
 bin = $(DESTDIR)$(PREFIX)/bin
 share = $(DESTDIR)$(PREFIX)/share
-tools = ntblist ntbdraw ntbjoin ntbtest ntbcheck ntbpage ntbpcap
+tools = ntblist ntbdraw ntbjoin ntbtest ntbcheck ntbpage ntbpcap ntbexplore
 program = crates/ntbsim/out/ntbsim
 
 all:
@@ -23,6 +23,7 @@ install:
 	cp ntbsim $(lib)
 	for tool in $(tools); do cp tools/$$tool $(lib)/tools && ln -sf ../lib/ntbsim/tools/$$tool $(bin)/$$tool || exit 1; done
 	cp tools/*.awk tools/forms.txt tools/words.sh tools/program.sh tools/scripts.sh $(lib)/tools
+	cp tools/explore-brute tools/explore_random.py $(lib)/tools
 	cp tools/trace.sh tools/page.html tools/page*.css tools/page*.js $(lib)/tools
 	ln -sf ../lib/ntbsim/ntbsim $(bin)/ntbsim
 	cp docs/ntbsim.1 $(share)/man/man1

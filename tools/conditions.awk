@@ -1,25 +1,11 @@
 # Judges a script by its conditions. Files: the script; the report of its replay or the reply to its reads; where it has traffic,
-# the text of its run with the sessions joined; and where a condition speaks of one, the text of its stream. tools/ntbtest runs it;
-# the environment NAME says what the script is called. It prints a line for each condition that doesn't hold, and then the number of
-# conditions and of those that don't hold.
-
-function trimmed(text) {
-    sub(/\r$/, "", text)
-    gsub(/ +/, " ", text)
-    sub(/^ /, "", text)
-    sub(/ $/, "", text)
-    return text
-}
+# the text of its run with the sessions joined; and where a condition speaks of one, the text of its stream. tools/ntbtest runs it
+# behind fits.awk; the environment NAME says what the script is called. It prints a line for each condition that doesn't hold, and
+# then the number of conditions and of those that don't hold.
 
 function told(number, text) {
     print ENVIRON["NAME"] ":" number ": " text
     failed++
-}
-
-# A text of which a terminal can show all, and not too much.
-function shown(text) {
-    gsub(/[^ -~]/, "?", text)
-    return length(text) > 100 ? substr(text, 1, 90) ".. (" length(text) " letters)" : text
 }
 
 # The answers of a line, the first few of them.
@@ -108,14 +94,6 @@ function read_report(    i, text) {
     for (i = 1; i <= items; i++)
         if (brought[i] != "end")
             add(-1, brought[i])
-}
-
-# Whether an answer is as a condition says: the same words, or, before a last word `..`, as many of the same words.
-function fits(wish, text) {
-    if (wish !~ / \.\.$/)
-        return wish == text
-    wish = substr(wish, 1, length(wish) - 3)
-    return text == wish || substr(text, 1, length(wish) + 1) == wish " "
 }
 
 # Whether a line's answers are the wanted ones in order, where `..` stands for any number of them.

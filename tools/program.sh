@@ -152,7 +152,7 @@ answer() {
     "$answering" "$@"
     status=$?
     case $status in
-    0 | [2-7] | 129 | 130 | 141 | 143) exit "$status" ;;
+    0 | [2-8] | 129 | 130 | 141 | 143) exit "$status" ;;
     *) fail "the program, compiled with checks, stopped with status $status: what it wrote is no answer" ;;
     esac
 }

@@ -12,6 +12,7 @@ replay < SCRIPT|make the steps of a script and print the report
 trace < SCRIPT|make the steps of a script and print each with its answer as JSON, one object a line
 check < SCRIPT|say how much a script declares, or at which line and word it is refused, and why
 run < SCRIPT|send a script's traffic by threads and print what each session delivered and left
+explore < SCRIPT|find every outcome that a script can have, in whatever order its writes land, and print each with a witness
 stream < SCRIPT|send a script's traffic by threads as resumable streams and print what each lane brought
 reads < TEXT|make the writes and reads of a text on one bridge and print their answers
 load SEED FRAMES|make the steps of a generated plan, of 1 to 30,000 frames, and print one line
@@ -28,6 +29,7 @@ options() {
 --page FILE [PAIR]|a page on standard output, in which a browser goes through the steps and shows what stands after each
 --pcap FILE [PAIR]|the Ethernet frames that devices got, as a capture (pcapng) on standard output
 --test [--tap] FILE..|whether the answers are those that the script's conditions say; of a folder, all scripts below it
+--explore [--into FOLDER] [--witness LINE] [--brute] FILE..|whether the litmus conditions of each script hold, in whatever order its writes land
 --build|prove and build the program, once (some minutes); later runs are then proved
 --program|print the path of the program that answers, for a loop of many calls
 --version|the version, the revision, the kit, and whether the proved program stands
@@ -46,8 +48,8 @@ Until the program is built, and after one of its sources was changed, answers co
 seconds, since the sources are compiled, and the next ones come at once. Other words are answered `usage`, with what was meant.
 
 Exit status: 0 done; 2 the words are no command; 3 a line of the script has a fault; 4 standard input failed; 5 standard
-output failed; 6 out of memory; 7 the input has more than 16,777,216 bytes; 1 a condition of --test doesn't hold, or this
-shell script itself failed.
+output failed; 6 out of memory; 7 the input has more than 16,777,216 bytes; 8 of explore: more than 1,000,000 states can be
+reached; 1 a condition of --test or --explore doesn't hold, or this shell script itself failed.
 
 To begin: README.md, docs/GUIDE.md, examples/README.md; docs/CALLING.md for programs that call the crates.
 END

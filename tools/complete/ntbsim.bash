@@ -9,12 +9,13 @@ _ntbsim() {
         return
     fi
     case ${COMP_WORDS[1]} in
-    --check | --show | --draw | --json | --page | --pcap | --test)
+    --check | --show | --draw | --json | --page | --pcap | --test | --explore)
         # shellcheck disable=SC2207
         COMPREPLY=($(compgen -f -X '!*.ntb' -- "$word") $(compgen -d -- "$word"))
         # shellcheck disable=SC2207
         [ "${COMP_WORDS[1]}" = --json ] || COMPREPLY+=($(compgen -f -X '!*.reads' -- "$word"))
         [ "${COMP_WORDS[1]}" != --test ] || [[ --tap != "$word"* ]] || COMPREPLY+=(--tap)
+        [ "${COMP_WORDS[1]}" != --explore ] || COMPREPLY+=($(compgen -W "--into --witness --brute" -- "$word"))
         ;;
     esac
 }

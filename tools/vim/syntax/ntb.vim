@@ -4,6 +4,7 @@ if exists("b:current_syntax")
 endif
 syntax match ntbComment "^\s*#.*$"
 syntax match ntbCondition "^\s*#[=!].*$"
+syntax match ntbCondition "^\s*#\(always\|sometimes\|never\|call\)\>.*$"
 syntax match ntbHeader "\%^ntb 1$"
 syntax match ntbPart "^\s*\(steps\|traffic\)\s*$"
 syntax match ntbDeclaration "^\s*\(host\|pair\|dev\|class\|switch\)\>"
