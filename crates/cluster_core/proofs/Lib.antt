@@ -1,8 +1,8 @@
-mod Counted
-mod Declared
+mod CountsOfNetworks
+mod DeclaredNetworks
 pub mod Facade
 mod HavePorts
 mod Networks
-mod Refused
+mod RefusedAgain
 mod SameClusters
-mod Stepping
+mod StepsOfNetworks

@@ -7,12 +7,12 @@ use Rattle.step_kinds.specs.declared.steps.Step.{Step}
 use Rattle.step_kinds.specs.declared.steps.Step.TheVariants.{Land}
 use Rattle.fabric_core.specs.InFlight.{LandsNoneFrom as LandsNoneOnBridges}
 use Rattle.fabric_core.specs.LogClauses.{HasMade as HasMadeOnBridges}
-use Rattle.fabric_core.proofs.SameFabrics.{one_list_makes_same, same_has_made_same, same_keys as same_fabrics_keys}
+use Rattle.fabric_core.proofs.Facade.{one_list_makes_same, same_has_made_same, same_keys as same_fabrics_keys}
 use Rattle.cluster_core.specs.Cluster.{ClusterState, plan_held}
 use Rattle.cluster_core.specs.InFlight.{LandsNoneFrom}
 use Rattle.cluster_core.specs.Laws.{OneAnswer, SameKeys, SameSteps}
 use Rattle.cluster_core.specs.LogClauses.{HasMade, network_after}
-use Rattle.cluster_core.proofs.Refused.{answer_on_bridges, item_answer}
+use Rattle.cluster_core.proofs.RefusedAgain.{answer_on_bridges, item_answer}
 
 -- The laws
 

@@ -15,7 +15,7 @@ use Rattle.fabric_rule.proofs.Facade.{fresh_pair_stands}
 use Rattle.fabric_core.specs.Fabric.{FabricState, no_state, pair_of, plan_kept}
 use Rattle.fabric_core.specs.Parts.{AreAlone}
 use Rattle.fabric_core.specs.LogClauses.{HasMade}
-use Rattle.fabric_core.proofs.Standing.{MadeSome, declared_bare, plan_of_standing}
+use Rattle.fabric_core.proofs.StepsOfFabrics.{MadeSome, declared_bare, plan_of_standing}
 
 -- a pair before any step, with what is promised of its memories
 abbrev pub IsFresh : List DevPlan → PairPlan → ℕ → PairState → Type 0

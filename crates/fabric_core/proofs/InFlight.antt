@@ -24,7 +24,7 @@ use Rattle.fabric_rule.proofs.Facade.{each_step_stands}
 use Rattle.fabric_core.specs.Fabric.{FabricState, pair_of, plan_kept}
 use Rattle.fabric_core.specs.InFlight.{LandsNoneFrom, fabric_key, flight_key, label_key, pair_key}
 use Rattle.fabric_core.specs.Same.{AreSamePairs, IsSameFabric}
-use Rattle.fabric_core.proofs.Standing.{goes_on, plan_of_standing}
+use Rattle.fabric_core.proofs.StepsOfFabrics.{goes_on, plan_of_standing}
 
 -- From a place on nothing lands
 

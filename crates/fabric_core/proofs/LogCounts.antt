@@ -19,7 +19,7 @@ use Rattle.fabric_rule.specs.Parts.{queue_of}
 use Rattle.fabric_rule.specs.StandsFor.{QueueStands, has_forgotten, view_of}
 use Rattle.fabric_core.specs.Fabric.{FabricState, accepted_of, delivered_of, pair_of, plan_kept}
 use Rattle.fabric_core.specs.LogClauses.{HasMade, log_after}
-use Rattle.fabric_core.proofs.Standing.{plan_of_standing, queue_of_bare}
+use Rattle.fabric_core.proofs.StepsOfFabrics.{plan_of_standing, queue_of_bare}
 
 module _ (plan : Plan) (steps : List Step) (fabric : FabricState) (made : HasMade plan steps fabric) where
   queue_kept : (k : ℕ) (side : Side) (queue : ℕ) → IsQueueOf (plan_kept fabric) k side queue → IsQueueOf plan k side queue

@@ -21,7 +21,7 @@ use Rattle.frame_ring.proofs.Spare.{unused_cleared}
 use Rattle.queue_pair.specs.Queue.{QueueState, with_port}
 use Rattle.fabric_rule.specs.Parts.{QueuePart}
 use Rattle.fabric_core.specs.Parts.{KeepsPort}
-use Rattle.fabric_core.proofs.Keeping.{SamePlace, keeps_exact, keeps_seen}
+use Rattle.fabric_core.proofs.PromisesOfQueues.{SamePlace, keeps_exact, keeps_seen}
 use Rattle.fabric_core.proofs.Phases.{clear_place}
 
 -- One flight

@@ -11,7 +11,7 @@ use Rattle.queue_pair.specs.Gates.{after_look, after_look_answer, look_answer}
 use Rattle.queue_pair.specs.Queue.{QueueState}
 use Rattle.queue_pair.specs.declared.LookAnswer.{LookAnswer}
 use Rattle.queue_pair.specs.declared.LookAnswer.TheVariants.{Ready, PeerDown}
-use Rattle.fabric_core.proofs.Keeping.{SamePlace, same_place}
+use Rattle.fabric_core.proofs.PromisesOfQueues.{SamePlace, same_place}
 
 -- of a receiver that goes on where a test says so, or stays
 place_if : (port : PortState) (receiving : Receiving) (test : Bool) → SamePlace (if test then with_receiving port receiving else port) port

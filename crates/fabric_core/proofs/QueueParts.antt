@@ -19,7 +19,7 @@ use Rattle.fabric_rule.specs.Parts.{QueuePart, SessionCount}
 use Rattle.fabric_core.specs.Parts.{KeepsPort}
 use Rattle.fabric_core.specs.QueueBoxes.{IsQueueBox}
 use Rattle.fabric_core.specs.declared.queues.QueueBox.TheInside.{Inside}
-use Rattle.fabric_core.proofs.Keeping.{keeps_exact}
+use Rattle.fabric_core.proofs.PromisesOfQueues.{keeps_exact}
 use Rattle.fabric_core.proofs.Phases.{copy_place}
 
 abbrev pub part_with : QueueState → Flow → Counters → List SessionCount → List SessionCount → QueuePart

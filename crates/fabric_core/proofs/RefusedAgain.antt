@@ -22,15 +22,13 @@ use Rattle.ledger_model.specs.Next.{pair_next}
 use Rattle.ledger_model.specs.Outcome.{Outcome}
 use Rattle.memory_model.specs.Memory.{Site, bytes_of_site, memory_of, site_of, stores_by}
 use Rattle.ledger_laws.specs.Laws.{after_refusal, is_made}
-use Rattle.ledger_laws.proofs.Facade.{refusals_change_nothing}
-use Rattle.ledger_laws.proofs.LogGrowth.{answer_of}
-use Rattle.byte_laws.proofs.Facade.{site_of-elsewhere, sites_are_the_ledger}
-use Rattle.byte_laws.proofs.Sites.{same_outcome, site_of-here, site_outcome}
+use Rattle.ledger_laws.proofs.Facade.{answer_of, refusals_change_nothing}
+use Rattle.byte_laws.proofs.Facade.{same_outcome, site_of-elsewhere, site_of-here, site_outcome, sites_are_the_ledger}
 use Rattle.fabric_rule.specs.StandsFor.{PairStands}
 use Rattle.fabric_core.specs.Fabric.{pair_of}
 use Rattle.fabric_core.specs.LogClauses.{IsAnswered}
 use Rattle.fabric_core.specs.Refusals.{RefusedAgain, counts_refusals}
-use Rattle.fabric_core.proofs.Standing.{all_last, goes_on}
+use Rattle.fabric_core.proofs.StepsOfFabrics.{all_last, goes_on}
 
 -- What a refusal leaves
 

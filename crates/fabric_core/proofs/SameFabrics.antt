@@ -22,7 +22,7 @@ use Rattle.fabric_core.specs.Fabric.{FabricState, StandsFor, bare_plan, pair_of,
 use Rattle.fabric_core.specs.InFlight.{SameKeys}
 use Rattle.fabric_core.specs.LogClauses.{HasMade}
 use Rattle.fabric_core.proofs.InFlight.{same_fabric_keys}
-use Rattle.fabric_core.proofs.Standing.{MadeSome, plan_of_standing}
+use Rattle.fabric_core.proofs.StepsOfFabrics.{MadeSome, plan_of_standing}
 use Rattle.fabric_core.specs.Same.{AreSamePairs, IsSameFabric, IsSamePair, IsSamePart, OneListMakesSame, SameHasMadeSame}
 
 -- Whether something is left to post, by the port and by the ledger

@@ -11,7 +11,7 @@ use Rattle.fabric_rule.specs.Parts.{PairState, QueuePart, no_queue, plain_pair, 
 use Rattle.fabric_core.specs.Parts.{IsWhole, KeepsPort}
 use Rattle.fabric_core.specs.Promises.{HasMorePages}
 use Rattle.fabric_core.specs.Turns.{bridge_turn}
-use Rattle.fabric_core.proofs.Turning.{more_plain, more_promised, turn_promised}
+use Rattle.fabric_core.proofs.TurnsOfPairs.{more_plain, more_promised, turn_promised}
 use Rattle.fabric_core.proofs.Whole.{SideIsWhole, both_whole, peer_kept, side_turned, side_whole, whole_kept}
 
 abbrev pub state_of : Bridge → List QueuePart → List QueuePart → PairState

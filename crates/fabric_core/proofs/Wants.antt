@@ -14,7 +14,7 @@ use Rattle.fabric_core.specs.QueueCalls.{IsBegun, IsBegunOrUncounted, IsFound}
 use Rattle.fabric_core.specs.Turns.{bridge_turn, place_of, queue_turn}
 use Rattle.fabric_core.specs.Wants.{MayWant, counters_at}
 use Rattle.fabric_core.specs.declared.places.StepPlace.TheVariants.{OnQueue, OnBridge}
-use Rattle.fabric_core.proofs.Turning.{made_there}
+use Rattle.fabric_core.proofs.TurnsOfPairs.{made_there}
 
 -- what holds where there was no memory, holds by what follows from it
 pub err_map : {X E P Q : Type 0} (result : Result X E) → (P → Q) → OnErr result P → OnErr result Q

@@ -15,7 +15,7 @@ use Rattle.frame_ring.specs.Port.{PortState, fresh_port, unused_of}
 use Rattle.frame_ring.specs.PortView.{HasPagesIn}
 use Rattle.fabric_core.specs.Parts.{IsInPlace, IsWhole, KeepsPort, all_unused}
 use Rattle.fabric_core.specs.Promises.{KeepsPromised}
-use Rattle.fabric_core.proofs.Keeping.{pages_stay}
+use Rattle.fabric_core.proofs.PromisesOfQueues.{pages_stay}
 
 -- Pages that were promised stay so
 

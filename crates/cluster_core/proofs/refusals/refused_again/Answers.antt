@@ -1,4 +1,4 @@
-use Rattle.cluster_core.proofs.Refused.{refused_again}
+use Rattle.cluster_core.proofs.RefusedAgain.{refused_again}
 use Rattle.cluster_core.proofs.refusals.refused_again.Goals as goal
 
 pub returns : goal.returns

@@ -1,7 +1,7 @@
 use Rattle.std.proofs.Common.{◌≡◌, ◌∙◌, ◌<◌, [], ap, drop, length, rules}
 use Rattle.std.proofs.lemmas.List.{drop_all, take_all}
 use Rattle.fabric_core.specs.Parts.{all_unused}
-use Rattle.fabric_core.proofs.Forgetting.{items_then, its_turn, one_forgot, plan_then, room_behind, room_then, same_room, side_then}
+use Rattle.fabric_core.proofs.ForgottenQueues.{items_then, its_turn, one_forgot, plan_then, room_behind, room_then, same_room, side_then}
 use Rattle.fabric_core.proofs.pairs.forget_all.Goals as goal
 
 pub loop-number-init : goal.loop-number-init

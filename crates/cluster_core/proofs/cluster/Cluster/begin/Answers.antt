@@ -3,8 +3,8 @@ use Rattle.std.proofs.lemmas.Result.{err_from_is_err_and}
 use Rattle.cluster_core.specs.Cluster.{ClusterState, plan_held}
 use Rattle.cluster_core.specs.Clusters.{cluster_seen}
 use Rattle.cluster_core.specs.Parts.{HasDeviceOn}
-use Rattle.cluster_core.proofs.Declared.{device_on_bridges, queue_of_device}
-use Rattle.cluster_core.proofs.Stepping.{sends, unstepped}
+use Rattle.cluster_core.proofs.DeclaredNetworks.{device_on_bridges, queue_of_device}
+use Rattle.cluster_core.proofs.StepsOfNetworks.{sends, unstepped}
 use Rattle.cluster_core.proofs.cluster.Cluster.begin.Goals as goal
 
 pub step-requires : goal.step-requires

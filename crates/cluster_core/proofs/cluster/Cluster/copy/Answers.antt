@@ -1,5 +1,5 @@
 use Rattle.cluster_core.specs.Clusters.{cluster_seen}
-use Rattle.cluster_core.proofs.Stepping.{copied}
+use Rattle.cluster_core.proofs.StepsOfNetworks.{copied}
 use Rattle.cluster_core.proofs.cluster.Cluster.copy.Goals as goal
 
 pub returns : goal.returns

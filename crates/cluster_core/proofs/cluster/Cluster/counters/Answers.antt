@@ -2,7 +2,7 @@ use Rattle.std.proofs.Common.{subst}
 use Rattle.cluster_core.specs.Cluster.{ClusterState}
 use Rattle.cluster_core.specs.Clusters.{cluster_seen}
 use Rattle.cluster_core.specs.LogClauses.{AreCounters}
-use Rattle.cluster_core.proofs.Counted.{counters_counted}
+use Rattle.cluster_core.proofs.CountsOfNetworks.{counters_counted}
 use Rattle.cluster_core.proofs.cluster.Cluster.counters.Goals as goal
 
 pub returns : goal.returns

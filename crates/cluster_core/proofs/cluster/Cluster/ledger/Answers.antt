@@ -2,7 +2,7 @@ use Rattle.std.proofs.Common.{subst}
 use Rattle.cluster_core.specs.Cluster.{ClusterState}
 use Rattle.cluster_core.specs.Clusters.{cluster_seen}
 use Rattle.cluster_core.specs.LogClauses.{IsAccepted, IsDelivered}
-use Rattle.cluster_core.proofs.Counted.{accepted_counted, delivered_counted}
+use Rattle.cluster_core.proofs.CountsOfNetworks.{accepted_counted, delivered_counted}
 use Rattle.cluster_core.proofs.cluster.Cluster.ledger.Goals as goal
 
 pub returns-clause-accepted : goal.returns-clause-accepted

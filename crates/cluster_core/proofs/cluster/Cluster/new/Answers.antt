@@ -5,7 +5,7 @@ use Rattle.plan_model.specs.Switches.{AreSwitches}
 use Rattle.switch_model.specs.Switch.{new_switch}
 use Rattle.cluster_core.specs.Cluster.{ClusterState}
 use Rattle.cluster_core.specs.Clusters.{HavePorts}
-use Rattle.cluster_core.proofs.Declared.{declared_bare, made_none, plan_new, switches_declared}
+use Rattle.cluster_core.proofs.DeclaredNetworks.{declared_bare, made_none, plan_new, switches_declared}
 use Rattle.cluster_core.proofs.HavePorts.{have_new}
 use Rattle.cluster_core.proofs.cluster.Cluster.new.Goals as goal
 

@@ -7,7 +7,7 @@ use Rattle.cluster_core.specs.Clusters.{cluster_seen}
 use Rattle.cluster_core.specs.Moves.{HasWaiting}
 use Rattle.cluster_core.specs.Parts.{IsPortAmong}
 use Rattle.cluster_core.proofs.HavePorts.{switch_found, switch_within, waiting_within}
-use Rattle.cluster_core.proofs.Stepping.{sending_is, some_waits}
+use Rattle.cluster_core.proofs.StepsOfNetworks.{sending_is, some_waits}
 use Rattle.cluster_core.proofs.cluster.Cluster.next_frame.Goals as goal
 
 pub index-requires : goal.index-requires

@@ -1,6 +1,6 @@
 use Rattle.std.proofs.Common.{◌∙◌, sym, ap}
 use Rattle.cluster_core.specs.Moves.{sends_next}
-use Rattle.cluster_core.proofs.Stepping.{rests}
+use Rattle.cluster_core.proofs.StepsOfNetworks.{rests}
 use Rattle.cluster_core.proofs.cluster.Cluster.send_next.Goals as goal
 
 pub returns-in-None : goal.returns-in-None

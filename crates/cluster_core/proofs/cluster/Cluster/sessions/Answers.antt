@@ -2,7 +2,7 @@ use Rattle.std.proofs.Common.{subst}
 use Rattle.cluster_core.specs.Cluster.{ClusterState}
 use Rattle.cluster_core.specs.Clusters.{cluster_seen}
 use Rattle.cluster_core.specs.LogClauses.{IsSession}
-use Rattle.cluster_core.proofs.Counted.{session_counted}
+use Rattle.cluster_core.proofs.CountsOfNetworks.{session_counted}
 use Rattle.cluster_core.proofs.cluster.Cluster.sessions.Goals as goal
 
 pub returns : goal.returns

@@ -4,9 +4,9 @@ use Rattle.std.proofs.lemmas.List.{nil_from_length}
 use Rattle.plan_model.specs.Switches.{IsMakeable}
 use Rattle.cluster_core.specs.Cluster.{ClusterState, plan_held}
 use Rattle.cluster_core.specs.Clusters.{cluster_seen}
-use Rattle.cluster_core.proofs.Declared.{permitted_alone}
+use Rattle.cluster_core.proofs.DeclaredNetworks.{permitted_alone}
 use Rattle.cluster_core.proofs.HavePorts.{have_none}
-use Rattle.cluster_core.proofs.Stepping.{alone}
+use Rattle.cluster_core.proofs.StepsOfNetworks.{alone}
 use Rattle.cluster_core.proofs.cluster.Cluster.step.Goals as goal
 
 pub step-requires : goal.step-requires

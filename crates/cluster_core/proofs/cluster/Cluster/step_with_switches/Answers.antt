@@ -1,7 +1,7 @@
 use Rattle.std.proofs.Common.{◌∙◌, sym}
 use Rattle.cluster_core.specs.Cluster.{plan_held}
 use Rattle.cluster_core.specs.Clusters.{cluster_seen}
-use Rattle.cluster_core.proofs.Stepping.{by_copying, by_relay, by_sending, on_bridges, relays, sending_device}
+use Rattle.cluster_core.proofs.StepsOfNetworks.{by_copying, by_relay, by_sending, on_bridges, relays, sending_device}
 use Rattle.cluster_core.proofs.cluster.Cluster.step_with_switches.Goals as goal
 
 pub send_next-requires : goal.send_next-requires

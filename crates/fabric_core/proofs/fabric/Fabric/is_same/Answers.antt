@@ -3,7 +3,7 @@ use Rattle.fabric_rule.specs.Parts.{PairState}
 use Rattle.fabric_core.specs.Fabric.{FabricState, plan_kept}
 use Rattle.fabric_core.specs.Same.{AreSamePairs}
 use Rattle.fabric_core.proofs.SameFabrics.{merged, one_list_makes_same}
-use Rattle.fabric_core.proofs.Standing.{MadeSome, some}
+use Rattle.fabric_core.proofs.StepsOfFabrics.{MadeSome, some}
 use Rattle.fabric_core.proofs.fabric.Fabric.is_same.Goals as goal
 
 pub returns-clause-merges : goal.returns-clause-merges

@@ -9,7 +9,7 @@ use Rattle.plan_model.specs.Plans.{no_pair, pair_plan}
 use Rattle.fabric_core.specs.Fabric.{FabricState}
 use Rattle.fabric_core.specs.LogClauses.{HasMade}
 use Rattle.fabric_core.proofs.FreshFabrics.{AreFresh, IsFresh, fresh_itself, fresh_made, one_more_fresh}
-use Rattle.fabric_core.proofs.Standing.{from_some, plan_of_standing}
+use Rattle.fabric_core.proofs.StepsOfFabrics.{from_some, plan_of_standing}
 use Rattle.fabric_core.proofs.fabric.Fabric.new.Goals as goal
 
 -- all pairs of the plan are there

@@ -11,7 +11,7 @@ use Rattle.fabric_core.specs.Fabrics.{IsFabric, fabric_seen}
 use Rattle.fabric_core.specs.Parts.{Agrees, CanMake}
 use Rattle.fabric_core.specs.FabricStep.{HasStepped}
 use Rattle.fabric_core.specs.declared.fabric.Fabric.TheInside.{Inside}
-use Rattle.fabric_core.proofs.Standing.{PairMoved, among_pairs, fabric_moved, from_some, made_itself, pair_agrees, pair_can, some, some_made, with_pair}
+use Rattle.fabric_core.proofs.StepsOfFabrics.{PairMoved, among_pairs, fabric_moved, from_some, made_itself, pair_agrees, pair_can, some, some_made, with_pair}
 use Rattle.fabric_core.proofs.fabric.Fabric.step.Goals as goal
 
 -- the pair at the step's place is the fabric's

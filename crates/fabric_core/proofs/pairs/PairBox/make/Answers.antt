@@ -1,4 +1,4 @@
-use Rattle.fabric_core.proofs.Turning.{answered, left, made_there}
+use Rattle.fabric_core.proofs.TurnsOfPairs.{answered, left, made_there}
 use Rattle.fabric_core.proofs.Wants.{bridge_wants, queue_wants}
 use Rattle.fabric_core.proofs.pairs.PairBox.make.Goals as goal
 

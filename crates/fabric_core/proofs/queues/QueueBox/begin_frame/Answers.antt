@@ -12,8 +12,8 @@ use Rattle.fabric_core.specs.QueueCalls.{IsBegun}
 use Rattle.fabric_core.specs.Sessions.{Tallied}
 use Rattle.fabric_core.specs.Turns.{begin_turn}
 use Rattle.fabric_core.proofs.FrameTurns.{begun_counts}
-use Rattle.fabric_core.proofs.Growing.{begin_more}
-use Rattle.fabric_core.proofs.Keeping.{begin_place, begin_receives, begun_keeps, plain_grown, wanted_keeps}
+use Rattle.fabric_core.proofs.UnusedPromises.{begin_more}
+use Rattle.fabric_core.proofs.PromisesOfQueues.{begin_place, begin_receives, begun_keeps, plain_grown, wanted_keeps}
 use Rattle.fabric_core.proofs.MorePages.{on_err}
 use Rattle.fabric_core.proofs.QueueParts.{part_with, same_part}
 use Rattle.fabric_core.proofs.QueueCalls.{turn_taken}

@@ -1,8 +1,8 @@
 use Rattle.std.proofs.Common.{IsTrue, ap, rules, arith}
 use Rattle.std.proofs.lemmas.Grind.{common_steps}
 use Rattle.fabric_core.specs.Sessions.{Tallied}
-use Rattle.fabric_core.proofs.Growing.{look_more}
-use Rattle.fabric_core.proofs.Keeping.{look_wanted_keeps, looked_keeps, plain_grown_both}
+use Rattle.fabric_core.proofs.UnusedPromises.{look_more}
+use Rattle.fabric_core.proofs.PromisesOfQueues.{look_wanted_keeps, looked_keeps, plain_grown_both}
 use Rattle.fabric_core.proofs.MorePages.{on_err}
 use Rattle.fabric_core.proofs.Phases.{look_place}
 use Rattle.fabric_core.proofs.QueueCalls.{turn_taken}

@@ -4,8 +4,8 @@ use Rattle.lane_model.specs.Tests.{is_copying}
 use Rattle.frame_ring.specs.Port.{Receiving}
 use Rattle.queue_pair.specs.Gates.{look_answer}
 use Rattle.queue_pair.specs.declared.LookAnswer.TheVariants.{Ready}
-use Rattle.fabric_core.proofs.Growing.{look_more}
-use Rattle.fabric_core.proofs.Keeping.{looked_keeps, plain_grown_both}
+use Rattle.fabric_core.proofs.UnusedPromises.{look_more}
+use Rattle.fabric_core.proofs.PromisesOfQueues.{looked_keeps, plain_grown_both}
 use Rattle.fabric_core.proofs.Phases.{look_place, unfound_receives}
 use Rattle.fabric_core.proofs.QueueParts.{box_kept}
 use Rattle.fabric_core.proofs.QueueCalls.{turn_taken}

@@ -7,8 +7,8 @@ use Rattle.fabric_rule.specs.Parts.{QueuePart}
 use Rattle.fabric_core.specs.QueueCalls.{IsBegun, is_begun}
 use Rattle.fabric_core.specs.Turns.{qpdown_turn}
 use Rattle.fabric_core.proofs.MorePages.{on_err}
-use Rattle.fabric_core.proofs.Growing.{down_more}
-use Rattle.fabric_core.proofs.Keeping.{begun_keeps, down_place, down_receives, plain_grown, wanted_keeps}
+use Rattle.fabric_core.proofs.UnusedPromises.{down_more}
+use Rattle.fabric_core.proofs.PromisesOfQueues.{begun_keeps, down_place, down_receives, plain_grown, wanted_keeps}
 use Rattle.fabric_core.proofs.QueueParts.{box_kept}
 use Rattle.fabric_core.proofs.QueueCalls.{turn_taken}
 use Rattle.fabric_core.proofs.queues.QueueBox.qpdown.Goals as goal

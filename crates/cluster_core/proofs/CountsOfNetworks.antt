@@ -6,8 +6,7 @@ use Rattle.plan_model.specs.Plans.{dev_plan}
 use Rattle.ledger_model.specs.Log.{Answered, Numbered, accepted, counters_in, delivered, first_session, lane_of_device, trains}
 use Rattle.memory_model.specs.Memory.{memory_of}
 use Rattle.fabric_core.specs.LogClauses.{AreCounters as AreBridgeCounters, IsAccepted as IsBridgeAccepted, IsDelivered as IsBridgeDelivered, IsSession as IsBridgeSession}
-use Rattle.switch_laws.proofs.Bridges.{bridges_have_a_log}
-use Rattle.switch_laws.proofs.Readings.{log_reads_as_bridges}
+use Rattle.switch_laws.proofs.Facade.{bridges_have_a_log, log_reads_as_bridges}
 use Rattle.cluster_core.specs.Cluster.{ClusterState}
 use Rattle.cluster_core.specs.LogClauses.{AreCounters, IsAccepted, IsDelivered, IsSession, log_after, network_after}
 

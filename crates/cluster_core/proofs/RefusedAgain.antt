@@ -13,7 +13,7 @@ use Rattle.ledger_laws.specs.Laws.{is_made}
 use Rattle.memory_model.specs.Memory.{memory_of}
 use Rattle.fabric_core.specs.LogClauses.{HasMade as HasMadeOnBridges, IsAnswered as IsAnsweredOnBridges}
 use Rattle.fabric_core.specs.Refusals.{counts_refusals}
-use Rattle.fabric_core.proofs.RefusedAgain.{refused_again as refused_on_bridges}
+use Rattle.fabric_core.proofs.Facade.{refused_again as refused_on_bridges}
 use Rattle.switch_model.specs.Switch.{Switch}
 use Rattle.switch_log.specs.Network.{Action, Network, OnBridge, action_of, item_of, made_after, network_after as network_then, session_after, switches_reached}
 use Rattle.switch_log.specs.Origins.{bytes_kept}
@@ -21,7 +21,7 @@ use Rattle.cluster_core.specs.Cluster.{ClusterState}
 use Rattle.cluster_core.specs.LogClauses.{IsAnswered, IsNetwork, log_after, network_after}
 use Rattle.cluster_core.specs.Refusals.{RefusedAgain, is_plain}
 use Rattle.cluster_core.proofs.Networks.{item_by, log-last, network-last, next_by}
-use Rattle.cluster_core.proofs.Stepping.{answered_so}
+use Rattle.cluster_core.proofs.StepsOfNetworks.{answered_so}
 
 same_head : {X : Type 0} (x y : X) → x ∷ [] ≡ y ∷ [] → x ≡ y
 same_head x y e = cc e

@@ -12,7 +12,7 @@ use Rattle.step_kinds.specs.declared.steps.Step.{Step}
 use Rattle.step_kinds.specs.declared.steps.Step.TheVariants.{Copy, Relay, Xnext}
 use Rattle.plan_model.specs.Switches.{IsMakeable}
 use Rattle.ledger_model.specs.Log.{Answered}
-use Rattle.ledger_laws.proofs.LogGrowth.{answer_of}
+use Rattle.ledger_laws.proofs.Facade.{answer_of}
 use Rattle.memory_model.specs.Memory.{memory_of}
 use Rattle.fabric_core.specs.Fabric.{FabricState, plan_kept}
 use Rattle.fabric_core.specs.FabricStep.{HasStepped as HasSteppedOnBridges}
@@ -30,7 +30,7 @@ use Rattle.cluster_core.specs.Parts.{HasDeviceOn, may_arrive, part_of, port_seen
 use Rattle.cluster_core.specs.declared.cluster.NextFrame.{NextFrame}
 use Rattle.cluster_core.specs.declared.ports.PortPlace.{PortPlace}
 use Rattle.cluster_core.specs.declared.parts.StepPart.TheVariants.{Copies, OnBridges, Relays, Sends as SendsNext}
-use Rattle.cluster_core.proofs.Declared.{none_declared}
+use Rattle.cluster_core.proofs.DeclaredNetworks.{none_declared}
 use Rattle.cluster_core.proofs.Networks.{action_on_bridges, item_by, log-last, network-last, next_by, reached_on_bridges}
 
 -- A step over each network that the old cluster may be

@@ -1,0 +1,3 @@
+-- What crates above may cite of the proofs of this crate: the laws, one name for each.
+pub use Rattle.fabric_core.proofs.RefusedAgain.{refused_again}
+pub use Rattle.fabric_core.proofs.SameFabrics.{one_list_makes_same, same_has_made_same, same_keys}
