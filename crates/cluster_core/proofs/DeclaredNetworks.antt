@@ -56,18 +56,6 @@ queue_on_bridges cluster own may = record { declared = may.declared; among = may
 
 -- Steps
 
-pub none_declared : (plan : Plan) (step : Step) → plan.switches ≡ [] → IsSwitchStep plan step → ⊥
-none_declared plan (Relay pair side queue switch port) none may = omega (arith, may.declared, ap length none)
-none_declared plan (Xnext pair side queue dev) none may =
-    let port : Contains (ports_in []) dev = subst (λ (switches : List SwitchPlan). Contains (ports_in switches) dev) none may.port in
-    omega (arith, port.1)
-none_declared plan step none may = may
-
--- where no switch is declared, each step is one on the bridges
-pub permitted_alone : (cluster : ClusterState) (step : Step) → cluster.plans ≡ [] → IsMakeable (plan_held cluster) step → IsPermitted (plan_kept cluster.fabric) step
-permitted_alone cluster step none (inl may) = permitted_by_other (plan_held cluster) [] [] [] step may
-permitted_alone cluster step none (inr may) = absurd (none_declared (plan_held cluster) step none may)
-
 pub permitted_on_bridges : (cluster : ClusterState) (step : Step) → IsPermitted (plan_held cluster) step → IsPermitted (plan_kept cluster.fabric) step
 permitted_on_bridges cluster step may = permitted_by_other (plan_held cluster) [] [] [] step may
 

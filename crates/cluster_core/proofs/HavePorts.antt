@@ -49,11 +49,6 @@ have_length [] (switch ∷ switches) have = absurd have
 have_length (plan ∷ plans) [] have = absurd have
 have_length (plan ∷ plans) (switch ∷ switches) have = ap suc (have_length plans switches have.1)
 
-pub have_none : (plans : List SwitchPlan) (switches : List Bytes) → HavePorts plans switches → switches ≡ [] → plans ≡ []
-have_none [] switches have none = refl
-have_none (plan ∷ plans) [] have none = absurd have
-have_none (plan ∷ plans) (switch ∷ switches) have none = cc none
-
 pub have_at : (plans : List SwitchPlan) (switches : List Bytes) (k : ℕ) → HavePorts plans switches → k < length plans → HasPorts (get_or plans k no_switch) (get_or switches k (new_switch 0))
 have_at [] switches k have lt = absurd (omega arith)
 have_at (plan ∷ plans) [] k have lt = absurd have

@@ -30,7 +30,6 @@ use Rattle.cluster_core.specs.Parts.{HasDeviceOn, may_arrive, part_of, port_seen
 use Rattle.cluster_core.specs.declared.cluster.NextFrame.{NextFrame}
 use Rattle.cluster_core.specs.declared.ports.PortPlace.{PortPlace}
 use Rattle.cluster_core.specs.declared.parts.StepPart.TheVariants.{Copies, OnBridges, Relays, Sends as SendsNext}
-use Rattle.cluster_core.proofs.DeclaredNetworks.{none_declared}
 use Rattle.cluster_core.proofs.Networks.{action_on_bridges, item_by, log-last, network-last, next_by, reached_on_bridges}
 
 -- A step over each network that the old cluster may be
@@ -230,51 +229,6 @@ goes_lost old new own error = record {
   still_made = λ plan net is stays. absurd (true≢false stays);
 }
 
--- No switch is declared
-
-no_port : (devs : List DevPlan) (plans : List SwitchPlan) (own : LaneName) → plans ≡ [] → port_from devs own 0 plans ≡ None
-no_port devs plans own none = ap (λ (plans : List SwitchPlan). port_from devs own 0 plans) none
-
-action_alone : (own : Plan) (step : Step) → own.switches ≡ [] → IsMakeable own step → (plan : Plan) (switches : List (Switch (List ℕ))) → action_of plan switches step ≡ OnBridge
-action_alone own (Relay pair side queue switch port) none (inl may) plan switches = absurd may
-action_alone own (Relay pair side queue switch port) none (inr may) plan switches = absurd (none_declared own (Relay pair side queue switch port) none may)
-action_alone own (Xnext pair side queue dev) none (inl may) plan switches = absurd may
-action_alone own (Xnext pair side queue dev) none (inr may) plan switches = absurd (none_declared own (Xnext pair side queue dev) none may)
-action_alone own step none may plan switches = refl
-
-reached_alone : (plan : Plan) (switches : List (Switch (List ℕ))) (session : ℕ → ℕ) (step : Step) (answer : Answer) → plan.switches ≡ [] →
-    switches_reached bytes_kept plan (memory_of plan) switches session step answer ≡ switches
-reached_alone plan switches session (Copy pair side queue) answer none = copied_alone answer
-  where
-    copied_alone : (answer : Answer) → switches_reached bytes_kept plan (memory_of plan) switches session (Copy pair side queue) answer ≡ switches
-    copied_alone (Delivered number frame) = ap (λ (port : Option Port). arrived_at switches port frame) (no_port plan.devs plan.switches (record { pair = pair; from = side; queue = queue }) none)
-    copied_alone answer = refl
-reached_alone plan switches session step answer none = refl
-
-goes_alone : {E : Type 0} (old : ClusterState) (fabric : FabricState) (step : Step) (result : Result Answer E) → old.plans ≡ [] →
-    ((plan : Plan) (switches : List (Switch (List ℕ))) → action_of plan switches step ≡ OnBridge) → HasSteppedOnBridges old.fabric fabric step result → Goes old (record old { fabric = fabric }) step result
-goes_alone old fabric step (Err error) none own stepped = record {
-  answered = λ plan net is. tt;
-  made = λ plan net is. tt;
-  still_made = λ plan net is stays. record { bridges = stepped.still_stands plan net.steps is.bridges; plans = is.plans; switches = is.switches };
-}
-goes_alone old fabric step (Ok answer) none own stepped = record {
-  answered = λ plan net is.
-      answer_of plan (memory_of plan) net.steps step answer (stepped.answered plan net.steps is.bridges).0
-      ∙ ap (λ (action : Action (List ℕ)). (item_of bytes_kept plan (memory_of plan) net step action).answer) (sym (own plan net.switches));
-  made = λ plan net is.
-      let memories = memory_of plan in
-      subst (λ (action : Action (List ℕ)). IsNetwork plan (network_then bytes_kept plan memories net step action) (record old { fabric = fabric })) (sym (own plan net.switches))
-      (record {
-        bridges = stepped.stands plan net.steps is.bridges;
-        plans = is.plans;
-        switches =
-            is.switches
-            ∙ sym (reached_alone plan net.switches (session_after plan memories net.steps) step (made_after plan memories net.steps step).answer (sym is.plans ∙ none));
-      });
-  still_made = λ plan net is stays. tt;
-}
-
 -- The contract
 
 -- pairs, devices and switches stay
@@ -298,13 +252,6 @@ pub on_bridges : {E : Type 0} (kept old : ClusterState) (fabric : FabricState) (
 on_bridges kept old fabric step result seen own stepped =
     subst (λ (old : ClusterState). HasStepped old (record kept { fabric = fabric }) step result) seen
     (has_stepped kept (record kept { fabric = fabric }) step result (goes_on_bridges kept (record kept { fabric = fabric }) step result own stepped refl refl) (plan_after kept fabric stepped.plan))
-
--- where no switch is declared, each step is on bridges alone
-pub alone : {E : Type 0} (kept old : ClusterState) (fabric : FabricState) (step : Step) (result : Result Answer E) → kept ≡ old → kept.plans ≡ [] → IsMakeable (plan_held kept) step →
-    HasSteppedOnBridges kept.fabric fabric step result → HasStepped old (record kept { fabric = fabric }) step result
-alone kept old fabric step result seen none may stepped =
-    subst (λ (old : ClusterState). HasStepped old (record kept { fabric = fabric }) step result) seen
-    (has_stepped kept (record kept { fabric = fabric }) step result (goes_alone kept fabric step result none (action_alone (plan_held kept) step none may) stepped) (plan_after kept fabric stepped.plan))
 
 pub rests : {E : Type 0} (old : ClusterState) (own : LaneName) (dev : ℕ) → Rests ≡ sending_in old own → HasStepped {E = E} old old (Xnext own.pair own.from own.queue dev) (Ok Nothing)
 rests old own dev none = has_stepped old old (Xnext own.pair own.from own.queue dev) (Ok Nothing) (goes_resting old own dev none) refl

@@ -74,19 +74,6 @@ impl Cluster {
         requires { IsMakeable (plan_held self.old) step.now }
         ensures { HasStepped self.old self.new step.now result }
     {
-        if self.switches.is_empty() {
-            return self.fabric.step(step);
-        }
-        self.step_with_switches(step)
-    }
-
-    // Makes a step where the plan declares switches. It is put in place too, since a step that is handed to a call of its own
-    // would have to stand in memory on the way that needs no switch.
-    #[inline(always)]
-    fn step_with_switches(&mut self, step: &Step) -> Result<Answer, AllocError>
-        requires { IsMakeable (plan_held self.old) step.now }
-        ensures { HasStepped self.old self.new step.now result }
-    {
         match part_of(step) {
             StepPart::Relays { switch, port } => self.relay(switch, port),
             StepPart::Sends { own } => self.send_next(own),
@@ -168,6 +155,7 @@ impl Cluster {
 
     // The next part of a frame is copied on a side and a queue, and a frame that is delivered with it arrives at the port
     // there.
+    #[inline(always)]
     fn copy(&mut self, own: LaneName) -> Result<Answer, AllocError>
         requires { IsQueueOf (plan_held self.old) own.pair own.from own.queue }
         ensures { HasStepped self.old self.new (Copy own.pair own.from own.queue) result }
@@ -183,6 +171,7 @@ impl Cluster {
     }
 
     // A frame arrives at the port on a side and a queue, if it was delivered there.
+    #[inline(always)]
     fn take_in(&mut self, own: LaneName, answer: &Answer) -> Result<(), AllocError>
         ensures ok { OnOk result (self.new ≡ brought_in self.old own answer.now) }
         ensures err { OnErr result (self.new ≡ self.old) }

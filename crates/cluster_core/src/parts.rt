@@ -20,6 +20,7 @@ pub enum StepPart {
 }
 
 /// The part that makes a step.
+#[inline(always)]
 pub fn part_of(step: &Step) -> StepPart
     ensures { result ≡ part_by_step step.now }
 {

@@ -20,6 +20,7 @@ pub type AddResult = Result<(), LineError>;
 
 /// What stands before the first of such bytes, and what stands after it where there is one. A short text is read byte
 /// by byte, which takes less there than a search of many bytes at a time.
+#[inline(always)]
 pub fn cut(text: &[u8], at: u8) -> (&[u8], Option<&[u8]>)
     ensures parts { slice_split (λ b. b == at) text.now ≡ result.0.now ∷ option_map_or (λ rest. slice_split (λ b. b == at) rest.now) result.1 [] }
     ensures shorter { IfSome result.1 (λ rest. length rest.now < length text.now) }
@@ -36,6 +37,7 @@ pub fn cut(text: &[u8], at: u8) -> (&[u8], Option<&[u8]>)
 }
 
 /// The same by a search of many bytes at a time.
+#[inline(always)]
 fn cut_long(text: &[u8], at: u8) -> (&[u8], Option<&[u8]>)
     ensures parts { slice_split (λ b. b == at) text.now ≡ result.0.now ∷ option_map_or (λ rest. slice_split (λ b. b == at) rest.now) result.1 [] }
     ensures shorter { IfSome result.1 (λ rest. length rest.now < length text.now) }

@@ -1,24 +1,23 @@
-use Rattle.std.proofs.Common.{◌≡◌, ◌∙◌, [], sym, subst, arith}
-use Rattle.std.proofs.lemmas.Bool.{eqb-true}
-use Rattle.std.proofs.lemmas.List.{nil_from_length}
-use Rattle.plan_model.specs.Switches.{IsMakeable}
-use Rattle.cluster_core.specs.Cluster.{ClusterState, plan_held}
+use Rattle.std.proofs.Common.{◌∙◌, sym}
+use Rattle.cluster_core.specs.Cluster.{plan_held}
 use Rattle.cluster_core.specs.Clusters.{cluster_seen}
-use Rattle.cluster_core.proofs.DeclaredNetworks.{permitted_alone}
-use Rattle.cluster_core.proofs.HavePorts.{have_none}
-use Rattle.cluster_core.proofs.StepsOfNetworks.{alone}
+use Rattle.cluster_core.proofs.StepsOfNetworks.{by_copying, by_relay, by_sending, on_bridges, relays, sending_device}
 use Rattle.cluster_core.proofs.cluster.Cluster.step.Goals as goal
 
-pub step-requires : goal.step-requires
-step-requires c =
-    let kept = c.self.inside in
-    let none : kept.switches.items ≡ [] = nil_from_length kept.switches.items (omega (arith, kept.switches.ok.0, eqb-true _ _ (sym c.is_empty.ensures ∙ c.if-is_empty.true))) in
-    permitted_alone (cluster_seen kept) c.args.step.now (have_none kept.plans.items kept.switches.items c.self.invariant.ports none)
-    (subst (λ (cluster : ClusterState). IsMakeable (plan_held cluster) c.args.step.now) (sym c.self.view_is) c.requires)
+pub send_next-requires : goal.send_next-requires
+send_next-requires c = sending_device (plan_held c.args.self.now) c.args.step.now c.in-Sends.own (sym c.part_of.ensures ∙ c.in-Sends.is) c.requires
 
-pub returns-then-is_empty : goal.returns-then-is_empty
-returns-then-is_empty c =
-    let kept = c.self.inside in
-    let none : kept.switches.items ≡ [] = nil_from_length kept.switches.items (omega (arith, kept.switches.ok.0, eqb-true _ _ (sym c.is_empty.ensures ∙ c.if-is_empty.true))) in
-    alone (cluster_seen kept) c.args.self.now c.step.new.self c.args.step.now c.step.result c.self.view_is (have_none kept.plans.items kept.switches.items c.self.invariant.ports none)
-    (subst (λ (cluster : ClusterState). IsMakeable (plan_held cluster) c.args.step.now) (sym c.self.view_is) c.requires) c.step.ensures
+pub returns-in-Relays : goal.returns-in-Relays
+returns-in-Relays c =
+    by_relay c.args.self.now c.relay.new.self c.args.step.now c.in-Relays.switch c.in-Relays.port c.relay.result (sym c.part_of.ensures ∙ c.in-Relays.is)
+    (λ pair side queue. relays c.args.self.now c.relay.new.self pair side queue c.in-Relays.switch c.in-Relays.port c.relay.result c.relay.ensures.answer c.relay.ensures.after c.relay.ensures.err)
+
+pub returns-in-Sends : goal.returns-in-Sends
+returns-in-Sends c = by_sending c.args.self.now c.send_next.new.self c.args.step.now c.in-Sends.own c.send_next.result (sym c.part_of.ensures ∙ c.in-Sends.is) c.send_next.ensures
+
+pub returns-in-Copies : goal.returns-in-Copies
+returns-in-Copies c = by_copying c.args.self.now c.copy.new.self c.args.step.now c.in-Copies.own c.copy.result (sym c.part_of.ensures ∙ c.in-Copies.is) c.copy.ensures
+
+pub returns-in-OnBridges : goal.returns-in-OnBridges
+returns-in-OnBridges c =
+    on_bridges (cluster_seen c.self.inside) c.args.self.now c.step.new.self c.args.step.now c.step.result c.self.view_is (sym c.part_of.ensures ∙ c.in-OnBridges.is) c.step.ensures
