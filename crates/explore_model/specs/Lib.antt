@@ -1,0 +1,5 @@
+pub mod Examples
+pub mod Outcomes
+pub mod Schedules
+pub mod States
+pub mod Texts

@@ -1,0 +1,75 @@
+-- The text of an exploration. Each line ends with a line feed.
+use Rattle.std.specs.Prelude.{ℕ, ◌+◌, ◌==◌, Bool, List, [], ◌∷◌, ◌++◌, codes, count_by, if◌then◌else◌, length, nat_eq, slice_index_or, take}
+use Rattle.std.specs.Cmp.Lexicographic.{pointwise}
+use Rattle.std.specs.Fmt.{decimal}
+use Rattle.std.specs.List.{flat_map, list_all, range_with_len}
+use Rattle.step_kinds.specs.declared.plan.Line.{Line}
+use Rattle.step_kinds.specs.declared.plan.Plan.{Plan}
+use Rattle.step_kinds.specs.declared.steps.Step.TheVariants.{Train}
+use Rattle.report_text.specs.Report.{end_line, line_of, pair_name, side_text}
+use Rattle.report_text.specs.Texts.{numbers_text}
+use Rattle.explore_model.specs.declared.outcome.Landing.{Landing}
+use Rattle.explore_model.specs.declared.outcome.Outcome.{Outcome}
+
+-- the line of the script from which its step of a number comes, from 0
+abbrev pub line_at : List Line → ℕ → ℕ
+line_at steps k = (slice_index_or steps k (record { line = 0; step = Train 0 })).line
+
+-- which of its line's steps that is, from 1
+abbrev pub place_in_line : List Line → ℕ → ℕ
+place_in_line steps k = count_by (λ made. made.line == line_at steps k) (take k steps) + 1
+
+-- the answer of an outcome to a step
+abbrev pub answer_at : Outcome → ℕ → List ℕ
+answer_at outcome k = slice_index_or outcome.answers k []
+
+abbrev pub first_answer : List Outcome → ℕ → List ℕ
+first_answer [] k = []
+first_answer (outcome ∷ outcomes) k = answer_at outcome k
+
+-- whether all outcomes have the same answer to it
+abbrev pub agree_on : List Outcome → ℕ → Bool
+agree_on outcomes k = list_all (λ outcome. pointwise nat_eq (answer_at outcome k) (first_answer outcomes k)) outcomes
+
+-- the first line
+abbrev pub head_line : List Outcome → ℕ → List ℕ
+head_line outcomes states = line_of (codes "outcomes" ++ numbers_text (length outcomes ∷ []) ++ codes " states" ++ numbers_text (states ∷ []))
+
+-- a further landing, by the step before which it is made
+abbrev pub landing_line : Plan → Landing → List ℕ
+landing_line plan landing =
+    line_of
+    (codes "by" ++ numbers_text (line_at plan.steps landing.at ∷ place_in_line plan.steps landing.at ∷ []) ++ codes " land "
+    ++ pair_name plan.pairs landing.pair ++ 32 ∷ side_text landing.side ++ numbers_text (landing.place ∷ []))
+
+-- an answer behind the number of its line
+abbrev pub text_line : Plan → ℕ → List ℕ → List ℕ
+text_line plan k text = line_of (decimal (line_at plan.steps k) ++ 32 ∷ text)
+
+-- the answer of an outcome to a step on which outcomes differ
+abbrev pub differing_line : Plan → List Outcome → Outcome → ℕ → List ℕ
+differing_line plan outcomes outcome k = if agree_on outcomes k then [] else text_line plan k (answer_at outcome k)
+
+-- the answer of all outcomes to a step on which they agree
+abbrev pub common_line : Plan → List Outcome → ℕ → List ℕ
+common_line plan outcomes k = if agree_on outcomes k then codes "always " ++ text_line plan k (first_answer outcomes k) else []
+
+-- the numbers of the script's steps
+abbrev pub step_numbers : Plan → List ℕ
+step_numbers plan = range_with_len 0 (length plan.steps)
+
+-- an outcome: its number, its further landings, and its answers to the steps on which outcomes differ
+abbrev pub outcome_lines : Plan → List Outcome → ℕ → Outcome → List ℕ
+outcome_lines plan outcomes number outcome =
+    line_of (codes "outcome" ++ numbers_text (number ∷ [])) ++ flat_map (landing_line plan) outcome.landings
+    ++ flat_map (differing_line plan outcomes outcome) (step_numbers plan)
+
+-- some of the outcomes, numbered from here on
+abbrev pub outcomes_lines : Plan → List Outcome → ℕ → List Outcome → List ℕ
+outcomes_lines plan outcomes number [] = []
+outcomes_lines plan outcomes number (outcome ∷ rest) = outcome_lines plan outcomes number outcome ++ outcomes_lines plan outcomes (number + 1) rest
+
+-- the text of the outcomes of a plan, in whose exploration so many states were reached
+abbrev pub explored_text : Plan → List Outcome → ℕ → List ℕ
+explored_text plan outcomes states =
+    head_line outcomes states ++ outcomes_lines plan outcomes 1 outcomes ++ flat_map (common_line plan outcomes) (step_numbers plan) ++ end_line
