@@ -1,5 +1,5 @@
 -- The schedules of a script: its steps in their order, and before each any number of further landings.
-use Rattle.std.specs.Prelude.{◌≡◌, ℕ, Bool, true, false, List, [], ◌∷◌, ◌++◌, length}
+use Rattle.std.specs.Prelude.{◌≡◌, ℕ, ◌^◌, ◌<◌, Bool, true, false, List, [], ◌∷◌, ◌++◌, length}
 use Rattle.step_kinds.specs.declared.plan.Plan.{Plan}
 use Rattle.step_kinds.specs.declared.steps.Answer.{Answer}
 use Rattle.step_kinds.specs.declared.steps.Answer.TheVariants.{Landed}
@@ -31,14 +31,19 @@ is_landed answer = false
 abbrev pub landing_step : Landing → Step
 landing_step landing = Land landing.pair landing.side landing.place
 
--- A run of a script: its steps were made in their order, and before them further landings of the plan's pairs, each of which was
--- answered `landed`. It has made these steps in all, and the answers to the script's own steps have these texts.
+-- a landing that a script of the plan could ask for: places are numbers of 32 bits
+pub record IsLanding (plan : Plan) (landing : Landing) : Type 0 where
+  pub pair : IsPairOf plan landing.pair
+  pub place : landing.place < 2 ^ 32
+
+-- A run of a script: its steps were made in their order, and before them further landings, each of which was answered `landed`. It has
+-- made these steps in all, and the answers to the script's own steps have these texts.
 pub data Runs (plan : Plan) : (script : List Step) (landings : List Landing) (made : List Step) (answers : List (List ℕ)) → Type 0 where
   -- nothing was made
   begun : Runs plan [] [] [] []
   -- a further landing
   lands : {script : List Step} {landings : List Landing} {made : List Step} {answers : List (List ℕ)} (landing : Landing) →
-      Runs plan script landings made answers → landing.at ≡ length script → IsPairOf plan landing.pair →
+      Runs plan script landings made answers → landing.at ≡ length script → IsLanding plan landing →
       is_landed (answer_after plan made (landing_step landing)) ≡ true →
       Runs plan script (landings ++ landing ∷ []) (made ++ landing_step landing ∷ []) answers
   -- the next step of the script

@@ -1,6 +1,9 @@
 //! Outcomes of schedules.
 
-use step_kinds::{Items, Side};
+ghost use Rattle.std.specs.Prelude.{◌≡◌};
+ghost use Rattle.explore_model.specs.Schedules.{landing_step};
+
+use step_kinds::{Items, Side, Step};
 
 /// A landing that is no step of the script.
 #[derive(Clone, Copy, Debug, PartialEq, Eq)]
@@ -13,6 +16,19 @@ pub struct Landing {
     pub side: Side,
     /// Where the write stands among the side's writes in flight: 0 for the one that was posted first.
     pub place: u32,
+}
+
+impl Landing {
+    /// The step by which it is made.
+    pub fn step(self) -> Step
+        ensures { result ≡ landing_step self }
+    {
+        Step::Land {
+            pair: self.pair,
+            side: self.side,
+            place: self.place,
+        }
+    }
 }
 
 /// What the schedules of a script come to that answer alike, and one of them.

@@ -19,7 +19,7 @@ unfolding answer_after digits
 landed_is =
     record {
       made = Begin 0 A 0 letter ∷ Post 0 A 0 ∷ landing_step landing ∷ ShowQueue 0 A 0 ∷ [];
-      run = goes_on (ShowQueue 0 A 0) (lands landing (goes_on (Post 0 A 0) (goes_on (Begin 0 A 0 letter) begun)) refl (lit< tt) refl);
+      run = goes_on (ShowQueue 0 A 0) (lands landing (goes_on (Post 0 A 0) (goes_on (Begin 0 A 0 letter) begun)) refl (record { pair = lit< tt; place = lit< tt }) refl);
       before = All-cons is_before landing [] (lit< {m = 2} {n = 3} tt) (All-nil is_before);
     }
 
