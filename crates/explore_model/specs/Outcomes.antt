@@ -1,10 +1,10 @@
 -- When a list of outcomes is whole.
 use Rattle.std.specs.Prelude.{◌≡◌, ℕ, ◌<◌, List, length}
 use Rattle.std.specs.Cmp.Lexicographic.{slice_cmp}
-use Rattle.std.specs.List.{All, Any}
-use Rattle.std.specs.List.Sorted.{IsStrictlySortedBy}
-use Rattle.std.specs.Ordering.{nat_cmp, on}
+use Rattle.std.specs.List.{All, AllPairs, Any}
+use Rattle.std.specs.Ordering.{nat_cmp}
 use Rattle.std.specs.declared.cmp.Ordering.{Ordering}
+use Rattle.std.specs.declared.cmp.Ordering.TheVariants.{Less}
 use Rattle.step_kinds.specs.declared.plan.Plan.{Plan}
 use Rattle.step_kinds.specs.declared.steps.Step.{Step}
 use Rattle.explore_model.specs.Schedules.{Runs}
@@ -29,4 +29,4 @@ pub record IsExplored (plan : Plan) (script : List Step) (found : List Outcome) 
   pub complete : (landings : List Landing) (made : List Step) (answers : List (List ℕ)) → Runs plan script landings made answers →
       Any (λ outcome. outcome.answers ≡ answers) found
   -- they stand in rising order, so each stands once
-  pub rising : IsStrictlySortedBy (on (λ outcome. outcome.answers) answers_cmp) found
+  pub rising : AllPairs (λ one other. answers_cmp one.answers other.answers ≡ Less) found

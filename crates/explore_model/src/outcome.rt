@@ -20,7 +20,7 @@ pub struct Landing {
 
 impl Landing {
     /// The step by which it is made.
-    pub fn step(self) -> Step
+    pub fn as_step(self) -> Step
         ensures { result ≡ landing_step self }
     {
         Step::Land {

@@ -1,0 +1,4 @@
+pub mod Machines
+pub mod Paths
+pub mod Spread
+pub mod States
