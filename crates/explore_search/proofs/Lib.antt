@@ -4,5 +4,8 @@ pub mod Growing
 pub mod Landed
 pub mod Lists
 pub mod Makeable
+pub mod Ordered
+pub mod Placing
 pub mod SameStates
 pub mod Spreading
+pub mod Stepping

@@ -1,3 +1,4 @@
+pub mod Layers
 pub mod Machines
 pub mod Paths
 pub mod Spread
