@@ -4,6 +4,7 @@ pub mod Growing
 pub mod Landed
 pub mod Lists
 pub mod Makeable
+pub mod NextLayer
 pub mod Ordered
 pub mod Placing
 pub mod SameStates

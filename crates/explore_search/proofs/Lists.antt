@@ -2,7 +2,7 @@
 use Rattle.std.proofs.Common.{◌≡◌, ◌∙◌, ℕ, ◌+◌, ◌-◌, ◌<◌, ◌≤◌, List, [], ◌∷◌, ◌++◌, ap, arith, drop, get_or, inl, inr, length, refl, set, subst, sym, take}
 use Rattle.std.proofs.lemmas.Bool.{cases_eq, cases_lt}
 use Rattle.std.specs.List.{All, AllPairs, Any, insert}
-use Rattle.std.proofs.lemmas.List.{get_or_append_left, get_or_at, get_or_default, get_or_read, get_or-set_other, get_or-set_same, length-append, length_push, length-set}
+use Rattle.std.proofs.lemmas.List.{get_or-append-add, get_or_append_left, get_or_at, get_or_default, get_or_read, get_or-set_other, get_or-set_same, length-append, length_push, length-set}
 use Rattle.std.proofs.lemmas.List.Edits.{get_or-insert_above, get_or-insert_at, get_or-insert_below, length-insert}
 use Rattle.std.proofs.lemmas.List.Elements.{All-append, All-cons, All-drop, All-take}
 
@@ -107,3 +107,9 @@ pub any_set : {X : Type 0} (P : X → Type 0) (xs : List X) (p : ℕ) (y : X) �
 any_set P xs p y below is =
     let size = length-set xs p y in
     (p, y, omega arith, get_or-set_same xs p y y below, is)
+
+-- some item of a list is one where others stand before it
+pub any_later : {X : Type 0} (P : X → Type 0) (xs ys : List X) → Any P ys → Any P (xs ++ ys)
+any_later P xs ys some =
+    let size = length-append xs ys in
+    (length xs + some.0, some.1, omega (arith, some.2), get_or-append-add xs ys some.0 some.1 ∙ some.3, some.4)

@@ -99,3 +99,25 @@ module _ {M : Type 0} (has_made : M → Plan → List Step → Type 0) (plan_hel
   pub record IsLayer (layer : List (Group M)) : Type 0 where
     pub groups : All (λ group. AreStates has_made plan_held key_of plan done group.answers group.states.items) layer
     pub ordered : AllPairs (λ one other. answers_cmp one.answers other.answers ≡ Less) layer
+
+  -- the groups to which the next step leads from one
+  pub record HasGroups (group : Group M) (groups : List (Group M)) : Type 0 where
+    pub kept : All (λ next. AreKept has_made plan_held key_of plan (done + 1) next.states.items) groups
+    pub each : AreStates has_made plan_held key_of plan done group.answers group.states.items →
+        All (λ next. AreStates has_made plan_held key_of plan (done + 1) next.answers next.states.items) groups
+    pub ordered : AllPairs (λ one other. answers_cmp one.answers other.answers ≡ Less) groups
+    pub named : All (λ next. (text : List ℕ) × (next.answers ≡ group.answers ++ text ∷ [])) groups
+
+module _ {M : Type 0} (has_made : M → Plan → List Step → Type 0) (plan_held : M → Plan) (key_of : M → List ℕ) (plan : Plan) (done : ℕ) where
+  -- and what they cover
+  abbrev pub GroupsCover : Group M → List (Group M) → Type 0
+  GroupsCover group groups =
+      (made : List Step) → Covers has_made plan done group.states.items made →
+      LayerCovers has_made plan_held key_of plan (done + 1) groups (group.answers ++ text_after plan made (step_at plan done) ∷ []) (made ++ step_at plan done ∷ [])
+
+  -- the layer to which the next step leads from one
+  pub record HasNext (layer next : List (Group M)) : Type 0 where
+    pub kept : All (λ group. AreKept has_made plan_held key_of plan (done + 1) group.states.items) next
+    pub ordered : IsLayer has_made plan_held key_of plan done layer → IsLayer has_made plan_held key_of plan (done + 1) next
+    pub covers : (answers : List (List ℕ)) (made : List Step) → LayerCovers has_made plan_held key_of plan done layer answers made →
+        LayerCovers has_made plan_held key_of plan (done + 1) next (answers ++ text_after plan made (step_at plan done) ∷ []) (made ++ step_at plan done ∷ [])

@@ -1,3 +1,4 @@
+pub mod Closing
 pub mod Layers
 pub mod Machines
 pub mod Paths

@@ -4,6 +4,7 @@
 //! two of them are the same. A machine is never copied, but made anew along the path to a state.
 #![tactic(auto)]
 
+mod groups;
 mod layers;
 mod machine;
 mod paths;
