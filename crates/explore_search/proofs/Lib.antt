@@ -1,7 +1,10 @@
 pub mod AlongPaths
 pub mod Candidates
+pub mod Census
+pub mod ClosedLayers
 pub mod Growing
 pub mod Landed
+pub mod LayersInTurn
 pub mod Lists
 pub mod Makeable
 pub mod NextLayer
@@ -10,3 +13,4 @@ pub mod Placing
 pub mod SameStates
 pub mod Spreading
 pub mod Stepping
+pub mod WholeLayers

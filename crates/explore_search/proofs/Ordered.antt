@@ -27,7 +27,7 @@ longer_less (x ∷ xs) (y ∷ ys) t u same less =
     then_less (slice_cmp nat_cmp x y) (answers_cmp xs ys) (answers_cmp (xs ++ t ∷ []) (ys ++ u ∷ [])) (λ rest. longer_less xs ys t u (omega (arith, same)) rest) less
 
 -- what is compared with itself is equal
-itself_equal : (o : Ordering) → o ≡ ordering_reverse o → o ≡ Equal
+pub itself_equal : (o : Ordering) → o ≡ ordering_reverse o → o ≡ Equal
 itself_equal Less same = absurd (cc)
 itself_equal Equal same = refl
 itself_equal Greater same = absurd (cc)

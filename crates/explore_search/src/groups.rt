@@ -12,12 +12,32 @@ use crate::spread::close;
 use std::alloc::{AllocError, Global};
 use step_kinds::Plan;
 
-// The most states of a layer whose machines are kept.
-const MOST_LIVE: usize = 256;
+/// The most states of a layer whose machines are kept.
+pub const MOST_LIVE: usize = 256;
 
 /// Closes the states of each group of a layer under landings. It answers how many states there are then, together with
 /// those that were counted before, or `None` where there are more than the limit. The only error is out of memory.
 pub fn close_layer<M: Machine>(
+    alloc: Global,
+    plan: &Plan,
+    done: usize,
+    layer: &mut Vec<Group<M>>,
+    before: usize,
+    limit: usize,
+) -> Result<Option<usize>, AllocError>
+    requires plan { IsExplorable plan.now }
+    requires done { done ≤ length plan.now.steps }
+    requires layer { All (λ group. AreKept M.has_made M.plan_held M.key_of plan.now done group.states.items) layer.old.items }
+    requires before { before ≤ limit }
+    ensures { IfOk result (LayerClosed M.has_made M.plan_held M.key_of plan.now done before limit layer.old.items layer.new.items) }
+{
+    let groups = layer.as_mut_slice();
+    close_groups(alloc, plan, done, groups, before, limit)
+}
+
+// Closes the states of each group under landings, and answers how many there are then, together with those that were
+// counted before, or `None` where there are more than the limit.
+fn close_groups<M: Machine>(
     alloc: Global,
     plan: &Plan,
     done: usize,

@@ -8,7 +8,9 @@ mod groups;
 mod layers;
 mod machine;
 mod paths;
+mod search;
 mod spread;
 mod states;
 
 pub use machine::Machine;
+pub use search::{Explored, MOST_STATES, explore};

@@ -1,7 +1,7 @@
 use Rattle.std.proofs.Common.{◌≡◌, ◌+◌, ◌≤◌, take}
 use Rattle.std.specs.List.{All}
 use Rattle.explore_search.specs.Closing.{ClosedUpTo, states_in}
-use Rattle.explore_search.proofs.groups.close_layer.Given as goal
+use Rattle.explore_search.proofs.groups.close_groups.Given as goal
 
 abbrev pub invariant-loop-place : goal.invariant-loop-place
 invariant-loop-place g l = record {
