@@ -1,0 +1,16 @@
+pub mod AlongPaths
+pub mod Candidates
+pub mod Census
+pub mod ClosedLayers
+pub mod Growing
+pub mod Landed
+pub mod LayersInTurn
+pub mod Lists
+pub mod Makeable
+pub mod NextLayer
+pub mod Ordered
+pub mod Placing
+pub mod SameStates
+pub mod Spreading
+pub mod Stepping
+pub mod WholeLayers

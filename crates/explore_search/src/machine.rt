@@ -1,0 +1,65 @@
+//! What a search needs of a machine.
+
+ghost use Rattle.std.specs.Prelude.{◌≡◌, ◌≤◌, ◌∷◌, ◌++◌, ℕ, [], IfOk, IsTrue, List, OnOk};
+ghost use Rattle.step_kinds.specs.declared.plan.Plan.{Plan as PlanValue};
+ghost use Rattle.step_kinds.specs.declared.steps.Answer.TheVariants.{Nothing};
+ghost use Rattle.step_kinds.specs.declared.steps.Step.{Step as StepValue};
+ghost use Rattle.step_kinds.specs.declared.steps.Step.TheVariants.{Land};
+ghost use Rattle.plan_model.specs.DeclaredPlans.{IsDeclared, IsPairOf};
+ghost use Rattle.plan_model.specs.Switches.{AreSwitches, IsMakeable};
+ghost use Rattle.explore_model.specs.Schedules.{answer_after};
+ghost use Rattle.explore_search.specs.Machines.{HaveSameKeys, HaveSameSteps, declared_part};
+
+use std::alloc::{AllocError, Global};
+use step_kinds::{Answer, Plan, Side, Step};
+
+/// A machine that makes the steps of a script.
+pub trait Machine: Drop {
+    // it has made these steps of a plan
+    ghost has_made: { Self → PlanValue → List StepValue → Type 0 };
+
+    // what it keeps of its plan
+    ghost plan_held: { Self → PlanValue };
+
+    // a few bytes of its state
+    ghost key_of: { Self → List ℕ };
+
+    /// A machine that has made no step of the plan, which is one that a script can declare. The only error is out of
+    /// memory.
+    fn fresh(alloc: Global, plan: &Plan) -> Result<Self, AllocError>
+        requires declared { IsDeclared plan.now }
+        requires switches { AreSwitches plan.now }
+        ensures made { IfOk result (λ machine. has_made machine plan.now []) }
+        ensures plan { IfOk result (λ machine. plan_held machine ≡ declared_part plan.now) };
+
+    /// Makes a step, which has to be one that a script of the machine's plan may make, and answers it. The only error is
+    /// out of memory, and then nothing is promised of the steps that it has made.
+    fn step(&mut self, step: &Step) -> Result<Answer, AllocError>
+        requires { IsMakeable (plan_held self.old) step.now }
+        ensures answer { (plan : PlanValue) (steps : List StepValue) → has_made self.old plan steps →
+            IfOk result (λ answer. answer ≡ answer_after plan steps step.now) }
+        ensures made { (plan : PlanValue) (steps : List StepValue) → has_made self.old plan steps →
+            OnOk result (has_made self.new plan (steps ++ step.now ∷ [])) }
+        ensures plan { plan_held self.new ≡ plan_held self.old };
+
+    /// Whether two machines of one plan are in the same state: no later step tells them apart.
+    fn is_same(&self, other: &Self) -> bool
+        requires { plan_held self.now ≡ plan_held other.now }
+        ensures merges { IsTrue result → (plan : PlanValue) (steps : List StepValue) → has_made self.now plan steps → has_made other.now plan steps }
+        ensures apart { (plan : PlanValue) (steps : List StepValue) → has_made self.now plan steps → has_made other.now plan steps → IsTrue result };
+
+    /// How many writes a side of a pair has in flight. From this place on no landing finds a write.
+    fn in_flight(&self, pair: u32, side: Side) -> usize
+        requires { IsPairOf (plan_held self.now) pair }
+        ensures { (plan : PlanValue) (steps : List StepValue) (place : ℕ) → has_made self.now plan steps → result ≤ place →
+            answer_after plan steps (Land pair side place) ≡ Nothing };
+
+    /// Adds a few bytes of the machine's state, by which a search looks among few. Machines that have made one list of
+    /// steps have the same. The only error is out of memory.
+    fn push_key(&self, key: &mut Vec<u8>) -> Result<(), AllocError>
+        ensures { OnOk result (key.new.items ≡ key.old.items ++ key_of self.now) };
+
+    ghost same_steps: { HaveSameSteps has_made };
+
+    ghost same_keys: { HaveSameKeys has_made key_of };
+}

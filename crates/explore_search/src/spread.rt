@@ -1,0 +1,160 @@
+//! States closed under landings.
+
+ghost use Rattle.std.specs.Prelude.{◌≡◌, ◌≤◌, ◌<◌, ◌↔◌, [], IfOk, IsTrue, OnOk, length};
+ghost use Rattle.std.specs.List.{All, HoldsAt};
+ghost use Rattle.plan_model.specs.DeclaredPlans.{IsPairOf};
+ghost use Rattle.explore_search.specs.Machines.{declared_part};
+ghost use Rattle.explore_search.specs.Paths.{IsExplorable};
+ghost use Rattle.explore_search.specs.Spread.{AreAdded, AreClosed, AreTried, IsNext, IsOfSide, IsSpread, Lands};
+ghost use Rattle.explore_search.specs.States.{HaveGrown, IsState};
+
+use crate::machine::Machine;
+use crate::paths::rebuilt;
+use crate::states::{State, join};
+use explore_model::Landing;
+use std::alloc::{AllocError, Global};
+use step_kinds::{Answer, Plan, Side};
+
+// How many places of writes a landing can name.
+const PLACES: usize = 4_294_967_296;
+
+/// Adds to states, all after so many steps of the plan, those to which landings lead from them, until there are more
+/// than there is room for. It answers whether there was room. The only error is out of memory.
+pub fn close<M: Machine>(
+    alloc: Global,
+    plan: &Plan,
+    done: usize,
+    states: &mut Vec<State<M>>,
+    room: usize,
+    is_kept: bool,
+) -> Result<bool, AllocError>
+    requires plan { IsExplorable plan.now }
+    requires done { done ≤ length plan.now.steps }
+    requires states { All (IsState M.has_made M.plan_held M.key_of plan.now done) states.old.items }
+    ensures grown { OnOk result (HaveGrown M.has_made M.plan_held M.key_of plan.now done states.old.items states.new.items) }
+    ensures room { IfOk result (λ answer. IsTrue answer ↔ length states.new.items ≤ room) }
+    ensures closed { IfOk result (λ answer. IsTrue answer → AreClosed M.has_made plan.now done states.new.items) }
+{
+    let mut from = 0;
+    while from < states.len() && states.len() <= room {
+        spread(alloc, plan, done, states, from, is_kept)?;
+        from += 1;
+    }
+    Ok(states.len() <= room)
+}
+
+// Adds the states to which landings lead from one of them.
+fn spread<M: Machine>(
+    alloc: Global,
+    plan: &Plan,
+    done: usize,
+    states: &mut Vec<State<M>>,
+    from: usize,
+    is_kept: bool,
+) -> Result<(), AllocError>
+    requires plan { IsExplorable plan.now }
+    requires done { done ≤ length plan.now.steps }
+    requires states { All (IsState M.has_made M.plan_held M.key_of plan.now done) states.old.items }
+    requires from { from < length states.old.items }
+    ensures grown { OnOk result (HaveGrown M.has_made M.plan_held M.key_of plan.now done states.old.items states.new.items) }
+    ensures spread { OnOk result (HoldsAt (IsSpread M.has_made plan.now done states.new.items) states.old.items from) }
+{
+    let landings = landings_from(alloc, plan, done, &states[from])?;
+    for landing in &landings {
+        land(alloc, plan, done, states, from, *landing, is_kept)?;
+    }
+    Ok(())
+}
+
+// Makes a landing after a state, and adds the state to which it leads where it is answered `landed`.
+fn land<M: Machine>(
+    alloc: Global,
+    plan: &Plan,
+    done: usize,
+    states: &mut Vec<State<M>>,
+    from: usize,
+    landing: Landing,
+    is_kept: bool,
+) -> Result<(), AllocError>
+    requires plan { IsExplorable plan.now }
+    requires done { done ≤ length plan.now.steps }
+    requires states { All (IsState M.has_made M.plan_held M.key_of plan.now done) states.old.items }
+    requires from { from < length states.old.items }
+    requires landing { IsNext plan.now done landing }
+    ensures grown { OnOk result (HaveGrown M.has_made M.plan_held M.key_of plan.now done states.old.items states.new.items) }
+    ensures lands { OnOk result (HoldsAt (λ state. Lands M.has_made plan.now done states.new.items state landing) states.old.items from) }
+{
+    let mut landings = Vec::from_slice(alloc, &states[from].landings)?;
+    let mut machine = rebuilt::<M>(alloc, plan, &landings, done)?;
+    let answer = machine.step(&landing.as_step())?;
+    if let Answer::Landed { .. } = answer {
+        landings.push(landing)?;
+        join(alloc, plan, done, states, landings, machine, is_kept)?;
+    }
+    Ok(())
+}
+
+// The landings that may be answered `landed` after a state.
+fn landings_from<M: Machine>(
+    alloc: Global,
+    plan: &Plan,
+    done: usize,
+    state: &State<M>,
+) -> Result<Vec<Landing>, AllocError>
+    requires plan { IsExplorable plan.now }
+    requires done { done ≤ length plan.now.steps }
+    requires state { IsState M.has_made M.plan_held M.key_of plan.now done state.now }
+    ensures { IfOk result (λ landings. AreTried M.has_made plan.now done state.now landings.items) }
+{
+    match &state.machine {
+        Some(machine) => landings_at(alloc, plan, done, machine),
+        None => {
+            let machine = rebuilt::<M>(alloc, plan, &state.landings, done)?;
+            landings_at(alloc, plan, done, &machine)
+        }
+    }
+}
+
+// The landings of all pairs and sides at places where a machine has writes in flight.
+fn landings_at<M: Machine>(
+    alloc: Global,
+    plan: &Plan,
+    done: usize,
+    machine: &M,
+) -> Result<Vec<Landing>, AllocError>
+    requires plan { IsExplorable plan.now }
+    requires machine { M.plan_held machine.now ≡ declared_part plan.now }
+    ensures { IfOk result (λ landings. AreAdded M.has_made plan.now done machine.now (λ landing. Unit {0}) [] landings.items) }
+{
+    let mut landings = Vec::new(alloc);
+    for pair in 0..plan.pairs.len() as u32 {
+        push_side(&mut landings, plan, done, machine, pair, Side::A)?;
+        push_side(&mut landings, plan, done, machine, pair, Side::B)?;
+    }
+    Ok(landings)
+}
+
+// Adds the landings of a side of a pair.
+fn push_side<M: Machine>(
+    landings: &mut Vec<Landing>,
+    plan: &Plan,
+    done: usize,
+    machine: &M,
+    pair: u32,
+    side: Side,
+) -> Result<(), AllocError>
+    requires pair { IsPairOf plan.now pair }
+    requires machine { M.plan_held machine.now ≡ declared_part plan.now }
+    ensures { OnOk result (AreAdded M.has_made plan.now done machine.now (IsOfSide pair side) landings.old.items landings.new.items) }
+{
+    let count = machine.in_flight(pair, side).min(PLACES);
+    for place in 0..count {
+        landings.push(Landing {
+            at: done,
+            pair,
+            side,
+            place: place as u32,
+        })?;
+    }
+    Ok(())
+}
