@@ -7,7 +7,7 @@ use Rattle.explore_model.specs.Outcomes.{IsExplored}
 use Rattle.explore_model.specs.States.{HasMoreThan, IsCensus, most_states}
 use Rattle.explore_model.specs.Texts.{explored_text}
 use Rattle.explore_model.specs.declared.outcome.Outcome.{Outcome}
-use Rattle.replay_command.specs.Replays.{steps_of}
+use Rattle.explore_search.specs.Paths.{script_of as steps_of}
 use Rattle.script_text.specs.Script.{script_of}
 use Rattle.script_words.specs.declared.fault.ScriptFault.{ScriptFault}
 use Rattle.step_kinds.specs.declared.plan.Plan.{Plan}
@@ -18,7 +18,7 @@ abbrev pub has_made : ClusterState → Plan → List Step → Type 0
 has_made cluster plan steps = HasMade plan steps cluster
 
 -- The text is that of all outcomes of the plan's schedules, which reach so many states.
-pub record IsExploration (plan : Plan) (output : Output) : Type 0 where
+pub record TellsAll (plan : Plan) (output : Output) : Type 0 where
   pub found : List Outcome
   pub states : ℕ
   pub answer : output ≡ done (explored_text plan found states)
@@ -27,13 +27,13 @@ pub record IsExploration (plan : Plan) (output : Output) : Type 0 where
   pub few : states ≤ most_states
 
 -- the schedules reach more states than an exploration may
-pub record HasTooMany (plan : Plan) (output : Output) : Type 0 where
+pub record TellsTooMany (plan : Plan) (output : Output) : Type 0 where
   pub answer : output ≡ too_many_states
   pub many : HasMoreThan has_made plan (steps_of plan) most_states
 
 -- what answers the plan of a script, or the script's fault
 abbrev pub ExploresTo : Result Plan ScriptFault → Output → Type 0
-ExploresTo (Ok plan) output = IsExploration plan output ⊎ HasTooMany plan output
+ExploresTo (Ok plan) output = TellsAll plan output ⊎ TellsTooMany plan output
 ExploresTo (Err fault) output = output ≡ refused fault
 
 -- the answer of `explore` to the bytes of a script
