@@ -14,6 +14,7 @@ use Rattle.explore_model.specs.Texts.{explored_text, landing_line}
 use Rattle.explore_model.specs.declared.outcome.Landing.{Landing}
 use Rattle.explore_model.specs.declared.outcome.Outcome.{Outcome}
 
+-- the steps
 abbrev pub script : List Step
 script = Begin 0 A 0 letter ∷ Post 0 A 0 ∷ ShowQueue 0 A 0 ∷ []
 

@@ -23,6 +23,7 @@ answer_after plan steps step =
 abbrev pub text_after : Plan → List Step → Step → List ℕ
 text_after plan steps step = answer_text (answer_after plan steps step)
 
+-- whether a landing was answered `landed`
 abbrev pub is_landed : Answer → Bool
 is_landed (Landed label) = true
 is_landed answer = false

@@ -23,6 +23,7 @@ place_in_line steps k = count_by (λ made. made.line == line_at steps k) (take k
 abbrev pub answer_at : Outcome → ℕ → List ℕ
 answer_at outcome k = slice_index_or outcome.answers k []
 
+-- the answer of the first outcome to it
 abbrev pub first_answer : List Outcome → ℕ → List ℕ
 first_answer [] k = []
 first_answer (outcome ∷ outcomes) k = answer_at outcome k

@@ -1,7 +1,7 @@
 -- The steps along a path: one landing more, and one step of the script more.
-use Rattle.std.proofs.Common.{inl, inr, ◌≡◌, ◌∙◌, ℕ, zero, suc, ◌+◌, ◌-◌, ◌<◌, ◌≤◌, List, [], ◌∷◌, ◌++◌, append_assoc, append-nil, ap, arith, drop, get_or, length, length-drop, map, refl, subst, sym, take}
+use Rattle.std.proofs.Common.{inl, inr, ◌≡◌, ◌∙◌, ℕ, ◌+◌, ◌-◌, ◌<◌, ◌≤◌, List, [], ◌∷◌, ◌++◌, append_assoc, append-nil, ap, arith, drop, get_or, length, length-drop, refl, sym, take}
 use Rattle.std.specs.List.{All, fold}
-use Rattle.std.proofs.lemmas.List.{drop-map, get_or-drop, get_or-map, length-map, take_all, take_more}
+use Rattle.std.proofs.lemmas.List.{get_or-drop, get_or-map, length-map, take_all, take_more}
 use Rattle.std.proofs.lemmas.List.Elements.{All-head, All-tail}
 use Rattle.std.proofs.lemmas.List.Sums.{fold_more, fold_push}
 use Rattle.std.proofs.lemmas.Bool.{cases_lt}
@@ -86,7 +86,7 @@ pub between_end : (script : List Step) (from place to : ℕ) → from ≤ place 
 between_end script from place to up past none within =
     let same : place - from ≡ to - from =
     elim (cases_lt from to) [
-      inl before ↦ (let at : place ≤ to = within (omega arith) in omega arith)
+      | inl before ↦ (let at : place ≤ to = within (omega arith) in omega arith)
       | inr after ↦ (let at : place ≡ from = none after in omega arith)
     ] in
     ap (λ (n : ℕ). take n (drop from script)) same

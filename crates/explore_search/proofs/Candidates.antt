@@ -1,5 +1,5 @@
 -- Landings that are tried: all at which something may land.
-use Rattle.std.proofs.Common.{◌≡◌, ◌∙◌, ℕ, ◌+◌, ◌^◌, ◌<◌, ◌≤◌, ◌⊎◌, inl, inr, List, [], ◌∷◌, ◌++◌, append-nil, arith, length, min, refl, subst, sym, true}
+use Rattle.std.proofs.Common.{◌≡◌, ℕ, ◌+◌, ◌^◌, ◌<◌, ◌≤◌, ◌⊎◌, inl, inr, List, [], ◌∷◌, ◌++◌, arith, length, min, refl, subst, sym}
 use Rattle.std.specs.List.{All, Contains}
 use Rattle.std.proofs.lemmas.Bool.{cases_lt}
 use Rattle.std.proofs.lemmas.List.Elements.{All-nil, All-push, Contains-append_left, Contains-push}
@@ -10,11 +10,11 @@ use Rattle.step_kinds.specs.declared.steps.Answer.TheVariants.{Nothing}
 use Rattle.step_kinds.specs.declared.steps.Step.{Step}
 use Rattle.step_kinds.specs.declared.steps.Step.TheVariants.{Land}
 use Rattle.plan_model.specs.DeclaredPlans.{IsPairOf}
-use Rattle.explore_model.specs.Schedules.{answer_after, landing_step}
+use Rattle.explore_model.specs.Schedules.{answer_after}
 use Rattle.explore_model.specs.declared.outcome.Landing.{Landing}
 use Rattle.explore_search.specs.Machines.{HaveSameSteps}
 use Rattle.explore_search.specs.Spread.{AreAdded, AreTried, IsNext, IsOfSide}
-use Rattle.explore_search.specs.States.{Reaches, made_to}
+use Rattle.explore_search.specs.States.{made_to}
 use Rattle.explore_search.specs.declared.states.State.{State}
 
 -- a side is one of two
@@ -27,6 +27,7 @@ module _ {M : Type 0} (has_made : M → Plan → List Step → Type 0) (plan : P
   abbrev IsBelow : ℕ → Side → ℕ → Landing → Type 0
   IsBelow pair side places landing = (landing.pair ≡ pair) × (landing.side ≡ side) × (landing.place < places)
 
+  -- at places below 0 are none
   pub none_below : (pair : ℕ) (side : Side) (landings : List Landing) → AreAdded has_made plan done machine (λ landing. (landing.pair ≡ pair) × (landing.side ≡ side) × (landing.place < 0)) landings landings
   none_below pair side landings = record { each = λ all. all; kept = λ landing has. has; all = λ landing next below. absurd (omega (arith, below.2)) }
 
@@ -44,13 +45,13 @@ module _ {M : Type 0} (has_made : M → Plan → List Step → Type 0) (plan : P
         kept = λ landing has. subst (λ (landings : List Landing). Contains landings landing) (sym is) (Contains-append_left now (last ∷ []) landing (before.kept landing has));
         all = λ landing next below.
             elim (cases_lt landing.place place) [
-              inl earlier ↦ elim (before.all landing next (below.0, below.1, earlier)) [
-                inl has ↦ inl (subst (λ (landings : List Landing). Contains landings landing) (sym is) (Contains-append_left now (last ∷ []) landing has))
+              | inl earlier ↦ elim (before.all landing next (below.0, below.1, earlier)) [
+                | inl has ↦ inl (subst (λ (landings : List Landing). Contains landings landing) (sym is) (Contains-append_left now (last ∷ []) landing has))
                 | inr idle ↦ inr idle
               ]
               | inr later ↦ (let here : place ≡ landing.place = omega (arith, below.2) in
-              let same : last ≡ landing = λ i. record { at = sym next.at i; pair = sym below.0 i; side = sym below.1 i; place = here i } in
-              inl (subst (λ (landings : List Landing). Contains landings landing) (sym is) (subst (λ (landing : Landing). Contains (now ++ last ∷ []) landing) same (Contains-push now last))))
+                  let same : last ≡ landing = λ i. record { at = sym next.at i; pair = sym below.0 i; side = sym below.1 i; place = here i } in
+                  inl (subst (λ (landings : List Landing). Contains landings landing) (sym is) (subst (λ (landing : Landing). Contains (now ++ last ∷ []) landing) same (Contains-push now last))))
             ];
       }
 
@@ -65,11 +66,11 @@ module _ {M : Type 0} (has_made : M → Plan → List Step → Type 0) (plan : P
         kept = before.kept;
         all = λ landing next of.
             elim (cases_lt landing.place places) [
-              inl below ↦ before.all landing next (of.0, of.1, below)
+              | inl below ↦ before.all landing next (of.0, of.1, below)
               | inr beyond ↦ inr (λ made has.
-              subst (λ (pair : ℕ). answer_after plan made (Land pair landing.side landing.place) ≡ Nothing) (sym of.0)
-              (subst (λ (side : Side). answer_after plan made (Land pair side landing.place) ≡ Nothing) (sym of.1)
-              (idle made landing.place has (omega (arith, next.may.place)))))
+                  subst (λ (pair : ℕ). answer_after plan made (Land pair landing.side landing.place) ≡ Nothing) (sym of.0)
+                  (subst (λ (side : Side). answer_after plan made (Land pair side landing.place) ≡ Nothing) (sym of.1)
+                  (idle made landing.place has (omega (arith, next.may.place)))))
             ];
       }
 
@@ -87,12 +88,12 @@ module _ {M : Type 0} (has_made : M → Plan → List Step → Type 0) (plan : P
         kept = λ landing has. second.kept landing (first.kept landing (before.kept landing has));
         all = λ landing next below.
             elim (cases_lt landing.pair pair) [
-              inl earlier ↦ elim (before.all landing next earlier) [ inl has ↦ inl (second.kept landing (first.kept landing has)) | inr idle ↦ inr idle ]
+              | inl earlier ↦ elim (before.all landing next earlier) [ inl has ↦ inl (second.kept landing (first.kept landing has)) | inr idle ↦ inr idle ]
               | inr later ↦ (let here : landing.pair ≡ pair = omega arith in
-              elim (side_is landing.side) [
-                inl a ↦ elim (first.all landing next (here, a)) [ inl has ↦ inl (second.kept landing has) | inr idle ↦ inr idle ]
-                | inr b ↦ second.all landing next (here, b)
-              ])
+                  elim (side_is landing.side) [
+                    | inl a ↦ elim (first.all landing next (here, a)) [ inl has ↦ inl (second.kept landing has) | inr idle ↦ inr idle ]
+                    | inr b ↦ second.all landing next (here, b)
+                  ])
             ];
       }
 
@@ -110,7 +111,7 @@ module _ {M : Type 0} (has_made : M → Plan → List Step → Type 0) (plan : P
         each = are.each (All-nil (IsNext plan done));
         all = λ landing next.
             elim (are.all landing next tt) [
-              inl has ↦ inl has
+              | inl has ↦ inl has
               | inr idle ↦ inr (λ made reaches. idle made (same plan (made_to plan done state) made reaches.0 machine reaches.1 at reaches.2))
             ];
       }

@@ -1,27 +1,25 @@
 -- All states that are reached, counted group by group.
-use Rattle.std.proofs.Common.{◌≡◌, ◌∙◌, ℕ, zero, suc, ◌+◌, ◌-◌, ◌<◌, ◌≤◌, ◌⊎◌, inl, inr, List, [], ◌∷◌, ◌++◌, ap, arith, drop, get_or, length, refl, subst, sym, take, Less, Option, Some, None}
+use Rattle.std.proofs.Common.{◌≡◌, ◌∙◌, ℕ, zero, suc, ◌+◌, ◌<◌, ◌≤◌, ◌⊎◌, inl, inr, List, [], ◌∷◌, ◌++◌, ap, arith, drop, get_or, length, refl, subst, sym, take, Less}
 use Rattle.std.specs.Cmp.Lexicographic.{lists_total}
 use Rattle.std.specs.List.{All, AllPairs, Any}
-use Rattle.std.specs.Ordering.{ordering_reverse}
 use Rattle.std.proofs.lemmas.Bool.{cases_lt}
 use Rattle.std.proofs.lemmas.Cmp.{nat_list_cmp_total}
-use Rattle.std.proofs.lemmas.List.{get_or_append_left, get_or-append_right, get_or_default, length-append, length-take-le, take-append-drop, take_all, take_at}
-use Rattle.std.proofs.lemmas.List.Elements.{All-append, All-head, All-tail, All-weaker}
+use Rattle.std.proofs.lemmas.List.{get_or_default, length-append, length-take-le, take-append-drop, take_all, take_at}
+use Rattle.std.proofs.lemmas.List.Elements.{All-append, All-head, All-tail}
 use Rattle.std.proofs.lemmas.List.Sums.{fold_more}
 use Rattle.step_kinds.specs.declared.plan.Plan.{Plan}
 use Rattle.step_kinds.specs.declared.steps.Step.{Step}
 use Rattle.explore_model.specs.Outcomes.{answers_cmp}
 use Rattle.explore_model.specs.Schedules.{Runs}
 use Rattle.explore_model.specs.States.{AreApart, CanHaveMade, HasMoreThan, IsCensus, LeadToOne, Passing}
-use Rattle.explore_model.specs.declared.outcome.Landing.{Landing}
 use Rattle.explore_search.specs.Closing.{states_in}
-use Rattle.explore_search.specs.Layers.{AreStates, IsLayer, LayerCovers}
+use Rattle.explore_search.specs.Layers.{IsLayer}
 use Rattle.explore_search.specs.Paths.{script_of}
-use Rattle.explore_search.specs.States.{AreTwo, Covers, HasRun, Reaches, made_to}
+use Rattle.explore_search.specs.States.{Covers, HasRun, Reaches, made_to}
 use Rattle.explore_search.specs.Whole.{IsCount, IsFull}
 use Rattle.explore_search.specs.declared.layers.Group.{Group}
 use Rattle.explore_search.specs.declared.states.State.{State}
-use Rattle.explore_search.proofs.Lists.{any_longer, any_later, any_weaker}
+use Rattle.explore_search.proofs.Lists.{any_longer, any_later}
 use Rattle.explore_search.proofs.Ordered.{itself_equal, pairs_append}
 
 -- the first item of a list that has one
@@ -49,14 +47,17 @@ module _ {M : Type 0} (has_made : M → Plan → List Step → Type 0) (plan : P
     answered : run.answers ≡ answers
     made : run.made ≡ made_to plan done state
 
+  -- the runs to states
   abbrev passings : (answers : List (List ℕ)) (states : List (State M)) → All (HasRun plan done answers) states → List (Passing plan (script_of plan))
   passings answers [] all = []
   passings answers (state ∷ states) all = passing answers state (All-head (HasRun plan done answers) state states all) ∷ passings answers states (All-tail (HasRun plan done answers) state states all)
 
+  -- there are as many
   as_many : (answers : List (List ℕ)) (states : List (State M)) (all : All (HasRun plan done answers) states) → length (passings answers states all) ≡ length states
   as_many answers [] all = refl
   as_many answers (state ∷ states) all = ap suc (as_many answers states (All-tail (HasRun plan done answers) state states all))
 
+  -- each is the run to its state
   to_at : (answers : List (List ℕ)) (states : List (State M)) (all : All (HasRun plan done answers) states) (k : ℕ) (run : Passing plan (script_of plan)) (d : State M) → k < length states →
       IsTo answers (get_or states k d) (get_or (passings answers states all) k run)
   to_at answers [] all k run d below = absurd (omega arith)
@@ -74,6 +75,7 @@ module _ {M : Type 0} (has_made : M → Plan → List Step → Type 0) (plan : P
         Covers has_made plan done (get_or groups k d).states.items run.made → Any (λ state. LeadToOne has_made plan (script_of plan) state run) seen
 
 module _ {M : Type 0} (has_made : M → Plan → List Step → Type 0) (plan_held : M → Plan) (key_of : M → List ℕ) (plan : Plan) (done : ℕ) where
+  -- no group is counted yet
   counting_none : (groups : List (Group M)) (count : ℕ) → IsCount has_made plan_held key_of plan done count → IsCounting has_made plan done groups 0 count
   counting_none groups count is =
       record {
@@ -94,6 +96,7 @@ module _ {M : Type 0} (has_made : M → Plan → List Step → Type 0) (plan_hel
       let equal = itself_equal (answers_cmp (get_or groups n d).answers (get_or groups n d).answers) ((lists_total nat_list_cmp_total).antisymm (get_or groups n d).answers (get_or groups n d).answers) in
       cc
 
+  -- one group more is counted
   counting_more : (groups : List (Group M)) (n count : ℕ) (d : Group M) → done ≤ length (script_of plan) → n < length groups → IsLayer has_made plan_held key_of plan done groups →
       IsCounting has_made plan done groups n count → IsCounting has_made plan done groups (n + 1) (count + length (get_or groups n d).states.items)
   counting_more groups n count d within below is before =
@@ -120,10 +123,10 @@ module _ {M : Type 0} (has_made : M → Plan → List Step → Type 0) (plan_hel
             let size = length-take-le done (script_of plan) within in
             let long = ap length one.first ∙ ap length other_to.first in
             elim (before.within i run i_below) [
-              inl shorter ↦ absurd (omega arith)
+              | inl shorter ↦ absurd (omega arith)
               | inr same ↦ (let k = same.1 in
-              other_answers groups k.0 n k.1 is.ordered k.2 below
-              (ap (λ (group : Group M). group.answers) k.3 ∙ sym k.4 ∙ one.answers ∙ other_to.answered ∙ ap (λ (group : Group M). group.answers) (get_or_default groups n d k.1 below)))
+                  other_answers groups k.0 n k.1 is.ordered k.2 below
+                  (ap (λ (group : Group M). group.answers) k.3 ∙ sym k.4 ∙ one.answers ∙ other_to.answered ∙ ap (λ (group : Group M). group.answers) (get_or_default groups n d k.1 below)))
             ]);
         within =
             All-append
@@ -136,20 +139,24 @@ module _ {M : Type 0} (has_made : M → Plan → List Step → Type 0) (plan_hel
         all = λ run shorter. any_longer (λ (state : Passing plan (script_of plan)). LeadToOne has_made plan (script_of plan) state run) before.seen more (before.all run shorter);
         here = λ k e lt run first answered covers.
             elim (cases_lt k n) [
-              inl earlier ↦ any_longer (λ (state : Passing plan (script_of plan)). LeadToOne has_made plan (script_of plan) state run) before.seen more (before.here k e earlier run first answered covers)
+              | inl earlier ↦ any_longer (λ (state : Passing plan (script_of plan)). LeadToOne has_made plan (script_of plan) state run) before.seen more (before.here k e earlier run first answered covers)
               | inr later ↦ (let at : k ≡ n = omega arith in
-              let same : get_or groups k e ≡ group = ap (λ (k : ℕ). get_or groups k e) at ∙ get_or_default groups n e d below in
-              let some : Covers has_made plan done group.states.items run.made = subst (λ (group : Group M). Covers has_made plan done group.states.items run.made) same covers in
-              let run_to = to some.0 run some.1 some.2 in
-              any_later (λ (state : Passing plan (script_of plan)). LeadToOne has_made plan (script_of plan) state run) before.seen more
-              (some.0, get_or more some.0 run, omega (arith, some.2, many), get_or_default more some.0 (get_or more some.0 run) run (omega (arith, some.2, many)),
-              record {
-                first = run_to.first ∙ sym first;
-                answers = run_to.answered ∙ sym (answered ∙ ap (λ (group : Group M). group.answers) same);
-                made =
-                    subst (λ (made : List Step). CanHaveMade has_made plan made run.made) (sym run_to.made)
-                    (subst (λ (state : State M). Reaches has_made plan done state run.made) (sym some.3) some.4);
-              }))
+                  let same : get_or groups k e ≡ group = ap (λ (k : ℕ). get_or groups k e) at ∙ get_or_default groups n e d below in
+                  let some : Covers has_made plan done group.states.items run.made = subst (λ (group : Group M). Covers has_made plan done group.states.items run.made) same covers in
+                  let run_to = to some.0 run some.1 some.2 in
+                  any_later (λ (state : Passing plan (script_of plan)). LeadToOne has_made plan (script_of plan) state run) before.seen more (
+                    some.0,
+                    get_or more some.0 run,
+                    omega (arith, some.2, many),
+                    get_or_default more some.0 (get_or more some.0 run) run (omega (arith, some.2, many)),
+                    record {
+                      first = run_to.first ∙ sym first;
+                      answers = run_to.answered ∙ sym (answered ∙ ap (λ (group : Group M). group.answers) same);
+                      made =
+                          subst (λ (made : List Step). CanHaveMade has_made plan made run.made) (sym run_to.made)
+                          (subst (λ (state : State M). Reaches has_made plan done state run.made) (sym some.3) some.4);
+                    },
+                  ))
             ];
       }
 
@@ -176,12 +183,12 @@ module _ {M : Type 0} (has_made : M → Plan → List Step → Type 0) (plan_hel
         within = λ k run below. elim (whole.within k run below) [ inl shorter ↦ omega arith | inr same ↦ omega (arith, same.0) ];
         all = λ run shorter.
             elim (cases_lt (length run.first) done) [
-              inl before ↦ whole.all run before
+              | inl before ↦ whole.all run before
               | inr after ↦ (let long : length run.first ≡ done = omega arith in
-              let first : run.first ≡ take done (script_of plan) = sym (ap (λ (script : List Step). take done script) run.whole ∙ take_at run.first run.left done long) in
-              let some = full.full run.landings run.made run.answers (subst (λ (script : List Step). Runs plan script run.landings run.made run.answers) first run.run) in
-              whole.here some.0 some.1 some.2 run first (sym (ap (λ (group : Group M). group.answers) some.3 ∙ some.4.0))
-              (subst (λ (group : Group M). Covers has_made plan done group.states.items run.made) (sym some.3) some.4.1))
+                  let first : run.first ≡ take done (script_of plan) = sym (ap (λ (script : List Step). take done script) run.whole ∙ take_at run.first run.left done long) in
+                  let some = full.full run.landings run.made run.answers (subst (λ (script : List Step). Runs plan script run.landings run.made run.answers) first run.run) in
+                  whole.here some.0 some.1 some.2 run first (sym (ap (λ (group : Group M). group.answers) some.3 ∙ some.4.0))
+                  (subst (λ (group : Group M). Covers has_made plan done group.states.items run.made) (sym some.3) some.4.1))
             ];
       }
 
@@ -194,6 +201,7 @@ module _ {M : Type 0} (has_made : M → Plan → List Step → Type 0) (plan_hel
 
 -- nothing was counted yet
 module _ {M : Type 0} (has_made : M → Plan → List Step → Type 0) (plan_held : M → Plan) (key_of : M → List ℕ) (plan : Plan) where
+  -- no run has fewer steps than none
   pub count_of_none : IsCount has_made plan_held key_of plan 0 0
   count_of_none =
       record { seen = []; counted = refl; apart = λ i j d lt below. absurd (omega arith); within = λ k d below. absurd (omega arith); all = λ run shorter. absurd (omega arith) }

@@ -1,5 +1,5 @@
 -- Layers whose groups are closed one after another.
-use Rattle.std.proofs.Common.{◌≡◌, ◌∙◌, ℕ, ◌+◌, ◌<◌, ◌≤◌, inl, inr, List, [], ◌∷◌, ◌++◌, Option, Some, None, ap, arith, get_or, length, refl, set, subst, sym, take}
+use Rattle.std.proofs.Common.{◌≡◌, ◌∙◌, ℕ, ◌+◌, ◌<◌, inl, inr, List, Option, Some, None, ap, arith, get_or, length, refl, set, subst, sym, take}
 use Rattle.std.specs.Prelude.{MatchOption}
 use Rattle.std.proofs.lemmas.Bool.{cases_eq, cases_lt}
 use Rattle.std.proofs.lemmas.List.{get_or-set_other, get_or-set_same, get_or_default, length-set, take-set}
@@ -25,9 +25,11 @@ states_more groups p now below =
     ∙ ap (λ (group : Group _). states_in (take p groups) + length group.states.items) (get_or-set_same groups p now now below)
 
 module _ {M : Type 0} (has_made : M → Plan → List Step → Type 0) (plan_held : M → Plan) (key_of : M → List ℕ) (plan : Plan) (done : ℕ) where
+  -- a group to which nothing was added
   pub group_same : (group : Group M) → GroupGrown has_made plan_held key_of plan done group group
   group_same group = record { named = refl; grown = grown_same has_made plan_held key_of plan done group.states.items }
 
+  -- a group to which more was added
   group_more : (one two three : Group M) → GroupGrown has_made plan_held key_of plan done one two → GroupGrown has_made plan_held key_of plan done two three → GroupGrown has_made plan_held key_of plan done one three
   group_more one two three first second =
       record { named = second.named ∙ first.named; grown = grown_more has_made plan_held key_of plan done one.states.items two.states.items three.states.items first.grown second.grown }
@@ -44,11 +46,11 @@ module _ {M : Type 0} (has_made : M → Plan → List Step → Type 0) (plan_hel
         size = length-set now p group ∙ before.size;
         grown = λ k e lt.
             elim (cases_eq k p) [
-              inl here ↦
-              subst (λ (k : ℕ). GroupGrown has_made plan_held key_of plan done (get_or old k e) (get_or (set now p group) k e)) (sym here)
-              (subst (λ (new : Group M). GroupGrown has_made plan_held key_of plan done (get_or old p e) new) (sym (get_or-set_same now p group e below))
-              (group_more (get_or old p e) (get_or now p e) group (before.grown p e (let size = before.size in omega arith))
-              (subst (λ (old : Group M). GroupGrown has_made plan_held key_of plan done old group) (get_or_default now p d e below) grows)))
+              | inl here ↦
+                  subst (λ (k : ℕ). GroupGrown has_made plan_held key_of plan done (get_or old k e) (get_or (set now p group) k e)) (sym here)
+                  (subst (λ (new : Group M). GroupGrown has_made plan_held key_of plan done (get_or old p e) new) (sym (get_or-set_same now p group e below))
+                  (group_more (get_or old p e) (get_or now p e) group (before.grown p e (let size = before.size in omega arith))
+                  (subst (λ (old : Group M). GroupGrown has_made plan_held key_of plan done old group) (get_or_default now p d e below) grows)))
               | inr other ↦ subst (λ (new : Group M). GroupGrown has_made plan_held key_of plan done (get_or old k e) new) (sym (get_or-set_other now p k group e other)) (before.grown k e lt)
             ];
         closed = λ k e lt.
@@ -65,9 +67,9 @@ module _ {M : Type 0} (has_made : M → Plan → List Step → Type 0) (plan_hel
         grown = grown.grown;
         closed = λ k e lt.
             elim (cases_lt k p) [
-              inl earlier ↦ grown.closed k e earlier
+              | inl earlier ↦ grown.closed k e earlier
               | inr later ↦ (let here : p ≡ k = omega arith in
-              subst (λ (k : ℕ). AreClosed has_made plan done (get_or (set now p group) k e).states.items) here
-              (subst (λ (new : Group M). AreClosed has_made plan done new.states.items) (sym (get_or-set_same now p group e below)) closed))
+                  subst (λ (k : ℕ). AreClosed has_made plan done (get_or (set now p group) k e).states.items) here
+                  (subst (λ (new : Group M). AreClosed has_made plan done new.states.items) (sym (get_or-set_same now p group e below)) closed))
             ];
       }

@@ -1,18 +1,17 @@
 -- States to which others are added at the end.
-use Rattle.std.proofs.Common.{◌≡◌, ◌∙◌, ℕ, ◌+◌, ◌<◌, ◌≤◌, List, [], ◌∷◌, ◌++◌, append-nil, append_assoc, ap, arith, get_or, length, refl, subst, sym, take, true, false, Bool}
-use Rattle.std.specs.List.{All, AllPairs, Any}
+use Rattle.std.proofs.Common.{◌≡◌, ◌∙◌, ℕ, ◌<◌, ◌≤◌, List, [], ◌∷◌, ◌++◌, append-nil, append_assoc, ap, arith, get_or, length, refl, subst, sym, take, true}
+use Rattle.std.specs.List.{All}
 use Rattle.std.proofs.lemmas.List.{get_or_append_left, get_or_default, length-append, length-take-le}
 use Rattle.std.proofs.lemmas.List.Elements.{All-push}
 use Rattle.std.proofs.lemmas.List.Quantifiers.{all_pairs_push}
 use Rattle.step_kinds.specs.declared.plan.Plan.{Plan}
 use Rattle.step_kinds.specs.declared.steps.Step.{Step}
 use Rattle.explore_model.specs.Schedules.{Runs, answer_after, is_landed, landing_step, lands}
-use Rattle.explore_model.specs.States.{CanHaveMade}
 use Rattle.explore_model.specs.declared.outcome.Landing.{Landing}
 use Rattle.explore_search.specs.Machines.{HaveSameSteps}
 use Rattle.explore_search.specs.Paths.{path, script_of}
 use Rattle.explore_search.specs.Spread.{IsNext, IsSpread, Lands}
-use Rattle.explore_search.specs.States.{AreTwo, Covers, HasRun, HaveGrown, IsState, Joined, Reaches, added, found, made_to}
+use Rattle.explore_search.specs.States.{Covers, HasRun, HaveGrown, IsState, Joined, Reaches, added, found, made_to}
 use Rattle.explore_search.specs.declared.states.State.{State}
 use Rattle.explore_search.proofs.AlongPaths.{path_lands}
 use Rattle.explore_search.proofs.Lists.{any_last, any_longer, any_weaker}
@@ -47,6 +46,7 @@ module _ {M : Type 0} (has_made : M → Plan → List Step → Type 0) (plan_hel
       let size = ap length grown.is ∙ length-append old grown.added in
       omega arith
 
+  -- an earlier one stands where it stood
   pub stands_still : (old new : List (State M)) (k : ℕ) (d : State M) → HaveGrown has_made plan_held key_of plan done old new → k < length old → get_or new k d ≡ get_or old k d
   stands_still old new k d grown below =
       ap (λ (states : List (State M)). get_or states k d) grown.is ∙ get_or_append_left old grown.added d k below
@@ -56,6 +56,7 @@ module _ {M : Type 0} (has_made : M → Plan → List Step → Type 0) (plan_hel
       Lands has_made plan done old state landing → Lands has_made plan done new state landing
   lands_kept old new state landing grown lead made reaches landed = covers_kept old new (made ++ landing_step landing ∷ []) grown (lead made reaches landed)
 
+  -- states that were spread stay so
   pub spread_kept : (old new : List (State M)) (state : State M) → HaveGrown has_made plan_held key_of plan done old new →
       IsSpread has_made plan done old state → IsSpread has_made plan done new state
   spread_kept old new state grown spread landing next = lands_kept old new state landing grown (spread landing next)
@@ -75,9 +76,13 @@ module _ {M : Type 0} (has_made : M → Plan → List Step → Type 0) (plan_hel
             (subst (λ (landings : List Landing). Runs plan (take done (script_of plan)) landings (path (script_of plan) landings done) answers) (sym same) (run answers all));
         two = λ apart.
             all_pairs_push (λ (one other : State M). Reaches has_made plan done one (made_to plan done other) → ⊥) old state apart
-            (λ k d below reaches. none
-            (k, get_or old k d, below, get_or_default old k (get_or old k d) d below,
-            subst (λ (landings : List Landing). Reaches has_made plan done (get_or old k d) (path (script_of plan) landings done)) same reaches));
+            (λ k d below reaches. none (
+              k,
+              get_or old k d,
+              below,
+              get_or_default old k (get_or old k d) d below,
+              subst (λ (landings : List Landing). Reaches has_made plan done (get_or old k d) (path (script_of plan) landings done)) same reaches,
+            ));
       }
 
   -- what a machine has made whose state was to be among them is covered

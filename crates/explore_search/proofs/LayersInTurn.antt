@@ -1,7 +1,5 @@
 -- What the closing of a layer comes to, for the outcomes, for the count of states, and for the next layer.
-use Rattle.std.proofs.Common.{◌≡◌, ◌∙◌, ℕ, ◌+◌, ◌<◌, ◌≤◌, List, Option, Some, None, arith, length, map, subst, sym, take}
-use Rattle.std.specs.List.{All}
-use Rattle.std.specs.Prelude.{MatchOption}
+use Rattle.std.proofs.Common.{◌≡◌, ◌∙◌, ℕ, ◌+◌, ◌<◌, ◌≤◌, List, Option, Some, arith, length, map, subst, sym, take}
 use Rattle.std.proofs.lemmas.List.{length-map}
 use Rattle.step_kinds.specs.declared.plan.Line.{Line}
 use Rattle.step_kinds.specs.declared.plan.Plan.{Plan}
@@ -28,13 +26,16 @@ module _ {M : Type 0} (has_made : M → Plan → List Step → Type 0) (plan_hel
       let all : LayerClosed has_made plan_held key_of plan done before limit old new (Some count) = subst (λ (found : Option ℕ). LayerClosed has_made plan_held key_of plan done before limit old new found) is closed in
       full_of_closed has_made plan_held key_of plan done old new (omega arith) all.0 based
 
+  -- its states are counted, and there are no more than the limit
   pub count_of_some : (before limit count : ℕ) (old new : List (Group M)) (found : Option ℕ) → done ≤ length plan.steps → found ≡ Some count → LayerClosed has_made plan_held key_of plan done before limit old new found →
       IsBased has_made plan_held key_of plan done old → IsCount has_made plan_held key_of plan done before → IsCount has_made plan_held key_of plan (done + 1) count × (count ≤ limit)
   count_of_some before limit count old new found within is closed based counted =
       let steps = length-map plan.steps (λ (line : Line). line.step) in
-      let all : LayerClosed has_made plan_held key_of plan done before limit old new (Some count) = subst (λ (found : Option ℕ). LayerClosed has_made plan_held key_of plan done before limit old new found) is closed in
-      (subst (λ (count : ℕ). IsCount has_made plan_held key_of plan (done + 1) count) (sym all.1)
-      (count_of_layer has_made plan_held key_of plan done new before (omega arith) (full_of_some before limit count old new found within is closed based) counted), all.2)
+      let all : LayerClosed has_made plan_held key_of plan done before limit old new (Some count) = subst (λ (found : Option ℕ). LayerClosed has_made plan_held key_of plan done before limit old new found) is closed in (
+        subst (λ (count : ℕ). IsCount has_made plan_held key_of plan (done + 1) count) (sym all.1)
+            (count_of_layer has_made plan_held key_of plan done new before (omega arith) (full_of_some before limit count old new found within is closed based) counted),
+        all.2,
+      )
 
   -- it had none
   pub more_of_none : (before limit : ℕ) (old new : List (Group M)) (found : Option ℕ) → done ≤ length plan.steps → ((count : ℕ) → found ≡ Some count → ⊥) → LayerClosed has_made plan_held key_of plan done before limit old new found →
@@ -57,6 +58,7 @@ module _ {M : Type 0} (has_made : M → Plan → List Step → Type 0) (plan_hel
   last_explored done layer found all full is =
       explored_of_full has_made plan_held key_of plan layer found (subst (λ (done : ℕ). IsFull has_made plan_held key_of plan done layer) all full) is
 
+  -- all states are counted then
   pub last_counted : (done count : ℕ) → done ≡ length plan.steps → IsCount has_made plan_held key_of plan (done + 1) count → IsCensus has_made plan (script_of plan) count
   last_counted done count all is =
       let steps = length-map plan.steps (λ (line : Line). line.step) in

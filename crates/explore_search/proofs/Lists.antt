@@ -39,9 +39,9 @@ pub each_more : {X : Type 0} (P Q : X → Type 0) (xs : List X) (i : ℕ) (d : X
     ((k : ℕ) (e : X) → k < i → P (get_or xs k e)) → Q (get_or xs i d) → (k : ℕ) (e : X) → k < i + 1 → Q (get_or xs k e)
 each_more P Q xs i d below so before here k e within =
     elim (cases_lt k i) [
-      inl earlier ↦ so (get_or xs k e) (before k e earlier)
+      | inl earlier ↦ so (get_or xs k e) (before k e earlier)
       | inr later ↦ (let same : i ≡ k = omega arith in
-      subst Q (get_or_default xs k d e (omega arith)) (subst (λ (k : ℕ). Q (get_or xs k d)) same here))
+          subst Q (get_or_default xs k d e (omega arith)) (subst (λ (k : ℕ). Q (get_or xs k d)) same here))
     ]
 
 -- what holds of all pairs holds where an item is put in, which stands in relation to those before it and after it
@@ -50,23 +50,23 @@ pub pairs_with_insert : {X : Type 0} (R : X → X → Type 0) (xs : List X) (p :
 pairs_with_insert {X} R xs p y within pairs before after i j d lt below =
     let size = length-insert xs p y within in
     elim (cases_lt j p) [
-      inl j_before ↦ two (get_or-insert_below xs p y d i (omega arith) within) (get_or-insert_below xs p y d j j_before within) (pairs i j d lt (omega arith))
+      | inl j_before ↦ two (get_or-insert_below xs p y d i (omega arith) within) (get_or-insert_below xs p y d j j_before within) (pairs i j d lt (omega arith))
       | inr j_after ↦ elim (cases_lt p j) [
-        inl j_beyond ↦ (let j_is : (j - 1) + 1 ≡ j = omega arith in
-        let at_j : get_or (insert xs p y) j d ≡ get_or xs (j - 1) d =
-        subst (λ (n : ℕ). get_or (insert xs p y) n d ≡ get_or xs (j - 1) d) j_is (get_or-insert_above xs p y d (j - 1) (omega arith) within) in
-        elim (cases_lt i p) [
-          inl i_before ↦ two (get_or-insert_below xs p y d i i_before within) at_j (pairs i (j - 1) d (omega arith) (omega arith))
-          | inr i_after ↦ elim (cases_lt p i) [
-            inl i_beyond ↦ (let i_is : (i - 1) + 1 ≡ i = omega arith in
-            two (subst (λ (n : ℕ). get_or (insert xs p y) n d ≡ get_or xs (i - 1) d) i_is (get_or-insert_above xs p y d (i - 1) (omega arith) within)) at_j
-            (pairs (i - 1) (j - 1) d (omega arith) (omega arith)))
-            | inr i_here ↦ (let i_is : p ≡ i = omega arith in
-            two (subst (λ (n : ℕ). get_or (insert xs p y) n d ≡ y) i_is (get_or-insert_at xs p y d within)) at_j (after (j - 1) d (omega arith) (omega arith)))
-          ]
-        ])
+        | inl j_beyond ↦ (let j_is : (j - 1) + 1 ≡ j = omega arith in
+            let at_j : get_or (insert xs p y) j d ≡ get_or xs (j - 1) d =
+            subst (λ (n : ℕ). get_or (insert xs p y) n d ≡ get_or xs (j - 1) d) j_is (get_or-insert_above xs p y d (j - 1) (omega arith) within) in
+            elim (cases_lt i p) [
+              | inl i_before ↦ two (get_or-insert_below xs p y d i i_before within) at_j (pairs i (j - 1) d (omega arith) (omega arith))
+              | inr i_after ↦ elim (cases_lt p i) [
+                | inl i_beyond ↦ (let i_is : (i - 1) + 1 ≡ i = omega arith in
+                    two (subst (λ (n : ℕ). get_or (insert xs p y) n d ≡ get_or xs (i - 1) d) i_is (get_or-insert_above xs p y d (i - 1) (omega arith) within)) at_j
+                    (pairs (i - 1) (j - 1) d (omega arith) (omega arith)))
+                | inr i_here ↦ (let i_is : p ≡ i = omega arith in
+                    two (subst (λ (n : ℕ). get_or (insert xs p y) n d ≡ y) i_is (get_or-insert_at xs p y d within)) at_j (after (j - 1) d (omega arith) (omega arith)))
+              ]
+            ])
         | inr j_here ↦ (let j_is : p ≡ j = omega arith in
-        two (get_or-insert_below xs p y d i (omega arith) within) (subst (λ (n : ℕ). get_or (insert xs p y) n d ≡ y) j_is (get_or-insert_at xs p y d within)) (before i d (omega arith)))
+            two (get_or-insert_below xs p y d i (omega arith) within) (subst (λ (n : ℕ). get_or (insert xs p y) n d ≡ y) j_is (get_or-insert_at xs p y d within)) (before i d (omega arith)))
       ]
     ]
   where
@@ -83,7 +83,7 @@ pub any_with_insert : {X : Type 0} (P : X → Type 0) (xs : List X) (p : ℕ) (y
 any_with_insert P xs p y within some =
     let size = length-insert xs p y within in
     elim (cases_lt some.0 p) [
-      inl before ↦ (some.0, some.1, omega (arith, some.2), get_or-insert_below xs p y some.1 some.0 before within ∙ some.3, some.4)
+      | inl before ↦ (some.0, some.1, omega (arith, some.2), get_or-insert_below xs p y some.1 some.0 before within ∙ some.3, some.4)
       | inr after ↦ (some.0 + 1, some.1, omega (arith, some.2), get_or-insert_above xs p y some.1 some.0 after within ∙ some.3, some.4)
     ]
 
@@ -98,11 +98,17 @@ pub any_with_set : {X : Type 0} (P : X → Type 0) (xs : List X) (p : ℕ) (x y 
 any_with_set P xs p x y below is so some =
     let size = length-set xs p y in
     elim (cases_eq some.0 p) [
-      inl here ↦ (p, y, omega arith, get_or-set_same xs p y y below,
-      so (subst P (sym some.3 ∙ ap (λ (k : ℕ). get_or xs k some.1) here ∙ sym (get_or_read xs p x below is some.1)) some.4))
+      | inl here ↦ (
+        p,
+        y,
+        omega arith,
+        get_or-set_same xs p y y below,
+        so (subst P (sym some.3 ∙ ap (λ (k : ℕ). get_or xs k some.1) here ∙ sym (get_or_read xs p x below is some.1)) some.4),
+      )
       | inr other ↦ (some.0, some.1, omega (arith, some.2), get_or-set_other xs p some.0 y some.1 other ∙ some.3, some.4)
     ]
 
+-- an item that is put in another's place is some item
 pub any_set : {X : Type 0} (P : X → Type 0) (xs : List X) (p : ℕ) (y : X) → p < length xs → P y → Any P (set xs p y)
 any_set P xs p y below is =
     let size = length-set xs p y in

@@ -1,8 +1,6 @@
 -- The layer to which the next step leads.
-use Rattle.std.proofs.Common.{◌≡◌, ◌∙◌, ℕ, ◌+◌, ◌<◌, ◌≤◌, List, [], ◌∷◌, ◌++◌, ap, arith, get_or, length, map, refl, subst, sym, take, Less}
-use Rattle.std.specs.Cmp.Lexicographic.{slice_cmp}
-use Rattle.std.specs.List.{All, AllPairs, Any}
-use Rattle.std.specs.Ordering.{nat_cmp}
+use Rattle.std.proofs.Common.{◌≡◌, ◌∙◌, ℕ, ◌+◌, ◌<◌, ◌≤◌, List, [], ◌∷◌, ◌++◌, ap, arith, get_or, length, map, subst, sym, Less}
+use Rattle.std.specs.List.{All, AllPairs}
 use Rattle.std.proofs.lemmas.List.{get_or-map, get_or_default, length-map, length-take-le}
 use Rattle.std.proofs.lemmas.List.Elements.{All-append, All-map}
 use Rattle.step_kinds.specs.declared.plan.Plan.{Plan}
@@ -39,16 +37,20 @@ module _ {M : Type 0} (has_made : M → Plan → List Step → Type 0) (plan_hel
             (λ k d below. ((get_or branches k d).text, ap (λ (answers : List (List ℕ)). answers ++ (get_or branches k d).text ∷ []) (sym same)));
       })
 
+  -- what they cover
   pub covers_of_branches : (answers : List (List ℕ)) (group : Group M) (branches : List (Branch M)) (groups : List (Group M)) → group.answers ≡ answers →
       HaveBranched has_made plan_held key_of plan done group.states.items branches → groups ≡ map (with_answers answers) branches → GroupsCover has_made plan_held key_of plan done group groups
   covers_of_branches answers group branches groups same have is made covers =
       let some = have.taken made covers in
       let size = length-map branches (with_answers {M = M} answers) in
       let named : List (Group M) = map (with_answers answers) branches in
-      subst (λ (groups : List (Group M)). LayerCovers has_made plan_held key_of plan (done + 1) groups (group.answers ++ text_after plan made (step_at plan done) ∷ []) (made ++ step_at plan done ∷ [])) (sym is)
-      (some.0, with_answers answers some.1, omega (arith, some.2),
-      get_or-map (with_answers answers) branches some.0 some.1 (with_answers answers some.1) some.2 ∙ ap (with_answers answers) some.3,
-      (ap (λ (text : List ℕ). answers ++ text ∷ []) some.4.0 ∙ ap (λ (answers : List (List ℕ)). answers ++ text_after plan made (step_at plan done) ∷ []) (sym same), some.4.1))
+      subst (λ (groups : List (Group M)). LayerCovers has_made plan_held key_of plan (done + 1) groups (group.answers ++ text_after plan made (step_at plan done) ∷ []) (made ++ step_at plan done ∷ [])) (sym is) (
+        some.0,
+        with_answers answers some.1,
+        omega (arith, some.2),
+        get_or-map (with_answers answers) branches some.0 some.1 (with_answers answers some.1) some.2 ∙ ap (with_answers answers) some.3,
+        (ap (λ (text : List ℕ). answers ++ text ∷ []) some.4.0 ∙ ap (λ (answers : List (List ℕ)). answers ++ text_after plan made (step_at plan done) ∷ []) (sym same), some.4.1),
+      )
 
   -- a group comes from one of the first of a layer
   abbrev pub ComesFrom : List (Group M) → ℕ → Group M → Type 0
@@ -64,6 +66,7 @@ module _ {M : Type 0} (has_made : M → Plan → List Step → Type 0) (plan_hel
     pub covers : (k : ℕ) (d : Group M) → k < count → (made : List Step) → Covers has_made plan done (get_or layer k d).states.items made →
         LayerCovers has_made plan_held key_of plan (done + 1) next ((get_or layer k d).answers ++ text_after plan made (step_at plan done) ∷ []) (made ++ step_at plan done ∷ [])
 
+  -- no group yet
   pub next_of_none : (layer : List (Group M)) → IsNextOf layer 0 []
   next_of_none layer =
       record {
@@ -84,6 +87,7 @@ module _ {M : Type 0} (has_made : M → Plan → List Step → Type 0) (plan_hel
       subst (λ (states : List (State M)). HasRun plan done (get_or layer k d).answers (get_or states 0 first.first)) first.is (are.runs 0 first.first (omega arith)) in
       as_many_answers plan run ∙ length-take-le done (script_of plan) within
 
+  -- the groups of one more
   pub next_of_more : (layer : List (Group M)) (count : ℕ) (next groups : List (Group M)) (group : Group M) → done ≤ length (script_of plan) → count < length layer → group ≡ get_or layer count group →
       IsNextOf layer count next → HasGroups has_made plan_held key_of plan done group groups → GroupsCover has_made plan_held key_of plan done group groups →
       IsNextOf layer (count + 1) (next ++ groups)
@@ -126,6 +130,7 @@ module _ {M : Type 0} (has_made : M → Plan → List Step → Type 0) (plan_hel
             k d lt;
       }
 
+  -- the groups of all are the next layer
   pub next_of_all : (layer : List (Group M)) (count : ℕ) (next : List (Group M)) → length layer ≤ count → IsNextOf layer count next → HasNext has_made plan_held key_of plan done layer next
   next_of_all layer count next all before =
       record {

@@ -1,5 +1,5 @@
 -- The order of answers with one more answer each.
-use Rattle.std.proofs.Common.{◌≡◌, ◌∙◌, ℕ, suc, ◌+◌, ◌-◌, ◌<◌, ◌≤◌, inl, inr, List, [], ◌∷◌, ◌++◌, ap, arith, get_or, length, refl, subst, sym, take, Ordering, Less, Equal, Greater}
+use Rattle.std.proofs.Common.{◌≡◌, ◌∙◌, ℕ, ◌-◌, ◌<◌, inl, inr, List, [], ◌∷◌, ◌++◌, ap, arith, get_or, length, refl, subst, sym, Ordering, Less, Equal, Greater}
 use Rattle.std.specs.Cmp.Lexicographic.{slice_cmp}
 use Rattle.std.specs.List.{AllPairs}
 use Rattle.std.specs.Ordering.{nat_cmp, ordering_then, ordering_reverse}
@@ -45,14 +45,14 @@ pub pairs_append : {X : Type 0} (R : X → X → Type 0) (xs ys : List X) → Al
 pairs_append R xs ys first second across i j d lt below =
     let size = length-append xs ys in
     elim (cases_lt j (length xs)) [
-      inl j_in ↦ subst (λ (x : _). R x (get_or (xs ++ ys) j d)) (sym (get_or_append_left xs ys d i (omega arith)))
-      (subst (λ (y : _). R (get_or xs i d) y) (sym (get_or_append_left xs ys d j j_in)) (first i j d lt j_in))
+      | inl j_in ↦ subst (λ (x : _). R x (get_or (xs ++ ys) j d)) (sym (get_or_append_left xs ys d i (omega arith)))
+          (subst (λ (y : _). R (get_or xs i d) y) (sym (get_or_append_left xs ys d j j_in)) (first i j d lt j_in))
       | inr j_after ↦ subst (λ (y : _). R (get_or (xs ++ ys) i d) y) (sym (get_or-append_right xs ys (length xs) j d refl j_after))
-      (elim (cases_lt i (length xs)) [
-        inl i_in ↦ subst (λ (x : _). R x (get_or ys (j - length xs) d)) (sym (get_or_append_left xs ys d i i_in)) (across i (j - length xs) d i_in (omega arith))
-        | inr i_after ↦ subst (λ (x : _). R x (get_or ys (j - length xs) d)) (sym (get_or-append_right xs ys (length xs) i d refl i_after))
-        (second (i - length xs) (j - length xs) d (omega arith) (omega arith))
-      ])
+          (elim (cases_lt i (length xs)) [
+            | inl i_in ↦ subst (λ (x : _). R x (get_or ys (j - length xs) d)) (sym (get_or_append_left xs ys d i i_in)) (across i (j - length xs) d i_in (omega arith))
+            | inr i_after ↦ subst (λ (x : _). R x (get_or ys (j - length xs) d)) (sym (get_or-append_right xs ys (length xs) i d refl i_after))
+                (second (i - length xs) (j - length xs) d (omega arith) (omega arith))
+          ])
     ]
 
 -- a run has an answer for each step of its script

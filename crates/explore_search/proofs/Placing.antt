@@ -1,8 +1,7 @@
 -- States that are put into the branches of their texts.
-use Rattle.std.proofs.Common.{◌≡◌, ◌∙◌, ℕ, ◌+◌, ◌<◌, ◌≤◌, inl, inr, List, [], ◌∷◌, ◌++◌, Vec, Global, ap, arith, get_or, length, refl, set, subst, sym, take}
-use Rattle.std.specs.Cmp.{IsTotalOrder}
+use Rattle.std.proofs.Common.{◌≡◌, ◌∙◌, ℕ, ◌<◌, ◌≤◌, inl, inr, List, [], ◌∷◌, ◌++◌, ap, arith, get_or, length, refl, set, subst, sym, take}
 use Rattle.std.specs.Cmp.Lexicographic.{slice_cmp}
-use Rattle.std.specs.List.{All, AllPairs, Any, insert}
+use Rattle.std.specs.List.{All, insert}
 use Rattle.std.specs.Ordering.{nat_cmp, ordering_reverse}
 use Rattle.std.specs.declared.cmp.Ordering.TheVariants.{Less, Greater}
 use Rattle.std.proofs.lemmas.Bool.{cases_eq, cases_lt}
@@ -14,13 +13,13 @@ use Rattle.step_kinds.specs.declared.plan.Plan.{Plan}
 use Rattle.step_kinds.specs.declared.steps.Step.{Step}
 use Rattle.explore_model.specs.Schedules.{Runs}
 use Rattle.explore_model.specs.declared.outcome.Landing.{Landing}
-use Rattle.explore_search.specs.Layers.{AreBranches, AreKept, AreOrdered, AreStates, BeginsBefore, BranchCovers, HasPlaced}
+use Rattle.explore_search.specs.Layers.{AreKept, AreOrdered, AreStates, HasPlaced}
 use Rattle.explore_search.specs.Machines.{HaveSameSteps}
 use Rattle.explore_search.specs.Paths.{path, script_of}
-use Rattle.explore_search.specs.States.{AreTwo, Covers, HasRun, HaveGrown, IsState, Joined, Reaches, added, found}
+use Rattle.explore_search.specs.States.{Covers, HasRun, IsState, Joined, Reaches, added, found}
 use Rattle.explore_search.specs.declared.layers.Branch.{Branch}
 use Rattle.explore_search.specs.declared.states.State.{State}
-use Rattle.explore_search.proofs.Growing.{covered_by_join, covers_kept, grown_by_join}
+use Rattle.explore_search.proofs.Growing.{covered_by_join, grown_by_join}
 use Rattle.explore_search.proofs.Lists.{all_with_insert, any_at, any_inserted, any_longer, any_none, any_set, any_with_insert, any_with_set, pairs_with_insert}
 
 module _ {M : Type 0} (has_made : M → Plan → List Step → Type 0) (plan_held : M → Plan) (key_of : M → List ℕ) (plan : Plan) (done : ℕ) where
@@ -30,11 +29,13 @@ module _ {M : Type 0} (has_made : M → Plan → List Step → Type 0) (plan_hel
   kept_by_join landings old new (found covers) all = all
   kept_by_join landings old new (added state is same none) all = All-push (IsState has_made plan_held key_of plan done) old state all is
 
+  -- what they covered they cover
   pub covers_by_join : (landings : List Landing) (old new : List (State M)) (made : List Step) → Joined has_made plan_held key_of plan done landings old new →
       Covers has_made plan done old made → Covers has_made plan done new made
   covers_by_join landings old new made (found covers) some = some
   covers_by_join landings old new made (added state is same none) some = any_longer (λ (state : State M). Reaches has_made plan done state made) old (state ∷ []) some
 
+  -- they are states with the same answers
   pub states_by_join : (answers : List (List ℕ)) (landings : List Landing) (old new : List (State M)) → Joined has_made plan_held key_of plan done landings old new →
       Runs plan (take done (script_of plan)) landings (path (script_of plan) landings done) answers →
       AreStates has_made plan_held key_of plan done answers old → AreStates has_made plan_held key_of plan done answers new
@@ -75,8 +76,8 @@ module _ {M : Type 0} (has_made : M → Plan → List Step → Type 0) (plan_hel
       text_at : (k : ℕ) → k < length old → (get_or (set old p now) k d).text ≡ (get_or old k d).text
       text_at k k_below =
           elim (cases_eq k p) [
-            inl here ↦ ap (λ (k : ℕ). (get_or (set old p now) k d).text) here ∙ ap (λ (branch : Branch M). branch.text) (get_or-set_same old p now d below) ∙ same
-            ∙ ap (λ (branch : Branch M). branch.text) (get_or_read old p branch below is d) ∙ ap (λ (k : ℕ). (get_or old k d).text) (sym here)
+            | inl here ↦ ap (λ (k : ℕ). (get_or (set old p now) k d).text) here ∙ ap (λ (branch : Branch M). branch.text) (get_or-set_same old p now d below) ∙ same
+                ∙ ap (λ (branch : Branch M). branch.text) (get_or_read old p branch below is d) ∙ ap (λ (k : ℕ). (get_or old k d).text) (sym here)
             | inr other ↦ ap (λ (branch : Branch M). branch.text) (get_or-set_other old p k now d other)
           ]
 
@@ -138,7 +139,7 @@ module _ {M : Type 0} (has_made : M → Plan → List Step → Type 0) (plan_hel
       beyond : AreOrdered old → (k : ℕ) (d : Branch M) → p ≤ k → k < length old → slice_cmp nat_cmp text (get_or old k d).text ≡ Less
       beyond ordered k d le lt =
           elim (cases_lt p k) [
-            inl further ↦ nat_list_cmp_total.trans text (get_or old p d).text (get_or old k d).text (below_at d (omega arith)) (ordered p k d further lt)
+            | inl further ↦ nat_list_cmp_total.trans text (get_or old p d).text (get_or old k d).text (below_at d (omega arith)) (ordered p k d further lt)
             | inr here ↦ (let same : p ≡ k = omega arith in
-            subst (λ (k : ℕ). slice_cmp nat_cmp text (get_or old k d).text ≡ Less) same (below_at d (omega arith)))
+                subst (λ (k : ℕ). slice_cmp nat_cmp text (get_or old k d).text ≡ Less) same (below_at d (omega arith)))
           ]

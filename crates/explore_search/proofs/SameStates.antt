@@ -1,6 +1,5 @@
 -- When a state is that of a machine.
 use Rattle.std.proofs.Common.{inl, inr, ◌≡◌, ◌∙◌, ◌↔◌, ℕ, ◌+◌, ◌<◌, ◌≤◌, Bool, IsTrue, List, arith, get_or, length, subst, sym}
-use Rattle.std.specs.List.{All}
 use Rattle.std.proofs.lemmas.Bool.{cases_lt}
 use Rattle.std.proofs.lemmas.List.{get_or_read}
 use Rattle.step_kinds.specs.declared.plan.Plan.{Plan}
@@ -15,18 +14,16 @@ module _ {M : Type 0} (has_made : M → Plan → List Step → Type 0) where
   pub made_alike : (same : HaveSameSteps has_made) (plan : Plan) (one two three : List Step) → CanHaveMade has_made plan one two → CanHaveMade has_made plan two three → CanHaveMade has_made plan one three
   made_alike same plan one two three first second = (first.0, first.1, same plan two three second.0 first.0 second.1 first.2 second.2)
 
-  pub made_back : (plan : Plan) (one two : List Step) → CanHaveMade has_made plan one two → CanHaveMade has_made plan two one
-  made_back plan one two can = (can.0, can.2, can.1)
-
   -- a machine that was made anew at a state, and says whether it is the same as another
   pub same_answer : (same : HaveSameSteps has_made) (plan : Plan) (done : ℕ) (state : State M) (again machine : M) (made : List Step) (answer : Bool) →
       has_made again plan (made_to plan done state) → has_made machine plan made →
       (IsTrue answer → (plan : Plan) (steps : List Step) → has_made again plan steps → has_made machine plan steps) →
       ((plan : Plan) (steps : List Step) → has_made again plan steps → has_made machine plan steps → IsTrue answer) →
       IsTrue answer ↔ Reaches has_made plan done state made
-  same_answer same plan done state again machine made answer at has merges apart =
-      (λ yes. (machine, merges yes plan (made_to plan done state) at, has),
-      λ reaches. apart plan made (same plan (made_to plan done state) made reaches.0 again reaches.1 at reaches.2) has)
+  same_answer same plan done state again machine made answer at has merges apart = (
+    λ yes. (machine, merges yes plan (made_to plan done state) at, has),
+    λ reaches. apart plan made (same plan (made_to plan done state) made reaches.0 again reaches.1 at reaches.2) has,
+  )
 
   -- of some states none is the machine's, and neither is the next
   pub none_more : (plan : Plan) (done : ℕ) (states : List (State M)) (made : List Step) (i : ℕ) (state : State M) → state ≡ get_or states i state →
@@ -34,10 +31,10 @@ module _ {M : Type 0} (has_made : M → Plan → List Step → Type 0) where
       (k : ℕ) (d : State M) → k < i + 1 → Reaches has_made plan done (get_or states k d) made → ⊥
   none_more plan done states made i state is none not below k d within reaches =
       elim (cases_lt k i) [
-        inl before ↦ none k d before reaches
+        | inl before ↦ none k d before reaches
         | inr after ↦ (let here : k ≡ i = omega arith in
-        not (subst (λ (state : State M). Reaches has_made plan done state made) (sym (get_or_read states i state below is d))
-        (subst (λ (k : ℕ). Reaches has_made plan done (get_or states k d) made) here reaches)))
+            not (subst (λ (state : State M). Reaches has_made plan done state made) (sym (get_or_read states i state below is d))
+            (subst (λ (k : ℕ). Reaches has_made plan done (get_or states k d) made) here reaches)))
       ]
 
   -- none of them all is

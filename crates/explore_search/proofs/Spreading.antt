@@ -1,6 +1,6 @@
 -- States from which all landings were tried.
 use Rattle.std.proofs.Common.{◌≡◌, ◌∙◌, ℕ, ◌+◌, ◌<◌, ◌≤◌, inl, inr, List, arith, get_or, length, subst, sym, ap}
-use Rattle.std.specs.List.{Contains, HoldsAt}
+use Rattle.std.specs.List.{HoldsAt}
 use Rattle.std.proofs.lemmas.List.{get_or_read}
 use Rattle.step_kinds.specs.declared.plan.Plan.{Plan}
 use Rattle.step_kinds.specs.declared.steps.Step.{Step}
@@ -9,7 +9,7 @@ use Rattle.explore_model.specs.declared.outcome.Landing.{Landing}
 use Rattle.explore_search.specs.Spread.{AreTried, IsSpread, Lands}
 use Rattle.explore_search.specs.States.{HaveGrown, Reaches}
 use Rattle.explore_search.specs.declared.states.State.{State}
-use Rattle.explore_search.proofs.Growing.{lands_kept, no_fewer, spread_kept, stands_still}
+use Rattle.explore_search.proofs.Growing.{lands_kept, spread_kept, stands_still}
 use Rattle.explore_search.proofs.Landed.{nothing_not_landed}
 use Rattle.explore_search.proofs.Lists.{each_more}
 
@@ -34,13 +34,13 @@ module _ {M : Type 0} (has_made : M → Plan → List Step → Type 0) (plan_hel
       HoldsAt (IsSpread has_made plan done new) old from
   spread_by_tried old new from state items landings i below is same all tried led d landing next =
       elim (tried.all landing next) [
-        inl has ↦ (let size = ap length same in
-        subst (λ (landing : Landing). Lands has_made plan done new (get_or old from d) landing)
-        (ap (λ (landings : List Landing). get_or landings has.0 landing) same ∙ has.2) (led has.0 landing d (omega (arith, has.1))))
+        | inl has ↦ (let size = ap length same in
+            subst (λ (landing : Landing). Lands has_made plan done new (get_or old from d) landing)
+            (ap (λ (landings : List Landing). get_or landings has.0 landing) same ∙ has.2) (led has.0 landing d (omega (arith, has.1))))
         | inr idle ↦ (λ made reaches landed.
-        absurd
-        (nothing_not_landed (answer_after plan made (landing_step landing))
-        (idle made (subst (λ (state : State M). Reaches has_made plan done state made) (sym (get_or_read old from state below is d)) reaches)) landed))
+            absurd
+            (nothing_not_landed (answer_after plan made (landing_step landing))
+            (idle made (subst (λ (state : State M). Reaches has_made plan done state made) (sym (get_or_read old from state below is d)) reaches)) landed))
       ]
 
   -- one state more was spread

@@ -1,6 +1,6 @@
 -- Layers have all runs: closing adds those that end with landings, and the next step leads on.
-use Rattle.std.proofs.Common.{◌≡◌, ◌∙◌, ℕ, suc, ◌+◌, ◌<◌, ◌≤◌, inl, inr, List, [], ◌∷◌, ◌++◌, ap, arith, get_or, length, map, refl, subst, sym, take, true, Less}
-use Rattle.std.specs.List.{All, AllPairs, Any}
+use Rattle.std.proofs.Common.{◌≡◌, ◌∙◌, ℕ, ◌+◌, ◌<◌, ◌≤◌, List, [], ◌∷◌, ◌++◌, ap, arith, get_or, length, map, refl, subst, sym, take, Less}
+use Rattle.std.specs.List.{All}
 use Rattle.std.proofs.lemmas.List.{get_or-map, get_or_default, length_push, length-map, length-take-le, same_from_push, take_all, take_more}
 use Rattle.std.proofs.lemmas.List.Elements.{All-cons, All-map}
 use Rattle.step_kinds.specs.declared.plan.Line.{Line}
@@ -8,7 +8,7 @@ use Rattle.step_kinds.specs.declared.plan.Plan.{Plan}
 use Rattle.step_kinds.specs.declared.steps.Step.{Step}
 use Rattle.step_kinds.specs.declared.steps.Step.TheVariants.{Train}
 use Rattle.explore_model.specs.Outcomes.{IsExplored, IsOutcome, answers_cmp}
-use Rattle.explore_model.specs.Schedules.{Runs, answer_after, begun, goes_on, is_landed, landing_step, lands, text_after}
+use Rattle.explore_model.specs.Schedules.{Runs, begun, goes_on, landing_step, lands, text_after}
 use Rattle.explore_model.specs.declared.outcome.Landing.{Landing}
 use Rattle.explore_model.specs.declared.outcome.Outcome.{Outcome}
 use Rattle.explore_search.specs.Closing.{ClosedUpTo}
@@ -33,11 +33,17 @@ module _ {M : Type 0} (has_made : M → Plan → List Step → Type 0) (plan_hel
       let k = some.0 in
       let grows = closed.grown k some.1 some.2 in
       let size = closed.size in
-      let new : Group M = get_or now k some.1 in
-      (k, new, omega (arith, some.2), get_or_default now k new some.1 (omega (arith, some.2)),
-      (grows.named ∙ ap (λ (group : Group M). group.answers) some.3 ∙ some.4.0,
-      covers_kept has_made plan_held key_of plan done (get_or old k some.1).states.items new.states.items made grows.grown
-      (subst (λ (group : Group M). Covers has_made plan done group.states.items made) (sym some.3) some.4.1)))
+      let new : Group M = get_or now k some.1 in (
+        k,
+        new,
+        omega (arith, some.2),
+        get_or_default now k new some.1 (omega (arith, some.2)),
+        (
+          grows.named ∙ ap (λ (group : Group M). group.answers) some.3 ∙ some.4.0,
+          covers_kept has_made plan_held key_of plan done (get_or old k some.1).states.items new.states.items made grows.grown
+              (subst (λ (group : Group M). Covers has_made plan done group.states.items made) (sym some.3) some.4.1),
+        ),
+      )
 
   -- the layer stays one
   states_grown : (answers named : List (List ℕ)) (old new : List (State M)) → named ≡ answers → HaveGrown has_made plan_held key_of plan done old new →
@@ -56,6 +62,7 @@ module _ {M : Type 0} (has_made : M → Plan → List Step → Type 0) (plan_hel
             };
       })
 
+  -- the layer stays in the order of its answers
   pub layer_grown : (old now : List (Group M)) (count : ℕ) → ClosedUpTo has_made plan_held key_of plan done count old now → IsLayer has_made plan_held key_of plan done old → IsLayer has_made plan_held key_of plan done now
   layer_grown old now count closed is =
       let size = closed.size in
@@ -68,6 +75,7 @@ module _ {M : Type 0} (has_made : M → Plan → List Step → Type 0) (plan_hel
             (subst (λ (other : List (List ℕ)). answers_cmp (get_or old i d).answers other ≡ Less) (sym (closed.grown j d (omega arith)).named) (is.ordered i j d lt (omega arith)));
       }
 
+  -- its states stay states
   pub kept_grown : (old now : List (Group M)) (count : ℕ) → ClosedUpTo has_made plan_held key_of plan done count old now → All (λ group. AreKept has_made plan_held key_of plan done group.states.items) old →
       All (λ group. AreKept has_made plan_held key_of plan done group.states.items) now
   kept_grown old now count closed kept k d below =
@@ -154,9 +162,13 @@ module _ {M : Type 0} (has_made : M → Plan → List Step → Type 0) (plan_hel
               ordered = λ i j d lt below. absurd (omega arith);
             };
         based = λ made answers base.
-            start_run (group ∷ [])
-            (0, group, omega arith, refl,
-            (unanswered, covered_by_join has_made plan_held key_of plan 0 same landings [] group.states.items machine [] joined (subst (λ (made : List Step). has_made machine plan made) (sym begins) has) has))
+            start_run (group ∷ []) (
+              0,
+              group,
+              omega arith,
+              refl,
+              (unanswered, covered_by_join has_made plan_held key_of plan 0 same landings [] group.states.items machine [] joined (subst (λ (made : List Step). has_made machine plan made) (sym begins) has) has),
+            )
             base refl;
       })
 

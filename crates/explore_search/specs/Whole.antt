@@ -12,7 +12,9 @@ use Rattle.explore_search.specs.declared.layers.Group.{Group}
 
 -- a run whose last step isn't a further landing
 pub data IsBase (plan : Plan) : (script : List Step) (made : List Step) (answers : List (List ℕ)) → Type 0 where
+  -- nothing was made
   base_begun : IsBase plan [] [] []
+  -- the last step is one of the script
   base_goes_on : {script : List Step} {landings : List Landing} {made : List Step} {answers : List (List ℕ)} (step : Step) → Runs plan script landings made answers →
       IsBase plan (script ++ step ∷ []) (made ++ step ∷ []) (answers ++ text_after plan made step ∷ [])
 

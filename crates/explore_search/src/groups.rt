@@ -54,7 +54,14 @@ fn close_groups<M: Machine>(
     let mut count = before;
     for place in 0..layer.len() {
         let is_kept = count - before < MOST_LIVE;
-        let Some(states) = close_group(alloc, plan, done, &mut layer[place], limit - count, is_kept)?
+        let Some(states) = close_group(
+            alloc,
+            plan,
+            done,
+            &mut layer[place],
+            limit - count,
+            is_kept,
+        )?
         else {
             return Ok(None);
         };

@@ -77,7 +77,16 @@ fn step_state<M: Machine>(
     let mut machine = machine_at(alloc, plan, done, &landings, machine)?;
     let answer = machine.step(&plan.steps.as_slice()[done].step)?;
     let text = Items::of_vec(text_of(alloc, &answer)?);
-    place_in(alloc, plan, done + 1, branches, text, landings, machine, is_kept)
+    place_in(
+        alloc,
+        plan,
+        done + 1,
+        branches,
+        text,
+        landings,
+        machine,
+        is_kept,
+    )
 }
 
 // The machine that is kept, or one that is made anew along the path.
@@ -168,7 +177,10 @@ pub fn named<M: Machine>(
 }
 
 // The group of a branch, after these answers.
-fn group_of<M: Machine>(answers: Items<Items<u8>>, branch: Branch<M>) -> Result<Group<M>, AllocError>
+fn group_of<M: Machine>(
+    answers: Items<Items<u8>>,
+    branch: Branch<M>,
+) -> Result<Group<M>, AllocError>
     ensures { IfOk result (λ group. group ≡ with_answers answers branch) }
 {
     let mut answers = answers;

@@ -1,7 +1,7 @@
 //! A search through every order in which a cluster may land the writes of a script.
 //!
-//! It drives machines, of which it knows no more than the trait [`Machine`] says: what steps they have made, and whether
-//! two of them are the same. A machine is never copied, but made anew along the path to a state.
+//! It drives machines, of which it knows no more than the trait [`Machine`] says: what steps they have made, and
+//! whether two of them are the same. A machine is never copied, but made anew along the path to a state.
 #![tactic(auto)]
 
 mod groups;

@@ -32,8 +32,8 @@ pub trait Machine: Drop {
         ensures made { IfOk result (λ machine. has_made machine plan.now []) }
         ensures plan { IfOk result (λ machine. plan_held machine ≡ declared_part plan.now) };
 
-    /// Makes a step, which has to be one that a script of the machine's plan may make, and answers it. The only error is
-    /// out of memory, and then nothing is promised of the steps that it has made.
+    /// Makes a step, which has to be one that a script of the machine's plan may make, and answers it. The only error
+    /// is out of memory, and then nothing is promised of the steps that it has made.
     fn step(&mut self, step: &Step) -> Result<Answer, AllocError>
         requires { IsMakeable (plan_held self.old) step.now }
         ensures answer { (plan : PlanValue) (steps : List StepValue) → has_made self.old plan steps →

@@ -36,7 +36,7 @@ pub enum Explored {
 ///
 /// # Errors
 ///
-/// [`AllocError`] where out of memory alone.
+/// [`AllocError`] from out of memory alone.
 pub fn explore<M: Machine>(alloc: Global, plan: &Plan) -> Result<Explored, AllocError>
     requires { IsExplorable plan.now }
     ensures { IfOk result (IsExploration M.has_made plan.now) }

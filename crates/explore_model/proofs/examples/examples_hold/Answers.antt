@@ -1,13 +1,12 @@
-use Rattle.std.proofs.Common.{◌<◌, List, [], ◌∷◌, refl, lit<}
+use Rattle.std.proofs.Common.{◌<◌, [], ◌∷◌, refl, lit<}
 use Rattle.std.specs.Fmt.{digits}
 use Rattle.std.proofs.lemmas.List.Elements.{All-cons, All-nil}
 use Rattle.ledger_model.specs.Examples.{letter}
 use Rattle.step_kinds.specs.declared.names.Side.TheVariants.{A}
-use Rattle.step_kinds.specs.declared.steps.Step.{Step}
 use Rattle.step_kinds.specs.declared.steps.Step.TheVariants.{Begin, Post, ShowQueue}
-use Rattle.explore_model.specs.Examples.{BothAreOutcomes, NoOtherLands, in_flight, landed, landing, plan, script}
+use Rattle.explore_model.specs.Examples.{NoOtherLands, in_flight, landed, landing, plan, script}
 use Rattle.explore_model.specs.Outcomes.{IsOutcome}
-use Rattle.explore_model.specs.Schedules.{Runs, begun, lands, goes_on, answer_after, landing_step}
+use Rattle.explore_model.specs.Schedules.{begun, lands, goes_on, answer_after, landing_step}
 use Rattle.explore_model.specs.declared.outcome.Landing.{Landing}
 use Rattle.explore_model.proofs.examples.examples_hold.Goals as goal
 

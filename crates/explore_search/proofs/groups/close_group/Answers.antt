@@ -1,4 +1,4 @@
-use Rattle.std.proofs.Common.{◌≡◌, ◌∙◌, ◌≤◌, arith}
+use Rattle.std.proofs.Common.{◌∙◌, arith}
 use Rattle.explore_search.proofs.groups.close_group.Goals as goal
 
 pub returns-clause-closed : goal.returns-clause-closed

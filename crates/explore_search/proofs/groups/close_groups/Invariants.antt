@@ -1,5 +1,4 @@
 use Rattle.std.proofs.Common.{◌≡◌, ◌+◌, ◌≤◌, take}
-use Rattle.std.specs.List.{All}
 use Rattle.explore_search.specs.Closing.{ClosedUpTo, states_in}
 use Rattle.explore_search.proofs.groups.close_groups.Given as goal
 

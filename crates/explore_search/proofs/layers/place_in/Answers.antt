@@ -1,4 +1,4 @@
-use Rattle.std.proofs.Common.{◌≡◌, ◌∙◌, ◌<◌, ◌≤◌, ℕ, List, [], Vec, Global, ap, arith, get_or, length, refl, subst, sym}
+use Rattle.std.proofs.Common.{◌∙◌, ℕ, List, [], ap, refl, subst, sym}
 use Rattle.std.specs.Prelude.{Ok, Err}
 use Rattle.std.proofs.lemmas.Result.{on_ok_weaker}
 use Rattle.explore_search.specs.Layers.{HasPlaced, IsPlaceOf}

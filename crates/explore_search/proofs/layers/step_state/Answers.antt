@@ -1,11 +1,9 @@
-use Rattle.std.proofs.Common.{◌≡◌, ◌∙◌, ℕ, ◌+◌, List, ap, arith, get_or, subst, sym}
+use Rattle.std.proofs.Common.{◌∙◌, List, ap, get_or, subst}
 use Rattle.std.proofs.lemmas.Result.{on_ok_weaker}
-use Rattle.step_kinds.specs.declared.steps.Answer.{Answer}
-use Rattle.step_kinds.specs.declared.steps.Step.{Step}
 use Rattle.report_text.specs.Texts.{answer_text}
 use Rattle.explore_model.specs.declared.outcome.Landing.{Landing}
 use Rattle.explore_search.specs.Paths.{path, script_of}
-use Rattle.explore_search.specs.States.{IsMachineAt, made_to}
+use Rattle.explore_search.specs.States.{IsMachineAt}
 use Rattle.explore_search.proofs.Stepping.{made_by_step, step_of_line, stepped}
 use Rattle.explore_search.proofs.layers.step_state.Goals as goal
 

@@ -1,4 +1,4 @@
-use Rattle.std.proofs.Common.{◌∙◌, [], ◌∷◌, ◌++◌, List, append-nil, append_assoc, ap, arith, get_or, refl, subst, sym}
+use Rattle.std.proofs.Common.{◌∙◌, ◌++◌, List, append-nil, append_assoc, ap, arith, get_or, refl, subst, sym}
 use Rattle.step_kinds.specs.declared.plan.Plan.{Plan}
 use Rattle.step_kinds.specs.declared.steps.Step.{Step}
 use Rattle.plan_model.specs.Switches.{IsMakeable}

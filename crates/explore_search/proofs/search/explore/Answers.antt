@@ -1,4 +1,4 @@
-use Rattle.std.proofs.Common.{◌≡◌, ◌∙◌, ℕ, ◌<◌, ◌≤◌, List, arith, length, subst, sym, lit≤}
+use Rattle.std.proofs.Common.{◌≡◌, ℕ, arith, length, subst}
 use Rattle.explore_model.specs.States.{most_states}
 use Rattle.explore_search.specs.Whole.{IsBased, IsCount}
 use Rattle.explore_search.proofs.Census.{count_of_none}

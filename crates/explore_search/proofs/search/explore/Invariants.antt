@@ -1,7 +1,6 @@
 use Rattle.std.proofs.Common.{◌≤◌}
 use Rattle.explore_model.specs.States.{most_states}
 use Rattle.explore_search.specs.Whole.{IsBased, IsCount}
-use Rattle.explore_search.proofs.WholeLayers.{based_of_next}
 use Rattle.explore_search.proofs.search.explore.Given as goal
 
 abbrev pub invariant-loop-done : goal.invariant-loop-done

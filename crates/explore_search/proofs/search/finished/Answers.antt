@@ -1,4 +1,4 @@
-use Rattle.std.proofs.Common.{◌≡◌, ◌∙◌, ℕ, ◌≤◌, List, arith, length, subst, sym}
+use Rattle.std.proofs.Common.{ℕ, arith, subst, sym}
 use Rattle.explore_model.specs.States.{most_states}
 use Rattle.explore_search.specs.Whole.{IsBased, IsCount}
 use Rattle.explore_search.proofs.LayersInTurn.{count_of_some, full_of_some, last_counted, last_explored, more_of_none}
@@ -28,10 +28,11 @@ returns g c =
     let full = full_of_some g.M.Machine.has_made g.M.Machine.plan_held g.M.Machine.key_of c.args.plan.now c.len-done.result c.args.states most_states c.in-Some.count c.args.layer.items c.close_layer.new.layer.items c.in_ok-count.field-0
     (omega (arith, c.len-done.ensures)) c.in-Some.is c.in_ok-count.ensures at in
     let count = count_of_some g.M.Machine.has_made g.M.Machine.plan_held g.M.Machine.key_of c.args.plan.now c.len-done.result c.args.states most_states c.in-Some.count c.args.layer.items c.close_layer.new.layer.items c.in_ok-count.field-0
-    (omega (arith, c.len-done.ensures)) c.in-Some.is c.in_ok-count.ensures at counted in
-    (last_explored g.M.Machine.has_made g.M.Machine.plan_held g.M.Machine.key_of c.args.plan.now c.len-done.result c.close_layer.new.layer.items c.in_ok-outcomes_of.field-0.items c.len-done.ensures full c.in_ok-outcomes_of.ensures,
-    last_counted g.M.Machine.has_made g.M.Machine.plan_held g.M.Machine.key_of c.args.plan.now c.len-done.result c.in-Some.count c.len-done.ensures count.0,
-    count.1)
+    (omega (arith, c.len-done.ensures)) c.in-Some.is c.in_ok-count.ensures at counted in (
+      last_explored g.M.Machine.has_made g.M.Machine.plan_held g.M.Machine.key_of c.args.plan.now c.len-done.result c.close_layer.new.layer.items c.in_ok-outcomes_of.field-0.items c.len-done.ensures full c.in_ok-outcomes_of.ensures,
+      last_counted g.M.Machine.has_made g.M.Machine.plan_held g.M.Machine.key_of c.args.plan.now c.len-done.result c.in-Some.count c.len-done.ensures count.0,
+      count.1,
+    )
 
 pub returns-in_default : goal.returns-in_default
 returns-in_default g c =

@@ -1,4 +1,4 @@
-use Rattle.std.proofs.Common.{◌≡◌, ◌<◌, ◌≤◌, arith, ap, length, true, leb}
+use Rattle.std.proofs.Common.{◌<◌, arith, length}
 use Rattle.std.proofs.lemmas.Bool.{leb-true}
 use Rattle.explore_search.proofs.Growing.{grown_more, no_fewer}
 use Rattle.explore_search.proofs.Spreading.{spread_more}
@@ -27,6 +27,6 @@ returns-clause-closed g c =
     let fits = leb-true c.len-2.result c.args.room yes in
     c.loop-from.invariant.spread k d
     (elim c.loop-from-test.branch [
-      then-loop-from-test+else-len-room w ↦ absurd (omega (arith, w.if-len-room.false, w.len-in-loop-from.ensures, c.len-2.ensures))
+      | then-loop-from-test+else-len-room w ↦ absurd (omega (arith, w.if-len-room.false, w.len-in-loop-from.ensures, c.len-2.ensures))
       | else-loop-from-test w ↦ omega (arith, w.loop-from-test.false, c.len.ensures)
     ])

@@ -1,8 +1,8 @@
-use Rattle.std.proofs.Common.{◌≡◌, ◌∙◌, ◌<◌, ◌≤◌, List, [], ◌∷◌, ◌++◌, ap, arith, get_or, length, subst, sym, true}
+use Rattle.std.proofs.Common.{◌∙◌, List, [], ◌∷◌, ◌++◌, ap, arith, subst, sym}
 use Rattle.std.proofs.lemmas.List.{get_or_read, length-map}
 use Rattle.step_kinds.specs.declared.plan.Line.{Line}
 use Rattle.step_kinds.specs.declared.steps.Step.{Step}
-use Rattle.explore_model.specs.Schedules.{answer_after, is_landed, landing_step}
+use Rattle.explore_model.specs.Schedules.{answer_after, is_landed}
 use Rattle.explore_model.specs.declared.outcome.Landing.{Landing}
 use Rattle.explore_search.specs.Paths.{path, script_of}
 use Rattle.explore_search.specs.Spread.{Lands}

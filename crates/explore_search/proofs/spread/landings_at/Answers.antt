@@ -1,4 +1,4 @@
-use Rattle.std.proofs.Common.{[], ◌≤◌, length, arith}
+use Rattle.std.proofs.Common.{[], arith}
 use Rattle.explore_search.proofs.Candidates.{all_pairs, pair_more}
 use Rattle.explore_search.proofs.spread.landings_at.Goals as goal
 

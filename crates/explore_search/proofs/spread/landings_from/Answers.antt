@@ -1,9 +1,8 @@
-use Rattle.std.proofs.Common.{◌≡◌, [], List, Option, ap, subst, sym}
+use Rattle.std.proofs.Common.{List, Option, subst}
 use Rattle.std.specs.Prelude.{IfSome}
 use Rattle.std.proofs.lemmas.Result.{IfOk-weaker}
 use Rattle.explore_model.specs.declared.outcome.Landing.{Landing}
 use Rattle.explore_search.specs.Paths.{path, script_of}
-use Rattle.explore_search.specs.Spread.{AreAdded, AreTried}
 use Rattle.explore_search.specs.States.{IsMachineAt, made_to}
 use Rattle.explore_search.proofs.Candidates.{all_tried}
 use Rattle.explore_search.proofs.spread.landings_from.Goals as goal

@@ -1,4 +1,4 @@
-use Rattle.std.proofs.Common.{◌≡◌, ◌∙◌, ◌≤◌, min, arith, subst, sym}
+use Rattle.std.proofs.Common.{arith}
 use Rattle.explore_search.proofs.Candidates.{all_of_side, one_more}
 use Rattle.explore_search.proofs.spread.push_side.Goals as goal
 

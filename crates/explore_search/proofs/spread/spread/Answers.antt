@@ -1,4 +1,4 @@
-use Rattle.std.proofs.Common.{◌<◌, ◌≤◌, arith, ap, get_or, length, subst, sym}
+use Rattle.std.proofs.Common.{arith, ap, get_or, length, subst, sym}
 use Rattle.step_kinds.specs.declared.names.Side.TheVariants.{A}
 use Rattle.explore_model.specs.declared.outcome.Landing.{Landing}
 use Rattle.explore_search.specs.Spread.{IsNext}

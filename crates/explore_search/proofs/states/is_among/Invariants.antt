@@ -1,7 +1,6 @@
 use Rattle.std.proofs.Common.{ℕ, ◌<◌, List, get_or}
 use Rattle.step_kinds.specs.declared.steps.Step.{Step}
 use Rattle.explore_search.specs.States.{Reaches}
-use Rattle.explore_search.specs.declared.states.State.{State}
 use Rattle.explore_search.proofs.states.is_among.Given as goal
 
 abbrev pub invariant-loop-state : goal.invariant-loop-state

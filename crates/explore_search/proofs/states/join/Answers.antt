@@ -1,7 +1,7 @@
-use Rattle.std.proofs.Common.{◌≡◌, ◌∙◌, ◌++◌, ℕ, List, ap, refl, subst, sym, false, true}
+use Rattle.std.proofs.Common.{◌∙◌, ◌++◌, ℕ, List, ap, refl, subst, sym}
 use Rattle.std.proofs.lemmas.Option.{IfSome_then}
 use Rattle.explore_search.specs.Paths.{path, script_of}
-use Rattle.explore_search.specs.States.{Covers, IsMachineAt, added, found}
+use Rattle.explore_search.specs.States.{Covers, IsMachineAt, found}
 use Rattle.explore_search.specs.declared.states.State.{State}
 use Rattle.explore_search.proofs.Growing.{added_last}
 use Rattle.explore_search.proofs.states.join.Goals as goal
