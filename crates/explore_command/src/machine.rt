@@ -3,7 +3,7 @@
 ghost use Rattle.cluster_core.specs.Cluster.{ClusterState, plan_held as plan_of_cluster};
 ghost use Rattle.cluster_core.specs.InFlight.{key_of as key_of_cluster};
 ghost use Rattle.explore_command.specs.Answers.{has_made as cluster_has_made};
-ghost use Rattle.explore_command.proofs.Clusters.{same_keys as clusters_have_same_keys, same_steps as clusters_have_same_steps};
+ghost use Rattle.cluster_core.proofs.Facade.{same_keys as clusters_have_same_keys, same_steps as clusters_have_same_steps};
 
 use cluster_core::Cluster;
 use explore_search::Machine;

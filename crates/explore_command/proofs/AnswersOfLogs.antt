@@ -1,0 +1,28 @@
+-- What a cluster answers is the answer of the log of which a search speaks, and from a place on it lands nothing.
+use Rattle.std.proofs.Common.{◌≡◌, ◌∙◌, ℕ, ◌≤◌, List, refl, sym, subst}
+use Rattle.step_kinds.specs.declared.names.Side.{Side}
+use Rattle.step_kinds.specs.declared.plan.Plan.{Plan}
+use Rattle.step_kinds.specs.declared.steps.Answer.{Answer}
+use Rattle.step_kinds.specs.declared.steps.Answer.TheVariants.{Nothing}
+use Rattle.step_kinds.specs.declared.steps.Step.{Step}
+use Rattle.step_kinds.specs.declared.steps.Step.TheVariants.{Land}
+use Rattle.cluster_core.proofs.Facade as clusters
+use Rattle.cluster_core.specs.Cluster.{ClusterState}
+use Rattle.cluster_core.specs.InFlight.{LandsNoneFrom}
+use Rattle.cluster_core.specs.LogClauses.{HasMade, IsAnswered, answer_after as answer_of_cluster}
+use Rattle.explore_model.specs.Schedules.{answer_after}
+
+-- both definitions give one answer
+one_definition : (plan : Plan) (steps : List Step) (step : Step) → answer_of_cluster plan steps step ≡ answer_after plan steps step
+unfolding answer_after
+one_definition plan steps step = refl
+
+-- the answer with which the log goes on
+pub answered : (plan : Plan) (steps : List Step) (step : Step) (answer : Answer) → IsAnswered plan steps step answer → answer ≡ answer_after plan steps step
+answered plan steps step answer is = clusters.one_answer plan steps step answer is ∙ one_definition plan steps step
+
+-- a landing at such a place, or at a later one
+pub lands_nothing : (cluster : ClusterState) (pair : ℕ) (side : Side) (count : ℕ) → LandsNoneFrom cluster pair side count → (plan : Plan) (steps : List Step) (place : ℕ) →
+    HasMade plan steps cluster → count ≤ place → answer_after plan steps (Land pair side place) ≡ Nothing
+lands_nothing cluster pair side count none plan steps place made beyond =
+    sym (one_definition plan steps (Land pair side place)) ∙ none plan steps made place beyond

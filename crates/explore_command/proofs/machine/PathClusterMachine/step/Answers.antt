@@ -1,0 +1,17 @@
+use Rattle.std.proofs.Common.{◌≡◌, List, sym, subst}
+use Rattle.std.proofs.lemmas.Result.{IfOk-weaker}
+use Rattle.step_kinds.specs.declared.plan.Plan.{Plan}
+use Rattle.step_kinds.specs.declared.steps.Answer.{Answer}
+use Rattle.step_kinds.specs.declared.steps.Step.{Step}
+use Rattle.cluster_core.specs.Cluster.{ClusterState}
+use Rattle.cluster_core.specs.ClusterStep.{HasStepped}
+use Rattle.cluster_core.specs.LogClauses.{HasMade, IsAnswered}
+use Rattle.explore_model.specs.Schedules.{answer_after}
+use Rattle.explore_command.proofs.AnswersOfLogs.{answered}
+use Rattle.explore_command.proofs.machine.PathClusterMachine.step.Goals as goal
+
+pub returns-clause-answer : goal.returns-clause-answer
+returns-clause-answer c = λ (plan : Plan) (steps : List Step) made.
+    let at = subst (λ (cluster : ClusterState). HasMade plan steps cluster) (sym c.self.view_is) made in
+    IfOk-weaker c.step.result (IsAnswered plan steps c.args.step.now) (λ (answer : Answer). answer ≡ answer_after plan steps c.args.step.now)
+    (λ (answer : Answer) (is : IsAnswered plan steps c.args.step.now answer). answered plan steps c.args.step.now answer is) (c.step.ensures.answered plan steps at)
