@@ -20,7 +20,7 @@ use Rattle.explore_search.specs.Whole.{IsCount, IsFull}
 use Rattle.explore_search.specs.declared.layers.Group.{Group}
 use Rattle.explore_search.specs.declared.states.State.{State}
 use Rattle.explore_search.proofs.Lists.{any_longer, any_later}
-use Rattle.explore_search.proofs.Ordered.{itself_equal, pairs_append}
+use Rattle.explore_search.proofs.OrderOfAnswers.{itself_equal, pairs_append}
 
 -- the first item of a list that has one
 first_item : {X : Type 0} (xs : List X) → 0 < length xs → X

@@ -9,7 +9,7 @@ use Rattle.step_kinds.specs.declared.steps.Step.{Step}
 use Rattle.explore_search.specs.Closing.{ClosedUpTo, GroupGrown, states_in}
 use Rattle.explore_search.specs.Spread.{AreClosed}
 use Rattle.explore_search.specs.declared.layers.Group.{Group}
-use Rattle.explore_search.proofs.Growing.{grown_more, grown_same}
+use Rattle.explore_search.proofs.StatesAdded.{grown_more, grown_same}
 
 -- what holds where nothing was found
 pub none_found : {P : Type 0} (Q : ℕ → Type 0) (found : Option ℕ) → ((count : ℕ) → found ≡ Some count → ⊥) → MatchOption found P Q → P

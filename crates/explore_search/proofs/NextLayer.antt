@@ -14,7 +14,7 @@ use Rattle.explore_search.specs.declared.layers.Branch.{Branch}
 use Rattle.explore_search.specs.declared.layers.Group.{Group}
 use Rattle.explore_search.specs.declared.states.State.{State}
 use Rattle.explore_search.proofs.Lists.{any_longer, any_later, each_more}
-use Rattle.explore_search.proofs.Ordered.{as_many_answers, longer_less, pairs_append, same_front}
+use Rattle.explore_search.proofs.OrderOfAnswers.{as_many_answers, longer_less, pairs_append, same_front}
 
 module _ {M : Type 0} (has_made : M → Plan → List Step → Type 0) (plan_held : M → Plan) (key_of : M → List ℕ) (plan : Plan) (done : ℕ) where
   -- the groups of branches

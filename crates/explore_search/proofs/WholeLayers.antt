@@ -22,8 +22,8 @@ use Rattle.explore_search.specs.Whole.{IsBase, IsBased, IsFull, base_begun, base
 use Rattle.explore_search.specs.declared.layers.Group.{Group}
 use Rattle.explore_search.specs.declared.states.State.{State}
 use Rattle.explore_search.proofs.AlongPaths.{path_begins}
-use Rattle.explore_search.proofs.Growing.{covered_by_join, covers_kept}
-use Rattle.explore_search.proofs.Placing.{kept_by_join, one_by_join}
+use Rattle.explore_search.proofs.StatesAdded.{covered_by_join, covers_kept}
+use Rattle.explore_search.proofs.StatesInBranches.{kept_by_join, one_by_join}
 
 module _ {M : Type 0} (has_made : M → Plan → List Step → Type 0) (plan_held : M → Plan) (key_of : M → List ℕ) (plan : Plan) (done : ℕ) where
   -- a state to which states led is still covered by the grown layer

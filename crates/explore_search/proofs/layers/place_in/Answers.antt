@@ -5,7 +5,7 @@ use Rattle.explore_search.specs.Layers.{HasPlaced, IsPlaceOf}
 use Rattle.explore_search.specs.States.{Joined}
 use Rattle.explore_search.specs.declared.layers.Branch.{Branch}
 use Rattle.explore_search.specs.declared.states.State.{State}
-use Rattle.explore_search.proofs.Placing.{placed_found, placed_new}
+use Rattle.explore_search.proofs.StatesInBranches.{placed_found, placed_new}
 use Rattle.explore_search.proofs.layers.place_in.Goals as goal
 
 pub returns-in-Ok : goal.returns-in-Ok

@@ -4,7 +4,7 @@ use Rattle.report_text.specs.Texts.{answer_text}
 use Rattle.explore_model.specs.declared.outcome.Landing.{Landing}
 use Rattle.explore_search.specs.Paths.{path, script_of}
 use Rattle.explore_search.specs.States.{IsMachineAt}
-use Rattle.explore_search.proofs.Stepping.{made_by_step, step_of_line, stepped}
+use Rattle.explore_search.proofs.NextStates.{made_by_step, step_of_line, stepped}
 use Rattle.explore_search.proofs.layers.step_state.Goals as goal
 
 pub place_in-requires-clause-machine : goal.place_in-requires-clause-machine

@@ -1,7 +1,7 @@
 use Rattle.std.proofs.Common.{◌<◌, arith, length}
 use Rattle.std.proofs.lemmas.Bool.{leb-true}
-use Rattle.explore_search.proofs.Growing.{grown_more, no_fewer}
-use Rattle.explore_search.proofs.Spreading.{spread_more}
+use Rattle.explore_search.proofs.StatesAdded.{grown_more, no_fewer}
+use Rattle.explore_search.proofs.TriedStates.{spread_more}
 use Rattle.explore_search.proofs.spread.close.Goals as goal
 use Rattle.explore_search.proofs.spread.close.Goals.{then-loop-from-test+else-len-room, else-loop-from-test}
 

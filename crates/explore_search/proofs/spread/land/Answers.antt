@@ -8,8 +8,8 @@ use Rattle.explore_search.specs.Paths.{path, script_of}
 use Rattle.explore_search.specs.Spread.{Lands}
 use Rattle.explore_search.specs.States.{made_to}
 use Rattle.explore_search.specs.declared.states.State.{State}
-use Rattle.explore_search.proofs.Growing.{grown_by_landing, grown_same, leads_by_landing, made_by_landing}
-use Rattle.explore_search.proofs.Landed.{landed_is_landed, other_not_landed}
+use Rattle.explore_search.proofs.StatesAdded.{grown_by_landing, grown_same, leads_by_landing, made_by_landing}
+use Rattle.explore_search.proofs.LandedAnswers.{landed_is_landed, other_not_landed}
 use Rattle.explore_search.proofs.spread.land.Goals as goal
 
 pub join-requires-clause-machine : goal.join-requires-clause-machine

@@ -2,8 +2,8 @@ use Rattle.std.proofs.Common.{arith, ap, get_or, length, subst, sym}
 use Rattle.step_kinds.specs.declared.names.Side.TheVariants.{A}
 use Rattle.explore_model.specs.declared.outcome.Landing.{Landing}
 use Rattle.explore_search.specs.Spread.{IsNext}
-use Rattle.explore_search.proofs.Growing.{grown_more, grown_same, no_fewer}
-use Rattle.explore_search.proofs.Spreading.{led_more, spread_by_tried}
+use Rattle.explore_search.proofs.StatesAdded.{grown_more, grown_same, no_fewer}
+use Rattle.explore_search.proofs.TriedStates.{led_more, spread_by_tried}
 use Rattle.explore_search.proofs.spread.spread.Goals as goal
 
 no_landing : Landing

@@ -3,7 +3,7 @@ use Rattle.std.proofs.lemmas.Option.{IfSome_then}
 use Rattle.explore_search.specs.Paths.{path, script_of}
 use Rattle.explore_search.specs.States.{Covers, IsMachineAt, found}
 use Rattle.explore_search.specs.declared.states.State.{State}
-use Rattle.explore_search.proofs.Growing.{added_last}
+use Rattle.explore_search.proofs.StatesAdded.{added_last}
 use Rattle.explore_search.proofs.states.join.Goals as goal
 
 pub returns-then-branch : goal.returns-then-branch

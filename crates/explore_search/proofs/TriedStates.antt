@@ -9,8 +9,8 @@ use Rattle.explore_model.specs.declared.outcome.Landing.{Landing}
 use Rattle.explore_search.specs.Spread.{AreTried, IsSpread, Lands}
 use Rattle.explore_search.specs.States.{HaveGrown, Reaches}
 use Rattle.explore_search.specs.declared.states.State.{State}
-use Rattle.explore_search.proofs.Growing.{lands_kept, spread_kept, stands_still}
-use Rattle.explore_search.proofs.Landed.{nothing_not_landed}
+use Rattle.explore_search.proofs.StatesAdded.{lands_kept, spread_kept, stands_still}
+use Rattle.explore_search.proofs.LandedAnswers.{nothing_not_landed}
 use Rattle.explore_search.proofs.Lists.{each_more}
 
 module _ {M : Type 0} (has_made : M → Plan → List Step → Type 0) (plan_held : M → Plan) (key_of : M → List ℕ) (plan : Plan) (done : ℕ) where

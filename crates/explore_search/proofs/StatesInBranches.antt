@@ -19,7 +19,7 @@ use Rattle.explore_search.specs.Paths.{path, script_of}
 use Rattle.explore_search.specs.States.{Covers, HasRun, IsState, Joined, Reaches, added, found}
 use Rattle.explore_search.specs.declared.layers.Branch.{Branch}
 use Rattle.explore_search.specs.declared.states.State.{State}
-use Rattle.explore_search.proofs.Growing.{covered_by_join, grown_by_join}
+use Rattle.explore_search.proofs.StatesAdded.{covered_by_join, grown_by_join}
 use Rattle.explore_search.proofs.Lists.{all_with_insert, any_at, any_inserted, any_longer, any_none, any_set, any_with_insert, any_with_set, pairs_with_insert}
 
 module _ {M : Type 0} (has_made : M → Plan → List Step → Type 0) (plan_held : M → Plan) (key_of : M → List ℕ) (plan : Plan) (done : ℕ) where
