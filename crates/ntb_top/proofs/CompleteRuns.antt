@@ -4,13 +4,15 @@ use Rattle.std.proofs.lemmas.Bool.{le-ltb, false≢true}
 use Rattle.std.proofs.lemmas.List.{length-append}
 use Rattle.check_command.specs.Answers.{checked}
 use Rattle.command_reply.specs.Output.{Output, done, too_long}
+use Rattle.explore_command.specs.Answers.{ExploresTo}
 use Rattle.io_edges.specs.Whole.{HasGiven, HoldsAll}
 use Rattle.reads_command.specs.Answers.{output_of}
 use Rattle.replay_command.specs.Answers.{replayed}
 use Rattle.replay_command.specs.Replays.{replay_text}
 use Rattle.trace_command.specs.Answers.{traced}
 use Rattle.run_command.specs.Answers.{Carried, IsRunOfScript}
-use Rattle.script_text.specs.Script.{script_of}
+use Rattle.script_text.specs.Script.{declared_by, script_of}
+use Rattle.script_words.specs.Before.{Before}
 use Rattle.script_words.specs.declared.fault.ScriptFault.{ScriptFault}
 use Rattle.step_kinds.specs.Limits.{most_script_bytes}
 use Rattle.step_kinds.specs.declared.plan.Plan.{Plan}
@@ -20,7 +22,7 @@ use Rattle.ntb_top.specs.Commands.{command_of, command_reads, is_reading}
 use Rattle.ntb_top.specs.Completeness.{IsHonest, ReplaysComplete, RunsComplete}
 use Rattle.ntb_top.specs.Runs.{EndsWhole, HasAnswered, HasReply, IsAtEnd, Outside}
 use Rattle.ntb_top.specs.declared.command.Command.{Command}
-use Rattle.ntb_top.specs.declared.command.Command.TheVariants.{Check, Load, Reads, Replay, Run, Stream, Trace}
+use Rattle.ntb_top.specs.declared.command.Command.TheVariants.{Check, Explore, Load, Reads, Replay, Run, Stream, Trace}
 
 -- No reply has the status of a failed read, or of out of memory
 
@@ -31,13 +33,18 @@ replay_status : (read : Result Plan ScriptFault) → HasReply (replayed read).st
 replay_status (Ok plan) = (λ e. absurd (omega (arith, e)), λ e. absurd (omega (arith, e)))
 replay_status (Err fault) = (λ e. absurd (omega (arith, e)), λ e. absurd (omega (arith, e)))
 
-check_status : (read : Result Plan ScriptFault) → HasReply (checked read).status
-check_status (Ok plan) = (λ e. absurd (omega (arith, e)), λ e. absurd (omega (arith, e)))
+check_status : (read : Result Before ScriptFault) → HasReply (checked read).status
+check_status (Ok declared) = (λ e. absurd (omega (arith, e)), λ e. absurd (omega (arith, e)))
 check_status (Err fault) = (λ e. absurd (omega (arith, e)), λ e. absurd (omega (arith, e)))
 
 trace_status : (read : Result Plan ScriptFault) → HasReply (traced read).status
 trace_status (Ok plan) = (λ e. absurd (omega (arith, e)), λ e. absurd (omega (arith, e)))
 trace_status (Err fault) = (λ e. absurd (omega (arith, e)), λ e. absurd (omega (arith, e)))
+
+explore_status : (read : Result Plan ScriptFault) (output : Output) → ExploresTo read output → HasReply output.status
+explore_status (Ok plan) output (inl all) = of_output output _ all.answer (λ e. absurd (omega (arith, e)), λ e. absurd (omega (arith, e)))
+explore_status (Ok plan) output (inr many) = of_output output _ many.answer (λ e. absurd (omega (arith, e)), λ e. absurd (omega (arith, e)))
+explore_status (Err fault) output h = of_output output _ h (λ e. absurd (omega (arith, e)), λ e. absurd (omega (arith, e)))
 
 run_status : (read : Result Plan ScriptFault) (output : Output) (carried : Carried) → IsRunOfScript read output carried → HasReply output.status
 run_status (Ok plan) output carried h = of_output output _ h.text (λ e. absurd (omega (arith, e)), λ e. absurd (omega (arith, e)))
@@ -58,7 +65,8 @@ reply_status Run bytes output reads h = run_status (script_of bytes) output h.0 
 reply_status Stream bytes output reads h = stream_status (script_of bytes) output h.0 h.1
 reply_status Reads bytes output reads h = of_output output _ h.answer (reads_status _)
 reply_status Trace bytes output reads h = of_output output _ h.answer (trace_status (script_of bytes))
-reply_status Check bytes output reads h = of_output output _ h.answer (check_status (script_of bytes))
+reply_status Check bytes output reads h = of_output output _ h.answer (check_status (declared_by bytes))
+reply_status Explore bytes output reads h = explore_status (script_of bytes) output h
 
 -- what was taken is the front of what the source told
 taken_from : (left left' : Option (List ℕ)) (content bytes : List ℕ) → left ≡ Some content → HasGiven left left' bytes → (rest : List ℕ) × (content ≡ bytes ++ rest) × (left' ≡ Some rest)

@@ -1,4 +1,5 @@
 pub mod CompleteRuns
 pub mod Digits
 pub mod Endings
+pub mod Explorations
 pub mod RunOutcomes

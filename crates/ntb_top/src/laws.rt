@@ -31,6 +31,7 @@ pub fn traces_are_true()
 /// Where `explore` ends with status 0, the bytes that were read declare a plan, and the text was written of all outcomes of
 /// its schedules: each is one of a schedule, whose further landings are shown, each schedule's is shown, and none twice. The
 /// number of states is that of those that the schedules reach. No premise.
+#[tactic(auto, using(crate::proofs::Explorations::explorations_true))]
 pub fn explorations_are_true()
     ensures { ExplorationsAreTrue }
 {}
