@@ -1,6 +1,6 @@
 //! Steps made on a cluster, one after another.
 
-ghost use Rattle.std.specs.Prelude.{◌≡◌, ◌∷◌, [], List, replicate, false, true, OnOk};
+ghost use Rattle.std.specs.Prelude.{◌≡◌, ◌∷◌, [], List, replicate, false, OnOk};
 ghost use Rattle.std.specs.List.{All, fold};
 ghost use Rattle.step_kinds.specs.declared.plan.Line.{Line};
 ghost use Rattle.step_kinds.specs.declared.plan.Plan.{Plan};
@@ -9,7 +9,6 @@ ghost use Rattle.plan_model.specs.Macros.{receive};
 ghost use Rattle.script_words.specs.Compact.{lines_with, step_again};
 ghost use Rattle.script_plan.specs.StepLists.{lines_in};
 ghost use Rattle.cluster_core.specs.Cluster.{plan_held};
-ghost use Rattle.cluster_core.specs.Refusals.{is_plain};
 ghost use Rattle.ledger_laws.specs.Laws.{is_made as is_made_by};
 ghost use Rattle.replay_command.specs.ReplaySteps.{HasKept, HasReplayed};
 ghost use Rattle.report_text.specs.Report.{AnsweredStep};
@@ -94,7 +93,7 @@ fn make_repeated<K: KeepsAnswers>(
         Repeated::Post { pair, side, queue } => {
             make_again(
                 line,
-                &Step::Post { pair, side, queue },
+                Repeated::Post { pair, side, queue },
                 count,
                 cluster,
                 kept,
@@ -103,13 +102,13 @@ fn make_repeated<K: KeepsAnswers>(
         Repeated::Land { pair, side, place } => {
             make_again(
                 line,
-                &Step::Land { pair, side, place },
+                Repeated::Land { pair, side, place },
                 count,
                 cluster,
                 kept,
             )
         }
-        other => make_again(line, &other.step(), count, cluster, kept),
+        other => make_again(line, other, count, cluster, kept),
     }
 }
 
@@ -130,7 +129,7 @@ fn make_received<K: KeepsAnswers>(
     make_step(line, &Step::Look { pair, side, queue }, cluster, kept)?;
     make_again(
         line,
-        &Step::Copy { pair, side, queue },
+        Repeated::Copy { pair, side, queue },
         copies,
         cluster,
         kept,
@@ -139,28 +138,29 @@ fn make_received<K: KeepsAnswers>(
     make_step(line, &Step::Ack { pair, side, queue }, cluster, kept)
 }
 
-// Makes one step of a line so many times. Once it is refused it is refused again each further time, so it isn't made any more.
+// Makes a step of few numbers of a line so many times. Once it is refused it is refused again each further time, so it isn't
+// made any more. The step is put together anew each time, so that where its kind is known the others' code falls away.
 #[inline(always)]
 fn make_again<K: KeepsAnswers>(
     line: u32,
-    step: &Step,
+    repeated: Repeated,
     count: u32,
     cluster: &mut Cluster,
     kept: &mut K,
 ) -> Result<(), AllocError>
-    requires may { All (λ line. IsMakeable (plan_held cluster.old) line.step) (lines_with line (replicate count step.now)) }
-    requires plain { is_plain step.now ≡ true }
+    requires { All (λ line. IsMakeable (plan_held cluster.old) line.step) (lines_with line (replicate count (step_again repeated))) }
     ensures plan { OnOk result (plan_held cluster.new ≡ plan_held cluster.old) }
-    ensures kept { (plan : Plan) (before : List Line) → HasReplayed plan before cluster.old → OnOk result (HasKept K.with_answer plan before (lines_with line (replicate count step.now)) cluster.new kept.old kept.new) }
+    ensures kept { (plan : Plan) (before : List Line) → HasReplayed plan before cluster.old → OnOk result (HasKept K.with_answer plan before (lines_with line (replicate count (step_again repeated))) cluster.new kept.old kept.new) }
 {
     for made in 0..count {
-        let answer = cluster.step(step)?;
+        let step = repeated.step();
+        let answer = cluster.step(&step)?;
         let answered = LineAnswer { line, answer };
-        if made + 1 < count && !is_made(step, &answered.answer) {
+        if made + 1 < count && !is_made(&step, &answered.answer) {
             refused_again();
-            return kept.keep_times(step, &answered, count - made);
+            return kept.keep_times(&step, &answered, count - made);
         }
-        kept.keep(step, &answered)?;
+        kept.keep(&step, &answered)?;
     }
     Ok(())
 }

@@ -1,7 +1,7 @@
 use Rattle.std.proofs.Common.{◌≡◌, List, replicate}
 use Rattle.step_kinds.specs.declared.plan.Line.{Line}
 use Rattle.step_kinds.specs.declared.plan.Plan.{Plan}
-use Rattle.script_words.specs.Compact.{lines_with}
+use Rattle.script_words.specs.Compact.{lines_with, step_again}
 use Rattle.cluster_core.specs.Cluster.{plan_held}
 use Rattle.replay_command.specs.ReplaySteps.{HasKept, HasReplayed}
 use Rattle.replay_command.proofs.steps.make_again.Given as goal
@@ -10,5 +10,5 @@ abbrev pub invariant-loop-made : goal.invariant-loop-made
 invariant-loop-made g l = record {
   plan : plan_held l.cluster ≡ plan_held l.fn.cluster;
   kept : (plan : Plan) (before : List Line) → HasReplayed plan before l.fn.cluster →
-      HasKept g.K.KeepsAnswers.with_answer plan before (lines_with l.line (replicate l.made l.step)) l.cluster l.fn.kept l.kept;
+      HasKept g.K.KeepsAnswers.with_answer plan before (lines_with l.line (replicate l.made (step_again l.repeated))) l.cluster l.fn.kept l.kept;
 }

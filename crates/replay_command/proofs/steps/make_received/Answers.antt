@@ -15,8 +15,8 @@ use Rattle.replay_command.proofs.steps.make_received.Goals as goal
 pub make_step-requires : goal.make_step-requires
 make_step-requires g c = (received_permitted (plan_held c.args.cluster.now) c.args.line c.args.pair c.args.side c.args.queue c.args.copies c.requires).0
 
-pub make_again-requires-clause-may : goal.make_again-requires-clause-may
-make_again-requires-clause-may g c =
+pub make_again-requires : goal.make_again-requires
+make_again-requires g c =
     subst (λ (kept : Plan). All (λ line. IsMakeable kept line.step) (lines_with c.args.line (replicate c.args.copies (Copy c.args.pair c.args.side c.args.queue)))) (sym c.in_ok-make_step.ensures.plan)
     (received_permitted (plan_held c.args.cluster.now) c.args.line c.args.pair c.args.side c.args.queue c.args.copies c.requires).1
 
