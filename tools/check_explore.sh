@@ -105,8 +105,9 @@ broken_litmus() {
     for words in '--witness 15' '--witness 2' '--into' '--all'; do
         # shellcheck disable=SC2086
         ./ntbsim --explore $words examples/litmus/flags.ntb >"$work/out" 2>"$work/err"
+        status=$?
         case $words in --witness\ 15) wanted=0 ;; *) wanted=1 ;; esac
-        is "--explore $words: status" $? $wanted
+        is "--explore $words: status" $status $wanted
     done
     ./ntbsim --explore examples/refused.ntb >"$work/out" 2>"$work/err"
     is '--explore of a refused script: status' $? 1
