@@ -1,6 +1,6 @@
 //! Whether memories have the same bytes, and queues the same writes in flight.
 
-ghost use Rattle.std.specs.Prelude.{◌≡◌, ◌↔◌, ◌+◌, ◌<◌, ◌≤◌, IsTrue, length, slice_get};
+ghost use Rattle.std.specs.Prelude.{◌≡◌, ◌↔◌, ◌+◌, ◌%◌, ◌<◌, ◌≤◌, IsTrue, length, slice_get};
 ghost use Rattle.host_memory.specs.Memory.{bytes_at};
 
 use crate::flying_write::FlyingWrite;
@@ -40,9 +40,10 @@ pub fn have_same_bytes(one: &Memory, other: &Memory) -> bool
     one.len() == other.len() && have_same_range(one, other, 0, one.len())
 }
 
-// Whether they have the same bytes from an address on. Of a range of which neither has a page nothing is read; any other
-// that is longer than a page is halved.
+// Whether they have the same bytes from a page's first on. Of a range of which neither has a page nothing is compared;
+// any other that is longer than a page is halved between pages.
 fn have_same_range(one: &Memory, other: &Memory, at: u64, len: u64) -> bool
+    requires first { at % 4096 ≡ 0 }
     requires here { at + len ≤ length one.now.bytes }
     requires there { at + len ≤ length other.now.bytes }
     ensures { IsTrue result ↔ (bytes_at at len one.now.bytes ≡ bytes_at at len other.now.bytes) }
@@ -51,39 +52,9 @@ fn have_same_range(one: &Memory, other: &Memory, at: u64, len: u64) -> bool
         return true;
     }
     if len <= PAGE_SIZE {
-        return have_same_few(one, other, at, len as usize);
+        return one.has_same_on_page(other, at, len as usize);
     }
     prove!(at <= one.len() - len);
     let half = len.div_ceil(PAGE_SIZE) / 2 * PAGE_SIZE;
     have_same_range(one, other, at, half) && have_same_range(one, other, at + half, len - half)
-}
-
-// The same of few bytes, which are read.
-fn have_same_few(one: &Memory, other: &Memory, at: u64, len: usize) -> bool
-    requires few { len ≤ 4096 }
-    requires here { at + len ≤ length one.now.bytes }
-    requires there { at + len ≤ length other.now.bytes }
-    ensures { IsTrue result ↔ (bytes_at at len one.now.bytes ≡ bytes_at at len other.now.bytes) }
-{
-    let mut bytes = [0u8; 4096];
-    let mut others = [0u8; 4096];
-    are_read_alike(one, other, at, &mut bytes[..len], &mut others[..len])
-}
-
-// Reads bytes of both memories, and says whether they are the same.
-fn are_read_alike(
-    one: &Memory,
-    other: &Memory,
-    at: u64,
-    bytes: &mut [u8],
-    others: &mut [u8],
-) -> bool
-    requires count { length others.old ≡ length bytes.old }
-    requires here { at + length bytes.old ≤ length one.now.bytes }
-    requires there { at + length bytes.old ≤ length other.now.bytes }
-    ensures { IsTrue result ↔ (bytes_at at (length bytes.old) one.now.bytes ≡ bytes_at at (length bytes.old) other.now.bytes) }
-{
-    one.read(at, bytes);
-    other.read(at, others);
-    *bytes == *others
 }

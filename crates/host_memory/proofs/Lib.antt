@@ -1,5 +1,6 @@
 pub mod Blank
 pub mod MemoryPages
+pub mod OnPage
 pub mod Pieces
 pub mod PromisedPages
 pub mod SamePages

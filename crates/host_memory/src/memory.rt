@@ -11,6 +11,9 @@ use std::marker::Model;
 /// The bytes of a page: page 0 begins at address 0, and each further one where the one before it ends.
 pub const PAGE_SIZE: u64 = 4096;
 
+// What a page that isn't there reads as.
+static ZEROS: [u8; 4096] = [0; 4096];
+
 /// A host's memory: bytes at the addresses from 0 to its length. Contracts see its list of bytes, `bytes`, and the list
 /// of the numbers of the pages that were promised, `promised`, in which no number stands twice.
 ///
@@ -99,6 +102,24 @@ impl Memory {
             self.promises_none(first, last)
         } else {
             self.has_none(first, last)
+        }
+    }
+
+    /// Whether the `len` bytes from the address `at` on are the same in two memories. They have to lie in both, and on
+    /// one page. A page that isn't there reads as zeros. It takes no memory.
+    pub fn has_same_on_page(&self, other: &Memory, at: u64, len: usize) -> bool
+        requires here { at + len ≤ length self.now.bytes }
+        requires there { at + len ≤ length other.now.bytes }
+        requires one_page { at % 4096 + len ≤ 4096 }
+        ensures { IsTrue result ↔ (bytes_at at len self.now.bytes ≡ bytes_at at len other.now.bytes) }
+    {
+        let start = (at % PAGE_SIZE) as usize;
+        let number = at / PAGE_SIZE;
+        match (self.pages.get(number), other.pages.get(number)) {
+            (Some(page), Some(against)) => page[start..start + len] == against[start..start + len],
+            (Some(page), None) => are_zeros(&page[start..start + len]),
+            (None, Some(page)) => are_zeros(&page[start..start + len]),
+            (None, None) => true,
         }
     }
 
@@ -335,4 +356,13 @@ fn room_on_page(address: u64) -> usize
     ensures { result ≡ 4096 - address % 4096 }
 {
     (PAGE_SIZE - address % PAGE_SIZE) as usize
+}
+
+// Whether the bytes, no more than a page of them, are all zero.
+#[inline]
+fn are_zeros(bytes: &[u8]) -> bool
+    requires { length bytes.now ≤ 4096 }
+    ensures { IsTrue result ↔ (bytes.now ≡ replicate (length bytes.now) 0) }
+{
+    bytes == &ZEROS[..bytes.len()]
 }
