@@ -32,6 +32,10 @@ pub trait Machine: Drop {
         ensures made { IfOk result (λ machine. has_made machine plan.now []) }
         ensures plan { IfOk result (λ machine. plan_held machine ≡ declared_part plan.now) };
 
+    /// A machine in the same state. The only error is out of memory.
+    fn copy_of(&self, alloc: Global) -> Result<Self, AllocError>
+        ensures { IfOk result (λ copy. copy ≡ self.now) };
+
     /// Makes a step, which has to be one that a script of the machine's plan may make, and answers it. The only error
     /// is out of memory, and then nothing is promised of the steps that it has made.
     fn step(&mut self, step: &Step) -> Result<Answer, AllocError>

@@ -11,7 +11,7 @@ use Rattle.explore_search.proofs.search.outcomes_of.Goals as goal
 pub first_path-requires : goal.first_path-requires
 first_path-requires g c =
     let turn = YieldsList-turn (YieldsList-from_vec c.args.layer.items c.into_iter-group-iterator.ensures.into_iter_gives.0 (c.into_iter-group-iterator.ensures.into_iter_gives.1 ∙ c.args.layer.ok.0)) c.loop-group.yielded c.loop-group.group-iterator c.loop-group.yielded_by _ c.next.new.self c.in-Some.group c.in-Some.is c.next.ensures.steps in
-    subst (λ (group : Group g.row.M.Denot). 0 < length group.states.items) (sym turn.1) (c.requires (length c.loop-group.yielded) c.in-Some.group turn.0)
+    subst (λ (group : Group g.row.M.Denot). 0 < length group.states) (sym turn.1) (c.requires (length c.loop-group.yielded) c.in-Some.group turn.0)
 
 pub loop-group-preserved : goal.loop-group-preserved
 loop-group-preserved g c =

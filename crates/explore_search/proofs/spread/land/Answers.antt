@@ -33,7 +33,7 @@ returns-in_ok-join-clause-grown g c =
     let copied = c.in_ok-landings.ensures.items ∙ c.deref.ensures.value in
     let at = subst (λ (landings : List Landing). g.M.Machine.has_made c.in_ok-machine.machine plan (path (script_of plan) landings c.args.done)) (c.deref-2.ensures.value ∙ copied) c.in_ok-machine.ensures.made in
     let size = length-map plan.steps (λ (line : Line). line.step) in
-    grown_by_landing g.M.Machine.has_made g.M.Machine.plan_held g.M.Machine.key_of plan c.args.done c.args.states.now.items c.join.new.states.items c.args.from state c.args.landing c.push.new.self.items
+    grown_by_landing g.M.Machine.has_made g.M.Machine.plan_held g.M.Machine.key_of plan c.args.done c.args.states.now c.join.new.states c.args.from state c.args.landing c.push.new.self.items
     c.requires.from c.index.ensures (omega arith) c.requires.landing (c.in_ok-push.ensures.items ∙ ap (λ (landings : List Landing). landings ++ c.args.landing ∷ []) copied)
     (ap is_landed (ap (λ (step : Step). answer_after plan (made_to plan c.args.done state) step) (sym c.as_step.ensures) ∙ sym (c.in_ok-answer.ensures.answer plan (made_to plan c.args.done state) at))
     ∙ landed_is_landed c.in_ok-answer.answer c.in-Landed.label c.in-Landed.is)
@@ -47,9 +47,9 @@ returns-in_ok-join-clause-lands g c =
     let landings : List Landing = c.index.result.now.landings.items in
     let copied = c.in_ok-landings.ensures.items ∙ c.deref.ensures.value in
     let at = subst (λ (landings : List Landing). g.M.Machine.has_made c.in_ok-machine.machine plan (path (script_of plan) landings c.args.done)) (c.deref-2.ensures.value ∙ copied) c.in_ok-machine.ensures.made in
-    subst (λ (state : State g.row.M.Denot). Lands g.M.Machine.has_made plan c.args.done c.join.new.states.items state c.args.landing)
-    (get_or_read c.args.states.now.items c.args.from state c.requires.from c.index.ensures d)
-    (leads_by_landing g.M.Machine.has_made g.M.Machine.plan_held g.M.Machine.key_of plan c.args.done g.met.M.Machine.same_steps c.args.states.now.items c.join.new.states.items state c.args.landing c.push.new.self.items
+    subst (λ (state : State g.row.M.Denot). Lands g.M.Machine.has_made plan c.args.done c.join.new.states state c.args.landing)
+    (get_or_read c.args.states.now c.args.from state c.requires.from c.index.ensures d)
+    (leads_by_landing g.M.Machine.has_made g.M.Machine.plan_held g.M.Machine.key_of plan c.args.done g.met.M.Machine.same_steps c.args.states.now c.join.new.states state c.args.landing c.push.new.self.items
     c.in_ok-machine.machine c.step.new.self c.as_step.result at (λ made has. c.in_ok-answer.ensures.made plan made has) c.as_step.ensures
     (made_by_landing g.M.Machine.has_made g.M.Machine.plan_held g.M.Machine.key_of plan c.args.done c.step.new.self landings c.push.new.self.items c.args.landing c.as_step.result
     (c.in_ok-answer.ensures.made plan (path (script_of plan) landings c.args.done) at)
@@ -63,10 +63,10 @@ returns-in_default g c =
     let copied = c.in_ok-landings.ensures.items ∙ c.deref.ensures.value in
     let at = subst (λ (landings : List Landing). g.M.Machine.has_made c.in_ok-machine.machine plan (path (script_of plan) landings c.args.done)) (c.deref-2.ensures.value ∙ copied) c.in_ok-machine.ensures.made in
     record {
-      grown = grown_same g.M.Machine.has_made g.M.Machine.plan_held g.M.Machine.key_of plan c.args.done c.args.states.now.items;
+      grown = grown_same g.M.Machine.has_made g.M.Machine.plan_held g.M.Machine.key_of plan c.args.done c.args.states.now;
       lands = λ d.
-          subst (λ (state : State g.row.M.Denot). Lands g.M.Machine.has_made plan c.args.done c.args.states.now.items state c.args.landing)
-          (get_or_read c.args.states.now.items c.args.from state c.requires.from c.index.ensures d)
+          subst (λ (state : State g.row.M.Denot). Lands g.M.Machine.has_made plan c.args.done c.args.states.now state c.args.landing)
+          (get_or_read c.args.states.now c.args.from state c.requires.from c.index.ensures d)
           (λ made reaches landed.
           let has = g.met.M.Machine.same_steps plan (made_to plan c.args.done state) made reaches.0 c.in_ok-machine.machine reaches.1 at reaches.2 in
           absurd

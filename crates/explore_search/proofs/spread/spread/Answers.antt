@@ -14,7 +14,7 @@ land-requires-clause-states g c = c.loop-landing.invariant.grown.each c.requires
 
 pub land-requires-clause-from : goal.land-requires-clause-from
 land-requires-clause-from g c =
-    let more = no_fewer g.M.Machine.has_made g.M.Machine.plan_held g.M.Machine.key_of c.args.plan.now c.args.done c.args.states.now.items c.loop-landing.states.items c.loop-landing.invariant.grown in
+    let more = no_fewer g.M.Machine.has_made g.M.Machine.plan_held g.M.Machine.key_of c.args.plan.now c.args.done c.args.states.now c.loop-landing.states c.loop-landing.invariant.grown in
     omega (arith, c.requires.from)
 
 pub land-requires-clause-landing : goal.land-requires-clause-landing
@@ -26,7 +26,7 @@ land-requires-clause-landing g c =
 
 pub loop-landing-init : goal.loop-landing-init
 loop-landing-init g c = record {
-  grown = grown_same g.M.Machine.has_made g.M.Machine.plan_held g.M.Machine.key_of c.args.plan.now c.args.done c.args.states.now.items;
+  grown = grown_same g.M.Machine.has_made g.M.Machine.plan_held g.M.Machine.key_of c.args.plan.now c.args.done c.args.states.now;
   led = λ k d state below. absurd (omega arith);
 }
 
@@ -34,10 +34,10 @@ pub loop-landing-preserved : goal.loop-landing-preserved
 unfolding no_landing
 loop-landing-preserved g c = record {
   grown =
-      grown_more g.M.Machine.has_made g.M.Machine.plan_held g.M.Machine.key_of c.args.plan.now c.args.done c.args.states.now.items c.loop-landing.states.items c.land.new.states.items
+      grown_more g.M.Machine.has_made g.M.Machine.plan_held g.M.Machine.key_of c.args.plan.now c.args.done c.args.states.now c.loop-landing.states c.land.new.states
       c.loop-landing.invariant.grown c.in_ok-land.ensures.grown;
   led =
-      led_more g.M.Machine.has_made g.M.Machine.plan_held g.M.Machine.key_of c.args.plan.now c.args.done c.args.states.now.items c.loop-landing.states.items c.land.new.states.items
+      led_more g.M.Machine.has_made g.M.Machine.plan_held g.M.Machine.key_of c.args.plan.now c.args.done c.args.states.now c.loop-landing.states c.land.new.states
       c.args.from c.deref-landing-items.result.now c.loop-landing.landing-index no_landing c.requires.from (omega arith) c.loop-landing.invariant.grown c.in_ok-land.ensures.grown
       c.loop-landing.invariant.led c.in_ok-land.ensures.lands;
 }
@@ -46,7 +46,7 @@ pub returns : goal.returns
 returns g c = record {
   grown = c.loop-landing.invariant.grown;
   spread =
-      spread_by_tried g.M.Machine.has_made g.M.Machine.plan_held g.M.Machine.key_of c.args.plan.now c.args.done c.args.states.now.items c.loop-landing.states.items
+      spread_by_tried g.M.Machine.has_made g.M.Machine.plan_held g.M.Machine.key_of c.args.plan.now c.args.done c.args.states.now c.loop-landing.states
       c.args.from c.index.result.now c.deref-landing-items.result.now c.in_ok-landings.landings.items c.loop-landing.landing-index c.requires.from c.index.ensures c.deref-landing-items.ensures.value
       (omega arith) c.in_ok-landings.ensures c.loop-landing.invariant.led;
 }
