@@ -6,7 +6,7 @@ ghost use Rattle.plan_model.specs.DeclaredPlans.{IsPairOf};
 ghost use Rattle.explore_search.specs.Machines.{declared_part};
 ghost use Rattle.explore_search.specs.Paths.{IsExplorable};
 ghost use Rattle.explore_search.specs.Spread.{AreAdded, AreClosed, IsNext, IsOfSide, IsSpread, Lands};
-ghost use Rattle.explore_search.specs.States.{HaveGrown, IsMachineAt, IsState, made_to};
+ghost use Rattle.explore_search.specs.States.{HaveGrown, IsMachineAt, IsSpareOf, IsState, made_to};
 
 use crate::machine::Machine;
 use crate::paths::rebuilt;
@@ -59,57 +59,66 @@ fn spread<M: Machine>(
     ensures grown { OnOk result (HaveGrown M.has_made M.plan_held M.key_of plan.now done states.old states.new) }
     ensures spread { OnOk result (HoldsAt (IsSpread M.has_made plan.now done states.new) states.old from) }
 {
-    let machine = machine_of(alloc, plan, done, &states.as_slice()[from])?;
+    let machine = machine_of(alloc, plan, done, &states.as_slice()[from], None)?;
     let landings = landings_at(alloc, plan, done, &machine)?;
+    let mut spare = Some(machine);
     for landing in &landings {
-        land(alloc, plan, done, states, from, &machine, *landing, is_kept)?;
+        spare = land(alloc, plan, done, states, from, spare, *landing, is_kept)?;
     }
     Ok(())
 }
 
-// Makes a landing after a state, of which this is a machine, and adds the state to which it leads where it is answered
-// `landed`.
+// Makes a landing after a state, and adds the state to which it leads where it is answered `landed`. It takes a machine of
+// the state where one is at hand, and answers one where the landing left it at the state.
 fn land<M: Machine>(
     alloc: Global,
     plan: &Plan,
     done: usize,
     states: &mut States<M>,
     from: usize,
-    machine: &M,
+    spare: Option<M>,
     landing: Landing,
     is_kept: bool,
-) -> Result<(), AllocError>
+) -> Result<Option<M>, AllocError>
     requires plan { IsExplorable plan.now }
     requires done { done ≤ length plan.now.steps }
     requires states { All (IsState M.has_made M.plan_held M.key_of plan.now done) states.old }
     requires from { from < length states.old }
-    requires machine { HoldsAt (λ state. IsMachineAt M.has_made M.plan_held plan.now (made_to plan.now done state) machine.now) states.old from }
+    requires spare { HoldsAt (IsSpareOf M.has_made M.plan_held plan.now done spare) states.old from }
     requires landing { IsNext plan.now done landing }
     ensures grown { OnOk result (HaveGrown M.has_made M.plan_held M.key_of plan.now done states.old states.new) }
     ensures lands { OnOk result (HoldsAt (λ state. Lands M.has_made plan.now done states.new state landing) states.old from) }
+    ensures spare { IfOk result (λ spare. HoldsAt (IsSpareOf M.has_made M.plan_held plan.now done spare) states.old from) }
 {
-    let mut next = machine.copy_of(alloc)?;
-    let answer = next.step(&landing.as_step())?;
-    if let Answer::Landed { .. } = answer {
-        let mut landings = Vec::from_slice(alloc, &states.as_slice()[from].landings)?;
-        landings.push(landing)?;
-        join(alloc, plan, done, states, landings, next, is_kept)?;
-    }
-    Ok(())
+    let mut machine = machine_of(alloc, plan, done, &states.as_slice()[from], spare)?;
+    let answer = machine.step(&landing.as_step())?;
+    let Answer::Landed { .. } = answer else {
+        return Ok(Some(machine));
+    };
+    let mut landings = Vec::from_slice(alloc, &states.as_slice()[from].landings)?;
+    landings.push(landing)?;
+    join(alloc, plan, done, states, landings, machine, is_kept)?;
+    Ok(None)
 }
 
-// A machine of a state: a copy of the one that is kept, or one that is made anew along the path.
+// A machine of a state: the one at hand, or a copy of the one that the state keeps, or one that is made anew along the
+// path.
 fn machine_of<M: Machine>(
     alloc: Global,
     plan: &Plan,
     done: usize,
     state: &State<M>,
+    spare: Option<M>,
 ) -> Result<M, AllocError>
     requires plan { IsExplorable plan.now }
     requires done { done ≤ length plan.now.steps }
     requires state { IsState M.has_made M.plan_held M.key_of plan.now done state.now }
+    requires spare { IsSpareOf M.has_made M.plan_held plan.now done spare state.now }
     ensures { IfOk result (IsMachineAt M.has_made M.plan_held plan.now (made_to plan.now done state.now)) }
 {
+    if let Some(machine) = spare {
+        return Ok(machine);
+    }
     match &state.machine {
         Some(machine) => machine.copy_of(alloc),
         None => rebuilt::<M>(alloc, plan, &state.landings, done),

@@ -8,7 +8,6 @@ use Rattle.explore_search.proofs.spread.close.Goals.{then-loop-from-test+else-le
 pub loop-from-preserved : goal.loop-from-preserved
 loop-from-preserved g c =
     let more = no_fewer g.M.Machine.has_made g.M.Machine.plan_held g.M.Machine.key_of c.args.plan.now c.args.done c.loop-from.states c.spread.new.states c.in_ok-spread.ensures.grown in
-    let size = c.loop-from.states.ok.0 in
     let below : c.loop-from.from < length c.loop-from.states = omega (arith, c.len.ensures) in
     record {
       within = omega arith;
@@ -23,7 +22,6 @@ loop-from-preserved g c =
 pub returns-clause-closed : goal.returns-clause-closed
 returns-clause-closed g c =
     λ yes k d below.
-    let size = c.loop-from.states.ok.0 in
     let fits = leb-true c.len-2.result c.args.room yes in
     c.loop-from.invariant.spread k d
     (elim c.loop-from-test.branch [

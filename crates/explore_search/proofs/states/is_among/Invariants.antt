@@ -1,4 +1,4 @@
-use Rattle.std.proofs.Common.{ℕ, ◌+◌, ◌<◌, List, None, Option, Some, length}
+use Rattle.std.proofs.Common.{◌<◌, List, length}
 use Rattle.std.specs.Prelude.{IfSome}
 use Rattle.step_kinds.specs.declared.steps.Step.{Step}
 use Rattle.explore_search.specs.States.{Reaches}
