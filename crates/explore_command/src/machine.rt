@@ -36,6 +36,12 @@ impl Machine for PathCluster {
         })
     }
 
+    fn copy_of(&self, alloc: Global) -> Result<PathCluster, AllocError> {
+        Ok(PathCluster {
+            cluster: self.cluster.copy_of(alloc)?,
+        })
+    }
+
     fn step(&mut self, step: &Step) -> Result<Answer, AllocError> {
         self.cluster.step(step)
     }

@@ -72,7 +72,7 @@ module _ {M : Type 0} (has_made : M → Plan → List Step → Type 0) (plan : P
     within : All (λ run. (length run.first < done) ⊎ ((length run.first ≡ done) × ((k : ℕ) × (group : Group M) × (k < n) × (get_or groups k group ≡ group) × (run.answers ≡ group.answers)))) seen
     all : (run : Passing plan (script_of plan)) → length run.first < done → Any (λ state. LeadToOne has_made plan (script_of plan) state run) seen
     here : (k : ℕ) (d : Group M) → k < n → (run : Passing plan (script_of plan)) → run.first ≡ take done (script_of plan) → run.answers ≡ (get_or groups k d).answers →
-        Covers has_made plan done (get_or groups k d).states.items run.made → Any (λ state. LeadToOne has_made plan (script_of plan) state run) seen
+        Covers has_made plan done (get_or groups k d).states run.made → Any (λ state. LeadToOne has_made plan (script_of plan) state run) seen
 
 module _ {M : Type 0} (has_made : M → Plan → List Step → Type 0) (plan_held : M → Plan) (key_of : M → List ℕ) (plan : Plan) (done : ℕ) where
   -- no group is counted yet
@@ -98,13 +98,13 @@ module _ {M : Type 0} (has_made : M → Plan → List Step → Type 0) (plan_hel
 
   -- one group more is counted
   counting_more : (groups : List (Group M)) (n count : ℕ) (d : Group M) → done ≤ length (script_of plan) → n < length groups → IsLayer has_made plan_held key_of plan done groups →
-      IsCounting has_made plan done groups n count → IsCounting has_made plan done groups (n + 1) (count + length (get_or groups n d).states.items)
+      IsCounting has_made plan done groups n count → IsCounting has_made plan done groups (n + 1) (count + length (get_or groups n d).states)
   counting_more groups n count d within below is before =
       let group : Group M = get_or groups n d in
       let are = is.groups n d below in
-      let more = passings has_made plan done group.answers group.states.items are.runs in
-      let many = as_many has_made plan done group.answers group.states.items are.runs in
-      let to = to_at has_made plan done group.answers group.states.items are.runs in
+      let more = passings has_made plan done group.answers group.states are.runs in
+      let many = as_many has_made plan done group.answers group.states are.runs in
+      let to = to_at has_made plan done group.answers group.states are.runs in
       record {
         seen = before.seen ++ more;
         counted = length-append before.seen more ∙ ap (λ (n : ℕ). n + length more) before.counted ∙ ap (λ (n : ℕ). count + n) many;
@@ -115,7 +115,7 @@ module _ {M : Type 0} (has_made : M → Plan → List Step → Type 0) (plan_hel
             let one_to = to i run first (omega (arith, many)) in
             let other_to = to j run first (omega (arith, many)) in
             are.two i j first lt (omega (arith, many))
-            (subst (λ (made : List Step). CanHaveMade has_made plan made (made_to plan done (get_or group.states.items j first))) one_to.made
+            (subst (λ (made : List Step). CanHaveMade has_made plan made (made_to plan done (get_or group.states j first))) one_to.made
             (subst (λ (made : List Step). CanHaveMade has_made plan (get_or more i run).made made) other_to.made one.made)))
             (λ i j run i_below j_below one.
             let first = are.begins.first in
@@ -142,7 +142,7 @@ module _ {M : Type 0} (has_made : M → Plan → List Step → Type 0) (plan_hel
               | inl earlier ↦ any_longer (λ (state : Passing plan (script_of plan)). LeadToOne has_made plan (script_of plan) state run) before.seen more (before.here k e earlier run first answered covers)
               | inr later ↦ (let at : k ≡ n = omega arith in
                   let same : get_or groups k e ≡ group = ap (λ (k : ℕ). get_or groups k e) at ∙ get_or_default groups n e d below in
-                  let some : Covers has_made plan done group.states.items run.made = subst (λ (group : Group M). Covers has_made plan done group.states.items run.made) same covers in
+                  let some : Covers has_made plan done group.states run.made = subst (λ (group : Group M). Covers has_made plan done group.states run.made) same covers in
                   let run_to = to some.0 run some.1 some.2 in
                   any_later (λ (state : Passing plan (script_of plan)). LeadToOne has_made plan (script_of plan) state run) before.seen more (
                     some.0,
@@ -167,7 +167,7 @@ module _ {M : Type 0} (has_made : M → Plan → List Step → Type 0) (plan_hel
   counting_first groups (suc n) count within below is before =
       let d : Group M = first_item groups (omega arith) in
       let here = counting_more groups n (count + states_in (take n groups)) d within (omega arith) is (counting_first groups n count within (omega arith) is before) in
-      let more = fold_more (λ count (group : Group M). count + length group.states.items) 0 groups n d (omega arith) in
+      let more = fold_more (λ count (group : Group M). count + length group.states) 0 groups n d (omega arith) in
       subst (λ (n : ℕ). IsCounting has_made plan done groups n (count + states_in (take n groups))) (omega arith)
       (subst (λ (count : ℕ). IsCounting has_made plan done groups (n + 1) count) (omega (arith, more)) here)
 
@@ -188,7 +188,7 @@ module _ {M : Type 0} (has_made : M → Plan → List Step → Type 0) (plan_hel
                   let first : run.first ≡ take done (script_of plan) = sym (ap (λ (script : List Step). take done script) run.whole ∙ take_at run.first run.left done long) in
                   let some = full.full run.landings run.made run.answers (subst (λ (script : List Step). Runs plan script run.landings run.made run.answers) first run.run) in
                   whole.here some.0 some.1 some.2 run first (sym (ap (λ (group : Group M). group.answers) some.3 ∙ some.4.0))
-                  (subst (λ (group : Group M). Covers has_made plan done group.states.items run.made) (sym some.3) some.4.1))
+                  (subst (λ (group : Group M). Covers has_made plan done group.states run.made) (sym some.3) some.4.1))
             ];
       }
 

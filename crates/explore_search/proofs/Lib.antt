@@ -1,5 +1,6 @@
 pub mod AlongPaths
 pub mod Candidates
+pub mod ChainedStates
 pub mod Census
 pub mod ClosedLayers
 pub mod LandedAnswers

@@ -19,14 +19,14 @@ use Rattle.explore_search.proofs.OrderOfAnswers.{as_many_answers, longer_less, p
 module _ {M : Type 0} (has_made : M → Plan → List Step → Type 0) (plan_held : M → Plan) (key_of : M → List ℕ) (plan : Plan) (done : ℕ) where
   -- the groups of branches
   pub groups_of_branches : (answers : List (List ℕ)) (group : Group M) (branches : List (Branch M)) (groups : List (Group M)) → group.answers ≡ answers →
-      HaveBranched has_made plan_held key_of plan done group.states.items branches → groups ≡ map (with_answers answers) branches → HasGroups has_made plan_held key_of plan done group groups
+      HaveBranched has_made plan_held key_of plan done group.states branches → groups ≡ map (with_answers answers) branches → HasGroups has_made plan_held key_of plan done group groups
   groups_of_branches answers group branches groups same have is =
       subst (λ (groups : List (Group M)). HasGroups has_made plan_held key_of plan done group groups) (sym is)
       (record {
-        kept = All-map (λ (next : Group M). AreKept has_made plan_held key_of plan (done + 1) next.states.items) (with_answers answers) branches have.kept;
+        kept = All-map (λ (next : Group M). AreKept has_made plan_held key_of plan (done + 1) next.states) (with_answers answers) branches have.kept;
         each = λ are.
-            All-map (λ (next : Group M). AreStates has_made plan_held key_of plan (done + 1) next.answers next.states.items) (with_answers answers) branches
-            (have.each answers (subst (λ (answers : List (List ℕ)). All (HasRun plan done answers) group.states.items) same are.runs));
+            All-map (λ (next : Group M). AreStates has_made plan_held key_of plan (done + 1) next.answers next.states) (with_answers answers) branches
+            (have.each answers (subst (λ (answers : List (List ℕ)). All (HasRun plan done answers) group.states) same are.runs));
         ordered = λ i j d lt below.
             let size = length-map branches (with_answers {M = M} answers) in
             let e : Branch M = record { text = []; states = d.states } in
@@ -39,7 +39,7 @@ module _ {M : Type 0} (has_made : M → Plan → List Step → Type 0) (plan_hel
 
   -- what they cover
   pub covers_of_branches : (answers : List (List ℕ)) (group : Group M) (branches : List (Branch M)) (groups : List (Group M)) → group.answers ≡ answers →
-      HaveBranched has_made plan_held key_of plan done group.states.items branches → groups ≡ map (with_answers answers) branches → GroupsCover has_made plan_held key_of plan done group groups
+      HaveBranched has_made plan_held key_of plan done group.states branches → groups ≡ map (with_answers answers) branches → GroupsCover has_made plan_held key_of plan done group groups
   covers_of_branches answers group branches groups same have is made covers =
       let some = have.taken made covers in
       let size = length-map branches (with_answers {M = M} answers) in
@@ -59,11 +59,11 @@ module _ {M : Type 0} (has_made : M → Plan → List Step → Type 0) (plan_hel
 
   -- the groups to which the step leads from the first of a layer
   pub record IsNextOf (layer : List (Group M)) (count : ℕ) (next : List (Group M)) : Type 0 where
-    pub kept : All (λ group. AreKept has_made plan_held key_of plan (done + 1) group.states.items) next
-    pub each : IsLayer has_made plan_held key_of plan done layer → All (λ group. AreStates has_made plan_held key_of plan (done + 1) group.answers group.states.items) next
+    pub kept : All (λ group. AreKept has_made plan_held key_of plan (done + 1) group.states) next
+    pub each : IsLayer has_made plan_held key_of plan done layer → All (λ group. AreStates has_made plan_held key_of plan (done + 1) group.answers group.states) next
     pub from : All (ComesFrom layer count) next
     pub ordered : IsLayer has_made plan_held key_of plan done layer → AllPairs (λ one other. answers_cmp one.answers other.answers ≡ Less) next
-    pub covers : (k : ℕ) (d : Group M) → k < count → (made : List Step) → Covers has_made plan done (get_or layer k d).states.items made →
+    pub covers : (k : ℕ) (d : Group M) → k < count → (made : List Step) → Covers has_made plan done (get_or layer k d).states made →
         LayerCovers has_made plan_held key_of plan (done + 1) next ((get_or layer k d).answers ++ text_after plan made (step_at plan done) ∷ []) (made ++ step_at plan done ∷ [])
 
   -- no group yet
@@ -93,10 +93,10 @@ module _ {M : Type 0} (has_made : M → Plan → List Step → Type 0) (plan_hel
       IsNextOf layer (count + 1) (next ++ groups)
   next_of_more layer count next groups group within below is before have cover =
       record {
-        kept = All-append (λ (group : Group M). AreKept has_made plan_held key_of plan (done + 1) group.states.items) next groups before.kept have.kept;
+        kept = All-append (λ (group : Group M). AreKept has_made plan_held key_of plan (done + 1) group.states) next groups before.kept have.kept;
         each = λ layered.
-            All-append (λ (group : Group M). AreStates has_made plan_held key_of plan (done + 1) group.answers group.states.items) next groups (before.each layered)
-            (have.each (subst (λ (group : Group M). AreStates has_made plan_held key_of plan done group.answers group.states.items) (sym is) (layered.groups count group below)));
+            All-append (λ (group : Group M). AreStates has_made plan_held key_of plan (done + 1) group.answers group.states) next groups (before.each layered)
+            (have.each (subst (λ (group : Group M). AreStates has_made plan_held key_of plan done group.answers group.states) (sym is) (layered.groups count group below)));
         from =
             All-append (ComesFrom layer (count + 1)) next groups
             (λ k d lt. let came = before.from k d lt in (came.0, came.1, omega (arith, came.2), came.3, came.4))
@@ -117,16 +117,16 @@ module _ {M : Type 0} (has_made : M → Plan → List Step → Type 0) (plan_hel
             (longer_less came.1.answers group.answers came.4.0 name.0 same_long less)));
         covers = λ k d lt.
             each_more
-            (λ (from : Group M). (made : List Step) → Covers has_made plan done from.states.items made →
+            (λ (from : Group M). (made : List Step) → Covers has_made plan done from.states made →
             LayerCovers has_made plan_held key_of plan (done + 1) next (from.answers ++ text_after plan made (step_at plan done) ∷ []) (made ++ step_at plan done ∷ []))
-            (λ (from : Group M). (made : List Step) → Covers has_made plan done from.states.items made →
+            (λ (from : Group M). (made : List Step) → Covers has_made plan done from.states made →
             LayerCovers has_made plan_held key_of plan (done + 1) (next ++ groups) (from.answers ++ text_after plan made (step_at plan done) ∷ []) (made ++ step_at plan done ∷ []))
             layer count group below
-            (λ from covers made some. any_longer (λ (group : Group M). (group.answers ≡ from.answers ++ text_after plan made (step_at plan done) ∷ []) × Covers has_made plan (done + 1) group.states.items (made ++ step_at plan done ∷ [])) next groups (covers made some))
+            (λ from covers made some. any_longer (λ (group : Group M). (group.answers ≡ from.answers ++ text_after plan made (step_at plan done) ∷ []) × Covers has_made plan (done + 1) group.states (made ++ step_at plan done ∷ [])) next groups (covers made some))
             before.covers
-            (subst (λ (from : Group M). (made : List Step) → Covers has_made plan done from.states.items made →
+            (subst (λ (from : Group M). (made : List Step) → Covers has_made plan done from.states made →
             LayerCovers has_made plan_held key_of plan (done + 1) (next ++ groups) (from.answers ++ text_after plan made (step_at plan done) ∷ []) (made ++ step_at plan done ∷ [])) is
-            (λ made some. any_later (λ (next : Group M). (next.answers ≡ group.answers ++ text_after plan made (step_at plan done) ∷ []) × Covers has_made plan (done + 1) next.states.items (made ++ step_at plan done ∷ [])) next groups (cover made some)))
+            (λ made some. any_later (λ (next : Group M). (next.answers ≡ group.answers ++ text_after plan made (step_at plan done) ∷ []) × Covers has_made plan (done + 1) next.states (made ++ step_at plan done ∷ [])) next groups (cover made some)))
             k d lt;
       }
 
@@ -139,5 +139,5 @@ module _ {M : Type 0} (has_made : M → Plan → List Step → Type 0) (plan_hel
         covers = λ answers made some.
             subst (λ (answers : List (List ℕ)). LayerCovers has_made plan_held key_of plan (done + 1) next (answers ++ text_after plan made (step_at plan done) ∷ []) (made ++ step_at plan done ∷ []))
             (ap (λ (group : Group M). group.answers) some.3 ∙ some.4.0)
-            (before.covers some.0 some.1 (omega (arith, some.2)) made (subst (λ (group : Group M). Covers has_made plan done group.states.items made) (sym some.3) some.4.1));
+            (before.covers some.0 some.1 (omega (arith, some.2)) made (subst (λ (group : Group M). Covers has_made plan done group.states made) (sym some.3) some.4.1));
       }

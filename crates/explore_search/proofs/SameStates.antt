@@ -1,12 +1,16 @@
 -- When a state is that of a machine.
-use Rattle.std.proofs.Common.{inl, inr, ◌≡◌, ◌∙◌, ◌↔◌, ℕ, ◌+◌, ◌<◌, ◌≤◌, Bool, IsTrue, List, arith, get_or, length, subst, sym}
+use Rattle.std.proofs.Common.{inl, inr, ◌≡◌, ◌∙◌, ◌↔◌, ℕ, ◌+◌, ◌<◌, ◌≤◌, Bool, IsTrue, List, Option, arith, get_or, length, subst, sym}
+use Rattle.std.specs.List.{All}
+use Rattle.std.specs.Prelude.{IfSome}
 use Rattle.std.proofs.lemmas.Bool.{cases_lt}
 use Rattle.std.proofs.lemmas.List.{get_or_read}
 use Rattle.step_kinds.specs.declared.plan.Plan.{Plan}
 use Rattle.step_kinds.specs.declared.steps.Step.{Step}
 use Rattle.explore_model.specs.States.{CanHaveMade}
+use Rattle.explore_model.specs.declared.outcome.Landing.{Landing}
 use Rattle.explore_search.specs.Machines.{HaveSameKeys, HaveSameSteps}
-use Rattle.explore_search.specs.States.{Covers, IsState, Reaches, made_to}
+use Rattle.explore_search.specs.Paths.{IsLandingBy, path, script_of}
+use Rattle.explore_search.specs.States.{Covers, IsMachineAt, IsState, Reaches, made_to}
 use Rattle.explore_search.specs.declared.states.State.{State}
 
 module _ {M : Type 0} (has_made : M → Plan → List Step → Type 0) where
@@ -55,3 +59,17 @@ module _ {M : Type 0} (has_made : M → Plan → List Step → Type 0) (plan_hel
       Reaches has_made plan done state made → ⊥
   other_key same plan done state machine made key is has key_is differ reaches =
       differ (sym (is.key reaches.0 reaches.1) ∙ same plan made reaches.0 machine reaches.2 has ∙ sym key_is)
+
+  -- a state with this path, key and machine
+  pub state_by : (plan : Plan) (done : ℕ) (state : State M) (landings : List Landing) (key : List ℕ) (machine : Option M) →
+      state.landings.items ≡ landings → state.key.items ≡ key → state.machine ≡ machine → All (IsLandingBy plan done) landings →
+      ((it : M) → has_made it plan (path (script_of plan) landings done) → key_of it ≡ key) →
+      IfSome machine (IsMachineAt has_made plan_held plan (path (script_of plan) landings done)) → IsState has_made plan_held key_of plan done state
+  state_by plan done state landings key machine path_is key_is machine_is may has kept =
+      record {
+        landings = subst (λ (landings : List Landing). All (IsLandingBy plan done) landings) (sym path_is) may;
+        key = λ it made. has it (subst (λ (landings : List Landing). has_made it plan (path (script_of plan) landings done)) path_is made) ∙ sym key_is;
+        kept =
+            subst (λ (landings : List Landing). IfSome state.machine (IsMachineAt has_made plan_held plan (path (script_of plan) landings done))) (sym path_is)
+            (subst (λ (machine : Option M). IfSome machine (IsMachineAt has_made plan_held plan (path (script_of plan) landings done))) (sym machine_is) kept);
+      }

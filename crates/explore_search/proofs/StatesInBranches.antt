@@ -83,52 +83,52 @@ module _ {M : Type 0} (has_made : M → Plan → List Step → Type 0) (plan_hel
 
   -- the branch of the text was there
   pub placed_found : (same : HaveSameSteps has_made) (text : List ℕ) (landings : List Landing) (old : List (Branch M)) (p : ℕ) (branch now : Branch M) → p < length old →
-      branch ≡ get_or old p branch → branch.text ≡ text → now.text ≡ branch.text → Joined has_made plan_held key_of plan done landings branch.states.items now.states.items →
-      All (λ branch. AreKept has_made plan_held key_of plan done branch.states.items) old → HasPlaced has_made plan_held key_of plan done text landings old (set old p now)
+      branch ≡ get_or old p branch → branch.text ≡ text → now.text ≡ branch.text → Joined has_made plan_held key_of plan done landings branch.states now.states →
+      All (λ branch. AreKept has_made plan_held key_of plan done branch.states) old → HasPlaced has_made plan_held key_of plan done text landings old (set old p now)
   placed_found same text landings old p branch now below is named named_now joined kept =
-      let Kept : Branch M → Type 0 = λ branch. AreKept has_made plan_held key_of plan done branch.states.items in
+      let Kept : Branch M → Type 0 = λ branch. AreKept has_made plan_held key_of plan done branch.states in
       record {
-        kept = All-set Kept old p now (kept_by_join landings branch.states.items now.states.items joined (subst Kept (sym is) (kept p branch below))) kept;
+        kept = All-set Kept old p now (kept_by_join landings branch.states now.states joined (subst Kept (sym is) (kept p branch below))) kept;
         each = λ answers run before all.
-            let Are : Branch M → Type 0 = λ branch. AreStates has_made plan_held key_of plan done (answers ++ branch.text ∷ []) branch.states.items in
+            let Are : Branch M → Type 0 = λ branch. AreStates has_made plan_held key_of plan done (answers ++ branch.text ∷ []) branch.states in
             let there : Are branch = subst Are (sym is) (all p branch below) in
             All-set Are old p now
-            (subst (λ (name : List ℕ). AreStates has_made plan_held key_of plan done (answers ++ name ∷ []) now.states.items) (sym named_now)
-            (states_by_join (answers ++ branch.text ∷ []) landings branch.states.items now.states.items joined
+            (subst (λ (name : List ℕ). AreStates has_made plan_held key_of plan done (answers ++ name ∷ []) now.states) (sym named_now)
+            (states_by_join (answers ++ branch.text ∷ []) landings branch.states now.states joined
             (subst (λ (name : List ℕ). Runs plan (take done (script_of plan)) landings (path (script_of plan) landings done) (answers ++ name ∷ [])) (sym named) run) there))
             all;
         ordered = ordered_with_set old p branch now below is named_now;
         stays = λ name made.
-            any_with_set (λ (branch : Branch M). (branch.text ≡ name) × Covers has_made plan done branch.states.items made) old p branch now below is
-            (λ has. (named_now ∙ has.0, covers_by_join landings branch.states.items now.states.items made joined has.1));
+            any_with_set (λ (branch : Branch M). (branch.text ≡ name) × Covers has_made plan done branch.states made) old p branch now below is
+            (λ has. (named_now ∙ has.0, covers_by_join landings branch.states now.states made joined has.1));
         taken = λ machine made at has.
-            any_set (λ (branch : Branch M). (branch.text ≡ text) × Covers has_made plan done branch.states.items made) old p now below
-            (named_now ∙ named, covered_by_join has_made plan_held key_of plan done same landings branch.states.items now.states.items machine made joined at has);
+            any_set (λ (branch : Branch M). (branch.text ≡ text) × Covers has_made plan done branch.states made) old p now below
+            (named_now ∙ named, covered_by_join has_made plan_held key_of plan done same landings branch.states now.states machine made joined at has);
       }
 
   -- the branch of the text was put in
   pub placed_new : (same : HaveSameSteps has_made) (text : List ℕ) (landings : List Landing) (old : List (Branch M)) (p : ℕ) (now : Branch M) → p ≤ length old →
       ((k : ℕ) (d : Branch M) → k < p → slice_cmp nat_cmp (get_or old k d).text text ≡ Less) →
       ((d : Branch M) → p < length old → slice_cmp nat_cmp (get_or old p d).text text ≡ Greater) →
-      now.text ≡ text → Joined has_made plan_held key_of plan done landings [] now.states.items →
-      All (λ branch. AreKept has_made plan_held key_of plan done branch.states.items) old → HasPlaced has_made plan_held key_of plan done text landings old (insert old p now)
+      now.text ≡ text → Joined has_made plan_held key_of plan done landings [] now.states →
+      All (λ branch. AreKept has_made plan_held key_of plan done branch.states) old → HasPlaced has_made plan_held key_of plan done text landings old (insert old p now)
   placed_new same text landings old p now within before after named joined kept =
       record {
         kept =
-            all_with_insert (λ (branch : Branch M). AreKept has_made plan_held key_of plan done branch.states.items) old p now kept
-            (kept_by_join landings [] now.states.items joined (λ k d below. absurd (omega arith)));
+            all_with_insert (λ (branch : Branch M). AreKept has_made plan_held key_of plan done branch.states) old p now kept
+            (kept_by_join landings [] now.states joined (λ k d below. absurd (omega arith)));
         each = λ answers run first all.
-            all_with_insert (λ (branch : Branch M). AreStates has_made plan_held key_of plan done (answers ++ branch.text ∷ []) branch.states.items) old p now all
-            (one_by_join (answers ++ now.text ∷ []) landings now.states.items joined
+            all_with_insert (λ (branch : Branch M). AreStates has_made plan_held key_of plan done (answers ++ branch.text ∷ []) branch.states) old p now all
+            (one_by_join (answers ++ now.text ∷ []) landings now.states joined
             (subst (λ (name : List ℕ). Runs plan (take done (script_of plan)) landings (path (script_of plan) landings done) (answers ++ name ∷ [])) (sym named) run) first);
         ordered = λ ordered.
             pairs_with_insert (λ (one other : Branch M). slice_cmp nat_cmp one.text other.text ≡ Less) old p now within ordered
             (λ k d lt. subst (λ (name : List ℕ). slice_cmp nat_cmp (get_or old k d).text name ≡ Less) (sym named) (before k d lt))
             (λ k d le below. subst (λ (name : List ℕ). slice_cmp nat_cmp name (get_or old k d).text ≡ Less) (sym named) (beyond ordered k d le below));
-        stays = λ name made. any_with_insert (λ (branch : Branch M). (branch.text ≡ name) × Covers has_made plan done branch.states.items made) old p now within;
+        stays = λ name made. any_with_insert (λ (branch : Branch M). (branch.text ≡ name) × Covers has_made plan done branch.states made) old p now within;
         taken = λ machine made at has.
-            any_inserted (λ (branch : Branch M). (branch.text ≡ text) × Covers has_made plan done branch.states.items made) old p now within
-            (named, covered_by_join has_made plan_held key_of plan done same landings [] now.states.items machine made joined at has);
+            any_inserted (λ (branch : Branch M). (branch.text ≡ text) × Covers has_made plan done branch.states made) old p now within
+            (named, covered_by_join has_made plan_held key_of plan done same landings [] now.states machine made joined at has);
       }
     where
       -- the text stands below that of the branch at its place

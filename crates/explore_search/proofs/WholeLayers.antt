@@ -40,8 +40,8 @@ module _ {M : Type 0} (has_made : M → Plan → List Step → Type 0) (plan_hel
         get_or_default now k new some.1 (omega (arith, some.2)),
         (
           grows.named ∙ ap (λ (group : Group M). group.answers) some.3 ∙ some.4.0,
-          covers_kept has_made plan_held key_of plan done (get_or old k some.1).states.items new.states.items made grows.grown
-              (subst (λ (group : Group M). Covers has_made plan done group.states.items made) (sym some.3) some.4.1),
+          covers_kept has_made plan_held key_of plan done (get_or old k some.1).states new.states made grows.grown
+              (subst (λ (group : Group M). Covers has_made plan done group.states made) (sym some.3) some.4.1),
         ),
       )
 
@@ -69,21 +69,21 @@ module _ {M : Type 0} (has_made : M → Plan → List Step → Type 0) (plan_hel
       record {
         groups = λ k d below.
             let grows = closed.grown k d (omega arith) in
-            states_grown (get_or old k d).answers (get_or now k d).answers (get_or old k d).states.items (get_or now k d).states.items grows.named grows.grown (is.groups k d (omega arith));
+            states_grown (get_or old k d).answers (get_or now k d).answers (get_or old k d).states (get_or now k d).states grows.named grows.grown (is.groups k d (omega arith));
         ordered = λ i j d lt below.
             subst (λ (one : List (List ℕ)). answers_cmp one (get_or now j d).answers ≡ Less) (sym (closed.grown i d (omega arith)).named)
             (subst (λ (other : List (List ℕ)). answers_cmp (get_or old i d).answers other ≡ Less) (sym (closed.grown j d (omega arith)).named) (is.ordered i j d lt (omega arith)));
       }
 
   -- its states stay states
-  pub kept_grown : (old now : List (Group M)) (count : ℕ) → ClosedUpTo has_made plan_held key_of plan done count old now → All (λ group. AreKept has_made plan_held key_of plan done group.states.items) old →
-      All (λ group. AreKept has_made plan_held key_of plan done group.states.items) now
+  pub kept_grown : (old now : List (Group M)) (count : ℕ) → ClosedUpTo has_made plan_held key_of plan done count old now → All (λ group. AreKept has_made plan_held key_of plan done group.states) old →
+      All (λ group. AreKept has_made plan_held key_of plan done group.states) now
   kept_grown old now count closed kept k d below =
       let size = closed.size in
       (closed.grown k d (omega arith)).grown.each (kept k d (omega arith))
 
   -- runs that end with landings
-  full_run : (layer : List (Group M)) (script : List Step) → length script ≡ done → ((k : ℕ) (d : Group M) → k < length layer → AreClosed has_made plan done (get_or layer k d).states.items) →
+  full_run : (layer : List (Group M)) (script : List Step) → length script ≡ done → ((k : ℕ) (d : Group M) → k < length layer → AreClosed has_made plan done (get_or layer k d).states) →
       {first : List Step} {landings : List Landing} {made : List Step} {answers : List (List ℕ)} → Runs plan first landings made answers → first ≡ script →
       ((made : List Step) (answers : List (List ℕ)) → IsBase plan script made answers → LayerCovers has_made plan_held key_of plan done layer answers made) →
       LayerCovers has_made plan_held key_of plan done layer answers made
@@ -93,10 +93,10 @@ module _ {M : Type 0} (has_made : M → Plan → List Step → Type 0) (plan_hel
   full_run layer script long closed (lands {script = first} {landings = landings} {made = made} {answers = answers} landing run at may landed) same based =
       let some = full_run layer script long closed run same based in
       let group : Group M = get_or layer some.0 some.1 in
-      let covers : Covers has_made plan done group.states.items made = subst (λ (group : Group M). Covers has_made plan done group.states.items made) (sym some.3) some.4.1 in
+      let covers : Covers has_made plan done group.states made = subst (λ (group : Group M). Covers has_made plan done group.states made) (sym some.3) some.4.1 in
       let next : IsNext plan done landing = record { may = may; at = at ∙ ap length same ∙ long } in
       let leads = closed some.0 some.1 some.2 covers.0 covers.1 covers.2 landing next made (subst (λ (state : State M). Reaches has_made plan done state made) (sym covers.3) covers.4) landed in
-      (some.0, some.1, some.2, some.3, (some.4.0, subst (λ (group : Group M). Covers has_made plan done group.states.items (made ++ landing_step landing ∷ [])) some.3 leads))
+      (some.0, some.1, some.2, some.3, (some.4.0, subst (λ (group : Group M). Covers has_made plan done group.states (made ++ landing_step landing ∷ [])) some.3 leads))
 
   -- a closed layer is full
   pub full_of_closed : (old now : List (Group M)) → done ≤ length (script_of plan) → ClosedUpTo has_made plan_held key_of plan done (length old) old now → IsBased has_made plan_held key_of plan done old →
@@ -141,24 +141,24 @@ module _ {M : Type 0} (has_made : M → Plan → List Step → Type 0) (plan_hel
 
   -- the first layer
   pub start_based : (same : HaveSameSteps has_made) (landings : List Landing) (group : Group M) (machine : M) (layer : List (Group M)) → landings ≡ [] → has_made machine plan [] → group.answers ≡ [] →
-      Joined has_made plan_held key_of plan 0 landings [] group.states.items → layer ≡ group ∷ [] → IsBased has_made plan_held key_of plan 0 layer
+      Joined has_made plan_held key_of plan 0 landings [] group.states → layer ≡ group ∷ [] → IsBased has_made plan_held key_of plan 0 layer
   start_based same landings group machine layer none has unanswered joined is =
       let begins : path (script_of plan) landings 0 ≡ [] = ap (λ (landings : List Landing). path (script_of plan) landings 0) none ∙ path_begins (script_of plan) in
       let run : Runs plan [] landings (path (script_of plan) landings 0) [] =
       subst (λ (landings : List Landing). Runs plan [] landings (path (script_of plan) landings 0) []) (sym none)
       (subst (λ (made : List Step). Runs plan [] [] made []) (sym (path_begins (script_of plan))) begun) in
-      let are = one_by_join has_made plan_held key_of plan 0 [] landings group.states.items joined run
+      let are = one_by_join has_made plan_held key_of plan 0 [] landings group.states joined run
       (subst (λ (landings : List Landing). All (λ landing. landing.at < 0) landings) (sym none) (λ k d below. absurd (omega arith))) in
       subst (λ (layer : List (Group M)). IsBased has_made plan_held key_of plan 0 layer) (sym is)
       (record {
         kept =
-            All-cons (λ (group : Group M). AreKept has_made plan_held key_of plan 0 group.states.items) group []
-            (kept_by_join has_made plan_held key_of plan 0 landings [] group.states.items joined (λ k d below. absurd (omega arith))) (λ k d below. absurd (omega arith));
+            All-cons (λ (group : Group M). AreKept has_made plan_held key_of plan 0 group.states) group []
+            (kept_by_join has_made plan_held key_of plan 0 landings [] group.states joined (λ k d below. absurd (omega arith))) (λ k d below. absurd (omega arith));
         ordered =
             record {
               groups =
-                  All-cons (λ (group : Group M). AreStates has_made plan_held key_of plan 0 group.answers group.states.items) group []
-                  (subst (λ (answers : List (List ℕ)). AreStates has_made plan_held key_of plan 0 answers group.states.items) (sym unanswered) are) (λ k d below. absurd (omega arith));
+                  All-cons (λ (group : Group M). AreStates has_made plan_held key_of plan 0 group.answers group.states) group []
+                  (subst (λ (answers : List (List ℕ)). AreStates has_made plan_held key_of plan 0 answers group.states) (sym unanswered) are) (λ k d below. absurd (omega arith));
               ordered = λ i j d lt below. absurd (omega arith);
             };
         based = λ made answers base.
@@ -167,7 +167,7 @@ module _ {M : Type 0} (has_made : M → Plan → List Step → Type 0) (plan_hel
               group,
               omega arith,
               refl,
-              (unanswered, covered_by_join has_made plan_held key_of plan 0 same landings [] group.states.items machine [] joined (subst (λ (made : List Step). has_made machine plan made) (sym begins) has) has),
+              (unanswered, covered_by_join has_made plan_held key_of plan 0 same landings [] group.states machine [] joined (subst (λ (made : List Step). has_made machine plan made) (sym begins) has) has),
             )
             base refl;
       })
@@ -210,7 +210,7 @@ module _ {M : Type 0} (has_made : M → Plan → List Step → Type 0) (plan_hel
       first_of (x ∷ xs) some = x
 
   -- each group has a state
-  pub groups_have_states : (done : ℕ) (layer : List (Group M)) → IsLayer has_made plan_held key_of plan done layer → All (λ group. 0 < length group.states.items) layer
+  pub groups_have_states : (done : ℕ) (layer : List (Group M)) → IsLayer has_made plan_held key_of plan done layer → All (λ group. 0 < length group.states) layer
   groups_have_states done layer is k d below =
       let first = (is.groups k d below).begins in
       let size = ap length first.is in

@@ -8,25 +8,25 @@ use Rattle.explore_search.specs.declared.layers.Group.{Group}
 
 -- how many states groups have
 abbrev pub states_in : {M : Type 0} → List (Group M) → ℕ
-states_in groups = sum_by (λ group. length group.states.items) groups
+states_in groups = sum_by (λ group. length group.states) groups
 
 module _ {M : Type 0} (has_made : M → Plan → List Step → Type 0) (plan_held : M → Plan) (key_of : M → List ℕ) (plan : Plan) (done : ℕ) where
   -- states were added to a group
   pub record GroupGrown (old new : Group M) : Type 0 where
     pub named : new.answers ≡ old.answers
-    pub grown : HaveGrown has_made plan_held key_of plan done old.states.items new.states.items
+    pub grown : HaveGrown has_made plan_held key_of plan done old.states new.states
 
   -- and then it is closed, and has so many states, or it has no room for them
   abbrev pub GroupClosed : Group M → ℕ → Option ℕ → Type 0
   GroupClosed group room found =
-      MatchOption found (room < length group.states.items)
-      (λ count. (count ≡ length group.states.items) × (count ≤ room) × AreClosed has_made plan done group.states.items)
+      MatchOption found (room < length group.states)
+      (λ count. (count ≡ length group.states) × (count ≤ room) × AreClosed has_made plan done group.states)
 
   -- states were added to the groups of a layer, and the first of them are closed
   pub record ClosedUpTo (count : ℕ) (old new : List (Group M)) : Type 0 where
     pub size : length new ≡ length old
     pub grown : (k : ℕ) (d : Group M) → k < length old → GroupGrown (slice_index_or old k d) (slice_index_or new k d)
-    pub closed : (k : ℕ) (d : Group M) → k < count → AreClosed has_made plan done (slice_index_or new k d).states.items
+    pub closed : (k : ℕ) (d : Group M) → k < count → AreClosed has_made plan done (slice_index_or new k d).states
 
   -- the layer is closed, and has so many states with those that were counted before; or there are more than the limit
   abbrev pub LayerClosed : ℕ → ℕ → List (Group M) → List (Group M) → Option ℕ → Type 0

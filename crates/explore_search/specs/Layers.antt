@@ -56,15 +56,15 @@ module _ {M : Type 0} (has_made : M → Plan → List Step → Type 0) (plan_hel
 
   -- a branch with this text has a state to which a machine led that has made these steps
   abbrev pub BranchCovers : List (Branch M) → List ℕ → List Step → Type 0
-  BranchCovers branches text made = Any (λ branch. (branch.text ≡ text) × Covers has_made plan done branch.states.items made) branches
+  BranchCovers branches text made = Any (λ branch. (branch.text ≡ text) × Covers has_made plan done branch.states made) branches
 
   -- each branch has its states, after these answers
   abbrev pub AreBranches : List (List ℕ) → List (Branch M) → Type 0
-  AreBranches answers branches = All (λ branch. AreStates (answers ++ branch.text ∷ []) branch.states.items) branches
+  AreBranches answers branches = All (λ branch. AreStates (answers ++ branch.text ∷ []) branch.states) branches
 
   -- a state with these landings was put into the branch of a text
   pub record HasPlaced (text : List ℕ) (landings : List Landing) (old new : List (Branch M)) : Type 0 where
-    pub kept : All (λ branch. AreKept branch.states.items) new
+    pub kept : All (λ branch. AreKept branch.states) new
     pub each : (answers : List (List ℕ)) → Runs plan (take done (script_of plan)) landings (path (script_of plan) landings done) (answers ++ text ∷ []) →
         All (λ landing. landing.at < done) landings → AreBranches answers old → AreBranches answers new
     pub ordered : AreOrdered old → AreOrdered new
@@ -74,7 +74,7 @@ module _ {M : Type 0} (has_made : M → Plan → List Step → Type 0) (plan_hel
 module _ {M : Type 0} (has_made : M → Plan → List Step → Type 0) (plan_held : M → Plan) (key_of : M → List ℕ) (plan : Plan) (done : ℕ) where
   -- what a state leads to by the next step was put into its branch
   pub record HasStepped (state : State M) (old new : List (Branch M)) : Type 0 where
-    pub kept : All (λ branch. AreKept has_made plan_held key_of plan (done + 1) branch.states.items) new
+    pub kept : All (λ branch. AreKept has_made plan_held key_of plan (done + 1) branch.states) new
     pub each : (answers : List (List ℕ)) → HasRun plan done answers state → AreBranches has_made plan_held key_of plan (done + 1) answers old →
         AreBranches has_made plan_held key_of plan (done + 1) answers new
     pub ordered : AreOrdered old → AreOrdered new
@@ -85,7 +85,7 @@ module _ {M : Type 0} (has_made : M → Plan → List Step → Type 0) (plan_hel
 
   -- these are the branches to which states lead by the next step
   pub record HaveBranched (states : List (State M)) (branches : List (Branch M)) : Type 0 where
-    pub kept : All (λ branch. AreKept has_made plan_held key_of plan (done + 1) branch.states.items) branches
+    pub kept : All (λ branch. AreKept has_made plan_held key_of plan (done + 1) branch.states) branches
     pub each : (answers : List (List ℕ)) → All (HasRun plan done answers) states → AreBranches has_made plan_held key_of plan (done + 1) answers branches
     pub ordered : AreOrdered branches
     pub taken : (made : List Step) → Covers has_made plan done states made →
@@ -93,18 +93,18 @@ module _ {M : Type 0} (has_made : M → Plan → List Step → Type 0) (plan_hel
 
   -- a group after these answers has a state to which a machine led that has made these steps
   abbrev pub LayerCovers : List (Group M) → List (List ℕ) → List Step → Type 0
-  LayerCovers layer answers made = Any (λ group. (group.answers ≡ answers) × Covers has_made plan done group.states.items made) layer
+  LayerCovers layer answers made = Any (λ group. (group.answers ≡ answers) × Covers has_made plan done group.states made) layer
 
   -- a layer whose groups have their states, in the order of their answers
   pub record IsLayer (layer : List (Group M)) : Type 0 where
-    pub groups : All (λ group. AreStates has_made plan_held key_of plan done group.answers group.states.items) layer
+    pub groups : All (λ group. AreStates has_made plan_held key_of plan done group.answers group.states) layer
     pub ordered : AllPairs (λ one other. answers_cmp one.answers other.answers ≡ Less) layer
 
   -- the groups to which the next step leads from one
   pub record HasGroups (group : Group M) (groups : List (Group M)) : Type 0 where
-    pub kept : All (λ next. AreKept has_made plan_held key_of plan (done + 1) next.states.items) groups
-    pub each : AreStates has_made plan_held key_of plan done group.answers group.states.items →
-        All (λ next. AreStates has_made plan_held key_of plan (done + 1) next.answers next.states.items) groups
+    pub kept : All (λ next. AreKept has_made plan_held key_of plan (done + 1) next.states) groups
+    pub each : AreStates has_made plan_held key_of plan done group.answers group.states →
+        All (λ next. AreStates has_made plan_held key_of plan (done + 1) next.answers next.states) groups
     pub ordered : AllPairs (λ one other. answers_cmp one.answers other.answers ≡ Less) groups
     pub named : All (λ next. (text : List ℕ) × (next.answers ≡ group.answers ++ text ∷ [])) groups
 
@@ -112,12 +112,12 @@ module _ {M : Type 0} (has_made : M → Plan → List Step → Type 0) (plan_hel
   -- and what they cover
   abbrev pub GroupsCover : Group M → List (Group M) → Type 0
   GroupsCover group groups =
-      (made : List Step) → Covers has_made plan done group.states.items made →
+      (made : List Step) → Covers has_made plan done group.states made →
       LayerCovers has_made plan_held key_of plan (done + 1) groups (group.answers ++ text_after plan made (step_at plan done) ∷ []) (made ++ step_at plan done ∷ [])
 
   -- the layer to which the next step leads from one
   pub record HasNext (layer next : List (Group M)) : Type 0 where
-    pub kept : All (λ group. AreKept has_made plan_held key_of plan (done + 1) group.states.items) next
+    pub kept : All (λ group. AreKept has_made plan_held key_of plan (done + 1) group.states) next
     pub ordered : IsLayer has_made plan_held key_of plan done layer → IsLayer has_made plan_held key_of plan (done + 1) next
     pub covers : (answers : List (List ℕ)) (made : List Step) → LayerCovers has_made plan_held key_of plan done layer answers made →
         LayerCovers has_made plan_held key_of plan (done + 1) next (answers ++ text_after plan made (step_at plan done) ∷ []) (made ++ step_at plan done ∷ [])

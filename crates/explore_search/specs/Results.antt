@@ -25,4 +25,4 @@ first_landings (state ∷ states) = state.landings.items
 
 -- the outcome of a group
 abbrev pub outcome_of : {M : Type 0} → Group M → Outcome
-outcome_of group = record { answers = group.answers; landings = first_landings group.states.items }
+outcome_of group = record { answers = group.answers; landings = first_landings group.states }

@@ -1,5 +1,5 @@
 -- The states of a search, all after the same number of a script's steps.
-use Rattle.std.specs.Prelude.{◌≡◌, ℕ, IfSome, List, [], ◌∷◌, ◌++◌, take}
+use Rattle.std.specs.Prelude.{◌≡◌, ℕ, IfSome, List, Option, [], ◌∷◌, ◌++◌, take}
 use Rattle.std.specs.List.{All, AllPairs, Any}
 use Rattle.step_kinds.specs.declared.plan.Plan.{Plan}
 use Rattle.step_kinds.specs.declared.steps.Step.{Step}
@@ -36,6 +36,10 @@ module _ {M : Type 0} (has_made : M → Plan → List Step → Type 0) (plan_hel
   pub record IsMachineAt (plan : Plan) (steps : List Step) (machine : M) : Type 0 where
     pub made : has_made machine plan steps
     pub held : plan_held machine ≡ declared_part plan
+
+  -- a machine that is at hand, if there is one, is at a state
+  abbrev pub IsSpareOf : Plan → ℕ → Option M → State M → Type 0
+  IsSpareOf plan done spare state = IfSome spare (IsMachineAt plan (made_to plan done state))
 
 module _ {M : Type 0} (has_made : M → Plan → List Step → Type 0) (plan_held : M → Plan) (key_of : M → List ℕ) where
   -- a state after so many steps of the plan: its key is that of each machine there, and so is the machine that it keeps

@@ -21,14 +21,14 @@ pub data IsBase (plan : Plan) : (script : List Step) (made : List Step) (answers
 module _ {M : Type 0} (has_made : M → Plan → List Step → Type 0) (plan_held : M → Plan) (key_of : M → List ℕ) (plan : Plan) (done : ℕ) where
   -- a layer has all runs of so many steps but for those that end with further landings
   pub record IsBased (layer : List (Group M)) : Type 0 where
-    pub kept : All (λ group. AreKept has_made plan_held key_of plan done group.states.items) layer
+    pub kept : All (λ group. AreKept has_made plan_held key_of plan done group.states) layer
     pub ordered : IsLayer has_made plan_held key_of plan done layer
     pub based : (made : List Step) (answers : List (List ℕ)) → IsBase plan (take done (script_of plan)) made answers →
         LayerCovers has_made plan_held key_of plan done layer answers made
 
   -- it has those too
   pub record IsFull (layer : List (Group M)) : Type 0 where
-    pub kept : All (λ group. AreKept has_made plan_held key_of plan done group.states.items) layer
+    pub kept : All (λ group. AreKept has_made plan_held key_of plan done group.states) layer
     pub ordered : IsLayer has_made plan_held key_of plan done layer
     pub full : (landings : List Landing) (made : List Step) (answers : List (List ℕ)) → Runs plan (take done (script_of plan)) landings made answers →
         LayerCovers has_made plan_held key_of plan done layer answers made

@@ -13,7 +13,7 @@ use std::alloc::{AllocError, Global};
 use step_kinds::Plan;
 
 /// The most states of a layer whose machines are kept.
-pub const MOST_LIVE: usize = 256;
+pub const MOST_LIVE: usize = 4096;
 
 /// Closes the states of each group of a layer under landings. It answers how many states there are then, together with
 /// those that were counted before, or `None` where there are more than the limit. The only error is out of memory.
@@ -27,7 +27,7 @@ pub fn close_layer<M: Machine>(
 ) -> Result<Option<usize>, AllocError>
     requires plan { IsExplorable plan.now }
     requires done { done ≤ length plan.now.steps }
-    requires layer { All (λ group. AreKept M.has_made M.plan_held M.key_of plan.now done group.states.items) layer.old.items }
+    requires layer { All (λ group. AreKept M.has_made M.plan_held M.key_of plan.now done group.states) layer.old.items }
     requires before { before ≤ limit }
     ensures { IfOk result (LayerClosed M.has_made M.plan_held M.key_of plan.now done before limit layer.old.items layer.new.items) }
 {
@@ -47,7 +47,7 @@ fn close_groups<M: Machine>(
 ) -> Result<Option<usize>, AllocError>
     requires plan { IsExplorable plan.now }
     requires done { done ≤ length plan.now.steps }
-    requires layer { All (λ group. AreKept M.has_made M.plan_held M.key_of plan.now done group.states.items) layer.old }
+    requires layer { All (λ group. AreKept M.has_made M.plan_held M.key_of plan.now done group.states) layer.old }
     requires before { before ≤ limit }
     ensures { IfOk result (LayerClosed M.has_made M.plan_held M.key_of plan.now done before limit layer.old layer.new) }
 {
@@ -81,7 +81,7 @@ fn close_group<M: Machine>(
 ) -> Result<Option<usize>, AllocError>
     requires plan { IsExplorable plan.now }
     requires done { done ≤ length plan.now.steps }
-    requires group { AreKept M.has_made M.plan_held M.key_of plan.now done group.old.states.items }
+    requires group { AreKept M.has_made M.plan_held M.key_of plan.now done group.old.states }
     ensures grown { OnOk result (GroupGrown M.has_made M.plan_held M.key_of plan.now done group.old group.new) }
     ensures closed { IfOk result (GroupClosed M.has_made M.plan_held M.key_of plan.now done group.new room) }
 {
@@ -101,7 +101,7 @@ pub fn step_layer<M: Machine>(
 ) -> Result<Vec<Group<M>>, AllocError>
     requires plan { IsExplorable plan.now }
     requires done { done < length plan.now.steps }
-    requires layer { All (λ group. AreKept M.has_made M.plan_held M.key_of plan.now done group.states.items) layer.items }
+    requires layer { All (λ group. AreKept M.has_made M.plan_held M.key_of plan.now done group.states) layer.items }
     ensures { IfOk result (λ next. HasNext M.has_made M.plan_held M.key_of plan.now done layer.items next.items) }
 {
     let mut next = Vec::new(alloc);
@@ -132,11 +132,11 @@ fn step_group<M: Machine>(
 ) -> Result<Vec<Group<M>>, AllocError>
     requires plan { IsExplorable plan.now }
     requires done { done < length plan.now.steps }
-    requires group { AreKept M.has_made M.plan_held M.key_of plan.now done group.states.items }
+    requires group { AreKept M.has_made M.plan_held M.key_of plan.now done group.states }
     ensures groups { IfOk result (λ groups. HasGroups M.has_made M.plan_held M.key_of plan.now done group groups.items) }
     ensures covers { IfOk result (λ groups. GroupsCover M.has_made M.plan_held M.key_of plan.now done group groups.items) }
 {
     let Group { answers, states } = group;
-    let branches = branches_of(alloc, plan, done, states, is_kept)?;
+    let branches = branches_of(alloc, plan, done, states.into_vec(), is_kept)?;
     named(alloc, answers, branches)
 }

@@ -8,7 +8,7 @@ ghost use Rattle.explore_search.specs.States.{IsMachineAt, IsState};
 
 use crate::machine::Machine;
 use crate::paths::rebuilt;
-use crate::states::{State, join};
+use crate::states::{State, States, join};
 use explore_model::Landing;
 use report_text::text_of;
 use std::alloc::{AllocError, Global};
@@ -21,7 +21,7 @@ pub struct Group<M> {
     /// The texts of the answers.
     pub answers: Items<Items<u8>>,
     /// The states.
-    pub states: Vec<State<M>>,
+    pub states: States<M>,
 }
 
 /// The states that a group's states lead to by one step that is answered alike.
@@ -30,7 +30,7 @@ pub struct Branch<M> {
     /// The text of the answer.
     pub text: Items<u8>,
     /// The states.
-    pub states: Vec<State<M>>,
+    pub states: States<M>,
 }
 
 /// Makes the next step of the script on each state of a group. The branches stand in the order of their texts. The only
@@ -66,12 +66,13 @@ fn step_state<M: Machine>(
     requires plan { IsExplorable plan.now }
     requires done { done < length plan.now.steps }
     requires state { IsState M.has_made M.plan_held M.key_of plan.now done state }
-    requires branches { All (λ branch. AreKept M.has_made M.plan_held M.key_of plan.now (done + 1) branch.states.items) branches.old.items }
+    requires branches { All (λ branch. AreKept M.has_made M.plan_held M.key_of plan.now (done + 1) branch.states) branches.old.items }
     ensures { OnOk result (HasStepped M.has_made M.plan_held M.key_of plan.now done state branches.old.items branches.new.items) }
 {
     let State {
         landings,
         key: _,
+        before: _,
         machine,
     } = state;
     let mut machine = machine_at(alloc, plan, done, &landings, machine)?;
@@ -122,7 +123,7 @@ fn place_in<M: Machine>(
 ) -> Result<(), AllocError>
     requires plan { IsExplorable plan.now }
     requires done { done ≤ length plan.now.steps }
-    requires branches { All (λ branch. AreKept M.has_made M.plan_held M.key_of plan.now done branch.states.items) branches.old.items }
+    requires branches { All (λ branch. AreKept M.has_made M.plan_held M.key_of plan.now done branch.states) branches.old.items }
     requires landings { All (IsLandingBy plan.now done) landings.items }
     requires machine { IsMachineAt M.has_made M.plan_held plan.now (path (script_of plan.now) landings.items done) machine }
     ensures { OnOk result (HasPlaced M.has_made M.plan_held M.key_of plan.now done text landings.items branches.old.items branches.new.items) }
@@ -133,7 +134,7 @@ fn place_in<M: Machine>(
             join(alloc, plan, done, states, landings, machine, is_kept)
         }
         Err(place) => {
-            let mut states = Vec::new(alloc);
+            let mut states = States::new(alloc);
             join(alloc, plan, done, &mut states, landings, machine, is_kept)?;
             branches.insert(place, Branch { text, states })?;
             Ok(())

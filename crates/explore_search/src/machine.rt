@@ -1,14 +1,14 @@
 //! What a search needs of a machine.
 
-ghost use Rattle.std.specs.Prelude.{◌≡◌, ◌≤◌, ◌∷◌, ◌++◌, ℕ, [], IfOk, IsTrue, List, OnOk};
+ghost use Rattle.std.specs.Prelude.{◌≡◌, ◌≤◌, ◌∷◌, ◌++◌, ℕ, [], false, true, IfOk, IsTrue, List, OnOk};
 ghost use Rattle.step_kinds.specs.declared.plan.Plan.{Plan as PlanValue};
 ghost use Rattle.step_kinds.specs.declared.steps.Answer.TheVariants.{Nothing};
 ghost use Rattle.step_kinds.specs.declared.steps.Step.{Step as StepValue};
 ghost use Rattle.step_kinds.specs.declared.steps.Step.TheVariants.{Land};
 ghost use Rattle.plan_model.specs.DeclaredPlans.{IsDeclared, IsPairOf};
 ghost use Rattle.plan_model.specs.Switches.{AreSwitches, IsMakeable};
-ghost use Rattle.explore_model.specs.Schedules.{answer_after};
-ghost use Rattle.explore_search.specs.Machines.{HaveSameKeys, HaveSameSteps, declared_part};
+ghost use Rattle.explore_model.specs.Schedules.{answer_after, is_landed};
+ghost use Rattle.explore_search.specs.Machines.{HaveSameKeys, HaveSameSteps, declared_part, is_landing};
 
 use std::alloc::{AllocError, Global};
 use step_kinds::{Answer, Plan, Side, Step};
@@ -32,14 +32,21 @@ pub trait Machine: Drop {
         ensures made { IfOk result (λ machine. has_made machine plan.now []) }
         ensures plan { IfOk result (λ machine. plan_held machine ≡ declared_part plan.now) };
 
+    /// A machine in the same state. The only error is out of memory.
+    fn copy_of(&self, alloc: Global) -> Result<Self, AllocError>
+        ensures { IfOk result (λ copy. copy ≡ self.now) };
+
     /// Makes a step, which has to be one that a script of the machine's plan may make, and answers it. The only error
-    /// is out of memory, and then nothing is promised of the steps that it has made.
+    /// is out of memory, and then nothing is promised of the steps that it has made. After a landing that isn't answered
+    /// `landed` it has also made the steps without it.
     fn step(&mut self, step: &Step) -> Result<Answer, AllocError>
         requires { IsMakeable (plan_held self.old) step.now }
         ensures answer { (plan : PlanValue) (steps : List StepValue) → has_made self.old plan steps →
             IfOk result (λ answer. answer ≡ answer_after plan steps step.now) }
         ensures made { (plan : PlanValue) (steps : List StepValue) → has_made self.old plan steps →
             OnOk result (has_made self.new plan (steps ++ step.now ∷ [])) }
+        ensures rests { (plan : PlanValue) (steps : List StepValue) → has_made self.old plan steps → is_landing step.now ≡ true →
+            IfOk result (λ answer. is_landed answer ≡ false → has_made self.new plan steps) }
         ensures plan { plan_held self.new ≡ plan_held self.old };
 
     /// Whether two machines of one plan are in the same state: no later step tells them apart.

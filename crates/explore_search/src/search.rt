@@ -9,7 +9,7 @@ ghost use Rattle.explore_search.specs.Whole.{IsBased, IsCount};
 use crate::groups::{MOST_LIVE, close_layer, step_layer};
 use crate::layers::Group;
 use crate::machine::Machine;
-use crate::states::{State, join};
+use crate::states::{State, States, join};
 use explore_model::{Landing, Outcome};
 use std::alloc::{AllocError, Global};
 use step_kinds::{Items, Plan};
@@ -83,7 +83,7 @@ fn start<M: Machine>(alloc: Global, plan: &Plan) -> Result<Vec<Group<M>>, AllocE
     ensures { IfOk result (λ layer. IsBased M.has_made M.plan_held M.key_of plan.now 0 layer.items) }
 {
     let machine = M::fresh(alloc, plan)?;
-    let mut states = Vec::new(alloc);
+    let mut states = States::new(alloc);
     join(alloc, plan, 0, &mut states, Vec::new(alloc), machine, true)?;
     let mut layer = Vec::new(alloc);
     layer.push(Group {
@@ -95,14 +95,14 @@ fn start<M: Machine>(alloc: Global, plan: &Plan) -> Result<Vec<Group<M>>, AllocE
 
 // The outcomes of groups: the answers of each, and the path to its first state.
 fn outcomes_of<M: Machine>(alloc: Global, layer: Vec<Group<M>>) -> Result<Vec<Outcome>, AllocError>
-    requires { All (λ group. 0 < length group.states.items) layer.items }
+    requires { All (λ group. 0 < length group.states) layer.items }
     ensures { IfOk result (λ outcomes. outcomes.items ≡ map outcome_of layer.items) }
 {
     let mut outcomes = Vec::new(alloc);
     for group in layer {
         outcomes.push(Outcome {
             answers: group.answers,
-            landings: first_path(group.states),
+            landings: first_path(group.states.into_vec()),
         })?;
     }
     Ok(outcomes)

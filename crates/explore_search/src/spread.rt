@@ -5,12 +5,12 @@ ghost use Rattle.std.specs.List.{All, HoldsAt};
 ghost use Rattle.plan_model.specs.DeclaredPlans.{IsPairOf};
 ghost use Rattle.explore_search.specs.Machines.{declared_part};
 ghost use Rattle.explore_search.specs.Paths.{IsExplorable};
-ghost use Rattle.explore_search.specs.Spread.{AreAdded, AreClosed, AreTried, IsNext, IsOfSide, IsSpread, Lands};
-ghost use Rattle.explore_search.specs.States.{HaveGrown, IsState};
+ghost use Rattle.explore_search.specs.Spread.{AreAdded, AreClosed, IsNext, IsOfSide, IsSpread, Lands};
+ghost use Rattle.explore_search.specs.States.{HaveGrown, IsMachineAt, IsSpareOf, IsState, made_to};
 
 use crate::machine::Machine;
 use crate::paths::rebuilt;
-use crate::states::{State, join};
+use crate::states::{State, States, join};
 use explore_model::Landing;
 use std::alloc::{AllocError, Global};
 use step_kinds::{Answer, Plan, Side};
@@ -24,16 +24,16 @@ pub fn close<M: Machine>(
     alloc: Global,
     plan: &Plan,
     done: usize,
-    states: &mut Vec<State<M>>,
+    states: &mut States<M>,
     room: usize,
     is_kept: bool,
 ) -> Result<bool, AllocError>
     requires plan { IsExplorable plan.now }
     requires done { done ≤ length plan.now.steps }
-    requires states { All (IsState M.has_made M.plan_held M.key_of plan.now done) states.old.items }
-    ensures grown { OnOk result (HaveGrown M.has_made M.plan_held M.key_of plan.now done states.old.items states.new.items) }
-    ensures room { IfOk result (λ answer. IsTrue answer ↔ length states.new.items ≤ room) }
-    ensures closed { IfOk result (λ answer. IsTrue answer → AreClosed M.has_made plan.now done states.new.items) }
+    requires states { All (IsState M.has_made M.plan_held M.key_of plan.now done) states.old }
+    ensures grown { OnOk result (HaveGrown M.has_made M.plan_held M.key_of plan.now done states.old states.new) }
+    ensures room { IfOk result (λ answer. IsTrue answer ↔ length states.new ≤ room) }
+    ensures closed { IfOk result (λ answer. IsTrue answer → AreClosed M.has_made plan.now done states.new) }
 {
     let mut from = 0;
     while from < states.len() && states.len() <= room {
@@ -48,70 +48,80 @@ fn spread<M: Machine>(
     alloc: Global,
     plan: &Plan,
     done: usize,
-    states: &mut Vec<State<M>>,
+    states: &mut States<M>,
     from: usize,
     is_kept: bool,
 ) -> Result<(), AllocError>
     requires plan { IsExplorable plan.now }
     requires done { done ≤ length plan.now.steps }
-    requires states { All (IsState M.has_made M.plan_held M.key_of plan.now done) states.old.items }
-    requires from { from < length states.old.items }
-    ensures grown { OnOk result (HaveGrown M.has_made M.plan_held M.key_of plan.now done states.old.items states.new.items) }
-    ensures spread { OnOk result (HoldsAt (IsSpread M.has_made plan.now done states.new.items) states.old.items from) }
+    requires states { All (IsState M.has_made M.plan_held M.key_of plan.now done) states.old }
+    requires from { from < length states.old }
+    ensures grown { OnOk result (HaveGrown M.has_made M.plan_held M.key_of plan.now done states.old states.new) }
+    ensures spread { OnOk result (HoldsAt (IsSpread M.has_made plan.now done states.new) states.old from) }
 {
-    let landings = landings_from(alloc, plan, done, &states[from])?;
+    let machine = machine_of(alloc, plan, done, &states.as_slice()[from], None)?;
+    let landings = landings_at(alloc, plan, done, &machine)?;
+    let mut spare = Some(machine);
     for landing in &landings {
-        land(alloc, plan, done, states, from, *landing, is_kept)?;
+        spare = land(alloc, plan, done, states, from, spare, *landing, is_kept)?;
     }
     Ok(())
 }
 
-// Makes a landing after a state, and adds the state to which it leads where it is answered `landed`.
+// Makes a landing after a state, and adds the state to which it leads where it is answered `landed`. It takes a machine of
+// the state where one is at hand, and answers one where the landing left it at the state.
 fn land<M: Machine>(
     alloc: Global,
     plan: &Plan,
     done: usize,
-    states: &mut Vec<State<M>>,
+    states: &mut States<M>,
     from: usize,
+    spare: Option<M>,
     landing: Landing,
     is_kept: bool,
-) -> Result<(), AllocError>
+) -> Result<Option<M>, AllocError>
     requires plan { IsExplorable plan.now }
     requires done { done ≤ length plan.now.steps }
-    requires states { All (IsState M.has_made M.plan_held M.key_of plan.now done) states.old.items }
-    requires from { from < length states.old.items }
+    requires states { All (IsState M.has_made M.plan_held M.key_of plan.now done) states.old }
+    requires from { from < length states.old }
+    requires spare { HoldsAt (IsSpareOf M.has_made M.plan_held plan.now done spare) states.old from }
     requires landing { IsNext plan.now done landing }
-    ensures grown { OnOk result (HaveGrown M.has_made M.plan_held M.key_of plan.now done states.old.items states.new.items) }
-    ensures lands { OnOk result (HoldsAt (λ state. Lands M.has_made plan.now done states.new.items state landing) states.old.items from) }
+    ensures grown { OnOk result (HaveGrown M.has_made M.plan_held M.key_of plan.now done states.old states.new) }
+    ensures lands { OnOk result (HoldsAt (λ state. Lands M.has_made plan.now done states.new state landing) states.old from) }
+    ensures spare { IfOk result (λ spare. HoldsAt (IsSpareOf M.has_made M.plan_held plan.now done spare) states.old from) }
 {
-    let mut landings = Vec::from_slice(alloc, &states[from].landings)?;
-    let mut machine = rebuilt::<M>(alloc, plan, &landings, done)?;
+    let mut machine = machine_of(alloc, plan, done, &states.as_slice()[from], spare)?;
     let answer = machine.step(&landing.as_step())?;
-    if let Answer::Landed { .. } = answer {
-        landings.push(landing)?;
-        join(alloc, plan, done, states, landings, machine, is_kept)?;
-    }
-    Ok(())
+    let Answer::Landed { .. } = answer else {
+        return Ok(Some(machine));
+    };
+    let mut landings = Vec::from_slice(alloc, &states.as_slice()[from].landings)?;
+    landings.push(landing)?;
+    join(alloc, plan, done, states, landings, machine, is_kept)?;
+    Ok(None)
 }
 
-// The landings that may be answered `landed` after a state.
-fn landings_from<M: Machine>(
+// A machine of a state: the one at hand, or a copy of the one that the state keeps, or one that is made anew along the
+// path.
+fn machine_of<M: Machine>(
     alloc: Global,
     plan: &Plan,
     done: usize,
     state: &State<M>,
-) -> Result<Vec<Landing>, AllocError>
+    spare: Option<M>,
+) -> Result<M, AllocError>
     requires plan { IsExplorable plan.now }
     requires done { done ≤ length plan.now.steps }
     requires state { IsState M.has_made M.plan_held M.key_of plan.now done state.now }
-    ensures { IfOk result (λ landings. AreTried M.has_made plan.now done state.now landings.items) }
+    requires spare { IsSpareOf M.has_made M.plan_held plan.now done spare state.now }
+    ensures { IfOk result (IsMachineAt M.has_made M.plan_held plan.now (made_to plan.now done state.now)) }
 {
+    if let Some(machine) = spare {
+        return Ok(machine);
+    }
     match &state.machine {
-        Some(machine) => landings_at(alloc, plan, done, machine),
-        None => {
-            let machine = rebuilt::<M>(alloc, plan, &state.landings, done)?;
-            landings_at(alloc, plan, done, &machine)
-        }
+        Some(machine) => machine.copy_of(alloc),
+        None => rebuilt::<M>(alloc, plan, &state.landings, done),
     }
 }
 

@@ -1,8 +1,9 @@
 //! States of a search, and how one is found among others.
 
-ghost use Rattle.std.specs.Prelude.{◌≡◌, ◌≤◌, ◌↔◌, IfOk, IfSome, IsTrue, List, OnOk, length};
+ghost use Rattle.std.specs.Prelude.{◌≡◌, ◌≤◌, ◌<◌, ◌↔◌, ◌∷◌, ◌++◌, [], IfOk, IfSome, IsTrue, List, OnErr, OnOk, length, slice_index_or};
 ghost use Rattle.std.specs.List.{All};
 ghost use Rattle.step_kinds.specs.declared.steps.Step.{Step as StepValue};
+ghost use Rattle.explore_search.specs.Chains.{AreChained, HasPushed, IsLast};
 ghost use Rattle.explore_search.specs.Machines.{declared_part};
 ghost use Rattle.explore_search.specs.Paths.{IsExplorable, IsLandingBy, path, script_of};
 ghost use Rattle.explore_search.specs.States.{Covers, IsMachineAt, IsState, Joined, Reaches};
@@ -10,11 +11,13 @@ ghost use Rattle.explore_search.specs.States.{Covers, IsMachineAt, IsState, Join
 use crate::machine::Machine;
 use crate::paths::rebuilt;
 use explore_model::Landing;
+use indexmap::IndexMap;
 use std::alloc::{AllocError, Global};
+use std::marker::Model;
 use step_kinds::Plan;
 
 // The most states of a group that keep their machines.
-const MOST_LIVE: usize = 64;
+const MOST_LIVE: usize = 4096;
 
 /// A state of a search: the landings of a path to it, the key of its machine, and maybe the machine.
 #[derive(Drop)]
@@ -23,8 +26,98 @@ pub struct State<M> {
     pub landings: Vec<Landing>,
     /// The key of each machine in this state.
     pub key: Vec<u8>,
+    /// The place of the last state before it with the same key, if there is one.
+    pub before: Option<usize>,
     /// A machine in this state, if it is kept.
     pub machine: Option<M>,
+}
+
+/// States in the order in which they were reached. Those with one key are found in turn, the last of them first. Contracts
+/// see the list.
+#[derive(Drop)]
+pub struct States<M> {
+    list: Vec<State<M>>,
+    last: IndexMap<Vec<u8>, usize>,
+}
+
+impl<M: Machine> States<M> {
+    /// No states.
+    pub fn new(alloc: Global) -> States<M>
+        ensures { result ≡ [] }
+    {
+        States {
+            list: Vec::new(alloc),
+            last: IndexMap::new(alloc),
+        }
+    }
+
+    /// How many states there are.
+    pub fn len(&self) -> usize
+        ensures { result ≡ length self.now }
+    {
+        self.list.len()
+    }
+
+    /// The states.
+    pub fn as_slice(&self) -> &[State<M>]
+        ensures { result.now ≡ self.now }
+    {
+        &self.list
+    }
+
+    /// The states alone.
+    pub fn into_vec(self) -> Vec<State<M>>
+        ensures { result.items ≡ self }
+    {
+        self.list
+    }
+
+    /// The place of the last state with this key, if there is one. The clause `before` says the same of those before it.
+    pub fn last_with(&self, key: &Vec<u8>) -> Option<usize>
+        ensures last { IsLast self.now key.now.items (length self.now) result }
+        ensures before { AreChained self.now }
+    {
+        self.last.get(key).copied()
+    }
+
+    /// Adds a state with this path and key.
+    ///
+    /// # Errors
+    ///
+    /// [`AllocError`] from out of memory alone, and then the states stay.
+    pub fn push(
+        &mut self,
+        alloc: Global,
+        landings: Vec<Landing>,
+        key: Vec<u8>,
+        machine: Option<M>,
+    ) -> Result<(), AllocError>
+        ensures ok { OnOk result (HasPushed landings.items key.items machine self.old self.new) }
+        ensures err { OnErr result (self.new ≡ self.old) }
+    {
+        self.list.reserve(1)?;
+        let name = Vec::from_slice(alloc, &key)?;
+        let before = self.last.insert(name, self.list.len())?;
+        self.list.push_reserved(State {
+            landings,
+            key,
+            before,
+            machine,
+        });
+        Ok(())
+    }
+}
+
+impl<M> Model for States<M> {
+    ghost use Rattle.std.specs.Prelude.{List};
+    ghost use Rattle.explore_search.specs.Chains.{AreIndexed};
+    ghost use Rattle.explore_search.specs.declared.states.State.{State as StateValue};
+
+    ghost Value = { List (StateValue M) };
+
+    ghost view = { λ states. states.list.items };
+
+    ghost invariant = { λ states. AreIndexed states.last (λ key. key.items) states.list.items };
 }
 
 /// Adds the state of a machine, which has made so many steps of the plan and these landings between them, unless it is
@@ -33,17 +126,17 @@ pub fn join<M: Machine>(
     alloc: Global,
     plan: &Plan,
     done: usize,
-    states: &mut Vec<State<M>>,
+    states: &mut States<M>,
     landings: Vec<Landing>,
     machine: M,
     is_kept: bool,
 ) -> Result<(), AllocError>
     requires plan { IsExplorable plan.now }
     requires done { done ≤ length plan.now.steps }
-    requires states { All (IsState M.has_made M.plan_held M.key_of plan.now done) states.old.items }
+    requires states { All (IsState M.has_made M.plan_held M.key_of plan.now done) states.old }
     requires landings { All (IsLandingBy plan.now done) landings.items }
     requires machine { IsMachineAt M.has_made M.plan_held plan.now (path (script_of plan.now) landings.items done) machine }
-    ensures { OnOk result (Joined M.has_made M.plan_held M.key_of plan.now done landings.items states.old.items states.new.items) }
+    ensures { OnOk result (Joined M.has_made M.plan_held M.key_of plan.now done landings.items states.old states.new) }
 {
     let mut key = Vec::new(alloc);
     machine.push_key(&mut key)?;
@@ -51,12 +144,7 @@ pub fn join<M: Machine>(
         return Ok(());
     }
     let machine = kept(machine, is_kept && states.len() < MOST_LIVE);
-    states.push(State {
-        landings,
-        key,
-        machine,
-    })?;
-    Ok(())
+    states.push(alloc, landings, key, machine)
 }
 
 // The machine, if it is kept.
@@ -71,22 +159,25 @@ fn is_among<M: Machine>(
     alloc: Global,
     plan: &Plan,
     done: usize,
-    states: &[State<M>],
+    states: &States<M>,
     machine: &M,
-    key: &[u8],
+    key: &Vec<u8>,
 ) -> Result<bool, AllocError>
     requires plan { IsExplorable plan.now }
     requires done { done ≤ length plan.now.steps }
     requires states { All (IsState M.has_made M.plan_held M.key_of plan.now done) states.now }
     requires machine { M.plan_held machine.now ≡ declared_part plan.now }
-    requires key { key.now ≡ M.key_of machine.now }
+    requires key { key.now.items ≡ M.key_of machine.now }
     ensures { (made : List StepValue) → M.has_made machine.now plan.now made →
         IfOk result (λ answer. IsTrue answer ↔ Covers M.has_made plan.now done states.now made) }
 {
-    for state in states {
+    let mut last = states.last_with(key);
+    while let Some(place) = last {
+        let state = &states.as_slice()[place];
         if is_state_of(alloc, plan, done, state, machine, key)? {
             return Ok(true);
         }
+        last = state.before;
     }
     Ok(false)
 }

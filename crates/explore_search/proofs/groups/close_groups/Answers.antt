@@ -46,7 +46,7 @@ returns-in_default g c =
     let d = c.index-layer-place.result in
     let more = states_more c.loop-place.layer c.loop-place.place c.close_group.new.group (omega arith) in
     let size = length-set c.loop-place.layer c.loop-place.place c.close_group.new.group in
-    let past : c.args.limit - c.loop-place.count < length c.close_group.new.group.states.items = none_found _ c.in_ok-states.field-0 c.in_default.not-Some c.in_ok-states.ensures.closed in (
+    let past : c.args.limit - c.loop-place.count < length c.close_group.new.group.states = none_found _ c.in_ok-states.field-0 c.in_default.not-Some c.in_ok-states.ensures.closed in (
       c.loop-place.place,
       omega arith,
       grown_next g.M.Machine.has_made g.M.Machine.plan_held g.M.Machine.key_of c.args.plan.now c.args.done c.args.layer.now c.loop-place.layer c.loop-place.place d c.close_group.new.group (omega arith)

@@ -11,7 +11,7 @@ use Rattle.explore_search.proofs.groups.step_layer.Goals as goal
 pub step_group-requires-clause-group : goal.step_group-requires-clause-group
 step_group-requires-clause-group g c =
     let turn = YieldsList-turn (YieldsList-from_vec c.args.layer.items c.into_iter-group-iterator.ensures.into_iter_gives.0 (c.into_iter-group-iterator.ensures.into_iter_gives.1 ∙ c.args.layer.ok.0)) c.loop-group.yielded c.loop-group.group-iterator c.loop-group.yielded_by _ c.next.new.self c.in-Some.group c.in-Some.is c.next.ensures.steps in
-    subst (λ (group : Group g.row.M.Denot). AreKept g.M.Machine.has_made g.M.Machine.plan_held g.M.Machine.key_of c.args.plan.now c.args.done group.states.items) (sym turn.1)
+    subst (λ (group : Group g.row.M.Denot). AreKept g.M.Machine.has_made g.M.Machine.plan_held g.M.Machine.key_of c.args.plan.now c.args.done group.states) (sym turn.1)
     (c.requires.layer (length c.loop-group.yielded) c.in-Some.group turn.0)
 
 pub loop-group-init : goal.loop-group-init

@@ -8,7 +8,7 @@ use Rattle.explore_search.proofs.layers.branches_of.Given as goal
 
 abbrev pub invariant-loop-state : goal.invariant-loop-state
 invariant-loop-state g l = record {
-  kept : All (λ branch. AreKept g.M.Machine.has_made g.M.Machine.plan_held g.M.Machine.key_of l.plan (l.done + 1) branch.states.items) l.branches.items;
+  kept : All (λ branch. AreKept g.M.Machine.has_made g.M.Machine.plan_held g.M.Machine.key_of l.plan (l.done + 1) branch.states) l.branches.items;
   each : (answers : List (List ℕ)) → All (HasRun l.plan l.done answers) l.fn.states.items →
       AreBranches g.M.Machine.has_made g.M.Machine.plan_held g.M.Machine.key_of l.plan (l.done + 1) answers l.branches.items;
   ordered : AreOrdered l.branches.items;

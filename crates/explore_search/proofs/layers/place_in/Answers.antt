@@ -27,9 +27,9 @@ returns-in_ok-insert-in-Err g c =
     let place : IsPlaceOf c.args.branches.now.items c.args.text (Err c.in-Err.place) =
     subst (λ (text : List ℕ). IsPlaceOf c.args.branches.now.items text (Err c.in-Err.place)) c.as_slice.ensures
     (subst (λ (branches : List (Branch g.row.M.Denot)). IsPlaceOf branches c.as_slice.result.now (Err c.in-Err.place)) c.deref.ensures.value c.in-Err.ensures) in
-    let joined : Joined g.M.Machine.has_made g.M.Machine.plan_held g.M.Machine.key_of c.args.plan.now c.args.done c.args.landings.items [] now.states.items =
-    subst (λ (states : List (State g.row.M.Denot)). Joined g.M.Machine.has_made g.M.Machine.plan_held g.M.Machine.key_of c.args.plan.now c.args.done c.args.landings.items states now.states.items)
-    c.new-states.ensures.items c.in_ok-join-in-Err.ensures in
+    let joined : Joined g.M.Machine.has_made g.M.Machine.plan_held g.M.Machine.key_of c.args.plan.now c.args.done c.args.landings.items [] now.states =
+    subst (λ (states : List (State g.row.M.Denot)). Joined g.M.Machine.has_made g.M.Machine.plan_held g.M.Machine.key_of c.args.plan.now c.args.done c.args.landings.items states now.states)
+    c.new-states.ensures c.in_ok-join-in-Err.ensures in
     subst (λ (branches : List (Branch g.row.M.Denot)). HasPlaced g.M.Machine.has_made g.M.Machine.plan_held g.M.Machine.key_of c.args.plan.now c.args.done c.args.text c.args.landings.items c.args.branches.now.items branches)
     (sym c.in_ok-insert-in-Err.ensures.items)
     (placed_new g.M.Machine.has_made g.M.Machine.plan_held g.M.Machine.key_of c.args.plan.now c.args.done g.met.M.Machine.same_steps c.args.text c.args.landings.items c.args.branches.now.items

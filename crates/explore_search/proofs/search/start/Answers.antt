@@ -24,5 +24,5 @@ returns g c =
     let group : Group g.row.M.Denot = record { answers = c.new-2.result; states = c.join.new.states } in
     start_based g.M.Machine.has_made g.M.Machine.plan_held g.M.Machine.key_of c.args.plan.now g.met.M.Machine.same_steps c.new.result.items group c.in_ok-machine.machine c.push.new.self.items
     c.new.ensures.items c.in_ok-machine.ensures.made c.new-2.ensures
-    (subst (λ (states : List (State g.row.M.Denot)). Joined g.M.Machine.has_made g.M.Machine.plan_held g.M.Machine.key_of c.args.plan.now 0 c.new.result.items states group.states.items) c.new-states.ensures.items c.in_ok-join.ensures)
+    (subst (λ (states : List (State g.row.M.Denot)). Joined g.M.Machine.has_made g.M.Machine.plan_held g.M.Machine.key_of c.args.plan.now 0 c.new.result.items states group.states) c.new-states.ensures c.in_ok-join.ensures)
     (c.in_ok-push.ensures.items ∙ ap (λ (layer : List (Group g.row.M.Denot)). layer ++ group ∷ []) c.new-layer.ensures.items)

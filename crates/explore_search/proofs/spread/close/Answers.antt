@@ -7,23 +7,21 @@ use Rattle.explore_search.proofs.spread.close.Goals.{then-loop-from-test+else-le
 
 pub loop-from-preserved : goal.loop-from-preserved
 loop-from-preserved g c =
-    let more = no_fewer g.M.Machine.has_made g.M.Machine.plan_held g.M.Machine.key_of c.args.plan.now c.args.done c.loop-from.states.items c.spread.new.states.items c.in_ok-spread.ensures.grown in
-    let size = c.loop-from.states.ok.0 in
-    let below : c.loop-from.from < length c.loop-from.states.items = omega (arith, c.len.ensures) in
+    let more = no_fewer g.M.Machine.has_made g.M.Machine.plan_held g.M.Machine.key_of c.args.plan.now c.args.done c.loop-from.states c.spread.new.states c.in_ok-spread.ensures.grown in
+    let below : c.loop-from.from < length c.loop-from.states = omega (arith, c.len.ensures) in
     record {
       within = omega arith;
       grown =
-          grown_more g.M.Machine.has_made g.M.Machine.plan_held g.M.Machine.key_of c.args.plan.now c.args.done c.args.states.now.items c.loop-from.states.items c.spread.new.states.items
+          grown_more g.M.Machine.has_made g.M.Machine.plan_held g.M.Machine.key_of c.args.plan.now c.args.done c.args.states.now c.loop-from.states c.spread.new.states
           c.loop-from.invariant.grown c.in_ok-spread.ensures.grown;
       spread =
-          spread_more g.M.Machine.has_made g.M.Machine.plan_held g.M.Machine.key_of c.args.plan.now c.args.done c.loop-from.states.items c.spread.new.states.items c.loop-from.from below
+          spread_more g.M.Machine.has_made g.M.Machine.plan_held g.M.Machine.key_of c.args.plan.now c.args.done c.loop-from.states c.spread.new.states c.loop-from.from below
           c.in_ok-spread.ensures.grown c.loop-from.invariant.spread c.in_ok-spread.ensures.spread;
     }
 
 pub returns-clause-closed : goal.returns-clause-closed
 returns-clause-closed g c =
     λ yes k d below.
-    let size = c.loop-from.states.ok.0 in
     let fits = leb-true c.len-2.result c.args.room yes in
     c.loop-from.invariant.spread k d
     (elim c.loop-from-test.branch [

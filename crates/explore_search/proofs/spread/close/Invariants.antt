@@ -5,9 +5,9 @@ use Rattle.explore_search.proofs.spread.close.Given as goal
 
 abbrev pub invariant-loop-from : goal.invariant-loop-from
 invariant-loop-from g l = record {
-  within : l.from ≤ length l.states.items;
-  grown : HaveGrown g.M.Machine.has_made g.M.Machine.plan_held g.M.Machine.key_of l.plan l.done l.fn.states.items l.states.items;
-  spread : (k : ℕ) (d : _) → k < l.from → IsSpread g.M.Machine.has_made l.plan l.done l.states.items (get_or l.states.items k d);
+  within : l.from ≤ length l.states;
+  grown : HaveGrown g.M.Machine.has_made g.M.Machine.plan_held g.M.Machine.key_of l.plan l.done l.fn.states l.states;
+  spread : (k : ℕ) (d : _) → k < l.from → IsSpread g.M.Machine.has_made l.plan l.done l.states (get_or l.states k d);
 }
 
 abbrev pub decreases-loop-from : goal.decreases-loop-from
