@@ -1,5 +1,5 @@
 -- How pages hold a memory's bytes: a page that isn't there reads as zeros. And how they stand in a table, by their numbers.
-use Rattle.std.specs.Prelude.{◌≡◌, ℕ, ◌/◌, ◌%◌, Option, Some, None, List, map, slice_get, slice_index, slice_index_or}
+use Rattle.std.specs.Prelude.{◌≡◌, ℕ, ◌/◌, ◌%◌, Option, Some, None, List, map, option_map, slice_get, slice_index, slice_index_or}
 use Rattle.std.specs.Box.{with_value}
 use Rattle.std.specs.List.{range_with_len}
 use Rattle.std.specs.Global.{Box, Vec}
@@ -45,3 +45,15 @@ KeepsPlaces old new = (place : ℕ) → slice_index_or new place None ≡ slice_
 -- a page with these bytes from a place on
 abbrev pub with_bytes : ℕ → List ℕ → Box (List ℕ) → Box (List ℕ)
 with_bytes start bytes page = with_value page (written start bytes page.value)
+
+-- the bytes of a page that is there
+abbrev pub page_bytes : Option (Box (List ℕ)) → Option (List ℕ)
+page_bytes page = option_map (λ (page : Box (List ℕ)). page.value) page
+
+-- those of a group's pages, place by place
+abbrev pub bytes_by_place : Group → List (Option (List ℕ))
+bytes_by_place group = map page_bytes group.items
+
+-- and those of each group
+abbrev pub bytes_by_group : List Group → List (List (Option (List ℕ)))
+bytes_by_group groups = map bytes_by_place groups

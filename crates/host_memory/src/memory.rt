@@ -50,7 +50,11 @@ impl Memory {
     pub fn copy_of(&self, alloc: Global) -> Result<Memory, AllocError>
         ensures { IfOk result (λ copy. copy ≡ self.now) }
     {
-        Err(AllocError)
+        Ok(Memory {
+            pages: self.pages.copy_of(alloc)?,
+            promised: Vec::from_slice(alloc, &self.promised)?,
+            len: self.len,
+        })
     }
 
     /// How many bytes the memory has: fewer than 2^63.

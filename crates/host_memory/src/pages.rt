@@ -1,7 +1,7 @@
 //! The pages of a memory, in a table of two levels.
 
-ghost use Rattle.std.specs.Prelude.{◌≡◌, ◌≢◌, ℕ, ◌+◌, ◌≤◌, length, option_copied, option_map, replicate, IfSome, IsSome, IsSomeAnd, OnErr, OnOk};
-ghost use Rattle.host_memory.specs.Pages.{KeepsPages, KeepsPlaces, page_at, with_bytes};
+ghost use Rattle.std.specs.Prelude.{◌≡◌, ◌≢◌, ℕ, ◌+◌, ◌≤◌, length, map, option_copied, option_map, replicate, IfOk, IfSome, IsSome, IsSomeAnd, OnErr, OnOk};
+ghost use Rattle.host_memory.specs.Pages.{KeepsPages, KeepsPlaces, bytes_by_group, bytes_by_place, page_at, page_bytes, with_bytes};
 
 use std::alloc::{AllocError, Global};
 
@@ -30,6 +30,18 @@ impl Pages {
             groups: Vec::new(alloc),
             alloc,
         }
+    }
+
+    /// The same pages, each with the same bytes.
+    pub fn copy_of(&self, alloc: Global) -> Result<Pages, AllocError>
+        ensures { IfOk result (λ copy. bytes_by_group copy.groups.items ≡ bytes_by_group self.now.groups.items) }
+    {
+        let mut groups = Vec::with_capacity(alloc, self.groups.len())?;
+        for group in &self.groups {
+            let copied = copy_of_group(group, alloc)?;
+            groups.push_reserved(copied);
+        }
+        Ok(Pages { groups, alloc })
     }
 
     /// The page of this number, where it is there.
@@ -95,4 +107,26 @@ fn make_places(group: &mut Group, count: usize) -> Result<(), AllocError>
         group.push_reserved(None);
     }
     Ok(())
+}
+
+// A group with the same pages at its places.
+fn copy_of_group(group: &Group, alloc: Global) -> Result<Group, AllocError>
+    ensures { IfOk result (λ copy. bytes_by_place copy ≡ bytes_by_place group.now) }
+{
+    let mut places = Vec::with_capacity(alloc, group.len())?;
+    for page in group {
+        let copied = copy_of_page(page, alloc)?;
+        places.push_reserved(copied);
+    }
+    Ok(places)
+}
+
+// A page with the same bytes, where there is one.
+fn copy_of_page(page: &Option<Page>, alloc: Global) -> Result<Option<Page>, AllocError>
+    ensures { IfOk result (λ copy. page_bytes copy ≡ page_bytes page.now) }
+{
+    match page {
+        Some(page) => Ok(Some(Box::new(alloc, **page)?)),
+        None => Ok(None),
+    }
 }
