@@ -54,6 +54,22 @@ impl Endpoint {
         })
     }
 
+    /// An end in the same state, with the same promises.
+    pub fn copy_of(&self, alloc: Global) -> Result<Endpoint, AllocError>
+        ensures { IfOk result (λ copy. copy ≡ self.now) }
+    {
+        let mut buffers = Vec::new(alloc);
+        make_buffers(alloc, &mut buffers, self.coming.spare())?;
+        Ok(Endpoint {
+            pads: self.pads,
+            bells: self.bells,
+            memory: self.memory.copy_of(alloc)?,
+            coming: copy_of_queue(&self.coming, alloc)?,
+            buffers,
+            alloc,
+        })
+    }
+
     /// What is so of every end. It does nothing: its clause is the law.
     pub fn law(&self)
         ensures { IsEnd self.now }
@@ -262,6 +278,25 @@ impl Model for Endpoint {
     ghost view = { end_seen };
 
     ghost invariant = { IsHeld };
+}
+
+// A queue with the same writes in flight, and as much room for more.
+fn copy_of_queue(
+    queue: &Queue<FlyingWrite>,
+    alloc: Global,
+) -> Result<Queue<FlyingWrite>, AllocError>
+    ensures { IfOk result (λ copy. copy ≡ queue.now) }
+{
+    let mut copied = Queue::new(alloc);
+    let room = queue.len().checked_add(queue.spare()).ok_or(AllocError)?;
+    copied.promise(room)?;
+    for place in 0..queue.len() {
+        let Some(write) = queue.label_at(place) else {
+            unreachable!()
+        };
+        copied.push(write.copy_of(alloc)?);
+    }
+    Ok(copied)
 }
 
 // Makes so many buffers at least.

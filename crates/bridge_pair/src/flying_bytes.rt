@@ -1,9 +1,10 @@
 //! The bytes of posted writes in flight.
 
-ghost use Rattle.std.specs.Prelude.{◌≡◌, ◌≤◌, length, take};
+ghost use Rattle.std.specs.Prelude.{◌≡◌, ◌≤◌, length, take, IfOk};
 ghost use Rattle.bridge_pair.specs.FlyingBytes.{most_few_bytes};
 ghost use Rattle.bridge_pair.specs.Writes.{most_write_bytes};
 
+use std::alloc::{AllocError, Global};
 use std::marker::Model;
 
 /// The most bytes of a write that need no buffer.
@@ -55,6 +56,22 @@ impl FlyingBytes {
             kept: Kept::Many { buffer },
             len: bytes.len() as u32,
         }
+    }
+
+    /// The same bytes, in a buffer of their own where they stand in one.
+    pub fn copy_of(&self, alloc: Global) -> Result<FlyingBytes, AllocError>
+        ensures { IfOk result (λ copy. copy ≡ self.now) }
+    {
+        let kept = match &self.kept {
+            Kept::Few { bytes } => Kept::Few { bytes: *bytes },
+            Kept::Many { buffer } => Kept::Many {
+                buffer: Box::new(alloc, **buffer)?,
+            },
+        };
+        Ok(FlyingBytes {
+            kept,
+            len: self.len,
+        })
     }
 
     /// The bytes.

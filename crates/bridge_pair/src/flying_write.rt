@@ -1,12 +1,13 @@
 //! Posted writes in flight.
 
-ghost use Rattle.std.specs.Prelude.{◌≡◌, ◌↔◌, ◌<◌, IsTrue};
+ghost use Rattle.std.specs.Prelude.{◌≡◌, ◌↔◌, ◌<◌, IfOk, IsTrue};
 ghost use Rattle.plan_model.specs.DeclaredPlans.{IsPair};
 ghost use Rattle.plan_model.specs.Orders.{order_of};
 
 use crate::flying_bytes::FlyingBytes;
 use crate::plans::{class_among, classes_of, kind_of};
 use posted_queue::Ordered;
+use std::alloc::{AllocError, Global};
 use std::marker::Model;
 use step_kinds::{Label, PairPlan, Side};
 
@@ -22,6 +23,23 @@ pub enum Arrival {
 }
 
 impl Arrival {
+    /// The same arrival.
+    pub fn copy_of(&self, alloc: Global) -> Result<Arrival, AllocError>
+        ensures { IfOk result (λ copy. copy ≡ self.now) }
+    {
+        match self {
+            Arrival::AtAddress { at, bytes } => Ok(Arrival::AtAddress {
+                at: *at,
+                bytes: bytes.copy_of(alloc)?,
+            }),
+            Arrival::AtPad { index, value } => Ok(Arrival::AtPad {
+                index: *index,
+                value: *value,
+            }),
+            Arrival::AtBell { bit } => Ok(Arrival::AtBell { bit: *bit }),
+        }
+    }
+
     /// Whether two writes arrive at the same place, with the same bytes or value.
     pub fn is_same(&self, other: &Arrival) -> bool
         ensures { IsTrue result ↔ (self.now ≡ other.now) }
@@ -87,6 +105,18 @@ impl FlyingWrite {
             class: class_among(classes_of(plan, side), label),
             arrival,
         }
+    }
+
+    /// A write with the same label and order, which arrives alike.
+    pub fn copy_of(&self, alloc: Global) -> Result<FlyingWrite, AllocError>
+        ensures { IfOk result (λ copy. copy ≡ self.now) }
+    {
+        Ok(FlyingWrite {
+            label: self.label,
+            kind: self.kind,
+            class: self.class,
+            arrival: self.arrival.copy_of(alloc)?,
+        })
     }
 
     /// Whether two writes have the same label and order, and arrive alike.

@@ -135,7 +135,14 @@ impl Pair {
     pub fn copy_of(&self, alloc: Global) -> Result<Pair, AllocError>
         ensures { IfOk result (λ copy. copy ≡ self.now) }
     {
-        Err(AllocError)
+        Ok(Pair {
+            plan: copy_of(&self.plan),
+            link: self.link,
+            book_a: self.book_a,
+            book_b: self.book_b,
+            a: self.a.copy_of(alloc)?,
+            b: self.b.copy_of(alloc)?,
+        })
     }
 
     // Whether both sides have reached the same in the handshake.
