@@ -1,6 +1,6 @@
 //! The bytes of the frame that is received.
 
-ghost use Rattle.std.specs.Prelude.{◌≡◌, ◌↔◌, ◌+◌, ◌-◌, ◌<◌, ◌≤◌, ◌++◌, IsTrue, OnErr, OnOk, length};
+ghost use Rattle.std.specs.Prelude.{◌≡◌, ◌↔◌, ◌+◌, ◌-◌, ◌<◌, ◌≤◌, ◌++◌, IfOk, IsTrue, OnErr, OnOk, length};
 ghost use Rattle.bridge_pair.specs.Bridge.{bytes_of};
 ghost use Rattle.frame_ring.specs.Gathering.{nothing_gathered};
 ghost use Rattle.host_memory.specs.Memory.{bytes_at};
@@ -30,6 +30,21 @@ impl Gathered {
             filled: 0,
             alloc,
         }
+    }
+
+    /// The same bytes gathered, with as much room.
+    ///
+    /// # Errors
+    ///
+    /// [`AllocError`] from out of memory alone.
+    pub fn copy_of(&self, alloc: Global) -> Result<Gathered, AllocError>
+        ensures { IfOk result (λ copy. copy ≡ self.now) }
+    {
+        Ok(Gathered {
+            bytes: Vec::from_slice(alloc, &self.bytes)?,
+            filled: self.filled,
+            alloc,
+        })
     }
 
     /// How many bytes were gathered.

@@ -274,7 +274,11 @@ impl Port {
     pub fn copy_of(&self, alloc: Global) -> Result<Port, AllocError>
         ensures { IfOk result (λ copy. copy ≡ self.now) }
     {
-        Err(AllocError)
+        Ok(Port {
+            rings: self.rings.copy_of(),
+            sender: self.sender.copy_of(alloc)?,
+            receiver: self.receiver.copy_of(alloc)?,
+        })
     }
 
     /// What [`Port::begin`] answers for a frame of `len` bytes, at most 65,536, but for want of memory. It takes no memory.

@@ -1,6 +1,6 @@
 //! The receiver's end: where it stands with the entry at hand.
 
-ghost use Rattle.std.specs.Prelude.{◌≡◌, ◌↔◌, ℕ, ◌+◌, ◌-◌, ◌*◌, ◌^◌, ◌<◌, ◌≤◌, ◌++◌, IsTrue, OnErr, OnOk, length, min, true};
+ghost use Rattle.std.specs.Prelude.{◌≡◌, ◌↔◌, ℕ, ◌+◌, ◌-◌, ◌*◌, ◌^◌, ◌<◌, ◌≤◌, ◌++◌, IfOk, IsTrue, OnErr, OnOk, length, min, true};
 ghost use Rattle.bridge_pair.specs.Bridge.{bytes_of};
 ghost use Rattle.byte_model.specs.Headers.{found_with};
 ghost use Rattle.frame_ring.specs.Calls.{last_got, look_found, part_answer, part_copied};
@@ -54,6 +54,25 @@ impl Receiver {
             left: 0,
             gathered: Gathered::new(alloc),
         }
+    }
+
+    /// A receiver at the same place of the same bytes.
+    ///
+    /// # Errors
+    ///
+    /// [`AllocError`] from out of memory alone.
+    pub fn copy_of(&self, alloc: Global) -> Result<Receiver, AllocError>
+        ensures { IfOk result (λ copy. copy ≡ self.now) }
+    {
+        Ok(Receiver {
+            got: self.got,
+            done: self.done,
+            phase: self.phase,
+            part: self.part,
+            len: self.len,
+            left: self.left,
+            gathered: self.gathered.copy_of(alloc)?,
+        })
     }
 
     /// Whether two receivers stand at the same place of the same bytes.

@@ -53,6 +53,21 @@ impl QueueRings {
         }
     }
 
+    /// The rings of the same queue.
+    pub fn copy_of(&self) -> QueueRings
+        ensures { result ≡ self.now }
+    {
+        QueueRings {
+            plan: copy_of(&self.plan),
+            side: self.side,
+            queue: self.queue,
+            out: self.out,
+            into: self.into,
+            out_window: self.out_window,
+            into_window: self.into_window,
+        }
+    }
+
     /// The side, of a queue that it has.
     pub fn side(&self) -> Side
         ensures value { result ≡ self.now.side }

@@ -1,6 +1,6 @@
 //! The sender's end: the frame under way, and which of its writes is next.
 
-ghost use Rattle.std.specs.Prelude.{◌≡◌, ◌↔◌, IsTrue, ◌+◌, ◌-◌, ◌*◌, ◌^◌, ◌<◌, ◌≤◌, ◌∷◌, [], MatchOption, drop, length, not, take, true};
+ghost use Rattle.std.specs.Prelude.{◌≡◌, ◌↔◌, IfOk, IsTrue, ◌+◌, ◌-◌, ◌*◌, ◌^◌, ◌<◌, ◌≤◌, ◌∷◌, [], MatchOption, drop, length, not, take, true};
 ghost use Rattle.frame_ring.specs.Calls.{entries_begun, first_label, let_go, next_begun, rest_of};
 ghost use Rattle.frame_ring.specs.Outgoing.{IsLabelOf, all_writes_in, count_left, entries_under, entry_at, label_by, most_numbers, with_progress, writes_in};
 ghost use Rattle.frame_ring.specs.Port.{is_busy as is_busy_by, nothing_sent};
@@ -10,6 +10,7 @@ ghost use Rattle.lane_model.specs.Tests.{is_empty_list};
 ghost use Rattle.plan_model.specs.Pieces.{pieces_of};
 ghost use Rattle.plan_model.specs.Sizes.{pieces_in as pieces_by};
 
+use std::alloc::{AllocError, Global};
 use std::marker::Model;
 use step_kinds::{Frame, Label};
 
@@ -48,6 +49,31 @@ impl Sender {
             next: 4,
             left: 0,
         }
+    }
+
+    /// A sender that has sent the same, with the same left to post.
+    ///
+    /// # Errors
+    ///
+    /// [`AllocError`] from out of memory alone.
+    pub fn copy_of(&self, alloc: Global) -> Result<Sender, AllocError>
+        ensures { IfOk result (λ copy. copy ≡ self.now) }
+    {
+        let frame = match &self.frame {
+            Some(frame) => Some(frame.copy_of(alloc)?),
+            None => None,
+        };
+        Ok(Sender {
+            queue: self.queue,
+            largest: self.largest,
+            begun: self.begun,
+            told: self.told,
+            frame,
+            piece: self.piece,
+            pieces: self.pieces,
+            next: self.next,
+            left: self.left,
+        })
     }
 
     /// How many entries were begun, and how many will be with those that wait.
