@@ -204,7 +204,10 @@ impl QueuePair {
     pub fn copy_of(&self, alloc: Global) -> Result<QueuePair, AllocError>
         ensures { IfOk result (λ copy. copy ≡ self.now) }
     {
-        Err(AllocError)
+        Ok(QueuePair {
+            port: self.port.copy_of(alloc)?,
+            closed: self.closed,
+        })
     }
 
     /// What [`QueuePair::begin`] answers for a frame of `len` bytes, at most 65,536, but for want of memory. It takes no memory.
