@@ -1,6 +1,6 @@
 //! How many frames of a lane there were in each session.
 
-ghost use Rattle.std.specs.Prelude.{◌↔◌, ◌≡◌, ◌≢◌, ◌<◌, ◌≤◌, All, IfNone, IfSome, IsTrue, OnErr, OnOk, ℕ, length, map, slice_index_or, true};
+ghost use Rattle.std.specs.Prelude.{◌↔◌, ◌≡◌, ◌≢◌, ◌<◌, ◌≤◌, All, IfNone, IfOk, IfSome, IsTrue, OnErr, OnOk, ℕ, length, map, slice_index_or, true};
 ghost use Rattle.fabric_core.specs.Same.{AreSameCounts, AreSameWhereCounted};
 ghost use Rattle.fabric_core.specs.Sessions.{AreApart, AreUpTo, IsNowhere, IsPlaceOf, count_seen, no_count, nothing_tallied};
 ghost use Rattle.fabric_rule.specs.Parts.{count_in, one_more};
@@ -94,6 +94,26 @@ impl SessionCounts {
         ensures { IsTrue result ↔ AreSameCounts self.now.counts other.now.counts }
     {
         self.is_in(other) && other.is_in(self)
+    }
+
+    /// The same counts, with room for one more frame where there is room here.
+    ///
+    /// # Errors
+    ///
+    /// [`AllocError`] from out of memory alone.
+    pub fn copy_of(&self, alloc: Global) -> Result<SessionCounts, AllocError>
+        ensures { IfOk result (λ copy. copy ≡ self.now) }
+    {
+        let len = self.counts.len();
+        let room = if self.has_room { len + 1 } else { len };
+        let mut counts = Vec::with_capacity(alloc, room)?;
+        counts.extend_from_slice(&self.counts)?;
+        Ok(SessionCounts {
+            counts,
+            most: self.most,
+            made: self.made,
+            has_room: self.has_room,
+        })
     }
 
     // Whether each session that is counted here has as many frames there.

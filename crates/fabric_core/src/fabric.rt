@@ -155,7 +155,10 @@ impl Fabric {
     pub fn copy_of(&self, alloc: Global) -> Result<Fabric, AllocError>
         ensures { IfOk result (λ copy. copy ≡ self.now) }
     {
-        Err(AllocError)
+        Ok(Fabric {
+            devs: copies(alloc, &self.devs)?,
+            pairs: pair_copies(alloc, &self.pairs)?,
+        })
     }
 
     /// How many writes a side of a pair has in flight. The pair has to be one of the fabric's. A `land` of that side at
@@ -216,13 +219,24 @@ fn push_keys(key: &mut Vec<u8>, pairs: &[PairBox]) -> Result<(), AllocError>
     Ok(())
 }
 
+// The same pairs.
+fn pair_copies(alloc: Global, pairs: &[PairBox]) -> Result<Vec<PairBox>, AllocError>
+    ensures { IfOk result (λ copies. copies.items ≡ pairs.now) }
+{
+    let mut copies = Vec::with_capacity(alloc, pairs.len())?;
+    for pair in pairs {
+        copies.push_reserved(pair.copy_of(alloc)?);
+    }
+    Ok(copies)
+}
+
 // The same devices.
 fn copies(alloc: Global, devs: &[DevPlan]) -> Result<Vec<DevPlan>, AllocError>
     ensures { IfOk result (λ copies. copies.items ≡ devs.now) }
 {
-    let mut copies = Vec::new(alloc);
+    let mut copies = Vec::with_capacity(alloc, devs.len())?;
     for dev in devs {
-        copies.push(copy_of(dev))?;
+        copies.push_reserved(copy_of(dev));
     }
     Ok(copies)
 }

@@ -171,6 +171,22 @@ impl PairBox {
             && are_same_queues(&self.queues_b, &other.queues_b)
     }
 
+    /// A pair in the same state, with the same promises.
+    ///
+    /// # Errors
+    ///
+    /// [`AllocError`] from out of memory alone.
+    pub fn copy_of(&self, alloc: Global) -> Result<PairBox, AllocError>
+        ensures { IfOk result (λ copy. copy ≡ self.now) }
+    {
+        Ok(PairBox {
+            pair: self.pair.copy_of(alloc)?,
+            queues_a: queue_copies(alloc, &self.queues_a)?,
+            queues_b: queue_copies(alloc, &self.queues_b)?,
+            alloc,
+        })
+    }
+
     /// How many writes a side has in flight.
     pub fn in_flight(&self, side: Side) -> usize
         ensures { result ≡ length (flight_of self.now.bridge side).writes }
@@ -244,6 +260,17 @@ fn are_same_queues(queues: &[QueueBox], others: &[QueueBox]) -> bool
         }
     }
     true
+}
+
+// The same queues.
+fn queue_copies(alloc: Global, queues: &[QueueBox]) -> Result<Vec<QueueBox>, AllocError>
+    ensures { IfOk result (λ copies. copies.items ≡ queues.now) }
+{
+    let mut copies = Vec::with_capacity(alloc, queues.len())?;
+    for queue in queues {
+        copies.push_reserved(queue.copy_of(alloc)?);
+    }
+    Ok(copies)
 }
 
 // All queues of a side forget the session, and give back all room that they were promised.

@@ -370,6 +370,23 @@ impl QueueBox {
             && self.accepted.is_same(&other.accepted)
             && self.delivered.is_same(&other.delivered)
     }
+
+    /// A queue in the same state, with as much room for the frames that it counts.
+    ///
+    /// # Errors
+    ///
+    /// [`AllocError`] from out of memory alone.
+    pub fn copy_of(&self, alloc: Global) -> Result<QueueBox, AllocError>
+        ensures { IfOk result (λ copy. copy ≡ self.now) }
+    {
+        Ok(QueueBox {
+            queue: self.queue.copy_of(alloc)?,
+            flow: self.flow,
+            counters: self.counters,
+            accepted: self.accepted.copy_of(alloc)?,
+            delivered: self.delivered.copy_of(alloc)?,
+        })
+    }
 }
 
 impl Model for QueueBox {

@@ -37,6 +37,19 @@ impl Fdb {
         self.stations.as_slice() == other.stations.as_slice()
     }
 
+    /// A database of the same stations, with room for all.
+    ///
+    /// # Errors
+    ///
+    /// [`AllocError`] from out of memory alone.
+    pub fn copy_of(&self, alloc: Global) -> Result<Fdb, AllocError>
+        ensures { IfOk result (λ copy. copy ≡ self.now) }
+    {
+        let mut stations = Vec::with_capacity(alloc, MOST_STATIONS)?;
+        stations.extend_from_slice(&self.stations)?;
+        Ok(Fdb { stations })
+    }
+
     /// The port on which a station was seen last, where it is known. It looks at each station.
     pub fn lookup(&self, address: &[u8; 6]) -> Option<u32>
         ensures { result ≡ lookup self.now address.now }

@@ -52,6 +52,21 @@ impl FrameQueue {
         are_same_frames(&self.frames, &other.frames)
     }
 
+    /// A queue of the same frames, in one order.
+    ///
+    /// # Errors
+    ///
+    /// [`AllocError`] from out of memory alone.
+    pub fn copy_of(&self, alloc: Global) -> Result<FrameQueue, AllocError>
+        ensures { IfOk result (λ copy. copy ≡ self.now) }
+    {
+        let mut frames = VecDeque::with_capacity(alloc, self.frames.len())?;
+        for place in 0..self.frames.len() {
+            frames.push_back_reserved(self.frames[place].copy_of(alloc)?);
+        }
+        Ok(FrameQueue { frames })
+    }
+
     /// Drops the first frame, where there is one. It takes no memory.
     pub fn drop_first(&mut self)
         ensures { self.new ≡ drop 1 self.old }
@@ -96,6 +111,21 @@ pub fn are_same_queues(queues: &[FrameQueue], others: &[FrameQueue]) -> bool
         }
     }
     true
+}
+
+/// The same queues, in one order.
+///
+/// # Errors
+///
+/// [`AllocError`] from out of memory alone.
+pub fn copies(alloc: Global, queues: &[FrameQueue]) -> Result<Vec<FrameQueue>, AllocError>
+    ensures { IfOk result (λ copies. copies.items ≡ queues.now) }
+{
+    let mut copies = Vec::with_capacity(alloc, queues.len())?;
+    for queue in queues {
+        copies.push_reserved(queue.copy_of(alloc)?);
+    }
+    Ok(copies)
 }
 
 /// A copy of the frame joins each of these queues, as the last one.

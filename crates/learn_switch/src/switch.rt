@@ -6,7 +6,7 @@ ghost use Rattle.switch_model.specs.Fdb.{AreBelow, destination, learned_source, 
 ghost use Rattle.learn_switch.specs.Frames.{GoesBelow, HasHeader, HaveHeaders, bytes_after_relay, bytes_relay_answer};
 
 use crate::fdb::{Fdb, is_multicast};
-use crate::frame_queue::{FrameQueue, are_same_queues, empty_queues, push_to_others};
+use crate::frame_queue::{FrameQueue, are_same_queues, copies, empty_queues, push_to_others};
 use net_dev::{Header, Short, decode};
 use std::alloc::{AllocError, Global};
 use std::marker::Model;
@@ -135,7 +135,12 @@ impl Switch {
     pub fn copy_of(&self, alloc: Global) -> Result<Switch, AllocError>
         ensures { IfOk result (λ copy. copy ≡ self.now) }
     {
-        Err(AllocError)
+        Ok(Switch {
+            alloc,
+            inboxes: copies(alloc, &self.inboxes)?,
+            waiting: copies(alloc, &self.waiting)?,
+            fdb: self.fdb.copy_of(alloc)?,
+        })
     }
 
     /// The port on which a station was seen last, and `None` exactly where it isn't known.

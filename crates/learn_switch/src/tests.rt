@@ -14,5 +14,6 @@ fn frames_go_through(rt: HostRuntime) -> Result<(), Fail> {
     assert!(rt; matches!(switch.relay(0)?, RelayAnswer::Flood { count: 1 }));
     assert_eq!(rt; switch.lookup(FIRST), Some(0));
     assert!(rt; switch.first(1).is_some());
+    assert!(rt; switch.copy_of(rt.alloc())?.is_same(&switch));
     Ok(())
 }
