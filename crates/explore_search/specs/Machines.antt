@@ -1,8 +1,7 @@
 -- What a search knows of the machines that it drives.
-use Rattle.std.specs.Prelude.{◌≡◌, ℕ, Bool, false, true, List, []}
+use Rattle.std.specs.Prelude.{◌≡◌, ℕ, List, []}
 use Rattle.step_kinds.specs.declared.plan.Plan.{Plan}
 use Rattle.step_kinds.specs.declared.steps.Step.{Step}
-use Rattle.step_kinds.specs.declared.steps.Step.TheVariants.{Land}
 
 -- what a plan declares, without its steps
 abbrev pub declared_part : Plan → Plan
@@ -17,8 +16,3 @@ HaveSameSteps {M} has_made =
 abbrev pub HaveSameKeys : {M : Type 0} → (M → Plan → List Step → Type 0) → (M → List ℕ) → Type 0
 HaveSameKeys {M} has_made key_of =
     (plan : Plan) (steps : List Step) (first second : M) → has_made first plan steps → has_made second plan steps → key_of first ≡ key_of second
-
--- whether a step is a landing
-abbrev pub is_landing : Step → Bool
-is_landing (Land pair side place) = true
-is_landing step = false

@@ -7,13 +7,11 @@ ghost use Rattle.explore_search.specs.Layers.{AreKept, GroupsCover, HasGroups, H
 ghost use Rattle.explore_search.specs.Paths.{IsExplorable};
 
 use crate::layers::{Group, branches_of, named};
+use crate::live::most_live;
 use crate::machine::Machine;
 use crate::spread::close;
 use std::alloc::{AllocError, Global};
 use step_kinds::Plan;
-
-/// The most states of a layer whose machines are kept.
-pub const MOST_LIVE: usize = 4096;
 
 /// Closes the states of each group of a layer under landings. It answers how many states there are then, together with
 /// those that were counted before, or `None` where there are more than the limit. The only error is out of memory.
@@ -53,15 +51,8 @@ fn close_groups<M: Machine>(
 {
     let mut count = before;
     for place in 0..layer.len() {
-        let is_kept = count - before < MOST_LIVE;
-        let Some(states) = close_group(
-            alloc,
-            plan,
-            done,
-            &mut layer[place],
-            limit - count,
-            is_kept,
-        )?
+        let live = most_live(plan).saturating_sub(count - before);
+        let Some(states) = close_group(alloc, plan, done, &mut layer[place], limit - count, live)?
         else {
             return Ok(None);
         };
@@ -77,7 +68,7 @@ fn close_group<M: Machine>(
     done: usize,
     group: &mut Group<M>,
     room: usize,
-    is_kept: bool,
+    live: usize,
 ) -> Result<Option<usize>, AllocError>
     requires plan { IsExplorable plan.now }
     requires done { done ≤ length plan.now.steps }
@@ -85,7 +76,7 @@ fn close_group<M: Machine>(
     ensures grown { OnOk result (GroupGrown M.has_made M.plan_held M.key_of plan.now done group.old group.new) }
     ensures closed { IfOk result (GroupClosed M.has_made M.plan_held M.key_of plan.now done group.new room) }
 {
-    if !close(alloc, plan, done, &mut group.states, room, is_kept)? {
+    if !close(alloc, plan, done, &mut group.states, room, live)? {
         return Ok(None);
     }
     Ok(Some(group.states.len()))
@@ -97,17 +88,19 @@ pub fn step_layer<M: Machine>(
     plan: &Plan,
     done: usize,
     layer: Vec<Group<M>>,
-    is_kept: bool,
 ) -> Result<Vec<Group<M>>, AllocError>
     requires plan { IsExplorable plan.now }
     requires done { done < length plan.now.steps }
     requires layer { All (λ group. AreKept M.has_made M.plan_held M.key_of plan.now done group.states) layer.items }
     ensures { IfOk result (λ next. HasNext M.has_made M.plan_held M.key_of plan.now done layer.items next.items) }
 {
+    let mut live = most_live(plan);
     let mut next = Vec::new(alloc);
     for group in layer {
-        let after = step_group(alloc, plan, done, group, is_kept)?;
+        let states = group.states.len();
+        let after = step_group(alloc, plan, done, group, live)?;
         add_groups(&mut next, after)?;
+        live = live.saturating_sub(states);
     }
     Ok(next)
 }
@@ -128,7 +121,7 @@ fn step_group<M: Machine>(
     plan: &Plan,
     done: usize,
     group: Group<M>,
-    is_kept: bool,
+    live: usize,
 ) -> Result<Vec<Group<M>>, AllocError>
     requires plan { IsExplorable plan.now }
     requires done { done < length plan.now.steps }
@@ -137,6 +130,6 @@ fn step_group<M: Machine>(
     ensures covers { IfOk result (λ groups. GroupsCover M.has_made M.plan_held M.key_of plan.now done group groups.items) }
 {
     let Group { answers, states } = group;
-    let branches = branches_of(alloc, plan, done, states.into_vec(), is_kept)?;
+    let branches = branches_of(alloc, plan, done, states.into_vec(), live)?;
     named(alloc, answers, branches)
 }

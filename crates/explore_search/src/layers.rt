@@ -40,7 +40,7 @@ pub fn branches_of<M: Machine>(
     plan: &Plan,
     done: usize,
     states: Vec<State<M>>,
-    is_kept: bool,
+    live: usize,
 ) -> Result<Vec<Branch<M>>, AllocError>
     requires plan { IsExplorable plan.now }
     requires done { done < length plan.now.steps }
@@ -49,7 +49,7 @@ pub fn branches_of<M: Machine>(
 {
     let mut branches = Vec::new(alloc);
     for state in states {
-        step_state(alloc, plan, done, state, &mut branches, is_kept)?;
+        step_state(alloc, plan, done, state, &mut branches, live)?;
     }
     Ok(branches)
 }
@@ -61,7 +61,7 @@ fn step_state<M: Machine>(
     done: usize,
     state: State<M>,
     branches: &mut Vec<Branch<M>>,
-    is_kept: bool,
+    live: usize,
 ) -> Result<(), AllocError>
     requires plan { IsExplorable plan.now }
     requires done { done < length plan.now.steps }
@@ -86,7 +86,7 @@ fn step_state<M: Machine>(
         text,
         landings,
         machine,
-        is_kept,
+        live,
     )
 }
 
@@ -119,7 +119,7 @@ fn place_in<M: Machine>(
     text: Items<u8>,
     landings: Vec<Landing>,
     machine: M,
-    is_kept: bool,
+    live: usize,
 ) -> Result<(), AllocError>
     requires plan { IsExplorable plan.now }
     requires done { done ≤ length plan.now.steps }
@@ -131,11 +131,11 @@ fn place_in<M: Machine>(
     match place_of(branches, text.as_slice()) {
         Ok(place) => {
             let states = &mut branches[place].states;
-            join(alloc, plan, done, states, landings, machine, is_kept)
+            join(alloc, plan, done, states, landings, machine, live)
         }
         Err(place) => {
             let mut states = States::new(alloc);
-            join(alloc, plan, done, &mut states, landings, machine, is_kept)?;
+            join(alloc, plan, done, &mut states, landings, machine, live)?;
             branches.insert(place, Branch { text, states })?;
             Ok(())
         }

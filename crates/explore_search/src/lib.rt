@@ -1,11 +1,12 @@
 //! A search through every order in which a cluster may land the writes of a script.
 //!
 //! It drives machines, of which it knows no more than the trait [`Machine`] says: what steps they have made, and
-//! whether two of them are the same. A machine is never copied, but made anew along the path to a state.
+//! whether two of them are the same. A state keeps its machine where there is room, and else it is made anew along its path.
 #![tactic(auto)]
 
 mod groups;
 mod layers;
+mod live;
 mod machine;
 mod paths;
 mod search;

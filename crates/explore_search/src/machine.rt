@@ -1,14 +1,15 @@
 //! What a search needs of a machine.
 
-ghost use Rattle.std.specs.Prelude.{◌≡◌, ◌≤◌, ◌∷◌, ◌++◌, ℕ, [], false, true, IfOk, IsTrue, List, OnOk};
+ghost use Rattle.std.specs.Prelude.{◌≡◌, ◌≤◌, ◌∷◌, ◌++◌, ℕ, [], false, IfOk, IsTrue, List, OnOk};
 ghost use Rattle.step_kinds.specs.declared.plan.Plan.{Plan as PlanValue};
 ghost use Rattle.step_kinds.specs.declared.steps.Answer.TheVariants.{Nothing};
 ghost use Rattle.step_kinds.specs.declared.steps.Step.{Step as StepValue};
 ghost use Rattle.step_kinds.specs.declared.steps.Step.TheVariants.{Land};
 ghost use Rattle.plan_model.specs.DeclaredPlans.{IsDeclared, IsPairOf};
 ghost use Rattle.plan_model.specs.Switches.{AreSwitches, IsMakeable};
-ghost use Rattle.explore_model.specs.Schedules.{answer_after, is_landed};
-ghost use Rattle.explore_search.specs.Machines.{HaveSameKeys, HaveSameSteps, declared_part, is_landing};
+ghost use Rattle.explore_model.specs.declared.outcome.Landing.{Landing as LandingValue};
+ghost use Rattle.explore_model.specs.Schedules.{answer_after, is_landed, landing_step};
+ghost use Rattle.explore_search.specs.Machines.{HaveSameKeys, HaveSameSteps, declared_part};
 
 use std::alloc::{AllocError, Global};
 use step_kinds::{Answer, Plan, Side, Step};
@@ -45,7 +46,7 @@ pub trait Machine: Drop {
             IfOk result (λ answer. answer ≡ answer_after plan steps step.now) }
         ensures made { (plan : PlanValue) (steps : List StepValue) → has_made self.old plan steps →
             OnOk result (has_made self.new plan (steps ++ step.now ∷ [])) }
-        ensures rests { (plan : PlanValue) (steps : List StepValue) → has_made self.old plan steps → is_landing step.now ≡ true →
+        ensures rests { (plan : PlanValue) (steps : List StepValue) → has_made self.old plan steps → (landing : LandingValue) → step.now ≡ landing_step landing →
             IfOk result (λ answer. is_landed answer ≡ false → has_made self.new plan steps) }
         ensures plan { plan_held self.new ≡ plan_held self.old };
 

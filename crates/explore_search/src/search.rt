@@ -6,8 +6,9 @@ ghost use Rattle.explore_search.specs.Paths.{IsExplorable};
 ghost use Rattle.explore_search.specs.Results.{IsExploration, first_landings, outcome_of};
 ghost use Rattle.explore_search.specs.Whole.{IsBased, IsCount};
 
-use crate::groups::{MOST_LIVE, close_layer, step_layer};
+use crate::groups::{close_layer, step_layer};
 use crate::layers::Group;
+use crate::live::most_live;
 use crate::machine::Machine;
 use crate::states::{State, States, join};
 use explore_model::{Landing, Outcome};
@@ -47,7 +48,7 @@ pub fn explore<M: Machine>(alloc: Global, plan: &Plan) -> Result<Explored, Alloc
         let Some(count) = close_layer(alloc, plan, done, &mut layer, states, MOST_STATES)? else {
             return Ok(Explored::TooMany);
         };
-        layer = step_layer(alloc, plan, done, layer, count - states <= MOST_LIVE)?;
+        layer = step_layer(alloc, plan, done, layer)?;
         states = count;
     }
     finished(alloc, plan, layer, states)
@@ -84,7 +85,15 @@ fn start<M: Machine>(alloc: Global, plan: &Plan) -> Result<Vec<Group<M>>, AllocE
 {
     let machine = M::fresh(alloc, plan)?;
     let mut states = States::new(alloc);
-    join(alloc, plan, 0, &mut states, Vec::new(alloc), machine, true)?;
+    join(
+        alloc,
+        plan,
+        0,
+        &mut states,
+        Vec::new(alloc),
+        machine,
+        most_live(plan),
+    )?;
     let mut layer = Vec::new(alloc);
     layer.push(Group {
         answers: Items::new(alloc),

@@ -26,7 +26,7 @@ pub fn close<M: Machine>(
     done: usize,
     states: &mut States<M>,
     room: usize,
-    is_kept: bool,
+    live: usize,
 ) -> Result<bool, AllocError>
     requires plan { IsExplorable plan.now }
     requires done { done ≤ length plan.now.steps }
@@ -37,7 +37,7 @@ pub fn close<M: Machine>(
 {
     let mut from = 0;
     while from < states.len() && states.len() <= room {
-        spread(alloc, plan, done, states, from, is_kept)?;
+        spread(alloc, plan, done, states, from, live)?;
         from += 1;
     }
     Ok(states.len() <= room)
@@ -50,7 +50,7 @@ fn spread<M: Machine>(
     done: usize,
     states: &mut States<M>,
     from: usize,
-    is_kept: bool,
+    live: usize,
 ) -> Result<(), AllocError>
     requires plan { IsExplorable plan.now }
     requires done { done ≤ length plan.now.steps }
@@ -63,7 +63,7 @@ fn spread<M: Machine>(
     let landings = landings_at(alloc, plan, done, &machine)?;
     let mut spare = Some(machine);
     for landing in &landings {
-        spare = land(alloc, plan, done, states, from, spare, *landing, is_kept)?;
+        spare = land(alloc, plan, done, states, from, spare, *landing, live)?;
     }
     Ok(())
 }
@@ -78,7 +78,7 @@ fn land<M: Machine>(
     from: usize,
     spare: Option<M>,
     landing: Landing,
-    is_kept: bool,
+    live: usize,
 ) -> Result<Option<M>, AllocError>
     requires plan { IsExplorable plan.now }
     requires done { done ≤ length plan.now.steps }
@@ -97,7 +97,7 @@ fn land<M: Machine>(
     };
     let mut landings = Vec::from_slice(alloc, &states.as_slice()[from].landings)?;
     landings.push(landing)?;
-    join(alloc, plan, done, states, landings, machine, is_kept)?;
+    join(alloc, plan, done, states, landings, machine, live)?;
     Ok(None)
 }
 

@@ -16,9 +16,6 @@ use std::alloc::{AllocError, Global};
 use std::marker::Model;
 use step_kinds::Plan;
 
-// The most states of a group that keep their machines.
-const MOST_LIVE: usize = 4096;
-
 /// A state of a search: the landings of a path to it, the key of its machine, and maybe the machine.
 #[derive(Drop)]
 pub struct State<M> {
@@ -121,7 +118,7 @@ impl<M> Model for States<M> {
 }
 
 /// Adds the state of a machine, which has made so many steps of the plan and these landings between them, unless it is
-/// among the states. The only error is out of memory.
+/// among the states. Where fewer than `live` states are there it keeps its machine. The only error is out of memory.
 pub fn join<M: Machine>(
     alloc: Global,
     plan: &Plan,
@@ -129,7 +126,7 @@ pub fn join<M: Machine>(
     states: &mut States<M>,
     landings: Vec<Landing>,
     machine: M,
-    is_kept: bool,
+    live: usize,
 ) -> Result<(), AllocError>
     requires plan { IsExplorable plan.now }
     requires done { done ≤ length plan.now.steps }
@@ -143,7 +140,7 @@ pub fn join<M: Machine>(
     if is_among(alloc, plan, done, states, &machine, &key)? {
         return Ok(());
     }
-    let machine = kept(machine, is_kept && states.len() < MOST_LIVE);
+    let machine = kept(machine, states.len() < live);
     states.push(alloc, landings, key, machine)
 }
 

@@ -6,7 +6,6 @@ use Rattle.step_kinds.specs.declared.plan.Line.{Line}
 use Rattle.step_kinds.specs.declared.steps.Step.{Step}
 use Rattle.explore_model.specs.Schedules.{answer_after, is_landed}
 use Rattle.explore_model.specs.declared.outcome.Landing.{Landing}
-use Rattle.explore_search.specs.Machines.{is_landing}
 use Rattle.explore_search.specs.Paths.{IsLandingBy, path, script_of}
 use Rattle.explore_search.specs.Spread.{Lands}
 use Rattle.explore_search.specs.States.{IsMachineAt, made_to}
@@ -38,7 +37,7 @@ returns-in_default g c =
           (get_or_read c.args.states.now c.args.from state c.requires.from here d)
           (record {
             made =
-                c.in_ok-answer.ensures.rests plan (made_to plan c.args.done state) c.in_ok-machine.ensures.made (ap is_landing c.as_step.ensures)
+                c.in_ok-answer.ensures.rests plan (made_to plan c.args.done state) c.in_ok-machine.ensures.made c.args.landing c.as_step.ensures
                 (not_true (is_landed c.in_ok-answer.answer) other);
             held = c.in_ok-answer.ensures.plan ∙ c.in_ok-machine.ensures.held;
           });
