@@ -244,7 +244,12 @@ impl Cluster {
     pub fn copy_of(&self, alloc: Global) -> Result<Cluster, AllocError>
         ensures { IfOk result (λ copy. copy ≡ self.now) }
     {
-        Err(AllocError)
+        Ok(Cluster {
+            alloc,
+            fabric: self.fabric.copy_of(alloc)?,
+            plans: copies(alloc, &self.plans)?,
+            switches: switch_copies(alloc, &self.switches)?,
+        })
     }
 
     /// How many writes a side of a pair has in flight. The pair has to be one of the cluster's. Whatever steps the
@@ -301,4 +306,15 @@ fn are_same_switches(switches: &[Switch], others: &[Switch]) -> bool
         }
     }
     true
+}
+
+// The same switches.
+fn switch_copies(alloc: Global, switches: &[Switch]) -> Result<Vec<Switch>, AllocError>
+    ensures { IfOk result (λ copies. copies.items ≡ switches.now) }
+{
+    let mut copies = Vec::with_capacity(alloc, switches.len())?;
+    for switch in switches {
+        copies.push_reserved(switch.copy_of(alloc)?);
+    }
+    Ok(copies)
 }

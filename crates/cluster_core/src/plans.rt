@@ -13,9 +13,9 @@ use step_kinds::{Items, Name, SwitchPlan};
 pub fn copies(alloc: Global, plans: &[SwitchPlan]) -> Result<Vec<SwitchPlan>, AllocError>
     ensures { IfOk result (λ copies. copies.items ≡ plans.now) }
 {
-    let mut copies = Vec::new(alloc);
+    let mut copies = Vec::with_capacity(alloc, plans.len())?;
     for plan in plans {
-        copies.push(copy_of(alloc, plan)?)?;
+        copies.push_reserved(copy_of(alloc, plan)?);
     }
     Ok(copies)
 }
