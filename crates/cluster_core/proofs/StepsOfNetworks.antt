@@ -1,5 +1,5 @@
 -- What a cluster has made after one step more.
-use Rattle.std.proofs.Common.{◌≡◌, ◌∙◌, ℕ, false, List, [], ◌∷◌, ◌++◌, Option, Some, Result, Ok, Err, IfOk, OnOk, OnErr, ◌<◌, length, slice_get, refl, sym, ap, subst, arith, inl, inr, None}
+use Rattle.std.proofs.Common.{◌≡◌, ◌∙◌, ℕ, false, List, [], ◌∷◌, ◌++◌, Option, Some, Result, Ok, Err, IfOk, OnOk, OnErr, ◌<◌, length, slice_get, refl, sym, ap, subst, arith, inl, inr}
 use Rattle.std.proofs.lemmas.Bool.{true≢false}
 use Rattle.step_kinds.specs.declared.names.LaneName.{LaneName}
 use Rattle.step_kinds.specs.declared.names.Side.{Side}
@@ -7,23 +7,24 @@ use Rattle.step_kinds.specs.declared.plan.DevPlan.{DevPlan}
 use Rattle.step_kinds.specs.declared.plan.Plan.{Plan}
 use Rattle.step_kinds.specs.declared.plan.SwitchPlan.{SwitchPlan}
 use Rattle.step_kinds.specs.declared.steps.Answer.{Answer}
-use Rattle.step_kinds.specs.declared.steps.Answer.TheVariants.{Delivered, Nothing}
+use Rattle.step_kinds.specs.declared.steps.Answer.TheVariants.{Delivered, Landed, Nothing}
 use Rattle.step_kinds.specs.declared.steps.Step.{Step}
-use Rattle.step_kinds.specs.declared.steps.Step.TheVariants.{Copy, Relay, Xnext}
+use Rattle.step_kinds.specs.declared.steps.Step.TheVariants.{Copy, Land, Relay, Xnext}
 use Rattle.plan_model.specs.Switches.{IsMakeable}
 use Rattle.ledger_model.specs.Log.{Answered}
 use Rattle.ledger_laws.proofs.Facade.{answer_of}
+use Rattle.ledger_laws.specs.Laws.{is_made}
 use Rattle.memory_model.specs.Memory.{memory_of}
-use Rattle.fabric_core.specs.Fabric.{FabricState, plan_kept}
+use Rattle.fabric_core.specs.Fabric.{FabricState, plain, plan_kept}
 use Rattle.fabric_core.specs.FabricStep.{HasStepped as HasSteppedOnBridges}
 use Rattle.fabric_core.specs.LogClauses.{HasMade as HasMadeOnBridges}
 use Rattle.switch_model.specs.Switch.{Switch, first}
-use Rattle.switch_log.specs.Network.{Action, Network, OnBridge, Rests, Sends, action_of, arrived_at, begin_on, item_of, made_after, network_after as network_then, sends_first, sends_from, session_after, switches_reached, switches_sent}
+use Rattle.switch_log.specs.Network.{Action, Network, Rests, Sends, arrived_at, begin_on, item_of, made_after, network_after as network_then, sends_first, sends_from, session_after, switches_reached, switches_sent}
 use Rattle.switch_log.specs.Origins.{bytes_kept}
 use Rattle.switch_log.specs.Ports.{Port, port_from, port_on, switch_of}
 use Rattle.learn_switch.specs.Frames.{Bytes}
 use Rattle.cluster_core.specs.Cluster.{ClusterState, plan_held}
-use Rattle.cluster_core.specs.ClusterStep.{HasStepped}
+use Rattle.cluster_core.specs.ClusterStep.{HasStepped, is_landed}
 use Rattle.cluster_core.specs.LogClauses.{HasMade, IsAnswered, IsNetwork, log_after, network_after}
 use Rattle.cluster_core.specs.Moves.{brought_in, port_in, relay_answer_in, relayed_in, sending_in, sends_next, taken_in}
 use Rattle.cluster_core.specs.Parts.{HasDeviceOn, may_arrive, part_of, port_seen}
@@ -31,6 +32,7 @@ use Rattle.cluster_core.specs.declared.cluster.NextFrame.{NextFrame}
 use Rattle.cluster_core.specs.declared.ports.PortPlace.{PortPlace}
 use Rattle.cluster_core.specs.declared.parts.StepPart.TheVariants.{Copies, OnBridges, Relays, Sends as SendsNext}
 use Rattle.cluster_core.proofs.Networks.{action_on_bridges, item_by, log-last, network-last, next_by, reached_on_bridges}
+use Rattle.cluster_core.proofs.PlainFabrics.{plain_has_made}
 
 -- A step over each network that the old cluster may be
 
@@ -38,6 +40,8 @@ pub record Goes {E : Type 0} (old new : ClusterState) (step : Step) (result : Re
   pub answered : (plan : Plan) (net : Network (List ℕ)) → IsNetwork plan net old → IfOk result (λ answer. answer ≡ (item_by plan net step).answer)
   pub made : (plan : Plan) (net : Network (List ℕ)) → IsNetwork plan net old → OnOk result (IsNetwork plan (next_by plan net step) new)
   pub still_made : (plan : Plan) (net : Network (List ℕ)) → IsNetwork plan net old → may_arrive step ≡ false → OnErr result (IsNetwork plan net new)
+  pub rests : (plan : Plan) (net : Network (List ℕ)) → IsNetwork plan net old → (pair : ℕ) (side : Side) (place : ℕ) → step ≡ Land pair side place →
+      IfOk result (λ answer. is_landed answer ≡ false → IsNetwork plan net new)
 
 pub answered_so : {E : Type 0} (plan : Plan) (steps : List Step) (step : Step) (result : Result Answer E) →
     IfOk result (λ answer. answer ≡ (item_by plan (network_after plan steps) step).answer) → IfOk result (λ answer. IsAnswered plan steps step answer)
@@ -59,6 +63,7 @@ has_stepped old new step result goes same = record {
   answered = λ plan steps made. answered_so plan steps step result (goes.answered plan (network_after plan steps) made);
   made = λ plan steps made. made_so plan steps step new result (goes.made plan (network_after plan steps) made);
   still_made = λ plan steps made stays. goes.still_made plan (network_after plan steps) made stays;
+  rests = λ plan steps made pair side place is. goes.rests plan (network_after plan steps) made pair side place is;
   plan = same;
 }
 
@@ -71,6 +76,7 @@ goes_relayed old new pair side queue switch port (Err error) answer after err = 
   answered = λ plan net is. tt;
   made = λ plan net is. tt;
   still_made = λ plan net is stays. subst (IsNetwork plan net) (sym err) is;
+  rests = λ plan net is pair side place landing. tt;
 }
 goes_relayed old new pair side queue switch port (Ok given) answer after err = record {
   answered = λ plan net is. answer ∙ ap (λ (switches : List (Switch (List ℕ))). relay_answer_in (record old { switches = switches }) (record { switch = switch; place = port })) is.switches;
@@ -82,9 +88,22 @@ goes_relayed old new pair side queue switch port (Ok given) answer after err = r
         switches = ap (λ (switches : List (Switch (List ℕ))). (relayed_in (record old { switches = switches }) (record { switch = switch; place = port })).switches) is.switches;
       });
   still_made = λ plan net is stays. tt;
+  rests = λ plan net is pair side place landing. cc landing;
 }
 
 -- Steps on bridges alone
+
+-- a landing that lands nothing is refused
+unmade_landing : (pair : ℕ) (side : Side) (place : ℕ) (answer : Answer) → is_landed answer ≡ false → is_made (Land pair side place) answer ≡ false
+unmade_landing pair side place (Landed label) idle = idle
+unmade_landing pair side place answer idle = refl
+
+-- so it leaves the fabric as it was, promises aside
+plain_after_landing : {E : Type 0} (old new : FabricState) (pair : ℕ) (side : Side) (place : ℕ) (step : Step) (answer : Answer) → step ≡ Land pair side place → is_landed answer ≡ false →
+    HasSteppedOnBridges {E = E} old new step (Ok answer) → plain new ≡ plain old
+plain_after_landing {E = E} old new pair side place step answer landing idle stepped =
+    let own : HasSteppedOnBridges {E = E} old new (Land pair side place) (Ok answer) = subst (λ (step : Step). HasSteppedOnBridges {E = E} old new step (Ok answer)) landing stepped in
+    own.refused (unmade_landing pair side place answer idle)
 
 pub goes_on_bridges : {E : Type 0} (old new : ClusterState) (step : Step) (result : Result Answer E) → part_of step ≡ OnBridges → HasSteppedOnBridges old.fabric new.fabric step result →
     new.plans ≡ old.plans → new.switches ≡ old.switches → Goes old new step result
@@ -92,6 +111,7 @@ goes_on_bridges old new step (Err error) own stepped plans switches = record {
   answered = λ plan net is. tt;
   made = λ plan net is. tt;
   still_made = λ plan net is stays. record { bridges = stepped.still_stands plan net.steps is.bridges; plans = plans ∙ is.plans; switches = switches ∙ is.switches };
+  rests = λ plan net is pair side place landing. tt;
 }
 goes_on_bridges old new step (Ok answer) own stepped plans switches = record {
   answered = λ plan net is.
@@ -108,6 +128,11 @@ goes_on_bridges old new step (Ok answer) own stepped plans switches = record {
             ∙ sym (reached_on_bridges plan memories net.switches (session_after plan memories net.steps) step (made_after plan memories net.steps step).answer own);
       });
   still_made = λ plan net is stays. tt;
+  rests = λ plan net is pair side place landing idle. record {
+    bridges = plain_has_made old.fabric new.fabric (plain_after_landing old.fabric new.fabric pair side place step answer landing idle stepped) plan net.steps is.bridges;
+    plans = plans ∙ is.plans;
+    switches = switches ∙ is.switches;
+  };
 }
 
 -- the port on a side and a queue is that of the plan
@@ -129,6 +154,7 @@ goes_resting old own dev rests = record {
   made = λ plan net is.
       subst (λ (action : Action (List ℕ)). IsNetwork plan (network_then bytes_kept plan (memory_of plan) net (Xnext own.pair own.from own.queue dev) action) old) (rests ∙ same_sending plan net old own is) is;
   still_made = λ plan net is stays. tt;
+  rests = λ plan net is pair side place landing. cc landing;
 }
 
 -- memory is wanted before anything is made
@@ -137,6 +163,7 @@ goes_unmade old step error = record {
   answered = λ plan net is. tt;
   made = λ plan net is. tt;
   still_made = λ plan net is stays. is;
+  rests = λ plan net is pair side place landing. tt;
 }
 
 -- one waits, and is begun
@@ -162,6 +189,7 @@ goes_sending old fabric own dev next answer sends stepped = record {
             ∙ ap (switches_sent net.switches (port_seen next.place)) told;
       });
   still_made = λ plan net is stays. tt;
+  rests = λ plan net is pair side place landing. cc landing;
 }
 
 -- memory is wanted by the bridges
@@ -171,6 +199,7 @@ goes_unstepped old fabric own dev frame error given stepped = record {
   answered = λ plan net is. tt;
   made = λ plan net is. tt;
   still_made = λ plan net is stays. record { bridges = stepped.still_stands plan net.steps is.bridges; plans = is.plans; switches = is.switches };
+  rests = λ plan net is pair side place landing. tt;
 }
 
 -- Copies
@@ -219,6 +248,7 @@ goes_copied old fabric own answer stepped = record {
             ∙ ap (switches_reached bytes_kept plan memories net.switches (session_after plan memories net.steps) (Copy own.pair own.from own.queue)) told;
       };
   still_made = λ plan net is stays. tt;
+  rests = λ plan net is pair side place landing. cc landing;
 }
 
 -- a copy that wants memory promises nothing
@@ -227,6 +257,7 @@ goes_lost old new own error = record {
   answered = λ plan net is. tt;
   made = λ plan net is. tt;
   still_made = λ plan net is stays. absurd (true≢false stays);
+  rests = λ plan net is pair side place landing. tt;
 }
 
 -- The contract

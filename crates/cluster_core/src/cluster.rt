@@ -57,7 +57,7 @@ impl Cluster {
 
     /// Makes a step, which has to be one that a script of the cluster's plan may make, and answers it. Whatever steps the
     /// cluster has made, the answer is that of the log of those steps and this one, and then it has made them and this
-    /// one.
+    /// one. After a landing that lands nothing it has made also the steps without it.
     ///
     /// - A `relay` is answered by the switch: `nothing`, `short`, `filtered`, `to` or `flood`.
     /// - An `xnext` is answered `nothing` where no frame waits at the device's port. Else it is a `begin` with the first
