@@ -7,7 +7,7 @@ use Rattle.step_kinds.specs.declared.plan.DevPlan.{DevPlan}
 use Rattle.step_kinds.specs.declared.plan.Plan.{Plan}
 use Rattle.step_kinds.specs.declared.plan.SwitchPlan.{SwitchPlan}
 use Rattle.step_kinds.specs.declared.steps.Answer.{Answer}
-use Rattle.step_kinds.specs.declared.steps.Answer.TheVariants.{Delivered, Landed, Nothing}
+use Rattle.step_kinds.specs.declared.steps.Answer.TheVariants.{Delivered, Nothing}
 use Rattle.step_kinds.specs.declared.steps.Step.{Step}
 use Rattle.step_kinds.specs.declared.steps.Step.TheVariants.{Copy, Land, Relay, Xnext}
 use Rattle.plan_model.specs.Switches.{IsMakeable}
@@ -24,7 +24,7 @@ use Rattle.switch_log.specs.Origins.{bytes_kept}
 use Rattle.switch_log.specs.Ports.{Port, port_from, port_on, switch_of}
 use Rattle.learn_switch.specs.Frames.{Bytes}
 use Rattle.cluster_core.specs.Cluster.{ClusterState, plan_held}
-use Rattle.cluster_core.specs.ClusterStep.{HasStepped, is_landed}
+use Rattle.cluster_core.specs.ClusterStep.{HasStepped}
 use Rattle.cluster_core.specs.LogClauses.{HasMade, IsAnswered, IsNetwork, log_after, network_after}
 use Rattle.cluster_core.specs.Moves.{brought_in, port_in, relay_answer_in, relayed_in, sending_in, sends_next, taken_in}
 use Rattle.cluster_core.specs.Parts.{HasDeviceOn, may_arrive, part_of, port_seen}
@@ -41,7 +41,7 @@ pub record Goes {E : Type 0} (old new : ClusterState) (step : Step) (result : Re
   pub made : (plan : Plan) (net : Network (List ℕ)) → IsNetwork plan net old → OnOk result (IsNetwork plan (next_by plan net step) new)
   pub still_made : (plan : Plan) (net : Network (List ℕ)) → IsNetwork plan net old → may_arrive step ≡ false → OnErr result (IsNetwork plan net new)
   pub rests : (plan : Plan) (net : Network (List ℕ)) → IsNetwork plan net old → (pair : ℕ) (side : Side) (place : ℕ) → step ≡ Land pair side place →
-      IfOk result (λ answer. is_landed answer ≡ false → IsNetwork plan net new)
+      IfOk result (λ answer. is_made step answer ≡ false → IsNetwork plan net new)
 
 pub answered_so : {E : Type 0} (plan : Plan) (steps : List Step) (step : Step) (result : Result Answer E) →
     IfOk result (λ answer. answer ≡ (item_by plan (network_after plan steps) step).answer) → IfOk result (λ answer. IsAnswered plan steps step answer)
@@ -93,17 +93,12 @@ goes_relayed old new pair side queue switch port (Ok given) answer after err = r
 
 -- Steps on bridges alone
 
--- a landing that lands nothing is refused
-unmade_landing : (pair : ℕ) (side : Side) (place : ℕ) (answer : Answer) → is_landed answer ≡ false → is_made (Land pair side place) answer ≡ false
-unmade_landing pair side place (Landed label) idle = idle
-unmade_landing pair side place answer idle = refl
-
--- so it leaves the fabric as it was, promises aside
-plain_after_landing : {E : Type 0} (old new : FabricState) (pair : ℕ) (side : Side) (place : ℕ) (step : Step) (answer : Answer) → step ≡ Land pair side place → is_landed answer ≡ false →
+-- a landing that lands nothing leaves the fabric as it was, promises aside
+plain_after_landing : {E : Type 0} (old new : FabricState) (pair : ℕ) (side : Side) (place : ℕ) (step : Step) (answer : Answer) → step ≡ Land pair side place → is_made step answer ≡ false →
     HasSteppedOnBridges {E = E} old new step (Ok answer) → plain new ≡ plain old
 plain_after_landing {E = E} old new pair side place step answer landing idle stepped =
     let own : HasSteppedOnBridges {E = E} old new (Land pair side place) (Ok answer) = subst (λ (step : Step). HasSteppedOnBridges {E = E} old new step (Ok answer)) landing stepped in
-    own.refused (unmade_landing pair side place answer idle)
+    own.refused (subst (λ (step : Step). is_made step answer ≡ false) landing idle)
 
 pub goes_on_bridges : {E : Type 0} (old new : ClusterState) (step : Step) (result : Result Answer E) → part_of step ≡ OnBridges → HasSteppedOnBridges old.fabric new.fabric step result →
     new.plans ≡ old.plans → new.switches ≡ old.switches → Goes old new step result

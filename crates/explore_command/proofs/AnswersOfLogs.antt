@@ -1,16 +1,17 @@
 -- What a cluster answers is the answer of the log of which a search speaks, and from a place on it lands nothing.
-use Rattle.std.proofs.Common.{◌≡◌, ◌∙◌, ℕ, ◌≤◌, List, refl, sym, subst}
+use Rattle.std.proofs.Common.{◌≡◌, ◌∙◌, ℕ, ◌≤◌, false, List, refl, sym, subst}
 use Rattle.step_kinds.specs.declared.names.Side.{Side}
 use Rattle.step_kinds.specs.declared.plan.Plan.{Plan}
 use Rattle.step_kinds.specs.declared.steps.Answer.{Answer}
-use Rattle.step_kinds.specs.declared.steps.Answer.TheVariants.{Nothing}
+use Rattle.step_kinds.specs.declared.steps.Answer.TheVariants.{Landed, Nothing}
 use Rattle.step_kinds.specs.declared.steps.Step.{Step}
 use Rattle.step_kinds.specs.declared.steps.Step.TheVariants.{Land}
+use Rattle.ledger_laws.specs.Laws.{is_made}
 use Rattle.cluster_core.proofs.Facade as clusters
 use Rattle.cluster_core.specs.Cluster.{ClusterState}
 use Rattle.cluster_core.specs.InFlight.{LandsNoneFrom}
 use Rattle.cluster_core.specs.LogClauses.{HasMade, IsAnswered, answer_after as answer_of_cluster}
-use Rattle.explore_model.specs.Schedules.{answer_after}
+use Rattle.explore_model.specs.Schedules.{answer_after, is_landed}
 
 -- both definitions give one answer
 one_definition : (plan : Plan) (steps : List Step) (step : Step) → answer_of_cluster plan steps step ≡ answer_after plan steps step
@@ -26,3 +27,8 @@ pub lands_nothing : (cluster : ClusterState) (pair : ℕ) (side : Side) (count :
     HasMade plan steps cluster → count ≤ place → answer_after plan steps (Land pair side place) ≡ Nothing
 lands_nothing cluster pair side count none plan steps place made beyond =
     sym (one_definition plan steps (Land pair side place)) ∙ none plan steps made place beyond
+
+-- a landing that isn't answered `landed` is refused
+pub unmade_landing : (pair : ℕ) (side : Side) (place : ℕ) (answer : Answer) → is_landed answer ≡ false → is_made (Land pair side place) answer ≡ false
+unmade_landing pair side place (Landed label) idle = idle
+unmade_landing pair side place answer idle = refl
