@@ -11,8 +11,8 @@ const LIVE_PAGES: u64 = 131_072;
 // The bytes of a page.
 const PAGE_BYTES: u64 = 4096;
 
-/// How many states of a layer keep their machines: at most 16,384, and no more than whose memories have 512 MiB together.
-/// It is free which do: a machine that isn't kept is made anew along its path.
+/// How many states of a layer keep their machines: at most 16,384, and no more than whose memories have 512 MiB
+/// together. It is free which do: a machine that isn't kept is made anew along its path.
 pub fn most_live(plan: &Plan) -> usize {
     let mut pages = 1;
     for pair in plan.pairs.as_slice() {

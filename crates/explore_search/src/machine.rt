@@ -37,9 +37,9 @@ pub trait Machine: Drop {
     fn copy_of(&self, alloc: Global) -> Result<Self, AllocError>
         ensures { IfOk result (λ copy. copy ≡ self.now) };
 
-    /// Makes a step, which has to be one that a script of the machine's plan may make, and answers it. The only error
-    /// is out of memory, and then nothing is promised of the steps that it has made. After a landing that isn't answered
-    /// `landed` it has also made the steps without it.
+    /// Makes a step, which has to be one that a script of the machine's plan may make, and answers it. After a landing
+    /// that isn't answered `landed` it has also made the steps without it. The only error is out of memory, and then
+    /// nothing is promised of the steps that it has made.
     fn step(&mut self, step: &Step) -> Result<Answer, AllocError>
         requires { IsMakeable (plan_held self.old) step.now }
         ensures answer { (plan : PlanValue) (steps : List StepValue) → has_made self.old plan steps →

@@ -68,8 +68,8 @@ fn spread<M: Machine>(
     Ok(())
 }
 
-// Makes a landing after a state, and adds the state to which it leads where it is answered `landed`. It takes a machine of
-// the state where one is at hand, and answers one where the landing left it at the state.
+// Makes a landing after a state, and adds the state to which it leads where it is answered `landed`. It takes a machine
+// of the state where one is at hand, and answers one where the landing left it at the state.
 fn land<M: Machine>(
     alloc: Global,
     plan: &Plan,

@@ -29,8 +29,8 @@ pub struct State<M> {
     pub machine: Option<M>,
 }
 
-/// States in the order in which they were reached. Those with one key are found in turn, the last of them first. Contracts
-/// see the list.
+/// States in the order in which they were reached. Those with one key are found in turn, the last of them first.
+/// Contracts see the list.
 #[derive(Drop)]
 pub struct States<M> {
     list: Vec<State<M>>,
@@ -69,7 +69,8 @@ impl<M: Machine> States<M> {
         self.list
     }
 
-    /// The place of the last state with this key, if there is one. The clause `before` says the same of those before it.
+    /// The place of the last state with this key, if there is one. The clause `before` says the same of each state: its
+    /// field `before` has the place of the last one before it with its key.
     pub fn last_with(&self, key: &Vec<u8>) -> Option<usize>
         ensures last { IsLast self.now key.now.items (length self.now) result }
         ensures before { AreChained self.now }
