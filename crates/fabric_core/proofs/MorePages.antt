@@ -79,7 +79,7 @@ pub checked_more : (old new : Bridge) (side : Side) → new ≡ with_pages (afte
 checked_more old new side is stay =
     more_pages (after_check old side) new side is (λ page had. stay page (subst (λ pages. Contains pages page) (checked-pages old side (check_answer old side)) had))
 
--- A step that is none of the link's or the handshake's, nor a spad, poke or showmem, turns the registers alone.
+-- Any step but those of link and handshake, spad, poke and showmem turns the bridge as `register_turn` says.
 pub by_register : (bridge : Bridge) (step : Step) → ((p : ℕ) (side : Side) → step ≡ Enable p side → ⊥) → ((p : ℕ) → step ≡ Train p → ⊥) → ((p : ℕ) → step ≡ Break p → ⊥) → ((p : ℕ) → step ≡ DropDone p → ⊥) → ((p : ℕ) (side : Side) → step ≡ Offer p side → ⊥) → ((p : ℕ) (side : Side) → step ≡ Check p side → ⊥) → ((p : ℕ) (side : Side) (queue : ℕ) → step ≡ Ready p side queue → ⊥) → ((p : ℕ) (side : Side) (queue : ℕ) → step ≡ Join p side queue → ⊥) → ((p : ℕ) (side : Side) (i value : ℕ) → step ≡ Spad p side i value → ⊥) → ((p : ℕ) (side : Side) (window offset : ℕ) (bytes : List ℕ) → step ≡ Poke p side window offset bytes → ⊥) → ((p : ℕ) (side : Side) (at len : ℕ) → step ≡ ShowMem p side at len → ⊥)
     → bridge_turn bridge step ≡ register_turn bridge step
 by_register bridge (Enable p side) enable train cut drop offer check ready join spad poke mem = absurd (enable p side refl)

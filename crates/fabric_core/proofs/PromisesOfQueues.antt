@@ -193,7 +193,7 @@ ready_both old new before after touched flags grow own_grow ready same =
 
 -- A call that changed no promise but those that it used
 
--- A call keeps what was promised where pages and the peer's room stay, and room changes with unused promises.
+-- A call keeps what was promised where its port has its pages, all pages stay, and room goes with unused promises.
 pub keeps_exact : (old new : PortState) (before after : Bridge) → SamePlace new old → after.plan ≡ before.plan → ((any : Side) → pages_of after any ≡ pages_of before any)
     → (flight_of after old.side).spare + unused_of old ≡ (flight_of before old.side).spare + unused_of new
     → (flight_of after (other_side old.side)).spare ≡ (flight_of before (other_side old.side)).spare → HasPagesIn new after → KeepsPort old new before after

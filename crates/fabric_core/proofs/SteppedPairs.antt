@@ -19,7 +19,7 @@ state_of bridge a b = record { bridge = bridge; queues = record { a = a; b = b }
 
 -- On the bridge
 
--- A pair stays whole through a step on its bridge, made or out of memory, that adds pages to what it leaves.
+-- A pair stays whole where a step leaves the turn's bridge, or out of memory the old one, with further pages.
 pub stepped_whole : {E : Type 0} (state : PairState) (new : Bridge) (step : Step) (result : Result Answer E) → IsWhole state
     → OnOk result (HasMorePages (bridge_turn state.bridge step).bridge new) → OnErr result (HasMorePages state.bridge new) → IsWhole (with_bridge state new)
 stepped_whole state new step (Ok answer) whole after err = whole_kept state new whole (turn_promised state.bridge new step after)

@@ -184,7 +184,7 @@ module _ (plan : Plan) (steps : List Step) (k : ℕ) (declared : IsDeclared plan
 queue_there : (plan : Plan) (k : ℕ) (side : Side) (queue : ℕ) (bridge : Bridge) → bridge.plan ≡ pair_plan plan k → IsQueueOf plan k side queue → queue < (side_plan bridge.plan side).queues
 queue_there plan k side queue bridge is may = subst (λ (pair : PairPlan). queue < (side_plan pair side).queues) (sym is) may.among
 
--- A bridge has what a permitted step needs, where it is joined only with rings that fit and comes up so.
+-- A permitted step finds all that it needs of its bridge, where queues are joined and sides come up only if all fits.
 pub can_make : (plan : Plan) (step : Step) (bridge : Bridge) → IsDeclared plan → bridge.plan ≡ pair_plan plan (subject_of step) → Agrees bridge → IsPermitted plan step → CanMake plan.devs bridge step
 can_make plan (Enable p side) bridge declared is agrees may = record { place = tt; queue = tt; bridge = tt }
 can_make plan (Train p) bridge declared is agrees may = record { place = tt; queue = tt; bridge = tt }
@@ -374,7 +374,7 @@ pub record MadeSome (plan : Plan) (fabric : FabricState) : Type 0 where
   pub steps : List Step
   pub made : HasMade plan steps fabric
 
--- A fabric that has made some steps of the plan that an old one keeps keeps the same pairs and devices.
+-- Where a fabric has made some steps of an earlier one's plan, both have the same pairs and devices in their plans.
 pub same_plan : (old new : FabricState) → MadeSome (plan_kept old) new → plan_kept new ≡ plan_kept old
 same_plan old new some = plan_of_standing (plan_kept old) some.steps new some.made.stands
 
@@ -429,7 +429,7 @@ pub some_made : {E : Type 0} (old new : FabricState) (step : Step) (result : Res
 some_made old new step (Ok answer) plan some moved = record { steps = some.steps ++ step ∷ []; made = moved.stands plan some.steps some.made }
 some_made old new step (Err e) plan some moved = record { steps = some.steps; made = moved.still_stands plan some.steps some.made }
 
--- A fabric that has made some steps of the plan that an old one keeps has made some of the plan that it keeps itself.
+-- A fabric that has made some steps of an earlier one's plan has made some of its own plan.
 pub made_itself : (old new : FabricState) → MadeSome (plan_kept old) new → MadeSome (plan_kept new) new
 made_itself old new some = subst (λ plan. MadeSome plan new) (sym (same_plan old new some)) some
 

@@ -124,7 +124,7 @@ lefts_are : (port : PortState) (after : Sending) (entries : List Entry) → 0 < 
 lefts_are port after entries some is =
     ap (λ (after : Sending). left_of_entry after.entry after.todo ++ writes_from port.queue after.begun after.waiting) is ∙ begun_writes port.queue after.told port.sending entries some
 
--- Beginning entries adds to the pair only pages at the peer, and as much room as the port's unused promises grow.
+-- Beginning entries adds to the pair only pages at the peer, and the room by which the port's unused promises grow.
 pub begins_rest : (port : PortState) (after : Sending) (entries : List Entry) (pair mid new : Bridge) (count : ℕ) → Begins port after entries pair mid new count
     → new ≡ with_room (with_pages pair (other_side port.side) (pages_of new (other_side port.side))) port.side (unused_of (with_sending port after) - unused_of port)
 begins_rest port after entries pair mid new count h =
@@ -155,7 +155,7 @@ begins_ready port after entries pair mid new count h ready =
 abbrev pub rings_of : PortState → QueueOf
 rings_of port = record { plan = port.plan; side = port.side; queue = port.queue }
 
--- Where a sender isn't busy, the number behind those that wait is just the number of entries begun.
+-- Where a sender isn't busy, no entry waits, so the next entry's number is just the count of those begun.
 pub from_is : (port : PortState) (from : ℕ) → is_busy port.sending ≡ false → from ≡ port.sending.begun + length port.sending.waiting → from ≡ port.sending.begun
 from_is port from idle is = omega (arith, is, none_waits port.sending idle)
 
