@@ -9,6 +9,7 @@ use Rattle.fabric_core.specs.Parts.{KeepsPort}
 use Rattle.fabric_core.specs.QueueCalls.{HasTurned, HasTurnedUnlessWanting}
 use Rattle.fabric_core.specs.Turns.{QueueTurn}
 
+-- A queue has taken a turn where answer, part and bridge are the turn's and its port keeps what was promised.
 pub has_turned : (turn : QueueTurn) (answer : Answer) (old new : QueuePart) (before after : Bridge) → answer ≡ turn.answer → new ≡ turn.part → after ≡ turn.bridge
     → KeepsPort old.queue.port new.queue.port before after → HasTurned turn answer old new before after
 has_turned turn answer old new before after says is bridge keeps = record { answer = says; after = is; bridge = bridge; keeps = keeps }
