@@ -331,7 +331,7 @@ module _ (plan : Plan) (memories : Memories) (steps : List Step) where
 pub too_long_where_frame_is_long : TooLongWhereFrameIsLong
 too_long_where_frame_is_long plan memories steps step answer goes = ap is_too_long (answer_of plan memories steps step answer goes) ∙ long_after plan memories steps step
 
--- On an ordinary pair a frame past earlier tests, or a wake short of room, is `stopped` just if its device is so.
+-- On an ordinary pair a frame past earlier tests, or a wake short of room, is `stopped` just if the log stops it.
 pub stopped_where_ring_was_low : StoppedWhereRingWasLow
 stopped_where_ring_was_low plan memories steps step answer no_raw goes = ap is_stopped_answer (answer_of plan memories steps step answer goes) ∙ stopped_after plan memories steps step no_raw
 
