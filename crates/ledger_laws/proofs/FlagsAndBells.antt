@@ -183,6 +183,7 @@ bell_lands q queue s place may (inr ne) h = lined_by (left_of q s) _ _ _ (ticks_
 over : (s : Sight) {X : Type 0} → is_down s.state ≡ true → is_up s.state ≡ true → X
 over s down up = absurd (both_ways (is_up s.state) (down-not_up s.state down) up)
 
+-- While an ordinary pair's link is up each turn keeps flags and doorbell left to land for each entry without flags.
 pub lined_kept : (plan : Plan) (lane : LaneName) (s : Sight) (made : Answered) (news : News) (t : Sight) → IsRaw plan lane ≡ false → Turn plan lane s made news t → EmptyOf s
     → (is_up s.state ≡ true → LinedOf lane.queue s) → is_up t.state ≡ true → LinedOf lane.queue t
 lined_kept plan lane s made news t no_raw (Trains may) empty h up = record { ringing = false; left = 0; is = ap (λ flight. ticks_of lane.queue flight ++ []) (empty may.down).0; count = refl }
@@ -252,6 +253,7 @@ watched_rung q queue s place may (inl e) h = record { idle = h.idle; why = inr (
 watched_rung q queue s place may (inr ne) h =
     watched_by (left_of q s) _ _ _ _ _ _ (λ rest is. (rest, ticks_without q s place (Bell queue) may (other_bell q queue ne) ∙ is)) (has-with_kept s.receiver.pending q queue) h
 
+-- Turns of a session keep a receiver that saw nothing idle, with none to take or a doorbell pending or next to land.
 pub watched_kept : (plan : Plan) (lane : LaneName) (s : Sight) (made : Answered) (news : News) (t : Sight) → IsRaw plan lane ≡ false → Turn plan lane s made news t → (news.starts ≡ false) → (saw : Bool)
     → (is_up s.state ≡ true → LinedOf lane.queue s × (saw ≡ true → WatchedOf lane.queue s)) → news.sees saw ≡ true → is_up t.state ≡ true → WatchedOf lane.queue t
 watched_kept plan lane s made news t no_raw (Rests looked) no_start saw h sees up = (h up).1 (still_saw looked saw sees)

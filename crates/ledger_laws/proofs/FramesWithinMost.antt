@@ -96,6 +96,7 @@ frame_runs plan lane no_raw = record {
 
 -- The laws
 
+-- On an ordinary pair a receiver that copies knows its entry's length, and a frame under way never gets too long.
 pub receiver_knows_its_frame : ReceiverKnowsItsFrame
 receiver_knows_its_frame plan memories steps name no_raw =
     let s = sight name.from name.queue (ledger_of plan memories steps name.pair) in
@@ -114,6 +115,7 @@ receiver_knows_its_frame plan memories steps name no_raw =
       ];
     }
 
+-- On an ordinary pair no more entries of a lane were given back than were begun.
 pub freed_were_begun : FreedWereBegun
 freed_were_begun plan memories steps pair from queue no_raw =
     let lane : LaneName = record { pair = pair; from = from; queue = queue } in

@@ -327,11 +327,14 @@ module _ (plan : Plan) (memories : Memories) (steps : List Step) where
   again_after (Ack p side queue) no_raw = not_again (After (Ack p side queue)) (others (Ack p side queue) refl)
   again_after step no_raw = refl
 
+-- A step that sends is `toolong` exactly where its side may send by the log and its frame is longer than any may be.
 pub too_long_where_frame_is_long : TooLongWhereFrameIsLong
 too_long_where_frame_is_long plan memories steps step answer goes = ap is_too_long (answer_of plan memories steps step answer goes) ∙ long_after plan memories steps step
 
+-- On an ordinary pair a frame past earlier tests, or a wake short of room, is `stopped` just if the log stops it.
 pub stopped_where_ring_was_low : StoppedWhereRingWasLow
 stopped_where_ring_was_low plan memories steps step answer no_raw goes = ap is_stopped_answer (answer_of plan memories steps step answer goes) ∙ stopped_after plan memories steps step no_raw
 
+-- On an ordinary pair a step past all earlier tests is `again` exactly where the log has less room than it needs.
 pub again_where_ring_is_full : AgainWhereRingIsFull
 again_where_ring_is_full plan memories steps step answer no_raw goes = ap is_again (answer_of plan memories steps step answer goes) ∙ again_after plan memories steps step no_raw

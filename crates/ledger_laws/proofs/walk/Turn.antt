@@ -312,6 +312,7 @@ pub record Turned (plan : Plan) (lane : LaneName) (s : Sight) (made : Answered) 
   pub tells : Tells plan lane s.lane made news
   pub turn : Turn plan lane s made news t
 
+-- A step that makes a turn of a lane and tells the log's readers that turn's news has turned the lane.
 pub turned : {plan : Plan} {lane : LaneName} {s : Sight} {made : Answered} {news : News} {t : Sight} → Turn plan lane s made news t → Tells plan lane s.lane made news
     → Turned plan lane s made t
 turned {news} turn tells = record { news = news; tells = tells; turn = turn }
