@@ -92,8 +92,8 @@ under_way-push sent entry got len h =
 
 -- What holds of a lane's entries
 
--- No entry is a link-down entry while the link isn't down and the queue is open, or where a piece waits; entries fit their slots; and
--- a receiver that copies knows its entry's bytes.
+-- No entry is a link-down entry while the link isn't down and the queue is open, or where a piece waits. Entries fit
+-- their slots, and a receiver that copies knows its entry's bytes.
 pub record Fits (largest q : ℕ) (state : LinkState) (closed : ℕ) (sent waiting : List Entry) (phase : Phase) (got len : ℕ) : Type 0 where
   pub open_yet : is_down state ≡ false → has_bit closed q ≡ false → AreOpen sent
   pub open_waiting : 0 < length waiting → AreOpen sent

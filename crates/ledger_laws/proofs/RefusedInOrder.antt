@@ -1,4 +1,5 @@
--- A step is refused as not ready, closed or busy exactly where its driver knows it, and a look alone is answered `empty` or `peerdown`.
+-- A step is refused as not ready, closed or busy exactly where its driver knows it. A look alone is answered `empty` or
+-- `peerdown`.
 use Rattle.std.proofs.Common.{◌≡◌, ℕ, ◌+◌, ◌==◌, Bool, true, false, not, ◌&&◌, ◌||◌, Option, Some, None, List, [], ◌∷◌, ◌++◌, length, map, refl, sym, ap, ◌∙◌, arith}
 use Rattle.std.specs.Prelude.{if◌then◌else◌, find, nat_lt, slice_get}
 use Rattle.std.proofs.lemmas.Bool.{cond_both, lt-ltb, true≢false}
