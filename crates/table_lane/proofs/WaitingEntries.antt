@@ -17,6 +17,7 @@ waiting-push n m [] is = let same : n ≡ m = omega arith in ap (λ (k : ℕ). k
 waiting-push n m (true ∷ stored) is = waiting-push (suc n) m stored (omega arith)
 waiting-push n m (false ∷ stored) is = ap (λ ns. n ∷ ns) (waiting-push (suc n) m stored (omega arith))
 
+-- No more entries wait for their header than the mover holds.
 pub waiting-length : (n : ℕ) (stored : List Bool) → length (waiting n stored) ≤ length stored
 waiting-length n [] = omega arith
 waiting-length n (true ∷ stored) = omega (arith, waiting-length (suc n) stored)
