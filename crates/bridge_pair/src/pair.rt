@@ -63,7 +63,7 @@ impl Pair {
     ///
     /// # Errors
     ///
-    /// [`AllocError`] from want of memory alone.
+    /// [`AllocError`] from out of memory alone.
     pub fn new(alloc: Global, plan: &PairPlan) -> Result<Pair, AllocError>
         requires { IsPair plan.now }
         ensures fresh { IfOk result (λ pair. pair ≡ fresh_bridge plan.now (record { a = pages_of pair A; b = pages_of pair B })) }
@@ -187,7 +187,7 @@ impl Pair {
     ///
     /// # Errors
     ///
-    /// [`AllocError`] from want of memory alone, and then nothing changes.
+    /// [`AllocError`] from out of memory alone, and then nothing changes.
     pub fn promise(&mut self, side: Side, more: usize) -> Result<(), AllocError>
         ensures ok { OnOk result (self.new ≡ with_flight self.old side (promised (flight_of self.old side) more)) }
         ensures err { OnErr result (self.new ≡ self.old) }
@@ -214,7 +214,7 @@ impl Pair {
     ///
     /// # Errors
     ///
-    /// [`AllocError`] from want of memory alone. Some of the pages may then be promised, and no others; nothing else
+    /// [`AllocError`] from out of memory alone. Some of the pages may then be promised, and no others; nothing else
     /// changes.
     pub fn promise_range(&mut self, side: Side, at: u64, len: u64) -> Result<(), AllocError>
         requires { at + len ≤ length (bytes_of self.old side) }
@@ -410,7 +410,7 @@ impl Pair {
     ///
     /// # Errors
     ///
-    /// [`AllocError`] from want of memory alone. Some of the pages may then be promised, and no others; nothing else
+    /// [`AllocError`] from out of memory alone. Some of the pages may then be promised, and no others; nothing else
     /// changes.
     pub fn promise_index_words(&mut self, side: Side) -> Result<(), AllocError>
         requires { WindowsFit self.old.plan side }

@@ -8,7 +8,7 @@ ghost use Rattle.fabric_rule.specs.Parts.{count_in, one_more};
 use std::alloc::{AllocError, Global};
 use std::marker::Model;
 
-/// How many frames are counted before want of memory is answered.
+/// How many frames are counted before out of memory is answered.
 const MOST_FRAMES: u64 = 1 << 62;
 
 /// How many frames there were in one session.
@@ -45,7 +45,7 @@ impl SessionCounts {
     ///
     /// # Errors
     ///
-    /// [`AllocError`] from want of memory alone, and then nothing changes.
+    /// [`AllocError`] from out of memory alone, and then nothing changes.
     pub fn make_room(&mut self) -> Result<(), AllocError>
         ensures ok { OnOk result (self.new ≡ record self.old { has_room = true }) }
         ensures err { OnErr result (self.new ≡ self.old) }
