@@ -232,8 +232,8 @@ impl Pair {
     /// A side posts a write, for which room was promised. Its target translates, and each page that its bytes touch at the
     /// peer was promised.
     ///
-    /// While the link is up the write is in flight behind all others of the side. Else it is lost without a word, as posted
-    /// writes are, and its promise is given back. It takes no memory.
+    /// While the link is up the write is in flight after all others of the side. Else it is lost without a word, as
+    /// posted writes are, and its promise is given back. It takes no memory.
     #[inline]
     pub fn post(&mut self, side: Side, write: Write)
         requires promise { 0 < (flight_of self.old side).spare }

@@ -141,8 +141,8 @@ impl Model for SessionCounts {
     ghost invariant = { IsTally };
 }
 
-// Where a session is counted: mostly at the end, where it is the last one, or nowhere, where it comes after all, or as far behind
-// the first as it comes after it, where each session between them has frames.
+// Where a session is counted: mostly at the end, where it is the last one, or nowhere, where it comes after all, or as
+// many places after the first as it comes after it, where each session between them has frames.
 fn place_of(counts: &[OfSession], most: u32, session: u32) -> Option<usize>
     requires apart { AreApart (map count_seen counts.now) }
     requires most { AreUpTo (map count_seen counts.now) most }

@@ -10,7 +10,7 @@ use Rattle.ntb_top.specs.Commands.{number_below}
 pub digit-within : (b : ℕ) → (48 ≤ b) × (b ≤ 57) → is_digit b ≡ true
 digit-within b h = let least : 48 ≤ b = h.0 in let most : b ≤ 57 = h.1 in grind (arith, nat_tests)
 
--- the number that digits spell behind a value that was read
+-- the number that digits spell after a value that was read
 abbrev pub digits_from : ℕ → List ℕ → Option ℕ
 digits_from value digits = if list_all is_digit digits && nat_lt (value_from value digits) (2 ^ 64) then Some (value_from value digits) else None
 

@@ -1,4 +1,4 @@
--- What a word has behind a key, by its parts.
+-- What a word has after a key, by its parts.
 use Rattle.std.proofs.Common.{◌≡◌, ℕ, Bool, true, false, ◌&&◌, Some, None, List, [], ◌∷◌, length, take, drop, nat_eq, cond, refl}
 use Rattle.std.specs.Cmp.Lexicographic.{pointwise}
 use Rattle.script_words.specs.Words.{behind}

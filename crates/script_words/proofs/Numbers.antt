@@ -4,7 +4,7 @@ use Rattle.std.proofs.lemmas.Bool.Decides.{nat_tests}
 use Rattle.std.specs.List.{list_all}
 use Rattle.script_words.specs.Words.{is_digit, value_from}
 
--- the number that digits spell behind a value that was read
+-- the number that digits spell after a value that was read
 abbrev pub read_on : ℕ → List ℕ → Option ℕ
 read_on v ds = if list_all is_digit ds && nat_lt (value_from v ds) (2 ^ 32) then Some (value_from v ds) else None
 
