@@ -125,7 +125,7 @@ module _ (plan : PairPlan) (side : Side) (queue n entries : ℕ) (some : 0 < ent
 
 -- Parts of an entry
 
--- the first bytes of those from an address on, and those behind them
+-- the first bytes of those from an address on, and those after them
 bytes_front : (stores : List Store) (at len all : ℕ) → len ≤ all → take len (bytes_in stores at all) ≡ bytes_in stores at len
 bytes_front stores at zero all within = refl
 bytes_front stores at (suc len) zero within = absurd (omega arith)

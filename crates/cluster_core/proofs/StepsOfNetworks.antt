@@ -152,7 +152,7 @@ goes_resting old own dev rests = record {
   rests = λ plan net is pair side place landing. cc landing;
 }
 
--- memory is wanted before anything is made
+-- a step is out of memory before anything is made
 pub goes_unmade : {E : Type 0} (old : ClusterState) (step : Step) (error : E) → Goes old old step (Err error)
 goes_unmade old step error = record {
   answered = λ plan net is. tt;
@@ -187,7 +187,7 @@ goes_sending old fabric own dev next answer sends stepped = record {
   rests = λ plan net is pair side place landing. cc landing;
 }
 
--- memory is wanted by the bridges
+-- the bridges are out of memory
 pub goes_unstepped : {D E : Type 0} (old : ClusterState) (fabric : FabricState) (own : LaneName) (dev : ℕ) (frame : List ℕ) (error : D) (given : E) →
     HasSteppedOnBridges {E = D} old.fabric fabric (begin_on own frame) (Err error) → Goes {E = E} old (record old { fabric = fabric }) (Xnext own.pair own.from own.queue dev) (Err given)
 goes_unstepped old fabric own dev frame error given stepped = record {
@@ -246,7 +246,7 @@ goes_copied old fabric own answer stepped = record {
   rests = λ plan net is pair side place landing. cc landing;
 }
 
--- a copy that wants memory promises nothing
+-- a copy that is out of memory promises nothing
 pub goes_lost : {E : Type 0} (old new : ClusterState) (own : LaneName) (error : E) → Goes old new (Copy own.pair own.from own.queue) (Err error)
 goes_lost old new own error = record {
   answered = λ plan net is. tt;

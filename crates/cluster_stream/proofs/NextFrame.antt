@@ -57,7 +57,7 @@ offered_more follows sender sent frame offered next = record {
   few = offered.few;
 }
 
--- where a frame was sent it stands behind the others
+-- where a frame was sent it stands after the others
 sent_when : (before after : SendPart) (frame : List ℕ) (number : ℕ) (cut free : Bool)
     → Sent number ≡ (if cut then Cut frame else if free then Sent (length before.sent) else NoRoom frame (head before) after.index)
     → after ≡ (if cut then link_loaded before after.link else if free then frame_sent (index_loaded (link_loaded before after.link) after.index) frame else index_loaded (link_loaded before after.link) after.index)

@@ -28,7 +28,7 @@ use Rattle.fabric_core.proofs.StepsOfFabrics.{goes_on, plan_of_standing}
 
 -- From a place on nothing lands
 
--- the answer at a place behind all writes
+-- the answer at a place after all writes
 none_there : (bridge : Bridge) (side : Side) (place : ℕ) → length (flight_of bridge side).writes ≤ place → of_land (label_landed (landing bridge side place)) ≡ Nothing
 none_there bridge side place beyond =
     ap (λ (found : Option Flying). of_land (label_landed (answer_for found (may_land (map flying_order (flight_of bridge side).writes) place))))

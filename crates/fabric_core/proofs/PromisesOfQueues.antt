@@ -116,7 +116,7 @@ keeps_grown old new before after touched same grows rest grow ready =
       ready = ready;
     }
 
--- where the call answered want of memory, the port is as it was
+-- where the call answered out of memory, the port is as it was
 ready_after : (old new : PortState) (before after : Bridge) (touched : ℕ → Type 0)
     → IsGrown old new before after
     → PagesGrow touched (pages_of before (other_side old.side)) (pages_of after (other_side old.side)) → HasPagesIn old before
@@ -183,7 +183,7 @@ keeps_both old new before after touched flags same grows rest grow own_grow read
       ready = ready;
     }
 
--- where the look answered want of memory, the port is as it was
+-- where the look answered out of memory, the port is as it was
 ready_both : (old new : PortState) (before after : Bridge) (touched flags : ℕ → Type 0)
     → PagesGrow touched (pages_of before (other_side old.side)) (pages_of after (other_side old.side)) → PagesGrow flags (pages_of before old.side) (pages_of after old.side)
     → HasPagesIn old before → new ≡ old → HasPagesIn new after
@@ -219,7 +219,7 @@ keeps_seen seen part new next before after view is place keeps ready had =
     let here : HasPagesIn old before = subst (λ (part : QueuePart). HasPagesIn part.queue.port before) (sym view) had in
     subst (λ (part : QueuePart). KeepsPort part.queue.port new.port before after) view (keeps same (ready here))
 
--- the same of a call that grew the pages at the peer, and where it answered want of memory
+-- the same of a call that grew the pages at the peer, and where it answered out of memory
 pub begun_keeps : (seen part : QueuePart) (new next : QueueState) (before after : Bridge) (touched : ℕ → Type 0) → seen ≡ part → new ≡ next → SamePlace next.port seen.queue.port
     → unused_of seen.queue.port ≤ unused_of next.port
     → IsGrown seen.queue.port new.port before after

@@ -70,7 +70,7 @@ module _ (plan : PairPlan) (side : Side) where
       ap (λ l. order_of plan side l ∷ map flying_order (writes_labelled plan side sent labels (raws_behind label poked))) (label-write plan side (entry_among sent label) (raw_bytes label poked) label)
       ∙ ap (λ ls. order_of plan side label ∷ ls) (orders-writes sent labels (raws_behind label poked))
 
-  -- writes of labels behind others, and their bytes behind the others'
+  -- writes of labels after others, and their bytes after the others'
   pub writes-append : (sent : ℕ → List Entry) (labels : List Label) (poked : List (List ℕ)) (more : List Label) (bytes : List (List ℕ)) → HaveBytes labels poked
       → writes_labelled plan side sent (labels ++ more) (poked ++ bytes) ≡ writes_labelled plan side sent labels poked ++ writes_labelled plan side sent more bytes
   writes-append sent [] [] more bytes have = refl

@@ -51,7 +51,7 @@ range_part : (rings : QueueOf) (offset len more size : ℕ) (pages : List ℕ) �
 range_part rings offset len more size pages within promised =
     λ reach. part_promised (queue_address rings.plan rings.side rings.queue offset) len (queue_address rings.plan rings.side rings.queue (offset + more)) size pages (omega arith) (omega (arith, within)) (promised reach)
 
--- the bytes of an address are among those of the range, at this place or behind it
+-- the bytes of an address are among those of the range, at this place or after it
 range_from : (rings : QueueOf) (offset len more size page : ℕ) (touch : TouchesRange rings offset len page)
     → queue_address rings.plan rings.side rings.queue offset + more ≤ touch.1.0 → touch.1.0 < queue_address rings.plan rings.side rings.queue offset + (more + size)
     → TouchesRange rings (offset + more) size page

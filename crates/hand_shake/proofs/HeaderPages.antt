@@ -112,7 +112,7 @@ ready_still touched plan side queue n bytes now new grow (inr promised) = inr (p
 pub receiving : (plan : PairPlan) (side : Side) (queue : ℕ) (ring : Layout) → ring ≡ layout_to plan side queue → queue < (side_plan plan side).queues → IsReceivingRing plan side ring
 receiving plan side queue ring is among = subst (λ (l : Layout). IsReceivingRing plan side l) (sym is) (refl, among)
 
--- headers behind one are ready once it is promised, and so are those before it that are zero
+-- headers after one are ready once it is promised, and so are those before it that are zero
 pub ready_down : (old now new : Bridge) (side : Side) (queue from count all : ℕ) → now ≡ with_pages old side (pages_of now side) → new ≡ with_pages old side (pages_of new side)
     → ((k : ℕ) → count ≤ k → k < all → IsHeaderReady old.plan side queue k (bytes_of old side) (pages_of now side))
     → PagesGrow (TouchesHeaderOf now.plan side queue (bytes_of now side)) (pages_of now side) (pages_of new side)

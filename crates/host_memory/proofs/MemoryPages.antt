@@ -38,7 +38,7 @@ bytes_in-same pages new len same =
     let within : k < len = subst (λ n. k < n) (length-bytes_in new len) h in
     byte-bytes_in new len k d within ∙ ap (λ found. byte_on found (k % 4096)) (same (k / 4096)) ∙ sym (byte-bytes_in pages len k d within))
 
--- the page and the place of an address that lies behind another one on its page
+-- the page and the place of an address that lies after another one on its page
 pub same_page : (at k : ℕ) → at % 4096 + k < 4096 → ((at + k) / 4096 ≡ at / 4096) × ((at + k) % 4096 ≡ at % 4096 + k)
 same_page at k fits = (omega arith, omega arith)
 

@@ -14,7 +14,7 @@ use Rattle.lane_core.specs.LaneView.{IsKept, lane_seen}
 use Rattle.lane_core.specs.declared.lane.Lane.TheInside.{Inside}
 use Rattle.lane_core.specs.declared.slot.Slot.{Slot}
 
--- two pieces of a list, one behind the other
+-- two pieces of a list, one after the other
 pub take_both : (n m : ℕ) (xs : List ℕ) → take n xs ++ take m (drop n xs) ≡ take (n + m) xs
 take_both n m xs =
     let low : n ≤ n + m = omega arith in

@@ -140,7 +140,7 @@ clear_keeps lost lost_back lane copied h =
       back = h.back;
     }
 
--- the index write is posted, or lost behind the others
+-- the index write is posted, or lost after the others
 acknowledged : (lost : List Write) (lost_back lost_now : List ℕ) (lane : Lane) → lane.phase ≡ Cleared → (after_ack lane).returning ++ lost_now ≡ (lane.returning ++ lost_back) ++ lane.acked ∷ []
     → (lane.up ≡ true → (lost ≡ []) × (lost_now ≡ [])) → RingLaw lost lost_back lane → RingLaw lost lost_now (after_ack lane)
 acknowledged lost lost_back lost_now lane cleared same none h =

@@ -175,7 +175,7 @@ post_keeps lost lost_back lane write rest front up h =
     ∙ ap (λ w. w ++ lane.todo) (sym (ap (λ w. lane.flight ++ w) none ∙ append-nil lane.flight)))
     h.none_lost h
 
--- on a lost link the write is lost behind the others
+-- on a lost link the write is lost after the others
 pub post_keeps_lost : (lost : List Write) (lost_back : List ℕ) (lane : Lane) (write : Write) (rest : List Write) → lane.todo ≡ write ∷ rest → lane.up ≡ false
     → RingLaw lost lost_back lane → RingLaw (lost ++ write ∷ []) lost_back (after_post lane write rest)
 post_keeps_lost lost lost_back lane write rest front down h =
@@ -187,7 +187,7 @@ post_keeps_lost lost lost_back lane write rest front down h =
     ∙ ap (λ w. (lane.flight ++ lost) ++ w) (sym front))
     (λ up. absurd (true≢false (sym up ∙ down))) h
 
--- a sender that forgets a lost session has lost what was left to post, behind the others
+-- a sender that forgets a lost session has lost what was left to post, after the others
 pub forget_keeps : (lost : List Write) (lost_back : List ℕ) (lane : Lane) → lane.up ≡ false → RingLaw lost lost_back lane → RingLaw (lost ++ lane.todo) lost_back (record lane { todo = [] })
 forget_keeps lost lost_back lane down h =
     let same : (lane.flight ++ lost) ++ lane.todo ≡ (lane.flight ++ (lost ++ lane.todo)) ++ [] =

@@ -155,7 +155,7 @@ cell_left (entry ∷ entries) n writes k field h among =
 
 -- ---- with the doorbell of the entry before
 
--- beginning an entry leaves its writes behind the others
+-- beginning an entry leaves its writes after the others
 pub left_to_land_more : (lane : Lane) (writes : List Write) (entry : Entry) → lane.flagged ≤ length lane.sent
     → AreLeftToLand lane.flagged lane.sent writes → AreLeftToLand lane.flagged (lane.sent ++ entry ∷ []) (writes ++ writes_of (length lane.sent) entry)
 left_to_land_more lane writes entry first h =

@@ -48,7 +48,7 @@ again_full : (full : Bool) (head tail : ℕ) → again_of (refuse_if full (Again
 again_full true head tail = refl
 again_full false head tail = refl
 
--- refusals of a sender, and those that come behind them
+-- refusals of a sender, and those that come after them
 again_sender : (down apart shut : Bool) (later : Option Answer) (rest full : Bool) → (down ≡ false → again_of later ≡ (not rest && full))
     → again_of (refuse_if down LinkDown (refuse_if apart NotReady (refuse_if shut Closed later))) ≡ (not ((down || (apart || shut)) || rest) && full)
 again_sender true apart shut later rest full h = refl

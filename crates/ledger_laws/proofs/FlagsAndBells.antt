@@ -48,7 +48,7 @@ tick_of q label = tick (write_of q label)
 abbrev pub ticks_of : ℕ → List Label → List Bool
 ticks_of q labels = filter_map (tick_of q) labels
 
--- so many flags, each with its doorbell behind it
+-- so many flags, each with its doorbell after it
 abbrev pub rounds : ℕ → List Bool
 rounds zero = []
 rounds (suc n) = true ∷ false ∷ rounds n
@@ -216,7 +216,7 @@ pub record IsWatched (ticks : List Bool) (pending : Bool) (flagged got : ℕ) (p
 abbrev pub WatchedOf : ℕ → Sight → Type 0
 WatchedOf q s = IsWatched (left_of q s) (has_bit s.receiver.pending q) s.lane.flagged s.lane.got s.lane.phase
 
--- the same ticks, or more behind them, and no doorbell less
+-- the same ticks, or more after them, and no doorbell less
 watched_by : (before after : List Bool) (pending still : Bool) (flagged got : ℕ) (phase : Phase) → ((rest : List Bool) → before ≡ false ∷ rest → (more : List Bool) × (after ≡ false ∷ more))
     → (pending ≡ true → still ≡ true) → IsWatched before pending flagged got phase → IsWatched after still flagged got phase
 watched_by before after pending still flagged got phase ticks bells h = record {

@@ -15,7 +15,7 @@ frames_from n rest (GoesDown ∷ entries) = frames_from n rest entries
 frames_from n rest (Carries bytes zero ∷ entries) = record { number = n; bytes = rest ++ bytes } ∷ frames_from (n + 1) [] entries
 frames_from n rest (Carries bytes (suc left) ∷ entries) = frames_from n (rest ++ bytes) entries
 
--- the number of the next frame behind entries, and the bytes of the frame that is under way there
+-- the number of the next frame after entries, and the bytes of the frame that is under way there
 abbrev pub number_after : ℕ → List Entry → ℕ
 number_after n [] = n
 number_after n (GoesDown ∷ entries) = number_after n entries

@@ -42,7 +42,7 @@ same_frames {before} e = GoOn (e ∙ sym (append-nil before))
 pub record Begun (up : Bool) (sent waiting coming : List Entry) (told : ℕ) : Type 0 where
   -- they are those that wait, until the sender has forgotten the session
   pub to_come : (coming ≡ waiting) ⊎ ((waiting ≡ []) × (up ≡ false))
-  -- each frame has its number, and nothing rests behind the last
+  -- each frame has its number, and nothing rests after the last
   pub told_is : number_after 0 (sent ++ coming) ≡ told
   pub whole : rest_after [] (sent ++ coming) ≡ []
 
@@ -75,7 +75,7 @@ pub record BegunNext (news : News) (s t : Sight) (coming : List Entry) : Type 0 
   pub begun : BegunOf t after
   pub grows : Grows news.accepted (taken_of s coming) news.starts (taken_of t after)
 
--- a frame of one number more, behind whole frames
+-- a frame of one number more, after whole frames
 record Behind (sent pieces : List Entry) (told : ℕ) (bytes : List ℕ) : Type 0 where
   number : number_after 0 (sent ++ pieces) ≡ told + 1
   rest : rest_after [] (sent ++ pieces) ≡ []
@@ -299,7 +299,7 @@ receives_between done gathered below done_is is = record {
   has = inl (record { between = λ _. is; copying = λ c. absurd (false≢true c) });
 }
 
--- the entry taken has others of its frame behind it, or not
+-- the entry taken has others of its frame after it, or not
 module _ (n : ℕ) (rest : List ℕ) (xs : List Entry) (bytes : List ℕ) where
   some_left : (left : ℕ) → nat_lt 0 left ≡ true
       → (number_after n (xs ++ Carries bytes left ∷ []) ≡ number_after n xs) × (rest_after rest (xs ++ Carries bytes left ∷ []) ≡ rest_after rest xs ++ bytes)

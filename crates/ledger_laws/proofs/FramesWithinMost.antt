@@ -31,7 +31,7 @@ IsWithinMost most frame = length frame.bytes ≤ most
 abbrev AreWithinMost : ℕ → List Numbered → Type 0
 AreWithinMost most frames = AllByRecursion (IsWithinMost most) frames
 
--- bytes of a frame that goes on in entries behind which none is under way
+-- bytes of a frame that goes on in entries after which none is under way
 rest_within : (most n : ℕ) (rest : List ℕ) (xs : List Entry) → AreWithinMost most (frames_from n rest xs) → rest_after rest xs ≡ [] → length rest ≤ most
 rest_within most n rest [] all whole = let none = ap length whole in omega (arith, none)
 rest_within most n rest (GoesDown ∷ xs) all whole = rest_within most n rest xs all whole

@@ -52,7 +52,7 @@ first_some read x xs y e = ap (λ o. cons_option o (filter_map read xs)) e
 pub first_none : {X Y : Type 0} (read : X → Option Y) (x : X) (xs : List X) → read x ≡ None → filter_map read (x ∷ xs) ≡ filter_map read xs
 first_none read x xs e = ap (λ o. cons_option o (filter_map read xs)) e
 
--- a list is what stands before a place, the item there, and what stands behind it
+-- a list is what stands before a place, the item there, and what stands after it
 pub split_whole : {X : Type 0} (xs : List X) (place : ℕ) (x : X) → slice_get xs place ≡ Some x → xs ≡ take place xs ++ x ∷ drop (suc place) xs
 split_whole [] place x at = absurd (none-some x at)
 split_whole (y ∷ ys) zero x at = ap (λ first. first ∷ ys) (same_Some y x at)

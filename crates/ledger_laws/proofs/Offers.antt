@@ -74,7 +74,7 @@ windows-all test own n (suc m) each =
     and_from (test (Pad (high_pad n) (own.size / word))) _ here.0
     (and_from (test (Pad (low_pad n) (own.size % word))) _ here.1 (windows-all test own (suc n) m (λ k below. each k (omega arith))))
 
--- so with the three scratchpads behind them, of each write of an offer
+-- so with the three scratchpads after them, of each write of an offer
 offers-all : (test : Label → Bool) (own : SidePlan)
     → ((k : ℕ) → k < own.windows → (test (Pad (high_pad k) (own.size / word)) ≡ true) × (test (Pad (low_pad k) (own.size % word)) ≡ true)) → list_all test (last_three own) ≡ true
     → test (Pad 0 0) ≡ true → (n : ℕ) → test (slice_index_or (offers own) n (Pad 0 0)) ≡ true

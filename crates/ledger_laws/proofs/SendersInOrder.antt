@@ -32,7 +32,7 @@ use Rattle.ledger_laws.proofs.StoppedByLog.{room_while_stopped, stopped_known}
 
 -- The tests of a side that sends, one after another
 
--- what is found behind those that don't depend on what is sent
+-- what is found after those that don't depend on what is sent
 sender_last : (is : Answer → Bool) → is LinkDown ≡ false → is NotReady ≡ false → is Closed ≡ false → (up joined shut found : Bool) (later : Option Answer) → first_is is later ≡ found
     → first_is is (refuse_if (not up) LinkDown (refuse_if (not joined) NotReady (refuse_if shut Closed later))) ≡ ((up && (joined && not shut)) && found)
 sender_last is a b c false joined shut found later last = a
@@ -173,7 +173,7 @@ module _ (plan : Plan) (memories : Memories) (steps : List Step) where
   others : (step : Step) → sends step ≡ false → Not (After step)
   others step e = others_not plan.devs (pair_plan plan (subject_of step)) (Read (subject_of step)) (Bytes_of (subject_of step)) (Pair (subject_of step)) step e
 
-  -- what is found of each of the three steps, by the tests behind the first ones
+  -- what is found of each of the three steps, by the tests after the first ones
   begin_found : (is : Answer → Bool) → is LinkDown ≡ false → is NotReady ≡ false → is Closed ≡ false → ((n : ℕ) → is (OkNumber n) ≡ false) → (found : Bool)
       → (p : ℕ) (side : Side) (queue : ℕ) (frame : List ℕ)
       → ((len most head tail : ℕ) → first_is is (Frame (Long p side queue frame) (IsBusy p side queue) (Full p side queue (pieces_in (sizes_of (pair_plan plan p) side queue).largest (length frame))) len most head tail) ≡ found)

@@ -1,4 +1,4 @@
--- Writes in front, and others behind them.
+-- Writes in front, and others after them.
 use Rattle.std.proofs.Common.{◌≡◌, ℕ, ◌≤◌, ◌-◌, true, false, ◌||◌, List, ◌++◌, length, take, Option, Some, None, slice_get, sym, ap, ◌∙◌, arith}
 use Rattle.std.specs.List.{remove}
 use Rattle.std.specs.Option.{OnSome}
@@ -23,7 +23,7 @@ behind-free order waits_for front rest place far free =
     behind-is_held_back order waits_for front rest place far
     ∙ ap (λ held. held || is_held_back order waits_for (take (place - length front) rest)) free
 
--- the write at a place behind those in front
+-- the write at a place after those in front
 pub behind-slice_get : {W : Type 0} (front rest : List W) (place : ℕ) → length front ≤ place → slice_get (front ++ rest) place ≡ slice_get rest (place - length front)
 behind-slice_get front rest place far = slice_get-append_far front rest place (place - length front) (omega arith)
 

@@ -26,7 +26,7 @@ pub is_held_back-append : {W : Type 0} (order : W → Order) (waits_for : Option
 is_held_back-append order None xs ys = refl
 is_held_back-append order (Some class) xs ys = list_any-append (λ write. (order write).class == class) xs ys
 
--- the front of a list behind so many elements
+-- the front of a list after so many elements
 pub take-append_far : {X : Type 0} (xs ys : List X) (n : ℕ) → length xs ≤ n → take n (xs ++ ys) ≡ xs ++ take (n - length xs) ys
 take-append_far [] ys n far = ap (λ k. take k ys) (omega arith)
 take-append_far (x ∷ xs) ys zero far = absurd (omega arith)
@@ -42,7 +42,7 @@ held_back-before order waits_for row n place held far =
     ∙ is_held_back-append order waits_for (writes_in (take n row)) (take (place - length (writes_in (take n row))) (writes_in (drop n row)))
     ∙ or_left _ _ held
 
--- a write is held back by a part behind whose writes it stands
+-- a write is held back by a part after whose writes it stands
 pub held_back-at : {W : Type 0} (order : W → Order) (waits_for : Option ℕ) (row : List (PartState W)) (n place left : ℕ) (part : PartState W) → n < length row → part ≡ get_or row n part → place ≡ length (writes_in (take n row)) + left → length part.writes ≤ left → is_held_back order waits_for part.writes ≡ true → is_held_back order waits_for (take place (writes_in row)) ≡ true
 held_back-at order waits_for row n place left part within read adds_up far held =
     let same : part_at row n ≡ part = get_or_default row n no_part part within ∙ sym read in
@@ -71,7 +71,7 @@ pub room_in-append : {W : Type 0} (xs ys : List (PartState W)) → room_in (xs +
 room_in-append [] ys = sym (zero-add (room_in ys))
 room_in-append (x ∷ xs) ys = let e = room_in-append xs ys in omega arith
 
--- a write behind all others of a part, where the parts behind it have none
+-- a write after all others of a part, where the parts after it have none
 pub writes_in-push : {W : Type 0} (row : List (PartState W)) (n : ℕ) (old new : PartState W) (write : W) → n < length row → old ≡ get_or row n old → new.writes ≡ old.writes ++ write ∷ [] → writes_in (drop (suc n) row) ≡ [] → writes_in (set row n new) ≡ writes_in row ++ write ∷ []
 writes_in-push row n old new write within read pushed behind =
     let same : part_at row n ≡ old = get_or_default row n no_part old within ∙ sym read in
@@ -120,7 +120,7 @@ kept-set most row n old new within read same more same_left = record {
     at : part_at row n ≡ old
     at = get_or_default row n no_part old within ∙ sym read
 
--- and where an empty part comes behind all others
+-- and where an empty part comes after all others
 pub writes_in-drop_push : {W : Type 0} (row : List (PartState W)) (number : ℕ) (part : PartState W) → part.writes ≡ [] → writes_in (drop number (row ++ part ∷ [])) ≡ writes_in (drop number row)
 writes_in-drop_push [] zero part none = ap (λ ws. ws ++ []) none
 writes_in-drop_push [] (suc number) part none = ap writes_in (drop_all number [] (omega arith))
@@ -179,7 +179,7 @@ kept-room most old new from kept =
     let part = room_in-stretch new from (length old) in
     omega arith
 
--- what the places from a part on can take is what that part and the places behind it can take
+-- what the places from a part on can take is what that part and the places after it can take
 left_in-at : {W : Type 0} (most : ℕ) (row : List (PartState W)) (number places : ℕ) → number < length row → left_in most (suc places) (drop number row) ≡ (part_at row number).left + left_in most places (drop (suc number) row)
 left_in-at most [] number places within = absurd (omega arith)
 left_in-at most (x ∷ xs) zero places within = refl

@@ -32,7 +32,7 @@ writes_of-update old new (ticket ∷ rest) key slot none updates =
     ap (λ slot. cons_option slot (writes_of new.slots rest)) (updates.others ticket.key none.0)
     ∙ ap (cons_option (kept_at old.slots ticket.key)) (writes_of-update old new rest key slot none.1 updates)
 
--- and where a ticket with a key of its own comes behind them
+-- and where a ticket with a key of its own comes after them
 none_at-push : (key : ℕ) (tickets : List Ticket) (ticket : Ticket) → NoneAt key tickets → ticket.key ≢ key → NoneAt key (tickets ++ ticket ∷ [])
 none_at-push key [] ticket none other = (other, tt)
 none_at-push key (first ∷ rest) ticket none other = (none.0, none_at-push key rest ticket none.1 other)

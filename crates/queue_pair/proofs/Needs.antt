@@ -29,6 +29,7 @@ use Rattle.queue_pair.specs.declared.LookAnswer.TheVariants.{Ready, Empty, PeerD
 
 -- A new queue needs nothing but a plan that fits
 
+-- A new queue has what its calls need of a pair, where the pair's plan fits its rings.
 pub fresh_needs : (bridge : Bridge) (side : Side) (queue : ℕ) → FitsRings bridge.plan → HasNeeds (fresh_queue bridge.plan side queue) bridge
 fresh_needs bridge side queue fits = record {
   plan = refl;
@@ -129,18 +130,21 @@ grown old new before after pages needs stays is ready =
     needs_after old new before after needs stays (ap (λ (bridge : Bridge). bridge.plan) is)
     (omega (arith, needs.room, spare, spare_with before old.port.side pages (unused_of new.port - unused_of old.port))) ready
 
+-- After a begin a queue has what its calls need, where the pair was promised the pages and room that it asks for.
 pub begin_needs : (old new : QueueState) (before after : Bridge) (frame pages : List ℕ) → HasNeeds old before → new ≡ after_begin old before frame
     → after ≡ with_room (with_pages before (other_side old.port.side) pages) old.port.side (unused_of new.port - unused_of old.port)
     → HasPagesIn new.port after → HasNeeds new after
 begin_needs old new before after frame pages needs is rest ready =
     grown old new before after pages needs (subst (λ (queue : QueueState). Stays old.port queue.port) (sym is) (begin_stays old before frame)) rest ready
 
+-- After a `qpdown` a queue has what its calls need, where the pair was promised the pages and room that it asks for.
 pub qpdown_needs : (old new : QueueState) (before after : Bridge) (pages : List ℕ) → HasNeeds old before → new ≡ after_qpdown old before
     → after ≡ with_room (with_pages before (other_side old.port.side) pages) old.port.side (unused_of new.port - unused_of old.port)
     → HasPagesIn new.port after → HasNeeds new after
 qpdown_needs old new before after pages needs is rest ready =
     grown old new before after pages needs (subst (λ (queue : QueueState). Stays old.port queue.port) (sym is) (qpdown_stays old before)) rest ready
 
+-- After a look a queue has what its calls need, where pages of both memories and room that it asks for were promised.
 pub look_needs : (old new : QueueState) (before after : Bridge) (pages own : List ℕ) → HasNeeds old before → new ≡ after_look old before
     → after ≡ with_room (with_pages (with_pages before (other_side old.port.side) pages) old.port.side own) old.port.side (unused_of new.port - unused_of old.port)
     → HasPagesIn new.port after → HasNeeds new after
@@ -173,6 +177,7 @@ plan_of_first : (bridge : Bridge) (side : Side) (entry : Entry) (todo : List Lab
 plan_of_first bridge side entry [] = refl
 plan_of_first bridge side entry (label ∷ todo) = plan_of_write bridge side entry label
 
+-- After a post a queue has what its calls need, where spare room and unused promises fell alike and pages are there.
 pub post_needs : (old new : QueueState) (before after : Bridge) → HasNeeds old before → new ≡ with_port old (after_post old.port) → after ≡ posted_by old.port before
     → (flight_of after old.port.side).spare + unused_of old.port ≡ (flight_of before old.port.side).spare + unused_of new.port
     → HasPagesIn new.port after → HasNeeds new after
@@ -183,6 +188,7 @@ post_needs old new before after needs is posted spare ready =
     (ap (λ (bridge : Bridge). bridge.plan) posted ∙ plan_of_first before old.port.side next.entry next.todo)
     (omega (arith, needs.room, spare)) ready
 
+-- After an ack a queue has what its calls need, where spare room and unused promises fell alike and pages are there.
 pub ack_needs : (old new : QueueState) (before after : Bridge) → HasNeeds old before → new ≡ with_port old (after_ack old.port) → after ≡ acked_by old.port before
     → (flight_of after old.port.side).spare + unused_of old.port ≡ (flight_of before old.port.side).spare + unused_of new.port
     → HasPagesIn new.port after → HasNeeds new after
@@ -194,6 +200,7 @@ ack_needs old new before after needs is acked spare ready =
 
 -- A copy and a clear use no promise
 
+-- After a copy a queue has what its calls need of the pair, where the pages that it was promised are there.
 pub copy_needs : (old new : QueueState) (bridge : Bridge) → HasNeeds old bridge → new ≡ with_port old (after_copy old.port bridge) → HasPagesIn new.port bridge → HasNeeds new bridge
 copy_needs old new bridge needs is ready =
     needs_after old new bridge bridge needs
@@ -204,6 +211,7 @@ cleared_flight : (port : PortState) (bridge cleared : Bridge) (test : Bool) (sid
 cleared_flight port bridge cleared true side e = e
 cleared_flight port bridge cleared false side e = refl
 
+-- After a clear a queue has what its calls need of the pair, where the pages that it was promised are there.
 pub clear_needs : (old new : QueueState) (before after : Bridge) → HasNeeds old before → new ≡ with_port old (after_clear old.port) → after ≡ cleared_by old.port before
     → HasPagesIn new.port after → HasNeeds new after
 clear_needs old new before after needs is cleared ready =
@@ -221,6 +229,7 @@ clear_needs old new before after needs is cleared ready =
 
 -- What keeps all promises of a pair keeps what a queue needs
 
+-- What a queue's calls need of a pair is still there after anything that keeps all promises of the pair.
 pub kept_needs : (queue : QueueState) (before after : Bridge) → KeepsPromises before after → HasNeeds queue before → HasNeeds queue after
 kept_needs queue before after kept needs =
     let own = queue.port.side in

@@ -11,7 +11,7 @@ use Rattle.script_text.specs.Script.{line_gives, read_lines}
 use Rattle.script_text.specs.declared.error.ParseError.{ParseError}
 use Rattle.script_text.specs.declared.error.ParseError.TheVariants.{Fault, OutOfMemory}
 
--- the lines behind line n
+-- the lines after line n
 abbrev pub then_lines : ℕ → List (List ℕ) → Result Before ScriptFault → Result Before ScriptFault
 then_lines n lines (Ok before) = read_lines (n + 1) before lines
 then_lines n lines (Err fault) = Err fault

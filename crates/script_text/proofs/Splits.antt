@@ -87,7 +87,7 @@ empty_word (b ∷ word) parts h = absurd (let e = eqb-true (length (b ∷ word))
 
 -- Words read byte by byte
 
--- the words of a line behind those that are read: the first begins at `start`, and its bytes before place i are read
+-- the words of a line after those that are read: the first begins at `start`, and its bytes before place i are read
 abbrev pub words_from : List ℕ → ℕ → ℕ → List (List ℕ)
 words_from line start i = filter is_filled (with_front (slice_range line start i) (slice_split (λ b. b == 32) (drop i line)))
 

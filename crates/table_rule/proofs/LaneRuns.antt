@@ -90,7 +90,7 @@ land_fields (field ∷ fields) lane n before behind front within =
           rest,
     )
 
--- the flags of the first entry in flight land, and the doorbell behind them
+-- the flags of the first entry in flight land, and the doorbell after them
 pub land_flag_and_bell : (lane : Lane) (n : ℕ) (rest : List Write) → lane.flight ≡ Flag n ∷ Bell ∷ rest → Runs (flag_steps n) lane (record (after_landing lane (Flag n) rest) { flight = rest })
 land_flag_and_bell lane n rest front = (after_landing lane (Flag n) (Bell ∷ rest), (Bell ∷ rest, front, refl), (after_landing (after_landing lane (Flag n) (Bell ∷ rest)) Bell rest, (rest, refl, refl), refl))
 

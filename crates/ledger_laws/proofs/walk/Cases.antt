@@ -469,7 +469,7 @@ found_refusals (VerDiffers seen own) = true
 found_refusals (Long len most) = true
 found_refusals r = false
 
--- a test and those behind it
+-- a test and those after it
 test_cases : (P : Option Answer → Type 0) (b : Bool) (r : Answer) (later : Option Answer) → P (Some r) → (b ≡ false → P later) → P (refuse_if b r later)
 test_cases P true r later first rest = first
 test_cases P false r later first rest = rest refl
@@ -501,7 +501,8 @@ look_cases reading P pair side queue refused none ready gone =
     found may (TooManyBytes len most) is = refused (Long len most) refl refl
     found may (AnEntry len left) is = ready may len left is
 
--- the three cases of a copy: a part that isn't the entry's last, the last part of an entry with others behind it, and of a frame
+-- the three cases of a copy: a part that isn't the entry's last, the last part of an entry with others after it, and of
+-- a frame
 abbrev pub copied_more : PairPart → Side → ℕ → LanePart → List ℕ → Outcome
 copied_more pair side queue lane gathered = record {
   answer = CopiedPart lane.got lane.part;
