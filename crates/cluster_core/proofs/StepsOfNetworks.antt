@@ -71,7 +71,7 @@ has_stepped old new step result goes same = record {
 
 -- Relays
 
--- A relay goes right in each network the cluster may be if the switches answer and make it, or an error changes none.
+-- A relay goes right in each network the cluster may be if its switches make it, or an error changes nothing.
 pub goes_relayed : {E : Type 0} (old new : ClusterState) (pair : ℕ) (side : Side) (queue switch port : ℕ) (result : Result Answer E) →
     IfOk result (λ answer. answer ≡ relay_answer_in old (record { switch = switch; place = port })) → OnOk result (new ≡ relayed_in old (record { switch = switch; place = port })) →
     OnErr result (new ≡ old) → Goes old new (Relay pair side queue switch port) result
