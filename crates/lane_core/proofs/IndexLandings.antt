@@ -47,7 +47,7 @@ pub record HasReturned (l : Inside) (place n : ℕ) (returning : Flight IndexWri
   pub begun : n < length (lane_seen l).sent
   pub spare : returning.spare ≡ l.returning.spare
 
--- An index write that the queue lets land lands in the model's lane too, and the law of the ring holds after it.
+-- An index write that the flight lets land lands in the model's lane too, and the law of the ring holds after it.
 pub has_returned : (l : Inside) (place : ℕ) (write : IndexWrite) (returning : Flight IndexWrite) → QueueLanded write ≡ queue_answer order_of_index l.returning place
     → returning ≡ queue_after order_of_index l.returning place → HoldsRingLaw (lane_seen l) → HasReturned l place write.number returning
 has_returned l place write returning answer after law =
@@ -82,7 +82,7 @@ pub record IsUnmoved (l : Inside) (place : ℕ) (returning : Flight IndexWrite) 
   pub after : after_land_index (lane_seen l) place ≡ lane_seen l
   pub answers : land_index_answer (value_seen l) place ≡ answer
 
--- Where the queue has no index write at the place, it stays the same and the model's lane answers `Nothing`.
+-- Where the flight has no index write at the place, it stays the same and the model's lane answers `Nothing`.
 pub none_returned : (l : Inside) (place : ℕ) (returning : Flight IndexWrite) → QueueNothing ≡ queue_answer order_of_index l.returning place → returning ≡ queue_after order_of_index l.returning place → IsUnmoved l place returning Nothing
 none_returned l place returning answer after =
     let was = was_nothing _ _ answer in
@@ -93,7 +93,7 @@ none_returned l place returning answer after =
       answers = ap (index_found (value_seen l) place) found;
     }
 
--- Where the queue says that an index write is blocked, it stays the same and the model's lane answers `Blocked`.
+-- Where the flight says that an index write is blocked, it stays the same and the model's lane answers `Blocked`.
 pub blocked_return : (l : Inside) (place : ℕ) (returning : Flight IndexWrite) → QueueBlocked ≡ queue_answer order_of_index l.returning place → returning ≡ queue_after order_of_index l.returning place → IsUnmoved l place returning Blocked
 blocked_return l place returning answer after =
     let was = was_blocked _ _ answer in

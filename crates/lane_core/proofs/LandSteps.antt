@@ -31,19 +31,19 @@ use Rattle.lane_core.proofs.Parts.{All-remove, map-remove}
 
 -- What the queue answers
 
--- A queue answers that a write landed only where that write stands at the place and may land.
+-- A flight answers that a write landed only where that write stands at the place and may land.
 pub was_landed : {W : Type 0} (found : Option W) (lands : Bool) (write : W) → QueueLanded write ≡ answer_for found lands → (found ≡ Some write) × (lands ≡ true)
 was_landed None lands write e = absurd (cc e)
 was_landed (Some w) true write e = (cc, refl)
 was_landed (Some w) false write e = absurd (cc e)
 
--- A queue answers that a write is blocked only where one stands at the place and may not land.
+-- A flight answers that a write is blocked only where one stands at the place and may not land.
 pub was_blocked : {W : Type 0} (found : Option W) (lands : Bool) → QueueBlocked ≡ answer_for found lands → (write : W) × (found ≡ Some write) × (lands ≡ false)
 was_blocked None lands e = absurd (cc e)
 was_blocked (Some w) true e = absurd (cc e)
 was_blocked (Some w) false e = (w, refl, refl)
 
--- A queue answers `Nothing` to a landing only where no write stands at the place.
+-- A flight answers `Nothing` to a landing only where no write stands at the place.
 pub was_nothing : {W : Type 0} (found : Option W) (lands : Bool) → QueueNothing ≡ answer_for found lands → found ≡ None
 was_nothing None lands e = refl
 was_nothing (Some w) true e = absurd (cc e)
@@ -233,7 +233,7 @@ pub record HasLanded (l : Inside) (place : ℕ) (mark : Write) (flight : Flight 
 abbrev pub order_of_write : PostedWrite → Order
 order_of_write w = order_of_mark w.strict w.mark
 
--- A write that the queue lets land may land in the model's lane too, which keeps the law of the ring.
+-- A write that the flight lets land may land in the model's lane too, which keeps the law of the ring.
 pub has_landed : (l : Inside) (place : ℕ) (write : PostedWrite) (flight : Flight PostedWrite) → QueueLanded write ≡ queue_answer order_of_write l.flight place → flight ≡ queue_after order_of_write l.flight place
     → IsKept l → HasLanded l place write.mark flight
 has_landed l place write flight answer after kept =
