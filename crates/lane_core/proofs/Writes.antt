@@ -24,6 +24,7 @@ chunk_cells-push marks n count =
     one_more : (n : ℕ) → suc n ≡ n + 1
     one_more n = omega arith
 
+-- An entry has as many writes as its payload has chunks, and four more: length, version, flags and doorbell.
 pub length-writes_of : (n : ℕ) (entry : Entry) → length (writes_of n entry) ≡ chunks_in (length (bytes_of entry)) + 4
 length-writes_of n entry =
     let chunks = chunks_in (length (bytes_of entry)) in
