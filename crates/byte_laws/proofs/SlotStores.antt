@@ -86,6 +86,7 @@ pub record LeavesSlot (rings : Rings) (queue n : ℕ) (new : List Store) : Type 
   pub payload : Leaves (at_spot rings (Payload queue n)) new
   pub header : (offset : ℕ) → offset + 4 ≤ rings.header → Leaves (at_spot rings (Header queue n offset 4)) new
 
+-- A slot that stands in memory stands there still after stores that leave its payload and its header.
 pub slot_left : (rings : Rings) (five : Bool) (queue n : ℕ) (new older : List Store) (slot : Slot) → rings.header ≡ header_size five → LeavesSlot rings queue n new → StandsIn rings five queue n older slot
     → StandsIn rings five queue n (new ++ older) slot
 slot_left rings true queue n new older slot size leaves stands = record {

@@ -101,6 +101,7 @@ first_spot {W} row n part all read some whole = record {
 pub first-slice_get : {W : Type 0} (writes rest : List W) (write : W) → writes ≡ write ∷ rest → slice_get writes 0 ≡ Some write
 first-slice_get writes rest write first = ap (λ all. slice_get all 0) first
 
+-- Taking out the first write of a list leaves the rest of it.
 pub first-remove : {W : Type 0} (writes rest : List W) (write : W) → writes ≡ write ∷ rest → rest ≡ remove writes 0
 first-remove writes rest write first = sym (ap (λ all. remove all 0) first)
 

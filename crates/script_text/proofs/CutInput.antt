@@ -98,6 +98,7 @@ cut_at front back ok =
     let late : 1 < 1 + length (lines_of front) = let some = some_lines front in omega arith in
     subst P (sym (read_apart front [])) (plan_stays (1 + length (lines_of front)) (lines_of back) (read_lines 1 nothing_before (lines_of front)) late (subst P (read_apart front back) ok))
 
+-- A script that is accepted stays accepted when it is cut right behind any of its line feeds.
 pub plan_cut : (bytes : List ℕ) (end : ℕ) → IsOk (script_of bytes) → 1 ≤ end → end ≤ length bytes → get_or bytes (end - 1) 0 ≡ 10 → IsOk (script_of (take end bytes))
 plan_cut bytes end ok some within e =
     let k : ℕ = end - 1 in
@@ -146,6 +147,7 @@ lines_counted front =
     let more = sum_by-append (λ x. cond (x == 10) 1 0) front (10 ∷ []) in
     omega arith
 
+-- Scripts with equal bytes up to the line feed that ends the line of the first fault have the same fault.
 pub fault_same : (bytes other : List ℕ) (end : ℕ) → FaultEndsAt bytes end → take end other ≡ take end bytes → script_of other ≡ script_of bytes
 fault_same bytes other end h same =
     let k : ℕ = end - 1 in
