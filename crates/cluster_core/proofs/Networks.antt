@@ -38,7 +38,7 @@ item_by plan net step = next_item bytes_kept plan (memory_of plan) net step
 pub network-last : (plan : Plan) (steps : List Step) (step : Step) → network_after plan (steps ++ step ∷ []) ≡ next_by plan (network_after plan steps) step
 network-last plan steps step = network_from-last bytes_kept plan (memory_of plan) _ steps step
 
--- The log of a list of steps and one more is the log of the list with the last step's item behind it.
+-- The log of a list of steps and one more is the log of the list with the last step's item after it.
 pub log-last : (plan : Plan) (steps : List Step) (step : Step) → log_after plan (steps ++ step ∷ []) ≡ log_after plan steps ++ item_by plan (network_after plan steps) step ∷ []
 log-last plan steps step = items_from-last bytes_kept plan (memory_of plan) _ steps step
 

@@ -21,7 +21,7 @@ use Rattle.cluster_run.proofs.PlacesOfLanes.{NoneIs, IsOnlyAt, only_within, only
 within : (lanes place : ℕ) (item : Traffic) (lane : LaneName) (frame : List ℕ) → item ≡ Send lane frame → place ≡ place_of lane → HasPlace lanes item → place < lanes
 within lanes place item lane frame item_is place_is has = let there : place_of lane < lanes = subst (λ (item : Traffic). HasPlace lanes item) item_is has in omega (arith, there, place_is)
 
--- Lanes in which a frame is put behind those of its lane, at the lane's place, are the lanes with this item more.
+-- Lanes in which a frame is put after those of its lane, at the lane's place, are the lanes with this item more.
 pub put_shown : {T E : Type 0} (result : Result T E) (lanes : List LaneTraffic) (place : ℕ) (d new : LaneTraffic) (item : Traffic) (lane : LaneName) (frame : List ℕ)
     → item ≡ Send lane frame → place ≡ place_of lane → HasPlace (length lanes) item → OnOk result (lane_frames new ≡ with_frame (lane_frames (slice_index_or lanes place d)) frame)
     → OnOk result (map lane_frames (slice_set lanes place new) ≡ lanes_with (map lane_frames lanes) item)
@@ -82,7 +82,7 @@ break_with pair traffic (l ∷ lanes) =
     ap (λ (frames : List (List ℕ)). record { name = l; frames = frames } ∷ map (frames_of traffic) lanes) (sym same)
     ∙ ap (λ (rest : List LaneFrames). frames_of (traffic ++ Break pair ∷ []) l ∷ rest) (break_with pair traffic lanes)
 
--- Putting one item more on its lane, in a traffic sorted by lane, sorts the traffic with that item behind it.
+-- Putting one item more on its lane, in a traffic sorted by lane, sorts the traffic with that item after it.
 pub lanes_with-item : (pairs : ℕ) (traffic : List Traffic) (item : Traffic) → IsPlaced pairs item → lanes_with (by_lane traffic pairs) item ≡ by_lane (traffic ++ item ∷ []) pairs
 lanes_with-item pairs traffic (Send lane frame) placed = only_with lane frame traffic (place_of lane) (lanes_in pairs) placed
 lanes_with-item pairs traffic (Break pair) placed = break_with pair traffic (lanes_in pairs)

@@ -95,7 +95,7 @@ room_then mid side xs i part within is same room =
     subst (λ side. unused_of part.queue.port ≤ (flight_of mid side).spare) (sym same)
     (first_fits (all_unused (drop i xs)) (unused_of part.queue.port) (all_unused (drop (i + 1) xs)) (flight_of mid side).spare (sum_then xs i part within is) room)
 
--- Once queue i has given back what it hasn't used, its side's room is what the queues behind it haven't used.
+-- Once queue i has given back what it hasn't used, its side's room is what the queues after it haven't used.
 pub room_behind : (mid new : Bridge) (side : Side) (xs : List QueuePart) (i : ℕ) (part : QueuePart) → i < length xs → get_or xs i no_queue ≡ part → part.queue.port.side ≡ side
     → new ≡ reset_by part.queue.port mid → (flight_of mid side).spare ≡ all_unused (drop i xs) → (flight_of new side).spare ≡ all_unused (drop (i + 1) xs)
 room_behind mid new side xs i part within is same reset room =
@@ -103,7 +103,7 @@ room_behind mid new side xs i part within is same reset room =
     ap (λ (bridge : Bridge). (flight_of bridge side).spare) (reset_at mid new side part.queue.port same reset) ∙ ap (λ (flight : Flight Flying). flight.spare) (flight_is mid side _) in
     others_fit (all_unused (drop i xs)) (unused_of part.queue.port) (all_unused (drop (i + 1) xs)) (flight_of mid side).spare (flight_of new side).spare (sum_then xs i part within is) room after
 
--- With the queue at place i forgotten too, the queues up to it are forgotten and those behind are as at first.
+-- With the queue at place i forgotten too, the queues up to it are forgotten and those after it are as at first.
 pub items_then : (xs ys : List QueuePart) (i : ℕ) (part new : QueuePart) → i < length xs → ys ≡ map forgotten_queue (take i xs) ++ drop i xs → part ≡ get_or ys i part → new ≡ forgotten_queue part
     → set ys i new ≡ map forgotten_queue (take (i + 1) xs) ++ drop (i + 1) xs
 items_then xs ys i part new within items is new_is = ap (λ new. set ys i new) new_is ∙ map_over_more forgotten_queue xs ys i part within items is

@@ -34,7 +34,7 @@ one_more-there (one ∷ counts) session (suc place) is =
     ap (λ test. if test then record { session = session; count = one.count + 1 } ∷ counts else one ∷ one_more counts session) (differs one.session session (is.first zero (omega arith)))
     ∙ ap (λ rest. one ∷ rest) (one_more-there counts session place (place_behind one counts session place is))
 
--- Where a session has no place among the counts, one frame more of it puts a count of 1 behind them.
+-- Where a session has no place among the counts, one frame more of it puts a count of 1 after them.
 pub one_more-nowhere : (counts : List SessionCount) (session : ℕ) → IsNowhere counts session (length counts) → one_more counts session ≡ counts ++ record { session = session; count = 1 } ∷ []
 one_more-nowhere [] session none = refl
 one_more-nowhere (one ∷ counts) session none =
@@ -102,7 +102,7 @@ one_more_at counts session place one is at =
     ∙ ap (λ n. set (map count_seen counts) place (record { session = session; count = n + 1 })) (sym (ap (λ (one : SessionCount). one.count) seen))
     ∙ sym (one_more-there (map count_seen counts) session place is)
 
--- A count of 1 behind the kept ones counts one frame more of a session that had no place among them.
+-- A count of 1 after the kept ones counts one frame more of a session that had no place among them.
 pub one_more_behind : (counts : List OfSession) (session : ℕ) → IsNowhere (map count_seen counts) session (length counts)
     → map count_seen (counts ++ record { session = session; count = 1 } ∷ []) ≡ one_more (map count_seen counts) session
 one_more_behind counts session none =

@@ -114,7 +114,7 @@ all_last P (first ∷ xs) x all own = (all.0, all_last P xs x all.1 own)
 
 -- The log of one step more
 
--- An answer that the ledger gives by the pair's site after some steps is that of the log with the step behind them.
+-- An answer that the ledger gives by the pair's site after some steps is that of the log with the step after them.
 pub goes_on : (plan : Plan) (steps : List Step) (step : Step) (answer : Answer)
     → answer ≡ (pair_next plan.devs (pair_plan plan (subject_of step)) (bytes_of_site (site_of plan (subject_of step) steps)) (site_of plan (subject_of step) steps).pair step).answer
     → IsAnswered plan steps step answer

@@ -70,7 +70,7 @@ length-writes_from queue n (entry ∷ entries) =
     ∙ ap (λ first. first + length (writes_from queue (suc n) entries)) (length-map (labels_of queue n entry) _ ∙ length-labels_of queue n entry)
     ∙ ap (λ others. writes_in entry + others) (length-writes_from queue (suc n) entries)
 
--- From a place in a list of entries on, the writes are those of the entry there and those of all behind it.
+-- From a place in a list of entries on, the writes are those of the entry there and those of all after it.
 pub entry_and_others : (entries : List Entry) (piece : ℕ) → piece < length entries → all_writes_in (drop piece entries) ≡ writes_in (entry_at entries piece) + all_writes_in (drop (piece + 1) entries)
 entry_and_others entries piece among = ap all_writes_in (drop_more entries piece GoesDown among)
 

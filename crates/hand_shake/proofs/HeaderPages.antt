@@ -38,7 +38,7 @@ header_place : (plan : PairPlan) (side : Side) (queue n : ℕ) → n < entries_o
 header_place plan side queue n within =
     ap (λ n. window_of (layout_to plan side queue) * (side_plan plan side).cap + header_of (layout_to plan side queue) n) (mod-eq_of_lt within)
 
--- Of two headers of a ring the one with the lower number doesn't stand behind the other in memory.
+-- Of two headers of a ring the one with the lower number doesn't stand after the other in memory.
 pub header_order : (plan : PairPlan) (side : Side) (queue n m : ℕ) → n ≤ m → m < entries_of (layout_to plan side queue) → own_header plan side queue n ≤ own_header plan side queue m
 header_order plan side queue n m least within =
     let l = layout_to plan side queue in
@@ -153,7 +153,7 @@ ring_ready old now side queue new same so_far next ready =
 
 -- Zeroing
 
--- Zeroing a header where those behind it are zeroed is zeroing all of the ring's headers from that one on.
+-- Zeroing a header where those after it are zeroed is zeroing all of the ring's headers from that one on.
 pub header_before : (plan same : PairPlan) (side : Side) (queue n later left more : ℕ) (bytes : List ℕ) → same ≡ plan → n < entries_of (layout_to plan side queue) → later ≡ suc n → more ≡ suc left
     → written (own_header same side queue n) (replicate (header_bytes same) 0) (bytes_after (map (zeroed_header plan side queue) (count_from later left)) bytes)
     ≡ bytes_after (map (zeroed_header plan side queue) (count_from n more)) bytes

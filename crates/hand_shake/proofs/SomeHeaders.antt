@@ -25,7 +25,7 @@ count_both from (suc count) more =
     let size : suc count + more ≡ suc (count + more) = omega arith in
     ap (count_from from) size ∙ ap (λ (rest : List ℕ). from ∷ rest) (count_both (suc from) count more ∙ ap (λ (later : ℕ). count_from (suc from) count ++ count_from later more) on)
 
--- Zeroing a run of headers where those behind it are zeroed is zeroing them all from the run's first one on.
+-- Zeroing a run of headers where those after it are zeroed is zeroing them all from the run's first one on.
 pub some_before : (plan same : PairPlan) (side : Side) (queue from to all : ℕ) (bytes : List ℕ) → same ≡ plan → from ≤ to → to ≤ all
     → bytes_after (some_stores same side queue from (to - from)) (bytes_after (some_stores plan side queue to (all - to)) bytes) ≡ bytes_after (some_stores plan side queue from (all - from)) bytes
 some_before plan same side queue from to all bytes plans first last =

@@ -43,7 +43,7 @@ read_more mem out piece at done end so_far is forward fits within =
     ∙ ap (λ front. front ++ piece) so_far ∙ ap (λ rest. bytes_at at done mem ++ rest) is
     ∙ bytes_joined mem at done end forward within
 
--- Writing the first of some bytes, and then the piece that follows behind them, is writing both at once.
+-- Writing the first of some bytes, and then the piece that follows them, is writing both at once.
 pub write_more : (mem bytes piece : List ℕ) (at done end : ℕ) → piece ≡ mid_of done (end - done) bytes → done ≤ end → end ≤ length bytes
     → at + length bytes ≤ length mem
     → written (at + done) piece (written at (take done bytes) mem) ≡ written at (take end bytes) mem

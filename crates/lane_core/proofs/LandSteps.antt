@@ -94,7 +94,7 @@ bell_is_strict : (is_strict : Bool) → kind_of_mark is_strict Bell ≡ relaxed 
 bell_is_strict true e = omega (arith, e)
 bell_is_strict false e = omega (arith, e)
 
--- A list that has a first element is that element with the list without it behind.
+-- A list that has a first element is that element, followed by the list without it.
 pub first_apart : {X : Type 0} (xs : List X) (x : X) → slice_get xs 0 ≡ Some x → xs ≡ x ∷ remove xs 0
 first_apart [] x found = absurd (none-some x found)
 first_apart (y ∷ ys) x found = ap (λ z. z ∷ ys) (same_Some y x found)

@@ -35,14 +35,14 @@ frames-append n rest (GoesDown ∷ xs) ys = frames-append n rest xs ys
 frames-append n rest (Carries bytes zero ∷ xs) ys = ap (λ frames. record { number = n; bytes = rest ++ bytes } ∷ frames) (frames-append (n + 1) [] xs ys)
 frames-append n rest (Carries bytes (suc left) ∷ xs) ys = frames-append n (rest ++ bytes) xs ys
 
--- The number of the next frame behind two joined lists of entries is counted through one and then the other.
+-- The number of the next frame after two joined lists of entries is counted through one and then the other.
 pub number-append : (n : ℕ) (xs ys : List Entry) → number_after n (xs ++ ys) ≡ number_after (number_after n xs) ys
 number-append n [] ys = refl
 number-append n (GoesDown ∷ xs) ys = number-append n xs ys
 number-append n (Carries bytes zero ∷ xs) ys = number-append (n + 1) xs ys
 number-append n (Carries bytes (suc left) ∷ xs) ys = number-append n xs ys
 
--- The bytes of a frame under way behind two joined lists of entries are gathered through one and then the other.
+-- The bytes of a frame under way after two joined lists of entries are gathered through one and then the other.
 pub rest-append : (rest : List ℕ) (xs ys : List Entry) → rest_after rest (xs ++ ys) ≡ rest_after (rest_after rest xs) ys
 rest-append rest [] ys = refl
 rest-append rest (GoesDown ∷ xs) ys = rest-append rest xs ys

@@ -15,11 +15,11 @@ behind-is_held_back order waits_for front rest place far =
     ap (is_held_back order waits_for) (take-append_far front rest place far)
     ∙ is_held_back-append order waits_for front (take (place - length front) rest)
 
--- A write behind the front is held back in the whole list where some write of the front holds it back.
+-- A write after the front is held back in the whole list where some write of the front holds it back.
 pub behind-held : {W : Type 0} (order : W → Order) (waits_for : Option ℕ) (front rest : List W) (place : ℕ) → length front ≤ place → is_held_back order waits_for front ≡ true → is_held_back order waits_for (take place (front ++ rest)) ≡ true
 behind-held order waits_for front rest place far held = behind-is_held_back order waits_for front rest place far ∙ or_left _ _ held
 
--- A write behind the front that no write of the front holds back is held back just as among the rest.
+-- A write after the front that no write of the front holds back is held back just as among the rest.
 pub behind-free : {W : Type 0} (order : W → Order) (waits_for : Option ℕ) (front rest : List W) (place : ℕ) → length front ≤ place → is_held_back order waits_for front ≡ false → is_held_back order waits_for (take place (front ++ rest)) ≡ is_held_back order waits_for (take (place - length front) rest)
 behind-free order waits_for front rest place far free =
     behind-is_held_back order waits_for front rest place far

@@ -11,7 +11,7 @@ use Rattle.posted_queue.specs.Rows.{PartState, no_part, left_in, is_held_back, w
 pub writes_in-append : {W : Type 0} (xs ys : List (PartState W)) → writes_in (xs ++ ys) ≡ writes_in xs ++ writes_in ys
 writes_in-append xs ys = flat_map-append (λ part. part.writes) xs ys
 
--- The writes of a row are those of its first parts, and then those of the parts behind them.
+-- The writes of a row are those of its first parts, and then those of the parts after them.
 pub writes_in-split : {W : Type 0} (row : List (PartState W)) (n : ℕ) → writes_in row ≡ writes_in (take n row) ++ writes_in (drop n row)
 writes_in-split row n = ap writes_in (sym (take-append-drop n row)) ∙ writes_in-append (take n row) (drop n row)
 
@@ -145,7 +145,7 @@ left_in-drop_push most (x ∷ xs) zero zero part empty = refl
 left_in-drop_push most (x ∷ xs) (suc places) zero part empty = let rest = left_in-drop_push most xs places zero part empty in omega arith
 left_in-drop_push most (x ∷ xs) places (suc number) part empty = left_in-drop_push most xs places number part empty
 
--- A row is kept where a part with no write, which can take the most, comes behind all others.
+-- A row is kept where a part with no write, which can take the most, comes after all others.
 pub kept-push : {W : Type 0} (most : ℕ) (row : List (PartState W)) (part : PartState W) → part.writes ≡ [] → part.left ≡ most → KeepsWrites most row (row ++ part ∷ [])
 kept-push most row part none empty = record {
   writes = λ number. writes_in-drop_push row number part none;

@@ -143,7 +143,7 @@ all_known plan log =
 
 -- Devices
 
--- The counters of a plan's first devices, with the next device's behind them, are those of one device more.
+-- The counters of a plan's first devices, with the next device's after them, are those of one device more.
 pub devices_more : (plan : Plan) (log : List Answered) (k : ℕ) → k < length plan.devs →
     map (λ dev. counters_in plan log (lane_of_device dev)) (take k plan.devs) ++ counters_in plan log (lane_of_device (dev_plan plan.devs k)) ∷ []
     ≡ map (λ dev. counters_in plan log (lane_of_device dev)) (take (k + 1) plan.devs)

@@ -98,7 +98,7 @@ cut_at front back ok =
     let late : 1 < 1 + length (lines_of front) = let some = some_lines front in omega arith in
     subst P (sym (read_apart front [])) (plan_stays (1 + length (lines_of front)) (lines_of back) (read_lines 1 nothing_before (lines_of front)) late (subst P (read_apart front back) ok))
 
--- A script that is accepted stays accepted when it is cut right behind any of its line feeds.
+-- A script that is accepted stays accepted when it is cut right after any of its line feeds.
 pub plan_cut : (bytes : List ℕ) (end : ℕ) → IsOk (script_of bytes) → 1 ≤ end → end ≤ length bytes → get_or bytes (end - 1) 0 ≡ 10 → IsOk (script_of (take end bytes))
 plan_cut bytes end ok some within e =
     let k : ℕ = end - 1 in

@@ -30,7 +30,7 @@ rest_lines : (rest : Option (Bor (List ℕ))) → map without_return (option_map
 rest_lines None = refl
 rest_lines (Some text) = refl
 
--- Reading a text reads its first line, less a carriage return, and then the lines behind its line feed, if any.
+-- Reading a text reads its first line, less a carriage return, and then the lines after its line feed, if any.
 pub line_turn : (n : ℕ) (before : Before) (text first line : List ℕ) (rest : Option (Bor (List ℕ))) → slice_split (λ b. b == 10) text ≡ first ∷ option_map_or (λ text. slice_split (λ b. b == 10) text.now) rest []
     → line ≡ without_return first
     → read_lines n before (lines_of text) ≡ then_lines n (option_map_or (λ text. lines_of text.now) rest []) (after_line n before (line_gives n before line))

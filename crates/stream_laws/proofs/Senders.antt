@@ -11,7 +11,7 @@ use Rattle.stream_laws.specs.Laws.{given_by}
 use Rattle.stream_laws.proofs.Lists.{take_next}
 use Rattle.stream_laws.proofs.Numbers.{number_in-number_frame}
 
--- The frame that a sender gives next stands behind all that it gave in the session before.
+-- The frame that a sender gives next stands after all that it gave in the session before.
 pub next_follows : (sender : Sender) (frame : List ℕ) → next_frame sender ≡ Some frame → given_by (one_given sender) ≡ given_by sender ++ frame ∷ []
 next_follows sender frame e = take_next (frames_of sender) sender.place.given frame e
 

@@ -130,7 +130,7 @@ stands-unmap f y [] s = absurd s
 stands-unmap f y (x ∷ xs) (inl e) = (x, (inl refl, sym e))
 stands-unmap f y (x ∷ xs) (inr s) = let found = stands-unmap f y xs s in (found.0, (inr found.1.0, found.1.1))
 
--- An item that stands in a list stands in that list with more items behind it.
+-- An item that stands in a list stands in that list with more items after it.
 pub stands-append : {A : Type 0} (x : A) (xs ys : List A) → StandsIn x xs → StandsIn x (xs ++ ys)
 stands-append x [] ys s = absurd s
 stands-append x (z ∷ xs) ys (inl e) = inl e
