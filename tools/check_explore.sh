@@ -4,7 +4,7 @@
 
 # Whether the program that answers knows the command.
 explore_is_known() {
-    [ "$(printf 'ntb 1\n' | crates/ntbsim/out/ntbsim explore 2>/dev/null | head -n 1)" = 'outcomes 1 states 1' ]
+    [ "$(printf 'ntb 1\n' | crates/ntbsim/out/ntbsim explore 2>/dev/null | head -n 1)" = 'outcomes 1 states 0' ]
 }
 
 # The head of each litmus test, its conditions, and its line in the gallery.
@@ -41,7 +41,7 @@ explored_form() {
             }
             return 0
         }
-        FNR == 1 { if ($0 !~ /^outcomes [1-9][0-9]* states [1-9][0-9]*$/) wrong("no head"); many = $2; next }
+        FNR == 1 { if ($0 !~ /^outcomes [1-9][0-9]* states [0-9]+$/) wrong("no head"); many = $2; next }
         /^outcome / { close_outcome(); if ($2 != ++outcome || NF != 2 || common) wrong("another outcome is next"); landings = 1; next }
         /^by [0-9]+ [0-9]+ land [a-z0-9]+ [AB] [0-9]+$/ && outcome && landings { next }
         /^[0-9]+ / && outcome && !common { landings = 0; answer[outcome, ++own[outcome]] = $0; next }
@@ -117,7 +117,8 @@ broken_litmus() {
     has '--explore of standard input' "$work/out" '^ok standard input: 4 outcomes, 2 conditions$'
 }
 
-# many_writes COUNT: a script of so many writes that may land in any order, of which 2^COUNT sets can have landed.
+# many_writes COUNT: a script of so many writes that may land in any order. Before the one after N others, 2^N sets of these can
+# have landed.
 many_writes() {
     printf 'ntb 1\nhost a\nhost b\npair p a b up raw size=4096\nsteps\n'
     awk -v "count=$1" 'BEGIN { for (n = 0; n < count; n++) print "poke p A 0 " n " 61" }'
@@ -127,7 +128,7 @@ many_writes() {
 # forty times the time.
 explore_statuses() {
     program=crates/ntbsim/out/ntbsim
-    printf 'outcomes 1 states 1\noutcome 1\nend\n' >"$work/wanted"
+    printf 'outcomes 1 states 0\noutcome 1\nend\n' >"$work/wanted"
     printf 'ntb 1\n' | $program explore >"$work/out"
     is 'explore of no step: status' $? 0
     same 'explore of no step' "$work/out" "$work/wanted"
@@ -142,15 +143,15 @@ explore_statuses() {
     fi
     head -c 16777217 /dev/zero | $program explore >"$work/out"
     is 'explore, status 7' $? 7
-    for count in 10 12; do
+    for count in 11 13; do
         many_writes $count >"$work/many.ntb"
         begun=$(date +%s%N | sed 's/N$/000000000/')
         $program explore <"$work/many.ntb" >"$work/out"
         took=$((($(date +%s%N | sed 's/N$/000000000/') - begun) / 1000000 + 1))
-        is "explore of $count writes: states" "$(sed -n '1s/^outcomes 1 states //p' "$work/out")" "$((2 * (1 << count) - 1))"
-        if [ "$count" -eq 10 ]; then least=$((took > 50 ? took : 50)); fi
+        is "explore of $count writes: states" "$(sed -n '1s/^outcomes 1 states //p' "$work/out")" "$(((1 << count) - 1))"
+        if [ "$count" -eq 11 ]; then least=$((took > 50 ? took : 50)); fi
     done
-    is "explore of 12 writes in $took ms, of 10 in at most $least ms: whether it grows within forty times" "$((took <= 40 * least))" 1
+    is "explore of 13 writes in $took ms, of 11 in at most $least ms: whether it grows within forty times" "$((took <= 40 * least))" 1
 }
 
 # Explorations, where the program knows them.

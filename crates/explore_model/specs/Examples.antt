@@ -53,12 +53,11 @@ pub record NoOtherLands : Type 0 where
   pub early : is_landed (answer_after plan (Begin 0 A 0 letter ∷ []) (landing_step landing)) ≡ false
   pub late : is_landed (answer_after plan (Begin 0 A 0 letter ∷ Post 0 A 0 ∷ landing_step landing ∷ []) (landing_step landing)) ≡ false
 
--- One state before the first step and one before the second; two before the third. After it one where the write had landed, and
--- two where it is in flight: it may land then.
+-- one state before the first step and one before the second; two before the third, as the write has landed or not
 abbrev pub Shown : Type 0
 Shown =
-    explored_text plan (landed ∷ in_flight ∷ []) 7
-    ≡ line_of (codes "outcomes 2 states 7") ++ line_of (codes "outcome 1") ++ line_of (codes "by 8 1 land p A 0") ++ line_of (codes "8 queue 0 -")
+    explored_text plan (landed ∷ in_flight ∷ []) 4
+    ≡ line_of (codes "outcomes 2 states 4") ++ line_of (codes "outcome 1") ++ line_of (codes "by 8 1 land p A 0") ++ line_of (codes "8 queue 0 -")
     ++ line_of (codes "outcome 2") ++ line_of (codes "8 queue 1 chunk 0 0 0") ++ line_of (codes "always 7 ok 0")
     ++ line_of (codes "always 7 posted chunk 0 0 0") ++ line_of (codes "end")
 

@@ -1,4 +1,4 @@
--- The states that the schedules of a script reach, and how many there are.
+-- The states that the schedules of a script come to before a step of it, and how many there are.
 use Rattle.std.specs.Prelude.{◌≡◌, ℕ, ◌<◌, List, ◌++◌, length}
 use Rattle.std.specs.List.{AllPairs, Any}
 use Rattle.step_kinds.specs.declared.plan.Plan.{Plan}
@@ -10,11 +10,12 @@ use Rattle.explore_model.specs.declared.outcome.Landing.{Landing}
 abbrev pub most_states : ℕ
 most_states = 1000000
 
--- a run of the first steps of a script, on the way to others
+-- a run of the first steps of a script, after which others follow
 pub record Passing (plan : Plan) (script : List Step) : Type 0 where
   pub first : List Step
   pub left : List Step
   pub whole : script ≡ first ++ left
+  pub more : length first < length script
   pub landings : List Landing
   pub made : List Step
   pub answers : List (List ℕ)

@@ -29,12 +29,13 @@ first_item (x ∷ xs) some = x
 
 module _ {M : Type 0} (has_made : M → Plan → List Step → Type 0) (plan : Plan) (done : ℕ) where
   -- the run to a state
-  abbrev passing : (answers : List (List ℕ)) (state : State M) → HasRun plan done answers state → Passing plan (script_of plan)
-  passing answers state run =
+  abbrev passing : (below : done < length (script_of plan)) (answers : List (List ℕ)) (state : State M) → HasRun plan done answers state → Passing plan (script_of plan)
+  passing below answers state run =
       record {
         first = take done (script_of plan);
         left = drop done (script_of plan);
         whole = sym (take-append-drop done (script_of plan));
+        more = (let size = length-take-le done (script_of plan) (omega arith) in omega arith);
         landings = state.landings.items;
         made = made_to plan done state;
         answers = answers;
@@ -48,21 +49,21 @@ module _ {M : Type 0} (has_made : M → Plan → List Step → Type 0) (plan : P
     made : run.made ≡ made_to plan done state
 
   -- the runs to states
-  abbrev passings : (answers : List (List ℕ)) (states : List (State M)) → All (HasRun plan done answers) states → List (Passing plan (script_of plan))
-  passings answers [] all = []
-  passings answers (state ∷ states) all = passing answers state (All-head (HasRun plan done answers) state states all) ∷ passings answers states (All-tail (HasRun plan done answers) state states all)
+  abbrev passings : (below : done < length (script_of plan)) (answers : List (List ℕ)) (states : List (State M)) → All (HasRun plan done answers) states → List (Passing plan (script_of plan))
+  passings below answers [] all = []
+  passings below answers (state ∷ states) all = passing below answers state (All-head (HasRun plan done answers) state states all) ∷ passings below answers states (All-tail (HasRun plan done answers) state states all)
 
   -- there are as many
-  as_many : (answers : List (List ℕ)) (states : List (State M)) (all : All (HasRun plan done answers) states) → length (passings answers states all) ≡ length states
-  as_many answers [] all = refl
-  as_many answers (state ∷ states) all = ap suc (as_many answers states (All-tail (HasRun plan done answers) state states all))
+  as_many : (below : done < length (script_of plan)) (answers : List (List ℕ)) (states : List (State M)) (all : All (HasRun plan done answers) states) → length (passings below answers states all) ≡ length states
+  as_many below answers [] all = refl
+  as_many below answers (state ∷ states) all = ap suc (as_many below answers states (All-tail (HasRun plan done answers) state states all))
 
   -- each is the run to its state
-  to_at : (answers : List (List ℕ)) (states : List (State M)) (all : All (HasRun plan done answers) states) (k : ℕ) (run : Passing plan (script_of plan)) (d : State M) → k < length states →
-      IsTo answers (get_or states k d) (get_or (passings answers states all) k run)
-  to_at answers [] all k run d below = absurd (omega arith)
-  to_at answers (state ∷ states) all zero run d below = record { first = refl; answered = refl; made = refl }
-  to_at answers (state ∷ states) all (suc k) run d below = to_at answers states (All-tail (HasRun plan done answers) state states all) k run d (omega arith)
+  to_at : (more : done < length (script_of plan)) (answers : List (List ℕ)) (states : List (State M)) (all : All (HasRun plan done answers) states) (k : ℕ) (run : Passing plan (script_of plan)) (d : State M) → k < length states →
+      IsTo answers (get_or states k d) (get_or (passings more answers states all) k run)
+  to_at more answers [] all k run d below = absurd (omega arith)
+  to_at more answers (state ∷ states) all zero run d below = record { first = refl; answered = refl; made = refl }
+  to_at more answers (state ∷ states) all (suc k) run d below = to_at more answers states (All-tail (HasRun plan done answers) state states all) k run d (omega arith)
 
   -- the counted runs, where the first groups of a layer are among them
   record IsCounting (groups : List (Group M)) (n count : ℕ) : Type 0 where
@@ -97,14 +98,14 @@ module _ {M : Type 0} (has_made : M → Plan → List Step → Type 0) (plan_hel
       cc
 
   -- one group more is counted
-  counting_more : (groups : List (Group M)) (n count : ℕ) (d : Group M) → done ≤ length (script_of plan) → n < length groups → IsLayer has_made plan_held key_of plan done groups →
+  counting_more : (groups : List (Group M)) (n count : ℕ) (d : Group M) → done < length (script_of plan) → n < length groups → IsLayer has_made plan_held key_of plan done groups →
       IsCounting has_made plan done groups n count → IsCounting has_made plan done groups (n + 1) (count + length (get_or groups n d).states)
   counting_more groups n count d within below is before =
       let group : Group M = get_or groups n d in
       let are = is.groups n d below in
-      let more = passings has_made plan done group.answers group.states are.runs in
-      let many = as_many has_made plan done group.answers group.states are.runs in
-      let to = to_at has_made plan done group.answers group.states are.runs in
+      let more = passings has_made plan done within group.answers group.states are.runs in
+      let many = as_many has_made plan done within group.answers group.states are.runs in
+      let to = to_at has_made plan done within group.answers group.states are.runs in
       record {
         seen = before.seen ++ more;
         counted = length-append before.seen more ∙ ap (λ (n : ℕ). n + length more) before.counted ∙ ap (λ (n : ℕ). count + n) many;
@@ -120,7 +121,7 @@ module _ {M : Type 0} (has_made : M → Plan → List Step → Type 0) (plan_hel
             (λ i j run i_below j_below one.
             let first = are.begins.first in
             let other_to = to j run first (omega (arith, many)) in
-            let size = length-take-le done (script_of plan) within in
+            let size = length-take-le done (script_of plan) (omega (arith, within)) in
             let long = ap length one.first ∙ ap length other_to.first in
             elim (before.within i run i_below) [
               | inl shorter ↦ absurd (omega arith)
@@ -135,7 +136,7 @@ module _ {M : Type 0} (has_made : M → Plan → List Step → Type 0) (plan_hel
             (λ i run i_below. elim (before.within i run i_below) [ inl shorter ↦ inl shorter | inr same ↦ inr (same.0, (same.1.0, same.1.1, omega (arith, same.1.2), same.1.3, same.1.4)) ])
             (λ i run i_below.
             let run_to = to i run are.begins.first (omega (arith, many)) in
-            inr (ap length run_to.first ∙ length-take-le done (script_of plan) within, (n, group, omega arith, get_or_default groups n group d below, run_to.answered)));
+            inr (ap length run_to.first ∙ length-take-le done (script_of plan) (omega (arith, within)), (n, group, omega arith, get_or_default groups n group d below, run_to.answered)));
         all = λ run shorter. any_longer (λ (state : Passing plan (script_of plan)). LeadToOne has_made plan (script_of plan) state run) before.seen more (before.all run shorter);
         here = λ k e lt run first answered covers.
             elim (cases_lt k n) [
@@ -161,7 +162,7 @@ module _ {M : Type 0} (has_made : M → Plan → List Step → Type 0) (plan_hel
       }
 
   -- the first groups of a layer
-  counting_first : (groups : List (Group M)) (n count : ℕ) → done ≤ length (script_of plan) → n ≤ length groups → IsLayer has_made plan_held key_of plan done groups →
+  counting_first : (groups : List (Group M)) (n count : ℕ) → done < length (script_of plan) → n ≤ length groups → IsLayer has_made plan_held key_of plan done groups →
       IsCount has_made plan_held key_of plan done count → IsCounting has_made plan done groups n (count + states_in (take n groups))
   counting_first groups zero count within below is before = subst (λ (count : ℕ). IsCounting has_made plan done groups 0 count) (omega arith) (counting_none groups count before)
   counting_first groups (suc n) count within below is before =
@@ -172,7 +173,7 @@ module _ {M : Type 0} (has_made : M → Plan → List Step → Type 0) (plan_hel
       (subst (λ (count : ℕ). IsCounting has_made plan done groups (n + 1) count) (omega (arith, more)) here)
 
   -- a full layer is counted
-  pub count_of_layer : (groups : List (Group M)) (count : ℕ) → done ≤ length (script_of plan) → IsFull has_made plan_held key_of plan done groups →
+  pub count_of_layer : (groups : List (Group M)) (count : ℕ) → done < length (script_of plan) → IsFull has_made plan_held key_of plan done groups →
       IsCount has_made plan_held key_of plan done count → IsCount has_made plan_held key_of plan (done + 1) (count + states_in groups)
   count_of_layer groups count within full before =
       let whole = counting_first groups (length groups) count within (omega arith) full.ordered before in
@@ -193,7 +194,7 @@ module _ {M : Type 0} (has_made : M → Plan → List Step → Type 0) (plan_hel
       }
 
   -- more than a limit
-  pub more_than : (groups : List (Group M)) (n count limit : ℕ) → done ≤ length (script_of plan) → n < length groups → IsLayer has_made plan_held key_of plan done groups →
+  pub more_than : (groups : List (Group M)) (n count limit : ℕ) → done < length (script_of plan) → n < length groups → IsLayer has_made plan_held key_of plan done groups →
       IsCount has_made plan_held key_of plan done count → limit < count + states_in (take (n + 1) groups) → HasMoreThan has_made plan (script_of plan) limit
   more_than groups n count limit within below is before past =
       let some = counting_first groups (n + 1) count within (omega arith) is before in
@@ -207,11 +208,11 @@ module _ {M : Type 0} (has_made : M → Plan → List Step → Type 0) (plan_hel
       record { seen = []; counted = refl; apart = λ i j d lt below. absurd (omega arith); within = λ k d below. absurd (omega arith); all = λ run shorter. absurd (omega arith) }
 
   -- the whole script
-  pub census_of_count : (count : ℕ) → IsCount has_made plan_held key_of plan (length (script_of plan) + 1) count → IsCensus has_made plan (script_of plan) count
+  pub census_of_count : (count : ℕ) → IsCount has_made plan_held key_of plan (length (script_of plan)) count → IsCensus has_made plan (script_of plan) count
   census_of_count count is =
       record {
         states = is.seen;
         counted = is.counted;
         apart = is.apart;
-        all = λ run. is.all run (let size = ap length run.whole ∙ length-append run.first run.left in omega arith);
+        all = λ run. is.all run run.more;
       }

@@ -172,9 +172,15 @@ module _ {M : Type 0} (has_made : M → Plan → List Step → Type 0) (plan_hel
             base refl;
       })
 
-  -- the last layer has all outcomes
-  pub explored_of_full : (layer : List (Group M)) (found : List Outcome) → IsFull has_made plan_held key_of plan (length plan.steps) layer → found ≡ map outcome_of layer → IsExplored plan (script_of plan) found
-  explored_of_full layer found full is =
+  -- the answers of a run are those of one that doesn't end with further landings
+  base_of_run : {script : List Step} {landings : List Landing} {made : List Step} {answers : List (List ℕ)} → Runs plan script landings made answers → (made : List Step) × IsBase plan script made answers
+  base_of_run begun = ([], base_begun)
+  base_of_run (goes_on {made = made} step run) = (made ++ step ∷ [], base_goes_on step run)
+  base_of_run (lands landing run at may landed) = base_of_run run
+
+  -- The last layer has all outcomes, before any landing after the last step.
+  pub explored_of_based : (layer : List (Group M)) (found : List Outcome) → IsBased has_made plan_held key_of plan (length plan.steps) layer → found ≡ map outcome_of layer → IsExplored plan (script_of plan) found
+  explored_of_based layer found last is =
       let steps = length-map plan.steps (λ (line : Line). line.step) in
       let whole : take (length plan.steps) (script_of plan) ≡ script_of plan = take_all (length plan.steps) (script_of plan) (omega arith) in
       subst (λ (found : List Outcome). IsExplored plan (script_of plan) found) (sym is)
@@ -182,7 +188,7 @@ module _ {M : Type 0} (has_made : M → Plan → List Step → Type 0) (plan_hel
         sound =
             All-map (IsOutcome plan (script_of plan)) outcome_of layer
             (λ k d below.
-            let are = full.ordered.groups k d below in
+            let are = last.ordered.groups k d below in
             let group : Group M = get_or layer k d in
             let first = are.begins in
             let size = ap length first.is in
@@ -195,14 +201,15 @@ module _ {M : Type 0} (has_made : M → Plan → List Step → Type 0) (plan_hel
               before = subst (λ (n : ℕ). All (λ landing. landing.at < n) first.first.landings.items) (sym steps) first.before;
             }));
         complete = λ landings made answers run.
-            let some = full.full landings made answers (subst (λ (script : List Step). Runs plan script landings made answers) (sym whole) run) in
+            let base = base_of_run run in
+            let some = last.based base.0 answers (subst (λ (script : List Step). IsBase plan script base.0 answers) (sym whole) base.1) in
             let size = length-map layer (outcome_of {M = M}) in
             (some.0, outcome_of some.1, omega (arith, some.2), get_or-map outcome_of layer some.0 some.1 (outcome_of some.1) some.2 ∙ ap outcome_of some.3, some.4.0);
         rising = λ i j d lt below.
             let size = length-map layer (outcome_of {M = M}) in
             let e : Group M = first_of layer (omega arith) in
             subst (λ (one : Outcome). answers_cmp one.answers (get_or (map outcome_of layer) j d).answers ≡ Less) (sym (get_or-map outcome_of layer i e d (omega arith)))
-            (subst (λ (other : Outcome). answers_cmp (get_or layer i e).answers other.answers ≡ Less) (sym (get_or-map outcome_of layer j e d (omega arith))) (full.ordered.ordered i j e lt (omega arith)));
+            (subst (λ (other : Outcome). answers_cmp (get_or layer i e).answers other.answers ≡ Less) (sym (get_or-map outcome_of layer j e d (omega arith))) (last.ordered.ordered i j e lt (omega arith)));
       })
     where
       first_of : (xs : List (Group M)) → 0 < length xs → Group M

@@ -21,14 +21,14 @@ pub const MOST_STATES: usize = 1_000_000;
 /// What a search comes to.
 #[derive(Drop)]
 pub enum Explored {
-    /// All outcomes of the script's schedules, and how many states the schedules reach.
+    /// All outcomes of the script's schedules, and how many states the schedules come to before a step.
     Done {
         /// The outcomes, in the order of their answers.
         outcomes: Vec<Outcome>,
         /// How many states there are, at most a million.
         states: usize,
     },
-    /// The script's schedules reach more than a million states.
+    /// The script's schedules come to more than a million states before a step.
     TooMany,
 }
 
@@ -51,30 +51,9 @@ pub fn explore<M: Machine>(alloc: Global, plan: &Plan) -> Result<Explored, Alloc
         layer = step_layer(alloc, plan, done, layer)?;
         states = count;
     }
-    finished(alloc, plan, layer, states)
-}
-
-// What the last layer comes to, where so many states were counted before.
-fn finished<M: Machine>(
-    alloc: Global,
-    plan: &Plan,
-    layer: Vec<Group<M>>,
-    states: usize,
-) -> Result<Explored, AllocError>
-    requires plan { IsExplorable plan.now }
-    requires layer { IsBased M.has_made M.plan_held M.key_of plan.now (length plan.now.steps) layer.items }
-    requires states { IsCount M.has_made M.plan_held M.key_of plan.now (length plan.now.steps) states }
-    requires few { states ≤ MOST_STATES }
-    ensures { IfOk result (IsExploration M.has_made plan.now) }
-{
-    let mut layer = layer;
-    let done = plan.steps.len();
-    let Some(count) = close_layer(alloc, plan, done, &mut layer, states, MOST_STATES)? else {
-        return Ok(Explored::TooMany);
-    };
     Ok(Explored::Done {
         outcomes: outcomes_of(alloc, layer)?,
-        states: count,
+        states,
     })
 }
 

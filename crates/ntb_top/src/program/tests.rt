@@ -67,9 +67,8 @@ post p A 0
 showq p A 0
 ";
 
-// The write lands before the last step, or not. States: one before each of the first two steps, two before the third, and
-// after it one where the write had landed, and two where it may land still.
-const ONE_WRITE_TEXT: &str = "outcomes 2 states 7
+// The write lands before the last step, or not. States: one before each of the first two steps, and two before the third.
+const ONE_WRITE_TEXT: &str = "outcomes 2 states 4
 outcome 1
 by 8 1 land p A 0
 8 queue 0 -

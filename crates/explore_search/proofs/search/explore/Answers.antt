@@ -1,8 +1,9 @@
-use Rattle.std.proofs.Common.{◌≡◌, ℕ, arith, length, subst}
+use Rattle.std.proofs.Common.{◌≡◌, arith, length}
 use Rattle.explore_model.specs.States.{most_states}
 use Rattle.explore_search.specs.Whole.{IsBased, IsCount}
 use Rattle.explore_search.proofs.Census.{count_of_none}
-use Rattle.explore_search.proofs.LayersInTurn.{count_of_some, full_of_some, more_of_none, next_of_full}
+use Rattle.explore_search.proofs.LayersInTurn.{count_of_some, full_of_some, last_counted, last_explored, more_of_none, next_of_full}
+use Rattle.explore_search.proofs.WholeLayers.{groups_have_states}
 use Rattle.explore_search.proofs.search.explore.Goals as goal
 
 pub loop-done-init : goal.loop-done-init
@@ -37,12 +38,14 @@ returns-in_default g c =
     more_of_none g.M.Machine.has_made g.M.Machine.plan_held g.M.Machine.key_of c.args.plan.now c.loop-done.done c.loop-done.states most_states c.loop-done.layer.items c.close_layer.new.layer.items c.in_ok-count.field-0
     (omega (arith, c.len-done-end.ensures)) c.in_default.not-Some c.in_ok-count.ensures c.loop-done.invariant.layer c.loop-done.invariant.count
 
-pub finished-requires-clause-layer : goal.finished-requires-clause-layer
-finished-requires-clause-layer g c =
-    let all : c.loop-done.done ≡ length c.args.plan.now.steps = omega (arith, c.len-done-end.ensures) in
-    subst (λ (done : ℕ). IsBased g.M.Machine.has_made g.M.Machine.plan_held g.M.Machine.key_of c.args.plan.now done c.loop-done.layer.items) all c.loop-done.invariant.layer
+pub outcomes_of-requires : goal.outcomes_of-requires
+outcomes_of-requires g c =
+    groups_have_states g.M.Machine.has_made g.M.Machine.plan_held g.M.Machine.key_of c.args.plan.now c.loop-done.done c.loop-done.layer.items c.loop-done.invariant.layer.ordered
 
-pub finished-requires-clause-states : goal.finished-requires-clause-states
-finished-requires-clause-states g c =
-    let all : c.loop-done.done ≡ length c.args.plan.now.steps = omega (arith, c.len-done-end.ensures) in
-    subst (λ (done : ℕ). IsCount g.M.Machine.has_made g.M.Machine.plan_held g.M.Machine.key_of c.args.plan.now done c.loop-done.states) all c.loop-done.invariant.count
+pub returns : goal.returns
+returns g c =
+    let all : c.loop-done.done ≡ length c.args.plan.now.steps = omega (arith, c.len-done-end.ensures) in (
+      last_explored g.M.Machine.has_made g.M.Machine.plan_held g.M.Machine.key_of c.args.plan.now c.loop-done.done c.loop-done.layer.items c.in_ok-outcomes_of.field-0.items all c.loop-done.invariant.layer c.in_ok-outcomes_of.ensures,
+      last_counted g.M.Machine.has_made g.M.Machine.plan_held g.M.Machine.key_of c.args.plan.now c.loop-done.done c.loop-done.states all c.loop-done.invariant.count,
+      c.loop-done.invariant.few,
+    )
