@@ -1,8 +1,10 @@
 -- Landings that are tried: all at which something may land.
 use Rattle.std.proofs.Common.{◌≡◌, ℕ, ◌+◌, ◌^◌, ◌<◌, ◌≤◌, ◌⊎◌, inl, inr, List, [], ◌∷◌, ◌++◌, arith, length, min, refl, subst, sym}
 use Rattle.std.specs.List.{All, Contains}
+use Rattle.std.specs.List.Sorted.{IsPermutation}
 use Rattle.std.proofs.lemmas.Bool.{cases_lt}
 use Rattle.std.proofs.lemmas.List.Elements.{All-nil, All-push, Contains-append_left, Contains-push}
+use Rattle.std.proofs.lemmas.List.Sorted.{All-permutation, Contains-permutation}
 use Rattle.step_kinds.specs.declared.names.Side.{Side}
 use Rattle.step_kinds.specs.declared.names.Side.TheVariants.{A, B}
 use Rattle.step_kinds.specs.declared.plan.Plan.{Plan}
@@ -102,6 +104,16 @@ module _ {M : Type 0} (has_made : M → Plan → List Step → Type 0) (plan : P
       AreAdded has_made plan done machine (λ landing. Unit {0}) old now
   all_pairs pairs old now all before =
       record { each = before.each; kept = before.kept; all = λ landing next _. before.all landing next (let pair = next.may.pair in omega arith) }
+
+  -- in another order they are added all the same
+  pub added_in_order : (kind : Landing → Type 0) (landings others : List Landing) → IsPermutation landings others → AreAdded has_made plan done machine kind [] landings →
+      AreAdded has_made plan done machine kind [] others
+  added_in_order kind landings others same are =
+      record {
+        each = λ all. All-permutation (IsNext plan done) landings others same (are.each all);
+        kept = λ landing has. Contains-permutation landings others landing same (are.kept landing has);
+        all = λ landing next of. elim (are.all landing next of) [ inl has ↦ inl (Contains-permutation landings others landing same has) | inr idle ↦ inr idle ];
+      }
 
   -- the landings after a state at which the machine is
   pub all_tried : (same : HaveSameSteps has_made) (state : State M) (landings : List Landing) → has_made machine plan (made_to plan done state) →

@@ -125,7 +125,8 @@ fn machine_of<M: Machine>(
     }
 }
 
-// The landings of all pairs and sides at places where a machine has writes in flight.
+// The landings of all pairs and sides at places where a machine has writes in flight, the last place first. Each landing
+// that lands takes a machine, and one at the front of a side always lands: so none is left over.
 fn landings_at<M: Machine>(
     alloc: Global,
     plan: &Plan,
@@ -141,6 +142,7 @@ fn landings_at<M: Machine>(
         push_side(&mut landings, plan, done, machine, pair, Side::A)?;
         push_side(&mut landings, plan, done, machine, pair, Side::B)?;
     }
+    landings.reverse();
     Ok(landings)
 }
 
