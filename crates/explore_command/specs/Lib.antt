@@ -1,2 +1,3 @@
 pub mod Answers
 pub mod Landings
+pub mod Laws

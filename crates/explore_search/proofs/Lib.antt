@@ -3,6 +3,8 @@ pub mod Candidates
 pub mod ChainedStates
 pub mod Census
 pub mod ClosedLayers
+pub mod CountedStates
+pub mod Facade
 pub mod LandedAnswers
 pub mod LayersInTurn
 pub mod Lists
@@ -10,6 +12,7 @@ pub mod Makeable
 pub mod NextLayer
 pub mod NextStates
 pub mod OrderOfAnswers
+pub mod Pigeonhole
 pub mod SameStates
 pub mod StatesAdded
 pub mod StatesInBranches

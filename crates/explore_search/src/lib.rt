@@ -6,6 +6,7 @@
 #![tactic(auto)]
 
 mod groups;
+pub mod laws;
 mod layers;
 mod live;
 mod machine;
