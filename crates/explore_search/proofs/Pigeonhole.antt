@@ -1,5 +1,5 @@
--- The pigeonhole principle for lists: a list is no longer than another, where some item of the other has each of its items and none
--- has two.
+-- The pigeonhole principle for lists: a list is no longer than another, where some item of the other has each of its items
+-- and none has two.
 use Rattle.std.proofs.Common.{◌≡◌, ◌∙◌, ℕ, ◌<◌, ◌≤◌, ◌⊎◌, inl, inr, List, [], ◌∷◌, ap, arith, get_or, length, subst, sym}
 use Rattle.std.specs.List.{All, AllPairs, Any}
 use Rattle.std.proofs.lemmas.Bool.{cases_lt}
