@@ -4,18 +4,18 @@ ghost use Rattle.std.specs.Prelude.{◌≡◌, ◌++◌, ◌∷◌, ◌+◌, ◌
 ghost use Rattle.step_kinds.specs.Limits.{most_script_bytes, most_steps};
 ghost use Rattle.plan_model.specs.TrafficPlans.{IsWhole, frames_in as frames_of_item};
 ghost use Rattle.script_plan.specs.Scripts.{plan_in};
-ghost use Rattle.script_plan.specs.StepLists.{all_lines};
+ghost use Rattle.step_list.specs.StepLists.{all_lines};
 ghost use Rattle.check_command.specs.Answers.{IsCheckOf, count_text, counts_text, place_text};
 
 use arrayvec::ArrayString;
 use command_reply::Reply;
 use itoa::Buffer;
 use report_text::append::{push_numbers, push_word};
-use script_plan::Stretch;
 use script_text::{ParseError, Reader, read_declared};
 use script_words::LineFault;
 use std::alloc::{AllocError, Global};
 use step_kinds::Traffic;
+use step_list::Stretch;
 
 /// The most bytes of what is said of a line's fault: its word's number, its cause, and the two numbers of a range.
 const MOST_PLACE_BYTES: usize = 64;

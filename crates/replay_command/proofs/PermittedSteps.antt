@@ -8,7 +8,7 @@ use Rattle.step_kinds.specs.declared.plan.Line.{Line}
 use Rattle.step_kinds.specs.declared.plan.Plan.{Plan}
 use Rattle.step_kinds.specs.declared.steps.Step.{Step}
 use Rattle.step_kinds.specs.declared.steps.Step.TheVariants.{Ack, Clear, Copy, Look}
-use Rattle.script_words.specs.Compact.{lines_with}
+use Rattle.step_list.specs.Compact.{lines_with}
 use Rattle.plan_model.specs.Switches.{IsMakeable}
 use Rattle.plan_model.specs.Macros.{receive}
 use Rattle.plan_model.proofs.PermittedSteps.{makeable_by_other}

@@ -7,9 +7,9 @@ use Rattle.step_kinds.specs.declared.plan.Plan.{Plan}
 use Rattle.step_kinds.specs.declared.steps.Answer.{Answer}
 use Rattle.step_kinds.specs.declared.steps.Step.{Step}
 use Rattle.ledger_laws.specs.Laws.{is_made}
-use Rattle.script_words.specs.Compact.{lines_with, step_again}
-use Rattle.script_words.specs.declared.macros.Repeated.{Repeated}
-use Rattle.script_words.specs.declared.macros.Repeated.TheVariants.{Post, Land, Look, Copy, Clear, Ack, Offer}
+use Rattle.step_list.specs.Compact.{lines_with, step_again}
+use Rattle.step_list.specs.declared.macros.Repeated.{Repeated}
+use Rattle.step_list.specs.declared.macros.Repeated.TheVariants.{Post, Land, Look, Copy, Clear, Ack, Offer}
 use Rattle.cluster_core.specs.Cluster.{ClusterState, declared_part, plan_held}
 use Rattle.cluster_core.specs.LogClauses.{HasMade, IsAnswered}
 use Rattle.cluster_core.specs.Refusals.{RefusedAgain, is_plain}

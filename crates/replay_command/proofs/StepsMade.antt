@@ -15,8 +15,8 @@ use Rattle.switch_log.specs.Network.{Network, items_from, new_network, next_netw
 use Rattle.switch_log.specs.Origins.{bytes_kept}
 use Rattle.cluster_core.specs.Cluster.{ClusterState, plan_held}
 use Rattle.cluster_core.specs.LogClauses.{HasMade, IsAnswered, log_after}
-use Rattle.script_plan.specs.StepLists.{all_lines, lines_in}
-use Rattle.script_plan.specs.declared.step_list.Stretch.{Stretch}
+use Rattle.step_list.specs.StepLists.{all_lines, lines_in}
+use Rattle.step_list.specs.declared.step_list.Stretch.{Stretch}
 use Rattle.report_text.specs.Report.{AnsweredStep}
 use Rattle.replay_command.specs.ReplaySteps.{HasKept, HasReplayed, steps_in}
 use Rattle.replay_command.specs.Replays.{answered_steps}

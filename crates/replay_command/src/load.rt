@@ -7,10 +7,10 @@ ghost use Rattle.replay_command.specs.Replays.{is_blocked as is_blocked_answer, 
 
 use crate::steps::{KeepsAnswers, make_steps};
 use cluster_core::Cluster;
-use script_plan::StepList;
 use std::alloc::{AllocError, Global};
 use std::marker::Model;
 use step_kinds::{Answer, LaneName, LineAnswer, Side, Step};
+use step_list::StepList;
 use traffic_plan::{LoadFrames, load_without_steps};
 
 /// The one lane of a load.

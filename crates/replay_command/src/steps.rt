@@ -6,18 +6,17 @@ ghost use Rattle.step_kinds.specs.declared.plan.Line.{Line};
 ghost use Rattle.step_kinds.specs.declared.plan.Plan.{Plan};
 ghost use Rattle.plan_model.specs.Switches.{IsMakeable};
 ghost use Rattle.plan_model.specs.Macros.{receive};
-ghost use Rattle.script_words.specs.Compact.{lines_with, step_again};
-ghost use Rattle.script_plan.specs.StepLists.{lines_in};
+ghost use Rattle.step_list.specs.Compact.{lines_with, step_again};
+ghost use Rattle.step_list.specs.StepLists.{lines_in};
 ghost use Rattle.cluster_core.specs.Cluster.{plan_held};
 ghost use Rattle.ledger_laws.specs.Laws.{is_made as is_made_by};
 ghost use Rattle.replay_command.specs.ReplaySteps.{HasKept, HasReplayed};
 ghost use Rattle.report_text.specs.Report.{AnsweredStep};
 
 use cluster_core::{Cluster, is_made, refused_again};
-use script_plan::{StepList, Stretch};
-use script_words::Repeated;
 use std::alloc::AllocError;
 use step_kinds::{LineAnswer, Side, Step};
+use step_list::{Repeated, StepList, Stretch};
 
 /// What is kept of the answers to steps.
 pub trait KeepsAnswers {

@@ -2,5 +2,4 @@ pub mod Classes
 pub mod Floods
 pub mod NameNumbers
 pub mod Posts
-pub mod Repeats
 pub mod Soundness

@@ -16,7 +16,7 @@ use Rattle.plan_model.specs.DeclaredPlans.{IsPair, IsDevice, IsQueueOf, AreClass
 use Rattle.plan_model.specs.Plans.{side_plan, pair_plan, no_pair}
 use Rattle.plan_model.specs.Switches.{IsSwitch}
 use Rattle.script_words.specs.Before.{Before, with_class}
-use Rattle.script_words.specs.Compact.{lines_with}
+use Rattle.step_list.specs.Compact.{lines_with}
 use Rattle.script_words.specs.declared.parts.PairHosts.{PairHosts}
 use Rattle.script_words.specs.declared.parts.QueueName.{QueueName}
 use Rattle.script_plan.specs.Sound.{IsSound, IsKept}

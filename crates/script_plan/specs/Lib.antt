@@ -3,4 +3,3 @@ pub mod LinesSoFar
 pub mod NamesMatch
 pub mod Scripts
 pub mod Sound
-pub mod StepLists

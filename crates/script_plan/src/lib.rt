@@ -9,7 +9,6 @@ mod pairs;
 mod reader;
 pub mod rings;
 mod script;
-mod step_list;
 mod switches;
 mod traffic;
 
@@ -19,6 +18,5 @@ pub use names::Names;
 pub use pairs::Pairs;
 pub use reader::Reader;
 pub use script::Script;
-pub use step_list::{StepList, Stretch};
 pub use switches::{Switches, is_among};
 pub use traffic::TrafficList;

@@ -8,14 +8,14 @@ use crate::devices::Devices;
 use crate::names::Names;
 use crate::pairs::Pairs;
 use crate::script::Script;
-use crate::step_list::StepList;
 use crate::switches::Switches;
 use crate::traffic::TrafficList;
 use script_words::words::is_same_side;
-use script_words::{Given, Macro, PairHosts, Part, QueueName};
+use script_words::{Given, PairHosts, Part, QueueName};
 use std::alloc::{AllocError, Global};
 use std::marker::Model;
 use step_kinds::{DevPlan, Items, PairPlan, Plan, Side, Step, SwitchPlan};
+use step_list::{Macro, StepList};
 
 /// The part that the next line stands in, and the plan that the lines so far declare.
 #[derive(Drop)]
@@ -39,7 +39,8 @@ impl Reader {
     ghost use Rattle.plan_model.specs.Plans.{pair_plan, dev_plan, switch_plan};
     ghost use Rattle.plan_model.specs.Switches.{IsSwitch};
     ghost use Rattle.script_words.specs.Ports.{host_of, is_port};
-    ghost use Rattle.script_words.specs.Compact.{given_of, steps_of};
+    ghost use Rattle.script_words.specs.Compact.{given_of};
+    ghost use Rattle.step_list.specs.Compact.{steps_of};
     ghost use Rattle.script_plan.specs.Sound.{Suits};
     ghost use Rattle.script_plan.specs.Scripts.{plan_in};
 

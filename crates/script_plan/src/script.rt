@@ -3,9 +3,9 @@
 ghost use Rattle.std.specs.Prelude.{◌≡◌, IfOk};
 ghost use Rattle.script_plan.specs.Scripts.{plan_in};
 
-use crate::step_list::StepList;
 use std::alloc::{AllocError, Global};
 use step_kinds::Plan;
+use step_list::StepList;
 
 /// What a script declares, with its steps as its lines have them.
 #[derive(Drop)]

@@ -5,7 +5,7 @@ ghost use Rattle.std.specs.Prelude.{◌≡◌, ◌<◌, ◌≤◌, ◌+◌, ◌�
 ghost use Rattle.plan_model.specs.DeclaredPlans.{IsPair};
 ghost use Rattle.plan_model.specs.Ethernet.{ethernet_header};
 ghost use Rattle.plan_model.specs.Plans.{side_plan, pair_plan};
-ghost use Rattle.script_words.specs.Compact.{steps_of};
+ghost use Rattle.step_list.specs.Compact.{steps_of};
 ghost use Rattle.script_words.specs.StepLines as rules;
 ghost use Rattle.script_words.specs.StepWords.{pair_step_of, side_steps_of, queue_steps_of, numbered_of, frame_steps_of};
 ghost use Rattle.script_text.specs.ParseClauses.{Adds};
@@ -21,12 +21,11 @@ use script_words::step_words::{
     pair_word_of, queue_word_of, side_word_of,
 };
 use script_words::words::{read_array, read_bytes_at, read_kind, read_number, read_number_in};
-use script_words::{
-    Cause, Given, LineError, Macro, QueueName, Repeated, SideName, at, unknown_line,
-};
+use script_words::{Cause, Given, LineError, QueueName, SideName, at, unknown_line};
 use std::alloc::Global;
 use step_kinds::limits::{MOST_FRAME_BYTES, MOST_STEPS};
 use step_kinds::{Frame, PairPlan, Side, Step};
+use step_list::{Macro, Repeated};
 
 /// Adds the steps of a line, where they don't pass the script's limit.
 #[inline(always)]

@@ -13,7 +13,6 @@ macro_rules! value_of {
 mod fault;
 pub mod laws;
 mod line_gives;
-mod macros;
 pub mod options;
 mod parts;
 pub mod settings;
@@ -24,5 +23,4 @@ pub use fault::{
     Cause, LineError, LineFault, Range, ReadError, ScriptFault, at, unknown_line, within,
 };
 pub use line_gives::Given;
-pub use macros::{Macro, Repeated};
 pub use parts::{PairHosts, Part, QueueName, SideName};

@@ -2,12 +2,12 @@
 
 ghost use Rattle.std.specs.Prelude.{◌≡◌, ◌≤◌, ◌∷◌, []};
 ghost use Rattle.std.specs.Option.{option_map};
-ghost use Rattle.script_words.specs.Compact.{step_again, steps_of};
+ghost use Rattle.step_list.specs.Compact.{step_again, steps_of};
 ghost use Rattle.script_words.specs.StepLines.{pair_step, side_steps, queue_steps, numbered_steps, frame_steps};
 ghost use Rattle.script_words.specs.StepWords.{pair_step_of, side_steps_of, side_steps_with, queue_steps_of, numbered_of, frame_steps_of};
 
-use crate::macros::{Macro, Repeated};
 use step_kinds::{Side, Step};
+use step_list::{Macro, Repeated};
 
 /// The first word of a line that has a pair.
 #[derive(Clone, Copy, Debug, PartialEq, Eq)]

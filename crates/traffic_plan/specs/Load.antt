@@ -12,7 +12,7 @@ use Rattle.lane_model.specs.Lane.{chunks_in}
 use Rattle.plan_model.specs.Macros.{send, land_all, receive}
 use Rattle.script_words.specs.declared.settings.SideKey.TheVariants.{Size}
 use Rattle.script_words.specs.declared.settings.Setting.TheVariants.{Up, Mtu, OfSide}
-use Rattle.script_words.specs.Compact.{lines_with}
+use Rattle.step_list.specs.Compact.{lines_with}
 use Rattle.script_words.specs.Settings.{pair_with}
 
 -- the word that SplitMix64 gives at a state, and the state after it

@@ -8,12 +8,12 @@ use crate::steps::{land, land_all, push_landings, receive, send};
 use rand_xoshiro::SplitMix64;
 use rand_xoshiro::rand_core::SeedableRng;
 use rand_xoshiro::rand_core::utils::NextWord;
-use script_plan::StepList;
 use script_words::options::pair_with;
 use script_words::settings::{Setting, SideKey};
 use std::alloc::{AllocError, Global};
 use std::marker::Model;
 use step_kinds::{Frame, Items, Line, Name, PairPlan, Plan, Side};
+use step_list::StepList;
 
 /// The two words of the next frame.
 fn frame_words(words: &mut SplitMix64) -> (u64, u64)

@@ -2,15 +2,14 @@
 
 ghost use Rattle.std.specs.Prelude.{◌≡◌, ◌∷◌, ◌++◌, [], OnOk};
 ghost use Rattle.plan_model.specs.Macros.{send, land_all, receive};
-ghost use Rattle.script_words.specs.Compact.{steps_of, lines_with};
+ghost use Rattle.step_list.specs.Compact.{steps_of, lines_with};
 ghost use Rattle.step_kinds.specs.declared.names.Side.TheVariants.{A, B};
 ghost use Rattle.step_kinds.specs.declared.steps.Step.TheVariants.{Land};
 ghost use Rattle.traffic_plan.specs.Load.{load_pair, landings_of};
 
-use script_plan::StepList;
-use script_words::{Macro, Repeated};
 use std::alloc::AllocError;
 use step_kinds::{Frame, Side, Step};
+use step_list::{Macro, Repeated, StepList};
 
 /// Side A begins a frame and posts all its writes.
 pub fn send(frame: Frame) -> Macro

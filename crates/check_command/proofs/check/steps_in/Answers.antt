@@ -1,6 +1,6 @@
 use Rattle.std.proofs.Common.{arith}
 use Rattle.std.proofs.lemmas.List.Folds.{length-flat_map-take}
-use Rattle.script_plan.specs.StepLists.{lines_in}
+use Rattle.step_list.specs.StepLists.{lines_in}
 use Rattle.check_command.proofs.check.steps_in.Goals as goal
 use Rattle.check_command.proofs.check.steps_in.Goals.{in-One, in-Again, in-Received}
 

@@ -1,5 +1,5 @@
 use Rattle.std.proofs.Common.{◌≡◌, length, take}
-use Rattle.script_plan.specs.StepLists.{all_lines}
+use Rattle.step_list.specs.StepLists.{all_lines}
 use Rattle.check_command.proofs.check.steps_in.Given as goal
 
 abbrev pub invariant-loop-stretch : goal.invariant-loop-stretch

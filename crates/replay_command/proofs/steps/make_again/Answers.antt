@@ -4,8 +4,8 @@ use Rattle.step_kinds.specs.declared.plan.Line.{Line}
 use Rattle.step_kinds.specs.declared.plan.Plan.{Plan}
 use Rattle.step_kinds.specs.declared.steps.Step.{Step}
 use Rattle.plan_model.specs.Switches.{IsMakeable}
-use Rattle.script_words.specs.Compact.{lines_with, step_again}
-use Rattle.script_plan.proofs.Repeats.{repeats_more}
+use Rattle.step_list.specs.Compact.{lines_with, step_again}
+use Rattle.step_list.proofs.Facade.{repeats_more}
 use Rattle.cluster_core.specs.Cluster.{plan_held}
 use Rattle.cluster_core.specs.Refusals.{is_plain}
 use Rattle.replay_command.specs.ReplaySteps.{HasKept, steps_in}

@@ -1,7 +1,7 @@
 use Rattle.std.proofs.Common.{◌≡◌, List, replicate}
 use Rattle.step_kinds.specs.declared.plan.Line.{Line}
 use Rattle.step_kinds.specs.declared.plan.Plan.{Plan}
-use Rattle.script_words.specs.Compact.{lines_with, step_again}
+use Rattle.step_list.specs.Compact.{lines_with, step_again}
 use Rattle.cluster_core.specs.Cluster.{plan_held}
 use Rattle.replay_command.specs.ReplaySteps.{HasKept, HasReplayed}
 use Rattle.replay_command.proofs.steps.make_again.Given as goal

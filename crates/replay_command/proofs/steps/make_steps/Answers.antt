@@ -4,7 +4,7 @@ use Rattle.std.proofs.lemmas.List.{take_all}
 use Rattle.step_kinds.specs.declared.plan.Line.{Line}
 use Rattle.step_kinds.specs.declared.plan.Plan.{Plan}
 use Rattle.plan_model.specs.Switches.{IsMakeable}
-use Rattle.script_plan.specs.StepLists.{all_lines, lines_in}
+use Rattle.step_list.specs.StepLists.{all_lines, lines_in}
 use Rattle.cluster_core.specs.Cluster.{plan_held}
 use Rattle.replay_command.specs.ReplaySteps.{HasKept}
 use Rattle.replay_command.proofs.StepsMade.{all_of_one, kept_both, stretches_more}

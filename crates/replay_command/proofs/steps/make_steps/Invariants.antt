@@ -1,7 +1,7 @@
 use Rattle.std.proofs.Common.{◌≡◌, List, take}
 use Rattle.step_kinds.specs.declared.plan.Line.{Line}
 use Rattle.step_kinds.specs.declared.plan.Plan.{Plan}
-use Rattle.script_plan.specs.StepLists.{all_lines}
+use Rattle.step_list.specs.StepLists.{all_lines}
 use Rattle.cluster_core.specs.Cluster.{plan_held}
 use Rattle.replay_command.specs.ReplaySteps.{HasKept, HasReplayed}
 use Rattle.replay_command.proofs.steps.make_steps.Given as goal

@@ -2,8 +2,8 @@ use Rattle.std.proofs.Common.{arith, subst}
 use Rattle.std.specs.List.{All}
 use Rattle.step_kinds.specs.declared.plan.Line.{Line}
 use Rattle.plan_model.specs.Switches.{IsMakeable}
-use Rattle.script_plan.specs.StepLists.{lines_in}
-use Rattle.script_plan.specs.declared.step_list.Stretch.{Stretch}
+use Rattle.step_list.specs.StepLists.{lines_in}
+use Rattle.step_list.specs.declared.step_list.Stretch.{Stretch}
 use Rattle.cluster_core.specs.Cluster.{plan_held}
 use Rattle.replay_command.proofs.steps.make_stretch.Goals as goal
 

@@ -1,7 +1,7 @@
 use Rattle.std.proofs.Common.{◌*◌, ◌/◌, ◌%◌, ◌^◌, ◌++◌, ◌∙◌, ap}
 use Rattle.step_kinds.specs.declared.names.Side.TheVariants.{A}
 use Rattle.step_kinds.specs.declared.steps.Step.TheVariants.{Land}
-use Rattle.script_words.specs.Compact.{lines_with}
+use Rattle.step_list.specs.Compact.{lines_with}
 use Rattle.traffic_plan.proofs.Frames.{appended}
 use Rattle.traffic_plan.proofs.steps.push_landings.Goals as goal
 

@@ -2,7 +2,7 @@ use Rattle.std.proofs.Common.{◌≡◌, ◌*◌, ◌/◌, ◌%◌, ◌^◌, ◌
 use Rattle.std.specs.List.{range_with_len}
 use Rattle.step_kinds.specs.declared.names.Side.TheVariants.{A}
 use Rattle.step_kinds.specs.declared.steps.Step.TheVariants.{Land}
-use Rattle.script_words.specs.Compact.{lines_with}
+use Rattle.step_list.specs.Compact.{lines_with}
 use Rattle.traffic_plan.proofs.steps.push_landings.Given as goal
 
 abbrev pub invariant-loop-i : goal.invariant-loop-i

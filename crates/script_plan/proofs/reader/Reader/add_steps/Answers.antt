@@ -1,7 +1,7 @@
 use Rattle.std.proofs.Common.{◌≡◌, ◌+◌, ◌≤◌, length, ap, arith}
 use Rattle.step_kinds.specs.Limits.{most_steps}
 use Rattle.script_words.specs.Before.{Before}
-use Rattle.script_words.specs.Compact.{steps_of}
+use Rattle.step_list.specs.Compact.{steps_of}
 use Rattle.script_plan.specs.LinesSoFar.{before_with}
 use Rattle.script_plan.proofs.Soundness.{steps_added}
 use Rattle.script_plan.proofs.reader.Reader.add_steps.Goals as goal

@@ -1,7 +1,7 @@
 -- One more of a step that is repeated.
 use Rattle.std.proofs.Common.{◌≡◌, ℕ, zero, suc, ◌+◌, [], ◌∷◌, ◌++◌, replicate, refl, ap, add-one}
 use Rattle.step_kinds.specs.declared.steps.Step.{Step}
-use Rattle.script_words.specs.Compact.{lines_with}
+use Rattle.step_list.specs.Compact.{lines_with}
 
 repeats-suc : (line k : ℕ) (step : Step) → lines_with line (replicate (suc k) step) ≡ lines_with line (replicate k step) ++ lines_with line (step ∷ [])
 repeats-suc line zero step = refl

@@ -1,10 +1,10 @@
 //! The steps that the lines so far give, in which a step that a line repeats is kept once.
 
 ghost use Rattle.std.specs.Prelude.{◌≡◌, ◌∷◌, ◌++◌, [], replicate, IfOk, OnErr, OnOk};
-ghost use Rattle.script_words.specs.Compact.{lines_with, step_again, steps_of};
-ghost use Rattle.script_plan.specs.StepLists.{all_lines, lines_in};
+ghost use Rattle.step_list.specs.Compact.{lines_with, step_again, steps_of};
+ghost use Rattle.step_list.specs.StepLists.{all_lines, lines_in};
 
-use script_words::{Macro, Repeated};
+use crate::macros::{Macro, Repeated};
 use std::alloc::{AllocError, Global};
 use std::marker::Model;
 use step_kinds::{Items, Line, Side, Step};
@@ -158,7 +158,7 @@ impl StepList {
 impl Model for StepList {
     ghost use Rattle.std.specs.Prelude.{List};
     ghost use Rattle.step_kinds.specs.declared.plan.Line.{Line};
-    ghost use Rattle.script_plan.specs.StepLists.{all_lines};
+    ghost use Rattle.step_list.specs.StepLists.{all_lines};
 
     ghost Value = { List Line };
 

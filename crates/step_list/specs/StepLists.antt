@@ -3,9 +3,9 @@ use Rattle.std.specs.Prelude.{List, [], ◌∷◌, replicate}
 use Rattle.std.specs.List.{flat_map}
 use Rattle.step_kinds.specs.declared.plan.Line.{Line}
 use Rattle.plan_model.specs.Macros.{receive}
-use Rattle.script_words.specs.Compact.{lines_with, step_again}
-use Rattle.script_plan.specs.declared.step_list.Stretch.{Stretch}
-use Rattle.script_plan.specs.declared.step_list.Stretch.TheVariants.{One, Again, Received}
+use Rattle.step_list.specs.Compact.{lines_with, step_again}
+use Rattle.step_list.specs.declared.step_list.Stretch.{Stretch}
+use Rattle.step_list.specs.declared.step_list.Stretch.TheVariants.{One, Again, Received}
 
 -- the steps of a stretch
 abbrev pub lines_in : Stretch → List Line

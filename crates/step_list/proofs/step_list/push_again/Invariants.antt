@@ -1,6 +1,6 @@
 use Rattle.std.proofs.Common.{◌≡◌, ◌++◌, ◌+◌, ◌≤◌, ◌-◌, replicate, vec_len, vec_capacity}
-use Rattle.script_words.specs.Compact.{step_again, lines_with}
-use Rattle.script_plan.proofs.step_list.push_again.Given as goal
+use Rattle.step_list.specs.Compact.{step_again, lines_with}
+use Rattle.step_list.proofs.step_list.push_again.Given as goal
 
 abbrev pub invariant-loop : goal.invariant-loop
 invariant-loop l = record {

@@ -1,0 +1,2 @@
+pub mod Facade
+pub mod Repeats
