@@ -1,6 +1,5 @@
 pub mod Classes
 pub mod Floods
 pub mod NameNumbers
-pub mod Posts
 pub mod Repeats
 pub mod Soundness
