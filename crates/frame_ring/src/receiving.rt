@@ -190,7 +190,8 @@ impl Receiver {
         let number = self.got;
         let part = self.part;
         let rest = self.len - CHUNK_SIZE * part;
-        self.gathered.read(pair, side, at, rest.min(CHUNK_SIZE) as usize);
+        self.gathered
+            .read(pair, side, at, rest.min(CHUNK_SIZE) as usize);
         if part + 1 < chunks_in(self.len) {
             self.part = part + 1;
             return LaneCopy::Part { number, part };
