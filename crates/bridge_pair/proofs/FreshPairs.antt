@@ -8,7 +8,8 @@ use Rattle.plan_model.specs.Plans.{side_plan}
 use Rattle.step_kinds.specs.declared.names.Side.{Side}
 use Rattle.step_kinds.specs.declared.names.Side.TheVariants.{A, B}
 use Rattle.step_kinds.specs.declared.plan.PairPlan.{PairPlan}
-use Rattle.bridge_pair.specs.Bridge.{Bridge, IsBook, bytes_of, pages_of, memory_size, with_memory, with_pages, with_bytes}
+use Rattle.plan_numbers.specs.Memories.{memory_size}
+use Rattle.bridge_pair.specs.Bridge.{Bridge, IsBook, bytes_of, pages_of, with_memory, with_pages, with_bytes}
 use Rattle.bridge_pair.specs.Ends.{bytes_after}
 use Rattle.bridge_pair.specs.Fresh.{fresh_book, fresh_stores, fresh_bridge, fresh_bridge_with, started_memory, whole_book, zero_memory}
 use Rattle.bridge_pair.specs.Links.{no_book}

@@ -13,7 +13,7 @@ use Rattle.posted_queue.specs.declared.LandAnswer.TheVariants.{Landed}
 use Rattle.step_kinds.specs.Sides.{other_side}
 use Rattle.step_kinds.specs.declared.names.Side.{Side}
 use Rattle.step_kinds.specs.declared.plan.PairPlan.{PairPlan}
-use Rattle.bridge_pair.specs.Bridge.{memory_size}
+use Rattle.plan_numbers.specs.Memories.{memory_size}
 use Rattle.bridge_pair.specs.Calls.{HasPages}
 use Rattle.bridge_pair.specs.Ends.{HasPlace, IsRegister}
 use Rattle.bridge_pair.specs.Flights.{Flying, Translates, arrival_of}

@@ -8,6 +8,7 @@ use Rattle.plan_model.specs.DeclaredPlans.{IsPair}
 use Rattle.plan_model.specs.Plans.{side_plan}
 use Rattle.plan_model.specs.Both.{Both, at_side, with_side}
 use Rattle.plan_model.specs.Link.{Link}
+use Rattle.plan_numbers.specs.Memories.{memory_size}
 use Rattle.bridge_regs.specs.Doorbell.{Doorbell}
 use Rattle.bridge_regs.specs.Laws.{FitsRegisters}
 use Rattle.host_memory.specs.Memory.{Contents}
@@ -73,10 +74,6 @@ with_pages bridge side pages = with_memory bridge side (record { bytes = bytes_o
 
 abbrev pub with_flight : Bridge → Side → Flight Flying → Bridge
 with_flight bridge side flight = record bridge { flights = with_side bridge.flights side flight }
-
--- the bytes of a side's memory, which has its windows one after the other
-abbrev pub memory_size : PairPlan → Side → ℕ
-memory_size plan side = (side_plan plan side).windows * (side_plan plan side).cap
 
 -- the writes of a side's offer: two for each window, and three numbers
 abbrev pub offer_length : PairPlan → Side → ℕ

@@ -14,7 +14,8 @@ use Rattle.plan_model.specs.Pads.{agreed_pads}
 use Rattle.byte_model.specs.FreshRings.{fresh_index_words}
 use Rattle.plan_model.specs.Plans.{side_plan}
 use Rattle.posted_queue.specs.Flight.{nothing_in_flight}
-use Rattle.bridge_pair.specs.Bridge.{Bridge, bytes_of, memory_size, offer_length}
+use Rattle.plan_numbers.specs.Memories.{memory_size}
+use Rattle.bridge_pair.specs.Bridge.{Bridge, bytes_of, offer_length}
 use Rattle.bridge_pair.specs.Ends.{bytes_after}
 use Rattle.bridge_pair.specs.Links.{no_book}
 use Rattle.bridge_pair.specs.declared.book.SideBook.{SideBook}

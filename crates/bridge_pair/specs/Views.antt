@@ -2,7 +2,8 @@
 use Rattle.std.specs.Prelude.{◌≡◌, length}
 use Rattle.step_kinds.specs.declared.names.Side.TheVariants.{A, B}
 use Rattle.plan_model.specs.DeclaredPlans.{IsPair}
-use Rattle.bridge_pair.specs.Bridge.{Bridge, IsBook, memory_size}
+use Rattle.plan_numbers.specs.Memories.{memory_size}
+use Rattle.bridge_pair.specs.Bridge.{Bridge, IsBook}
 use Rattle.bridge_pair.specs.declared.pair.Pair.TheInside.{Inside}
 
 abbrev pub bridge_seen : Inside → Bridge

@@ -1,15 +1,10 @@
 -- The index words of a side, which say that no entry is taken.
-use Rattle.std.specs.Prelude.{◌≡◌, ℕ, ◌<◌, ◌≤◌, true, List, Contains}
+use Rattle.std.specs.Prelude.{◌≡◌, ℕ, ◌<◌, true, List, Contains}
 use Rattle.byte_model.specs.Addresses.{own_index_word}
 use Rattle.host_memory.specs.Memory.{ArePromised, Touches}
 use Rattle.plan_model.specs.Plans.{side_plan}
-use Rattle.step_kinds.specs.Sides.{other_side}
 use Rattle.step_kinds.specs.declared.names.Side.{Side}
 use Rattle.step_kinds.specs.declared.plan.PairPlan.{PairPlan}
-
--- the windows that the peer sends through fit those that the side's memory gives
-abbrev pub WindowsFit : PairPlan → Side → Type 0
-WindowsFit plan side = (side_plan plan (other_side side)).size ≤ (side_plan plan side).cap
 
 -- the page has a byte of one of the side's index words
 abbrev pub TouchesIndexWord : PairPlan → Side → ℕ → Type 0

@@ -5,7 +5,7 @@ ghost use Rattle.plan_model.specs.DeclaredPlans.{IsPair};
 ghost use Rattle.plan_model.specs.Orders.{order_of};
 
 use crate::flying_bytes::FlyingBytes;
-use crate::plans::{class_among, classes_of, kind_of};
+use plan_numbers::{class_among, classes_of, kind_of};
 use posted_queue::Ordered;
 use std::alloc::{AllocError, Global};
 use std::marker::Model;

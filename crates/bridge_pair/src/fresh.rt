@@ -11,8 +11,8 @@ ghost use Rattle.step_kinds.specs.Limits.{most_queues, most_windows};
 
 use crate::book::SideBook;
 use crate::endpoint::Endpoint;
-use crate::plans::{high_half, low_half, memory_bytes, side_plan};
 use bridge_regs::Pads;
+use plan_numbers::{high_half, low_half, memory_bytes, side_plan};
 use std::alloc::{AllocError, Global};
 use step_kinds::{PairPlan, Side, SidePlan};
 

@@ -18,14 +18,9 @@ mod flying_write;
 mod fresh;
 pub mod laws;
 mod pair;
-mod plans;
 mod same;
 mod write;
 
 pub use book::SideBook;
 pub use pair::Pair;
-pub use plans::{
-    copy_of, header_bytes, high_half, index_word_at, low_half, memory_bytes, own_address,
-    receiving_ring, sending_ring, side_plan,
-};
 pub use write::{Target, Write, WriteBytes};

@@ -5,7 +5,8 @@ ghost use Rattle.std.specs.Result.{result_err};
 ghost use Rattle.bridge_pair.specs.Flights.{Flying, Translates, arrival_of};
 ghost use Rattle.bridge_pair.specs.Pages.{OnlyPagesGrow, PagesGrow};
 ghost use Rattle.bridge_regs.specs.Doorbell.{Doorbell};
-ghost use Rattle.bridge_pair.specs.Words.{AreFreshPages, AreIndexWordsPromised, TouchesIndexWord, WindowsFit};
+ghost use Rattle.plan_numbers.specs.Memories.{WindowsFit};
+ghost use Rattle.bridge_pair.specs.Words.{AreFreshPages, AreIndexWordsPromised, TouchesIndexWord};
 ghost use Rattle.host_memory.specs.Memory.{AreAbsent, ArePromised, AreZero, Touches, bytes_at, word_at, word_bytes, written};
 ghost use Rattle.byte_model.specs.FreshRings.{fresh_index_words};
 ghost use Rattle.step_kinds.specs.declared.names.Side.TheVariants.{A, B};
@@ -22,12 +23,12 @@ use crate::book::SideBook;
 use crate::endpoint::Endpoint;
 use crate::flying_write::{Arrival, FlyingWrite};
 use crate::fresh::{fresh_book, fresh_endpoint};
-use crate::plans::{
-    class_among, classes_of, copy_of, index_word_at, own_address, sending_ring, side_plan,
-};
 use crate::write::{Target, Write};
 use bridge_regs::Bells;
 use link_state::{Link, LinkRefusal, LinkState};
+use plan_numbers::{
+    class_among, classes_of, copy_of, index_word_at, own_address, sending_ring, side_plan,
+};
 use posted_queue::LandAnswer;
 use std::alloc::{AllocError, Global};
 use std::marker::Model;

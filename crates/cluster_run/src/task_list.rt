@@ -12,8 +12,8 @@ ghost use Rattle.traffic_plan.specs.Lanes.{frames_on};
 
 use crate::by_lane::{LaneTraffic, traffic_by_lane};
 use crate::tasks::LaneTask;
+use plan_numbers::sending_ring;
 use ring_geometry::laws::ring_has_two_entries;
-use script_plan::rings::ring_of;
 use std::alloc::{AllocError, Global};
 use std::collections::VecDeque;
 use step_kinds::{PairPlan, Plan};
@@ -60,7 +60,7 @@ fn task_of(plan: &Plan, losses: &[u32], number: u32, lane: LaneTraffic) -> LaneT
 {
     let LaneTraffic { name, frames } = lane;
     ring_has_two_entries();
-    let ring = ring_of(pair_at(plan, name.pair), name.from, name.queue);
+    let ring = sending_ring(pair_at(plan, name.pair), name.from, name.queue);
     LaneTask {
         name,
         number,

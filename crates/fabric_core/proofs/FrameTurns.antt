@@ -6,7 +6,8 @@ use Rattle.step_kinds.specs.declared.names.Side.{Side}
 use Rattle.step_kinds.specs.declared.names.Side.TheVariants.{A, B}
 use Rattle.step_kinds.specs.declared.steps.Answer.{Answer}
 use Rattle.step_kinds.specs.declared.steps.Answer.TheVariants.{OkNumber}
-use Rattle.bridge_pair.specs.Bridge.{Bridge, bytes_of, memory_size}
+use Rattle.plan_numbers.specs.Memories.{memory_size}
+use Rattle.bridge_pair.specs.Bridge.{Bridge, bytes_of}
 use Rattle.byte_model.specs.Addresses.{own_index_word}
 use Rattle.byte_model.specs.Headers.{free_in_memory, index_word_in}
 use Rattle.host_memory.specs.Memory.{bytes_at}

@@ -27,7 +27,7 @@ use Rattle.ledger_model.specs.Next.{pair_next}
 use Rattle.memory_model.specs.Memory.{Site, bytes_of_site, memory_of, site_of}
 use Rattle.byte_laws.proofs.Facade.{memories_keep_pairs_apart, site_of-elsewhere, sites_are_the_ledger, steps_of_log}
 use Rattle.bridge_pair.specs.Bridge.{Bridge, book_of}
-use Rattle.bridge_pair.specs.Words.{WindowsFit}
+use Rattle.plan_numbers.specs.Memories.{WindowsFit}
 use Rattle.frame_ring.specs.PortView.{FitsRings}
 use Rattle.hand_shake.specs.Checks.{check_answer}
 use Rattle.hand_shake.specs.declared.CheckAnswer.TheVariants.{Up as ComesUp}

@@ -9,7 +9,7 @@ use Rattle.step_kinds.specs.declared.plan.PairPlan.{PairPlan}
 use Rattle.step_kinds.specs.declared.steps.Step.{Step}
 use Rattle.step_kinds.specs.declared.steps.Step.TheVariants.{Begin, Xbegin}
 use Rattle.bridge_pair.specs.Bridge.{Bridge, book_of, flight_of, pages_of, with_flight}
-use Rattle.bridge_pair.specs.Words.{WindowsFit}
+use Rattle.plan_numbers.specs.Memories.{WindowsFit}
 use Rattle.frame_ring.specs.Port.{PortState, unused_of}
 use Rattle.frame_ring.specs.PortView.{FitsRings, HasPagesIn}
 use Rattle.hand_shake.specs.Checks.{check_answer}

@@ -6,7 +6,7 @@ use Rattle.step_kinds.specs.declared.steps.Step.TheVariants.{Ready, Join, Check,
 use Rattle.plan_model.specs.DeclaredPlans.{IsPoke, IsShown}
 use Rattle.plan_model.specs.Plans.{side_plan}
 use Rattle.bridge_pair.specs.Bridge.{Bridge, pages_of, flight_of}
-use Rattle.bridge_pair.specs.Words.{WindowsFit}
+use Rattle.plan_numbers.specs.Memories.{WindowsFit}
 use Rattle.hand_shake.specs.Checks.{check_answer}
 use Rattle.hand_shake.specs.declared.CheckAnswer.TheVariants.{Up}
 

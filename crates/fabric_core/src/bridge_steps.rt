@@ -1,7 +1,8 @@
 //! The steps that touch the bridge of a pair alone: the link, the handshake, registers, landings and what is shown.
 
 ghost use Rattle.std.specs.Prelude.{IfOk, IsErr, OnErr, OnOk, bit_or, false, length, option_map, slice_get, ◌+◌, ◌<◌, ◌≡◌, ◌≤◌, true};
-ghost use Rattle.bridge_pair.specs.Bridge.{bells_of, bytes_of, flight_of, memory_size, pages_of, with_bells};
+ghost use Rattle.plan_numbers.specs.Memories.{memory_size};
+ghost use Rattle.bridge_pair.specs.Bridge.{bells_of, bytes_of, flight_of, pages_of, with_bells};
 ghost use Rattle.bridge_pair.specs.Calls.{HasPages};
 ghost use Rattle.bridge_pair.specs.Flights.{Flying, Translates, arrival_of};
 ghost use Rattle.bridge_pair.specs.Links.{after_train};
@@ -25,9 +26,10 @@ ghost use Rattle.step_kinds.specs.declared.steps.Label.TheVariants.{Raw as RawLa
 use crate::answers::{
     check_answer, join_answer, land_answer, link_answer, offer_answer, ready_answer, refusal_answer,
 };
-use bridge_pair::{Pair, Write, own_address};
+use bridge_pair::{Pair, Write};
 use hand_shake::{check, join, offer, ready};
 use link_state::LinkState;
+use plan_numbers::own_address;
 use queue_pair::irq;
 use std::alloc::{AllocError, Global};
 use step_kinds::{Answer, Frame, Label, Side, Step};

@@ -13,7 +13,8 @@ use Rattle.byte_model.specs.Stores.{Store, bytes_in}
 use Rattle.ledger_model.specs.Ledger.{LanePart, lane_of, side_of, with_lane, with_side_part}
 use Rattle.ledger_model.specs.Log.{same_side}
 use Rattle.memory_model.specs.Memory.{Site}
-use Rattle.bridge_pair.specs.Bridge.{Bridge, bells_of, bytes_of, memory_size, pads_of, with_bells, with_bytes, with_memory, with_pads}
+use Rattle.plan_numbers.specs.Memories.{memory_size}
+use Rattle.bridge_pair.specs.Bridge.{Bridge, bells_of, bytes_of, pads_of, with_bells, with_bytes, with_memory, with_pads}
 use Rattle.bridge_regs.specs.Doorbell.{with_pending}
 use Rattle.host_memory.specs.Memory.{written}
 use Rattle.fabric_rule.specs.InPlace.{SendingEnd, receiver_of, sender_of}

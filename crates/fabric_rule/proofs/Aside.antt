@@ -19,7 +19,7 @@ use Rattle.plan_model.specs.Plans.{side_plan}
 use Rattle.ledger_model.specs.Ledger.{side_of, with_side_part}
 use Rattle.ledger_model.specs.Registers.{poke_step, show_mem_step, show_queue_step, spad_step}
 use Rattle.memory_model.specs.Memory.{Site, bytes_of_site}
-use Rattle.bridge_pair.specs.Bridge.{memory_size}
+use Rattle.plan_numbers.specs.Memories.{memory_size}
 use Rattle.bridge_pair.specs.Flights.{Flying, flying_of}
 use Rattle.bridge_pair.specs.Writes.{memory_write, pad_write}
 use Rattle.hand_shake.specs.Offers.{with_posted}

@@ -30,7 +30,7 @@ use Rattle.byte_model.specs.Headers.{free_in_memory}
 use Rattle.ledger_model.specs.Ledger.{DevPart, LanePart, Tally, dev_of, head_in, lane_of, side_of, tally_of, updated, with_lane, with_side_part}
 use Rattle.ledger_model.specs.Outcome.{Outcome, decided}
 use Rattle.ledger_model.specs.Sending.{begin_step, counts_accepted, counts_refused, counts_sent, frame_begun as lane_begun, begun_lane, flow_of, is_busy as is_lane_busy, qpdown_step, xbegin_step}
-use Rattle.bridge_pair.specs.Bridge.{memory_size}
+use Rattle.plan_numbers.specs.Memories.{memory_size}
 use Rattle.frame_ring.specs.Port.{PortState, with_sending}
 use Rattle.frame_ring.specs.Calls.{begin_answer as port_begin_answer, after_begin as port_after_begin, down_answer, after_down, entries_begun, free_answer, where_begun}
 use Rattle.queue_pair.specs.Gates.{answer_unless, begin_answer, after_begin, qpdown_answer, after_qpdown, closed_where_begun, port_unless}

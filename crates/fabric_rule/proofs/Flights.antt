@@ -14,7 +14,7 @@ use Rattle.plan_model.specs.Orders.{order_of}
 use Rattle.ledger_model.specs.Next.{idle_side}
 use Rattle.ledger_model.specs.Receiving.{poked_without, raws_before}
 use Rattle.step_kinds.specs.Sides.{other_side}
-use Rattle.bridge_pair.specs.Bridge.{memory_size}
+use Rattle.plan_numbers.specs.Memories.{memory_size}
 use Rattle.bridge_pair.specs.Flights.{Flying, flying_order, flying_of}
 use Rattle.fabric_rule.specs.InPlace.{FlightInPlace, HaveBytes, IsBegun, LiesIn}
 use Rattle.fabric_rule.specs.StandsFor.{entry_among, flying_labelled, raw_bytes, raws_behind, write_of, writes_labelled}

@@ -20,7 +20,8 @@ use Rattle.byte_model.proofs.Facade.{nothing_stored}
 use Rattle.ledger_model.specs.LinkSteps.{fresh_lane}
 use Rattle.memory_model.specs.Memory.{fresh_site}
 use Rattle.bridge_regs.specs.Doorbell.{quiet}
-use Rattle.bridge_pair.specs.Bridge.{Bridge, memory_size, offer_length}
+use Rattle.plan_numbers.specs.Memories.{memory_size}
+use Rattle.bridge_pair.specs.Bridge.{Bridge, offer_length}
 use Rattle.bridge_pair.specs.Ends.{bytes_after}
 use Rattle.bridge_pair.specs.Fresh.{fresh_bridge}
 use Rattle.hand_shake.proofs.OwnOffers.{own_length}

@@ -16,7 +16,7 @@ use Rattle.byte_model.specs.Headers.{free_in_memory}
 use Rattle.ledger_model.specs.Ledger.{lane_of, DevPart, dev_of, head_in, with_dev}
 use Rattle.ledger_model.specs.Outcome.{Outcome, decided, refuse_if}
 use Rattle.ledger_model.specs.Sending.{flow_of, wake_step}
-use Rattle.bridge_pair.specs.Bridge.{memory_size}
+use Rattle.plan_numbers.specs.Memories.{memory_size}
 use Rattle.frame_ring.specs.Calls.{free_answer}
 use Rattle.queue_pair.specs.Queue.{QueueState}
 use Rattle.fabric_rule.specs.Moves.{Move, wake_move}

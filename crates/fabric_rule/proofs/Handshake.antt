@@ -26,7 +26,8 @@ use Rattle.ledger_model.specs.Handshake.{check_refusal, check_step, join_step, o
 use Rattle.ledger_model.specs.Ledger.{link_up, side_of, with_side_part}
 use Rattle.ledger_model.specs.Outcome.{decided, refuse_if}
 use Rattle.memory_model.specs.Memory.{Site}
-use Rattle.bridge_pair.specs.Bridge.{Bridge, memory_size, with_book, with_memory}
+use Rattle.plan_numbers.specs.Memories.{memory_size}
+use Rattle.bridge_pair.specs.Bridge.{Bridge, with_book, with_memory}
 use Rattle.hand_shake.specs.Checks.{after_answer as after_check_answer, check_answer}
 use Rattle.hand_shake.specs.Offers.{after_answer as after_offer_answer, pad_value, offered}
 use Rattle.hand_shake.specs.Queues.{after_join_answer, after_ready_answer}

@@ -20,7 +20,8 @@ use Rattle.ledger_model.specs.Ledger.{side_of, with_side_part}
 use Rattle.ledger_model.specs.Outcome.{Outcome, decided, refuse_if}
 use Rattle.ledger_model.specs.Receiving.{land_found, land_step, lands_on, taken_out}
 use Rattle.posted_queue.specs.Landing.{answer_for}
-use Rattle.bridge_pair.specs.Bridge.{memory_size, with_flight}
+use Rattle.plan_numbers.specs.Memories.{memory_size}
+use Rattle.bridge_pair.specs.Bridge.{with_flight}
 use Rattle.bridge_pair.specs.Calls.{after_landed, arrived}
 use Rattle.bridge_pair.specs.Ends.{label_landed}
 use Rattle.bridge_pair.specs.Flights.{Flying, flying_order}

@@ -10,7 +10,8 @@ use Rattle.step_kinds.specs.declared.plan.DevPlan.{DevPlan}
 use Rattle.step_kinds.specs.declared.plan.PairPlan.{PairPlan}
 use Rattle.step_kinds.specs.declared.steps.Label.{Label}
 use Rattle.lane_model.specs.Lane.{Entry}
-use Rattle.bridge_pair.specs.Bridge.{Bridge, flight_of, memory_size, with_flight}
+use Rattle.plan_numbers.specs.Memories.{memory_size}
+use Rattle.bridge_pair.specs.Bridge.{Bridge, flight_of, with_flight}
 use Rattle.bridge_pair.specs.Flights.{Flying}
 use Rattle.fabric_rule.specs.InPlace.{FlightInPlace, HaveBytes, IsBegun, LiesIn}
 use Rattle.fabric_rule.specs.Parts.{PairState, QueuePart, plain_bridge, queues_of, with_bridge}

@@ -22,7 +22,7 @@ use Rattle.byte_model.specs.FreshRings.{fresh_index_word, fresh_index_words, zer
 use Rattle.byte_model.specs.Headers.{flags_offset, len_offset, version_bytes, word_bytes}
 use Rattle.byte_model.specs.Stores.{Store}
 use Rattle.byte_model.proofs.Facade.{length-word_bytes}
-use Rattle.bridge_pair.specs.Bridge.{memory_size}
+use Rattle.plan_numbers.specs.Memories.{memory_size}
 use Rattle.fabric_rule.proofs.StoredBytes.{IsInside}
 
 -- a stretch of a window lies in the memory

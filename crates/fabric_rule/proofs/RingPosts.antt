@@ -23,7 +23,8 @@ use Rattle.byte_model.specs.Headers.{flags_offset, len_offset, version_bytes, wo
 use Rattle.byte_model.proofs.Facade.{length-word_bytes}
 use Rattle.ledger_model.specs.Ledger.{PairPart, side_of, posts, with_side_part}
 use Rattle.ledger_model.specs.Reading.{has_window}
-use Rattle.bridge_pair.specs.Bridge.{Bridge, flight_of, memory_size, with_flight}
+use Rattle.plan_numbers.specs.Memories.{memory_size}
+use Rattle.bridge_pair.specs.Bridge.{Bridge, flight_of, with_flight}
 use Rattle.bridge_pair.specs.Flights.{flying_of}
 use Rattle.bridge_pair.specs.Writes.{PostedWrite, bell_write, memory_write}
 use Rattle.frame_ring.specs.PortView.{ring_posted, index_posted}

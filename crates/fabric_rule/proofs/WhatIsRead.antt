@@ -17,7 +17,8 @@ use Rattle.plan_model.specs.Sizes.{Sizes, header_bytes, layout_to, sizes_in}
 use Rattle.byte_model.specs.Addresses.{own_header, own_index_word, own_slot}
 use Rattle.byte_model.specs.Headers.{Bytes, NoEntry, ALinkDownEntry, AnotherVersion, TooManyBytes, AnEntry, Header, found_in_memory, found_with, header_in, header_with, index_word_in, part_in_memory, word_at}
 use Rattle.memory_model.specs.Memory.{Site, bytes_of_site}
-use Rattle.bridge_pair.specs.Bridge.{Bridge, memory_size}
+use Rattle.plan_numbers.specs.Memories.{memory_size}
+use Rattle.bridge_pair.specs.Bridge.{Bridge}
 use Rattle.frame_ring.specs.PortView.{bytes_seen}
 use Rattle.fabric_rule.specs.StandsFor.{bridge_for}
 use Rattle.fabric_rule.proofs.Follows.{with_promises}

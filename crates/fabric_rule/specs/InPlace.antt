@@ -18,7 +18,7 @@ use Rattle.plan_model.specs.Link.{Link, is_down}
 use Rattle.plan_model.specs.Sizes.{layout_of, layout_to}
 use Rattle.ledger_model.specs.Ledger.{LanePart}
 use Rattle.frame_ring.specs.Port.{Receiving}
-use Rattle.bridge_pair.specs.Bridge.{memory_size}
+use Rattle.plan_numbers.specs.Memories.{memory_size}
 use Rattle.bridge_pair.specs.Flights.{Flying}
 use Rattle.bridge_pair.specs.declared.flying_write.Arrival.{Arrival}
 use Rattle.bridge_pair.specs.declared.flying_write.Arrival.TheVariants.{AtAddress}

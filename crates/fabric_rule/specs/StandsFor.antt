@@ -23,7 +23,8 @@ use Rattle.memory_model.specs.Memory.{Site}
 use Rattle.bridge_regs.specs.Doorbell.{Doorbell}
 use Rattle.host_memory.specs.Memory.{Contents}
 use Rattle.posted_queue.specs.Flight.{Flight}
-use Rattle.bridge_pair.specs.Bridge.{Bridge, memory_size}
+use Rattle.plan_numbers.specs.Memories.{memory_size}
+use Rattle.bridge_pair.specs.Bridge.{Bridge}
 use Rattle.bridge_pair.specs.Flights.{Flying, flying_of}
 use Rattle.bridge_pair.specs.Writes.{PostedWrite, bell_write, memory_write, pad_write}
 use Rattle.bridge_pair.specs.declared.book.SideBook.{SideBook}

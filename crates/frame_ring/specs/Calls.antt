@@ -19,7 +19,8 @@ use Rattle.byte_model.specs.Headers.{Found, NoEntry, ALinkDownEntry, AnotherVers
 use Rattle.byte_model.specs.RingWrites.{index_write}
 use Rattle.host_memory.specs.Memory.{Touches}
 use Rattle.posted_queue.specs.Flight.{given_back}
-use Rattle.bridge_pair.specs.Bridge.{Bridge, memory_size, flight_of, with_flight}
+use Rattle.plan_numbers.specs.Memories.{memory_size}
+use Rattle.bridge_pair.specs.Bridge.{Bridge, flight_of, with_flight}
 use Rattle.frame_ring.specs.Port.{PortState, Sending, Receiving, with_sending, with_receiving, is_busy, writes_left, unused_of}
 use Rattle.frame_ring.specs.PortView.{bytes_seen, ring_posted, index_posted, flags_cleared, TouchesLeft, TouchesWrite}
 use Rattle.frame_ring.specs.declared.RingLook.{RingLook}

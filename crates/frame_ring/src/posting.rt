@@ -20,7 +20,8 @@ ghost use Rattle.step_kinds.specs.declared.steps.Label.TheVariants.{Index};
 use crate::reading::{flags_offset, header_at};
 use crate::rings::{QueueRings, slot_in};
 use crate::sending::Sender;
-use bridge_pair::{Pair, Write, side_plan};
+use bridge_pair::{Pair, Write};
+use plan_numbers::{CHUNK_SIZE, side_plan};
 use ring_geometry::ver_of;
 use step_kinds::Label;
 
@@ -105,9 +106,9 @@ fn chunk_at(payload: &[u8], part: u32) -> &[u8]
     ensures few { length result.now ≤ most_write_bytes }
     ensures within { 128 * part + length result.now ≤ length payload.now }
 {
-    let start = 128 * part as usize;
+    let start = (CHUNK_SIZE * part) as usize;
     let rest = &payload[start..];
-    let end = rest.len().min(128);
+    let end = rest.len().min(CHUNK_SIZE as usize);
     &rest[..end]
 }
 
@@ -169,7 +170,7 @@ pub fn post_write(rings: &QueueRings, sender: &Sender, pair: &mut Pair, label: L
     match label {
         Label::Chunk { number, part, .. } => {
             let bytes = chunk_at(sender.payload(), part);
-            let offset = slot_offset_of(rings, number) + 128 * u64::from(part);
+            let offset = slot_offset_of(rings, number) + u64::from(CHUNK_SIZE * part);
             post_bytes(rings, pair, label, offset, bytes);
         }
         Label::Len { number, .. } => {

@@ -18,8 +18,9 @@ ghost use Rattle.step_kinds.specs.Sides.{other_side};
 use crate::posting::{header_offset_of, reaches, slot_offset_of};
 use crate::reading::{flags_offset, header_at};
 use crate::rings::QueueRings;
-use crate::sending::{chunks_of, piece_bytes, pieces_in};
-use bridge_pair::{Pair, header_bytes, own_address};
+use crate::sending::piece_bytes;
+use bridge_pair::Pair;
+use plan_numbers::{header_bytes, own_address, pieces_in, writes_in};
 use std::alloc::AllocError;
 use step_kinds::Frame;
 
@@ -109,7 +110,7 @@ pub fn count_writes(frame: &Frame, largest: u32) -> usize
     let mut count = 0;
     for k in 0..pieces_in(largest, frame.len()) {
         let len = piece_bytes(frame.bytes(), largest, k).len() as u32;
-        count += chunks_of(len) as usize + 4;
+        count += writes_in(len) as usize;
     }
     count
 }

@@ -1,7 +1,7 @@
 //! What a side reads of its rings in its own memory.
 
 ghost use Rattle.std.specs.Prelude.{◌≡◌, ℕ, ◌+◌, ◌%◌, ◌*◌, ◌^◌, ◌<◌, ◌≤◌, nat_le};
-ghost use Rattle.bridge_pair.specs.Bridge.{memory_size};
+ghost use Rattle.plan_numbers.specs.Memories.{memory_size};
 ghost use Rattle.byte_model.specs.Addresses.{own_address as address_in_window, own_header, own_index_word, own_slot};
 ghost use Rattle.byte_model.specs.Headers.{flags_offset as offset_of_flags, free_in_memory, header_in, index_word_in, word_at};
 ghost use Rattle.frame_ring.specs.Rings.{header_of};
@@ -12,7 +12,8 @@ ghost use Rattle.plan_model.specs.Sizes.{header_bytes as bytes_of_header, layout
 ghost use Rattle.ring_geometry.specs.Geometry.{max_payload_of};
 
 use crate::rings::{QueueRings, slot_in};
-use bridge_pair::{Pair, memory_bytes, own_address, side_plan};
+use bridge_pair::Pair;
+use plan_numbers::{memory_bytes, own_address, side_plan};
 
 /// The words of a header: on version 4 none follows, and `left` is 0.
 #[derive(Clone, Copy)]

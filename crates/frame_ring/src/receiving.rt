@@ -20,9 +20,9 @@ use crate::RingLook;
 use crate::frame_bytes::Gathered;
 use crate::reading::HeaderWords;
 use crate::rings::QueueRings;
-use crate::sending::chunks_of;
 use bridge_pair::Pair;
 use lane_model::Phase;
+use plan_numbers::{CHUNK_SIZE, chunks_in};
 use ring_geometry::ver_of;
 use std::alloc::{AllocError, Global};
 use std::marker::Model;
@@ -116,7 +116,7 @@ impl Receiver {
         ensures within { is_copying self.now.phase ≡ true → result + next_part self.now ≤ self.now.len }
         ensures few { result < 2 ^ 62 }
     {
-        128 * u64::from(self.part)
+        u64::from(CHUNK_SIZE) * u64::from(self.part)
     }
 
     /// What a header says to the receiver.
@@ -189,9 +189,10 @@ impl Receiver {
     {
         let number = self.got;
         let part = self.part;
-        let rest = self.len - 128 * part;
-        self.gathered.read(pair, side, at, rest.min(128) as usize);
-        if part + 1 < chunks_of(self.len) {
+        let rest = self.len - CHUNK_SIZE * part;
+        self.gathered
+            .read(pair, side, at, rest.min(CHUNK_SIZE) as usize);
+        if part + 1 < chunks_in(self.len) {
             self.part = part + 1;
             return LaneCopy::Part { number, part };
         }

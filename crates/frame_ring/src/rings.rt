@@ -1,7 +1,7 @@
 //! The rings of one queue of one side.
 
 ghost use Rattle.std.specs.Prelude.{◌≡◌, ◌==◌, ◌+◌, ◌*◌, ◌%◌, ◌^◌, ◌<◌, ◌≤◌};
-ghost use Rattle.bridge_pair.specs.Bridge.{memory_size};
+ghost use Rattle.plan_numbers.specs.Memories.{memory_size};
 ghost use Rattle.byte_model.specs.Addresses.{own_address as own_address_of, own_header, own_index_word, own_slot};
 ghost use Rattle.byte_model.specs.Headers.{flags_offset as offset_of_flags};
 ghost use Rattle.byte_model.specs.RingWrites.{header_offset, slot_offset};
@@ -12,7 +12,7 @@ ghost use Rattle.plan_model.specs.Plans.{side_plan as side_plan_of};
 ghost use Rattle.plan_model.specs.Sizes.{agreed_version, header_bytes as bytes_of_header, layout_of, layout_to, sizes_in, sizes_of};
 ghost use Rattle.ring_geometry.specs.Geometry.{IsPlaced, entries_of, frame_size, header_of, index_of, max_payload_of, slot_of, window_of};
 
-use bridge_pair::{copy_of, header_bytes, own_address, receiving_ring, sending_ring, side_plan};
+use plan_numbers::{copy_of, receiving_ring, sending_ring, speaks_five};
 use ring_geometry::Geometry;
 use ring_geometry::laws::ring_has_two_entries;
 use std::marker::Model;
@@ -129,7 +129,7 @@ impl QueueRings {
     pub fn speaks_five(&self) -> bool
         ensures { result ≡ (agreed_version self.now.plan == 5) }
     {
-        self.plan.a.version == 5 && self.plan.b.version == 5
+        speaks_five(&self.plan)
     }
 
     /// The most bytes of a frame that is sent.

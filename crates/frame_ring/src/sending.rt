@@ -10,6 +10,7 @@ ghost use Rattle.lane_model.specs.Tests.{is_empty_list};
 ghost use Rattle.plan_model.specs.Pieces.{pieces_of};
 ghost use Rattle.plan_model.specs.Sizes.{pieces_in as pieces_by};
 
+use plan_numbers::{pieces_in, writes_in};
 use std::alloc::{AllocError, Global};
 use std::marker::Model;
 use step_kinds::{Frame, Label};
@@ -233,26 +234,6 @@ pub fn has_numbers(begun: u64, more: u32, told: u64) -> bool
     begun + u64::from(more) <= MOST_NUMBERS && told < MOST_NUMBERS
 }
 
-/// How many chunks so many bytes are, at most 65,536.
-pub fn chunks_of(len: u32) -> u32
-    requires { len ≤ 65536 }
-    ensures value { result ≡ chunks_in len }
-    ensures few { result ≤ 512 }
-{
-    (len + 128 - 1) / 128
-}
-
-/// How many entries of so many bytes at most a frame of so many bytes takes.
-pub fn pieces_in(largest: u32, len: u32) -> u32
-    requires some { 4 ≤ largest }
-    requires few { largest ≤ 65536 }
-    requires fits { len ≤ 65536 }
-    ensures value { result ≡ pieces_by largest len }
-    ensures few { result ≤ 65536 }
-{
-    ((len + largest - 1) / largest).max(1)
-}
-
 /// The payload of a piece of a frame.
 pub fn piece_bytes(bytes: &[u8], largest: u32, piece: u32) -> &[u8]
     requires among { piece < pieces_by largest (length bytes.now) }
@@ -325,7 +306,7 @@ fn writes_of(frame: &Option<Frame>, largest: u32, piece: u32) -> u32
     ensures few { result ≤ 516 }
 {
     let payload = payload_of(frame, largest, piece);
-    chunks_of(payload.len() as u32) + 4
+    writes_in(payload.len() as u32)
 }
 
 // The label of an entry's write.

@@ -3,7 +3,7 @@
 ghost use Rattle.std.specs.Prelude.{◌≡◌, ◌≢◌, ◌≤◌, ◌<◌, IfOk, OnErr, OnOk, Option, Some, None, option_map};
 ghost use Rattle.bridge_pair.specs.Bridge.{bytes_of, pages_of, with_pages};
 ghost use Rattle.bridge_pair.specs.Pages.{PagesGrow};
-ghost use Rattle.bridge_pair.specs.Words.{WindowsFit};
+ghost use Rattle.plan_numbers.specs.Memories.{WindowsFit};
 ghost use Rattle.hand_shake.specs.Checks.{TouchesAnyRing, TouchesRings, after_check, came_up, check_answer as answer_by, first_larger as first_larger_by, size_answer as answer_by_sizes, size_at};
 ghost use Rattle.hand_shake.specs.Headers.{AreRingsReady};
 ghost use Rattle.hand_shake.specs.declared.CheckAnswer.TheVariants.{Up};
@@ -12,8 +12,9 @@ ghost use Rattle.step_kinds.specs.Limits.{IsWindows};
 
 use crate::CheckAnswer;
 use crate::headers::{promise_headers, zero_headers};
-use bridge_pair::{Pair, SideBook, side_plan};
+use bridge_pair::{Pair, SideBook};
 use link_state::LinkState;
+use plan_numbers::side_plan;
 use std::alloc::AllocError;
 use step_kinds::{Side, SidePlan};
 

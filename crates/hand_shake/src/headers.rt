@@ -3,10 +3,10 @@
 //! A ring may have millions of entries, of which few were written to: headers on pages that aren't there are passed over.
 
 ghost use Rattle.std.specs.Prelude.{◌≡◌, ◌↔◌, ◌+◌, ◌-◌, ◌<◌, ◌≤◌, IsTrue, OnOk, length, replicate};
-ghost use Rattle.bridge_pair.specs.Bridge.{bytes_of, memory_size, pages_of, with_bytes};
+ghost use Rattle.plan_numbers.specs.Memories.{memory_size, WindowsFit};
+ghost use Rattle.bridge_pair.specs.Bridge.{bytes_of, pages_of, with_bytes};
 ghost use Rattle.bridge_pair.specs.Ends.{bytes_after};
 ghost use Rattle.bridge_pair.specs.Pages.{OnlyPagesGrow};
-ghost use Rattle.bridge_pair.specs.Words.{WindowsFit};
 ghost use Rattle.byte_model.specs.Addresses.{own_header};
 ghost use Rattle.hand_shake.specs.Headers.{AreHeadersOfReady, AreHeadersReady, AreSomeZeroed, IsHeaderReady, IsReceivingRing, IsZeroed, TouchesHeader, TouchesHeaderOf, ring_stores};
 ghost use Rattle.host_memory.specs.Memory.{ArePromised, AreZero, written};
@@ -16,7 +16,8 @@ ghost use Rattle.plan_model.specs.Plans.{side_plan as side_plan_of};
 ghost use Rattle.plan_model.specs.Sizes.{header_bytes as bytes_of_header};
 ghost use Rattle.ring_geometry.specs.Geometry.{entries_of, frame_size};
 
-use bridge_pair::{Pair, header_bytes, own_address, receiving_ring, side_plan};
+use bridge_pair::Pair;
+use plan_numbers::{header_bytes, own_address, receiving_ring, side_plan};
 use ring_geometry::Geometry;
 use std::alloc::AllocError;
 use step_kinds::{PairPlan, Side};

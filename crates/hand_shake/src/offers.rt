@@ -13,8 +13,9 @@ ghost use Rattle.step_kinds.specs.declared.steps.Label.TheVariants.{Pad};
 ghost use Rattle.std.specs.Prelude.{IsTrue, slice_index_or};
 
 use crate::OfferAnswer;
-use bridge_pair::{Pair, SideBook, Write, high_half, low_half, side_plan};
+use bridge_pair::{Pair, SideBook, Write};
 use link_state::LinkState;
+use plan_numbers::{high_half, low_half, side_plan};
 use std::alloc::AllocError;
 use step_kinds::{Side, SidePlan};
 

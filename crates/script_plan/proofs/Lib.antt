@@ -1,5 +1,4 @@
 pub mod Classes
 pub mod Floods
 pub mod NameNumbers
-pub mod Posts
 pub mod Soundness

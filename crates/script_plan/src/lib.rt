@@ -7,7 +7,6 @@ mod devices;
 mod names;
 mod pairs;
 mod reader;
-pub mod rings;
 mod script;
 mod switches;
 mod traffic;

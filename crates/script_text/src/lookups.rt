@@ -6,7 +6,7 @@ ghost use Rattle.plan_model.specs.Plans.{side_plan, pair_plan, dev_plan};
 ghost use Rattle.script_words.specs.Before.{pair_word, dev_word, switch_word, queue_word, named_side, named_queue, pair_names, dev_names, switch_names};
 ghost use Rattle.script_words.specs.Declarations.{host_word, new_name};
 
-use script_plan::rings::side_of;
+use plan_numbers::side_plan;
 use script_plan::{Names, Reader};
 use script_words::words::{is_name, read_name, read_number, read_side};
 use script_words::{Cause, LineFault, QueueName, SideName, at};
@@ -129,7 +129,7 @@ fn read_queue(before: &Reader, pair: u32, side: Side, word: &[u8]) -> Result<u32
     ensures below { IfOk result (λ queue. queue < (side_plan (pair_plan before.now.plan pair) side).queues) }
 {
     let queue = read_number(word)?;
-    if queue >= side_of(before.pair(pair), side).queues {
+    if queue >= side_plan(before.pair(pair), side).queues {
         return Err(Cause::UnknownName);
     }
     Ok(queue)

@@ -14,8 +14,8 @@ use crate::lines::AddResult;
 use crate::lookups::{
     QueueWords, SideWords, read_device, read_pair, read_queue_name, read_side_name, read_switch,
 };
+use plan_numbers::{posts_in, side_plan};
 use script_plan::Reader;
-use script_plan::rings::{posts_in, side_of};
 use script_words::step_words::{
     FrameWord, NumberWord, PairWord, QueueWord, SideWord, frame_word_of, number_word_of,
     pair_word_of, queue_word_of, side_word_of,
@@ -63,7 +63,7 @@ fn side_line(before: &mut Reader, line: u32, word: SideWord, of: SideWords<'_>) 
     ensures { Adds line before.old before.new result (rules.side_line before.old (side_steps_of word) of.entry.pair.now of.entry.side.now) }
 {
     let SideName { pair, side } = read_side_name(before, 2, of)?;
-    let windows = side_of(before.pair(pair), side).windows;
+    let windows = side_plan(before.pair(pair), side).windows;
     add_steps(before, line, word.steps(windows, pair, side))
 }
 
@@ -149,7 +149,7 @@ fn show_memory_line(
     let SideName { pair, side } = read_side_name(before, 2, of)?;
     let start = at(4, read_number(start))? as u64;
     let len = read_number_in(5, 1, 64, len)?;
-    let own = side_of(before.pair(pair), side);
+    let own = side_plan(before.pair(pair), side);
     if own.windows as u64 * own.cap < start + len as u64 {
         return Err(LineError::Fault(Cause::BadNumber.at(5)));
     }
@@ -223,9 +223,9 @@ fn xnext_line(before: &mut Reader, line: u32, dev: &[u8]) -> AddResult
 fn reach(pair: &PairPlan, side: Side) -> u64
     ensures { result ≡ rules.reach pair.now side }
 {
-    side_of(pair, side)
+    side_plan(pair, side)
         .size
-        .min(side_of(pair, side.other()).cap)
+        .min(side_plan(pair, side.other()).cap)
 }
 
 /// `poke P S WINDOW OFFSET HEX`

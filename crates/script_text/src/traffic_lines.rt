@@ -12,8 +12,8 @@ ghost use Rattle.script_words.specs.TrafficLines as rules;
 
 use crate::lines::LineResult;
 use crate::lookups::{QueueWords, read_pair, read_queue_name};
+use plan_numbers::sending_ring;
 use script_plan::Reader;
-use script_plan::rings::ring_of;
 use script_words::options::agrees;
 use script_words::words::{read_bytes_at, read_number_in};
 use script_words::{Cause, Given, LineError, LineFault, QueueName, at, unknown_line};
@@ -37,7 +37,7 @@ fn test_lane(before: &Reader, lane: LaneName, len: u64, count: u64) -> Result<()
     ensures short { OnOk result (len ≤ 65536) }
 {
     let pair = before.pair(lane.pair);
-    let ring = ring_of(pair, lane.from, lane.queue);
+    let ring = sending_ring(pair, lane.from, lane.queue);
     if len > ring.max_payload() as u64 || ring.entries() > MOST_TRAFFIC_ENTRIES {
         return Err(Cause::BadGeometry.of_line());
     }

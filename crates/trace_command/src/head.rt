@@ -9,8 +9,8 @@ ghost use Rattle.plan_model.specs.Sizes.{agreed_version as version_of};
 ghost use Rattle.trace_command.specs.Head.{head, pair_line, ring_after, ring_object, side_object};
 ghost use Rattle.trace_text.specs.Words.{truth_text};
 
+use plan_numbers::{sending_ring, side_plan, speaks_five};
 use report_text::append::push_word;
-use script_plan::rings::{ring_of, side_of};
 use std::alloc::AllocError;
 use step_kinds::{PairPlan, Side};
 use trace_text::{push_first_line, push_number_member, push_text_member};
@@ -65,11 +65,7 @@ fn push_truth(text: &mut Vec<u8>, name: &str, holds: bool) -> Result<(), AllocEr
 fn agreed_version(pair: &PairPlan) -> u32
     ensures { result ≡ version_of pair.now }
 {
-    if pair.a.version == 5 && pair.b.version == 5 {
-        5
-    } else {
-        4
-    }
+    if speaks_five(pair) { 5 } else { 4 }
 }
 
 // Adds a side of a pair.
@@ -77,7 +73,7 @@ fn push_side(text: &mut Vec<u8>, pair: &PairPlan, side: Side) -> Result<(), Allo
     requires { IsPair pair.now }
     ensures { OnOk result (text.new.items ≡ text.old.items ++ side_object pair.now side) }
 {
-    let own = side_of(pair, side);
+    let own = side_plan(pair, side);
     push_number_member(text, "{\"version\":", u64::from(own.version))?;
     push_number_member(text, ",\"queues\":", u64::from(own.queues))?;
     push_number_member(text, ",\"windows\":", u64::from(own.windows))?;
@@ -128,7 +124,7 @@ fn push_ring_object(
     requires among { queue < (side_plan pair.now side).queues }
     ensures { OnOk result (text.new.items ≡ text.old.items ++ ring_object pair.now side queue) }
 {
-    let ring = ring_of(pair, side, queue);
+    let ring = sending_ring(pair, side, queue);
     push_number_member(text, "{\"entries\":", u64::from(ring.entries()))?;
     push_number_member(text, ",\"largest\":", u64::from(ring.max_payload()))?;
     push_number_member(text, ",\"class\":", u64::from(class_on(pair, side, queue)))?;

@@ -5,6 +5,7 @@ ghost use Rattle.lane_model.specs.Lane.{chunks_in};
 ghost use Rattle.traffic_plan.specs.Load.{word_at, state_past, load_pair, most_load_frames, length_of, payload_of, frame_lines, frames_given, lines_of_frame, load_of, plan_of};
 
 use crate::steps::{land, land_all, push_landings, receive, send};
+use plan_numbers::chunks_in;
 use rand_xoshiro::SplitMix64;
 use rand_xoshiro::rand_core::SeedableRng;
 use rand_xoshiro::rand_core::utils::NextWord;
@@ -64,7 +65,7 @@ fn push_frame(
     ensures { OnOk result (steps.new ≡ steps.old ++ frame_lines line word landings) }
 {
     let frame = payload(alloc, word)?;
-    let chunks = frame.len().div_ceil(128);
+    let chunks = chunks_in(frame.len());
     steps.push(line, send(frame))?;
     push_landings(steps, line, landings)?;
     steps.push(line, land_all(chunks + 4))?;

@@ -7,6 +7,7 @@ ghost use Rattle.step_kinds.specs.declared.names.Side.TheVariants.{A, B};
 ghost use Rattle.step_kinds.specs.declared.steps.Step.TheVariants.{Land};
 ghost use Rattle.traffic_plan.specs.Load.{load_pair, landings_of};
 
+use plan_numbers::writes_in;
 use std::alloc::AllocError;
 use step_kinds::{Frame, Side, Step};
 use step_list::{Macro, Repeated, StepList};
@@ -16,7 +17,7 @@ pub fn send(frame: Frame) -> Macro
     ensures { steps_of result ≡ send load_pair 0 A 0 frame }
 {
     let (pair, side, queue) = (0, Side::A, 0);
-    let count = frame.len().div_ceil(128) + 4;
+    let count = writes_in(frame.len());
     Macro::Posted {
         begin: Step::Begin {
             pair,

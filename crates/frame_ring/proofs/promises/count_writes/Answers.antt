@@ -15,11 +15,11 @@ loop-k-preserved c =
     let pieces = pieces_of largest frame in
     let piece = piece_length largest largest c.loop-k.k c.pieces_in-k-end.result frame c.bytes.result.now c.piece_bytes.result.now refl c.bytes.ensures.value c.piece_bytes.ensures.value
     (c.pieces_in-k-end.ensures.value ∙ ap (pieces_in largest) c.len.ensures.value) c.loop-k-test.true in
-    let writes : c.chunks_of.result + 4 ≡ writes_in (entry_at pieces c.loop-k.k) = ap (λ chunks. chunks + 4) (c.chunks_of.ensures.value ∙ ap chunks_in piece.0) in
+    let writes : c.writes_in.result ≡ writes_in (entry_at pieces c.loop-k.k) = c.writes_in.ensures.value ∙ ap (λ len. chunks_in len + 4) piece.0 in
     let others = entry_and_others pieces c.loop-k.k piece.1 in
     record {
       rest = omega (arith, writes, others, c.loop-k.invariant.rest);
-      small = omega (arith, c.chunks_of.ensures.few, c.loop-k.invariant.small);
+      small = omega (arith, c.writes_in.ensures.few, c.loop-k.invariant.small);
     }
 
 pub returns-clause-value : goal.returns-clause-value

@@ -26,7 +26,7 @@ loop-queue-preserved c =
     let queue = c.loop-queue.queue - 1 in
     let at = at_word c.args.self.now.plan _ c.args.side queue _ plans c.index_word_at-at.ensures.value in
     let entries : c.entries-last.result ≡ entries_of (layout_of c.args.self.now.plan c.args.side queue) =
-    c.entries-last.ensures.value ∙ ap entries_of (c.sending_ring.ensures ∙ ap (λ (plan : PairPlan). layout_of plan c.args.side queue) plans_2) in
+    c.entries-last.ensures.value ∙ ap entries_of (c.sending_ring.ensures.value ∙ ap (λ (plan : PairPlan). layout_of plan c.args.side queue) plans_2) in
     let left = c.side_plan-queues.result.queues - c.loop-queue.queue in
     let stored =
     one_before c.args.self.now.plan c.args.side queue c.loop-queue.queue left (c.side_plan-queues.result.queues - queue) c.index_word_at-at.result c.entries-last.result

@@ -1,7 +1,7 @@
 use Rattle.std.proofs.Common.{length, ap, ◌∙◌}
 use Rattle.std.proofs.lemmas.List.{length-replicate}
 use Rattle.step_kinds.specs.declared.names.Side.TheVariants.{A, B}
-use Rattle.bridge_pair.specs.Bridge.{memory_size}
+use Rattle.plan_numbers.specs.Memories.{memory_size}
 use Rattle.bridge_pair.specs.Ends.{End}
 use Rattle.bridge_pair.proofs.FreshPairs.{fresh_is_book}
 use Rattle.bridge_pair.proofs.pair.Pair.with_zeros.Goals as goal

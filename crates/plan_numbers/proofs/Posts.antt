@@ -1,5 +1,5 @@
 -- The writes of a frame, piece by piece.
-use Rattle.std.proofs.Common.{◌≡◌, ℕ, ◌+◌, ◌-◌, ◌*◌, ◌==◌, true, cond, min, [], ◌∷◌, map, sum, sym, ◌∙◌, ap, add-one, arith}
+use Rattle.std.proofs.Common.{◌≡◌, ℕ, zero, suc, ◌+◌, ◌-◌, ◌*◌, ◌==◌, ◌++◌, true, cond, min, [], ◌∷◌, map, sum, sym, ◌∙◌, ap, add-one, arith}
 use Rattle.std.proofs.lemmas.List.{map-append}
 use Rattle.std.proofs.lemmas.List.Sums.{sum_by_push}
 use Rattle.step_kinds.specs.declared.names.Side.{Side}
@@ -7,7 +7,11 @@ use Rattle.step_kinds.specs.declared.plan.PairPlan.{PairPlan}
 use Rattle.lane_model.specs.Lane.{chunks_in, count_from}
 use Rattle.plan_model.specs.Macros.{posts_in}
 use Rattle.plan_model.specs.Sizes.{agreed_version, sizes_of, pieces_in}
-use Rattle.script_plan.proofs.Floods.{count_from-last}
+
+-- Counting on by one number adds the number after the last.
+count_from-last : (from n : ℕ) → count_from from (suc n) ≡ count_from from n ++ (from + n) ∷ []
+count_from-last from zero = ap (λ k. k ∷ []) (omega arith)
+count_from-last from (suc n) = ap (λ ks. from ∷ ks) (count_from-last (suc from) n ∙ ap (λ k. count_from (suc from) n ++ k ∷ []) (omega arith))
 
 -- A sum over the numbers from 0 to k is the sum over those below k plus the value at k.
 pub sum_counted_more : (f : ℕ → ℕ) (k : ℕ) → sum (map f (count_from 0 (k + 1))) ≡ sum (map f (count_from 0 k)) + f k

@@ -1,6 +1,6 @@
 use Rattle.std.proofs.Common.{◌≡◌, ◌+◌, ◌-◌, ◌*◌, ◌≤◌, min, map, sum}
 use Rattle.lane_model.specs.Lane.{chunks_in, count_from}
-use Rattle.script_plan.proofs.rings.posts_in.Given as goal
+use Rattle.plan_numbers.proofs.writes.posts_in.Given as goal
 
 abbrev pub invariant-loop-piece : goal.invariant-loop-piece
 invariant-loop-piece l = record {

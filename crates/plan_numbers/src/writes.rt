@@ -1,0 +1,63 @@
+//! The chunks, writes and entries of a frame.
+
+ghost use Rattle.std.specs.Prelude.{◌≡◌, ◌<◌, ◌≤◌, ◌+◌, ◌^◌};
+ghost use Rattle.lane_model.specs.Lane.{chunks_in};
+ghost use Rattle.plan_model.specs.DeclaredPlans.{IsPair};
+ghost use Rattle.plan_model.specs.Macros.{posts_in};
+ghost use Rattle.plan_model.specs.Plans.{side_plan};
+ghost use Rattle.plan_model.specs.Sizes.{pieces_in};
+
+use crate::rings::sending_ring;
+use crate::sides::speaks_five;
+use step_kinds::{PairPlan, Side};
+
+/// The most bytes of a chunk: a payload is written and copied in chunks, of which only the last one may be shorter.
+pub const CHUNK_SIZE: u32 = 128;
+
+/// How many chunks so many bytes are, at most 65,536.
+pub fn chunks_in(len: u32) -> u32
+    requires { len ≤ 65536 }
+    ensures value { result ≡ chunks_in len }
+    ensures few { result ≤ 512 }
+{
+    len.div_ceil(CHUNK_SIZE)
+}
+
+/// How many writes the chunks, length, version, flags and doorbell of an entry of so many bytes are.
+pub fn writes_in(len: u32) -> u32
+    requires { len ≤ 65536 }
+    ensures value { result ≡ chunks_in len + 4 }
+    ensures few { result ≤ 516 }
+{
+    chunks_in(len) + 4
+}
+
+/// How many entries of so many bytes a frame takes: one at least.
+pub fn pieces_in(largest: u32, len: u32) -> u32
+    requires some { 0 < largest }
+    requires small { largest ≤ 65536 }
+    requires len { len ≤ 65536 }
+    ensures value { result ≡ pieces_in largest len }
+    ensures few { result ≤ 65536 }
+{
+    ((len + largest - 1) / largest).max(1)
+}
+
+/// How many writes a frame of so many bytes has.
+pub fn posts_in(pair: &PairPlan, side: Side, queue: u32, len: u32) -> u32
+    requires declared { IsPair pair.now }
+    requires among { queue < (side_plan pair.now side).queues }
+    requires len { len ≤ 65536 }
+    ensures value { result ≡ posts_in pair.now side queue len }
+    ensures few { result ≤ 2 ^ 28 }
+{
+    if !speaks_five(pair) {
+        return writes_in(len);
+    }
+    let largest = sending_ring(pair, side, queue).max_payload();
+    let mut posts = 0;
+    for piece in 0..pieces_in(largest, len) {
+        posts += writes_in(largest.min(len.saturating_sub(largest * piece)));
+    }
+    posts
+}
