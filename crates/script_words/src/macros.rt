@@ -80,7 +80,28 @@ impl Repeated {
             Step::Clear { pair, side, queue } => Some(Repeated::Clear { pair, side, queue }),
             Step::Ack { pair, side, queue } => Some(Repeated::Ack { pair, side, queue }),
             Step::Offer { pair, side } => Some(Repeated::Offer { pair, side }),
-            _ => None,
+            Step::Enable { .. }
+            | Step::Train { .. }
+            | Step::Break { .. }
+            | Step::DropDone { .. }
+            | Step::Clean { .. }
+            | Step::Check { .. }
+            | Step::Ready { .. }
+            | Step::Join { .. }
+            | Step::Begin { .. }
+            | Step::QpDown { .. }
+            | Step::Xbegin { .. }
+            | Step::Wake { .. }
+            | Step::Irq { .. }
+            | Step::Mask { .. }
+            | Step::Unmask { .. }
+            | Step::Spad { .. }
+            | Step::Poke { .. }
+            | Step::ShowMem { .. }
+            | Step::ShowPad { .. }
+            | Step::ShowQueue { .. }
+            | Step::Relay { .. }
+            | Step::Xnext { .. } => None,
         }
     }
 }
