@@ -20,11 +20,13 @@ use borrow.Author.Count.{below_more}
 pub at_word : (plan same : PairPlan) (side : Side) (queue at : ℕ) → same ≡ plan → at ≡ own_index_word same side queue → at ≡ own_index_word plan side queue
 at_word plan same side queue at plans is_at = is_at ∙ ap (λ (plan : PairPlan). own_index_word plan side queue) plans
 
+-- Pages promised for a side's index words, and then for one queue's word, are all promised for index words.
 pub word_grows : (plan : PairPlan) (side : Side) (queue at : ℕ) (old now new : List ℕ) → at ≡ own_index_word plan side queue → queue < (side_plan plan side).queues
     → PagesGrow (TouchesIndexWord plan side) old now → PagesGrow (Touches at 4) now new → PagesGrow (TouchesIndexWord plan side) old new
 word_grows plan side queue at old now new is_at among so_far next =
     grows_further (TouchesIndexWord plan side) (Touches at 4) old now new so_far next (λ page touch. (queue, among, subst (λ at. Touches at 4 page) is_at touch))
 
+-- Where the index words of all queues before one are promised, and then its own too, those of all up to it are.
 pub word_promised : (plan : PairPlan) (side : Side) (queue at : ℕ) (now new : List ℕ) → at ≡ own_index_word plan side queue
     → ((k : ℕ) → k < queue → ArePromised (own_index_word plan side k) 4 now) → PagesGrow (Touches at 4) now new → ArePromised at 4 new
     → (k : ℕ) → k < queue + 1 → ArePromised (own_index_word plan side k) 4 new

@@ -18,11 +18,13 @@ use Rattle.bridge_pair.specs.Links.{after_step, dropped}
 use Rattle.bridge_pair.specs.declared.flying_write.Arrival.{Arrival}
 use Rattle.bridge_pair.specs.declared.flying_write.Arrival.TheVariants.{AtAddress, AtPad, AtBell}
 
+-- A bridge to which nothing is done keeps all that was promised.
 pub keeps_all : (bridge : Bridge) → KeepsPromises bridge bridge
 keeps_all bridge = record { plan = refl; pages = λ side. refl; spare = λ side. refl }
 
 -- Own writes
 
+-- Other bytes in a side's memory leave what was promised: the pages of both sides and the room in both flights.
 pub bytes_keep : (bridge : Bridge) (side : Side) (bytes : List ℕ) → KeepsPromises bridge (with_bytes bridge side bytes)
 bytes_keep bridge side bytes = record { plan = refl; pages = pages side; spare = λ other. refl } where
   pages : (side other : Side) → pages_of (with_bytes bridge side bytes) other ≡ pages_of bridge other
@@ -31,6 +33,7 @@ bytes_keep bridge side bytes = record { plan = refl; pages = pages side; spare =
   pages B A = refl
   pages B B = refl
 
+-- What a side writes at its own end, bytes, book or doorbell, leaves all promised pages and room.
 pub own_writes_keep_promises : OwnWritesKeepPromises
 own_writes_keep_promises =
     record {
@@ -45,6 +48,7 @@ one_less : (up : Bool) (flight : Flight Flying) (flying : Flying) → (after_pos
 one_less true flight flying = refl
 one_less false flight flying = refl
 
+-- Posting a write uses up one promised place in its side's flight, whether it is then in flight or lost.
 pub posting_uses_one_promise : PostingUsesOnePromise
 posting_uses_one_promise bridge A write =
     record { plan = refl; pages = λ any. refl; spare = one_less (is_up bridge.link.state) bridge.flights.a (flying_of bridge.plan A write); others = refl }
@@ -82,6 +86,7 @@ taken_keeps bridge side place = record { plan = refl; pages = λ other. refl; sp
   spare B A = refl
   spare B B = same_spare _ bridge.flights.b _ refl
 
+-- A landing leaves all promised pages and all promised room in flight, whatever it is answered.
 pub landing_keeps_promises : LandingKeepsPromises
 landing_keeps_promises bridge side place =
     let taken = with_flight bridge side (after_landing flying_order (flight_of bridge side) place) in
@@ -97,6 +102,7 @@ dropped_spare : (bridge : Bridge) (side : Side) → (flight_of (dropped bridge) 
 dropped_spare bridge A = refl
 dropped_spare bridge B = refl
 
+-- Each step of the link, refused or not, leaves all promised pages and all promised room in flight.
 pub link_steps_keep_promises : LinkStepsKeepPromises
 link_steps_keep_promises =
     record {

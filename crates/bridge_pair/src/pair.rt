@@ -63,7 +63,7 @@ impl Pair {
     ///
     /// # Errors
     ///
-    /// [`AllocError`] from want of memory alone.
+    /// [`AllocError`] from out of memory alone.
     pub fn new(alloc: Global, plan: &PairPlan) -> Result<Pair, AllocError>
         requires { IsPair plan.now }
         ensures fresh { IfOk result (λ pair. pair ≡ fresh_bridge plan.now (record { a = pages_of pair A; b = pages_of pair B })) }
@@ -187,7 +187,7 @@ impl Pair {
     ///
     /// # Errors
     ///
-    /// [`AllocError`] from want of memory alone, and then nothing changes.
+    /// [`AllocError`] from out of memory alone, and then nothing changes.
     pub fn promise(&mut self, side: Side, more: usize) -> Result<(), AllocError>
         ensures ok { OnOk result (self.new ≡ with_flight self.old side (promised (flight_of self.old side) more)) }
         ensures err { OnErr result (self.new ≡ self.old) }
@@ -214,7 +214,7 @@ impl Pair {
     ///
     /// # Errors
     ///
-    /// [`AllocError`] from want of memory alone. Some of the pages may then be promised, and no others; nothing else
+    /// [`AllocError`] from out of memory alone. Some of the pages may then be promised, and no others; nothing else
     /// changes.
     pub fn promise_range(&mut self, side: Side, at: u64, len: u64) -> Result<(), AllocError>
         requires { at + len ≤ length (bytes_of self.old side) }
@@ -232,8 +232,8 @@ impl Pair {
     /// A side posts a write, for which room was promised. Its target translates, and each page that its bytes touch at the
     /// peer was promised.
     ///
-    /// While the link is up the write is in flight behind all others of the side. Else it is lost without a word, as posted
-    /// writes are, and its promise is given back. It takes no memory.
+    /// While the link is up the write is in flight after all others of the side. Else it is lost without a word, as
+    /// posted writes are, and its promise is given back. It takes no memory.
     #[inline]
     pub fn post(&mut self, side: Side, write: Write)
         requires promise { 0 < (flight_of self.old side).spare }
@@ -410,7 +410,7 @@ impl Pair {
     ///
     /// # Errors
     ///
-    /// [`AllocError`] from want of memory alone. Some of the pages may then be promised, and no others; nothing else
+    /// [`AllocError`] from out of memory alone. Some of the pages may then be promised, and no others; nothing else
     /// changes.
     pub fn promise_index_words(&mut self, side: Side) -> Result<(), AllocError>
         requires { WindowsFit self.old.plan side }

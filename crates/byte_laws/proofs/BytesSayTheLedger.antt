@@ -243,6 +243,7 @@ module _ (plan : Plan) (steps : List Step) (k : ℕ) (declared : IsDeclared plan
 
 -- The law
 
+-- On an ordinary pair each permitted step has the same outcome by the bytes in memory as by the ledger.
 pub bytes_say_the_ledger : BytesSayTheLedger
 bytes_say_the_ledger plan steps step declared permitted may paired no_raw =
     let k = subject_of step in

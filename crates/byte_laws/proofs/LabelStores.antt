@@ -40,10 +40,12 @@ rings_in plan side = record {
 abbrev pub is_five : PairPlan → Bool
 is_five plan = agreed_version plan == 5
 
+-- Where the sides of a pair agree, the peer's windows are no larger than what a side's memory gives for one.
 pub size_fits : (plan : PairPlan) → Agree plan → (side : Side) → (rings_in plan side).size ≤ (rings_in plan side).cap
 size_fits plan agree A = agree.sizes.1
 size_fits plan agree B = agree.sizes.0
 
+-- Two sides that agree have the same number of queues.
 pub same_queues : (plan : PairPlan) → Agree plan → (side : Side) → (side_plan plan side).queues ≡ (side_plan plan (other_side side)).queues
 same_queues plan agree A = agree.queues
 same_queues plan agree B = sym agree.queues
@@ -56,6 +58,7 @@ pub same_layout : (plan : PairPlan) → Agree plan → (from : Side) (queue : �
 same_layout plan agree A queue = layouts_same plan.a.size plan.a.windows plan.b.windows plan.a.queues plan.b.queues queue plan.mtu (header_bytes plan) agree.windows agree.queues
 same_layout plan agree B queue = layouts_same plan.b.size plan.b.windows plan.a.windows plan.b.queues plan.a.queues queue plan.mtu (header_bytes plan) (sym agree.windows) (sym agree.queues)
 
+-- Each queue of a side of a declared pair has a window, and there room for the index word and for an entry.
 pub has_ring : (plan : PairPlan) → IsPair plan → (side : Side) (queue : ℕ) → queue < (side_plan plan side).queues → HasRing (layout_at (rings_in plan side) queue)
 has_ring plan declared side queue among = (each_queue_has_a_ring plan side queue declared among).1.ring
 
@@ -63,6 +66,7 @@ has_ring plan declared side queue among = (each_queue_has_a_ring plan side queue
 pub payload_small : (plan : PairPlan) → IsPair plan → (side : Side) (queue : ℕ) → queue < (side_plan plan side).queues → max_payload_of (layout_at (rings_in plan side) queue) ≤ 65536
 payload_small plan declared side queue among = let mtu = declared.mtu.1 in omega (arith, mtu)
 
+-- An entry's number modulo the length of the ring that a side receives in is a slot of that ring.
 pub slot_among_ring : (plan : PairPlan) → IsPair plan → (side : Side) (queue n : ℕ) → queue < (side_plan plan side).queues
     → n % entries_of (layout_at (rings_in plan side) queue) < entries_of (layout_at (rings_in plan side) queue)
 slot_among_ring plan declared side queue n among = let two = two_entries (layout_at (rings_in plan side) queue) (has_ring plan declared side queue among) in mod-lt n (omega arith)
@@ -120,13 +124,16 @@ abbrev pub IsOutsideOf : ℕ → ℕ → Option Spot → Type 0
 IsOutsideOf queue n None = Unit {0}
 IsOutsideOf queue n (Some spot) = IsOutside queue n spot
 
+-- Each chunk of a payload, laid at its place of 128 bytes, ends within the payload.
 pub chunk_fits : (bytes : List ℕ) (part : ℕ) → part < chunks_in (length bytes) → chunk_size * part + length (chunk_of bytes part) ≤ length bytes
 chunk_fits bytes part among = omega (arith, length-take chunk_size (drop (chunk_size * part) bytes), length-drop (chunk_size * part) bytes)
 
+-- In a header of its version's size, the write of a length, of a version and of flags ends within the header.
 pub field_inside : (five : Bool) (rings : Rings) → rings.header ≡ header_size five → (length_at five + 4 ≤ rings.header) × (0 + version_size five ≤ rings.header) × (flags_at five + 4 ≤ rings.header)
 field_inside true rings e = (omega arith, omega arith, omega arith)
 field_inside false rings e = (omega arith, omega arith, omega arith)
 
+-- What the write of a version brings is eight bytes long on version 5, and four on version 4.
 pub length-version_word : (five : Bool) (ver left : ℕ) → length (version_word five ver left) ≡ version_size five
 length-version_word true ver left = refl
 length-version_word false ver left = length-word_bytes ver

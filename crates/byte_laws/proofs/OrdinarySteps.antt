@@ -17,6 +17,7 @@ permitted_is_ordinary plan k no_raw (Spad pair side i value) may on = elim may.1
 permitted_is_ordinary plan k no_raw (Poke pair side window offset bytes) may on = both_ways (pair_plan plan k).raw no_raw (ap (λ j. (pair_plan plan j).raw) (sym on) ∙ may.1.raw)
 permitted_is_ordinary plan k no_raw step may on = tt
 
+-- On a pair that isn't raw, all steps that the plan permits are ordinary ones.
 pub permitted_are_ordinary : (plan : Plan) (k : ℕ) → (pair_plan plan k).raw ≡ false → (steps : List Step) → AllByRecursion (IsPermitted plan) steps → AllByRecursion (IsOrdinaryOn k) steps
 permitted_are_ordinary plan k no_raw [] may = tt
 permitted_are_ordinary plan k no_raw (step ∷ steps) may = (permitted_is_ordinary plan k no_raw step may.0, permitted_are_ordinary plan k no_raw steps may.1)

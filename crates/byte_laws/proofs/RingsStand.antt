@@ -271,6 +271,7 @@ slot_says plan bytes side queue largest n stores slot among same reads stands = 
         let place : own_header plan side queue n + offset ≡ spot_at (rings_in plan side) (Header queue n offset 4) = omega (arith, there) in
         ap number_of (reads (own_header plan side queue n + offset) 4) ∙ ap (λ at. number_of (bytes_in stores at 4)) place
 
+-- The ring that a log leaves stands in memory: its slots at the receiver, its index word at the sender.
 pub rings_stand_in_memory : RingsStandInMemory
 rings_stand_in_memory plan steps lane declared permitted is =
     let own : PairPlan = pair_plan plan lane.pair in

@@ -44,6 +44,7 @@ steps_of_log_from plan memories before ledger [] = refl
 steps_of_log_from plan memories before ledger (step ∷ steps) =
     ap (λ rest. step ∷ rest) (steps_of_log_from plan memories (before ++ answered plan (memories before) ledger step ∷ []) (ledger_after plan (memories before) ledger step) steps)
 
+-- The items of a log have just the steps that were made, in their order.
 pub steps_of_log : (plan : Plan) (memories : Memories) (steps : List Step) → map (λ made. made.step) (log_of plan memories steps) ≡ steps
 steps_of_log plan memories steps = steps_of_log_from plan memories [] (start plan) steps
 
@@ -54,9 +55,11 @@ site_from-last : (devs : List DevPlan) (plan : PairPlan) (k : ℕ) (site : Site)
 site_from-last devs plan k site [] step = refl
 site_from-last devs plan k site (first ∷ steps) step = site_from-last devs plan k (if subject_of first == k then site_next devs plan site first else site) steps step
 
+-- A step on a pair takes the pair's site, as the steps before left it, to the next site by that step.
 pub site_of-here : (plan : Plan) (k : ℕ) (steps : List Step) (step : Step) → subject_of step ≡ k → site_of plan k (steps ++ step ∷ []) ≡ site_next plan.devs (pair_plan plan k) (site_of plan k steps) step
 site_of-here plan k steps step here = site_from-last plan.devs (pair_plan plan k) k _ steps step ∙ cond-true (subject_of step == k) _ _ (eq-eqb (subject_of step) k here)
 
+-- A step on another pair leaves a pair's site, ledger and stores, as it was.
 pub site_of-elsewhere : (plan : Plan) (k : ℕ) (steps : List Step) (step : Step) → subject_of step ≢ k → site_of plan k (steps ++ step ∷ []) ≡ site_of plan k steps
 site_of-elsewhere plan k steps step apart = site_from-last plan.devs (pair_plan plan k) k _ steps step ∙ cond-false (subject_of step == k) _ _ (ne_eqb (subject_of step) k apart)
 
@@ -78,6 +81,7 @@ ring_from-last plan memories name before ledger now (first ∷ steps) step =
     (answered plan (memories log) (ledger_from plan memories (before ++ made ∷ []) after steps) step))
     (append_assoc before (made ∷ []) (log_from plan memories (before ++ made ∷ []) after steps))
 
+-- The ring of a log with one step more is the ring before it, taken further by that step and its answer.
 pub ring_of-last : (plan : Plan) (memories : Memories) (name : LaneName) (steps : List Step) (step : Step)
     → ring_of plan memories (steps ++ step ∷ []) name
     ≡ ring_next (sizes_of (pair_plan plan name.pair) name.from name.queue) name (lane_of (ledger_of plan memories steps name.pair) name.from name.queue) (ring_of plan memories steps name)
@@ -118,6 +122,7 @@ any : (steps : List Step) → AllByRecursion (λ step. Unit {0}) steps
 any [] = tt
 any (step ∷ steps) = (tt, any steps)
 
+-- The pair that a site keeps beside its stores is the ledger's, where memories show what was stored.
 pub sites_are_the_ledger : SitesAreTheLedger
 sites_are_the_ledger plan steps k =
     by_steps (λ step. Unit {0}) (ArePairs plan) (λ before step done fits same. one_more plan before step same) (λ j. refl) steps (any steps) k

@@ -44,7 +44,7 @@ flags_at five = if five then 12 else 8
 abbrev pub header_size : Bool → ℕ
 header_size five = if five then 16 else 12
 
--- the words behind the version, each of which a write of its own brings
+-- the words after the version, each of which a write of its own brings
 pub data LaterWord : Type 0 where
   LengthWord : LaterWord
   FlagsWord : LaterWord
@@ -57,7 +57,7 @@ abbrev pub with_word : LaterWord → ℕ → Slot → Slot
 with_word LengthWord len slot = record slot { len = len }
 with_word FlagsWord flags slot = record slot { flags = flags }
 
--- version, length and flags stand behind one another
+-- version, length and flags stand one after another
 header_order : (five : Bool) → (version_at five + 4 ≤ length_at five) × (length_at five + 4 ≤ flags_at five) × (flags_at five + 4 ≤ header_size five)
 header_order true = (omega arith, omega arith, omega arith)
 header_order false = (omega arith, omega arith, omega arith)
@@ -86,6 +86,7 @@ pub record LeavesSlot (rings : Rings) (queue n : ℕ) (new : List Store) : Type 
   pub payload : Leaves (at_spot rings (Payload queue n)) new
   pub header : (offset : ℕ) → offset + 4 ≤ rings.header → Leaves (at_spot rings (Header queue n offset 4)) new
 
+-- A slot that stands in memory stands there still after stores that leave its payload and its header.
 pub slot_left : (rings : Rings) (five : Bool) (queue n : ℕ) (new older : List Store) (slot : Slot) → rings.header ≡ header_size five → LeavesSlot rings queue n new → StandsIn rings five queue n older slot
     → StandsIn rings five queue n (new ++ older) slot
 slot_left rings true queue n new older slot size leaves stands = record {
@@ -179,13 +180,13 @@ module _ (rings : Rings) (small : rings.size ≤ rings.cap) (queue : ℕ) (ring 
       let four : length store.bytes ≡ 4 = ap length is ∙ length-word_bytes value in
       word_stored store older 0 (spot_at rings (Header queue n offset 4)) value (omega arith) (omega arith) (ap (λ bytes. take 4 (drop 0 bytes)) is) less
 
-  -- how many entries follow is left by a word behind the version
+  -- how many entries follow is left by a word after the version
   left_kept : (five : Bool) (from : ℕ) (store : Store) (older : List Store) → rings.header ≡ header_size five → version_at five + 4 ≤ from → Fills rings (Header queue n from 4) store
       → left_in five (word_at_spot rings (Header queue n 0 4) (store ∷ older)) ≡ left_in five (word_at_spot rings (Header queue n 0 4) older)
   left_kept true from store older size behind fills = field_left from 4 0 store fills (omega arith) (inr (omega arith)) older
   left_kept false from store older size behind fills = refl
 
-  -- a word behind the version
+  -- a word after the version
   pub word_stands : (five : Bool) (word : LaterWord) (store : Store) (older : List Store) (slot : Slot) (value : ℕ) → rings.header ≡ header_size five → store.at ≡ spot_at rings (Header queue n (place_of five word) 4)
       → store.bytes ≡ word_bytes value → value < 2 ^ 32 → StandsIn rings five queue n older slot → StandsIn rings five queue n (store ∷ older) (with_word word value slot)
   word_stands five LengthWord store older slot value size there is less stands =

@@ -54,11 +54,13 @@ write_has_window plan agree is side queue (Down q n) on = queue_has_window plan 
 write_has_window plan agree is side queue (Bell q) on = some_window plan is side
 write_has_window plan agree is side queue label on = absurd (false≢true on)
 
+-- Where the sides of a declared pair agree, the peer has the window that a queue's index writes go through.
 pub index_has_window : (plan : PairPlan) → Agree plan → IsPair plan → (side : Side) (queue n : ℕ) → has_window plan side (Index queue n) ≡ true
 index_has_window plan agree is side queue n = queue_has_window plan agree is side queue
 
 -- A sender's room
 
+-- Where the index word is the tail, the free entries that it shows with the head are the room by counts.
 pub room_is_read : (entries begun freed word : ℕ) → 2 ≤ entries → freed ≤ begun → begun + 1 ≤ freed + entries → word ≡ tail_of entries freed
     → free_in_memory entries (head_of entries begun) word ≡ room_of entries begun freed
 room_is_read entries begun freed word two low room is =
@@ -109,6 +111,7 @@ next_read sizes flagged got gathered slot entry low none whole fits = elim (case
 
 -- Where it finds it
 
+-- A number modulo a ring's length, taken modulo that length again, stays the same.
 pub mod-twice : (n entries : ℕ) → 0 < entries → (n % entries) % entries ≡ n % entries
 mod-twice n entries some = mod-eq_of_lt (mod-lt n some)
 
@@ -125,7 +128,7 @@ module _ (plan : PairPlan) (side : Side) (queue n entries : ℕ) (some : 0 < ent
 
 -- Parts of an entry
 
--- the first bytes of those from an address on, and those behind them
+-- the first bytes of those from an address on, and those after them
 bytes_front : (stores : List Store) (at len all : ℕ) → len ≤ all → take len (bytes_in stores at all) ≡ bytes_in stores at len
 bytes_front stores at zero all within = refl
 bytes_front stores at (suc len) zero within = absurd (omega arith)

@@ -36,6 +36,7 @@ get_or-bytes_in stores at (suc len) (suc k) d below =
     let same : suc at + k ≡ at + suc k = omega arith in
     get_or-bytes_in stores (suc at) len k d (omega arith) ∙ ap (byte_in stores) same
 
+-- A store leaves what is read of a stretch of memory with which it shares no byte.
 pub bytes_elsewhere : (store : Store) (older : List Store) (at len : ℕ) → StandApart at len store.at (length store.bytes) → bytes_in (store ∷ older) at len ≡ bytes_in older at len
 bytes_elsewhere store older at len apart = same_lists _ _ (length-bytes_in (store ∷ older) at len ∙ sym (length-bytes_in older at len)) (λ k d within.
     let below : k < len = omega (arith, length-bytes_in (store ∷ older) at len) in
@@ -107,6 +108,7 @@ nothing_stored at (suc len) = ap (λ bytes. 0 ∷ bytes) (nothing_stored (suc at
 abbrev pub number_of : List ℕ → ℕ
 number_of bytes = little_number 4 bytes
 
+-- A number is written as a word of four bytes, whatever its value.
 pub length-word_bytes : (value : ℕ) → length (word_bytes value) ≡ 4
 length-word_bytes value = length-bytes_low_first 0 4 value
 

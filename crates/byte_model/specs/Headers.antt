@@ -22,7 +22,7 @@ word_at bytes side at = little_number 4 (bytes side at 4)
 
 -- Headers
 
--- where the length and the flags stand in a header: the version is first, on version 5 behind the number of entries that
+-- where the length and the flags stand in a header: the version is first, on version 5 after the number of entries that
 -- follow
 abbrev pub len_offset : PairPlan → ℕ
 len_offset plan = if agreed_version plan == 5 then 8 else 4

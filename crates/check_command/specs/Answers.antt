@@ -13,7 +13,7 @@ use Rattle.script_words.specs.declared.fault.Range.{Range}
 use Rattle.script_words.specs.declared.fault.ScriptFault.{ScriptFault}
 use Rattle.step_kinds.specs.declared.plan.Plan.{Plan}
 
--- a count behind a word
+-- a count after a word
 abbrev pub count_text : List ℕ → ℕ → List ℕ
 count_text word n = word ++ numbers_text (n ∷ [])
 

@@ -31,9 +31,11 @@ declared_other plan switches steps traffic declared =
       one_on_a_queue = declared.one_on_a_queue;
     }
 
+-- A plan that a script can declare is still one once its switches, steps and traffic are left out.
 pub declared_bare : (plan : Plan) → IsDeclared plan → IsDeclared (bare_plan plan)
 declared_bare plan declared = declared_other plan [] [] [] declared
 
+-- Switches that a script can declare are still such once the plan's steps and traffic are left out.
 pub switches_declared : (plan : Plan) → AreSwitches plan → AreSwitches (declared_part plan)
 switches_declared plan are = switches_of_other plan [] [] are
 
@@ -49,11 +51,13 @@ queue_of_device plan own declared on =
 pub device_on_bridges : (cluster : ClusterState) (own : LaneName) → HasDeviceOn (plan_held cluster) own → HasDeviceOn (plan_kept cluster.fabric) own
 device_on_bridges cluster own on = (on.0, record { declared = on.1.declared; its_pair = on.1.its_pair; its_side = on.1.its_side; its_queue = on.1.its_queue })
 
+-- A queue of a side by the plan that a cluster holds is one by the plan of its fabric.
 pub queue_on_bridges : (cluster : ClusterState) (own : LaneName) → IsQueueOf (plan_held cluster) own.pair own.from own.queue → IsQueueOf (plan_kept cluster.fabric) own.pair own.from own.queue
 queue_on_bridges cluster own may = record { declared = may.declared; among = may.among }
 
 -- Steps
 
+-- A step that the plan of a cluster permits on its bridges is permitted by the plan of its fabric.
 pub permitted_on_bridges : (cluster : ClusterState) (step : Step) → IsPermitted (plan_held cluster) step → IsPermitted (plan_kept cluster.fabric) step
 permitted_on_bridges cluster step may = permitted_by_other (plan_held cluster) [] [] [] step may
 
@@ -65,6 +69,7 @@ stands_declared plan fabric stands = record { devs = stands.devs; all_pairs = st
 stands_by_declared : (plan : Plan) (fabric : FabricState) → StandsFor (declared_part plan) [] fabric → StandsFor plan [] fabric
 stands_by_declared plan fabric stands = record { devs = stands.devs; all_pairs = stands.all_pairs; pairs = stands.pairs }
 
+-- A cluster with new switches whose fabric stands for no steps has made none of any plan that declares the same.
 pub made_none : (plan other : Plan) (cluster : ClusterState) → IsDeclared plan → StandsFor plan [] cluster.fabric → cluster.plans ≡ plan.switches →
     cluster.switches ≡ map (λ plan. new_switch (length plan.ports)) plan.switches → declared_part other ≡ declared_part plan → HasMade other [] cluster
 made_none plan other cluster declared stands plans switches same =

@@ -34,19 +34,23 @@ next_by plan net step = next_network bytes_kept plan (memory_of plan) net step
 abbrev pub item_by : Plan → Network (List ℕ) → Step → Answered
 item_by plan net step = next_item bytes_kept plan (memory_of plan) net step
 
+-- The network after a list of steps and one more is what the last step makes of the network after the list.
 pub network-last : (plan : Plan) (steps : List Step) (step : Step) → network_after plan (steps ++ step ∷ []) ≡ next_by plan (network_after plan steps) step
 network-last plan steps step = network_from-last bytes_kept plan (memory_of plan) _ steps step
 
+-- The log of a list of steps and one more is the log of the list with the last step's item after it.
 pub log-last : (plan : Plan) (steps : List Step) (step : Step) → log_after plan (steps ++ step ∷ []) ≡ log_after plan steps ++ item_by plan (network_after plan steps) step ∷ []
 log-last plan steps step = items_from-last bytes_kept plan (memory_of plan) _ steps step
 
 -- Steps on bridges alone
 
+-- A step that is no relay, xnext or copy is made on a bridge, whatever the network's switches are.
 pub action_on_bridges : (plan : Plan) (switches : List (Switch (List ℕ))) (step : Step) → part_of step ≡ OnBridges → action_of plan switches step ≡ OnBridge
 action_on_bridges plan switches (Relay pair side queue switch port) e = cc e
 action_on_bridges plan switches (Xnext pair side queue dev) e = cc e
 action_on_bridges plan switches step e = refl
 
+-- A step that is no relay, xnext or copy brings no frame to a network's switches, whatever it is answered.
 pub reached_on_bridges : (plan : Plan) (memories : Memories) (switches : List (Switch (List ℕ))) (session : ℕ → ℕ) (step : Step) (answer : Answer) → part_of step ≡ OnBridges →
     switches_reached bytes_kept plan memories switches session step answer ≡ switches
 reached_on_bridges plan memories switches session (Copy pair side queue) answer e = cc e

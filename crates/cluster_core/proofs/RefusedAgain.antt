@@ -89,12 +89,14 @@ module _ (plan : Plan) (step : Step) (answer : Answer) (refused : is_made step a
         record { bridges = next.1; plans = stands.plans; switches = stands.switches },
       )
 
+-- The answer with which a cluster's log goes on at a step is that of the network's item for the step.
 pub item_answer : (plan : Plan) (steps : List Step) (step : Step) (answer : Answer) → IsAnswered plan steps step answer → (item_by plan (network_after plan steps) step).answer ≡ answer
 item_answer plan steps step answer is =
     let item : Answered = item_by plan (network_after plan steps) step in
     ap (λ (made : Answered). made.answer)
     (same_head _ _ (append_cancel_left (log_after plan steps) (item ∷ []) (record { step = is.stands_as; answer = answer } ∷ []) (sym (log-last plan steps step) ∙ is.goes_on)))
 
+-- A refused step, if no xbegin, relay or xnext, is answered the same at once again by a cluster that stays as it is.
 pub refused_again : RefusedAgain
 refused_again plan steps step answer cluster answered refused plain made =
     let net = network_after plan steps in

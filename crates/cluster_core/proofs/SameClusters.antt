@@ -38,6 +38,7 @@ one_answer plan steps step answer is = sym (item_answer plan steps step answer i
 
 -- Two clusters, of which a call says that their fabrics have made the same
 
+-- A cluster has made what another has, if its fabric has made what the other's has, with equal plans and switches.
 pub merged : (cluster other : ClusterState) → plan_held cluster ≡ plan_held other → ((plan : Plan) (steps : List Step) → HasMadeOnBridges plan steps cluster.fabric → HasMadeOnBridges plan steps other.fabric) → cluster.switches ≡ other.switches →
     (plan : Plan) (steps : List Step) → HasMade plan steps cluster → HasMade plan steps other
 merged cluster other plans merges switches plan steps made =

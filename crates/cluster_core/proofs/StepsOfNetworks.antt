@@ -43,6 +43,7 @@ pub record Goes {E : Type 0} (old new : ClusterState) (step : Step) (result : Re
   pub rests : (plan : Plan) (net : Network (List ℕ)) → IsNetwork plan net old → (pair : ℕ) (side : Side) (place : ℕ) → step ≡ Land pair side place →
       IfOk result (λ answer. is_made step answer ≡ false → IsNetwork plan net new)
 
+-- An answer that is the one of the network's item for a step is one with which the cluster's log goes on.
 pub answered_so : {E : Type 0} (plan : Plan) (steps : List Step) (step : Step) (result : Result Answer E) →
     IfOk result (λ answer. answer ≡ (item_by plan (network_after plan steps) step).answer) → IfOk result (λ answer. IsAnswered plan steps step answer)
 answered_so plan steps step (Err error) is = tt
@@ -58,6 +59,7 @@ made_so : {E : Type 0} (plan : Plan) (steps : List Step) (step : Step) (new : Cl
 made_so plan steps step new (Err error) made = tt
 made_so plan steps step new (Ok answer) made = subst (λ (net : Network (List ℕ)). IsNetwork plan net new) (sym (network-last plan steps step)) made
 
+-- A step meets a cluster's contract if it goes right in each network the cluster may be and keeps the cluster's plan.
 pub has_stepped : {E : Type 0} (old new : ClusterState) (step : Step) (result : Result Answer E) → Goes old new step result → plan_held new ≡ plan_held old → HasStepped old new step result
 has_stepped old new step result goes same = record {
   answered = λ plan steps made. answered_so plan steps step result (goes.answered plan (network_after plan steps) made);
@@ -69,6 +71,7 @@ has_stepped old new step result goes same = record {
 
 -- Relays
 
+-- A relay goes right in each network the cluster may be if its switches make it, or an error changes nothing.
 pub goes_relayed : {E : Type 0} (old new : ClusterState) (pair : ℕ) (side : Side) (queue switch port : ℕ) (result : Result Answer E) →
     IfOk result (λ answer. answer ≡ relay_answer_in old (record { switch = switch; place = port })) → OnOk result (new ≡ relayed_in old (record { switch = switch; place = port })) →
     OnErr result (new ≡ old) → Goes old new (Relay pair side queue switch port) result
@@ -100,6 +103,7 @@ plain_after_landing {E = E} old new pair side place step answer landing idle ste
     let own : HasSteppedOnBridges {E = E} old new (Land pair side place) (Ok answer) = subst (λ (step : Step). HasSteppedOnBridges {E = E} old new step (Ok answer)) landing stepped in
     own.refused (subst (λ (step : Step). is_made step answer ≡ false) landing idle)
 
+-- A step on bridges alone goes right in each network the cluster may be if the fabric steps and the switches stay.
 pub goes_on_bridges : {E : Type 0} (old new : ClusterState) (step : Step) (result : Result Answer E) → part_of step ≡ OnBridges → HasSteppedOnBridges old.fabric new.fabric step result →
     new.plans ≡ old.plans → new.switches ≡ old.switches → Goes old new step result
 goes_on_bridges old new step (Err error) own stepped plans switches = record {
@@ -152,7 +156,7 @@ goes_resting old own dev rests = record {
   rests = λ plan net is pair side place landing. cc landing;
 }
 
--- memory is wanted before anything is made
+-- a step is out of memory before anything is made
 pub goes_unmade : {E : Type 0} (old : ClusterState) (step : Step) (error : E) → Goes old old step (Err error)
 goes_unmade old step error = record {
   answered = λ plan net is. tt;
@@ -187,7 +191,7 @@ goes_sending old fabric own dev next answer sends stepped = record {
   rests = λ plan net is pair side place landing. cc landing;
 }
 
--- memory is wanted by the bridges
+-- the bridges are out of memory
 pub goes_unstepped : {D E : Type 0} (old : ClusterState) (fabric : FabricState) (own : LaneName) (dev : ℕ) (frame : List ℕ) (error : D) (given : E) →
     HasSteppedOnBridges {E = D} old.fabric fabric (begin_on own frame) (Err error) → Goes {E = E} old (record old { fabric = fabric }) (Xnext own.pair own.from own.queue dev) (Err given)
 goes_unstepped old fabric own dev frame error given stepped = record {
@@ -225,6 +229,7 @@ brought_switches old mid own answer switches port = switches
 same_devs : (old new : FabricState) → plan_kept new ≡ plan_kept old → new.devs ≡ old.devs
 same_devs old new same = ap (λ (plan : Plan). plan.devs) same
 
+-- A copy goes right in each network the cluster may be if the fabric makes it and a delivered frame gets to its port.
 pub goes_copied : {E : Type 0} (old : ClusterState) (fabric : FabricState) (own : LaneName) (answer : Answer) →
     HasSteppedOnBridges {E = E} old.fabric fabric (Copy own.pair own.from own.queue) (Ok answer) →
     Goes {E = E} old (brought_in (record old { fabric = fabric }) own answer) (Copy own.pair own.from own.queue) (Ok answer)
@@ -246,7 +251,7 @@ goes_copied old fabric own answer stepped = record {
   rests = λ plan net is pair side place landing. cc landing;
 }
 
--- a copy that wants memory promises nothing
+-- a copy that is out of memory promises nothing
 pub goes_lost : {E : Type 0} (old new : ClusterState) (own : LaneName) (error : E) → Goes old new (Copy own.pair own.from own.queue) (Err error)
 goes_lost old new own error = record {
   answered = λ plan net is. tt;
@@ -265,6 +270,7 @@ brought_plan : (mid : ClusterState) (own : LaneName) (answer : Answer) → plan_
 brought_plan mid own (Delivered number frame) = refl
 brought_plan mid own answer = refl
 
+-- A relay meets a cluster's contract if the switches answer and make it, or an error leaves the cluster as it was.
 pub relays : {E : Type 0} (old new : ClusterState) (pair : ℕ) (side : Side) (queue switch port : ℕ) (result : Result Answer E) →
     IfOk result (λ answer. answer ≡ relay_answer_in old (record { switch = switch; place = port })) → OnOk result (new ≡ relayed_in old (record { switch = switch; place = port })) →
     OnErr result (new ≡ old) → HasStepped old new (Relay pair side queue switch port) result
@@ -273,18 +279,22 @@ relays old new pair side queue switch port (Err error) answer after err =
 relays old new pair side queue switch port (Ok given) answer after err =
     has_stepped old new (Relay pair side queue switch port) (Ok given) (goes_relayed old new pair side queue switch port (Ok given) answer after err) (ap plan_held after)
 
+-- A step on bridges alone meets a cluster's contract if it meets the fabric's and changes nothing else.
 pub on_bridges : {E : Type 0} (kept old : ClusterState) (fabric : FabricState) (step : Step) (result : Result Answer E) → kept ≡ old → part_of step ≡ OnBridges →
     HasSteppedOnBridges kept.fabric fabric step result → HasStepped old (record kept { fabric = fabric }) step result
 on_bridges kept old fabric step result seen own stepped =
     subst (λ (old : ClusterState). HasStepped old (record kept { fabric = fabric }) step result) seen
     (has_stepped kept (record kept { fabric = fabric }) step result (goes_on_bridges kept (record kept { fabric = fabric }) step result own stepped refl refl) (plan_after kept fabric stepped.plan))
 
+-- An xnext where no frame is to be sent meets a cluster's contract by the answer `nothing`, which changes nothing.
 pub rests : {E : Type 0} (old : ClusterState) (own : LaneName) (dev : ℕ) → Rests ≡ sending_in old own → HasStepped {E = E} old old (Xnext own.pair own.from own.queue dev) (Ok Nothing)
 rests old own dev none = has_stepped old old (Xnext own.pair own.from own.queue dev) (Ok Nothing) (goes_resting old own dev none) refl
 
+-- A step that ends with an error meets a cluster's contract if the cluster stays as it was.
 pub unmade : {E : Type 0} (old : ClusterState) (step : Step) (error : E) → HasStepped old old step (Err error)
 unmade old step error = has_stepped old old step (Err error) (goes_unmade old step error) refl
 
+-- An xnext meets a cluster's contract if the fabric begins the first waiting frame, taken from its port if accepted.
 pub sends : {E : Type 0} (kept old new : ClusterState) (fabric : FabricState) (own : LaneName) (dev : ℕ) (next : NextFrame) (answer : Answer) → kept ≡ old → sends_next own (Some next) ≡ sending_in old own →
     HasSteppedOnBridges {E = E} kept.fabric fabric (begin_on own next.frame) (Ok answer) → new ≡ taken_in (record kept { fabric = fabric }) next.place answer →
     HasStepped {E = E} old new (Xnext own.pair own.from own.queue dev) (Ok answer)
@@ -296,6 +306,7 @@ sends {E = E} kept old new fabric own dev next answer seen first stepped after =
     (subst (λ (old : ClusterState). HasStepped {E = E} old (taken_in mid next.place answer) step (Ok answer)) seen
     (has_stepped kept (taken_in mid next.place answer) step (Ok answer) (goes_sending kept fabric own dev next answer own_first stepped) (plan_after kept fabric stepped.plan)))
 
+-- An xnext that wants memory meets a cluster's contract if the begin meets the fabric's and nothing else changes.
 pub unstepped : {D E : Type 0} (kept old : ClusterState) (fabric : FabricState) (own : LaneName) (dev : ℕ) (frame : List ℕ) (error : D) (given : E) (result : Result Answer E) → kept ≡ old → result ≡ Err given →
     HasSteppedOnBridges {E = D} kept.fabric fabric (begin_on own frame) (Err error) → HasStepped {E = E} old (record kept { fabric = fabric }) (Xnext own.pair own.from own.queue dev) result
 unstepped {D = D} {E = E} kept old fabric own dev frame error given result seen is stepped =
@@ -305,6 +316,7 @@ unstepped {D = D} {E = E} kept old fabric own dev frame error given result seen 
     (subst (λ (old : ClusterState). HasStepped {E = E} old new step (Err given)) seen
     (has_stepped {E = E} kept new step (Err given) (goes_unstepped {D = D} {E = E} kept fabric own dev frame error given stepped) (plan_after kept fabric stepped.plan)))
 
+-- A copy meets a cluster's contract if it meets the fabric's and a delivered frame has arrived at the port there.
 pub copied : {E : Type 0} (kept old new : ClusterState) (fabric : FabricState) (own : LaneName) (answer : Answer) → kept ≡ old →
     HasSteppedOnBridges {E = E} kept.fabric fabric (Copy own.pair own.from own.queue) (Ok answer) → new ≡ brought_in (record kept { fabric = fabric }) own answer →
     HasStepped {E = E} old new (Copy own.pair own.from own.queue) (Ok answer)
@@ -315,16 +327,19 @@ copied {E = E} kept old new fabric own answer seen stepped after =
     (subst (λ (old : ClusterState). HasStepped {E = E} old (brought_in mid own answer) step (Ok answer)) seen
     (has_stepped kept (brought_in mid own answer) step (Ok answer) (goes_copied kept fabric own answer stepped) (brought_plan mid own answer ∙ plan_after kept fabric stepped.plan)))
 
+-- A copy that ends with an error meets a cluster's contract if pairs, devices and switches are declared as before.
 pub lost : {E : Type 0} (kept old new : ClusterState) (own : LaneName) (error : E) → kept ≡ old → plan_held new ≡ plan_held kept → HasStepped old new (Copy own.pair own.from own.queue) (Err error)
 lost kept old new own error seen same =
     has_stepped old new (Copy own.pair own.from own.queue) (Err error) (goes_lost old new own error) (same ∙ ap plan_held seen)
 
 -- The first frame that waits
 
+-- A list of frames that has a first one isn't empty.
 pub some_waits : (frames : List (List ℕ)) (frame : List ℕ) → Some frame ≡ slice_get frames 0 → 0 < length frames
 some_waits [] frame is = cc is
 some_waits (first ∷ frames) frame is = omega arith
 
+-- A copy of the first frame that waits at the port on a side and a queue is what the cluster is to send there.
 pub sending_is : (kept cluster : ClusterState) (own : LaneName) (place : PortPlace) (devs : List DevPlan) (plans : List SwitchPlan) (switch : Bytes) (frame copy : List ℕ) → kept ≡ cluster → devs ≡ kept.fabric.devs →
     plans ≡ kept.plans → Some (port_seen place) ≡ port_from devs own 0 plans → switch ≡ switch_of kept.switches (port_seen place) → Some frame ≡ first switch place.port → copy ≡ frame →
     Sends (port_seen place) own copy ≡ sending_in cluster own
@@ -336,6 +351,7 @@ sending_is kept cluster own place devs plans switch frame copy seen same_devs sa
 
 -- by the part that makes a step
 
+-- Where an xnext on a side and a queue is makeable, the plan has a device on them.
 pub sending_device : (plan : Plan) (step : Step) (own : LaneName) → part_of step ≡ SendsNext own → IsMakeable plan step → HasDeviceOn plan own
 sending_device plan (Xnext pair side queue dev) own e (inl may) = absurd may
 sending_device plan (Xnext pair side queue dev) own e (inr may) =
@@ -345,6 +361,7 @@ sending_device plan (Relay pair side queue s p) own e may = cc e
 sending_device plan (Copy pair side queue) own e may = cc e
 sending_device plan step own e may = cc e
 
+-- A step that relays from a port meets its contract if all relays from that port do, whatever queue they name.
 pub by_relay : {E : Type 0} (old new : ClusterState) (step : Step) (switch port : ℕ) (result : Result Answer E) → part_of step ≡ Relays switch port →
     ((pair : ℕ) (side : Side) (queue : ℕ) → HasStepped old new (Relay pair side queue switch port) result) → HasStepped old new step result
 by_relay old new (Relay pair side queue s p) switch port result e all =
@@ -355,6 +372,7 @@ by_relay old new (Xnext pair side queue dev) switch port result e all = cc e
 by_relay old new (Copy pair side queue) switch port result e all = cc e
 by_relay old new step switch port result e all = cc e
 
+-- A step that sends on a side and a queue meets its contract if an xnext there does, whatever device it names.
 pub by_sending : {E : Type 0} (old new : ClusterState) (step : Step) (own : LaneName) (result : Result Answer E) → part_of step ≡ SendsNext own →
     ((dev : ℕ) → HasStepped old new (Xnext own.pair own.from own.queue dev) result) → HasStepped old new step result
 by_sending old new (Xnext pair side queue dev) own result e all =
@@ -364,6 +382,7 @@ by_sending old new (Relay pair side queue s p) own result e all = cc e
 by_sending old new (Copy pair side queue) own result e all = cc e
 by_sending old new step own result e all = cc e
 
+-- A step that copies on a side and a queue meets its contract if the copy there does.
 pub by_copying : {E : Type 0} (old new : ClusterState) (step : Step) (own : LaneName) (result : Result Answer E) → part_of step ≡ Copies own →
     HasStepped old new (Copy own.pair own.from own.queue) result → HasStepped old new step result
 by_copying old new (Copy pair side queue) own result e stepped =

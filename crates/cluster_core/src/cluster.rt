@@ -40,7 +40,7 @@ impl Cluster {
     ///
     /// # Errors
     ///
-    /// [`AllocError`] from want of memory alone.
+    /// [`AllocError`] from out of memory alone.
     pub fn new(alloc: Global, plan: &Plan) -> Result<Cluster, AllocError>
         requires declared { IsDeclared plan.now }
         requires switches { AreSwitches plan.now }
@@ -66,7 +66,7 @@ impl Cluster {
     ///
     /// # Errors
     ///
-    /// [`AllocError`] from want of memory alone. The cluster has made the same steps as before then, and the step can be
+    /// [`AllocError`] from out of memory alone. The cluster has made the same steps as before then, and the step can be
     /// made again; but where a copy delivered a frame to a port, the frame may be lost, and of the cluster's steps nothing
     /// more is promised.
     #[inline(always)]
@@ -266,7 +266,7 @@ impl Cluster {
     ///
     /// # Errors
     ///
-    /// [`AllocError`] from want of memory alone. A part of the key may then be there.
+    /// [`AllocError`] from out of memory alone. A part of the key may then be there.
     pub fn push_key(&self, key: &mut Vec<u8>) -> Result<(), AllocError>
         ensures { OnOk result (key.new.items ≡ key.old.items ++ key_of self.now) }
     {

@@ -31,6 +31,7 @@ come_to-push (k ∷ keys) [] proofs key lane more none one = absurd none
 come_to-push (k ∷ keys) (l ∷ lanes) proofs key lane more come one =
     (come.0, come.1 ++ more, ap (λ proofs. proofs ++ more) come.2 ∙ append_assoc come.0 come.1 more, come.3, come_to-push keys lanes come.1 key lane more come.4 one)
 
+-- Lane records that come to their keys still do with one lane more, whose record comes to its own key.
 pub lane_added : (keys : List LaneKey) (lanes runs : List LaneRun) (proofs all more : List Shown) (key : LaneKey) (lane : LaneRun)
     → runs ≡ lanes ++ lane ∷ [] → all ≡ proofs ++ more → ComesTo key (lane_shown lane) more → ComeTo keys (map lane_shown lanes) proofs
     → ComeTo (keys ++ key ∷ []) (map lane_shown runs) all
@@ -40,6 +41,7 @@ lane_added keys lanes runs proofs all more key lane runs_are all_are one come =
     (subst (λ (all : List Shown). ComeTo (keys ++ key ∷ []) (map lane_shown lanes ++ lane_shown lane ∷ []) all) (sym all_are)
     (come_to-push keys (map lane_shown lanes) proofs key (lane_shown lane) more come one))
 
+-- A call that succeeds and adds a lane's record, come to its key, leaves records that all come to their keys.
 pub added_on_ok : {T E : Type 0} (result : Result T E) (lanes runs : List LaneRun) (proofs all more : List Shown) (key : LaneKey) (lane : LaneRun)
     → runs ≡ lanes ++ lane ∷ [] → all ≡ (if is_ok result then proofs ++ more else proofs) → ComesTo key (lane_shown lane) more
     → OnOk result ((keys : List LaneKey) → ComeTo keys (map lane_shown lanes) proofs → ComeTo (keys ++ key ∷ []) (map lane_shown runs) all)

@@ -34,6 +34,7 @@ only_in_second lane place at [] ys sum left right = let same : place ≡ at = om
 only_in_second lane place zero (x ∷ xs) ys sum left right = absurd (omega (arith, sum))
 only_in_second lane place (suc at) (x ∷ xs) ys sum left right = (left.0, only_in_second lane place at xs ys (omega (arith, sum)) left.1 right)
 
+-- The one place at which a lane stands in a list of lanes is below the list's length.
 pub only_within : (lane : LaneName) (place : ℕ) (xs : List LaneName) → IsOnlyAt place lane xs → place < length xs
 only_within lane place [] only = absurd only
 only_within lane zero (x ∷ xs) only = omega arith
@@ -121,5 +122,6 @@ only_from pair from queue a (suc n) (suc k) few is within =
     let many = length-lanes_of a in
     only_in_second lane (32 * k + (side_place from + queue)) (32 * suc k + (side_place from + queue)) (lanes_of a) (flat_map lanes_of (range_with_len (a + 1) n)) (omega arith) (none_in_pair lane a (omega arith)) (only_from pair from queue (a + 1) n k few (omega arith) (omega arith))
 
+-- Among all lanes of so many pairs a lane stands at the place that its name gives, and nowhere else.
 pub only_at_place : (lane : LaneName) (pairs : ℕ) → lane.queue < 16 → lane.pair < pairs → IsOnlyAt (place_of lane) lane (lanes_in pairs)
 only_at_place lane pairs few among = only_from lane.pair lane.from lane.queue 0 pairs lane.pair few (omega arith) among

@@ -25,6 +25,7 @@ each_of_traffic plan (lane ∷ lanes) (name ∷ names) same =
     All-cons (λ (lane : LaneTraffic). lane.frames.frames ≡ frames_on lane.name plan.traffic) lane lanes
     (ap (λ (l : LaneFrames). l.frames) first ∙ ap (λ (l : LaneFrames). frames_on l.name plan.traffic) (sym first)) (each_of_traffic plan lanes names rest)
 
+-- Lanes that are a plan's traffic sorted by lane each have just their frames of that traffic.
 pub are_of_traffic : (plan : Plan) (lanes : List LaneTraffic) → map lane_frames lanes ≡ by_lane plan.traffic (length plan.pairs) → AreOfTraffic plan lanes
 are_of_traffic plan lanes same = each_of_traffic plan lanes (lanes_in (length plan.pairs)) same
 
@@ -35,6 +36,7 @@ length-lanes_from a (suc n) =
     let rest = length-lanes_from (a + 1) n in
     omega arith
 
+-- A plan that can be run has at most 65,535 lanes when its traffic is sorted by lane.
 pub few_lanes : (plan : Plan) → CanRun plan → (lanes : List LaneTraffic) → map lane_frames lanes ≡ by_lane plan.traffic (length plan.pairs) → length lanes ≤ 65535
 few_lanes plan can lanes same =
     let many = ap length same in
@@ -89,6 +91,7 @@ shown_all plan (name ∷ names) (lane ∷ run) proofs come =
 abbrev pub all_keys : Plan → List LaneKey
 all_keys plan = map (key_of plan) (traffic_lanes plan)
 
+-- The keys of those lanes of a sorted traffic that have a frame are the keys of the plan's lanes with traffic.
 pub all_named : (plan : Plan) (lanes : List LaneTraffic) (tasks : List LaneKey) → map lane_frames lanes ≡ by_lane plan.traffic (length plan.pairs) → tasks ≡ keys_with_frames plan (map lane_frames lanes) → tasks ≡ all_keys plan
 all_named plan lanes tasks sorted keys = keys ∙ (ap (keys_with_frames plan) sorted ∙ keys_named plan (lanes_in (length plan.pairs)))
 
@@ -106,10 +109,12 @@ few_named plan can lanes tasks sorted keys =
     let many = ap length keys in
     omega arith
 
+-- A record that comes to the keys of all the plan's lanes with traffic fits the plan.
 pub record_fits : (plan : Plan) (run : List LaneShown) (proofs : List Shown) → ComeTo (all_keys plan) run proofs → IsFit plan run
 record_fits plan run proofs come =
     record { lanes = names_of plan (traffic_lanes plan) run proofs come; each = fit_all plan (traffic_lanes plan) run proofs come }
 
+-- A record that comes to the keys of all the plan's lanes with traffic is shown by its proofs.
 pub record_shown : (plan : Plan) (run : List LaneShown) (proofs : List Shown) → ComeTo (all_keys plan) run proofs → IsShown plan run proofs
 record_shown plan run proofs come = shown_all plan (traffic_lanes plan) run proofs come
 
@@ -119,15 +124,18 @@ pub record HasCome (plan : Plan) (waiting : List LaneKey) (run : List LaneShown)
   pub all : keys ++ waiting ≡ all_keys plan
   pub come : ComeTo keys run proofs
 
+-- As a run starts, with an empty record and no proofs, no lane is over and all lanes with traffic wait.
 pub none_over : (plan : Plan) (waiting : List LaneKey) (run : List LaneShown) (proofs : List Shown) → waiting ≡ all_keys plan → run ≡ [] → proofs ≡ [] → HasCome plan waiting run proofs
 none_over plan waiting run proofs keys no_run no_proofs =
     record { keys = []; all = keys; come = subst (λ (run : List LaneShown). ComeTo [] run proofs) (sym no_run) no_proofs }
 
+-- Once a group of the waiting lanes came to their keys, these too are over and only the others wait.
 pub group_over : (plan : Plan) (first : LaneKey) (before group after : List LaneKey) (old new : List LaneShown) (proofs all : List Shown) → HasCome plan (first ∷ before) old proofs → group ++ after ≡ first ∷ before
     → ((keys : List LaneKey) → ComeTo keys old proofs → ComeTo (keys ++ group) new all) → HasCome plan after new all
 group_over plan first before group after old new proofs all come parts adds =
     record { keys = come.keys ++ group; all = append_assoc come.keys group after ∙ (ap (λ rest. come.keys ++ rest) parts ∙ come.all); come = adds come.keys come.come }
 
+-- Where no lane waits any more, the record of the run comes to the keys of all lanes with traffic.
 pub all_over : (plan : Plan) {waiting : List LaneKey} {run : List LaneShown} {proofs : List Shown} → waiting ≡ [] → HasCome plan waiting run proofs → ComeTo (all_keys plan) run proofs
 all_over plan {run = run} {proofs = proofs} none come =
     let all = ap (λ waiting. come.keys ++ waiting) none in

@@ -21,6 +21,7 @@ use Rattle.cluster_run.proofs.PlacesOfLanes.{NoneIs, IsOnlyAt, only_within, only
 within : (lanes place : ℕ) (item : Traffic) (lane : LaneName) (frame : List ℕ) → item ≡ Send lane frame → place ≡ place_of lane → HasPlace lanes item → place < lanes
 within lanes place item lane frame item_is place_is has = let there : place_of lane < lanes = subst (λ (item : Traffic). HasPlace lanes item) item_is has in omega (arith, there, place_is)
 
+-- Lanes in which a frame is put after those of its lane, at the lane's place, are the lanes with this item more.
 pub put_shown : {T E : Type 0} (result : Result T E) (lanes : List LaneTraffic) (place : ℕ) (d new : LaneTraffic) (item : Traffic) (lane : LaneName) (frame : List ℕ)
     → item ≡ Send lane frame → place ≡ place_of lane → HasPlace (length lanes) item → OnOk result (lane_frames new ≡ with_frame (lane_frames (slice_index_or lanes place d)) frame)
     → OnOk result (map lane_frames (slice_set lanes place new) ≡ lanes_with (map lane_frames lanes) item)
@@ -61,12 +62,14 @@ abbrev pub IsPlaced : ℕ → Traffic → Type 0
 IsPlaced pairs (Send lane frame) = IsOnlyAt (place_of lane) lane (lanes_in pairs)
 IsPlaced pairs (Break pair) = Unit {0}
 
+-- In a plan that can be run the lane of each frame stands, among all lanes, at its place and nowhere else.
 pub is_placed : (plan : Plan) → CanRun plan → (item : Traffic) → IsTraffic plan item → IsPlaced (length plan.pairs) item
 is_placed plan can (Send lane frame) traffic =
     let pair = can.pairs lane.pair traffic.0.declared in
     only_at_place lane (length plan.pairs) (let few = pair.side_a.queues in let among = traffic.0.among in omega arith) traffic.0.declared
 is_placed plan can (Break pair) traffic = tt
 
+-- A frame whose lane stands at its place among all lanes has a place among as many lanes.
 pub has_place : (lanes pairs : ℕ) (item : Traffic) → lanes ≡ length (lanes_in pairs) → IsPlaced pairs item → HasPlace lanes item
 has_place lanes pairs (Send lane frame) many placed = let within = only_within lane (place_of lane) (lanes_in pairs) placed in omega arith
 has_place lanes pairs (Break pair) many placed = tt
@@ -79,6 +82,7 @@ break_with pair traffic (l ∷ lanes) =
     ap (λ (frames : List (List ℕ)). record { name = l; frames = frames } ∷ map (frames_of traffic) lanes) (sym same)
     ∙ ap (λ (rest : List LaneFrames). frames_of (traffic ++ Break pair ∷ []) l ∷ rest) (break_with pair traffic lanes)
 
+-- Putting one item more on its lane, in a traffic sorted by lane, sorts the traffic with that item after it.
 pub lanes_with-item : (pairs : ℕ) (traffic : List Traffic) (item : Traffic) → IsPlaced pairs item → lanes_with (by_lane traffic pairs) item ≡ by_lane (traffic ++ item ∷ []) pairs
 lanes_with-item pairs traffic (Send lane frame) placed = only_with lane frame traffic (place_of lane) (lanes_in pairs) placed
 lanes_with-item pairs traffic (Break pair) placed = break_with pair traffic (lanes_in pairs)
@@ -126,6 +130,7 @@ item_placed plan can items i item items_are below item_is =
     let all = ap length items_are in
     is_placed plan can item (subst (IsTraffic plan) (sym (item_is ∙ there)) (can.traffic i item (omega arith)))
 
+-- A traffic sorted by lane has as many lanes as there are in all pairs, frames or not.
 pub lanes_counted : (lanes slice : List LaneTraffic) (traffic : List Traffic) (pairs : ℕ) → slice ≡ lanes → map lane_frames lanes ≡ by_lane traffic pairs → length slice ≡ length (lanes_in pairs)
 lanes_counted lanes slice traffic pairs same is = ap length same ∙ (sym (length-map lanes lane_frames) ∙ (ap length is ∙ length-map (lanes_in pairs) (frames_of traffic)))
 

@@ -67,6 +67,7 @@ few_losses traffic each a (suc n) =
     let rest = few_losses traffic each (a + 1) n in
     omega arith
 
+-- A plan that can be run has fewer than 2^32 items of traffic, frames and link losses together.
 pub few_items : (plan : Plan) → CanRun plan → length plan.traffic < 2 ^ 32
 few_items plan can =
     let counted = items_counted plan plan.traffic can.traffic in

@@ -47,6 +47,7 @@ lane_found : (plan : Plan) (lane other : LaneName) (frame : List ℕ) (rest : Li
 lane_found plan lane other frame rest true same may later some = subst (IsTrafficLane plan) (lanes_same other lane same) may
 lane_found plan lane other frame rest false same may later some = later (λ none. some (ap (λ (b : Bool). cons_option (if b then Some frame else None) rest) same ∙ none))
 
+-- A lane with a frame in a traffic that a script can declare is one that may have traffic.
 pub traffic_lane : (plan : Plan) (lane : LaneName) (traffic : List Traffic) → All (IsTraffic plan) traffic → frames_on lane traffic ≢ [] → IsTrafficLane plan lane
 traffic_lane plan lane [] all some = absurd (some refl)
 traffic_lane plan lane (Break pair ∷ items) all some = traffic_lane plan lane items (others plan (Break pair) items all) some
@@ -77,6 +78,7 @@ few_on lane (Send other frame ∷ items) =
     let few = few_with frame (frames_on lane items) (same_lane other lane) (sum (map frames_in items)) (few_on lane items) in
     omega (arith, first, few)
 
+-- A lane that has frames, those of a runnable plan's traffic on it, can be run.
 pub can_be_run : (plan : Plan) → CanRun plan → (lane : LaneTraffic) (is_empty : Bool) → is_empty ≡ false → (IsTrue is_empty ↔ (lane.frames.frames ≡ [])) → lane.frames.frames ≡ frames_on lane.name plan.traffic
     → CanBeRun plan lane
 can_be_run plan can lane is_empty full tells frames =
@@ -105,6 +107,7 @@ losses_found plan losses pair are declared =
     let many = ap length are ∙ length-map-range_with_len count 0 (length plan.pairs) in
     (omega arith, ap (λ (losses : List ℕ). slice_index_or losses pair 0) are ∙ get_or-map-range_with_len count 0 (length plan.pairs) pair pair 0 declared (omega arith))
 
+-- A lane's name and frames with the entries of its ring and the losses of its pair's link are its key by the plan.
 pub task_key : (plan : Plan) (lane : LaneTraffic) (pair : PairPlan) (ring : Layout) (entries losses : ℕ) → pair ≡ pair_plan plan lane.name.pair → ring ≡ layout_of pair lane.name.from lane.name.queue → entries ≡ entries_of ring
     → losses ≡ losses_on plan lane.name
     → record { name = lane.name; entries = entries; losses = losses; traffic = lane.frames.frames } ≡ key_with plan (lane_frames lane)
@@ -118,6 +121,7 @@ few_more : (plan : Plan) (lane : LaneFrames) (rest : List LaneFrames) (b : Bool)
 few_more plan lane rest true n few = omega (arith, few)
 few_more plan lane rest false n few = omega (arith, few)
 
+-- The lanes that have a frame, and so a key, are no more than all lanes that are given.
 pub few_waiting : (plan : Plan) (lanes : List LaneFrames) → length (keys_with_frames plan lanes) ≤ length lanes
 few_waiting plan [] = omega arith
 few_waiting plan (lane ∷ lanes) =

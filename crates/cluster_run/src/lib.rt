@@ -21,6 +21,3 @@ pub mod workers;
 pub use run::run_plan;
 pub use task_list::lanes_to_run;
 pub use tasks::{LaneTask, TaskParts};
-
-#[cfg(test)]
-mod tests;

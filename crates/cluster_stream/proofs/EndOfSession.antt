@@ -37,6 +37,7 @@ pub record LanesEnd (source : SourceEnd) (sink : SinkEnd) (cut : Bool) (item_pro
 pub shown_with : {sent got : List (List ℕ)} {entries : ℕ} {cut cut' : Bool} {proof : Shown} → proof ≡ record { sent = sent; got = got; entries = entries; cut = cut } → cut ≡ cut' → proof ≡ record { sent = sent; got = got; entries = entries; cut = cut' }
 shown_with {sent = sent} {got = got} {entries = entries} shown same = shown ∙ ap (λ (cut : Bool). record { sent = sent; got = got; entries = entries; cut = cut }) same
 
+-- Where source and sink leave their ends and both lanes end, the session ends with these ends and both proofs.
 pub ends_with : (s : Inside) (session : SessionState) (source : SourceEnd) (sink : SinkEnd) (item_proof ack_proof : Shown) (left acks_left : List (List ℕ)) → IsSession s → session_of s ≡ session
     → LeavesSource s.source source → LeavesSink s.sink sink → LanesEnd source sink s.cutting.cut item_proof ack_proof left acks_left
     → EndsWith session (record { sender = source.sender; receiver = sink.receiver; acks = source.acks; item_proof = item_proof; ack_proof = ack_proof })

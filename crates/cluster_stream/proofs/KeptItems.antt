@@ -21,6 +21,7 @@ same_front n most before after within grows = ap (take n) (sym grows.front) ∙ 
 abbrev pub Took : Inside → Inside → Type 0
 Took w w' = (start : Receiver) → w.receiver ≡ fold taken start w.end.part.got → w'.receiver ≡ fold taken start w'.end.part.got
 
+-- A sink in which further items joined is still a right one, where they are of what came and below 2^32 in all.
 pub kept_more : (w w' : Inside) (most : ℕ) → IsSink w → w'.begun ≡ w.begun → w'.told ≡ w.told → w'.acks ≡ w.acks → Grows most w.receiver.items w'.receiver.items → length w.receiver.items + most < 2 ^ 32
     → (w'.is_wanting ≡ false → (w.is_wanting ≡ false) × Took w w') → IsSink w'
 kept_more w w' most holds begun told acks grows few takes =

@@ -42,6 +42,7 @@ few_sent sender sent offered =
 pub given_after : (sender after : Sender) (frame : List ℕ) → next_frame sender ≡ Some frame → after ≡ after_next_frame sender → after ≡ one_given sender
 given_after sender after frame next is = is ∙ ap (after_answer sender) next
 
+-- A sender that has no next frame is the same after it was asked for one.
 pub none_after : (sender after : Sender) → next_frame sender ≡ None → after ≡ after_next_frame sender → after ≡ sender
 none_after sender after next is = is ∙ ap (after_answer sender) next
 
@@ -57,7 +58,7 @@ offered_more follows sender sent frame offered next = record {
   few = offered.few;
 }
 
--- where a frame was sent it stands behind the others
+-- where a frame was sent it stands after the others
 sent_when : (before after : SendPart) (frame : List ℕ) (number : ℕ) (cut free : Bool)
     → Sent number ≡ (if cut then Cut frame else if free then Sent (length before.sent) else NoRoom frame (head before) after.index)
     → after ≡ (if cut then link_loaded before after.link else if free then frame_sent (index_loaded (link_loaded before after.link) after.index) frame else index_loaded (link_loaded before after.link) after.index)
@@ -66,10 +67,12 @@ sent_when before after frame number true free answer is = absurd (cc answer)
 sent_when before after frame number false true answer is = ap (λ (p : SendPart). p.sent) is
 sent_when before after frame number false false answer is = absurd (cc answer)
 
+-- Where a frame is answered as sent, it stands after the frames that its end sent before.
 pub sent_more : (before after : SendPart) (frame : List ℕ) (number : ℕ) → Sends before frame (Sent number) after → after.sent ≡ before.sent ++ frame ∷ []
 sent_more before after frame number sends =
     sent_when before after frame number (after.link == cut_word) (nat_lt 0 (free_by before after.index)) sends.0 sends.1
 
+-- A sender whose next frame was given and then sent on its lane has offered all that was sent, that frame included.
 pub offered_sent : NextFollows → (sender next : Sender) (before after : SendPart) (frame : List ℕ) (number : ℕ) → HasOffered sender before.sent → next_frame sender ≡ Some frame → next ≡ after_next_frame sender
     → Sends before frame (Sent number) after → HasOffered next after.sent
 offered_sent follows sender next before after frame number offered frame_is next_is sends =
@@ -82,15 +85,19 @@ offered_same back sender after sent offered is =
     subst (λ (after : Sender). HasOffered after sent) (sym (is ∙ back sender))
     (record { given = offered.given; bytes = offered.bytes; items = offered.items; reached = offered.reached; starts = offered.starts; within = offered.within; few = offered.few })
 
+-- A sender that gave one frame more goes on with its stream.
 pub goes_on_more : (sender after : Sender) → after ≡ one_given sender → GoesOn sender after
 goes_on_more sender after is = subst (λ (after : Sender). GoesOn sender after) (sym is) (record { items = refl; acked = refl; start = refl; ever = omega arith })
 
+-- A sender that gave one frame and got it back goes on with its stream.
 pub goes_on_same : BackIsUngiven → (sender after : Sender) → after ≡ given_back (one_given sender) → GoesOn sender after
 goes_on_same back sender after is = subst (λ (after : Sender). GoesOn sender after) (sym (is ∙ back sender)) (record { items = refl; acked = refl; start = refl; ever = omega arith })
 
+-- A sender that stands where it stood goes on with its stream.
 pub goes_on_here : (sender after : Sender) → after ≡ sender → GoesOn sender after
 goes_on_here sender after is = subst (λ (after : Sender). GoesOn sender after) (sym is) (record { items = refl; acked = refl; start = refl; ever = omega arith })
 
+-- A sender that goes on to a second state, and from there to a third, goes on from the first to the third.
 pub goes_on : {one two three : Sender} → GoesOn one two → GoesOn two three → GoesOn one three
 goes_on first second = record {
   items = second.items ∙ first.items;
@@ -108,6 +115,7 @@ bytes_of_session : (items : List (List ℕ)) (start : ℕ) → HaveBytes items �
 bytes_of_session items start bytes =
     All-cons (λ (frame : List ℕ). frame ≢ []) (number_frame start) (drop start items) (number_has_byte start) (All-drop (λ (frame : List ℕ). frame ≢ []) start items bytes)
 
+-- At the start of a session, with nothing sent, a sender has offered just what was sent.
 pub offers_nothing : (sender : Sender) (receiver : Receiver) (sent : List (List ℕ)) → CanBegin sender receiver → sent ≡ [] → HasOffered sender sent
 offers_nothing sender receiver sent can none =
     let start = can.start in

@@ -102,6 +102,7 @@ kept_few front items before got after start ever can prefix starts kept begins r
     let most = length-take (max (length before) (start + length got - 1)) items in
     omega arith
 
+-- A session that ended is one more of its stream's, in order: the kept items are a front, no more than ever given.
 pub has_gone : StreamLaws → (sessions : List Exchange) (session : SessionState) (end : SessionEnd) → GoesFrom sessions session.key session.ever → (ends : EndsWith session end) → HasGone sessions session end ends.exchange
 has_gone laws sessions session end goes ends =
     let items = session.key.items in
@@ -196,6 +197,7 @@ stream_proofs-push N [] x = refl
 stream_proofs-push N (y ∷ []) x = refl
 stream_proofs-push N (y ∷ z ∷ zs) x = ap (λ (rest : List Shown). exchange_proofs N true y ++ rest) (stream_proofs-push N (z ∷ zs) x) ∙ sym (append_assoc (exchange_proofs N true y) (cut_proofs N (z ∷ zs)) (exchange_proofs N false x))
 
+-- The proofs of cut sessions with one session more are those before it and then the two of that one, cut too.
 pub cut_proofs-push : (N : ℕ) (xs : List Exchange) (x : Exchange) → cut_proofs N (xs ++ x ∷ []) ≡ cut_proofs N xs ++ exchange_proofs N true x
 cut_proofs-push N xs x = flat_map-append (exchange_proofs N true) xs (x ∷ []) ∙ ap (λ (rest : List Shown). cut_proofs N xs ++ rest) (append-nil (exchange_proofs N true x))
 
@@ -265,6 +267,7 @@ new_goes key given start before = record {
 abbrev key_with : LaneName → ℕ → ℕ → List (List ℕ) → LaneKey
 key_with name entries losses traffic = record { name = name; entries = entries; losses = losses; traffic = traffic }
 
+-- Two keys of lanes that have equal names, entries, losses and traffic are equal.
 pub key_is : {name name' : LaneName} {entries entries' losses losses' : ℕ} {traffic traffic' : List (List ℕ)} → name ≡ name' → entries ≡ entries' → losses ≡ losses' → traffic ≡ traffic' → key_with name entries losses traffic ≡ key_with name' entries' losses' traffic'
 key_is {name = name} {name' = name'} {entries = entries} {entries' = entries'} {losses = losses} {losses' = losses'} {traffic = traffic} {traffic' = traffic'} a b c d =
     ap (λ (n : LaneName). key_with n entries losses traffic) a ∙ (ap (λ (n : ℕ). key_with name' n losses traffic) b ∙ (ap (λ (n : ℕ). key_with name' entries' n traffic) c ∙ ap (λ (t : List (List ℕ)). key_with name' entries' losses' t) d))
@@ -294,9 +297,11 @@ next_can_begin laws w end sender receiver holds ends sender_is receiver_is =
     let gone = has_gone laws holds.sessions w.session end holds.goes ends in
     subst (λ (r : Receiver). CanBegin sender r) (sym receiver_is) (renewed_goes laws holds.sessions w.session end w.entries holds.goes ends gone sender sender_is).1
 
+-- The sender of the next session has the same items as the session that ended.
 pub next_items : (w : Inside) (end : SessionEnd) (sender : Sender) → EndsWith w.session end → sender ≡ sender_renewed (fold ack_taken end.sender end.acks.frames) → sender.items ≡ w.session.key.items
 next_items w end sender ends sender_is = ap (λ (s : Sender). s.items) sender_is ∙ ((acks_keep end.sender end.acks.frames).items ∙ ends.items)
 
+-- After a cut session, with its two proofs added, the stream's work is sound with the next session begun.
 pub next_work : StreamLaws → (w : Inside) (end : SessionEnd) (sender : Sender) (receiver : Receiver) (session : SessionState) (first : List Shown) (proofs : Vec Shown Global) (ahead : ℕ) (holds : IsWork w) → ahead + 1 ≡ w.ahead → w.session.cut ≡ true → EndsWith w.session end
     → sender ≡ sender_renewed (fold ack_taken end.sender end.acks.frames) → receiver ≡ receiver_renewed end.receiver → session ≡ new_session w.entries sender receiver
     → first ≡ w.proofs.items ++ end.item_proof ∷ [] → proofs.items ≡ first ++ end.ack_proof ∷ [] → IsWork (record w { ahead = ahead; session = session; proofs = proofs })

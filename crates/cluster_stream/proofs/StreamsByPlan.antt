@@ -38,6 +38,7 @@ are_streams plan (name ∷ names) (lane ∷ run) proofs come = (come.0, come.1, 
 abbrev pub all_keys : Plan → List LaneKey
 all_keys plan = map (key_of plan) (traffic_lanes plan)
 
+-- A record of streams that comes to the keys of all the plan's lanes with traffic is resumed by its proofs.
 pub are_resumed : (plan : Plan) (run : List StreamShown) (proofs : List Shown) → ComeTo (all_keys plan) run proofs → AreResumed plan run proofs
 are_resumed plan run proofs come = record { lanes = names_of plan (traffic_lanes plan) run proofs come; each = are_streams plan (traffic_lanes plan) run proofs come }
 
@@ -47,15 +48,18 @@ pub record HasCome (plan : Plan) (waiting : List LaneKey) (run : List StreamShow
   pub all : keys ++ waiting ≡ all_keys plan
   pub come : ComeTo keys run proofs
 
+-- As a run of streams starts, with no record and no proofs, no stream is over and all lanes with traffic wait.
 pub none_over : (plan : Plan) (waiting : List LaneKey) (run : List StreamShown) (proofs : List Shown) → waiting ≡ all_keys plan → run ≡ [] → proofs ≡ [] → HasCome plan waiting run proofs
 none_over plan waiting run proofs keys no_run no_proofs =
     record { keys = []; all = keys; come = subst (λ (run : List StreamShown). ComeTo [] run proofs) (sym no_run) no_proofs }
 
+-- Once a group of waiting lanes' streams came to their keys, these too are over and only the others wait.
 pub group_over : (plan : Plan) (first : LaneKey) (before group after : List LaneKey) (old new : List StreamShown) (proofs all : List Shown) → HasCome plan (first ∷ before) old proofs → group ++ after ≡ first ∷ before
     → ((keys : List LaneKey) → ComeTo keys old proofs → ComeTo (keys ++ group) new all) → HasCome plan after new all
 group_over plan first before group after old new proofs all come parts adds =
     record { keys = come.keys ++ group; all = append_assoc come.keys group after ∙ (ap (λ rest. come.keys ++ rest) parts ∙ come.all); come = adds come.keys come.come }
 
+-- Where no lane waits for its stream any more, the record comes to the keys of all lanes with traffic.
 pub all_over : (plan : Plan) {waiting : List LaneKey} {run : List StreamShown} {proofs : List Shown} → waiting ≡ [] → HasCome plan waiting run proofs → ComeTo (all_keys plan) run proofs
 all_over plan {run = run} {proofs = proofs} none come =
     let all = ap (λ waiting. come.keys ++ waiting) none in

@@ -21,6 +21,3 @@ mod source;
 
 pub use record::{StreamRecord, StreamRun};
 pub use run::run_stream;
-
-#[cfg(test)]
-mod tests;

@@ -47,7 +47,7 @@ pub(crate) struct SessionEnd {
 const MOST_TURNS: usize = 1_024;
 
 impl Session {
-    /// A session of a stream in rings of so many entries: its lanes have these numbers. The only error is want of
+    /// A session of a stream in rings of so many entries: its lanes have these numbers. The only error is out of
     /// memory.
     pub(crate) fn new(
         alloc: Global,

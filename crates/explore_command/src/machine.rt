@@ -11,7 +11,7 @@ use std::alloc::{AllocError, Global};
 use std::marker::Model;
 use step_kinds::{Answer, Plan, Side, Step};
 
-/// A cluster that a search makes anew along each path. Contracts see the cluster.
+/// A cluster that a search copies, or makes anew along a path. Contracts see the cluster.
 #[derive(Drop)]
 pub struct PathCluster {
     cluster: Cluster,

@@ -180,7 +180,7 @@ fn push_land(text: &mut Vec<u8>, plan: &Plan, landing: &Landing) -> Result<(), A
     push_numbers(text, &[u64::from(landing.place)])
 }
 
-// A side behind a space.
+// A side after a space.
 fn side_word(side: Side) -> &'static str
     ensures { result.now ≡ 32 ∷ side_text side }
 {
@@ -298,7 +298,7 @@ fn was_agreed(plan: &Plan, outcomes: &[Outcome], agreed: &[bool], k: usize) -> b
     agreed[k]
 }
 
-// Adds an answer behind the number of its line.
+// Adds an answer after the number of its line.
 fn push_answer(text: &mut Vec<u8>, plan: &Plan, k: usize, answer: &[u8]) -> Result<(), AllocError>
     ensures { OnOk result (text.new.items ≡ text.old.items ++ text_line plan.now k answer.now) }
 {

@@ -48,7 +48,7 @@ land_text plan landing = codes " land " ++ pair_name plan.pairs landing.pair ++ 
 abbrev pub landing_line : Plan → Landing → List ℕ
 landing_line plan landing = line_of (place_text plan landing.at ++ land_text plan landing)
 
--- an answer behind the number of its line
+-- an answer after the number of its line
 abbrev pub text_line : Plan → ℕ → List ℕ → List ℕ
 text_line plan k text = line_of (decimal (line_at plan.steps k) ++ 32 ∷ text)
 

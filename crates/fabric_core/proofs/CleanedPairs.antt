@@ -18,6 +18,7 @@ kept_side old new side parts keeps whole =
     side_kept old new side parts keeps.plan (λ any page had. subst (λ pages. Contains pages page) (sym (keeps.pages any)) had)
     (keeps.spare side) whole
 
+-- The queues of a side that is whole can forget their session on a bridge that has kept what was promised.
 pub can_forget : (old new : Bridge) (side : Side) (parts : List QueuePart) → KeepsPromises old new → SideIsWhole old side parts → CanForget new side parts
 can_forget old new side parts keeps before =
     let whole = kept_side old new side parts keeps before in
@@ -37,6 +38,7 @@ peer_still old new side parts other whole =
     (λ any page had. subst (λ pages. Contains pages page) (sym (ap (λ (bridge : Bridge). pages_of bridge any) other.rest)) had)
     (ap (λ (flight : Flight Flying). flight.spare) (other_flight old new side other)) whole
 
+-- A pair stays whole where the queues of side A forget their session and no room stays promised at A.
 pub forgot_a : (old mid new : Bridge) (a b forgotten : List QueuePart) → IsWhole (record { bridge = old; queues = record { a = a; b = b } }) → KeepsPromises old mid → HasOtherRoom mid A new → (flight_of new A).spare ≡ 0
     → forgotten ≡ map forgotten_queue a → IsWhole (record { bridge = new; queues = record { a = forgotten; b = b } })
 forgot_a old mid new a b forgotten whole keeps other none is =
@@ -44,6 +46,7 @@ forgot_a old mid new a b forgotten whole keeps other none is =
     (subst (λ parts. SideIsWhole new A parts) (sym is) (side_forgotten mid new A a (other_plan mid new A other) none (kept_side old mid A a keeps (side_whole _ A whole))))
     (peer_still mid new A b other (kept_side old mid B b keeps (side_whole _ B whole)))
 
+-- A pair stays whole where the queues of side B forget their session and no room stays promised at B.
 pub forgot_b : (old mid new : Bridge) (a b forgotten : List QueuePart) → IsWhole (record { bridge = old; queues = record { a = a; b = b } }) → KeepsPromises old mid → HasOtherRoom mid B new → (flight_of new B).spare ≡ 0
     → forgotten ≡ map forgotten_queue b → IsWhole (record { bridge = new; queues = record { a = a; b = forgotten } })
 forgot_b old mid new a b forgotten whole keeps other none is =

@@ -16,10 +16,12 @@ use Rattle.fabric_core.specs.Parts.{CanForget, HasOtherRoom, all_unused}
 
 -- A bridge with other room at a side
 
+-- A bridge counts as one that differs from itself in the room of a side alone.
 pub same_room : (bridge : Bridge) (side : Side) → HasOtherRoom bridge side bridge
 same_room bridge A = record { rest = refl }
 same_room bridge B = record { rest = refl }
 
+-- A bridge that differs in the room of a side alone has the same plan.
 pub other_plan : (old new : Bridge) (side : Side) → HasOtherRoom old side new → new.plan ≡ old.plan
 other_plan old new side other = ap (λ (bridge : Bridge). bridge.plan) other.rest
 
@@ -47,6 +49,7 @@ other_again old mid new side spare other is =
 reset_at : (bridge new : Bridge) (side : Side) (port : PortState) → port.side ≡ side → new ≡ reset_by port bridge → new ≡ with_flight bridge side (given_back (flight_of bridge side) (unused_of port))
 reset_at bridge new side port same is = subst (λ side. new ≡ with_flight bridge side (given_back (flight_of bridge side) (unused_of port))) same is
 
+-- A bridge that differs in a side's room alone still does after a port of that side gives back its unused promises.
 pub one_forgot : (old mid new : Bridge) (side : Side) (port : PortState) → HasOtherRoom old side mid → port.side ≡ side → new ≡ reset_by port mid → HasOtherRoom old side new
 one_forgot old mid new side port other same is = other_again old mid new side _ other (reset_at mid new side port same is)
 
@@ -60,14 +63,17 @@ still_there xs ys i d within items =
     let none : i + 0 ≡ i = omega arith in
     ap (λ zs. get_or zs i d) items ∙ ap (λ n. get_or (first ++ drop i xs) n d) at ∙ get_or-append-add first (drop i xs) 0 d ∙ get_or-drop i xs 0 d ∙ ap (λ n. get_or xs n d) none
 
+-- Where the queues before place i have forgotten their session, the one at i is still as it was at first.
 pub its_turn : (xs ys : List QueuePart) (i : ℕ) (part : QueuePart) → i < length xs → ys ≡ map forgotten_queue (take i xs) ++ drop i xs → part ≡ get_or ys i part → get_or xs i no_queue ≡ part
 its_turn xs ys i part within items is = get_or_default xs i no_queue part within ∙ sym (is ∙ still_there xs ys i part within items)
 
+-- The queue whose turn to forget it is has a port of the plan that the bridge has at that moment.
 pub plan_then : (old mid : Bridge) (side : Side) (xs : List QueuePart) (i : ℕ) (part : QueuePart) → i < length xs → CanForget old side xs → HasOtherRoom old side mid
     → get_or xs i no_queue ≡ part → mid.plan ≡ part.queue.port.plan
 plan_then old mid side xs i part within can other is =
     other_plan old mid side other ∙ sym (can.its_plan i within) ∙ ap (λ (part : QueuePart). part.queue.port.plan) is
 
+-- The queue whose turn to forget it is has a port of the side that forgets its session.
 pub side_then : (old : Bridge) (side : Side) (xs : List QueuePart) (i : ℕ) (part : QueuePart) → i < length xs → CanForget old side xs → get_or xs i no_queue ≡ part → part.queue.port.side ≡ side
 side_then old side xs i part within can is = sym (ap (λ (part : QueuePart). part.queue.port.side) is) ∙ can.its_side i within
 
@@ -82,12 +88,14 @@ first_fits sum first others spare is fits = omega (arith, is, fits)
 others_fit : (sum first others spare spare_after : ℕ) → sum ≡ first + others → spare ≡ sum → spare_after ≡ spare - first → spare_after ≡ others
 others_fit sum first others spare spare_after is fits after = omega (arith, is, fits, after)
 
+-- Where a side's room is what its queues from place i on haven't used, it covers what the one at i hasn't.
 pub room_then : (mid : Bridge) (side : Side) (xs : List QueuePart) (i : ℕ) (part : QueuePart) → i < length xs → get_or xs i no_queue ≡ part → part.queue.port.side ≡ side
     → (flight_of mid side).spare ≡ all_unused (drop i xs) → unused_of part.queue.port ≤ (flight_of mid part.queue.port.side).spare
 room_then mid side xs i part within is same room =
     subst (λ side. unused_of part.queue.port ≤ (flight_of mid side).spare) (sym same)
     (first_fits (all_unused (drop i xs)) (unused_of part.queue.port) (all_unused (drop (i + 1) xs)) (flight_of mid side).spare (sum_then xs i part within is) room)
 
+-- Once queue i has given back what it hasn't used, its side's room is what the queues after it haven't used.
 pub room_behind : (mid new : Bridge) (side : Side) (xs : List QueuePart) (i : ℕ) (part : QueuePart) → i < length xs → get_or xs i no_queue ≡ part → part.queue.port.side ≡ side
     → new ≡ reset_by part.queue.port mid → (flight_of mid side).spare ≡ all_unused (drop i xs) → (flight_of new side).spare ≡ all_unused (drop (i + 1) xs)
 room_behind mid new side xs i part within is same reset room =
@@ -95,6 +103,7 @@ room_behind mid new side xs i part within is same reset room =
     ap (λ (bridge : Bridge). (flight_of bridge side).spare) (reset_at mid new side part.queue.port same reset) ∙ ap (λ (flight : Flight Flying). flight.spare) (flight_is mid side _) in
     others_fit (all_unused (drop i xs)) (unused_of part.queue.port) (all_unused (drop (i + 1) xs)) (flight_of mid side).spare (flight_of new side).spare (sum_then xs i part within is) room after
 
+-- With the queue at place i forgotten too, the queues up to it are forgotten and those after it are as at first.
 pub items_then : (xs ys : List QueuePart) (i : ℕ) (part new : QueuePart) → i < length xs → ys ≡ map forgotten_queue (take i xs) ++ drop i xs → part ≡ get_or ys i part → new ≡ forgotten_queue part
     → set ys i new ≡ map forgotten_queue (take (i + 1) xs) ++ drop (i + 1) xs
 items_then xs ys i part new within items is new_is = ap (λ new. set ys i new) new_is ∙ map_over_more forgotten_queue xs ys i part within items is

@@ -157,6 +157,7 @@ begun_counters : (answer : Answer) (session : ℕ) (part : QueuePart) → (accep
 begun_counters (OkNumber number) session part = refl
 begun_counters answer session part = refl
 
+-- A begin of a frame that is no device's leaves the counters of the queue as they were.
 pub begin_counters : (part : QueuePart) (bridge : Bridge) (frame : List ℕ) → (begin_turn part bridge frame).part.counters ≡ part.counters
 begin_counters part bridge frame =
     begun_counters (of_begin (begin_answer part.queue bridge (length frame))) bridge.link.session (record part { queue = after_begin part.queue bridge frame })

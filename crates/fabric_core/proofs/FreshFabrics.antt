@@ -26,9 +26,11 @@ pub record AreFresh (plan : Plan) (devs : List DevPlan) (pairs : List PairState)
   pub all_pairs : length pairs ≡ count
   pub fresh : (k : ℕ) → k < count → IsFresh devs (pair_plan plan k) k (get_or pairs k no_state)
 
+-- The empty list is that of a plan's first 0 pairs, each as before any step.
 pub none_fresh : (plan : Plan) (devs : List DevPlan) → AreFresh plan devs [] 0
 none_fresh plan devs = record { all_pairs = refl; fresh = λ k below. absurd (omega (arith, below)) }
 
+-- The first pairs of a plan, all as before any step, stay so where the next one is added as before any step.
 pub one_more_fresh : (plan : Plan) (devs : List DevPlan) (pairs : List PairState) (count : ℕ) (pair : PairState) → AreFresh plan devs pairs count → IsFresh devs (pair_plan plan count) count pair
     → AreFresh plan devs (pairs ++ pair ∷ []) (count + 1)
 one_more_fresh plan devs pairs count pair are is =
@@ -48,9 +50,11 @@ one_more_fresh plan devs pairs count pair are is =
       choose (inl same) = last k same
       choose (inr other) = earlier k (omega (arith, below, other))
 
+-- In a plan that a script can declare, no two devices of a pair are on one queue.
 pub alone : (plan : Plan) (k : ℕ) → IsDeclared plan → AreAlone plan.devs k
 alone plan k declared = λ i j first second on same. declared.one_on_a_queue i j first second same
 
+-- A fabric with a declared plan's devices, and all its pairs as before any step, has made no steps of that plan.
 pub fresh_made : (plan : Plan) (fabric : FabricState) → IsDeclared plan → fabric.devs ≡ plan.devs → AreFresh plan fabric.devs fabric.pairs (length plan.pairs) → HasMade plan [] fabric
 fresh_made plan fabric declared same are =
     record {
@@ -65,6 +69,7 @@ fresh_made plan fabric declared same are =
       };
     }
 
+-- A fabric that has made no steps of a plan has made a list of steps, the empty one, of the plan that it keeps.
 pub fresh_itself : (plan : Plan) (fabric : FabricState) → HasMade plan [] fabric → MadeSome (plan_kept fabric) fabric
 fresh_itself plan fabric made =
     subst (λ plan. MadeSome plan fabric) (sym (plan_of_standing plan [] fabric made.stands))

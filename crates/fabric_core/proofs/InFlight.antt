@@ -28,7 +28,7 @@ use Rattle.fabric_core.proofs.StepsOfFabrics.{goes_on, plan_of_standing}
 
 -- From a place on nothing lands
 
--- the answer at a place behind all writes
+-- the answer at a place after all writes
 none_there : (bridge : Bridge) (side : Side) (place : ℕ) → length (flight_of bridge side).writes ≤ place → of_land (label_landed (landing bridge side place)) ≡ Nothing
 none_there bridge side place beyond =
     ap (λ (found : Option Flying). of_land (label_landed (answer_for found (may_land (map flying_order (flight_of bridge side).writes) place))))
@@ -54,6 +54,7 @@ key_before writes place = flat_map flying_key (take place writes)
 abbrev pub label_at : List Flying → ℕ → Option Label
 label_at writes place = option_map (λ (flying : Flying). flying.label) (slice_get writes place)
 
+-- The key of the writes up to a place is that of the writes before it, followed by that of the label there.
 pub key_more : (writes : List Flying) (place : ℕ) (label : Label) → Some label ≡ label_at writes place →
     key_before writes (suc place) ≡ key_before writes place ++ label_key label
 key_more [] place label is = absurd (cc is)

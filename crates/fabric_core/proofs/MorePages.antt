@@ -16,10 +16,12 @@ use Rattle.plan_model.specs.Link.{is_up}
 use Rattle.fabric_core.specs.Promises.{HasMorePages, with_promised}
 use Rattle.fabric_core.specs.Turns.{bridge_turn, register_turn}
 
+-- A fact that holds anyway holds where a result is an error.
 pub on_err : {X E : Type 0} {P : Type 0} (result : Result X E) → P → OnErr result P
 on_err (Ok x) p = tt
 on_err (Err e) p = p
 
+-- A bridge in which one side's promised pages alone changed, and none was lost, differs in further pages alone.
 pub more_pages : (old new : Bridge) (side : Side) → new ≡ with_pages old side (pages_of new side)
     → ((page : ℕ) → Contains (pages_of old side) page → Contains (pages_of new side) page) → HasMorePages old new
 more_pages old new A is stay =
@@ -50,6 +52,7 @@ posted-pages : (bridge : Bridge) (side any : Side) (write : PostedWrite) → pag
 posted-pages bridge A any write = refl
 posted-pages bridge B any write = refl
 
+-- Where the link is up, further pages promised before a post are all that differs from the post without them.
 pub posted_more : (old mid new : Bridge) (side : Side) (write : PostedWrite) → is_up old.link.state ≡ true → HasMorePages old mid → new ≡ with_posted mid side write
     → HasMorePages (posted_aside old side write) new
 posted_more old mid new side write up more is =
@@ -70,11 +73,13 @@ checked-pages bridge A Up = refl
 checked-pages bridge B Up = refl
 checked-pages bridge side answer = refl
 
+-- A bridge as a check leaves it, but for pages of that side, none of them lost, differs in further pages alone.
 pub checked_more : (old new : Bridge) (side : Side) → new ≡ with_pages (after_check old side) side (pages_of new side)
     → ((page : ℕ) → Contains (pages_of old side) page → Contains (pages_of new side) page) → HasMorePages (after_check old side) new
 checked_more old new side is stay =
     more_pages (after_check old side) new side is (λ page had. stay page (subst (λ pages. Contains pages page) (checked-pages old side (check_answer old side)) had))
 
+-- Any step but those of link and handshake, spad, poke and showmem turns the bridge as `register_turn` says.
 pub by_register : (bridge : Bridge) (step : Step) → ((p : ℕ) (side : Side) → step ≡ Enable p side → ⊥) → ((p : ℕ) → step ≡ Train p → ⊥) → ((p : ℕ) → step ≡ Break p → ⊥) → ((p : ℕ) → step ≡ DropDone p → ⊥) → ((p : ℕ) (side : Side) → step ≡ Offer p side → ⊥) → ((p : ℕ) (side : Side) → step ≡ Check p side → ⊥) → ((p : ℕ) (side : Side) (queue : ℕ) → step ≡ Ready p side queue → ⊥) → ((p : ℕ) (side : Side) (queue : ℕ) → step ≡ Join p side queue → ⊥) → ((p : ℕ) (side : Side) (i value : ℕ) → step ≡ Spad p side i value → ⊥) → ((p : ℕ) (side : Side) (window offset : ℕ) (bytes : List ℕ) → step ≡ Poke p side window offset bytes → ⊥) → ((p : ℕ) (side : Side) (at len : ℕ) → step ≡ ShowMem p side at len → ⊥)
     → bridge_turn bridge step ≡ register_turn bridge step
 by_register bridge (Enable p side) enable train cut drop offer check ready join spad poke mem = absurd (enable p side refl)

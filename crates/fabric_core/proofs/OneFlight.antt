@@ -63,9 +63,11 @@ first_flight : (bridge : Bridge) (side : Side) (entry : Entry) (todo : List Labe
 first_flight bridge side entry [] = no_flight bridge side
 first_flight bridge side entry (label ∷ todo) = write_flight bridge side entry label
 
+-- A post by a port changes nothing of the bridge but the flight of the port's side.
 pub post_flight : (port : PortState) (bridge : Bridge) → OneFlight bridge port.side (posted_by port bridge)
 post_flight port bridge = first_flight bridge port.side (next_begun port.queue port.sending).entry (next_begun port.queue port.sending).todo
 
+-- An ack by a port changes nothing of the bridge but the flight of the port's side.
 pub ack_flight : (port : PortState) (bridge : Bridge) → OneFlight bridge port.side (acked_by port bridge)
 ack_flight port bridge = at_test (is_cleared port.receiving.phase) where
   at_test : (cleared : Bool) → OneFlight bridge port.side (if cleared then index_posted bridge port.side port.queue (last_got port.receiving) else bridge)

@@ -31,6 +31,7 @@ parts receiving gathered more others =
     else if others then record receiving { got = receiving.got + 1; phase = Copied; gathered = gathered }
     else record receiving { got = receiving.got + 1; phase = Copied; gathered = []; done = receiving.done + 1 }
 
+-- A copy leaves a port with the plan, side and queue that it had.
 pub copy_place : (port : PortState) (bridge : Bridge) → SamePlace (after_copy port bridge) port
 copy_place port bridge = place_if port (part_copied port.receiving (gathered_next port bridge)) (is_copying port.receiving.phase)
 
@@ -45,6 +46,7 @@ copy_goes_on port bridge = at_test (is_copying port.receiving.phase) refl where
 
 -- a frame is whole as its last entry was copied
 
+-- A copy that is answered with a whole frame is one by a receiver that was copying an entry.
 pub whole_copying : (port : PortState) (bridge : Bridge) (number : ℕ) (frame : List ℕ) → copy_answer port bridge ≡ Whole number frame → is_copying port.receiving.phase ≡ true
 whole_copying port bridge number frame = at_test (is_copying port.receiving.phase) refl where
   at_test : (copying : Bool) → is_copying port.receiving.phase ≡ copying
@@ -58,6 +60,7 @@ answers receiving gathered more others =
     else if others then Part receiving.got receiving.part
     else Whole receiving.done gathered
 
+-- After a copy that is answered with a whole frame the receiver isn't copying any more.
 pub whole_copied : (port : PortState) (bridge : Bridge) (number : ℕ) (frame : List ℕ) → copy_answer port bridge ≡ Whole number frame
     → is_copying (after_copy port bridge).receiving.phase ≡ false
 unfolding parts answers
@@ -71,20 +74,25 @@ whole_copied port bridge number frame = at_tests (is_copying port.receiving.phas
 
 -- Clearing and giving back
 
+-- A clear leaves a port with the plan, side and queue that it had.
 pub clear_place : (port : PortState) → SamePlace (after_clear port) port
 clear_place port = place_if port (record port.receiving { phase = Cleared }) (is_copied port.receiving.phase)
 
+-- A receiver that is copying after a clear was copying before it.
 pub clear_goes_on : (port : PortState) → is_copying (after_clear port).receiving.phase ≡ true → is_copying port.receiving.phase ≡ true
 clear_goes_on port = goes_on_if port (record port.receiving { phase = Cleared }) (is_copied port.receiving.phase) refl
 
+-- An ack leaves a port with the plan, side and queue that it had.
 pub ack_place : (port : PortState) → SamePlace (after_ack port) port
 ack_place port = place_if port (record port.receiving { phase = Idle }) (is_cleared port.receiving.phase)
 
+-- A receiver that is copying after an ack was copying before it.
 pub ack_goes_on : (port : PortState) → is_copying (after_ack port).receiving.phase ≡ true → is_copying port.receiving.phase ≡ true
 ack_goes_on port = goes_on_if port (record port.receiving { phase = Idle }) (is_cleared port.receiving.phase) refl
 
 -- Posting
 
+-- A post leaves a port with the plan, side and queue that it had.
 pub post_place : (port : PortState) → SamePlace (after_post port) port
 post_place port = record { same_plan = refl; same_side = refl; same_queue = refl }
 
@@ -95,6 +103,7 @@ look_at (Ready number len) queue port same = same
 look_at PeerDown queue port same = same_place queue.port
 look_at answer queue port same = same_place queue.port
 
+-- A look leaves the port of a queue with the plan, side and queue that it had.
 pub look_place : (queue : QueueState) (bridge : Bridge) → SamePlace (after_look queue bridge).port queue.port
 look_place queue bridge =
     look_at (look_answer queue bridge) queue (port_after_look queue.port bridge) (place_if queue.port (entry_found queue.port.receiving (found_seen queue.port bridge)) (is_idle queue.port.receiving.phase))
@@ -106,6 +115,7 @@ unfound_by : (answer : LookAnswer) (queue : QueueState) (port : PortState) → (
 unfound_by (Ready number len) queue port other = absurd (other number len refl)
 unfound_by answer queue port other = refl
 
+-- A look that isn't answered ready leaves the receiver of the queue's port as it was.
 pub unfound_receives : (queue : QueueState) (bridge : Bridge) → ((number len : ℕ) → look_answer queue bridge ≡ Ready number len → ⊥)
     → (after_look queue bridge).port.receiving ≡ queue.port.receiving
 unfound_receives queue bridge = unfound_by (look_answer queue bridge) queue (port_after_look queue.port bridge)

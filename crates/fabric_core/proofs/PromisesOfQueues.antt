@@ -30,6 +30,7 @@ still_ready : (plan : PairPlan) (side : Side) (old new : List ℕ) (write : Opti
 still_ready plan side old new None stay ready = tt
 still_ready plan side old new (Some write) stay ready = λ reach page touches. stay page (ready reach page touches)
 
+-- A port keeps its promised pages where no page that was promised in either memory is lost.
 pub pages_stay : (port : PortState) (own peer own_new peer_new : List ℕ) → ((page : ℕ) → Contains own page → Contains own_new page) → ((page : ℕ) → Contains peer page → Contains peer_new page)
     → HasPages port own peer → HasPages port own_new peer_new
 pages_stay port own peer own_new peer_new stay peer_stay ready =
@@ -79,6 +80,7 @@ pub record SamePlace (new old : PortState) : Type 0 where
   pub same_side : new.side ≡ old.side
   pub same_queue : new.queue ≡ old.queue
 
+-- Each port has the same plan, side and queue as itself.
 pub same_place : (port : PortState) → SamePlace port port
 same_place port = record { same_plan = refl; same_side = refl; same_queue = refl }
 
@@ -86,6 +88,7 @@ same_place port = record { same_plan = refl; same_side = refl; same_queue = refl
 abbrev pub IsGrown : PortState → PortState → Bridge → Bridge → Type 0
 IsGrown old new before after = after ≡ with_room (with_pages before (other_side old.side) (pages_of after (other_side old.side))) old.side (unused_of new - unused_of old)
 
+-- Promising pages at the peer and room at the side leaves a bridge the same, promises aside.
 pub plain_grown : (old new : PortState) (before after : Bridge) → IsGrown old new before after → plain_bridge after ≡ plain_bridge before
 plain_grown old new before after rest = ap plain_bridge rest ∙ grown_plain before old.side (pages_of after (other_side old.side)) (unused_of new - unused_of old)
 
@@ -113,7 +116,7 @@ keeps_grown old new before after touched same grows rest grow ready =
       ready = ready;
     }
 
--- where the call answered want of memory, the port is as it was
+-- where the call answered out of memory, the port is as it was
 ready_after : (old new : PortState) (before after : Bridge) (touched : ℕ → Type 0)
     → IsGrown old new before after
     → PagesGrow touched (pages_of before (other_side old.side)) (pages_of after (other_side old.side)) → HasPagesIn old before
@@ -152,6 +155,7 @@ abbrev pub IsGrownBoth : PortState → PortState → Bridge → Bridge → Type 
 IsGrownBoth old new before after =
     after ≡ with_room (with_pages (with_pages before (other_side old.side) (pages_of after (other_side old.side))) old.side (pages_of after old.side)) old.side (unused_of new - unused_of old)
 
+-- Promising pages in both memories and room at the side leaves a bridge the same, promises aside.
 pub plain_grown_both : (old new : PortState) (before after : Bridge) → IsGrownBoth old new before after → plain_bridge after ≡ plain_bridge before
 plain_grown_both old new before after rest =
     ap plain_bridge rest ∙ both_plain before old.side (pages_of after (other_side old.side)) (pages_of after old.side) (unused_of new - unused_of old)
@@ -179,7 +183,7 @@ keeps_both old new before after touched flags same grows rest grow own_grow read
       ready = ready;
     }
 
--- where the look answered want of memory, the port is as it was
+-- where the look answered out of memory, the port is as it was
 ready_both : (old new : PortState) (before after : Bridge) (touched flags : ℕ → Type 0)
     → PagesGrow touched (pages_of before (other_side old.side)) (pages_of after (other_side old.side)) → PagesGrow flags (pages_of before old.side) (pages_of after old.side)
     → HasPagesIn old before → new ≡ old → HasPagesIn new after
@@ -189,6 +193,7 @@ ready_both old new before after touched flags grow own_grow ready same =
 
 -- A call that changed no promise but those that it used
 
+-- A call keeps what was promised where its port has its pages, all pages stay, and room goes with unused promises.
 pub keeps_exact : (old new : PortState) (before after : Bridge) → SamePlace new old → after.plan ≡ before.plan → ((any : Side) → pages_of after any ≡ pages_of before any)
     → (flight_of after old.side).spare + unused_of old ≡ (flight_of before old.side).spare + unused_of new
     → (flight_of after (other_side old.side)).spare ≡ (flight_of before (other_side old.side)).spare → HasPagesIn new after → KeepsPort old new before after
@@ -214,7 +219,7 @@ keeps_seen seen part new next before after view is place keeps ready had =
     let here : HasPagesIn old before = subst (λ (part : QueuePart). HasPagesIn part.queue.port before) (sym view) had in
     subst (λ (part : QueuePart). KeepsPort part.queue.port new.port before after) view (keeps same (ready here))
 
--- the same of a call that grew the pages at the peer, and where it answered want of memory
+-- the same of a call that grew the pages at the peer, and where it answered out of memory
 pub begun_keeps : (seen part : QueuePart) (new next : QueueState) (before after : Bridge) (touched : ℕ → Type 0) → seen ≡ part → new ≡ next → SamePlace next.port seen.queue.port
     → unused_of seen.queue.port ≤ unused_of next.port
     → IsGrown seen.queue.port new.port before after
@@ -224,6 +229,7 @@ begun_keeps seen part new next before after touched view is place grows rest gro
     keeps_seen seen part new next before after view is place
     (λ same. keeps_grown seen.queue.port new.port before after touched same (subst (λ (queue : QueueState). unused_of seen.queue.port ≤ unused_of queue.port) (sym is) grows) rest grow)
 
+-- A queue's call that is out of memory, after pages at the peer grew, keeps all that was promised.
 pub wanted_keeps : (seen part : QueuePart) (new : QueueState) (before after : Bridge) (touched : ℕ → Type 0) → seen ≡ part → new ≡ seen.queue
     → IsGrown seen.queue.port new.port before after
     → PagesGrow touched (pages_of before (other_side seen.queue.port.side)) (pages_of after (other_side seen.queue.port.side))
@@ -243,6 +249,7 @@ looked_keeps seen part new next before after touched flags view is place grows r
     keeps_seen seen part new next before after view is place
     (λ same. keeps_both seen.queue.port new.port before after touched flags same (subst (λ (queue : QueueState). unused_of seen.queue.port ≤ unused_of queue.port) (sym is) grows) rest grow own_grow)
 
+-- A queue's look that is out of memory, after pages in both memories grew, keeps all that was promised.
 pub look_wanted_keeps : (seen part : QueuePart) (new : QueueState) (before after : Bridge) (touched flags : ℕ → Type 0) → seen ≡ part → new ≡ seen.queue
     → IsGrownBoth seen.queue.port new.port before after
     → PagesGrow touched (pages_of before (other_side seen.queue.port.side)) (pages_of after (other_side seen.queue.port.side))
@@ -270,22 +277,26 @@ closed_port : (answer : BeginAnswer) (queue : QueueState) → (closed_where_begu
 closed_port (IsBegun number) queue = refl
 closed_port answer queue = refl
 
+-- A begin leaves the port of a queue with the plan, side and queue that it had.
 pub begin_place : (queue : QueueState) (bridge : Bridge) (frame : List ℕ) → SamePlace (after_begin queue bridge frame).port queue.port
 begin_place queue bridge frame =
     begun_place queue (frame_begun queue.port frame) (sender_refusal queue bridge) (port_begin_answer queue.port bridge (length frame)) (record { same_plan = refl; same_side = refl; same_queue = refl })
 
+-- A begin leaves the receiver of a queue's port as it was.
 pub begin_receives : (queue : QueueState) (bridge : Bridge) (frame : List ℕ) → (after_begin queue bridge frame).port.receiving ≡ queue.port.receiving
 begin_receives queue bridge frame = begun_receives queue (frame_begun queue.port frame) (sender_refusal queue bridge) (port_begin_answer queue.port bridge (length frame)) refl
 
 down_unless : QueueState → Bridge → QueueState
 down_unless queue bridge = port_unless (sender_refusal queue bridge) queue (where_begun queue.port (down_begun queue.port) (down_answer queue.port bridge))
 
+-- A going down leaves the port of a queue with the plan, side and queue that it had.
 pub down_place : (queue : QueueState) (bridge : Bridge) → SamePlace (after_qpdown queue bridge).port queue.port
 unfolding down_unless
 down_place queue bridge =
     subst (λ port. SamePlace port queue.port) (sym (closed_port (qpdown_answer queue bridge) (down_unless queue bridge)))
     (begun_place queue (down_begun queue.port) (sender_refusal queue bridge) (down_answer queue.port bridge) (record { same_plan = refl; same_side = refl; same_queue = refl }))
 
+-- A going down leaves the receiver of a queue's port as it was.
 pub down_receives : (queue : QueueState) (bridge : Bridge) → (after_qpdown queue bridge).port.receiving ≡ queue.port.receiving
 unfolding down_unless
 down_receives queue bridge =

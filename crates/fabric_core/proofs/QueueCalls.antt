@@ -9,6 +9,7 @@ use Rattle.fabric_core.specs.Parts.{KeepsPort}
 use Rattle.fabric_core.specs.QueueCalls.{HasTurned, HasTurnedUnlessWanting}
 use Rattle.fabric_core.specs.Turns.{QueueTurn}
 
+-- A queue has taken a turn where answer, part and bridge are the turn's and its port keeps what was promised.
 pub has_turned : (turn : QueueTurn) (answer : Answer) (old new : QueuePart) (before after : Bridge) → answer ≡ turn.answer → new ≡ turn.part → after ≡ turn.bridge
     → KeepsPort old.queue.port new.queue.port before after → HasTurned turn answer old new before after
 has_turned turn answer old new before after says is bridge keeps = record { answer = says; after = is; bridge = bridge; keeps = keeps }
@@ -37,12 +38,12 @@ pub refused_turn : {E : Type 0} {MayWant : Answer → Type 0} (turn : QueueTurn)
     → HasPagesIn part.queue.port bridge → HasTurnedUnlessWanting {E = E} MayWant turn (Ok answer) part part bridge bridge
 refused_turn turn answer part bridge says stays ready = turn_taken turn answer part part bridge bridge says stays refl (keeps_same part.queue.port bridge ready)
 
--- a turn for which memory is wanted, before anything changed
+-- a turn that is out of memory, before anything changed
 pub unmade_turn : {E : Type 0} {MayWant : Answer → Type 0} (turn : QueueTurn) (error : E) (part : QueuePart) (bridge : Bridge) → MayWant turn.answer
     → HasPagesIn part.queue.port bridge → HasTurnedUnlessWanting {E = E} MayWant turn (Err error) part part bridge bridge
 unmade_turn turn error part bridge wants ready = record { answer = tt; after = tt; err = refl; wants = wants; plain = refl; keeps = keeps_same part.queue.port bridge ready }
 
--- want of memory at fewer answers is want of memory at more
+-- out of memory at fewer answers is out of memory at more
 pub wants_more : {E : Type 0} {Few Many : Answer → Type 0} {turn : QueueTurn} {result : Result Answer E} {old new : QueuePart} {before after : Bridge} → ((answer : Answer) → Few answer → Many answer)
     → HasTurnedUnlessWanting Few turn result old new before after → HasTurnedUnlessWanting Many turn result old new before after
 wants_more {turn = turn} {result = result} more has =

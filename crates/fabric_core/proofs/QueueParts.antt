@@ -25,6 +25,7 @@ use Rattle.fabric_core.proofs.Phases.{copy_place}
 abbrev pub part_with : QueueState → Flow → Counters → List SessionCount → List SessionCount → QueuePart
 part_with queue flow counters accepted delivered = record { queue = queue; flow = flow; counters = counters; accepted = accepted; delivered = delivered }
 
+-- Parts with equal queues, flows, counters and counts of accepted and delivered frames are equal.
 pub same_part : (queue queue' : QueueState) (flow flow' : Flow) (counters counters' : Counters) (accepted accepted' delivered delivered' : List SessionCount)
     → queue ≡ queue' → flow ≡ flow' → counters ≡ counters' → accepted ≡ accepted' → delivered ≡ delivered'
     → part_with queue flow counters accepted delivered ≡ part_with queue' flow' counters' accepted' delivered'
@@ -37,6 +38,7 @@ box_kept kept new next law is goes_on =
     let same = ap (λ (queue : QueueState). is_copying queue.port.receiving.phase) is in
     record { room = λ later. law.room (goes_on (sym same ∙ later)); numbers = λ later. law.numbers (goes_on (sym same ∙ later)) }
 
+-- Where a copy is answered with no whole frame, nothing is counted as delivered, and the part is as it was.
 pub not_whole : (copy : LaneCopy) (session : ℕ) (part : QueuePart) → ((number : ℕ) (frame : List ℕ) → copy ≡ Whole number frame → ⊥)
     → delivered_where_whole copy session part ≡ part
 not_whole (Whole number frame) session part other = absurd (other number frame refl)
@@ -46,12 +48,14 @@ not_whole copy session part other = refl
 same_room : (spare unused unused_after : ℕ) → unused_after ≡ unused → spare + unused ≡ spare + unused_after
 same_room spare unused unused_after e = omega (arith, e)
 
+-- A copy, which leaves the bridge as it is, keeps all that was promised, where its port has its pages after it.
 pub keeps_copy : (port : PortState) (bridge : Bridge) → HasPagesIn (after_copy port bridge) bridge → KeepsPort port (after_copy port bridge) bridge bridge
 keeps_copy port bridge ready =
     keeps_exact port (after_copy port bridge) bridge bridge (copy_place port bridge) refl (λ any. refl)
     (same_room (flight_of bridge port.side).spare (unused_of port) (unused_of (after_copy port bridge)) (unused_copied port bridge))
     refl ready
 
+-- Where a begin is refused, no frame is counted as accepted, and the part of the queue is as it was.
 pub not_begun : (answer : BeginAnswer) (session : ℕ) (part : QueuePart) → ((number : ℕ) → answer ≡ IsBegun number → ⊥)
     → accepted_where_begun (of_begin answer) session part ≡ part
 not_begun (IsBegun number) session part other = absurd (other number refl)

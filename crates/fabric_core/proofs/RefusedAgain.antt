@@ -97,6 +97,7 @@ last_permitted : (P : Step → Type 0) (steps : List Step) (step : Step) → All
 last_permitted P [] step all = all.0
 last_permitted P (first ∷ steps) step all = last_permitted P steps step all.1
 
+-- A refused step that is no device's begin is answered the same once more, and the fabric then has made it twice.
 pub refused_again : RefusedAgain
 refused_again plan steps step answer fabric goes refused counts made =
     let again = answered_again plan steps step answer goes refused counts in (

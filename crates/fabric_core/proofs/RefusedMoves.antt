@@ -360,6 +360,7 @@ refused_there fabric (Xbegin p side queue dev dst kind payload) = refl
 refused_there fabric (Post p side queue) = refl
 refused_there fabric step = ap (λ pairs. record fabric { pairs = pairs }) (set-get_or fabric.pairs (subject_of step) no_state)
 
+-- Setting a pair to what a refused step leaves of it gives what the step leaves of the fabric, promises aside.
 pub refused_left : (fabric : FabricState) (step : Step) (pair : PairState) → is_made step (move_of fabric.devs (pair_of fabric (subject_of step)) step).answer ≡ false
     → plain_pair pair ≡ plain_pair (move_of fabric.devs (pair_of fabric (subject_of step)) step).after
     → plain (record fabric { pairs = set fabric.pairs (subject_of step) pair }) ≡ plain (refused_in fabric step)

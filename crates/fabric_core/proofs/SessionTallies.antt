@@ -24,6 +24,7 @@ nowhere_behind one counts session n none = λ k below. none (suc k) (omega arith
 place_behind : (one : SessionCount) (counts : List SessionCount) (session place : ℕ) → IsPlaceOf (one ∷ counts) session (suc place) → IsPlaceOf counts session place
 place_behind one counts session place is = record { within = omega (arith, is.within); there = is.there; first = nowhere_behind one counts session place is.first }
 
+-- Where a session has a place among the counts, one frame more of it adds one to the count at that place.
 pub one_more-there : (counts : List SessionCount) (session place : ℕ) → IsPlaceOf counts session place
     → one_more counts session ≡ set counts place (record { session = session; count = (get_or counts place no_count).count + 1 })
 one_more-there [] session place is = absurd (omega (arith, is.within))
@@ -33,12 +34,14 @@ one_more-there (one ∷ counts) session (suc place) is =
     ap (λ test. if test then record { session = session; count = one.count + 1 } ∷ counts else one ∷ one_more counts session) (differs one.session session (is.first zero (omega arith)))
     ∙ ap (λ rest. one ∷ rest) (one_more-there counts session place (place_behind one counts session place is))
 
+-- Where a session has no place among the counts, one frame more of it puts a count of 1 after them.
 pub one_more-nowhere : (counts : List SessionCount) (session : ℕ) → IsNowhere counts session (length counts) → one_more counts session ≡ counts ++ record { session = session; count = 1 } ∷ []
 one_more-nowhere [] session none = refl
 one_more-nowhere (one ∷ counts) session none =
     ap (λ test. if test then record { session = session; count = one.count + 1 } ∷ counts else one ∷ one_more counts session) (differs one.session session (none zero (omega arith)))
     ∙ ap (λ rest. one ∷ rest) (one_more-nowhere counts session (λ k below. none (suc k) (omega arith)))
 
+-- A session that has no place among the counts has 0 frames.
 pub count_in-nowhere : (counts : List SessionCount) (session : ℕ) → IsNowhere counts session (length counts) → count_in counts session ≡ 0
 count_in-nowhere [] session none = refl
 count_in-nowhere (one ∷ counts) session none =
@@ -48,6 +51,7 @@ count_in-nowhere (one ∷ counts) session none =
 apart_behind : (one : SessionCount) (counts : List SessionCount) → AreApart (one ∷ counts) → AreApart counts
 apart_behind one counts apart = λ j k before below. apart (suc j) (suc k) (omega arith) (omega arith)
 
+-- Where each session is counted at one place, a session has as many frames as the count at its place says.
 pub count_in-there : (counts : List SessionCount) (session place : ℕ) → AreApart counts → IsPlaceOf counts session place → count_in counts session ≡ (get_or counts place no_count).count
 count_in-there [] session place apart is = absurd (omega (arith, is.within))
 count_in-there (one ∷ counts) session zero apart is =
@@ -66,16 +70,19 @@ seen_at counts place one below is = get_or-map count_seen counts place one no_co
 within_seen : (counts : List OfSession) (session place : ℕ) → IsPlaceOf (map count_seen counts) session place → place < length counts
 within_seen counts session place is = subst (λ n. place < n) (length-map counts count_seen) is.within
 
+-- A session that no place before this one counts, nor this one itself, is counted at none up to it.
 pub nowhere_more : (counts : List OfSession) (session place : ℕ) (none : OfSession) → IsNowhere (map count_seen counts) session place → place < length counts
     → ((get_or counts place none).session ≡ session → ⊥) → IsNowhere (map count_seen counts) session (place + 1)
 nowhere_more counts session place none before below differs =
     below_more _ _ before (λ e. differs (sym (ap (λ (one : SessionCount). one.session) (get_or-map count_seen counts place none no_count below)) ∙ e))
 
+-- The count kept at a session's place is the number of its frames, where each session has one place.
 pub counted_in : (counts : List OfSession) (session place : ℕ) (one : OfSession) → AreApart (map count_seen counts) → IsPlaceOf (map count_seen counts) session place
     → one ≡ get_or counts place one → one.count ≡ count_in (map count_seen counts) session
 counted_in counts session place one apart is at =
     sym (ap (λ (one : SessionCount). one.count) (seen_at counts place one (within_seen counts session place is) at)) ∙ sym (count_in-there (map count_seen counts) session place apart is)
 
+-- A session that none of the kept counts is of has 0 frames.
 pub none_in : (counts : List OfSession) (session : ℕ) → IsNowhere (map count_seen counts) session (length counts) → 0 ≡ count_in (map count_seen counts) session
 none_in counts session none = sym (count_in-nowhere (map count_seen counts) session (subst (λ n. IsNowhere (map count_seen counts) session n) (sym (length-map counts count_seen)) none))
 
@@ -84,6 +91,7 @@ none_in counts session none = sym (count_in-nowhere (map count_seen counts) sess
 abbrev pub more_of : OfSession → OfSession
 more_of one = record { session = one.session; count = one.count + 1 }
 
+-- Adding one to the kept count at a session's place counts one frame more of that session.
 pub one_more_at : (counts : List OfSession) (session place : ℕ) (one : OfSession) → IsPlaceOf (map count_seen counts) session place → one ≡ get_or counts place one
     → map count_seen (set counts place (more_of one)) ≡ one_more (map count_seen counts) session
 one_more_at counts session place one is at =
@@ -94,6 +102,7 @@ one_more_at counts session place one is at =
     ∙ ap (λ n. set (map count_seen counts) place (record { session = session; count = n + 1 })) (sym (ap (λ (one : SessionCount). one.count) seen))
     ∙ sym (one_more-there (map count_seen counts) session place is)
 
+-- A count of 1 after the kept ones counts one frame more of a session that had no place among them.
 pub one_more_behind : (counts : List OfSession) (session : ℕ) → IsNowhere (map count_seen counts) session (length counts)
     → map count_seen (counts ++ record { session = session; count = 1 } ∷ []) ≡ one_more (map count_seen counts) session
 one_more_behind counts session none =
@@ -109,16 +118,19 @@ same_sessions counts place one within same k = by_place (cases_eq k place) where
   by_place (inl e) = subst (λ k. (get_or (set counts place one) k no_count).session ≡ (get_or counts k no_count).session) (sym e) (ap (λ (one : SessionCount). one.session) (get_or-set_same counts place one no_count within) ∙ same)
   by_place (inr differs) = ap (λ (one : SessionCount). one.session) (get_or-set_other counts place k one no_count differs)
 
+-- Sessions stay counted at one place each where a count changes and its session stays.
 pub apart_set : (counts : List SessionCount) (place : ℕ) (one : SessionCount) → place < length counts → one.session ≡ (get_or counts place no_count).session → AreApart counts
     → AreApart (set counts place one)
 apart_set counts place one within same apart = λ j k before below e.
     apart j k before (subst (λ n. k < n) (length-set counts place one) below) (sym (same_sessions counts place one within same j) ∙ e ∙ same_sessions counts place one within same k)
 
+-- A bound on all counted sessions still holds where a count changes and its session stays.
 pub up_to_set : (counts : List SessionCount) (place most : ℕ) (one : SessionCount) → place < length counts → one.session ≡ (get_or counts place no_count).session → AreUpTo counts most
     → AreUpTo (set counts place one) most
 up_to_set counts place most one within same up_to = λ k below.
     omega (arith, same_sessions counts place one within same k, up_to k (subst (λ n. k < n) (length-set counts place one) below))
 
+-- Counts of at most n frames become counts of at most n + 1 where one of them is set to n + 1 or less.
 pub few_set : (counts : List SessionCount) (place made : ℕ) (one : SessionCount) → place < length counts → one.count ≤ made + 1 → AreFew counts made → AreFew (set counts place one) (made + 1)
 few_set counts place made one within fits few = λ k below. by_place k (subst (λ n. k < n) (length-set counts place one) below) (cases_eq k place) where
   by_place : (k : ℕ) → k < length counts → (k ≡ place) ⊎ (k ≡ place → ⊥) → (get_or (set counts place one) k no_count).count ≤ made + 1
@@ -136,6 +148,7 @@ at_push counts one P each last k below = by_place (cases_lt k (length counts)) w
       let there : length counts ≡ k = omega (arith, below, length-append counts (one ∷ [])) in
       subst P (sym (get_or_push counts one no_count k there)) last
 
+-- Sessions stay counted at one place each where one that had no place is added.
 pub apart_push : (counts : List SessionCount) (one : SessionCount) → IsNowhere counts one.session (length counts) → AreApart counts → AreApart (counts ++ one ∷ [])
 apart_push counts one none apart = λ j k before below. by_place j k before below (cases_lt k (length counts)) where
   by_place : (j k : ℕ) → j < k → k < length (counts ++ one ∷ []) → (k < length counts) ⊎ (length counts ≤ k)
@@ -150,16 +163,19 @@ apart_push counts one none apart = λ j k before below. by_place j k before belo
       none j sooner
       (sym (ap (λ (one : SessionCount). one.session) (get_or_append_left counts (one ∷ []) no_count j sooner)) ∙ e ∙ ap (λ (one : SessionCount). one.session) (get_or_push counts one no_count k there))
 
+-- A bound on all counted sessions may grow, and holds with one session added that the grown bound covers.
 pub up_to_push : (counts : List SessionCount) (one : SessionCount) (most more : ℕ) → most ≤ more → one.session ≤ more → AreUpTo counts most → AreUpTo (counts ++ one ∷ []) more
 up_to_push counts one most more grows fits up_to =
     at_push counts one (λ (one : SessionCount). one.session ≤ more) (λ k below. omega (arith, grows, up_to k below)) fits
 
+-- Counts of at most n frames become counts of at most n + 1 where a count of n + 1 or less is added.
 pub few_push : (counts : List SessionCount) (one : SessionCount) (made : ℕ) → one.count ≤ made + 1 → AreFew counts made → AreFew (counts ++ one ∷ []) (made + 1)
 few_push counts one made fits few =
     at_push counts one (λ (one : SessionCount). one.count ≤ made + 1) (λ k below. omega (arith, few k below)) fits
 
 -- All that is kept, after one more
 
+-- A tally stays right as the count at a session's place grows by one, and its room for a frame is used up.
 pub tally_at : (old new : Inside) (session place : ℕ) (one : OfSession) → IsTally old → old.has_room ≡ true → IsPlaceOf (map count_seen old.counts.items) session place
     → one ≡ get_or old.counts.items place one → new.counts.items ≡ set old.counts.items place (more_of one) → new.most ≡ old.most → new.made ≡ old.made
     → IsTally (record { counts = new.counts; most = new.most; made = new.made + 1; has_room = false })
@@ -182,6 +198,7 @@ tally_at old new session place one is room there at counts most made =
       more = λ none. absurd (cc none);
     }
 
+-- A tally stays right as a session without a place is added with a count of 1, and its room for a frame is used up.
 pub tally_behind : (old new : Inside) (session : ℕ) → IsTally old → old.has_room ≡ true → IsNowhere (map count_seen old.counts.items) session (length old.counts.items)
     → new.counts.items ≡ old.counts.items ++ record { session = session; count = 1 } ∷ [] → old.most ≤ new.most → session ≤ new.most → new.made ≡ old.made
     → IsTally (record { counts = new.counts; most = new.most; made = new.made + 1; has_room = false })

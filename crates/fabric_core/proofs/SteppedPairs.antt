@@ -19,11 +19,13 @@ state_of bridge a b = record { bridge = bridge; queues = record { a = a; b = b }
 
 -- On the bridge
 
+-- A pair stays whole where a step leaves the turn's bridge, or out of memory the old one, with further pages.
 pub stepped_whole : {E : Type 0} (state : PairState) (new : Bridge) (step : Step) (result : Result Answer E) → IsWhole state
     → OnOk result (HasMorePages (bridge_turn state.bridge step).bridge new) → OnErr result (HasMorePages state.bridge new) → IsWhole (with_bridge state new)
 stepped_whole state new step (Ok answer) whole after err = whole_kept state new whole (turn_promised state.bridge new step after)
 stepped_whole state new step (Err e) whole after err = whole_kept state new whole (more_promised state.bridge new err)
 
+-- Where a step on the bridge is made, the pair is as the step's turn leaves it, promises aside.
 pub stepped_after : {E : Type 0} (state : PairState) (new : Bridge) (step : Step) (result : Result Answer E) → OnOk result (HasMorePages (bridge_turn state.bridge step).bridge new)
     → OnOk result (plain_pair (with_bridge state new) ≡ plain_pair (with_bridge state (bridge_turn state.bridge step).bridge))
 stepped_after state new step (Ok answer) after =
@@ -45,6 +47,7 @@ whole_of_sides : (bridge : Bridge) (side : Side) (own peer : List QueuePart) →
 whole_of_sides bridge A own peer whole peer_whole = both_whole bridge own peer whole peer_whole
 whole_of_sides bridge B own peer whole peer_whole = both_whole bridge peer own peer_whole whole
 
+-- A pair stays whole through a call of one queue of a side, where the call keeps what was promised.
 pub called : (old new : Bridge) (side : Side) (own peer parts : List QueuePart) (queue : ℕ) → IsWhole (sides_of old side own peer) → queue < (side_plan old.plan side).queues
     → parts ≡ set own queue (get_or parts queue no_queue) → KeepsPort (get_or own queue no_queue).queue.port (get_or parts queue no_queue).queue.port old new
     → IsWhole (sides_of new side parts peer)

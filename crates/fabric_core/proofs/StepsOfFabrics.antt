@@ -51,6 +51,7 @@ use Rattle.fabric_core.specs.LogClauses.{HasMade, IsAnswered, IsLikely, log_afte
 same_bridge : (old new : PairState) → plain_pair new ≡ plain_pair old → plain_bridge new.bridge ≡ plain_bridge old.bridge
 same_bridge old new same = ap (λ (pair : PairState). pair.bridge) same
 
+-- A pair that differs in promises alone from one that stands for some steps stands for them too.
 pub stands_plain : (devs : List DevPlan) (plan : PairPlan) (k : ℕ) (site : Site) (old new : PairState) → plain_pair new ≡ plain_pair old → PairStands devs plan k site old → PairStands devs plan k site new
 stands_plain devs plan k site old new same stands =
     record {
@@ -62,9 +63,11 @@ stands_plain devs plan k site old new same stands =
 
 -- The plan of a fabric
 
+-- A pair that stands for steps on one of a plan's pairs has that pair's plan in its bridge.
 pub plan_of_pair : (devs : List DevPlan) (plan : PairPlan) (k : ℕ) (site : Site) (state : PairState) → PairStands devs plan k site state → state.bridge.plan ≡ plan
 plan_of_pair devs plan k site state stands = ap (λ (bridge : Bridge). bridge.plan) stands.bridge
 
+-- A fabric that stands for steps of a plan keeps that plan's pairs and devices, and nothing else of it.
 pub plan_of_standing : (plan : Plan) (steps : List Step) (fabric : FabricState) → StandsFor plan steps fabric → plan_kept fabric ≡ bare_plan plan
 plan_of_standing plan steps fabric stands =
     ap (λ pairs. record { pairs = pairs; devs = fabric.devs; switches = []; steps = []; traffic = [] }) pairs ∙ ap (λ devs. record { pairs = plan.pairs; devs = devs; switches = []; steps = []; traffic = [] }) stands.devs
@@ -87,9 +90,11 @@ plan_of_standing plan steps fabric stands =
 pub queue_of_bare : (plan : Plan) (k : ℕ) (side : Side) (queue : ℕ) → IsQueueOf (bare_plan plan) k side queue → IsQueueOf plan k side queue
 queue_of_bare plan k side queue may = queue_of_other (bare_plan plan) plan.switches plan.steps plan.traffic k side queue may
 
+-- A plan permits each step that its pairs and devices alone permit.
 pub permitted_bare : (plan : Plan) (step : Step) → IsPermitted (bare_plan plan) step → IsPermitted plan step
 permitted_bare plan step may = permitted_by_other (bare_plan plan) plan.switches plan.steps plan.traffic step may
 
+-- The pairs and devices of a plan that a script can declare are by themselves such a plan.
 pub declared_bare : (plan : Plan) → IsDeclared plan → IsDeclared (bare_plan plan)
 declared_bare plan declared =
     record {
@@ -102,12 +107,14 @@ declared_bare plan declared =
       one_on_a_queue = declared.one_on_a_queue;
     }
 
+-- Where all items of a list have a property and one more has it too, so have all with that one at the end.
 pub all_last : {X : Type 0} (P : X → Type 0) (xs : List X) (x : X) → AllByRecursion P xs → P x → AllByRecursion P (xs ++ x ∷ [])
 all_last P [] x all own = (own, tt)
 all_last P (first ∷ xs) x all own = (all.0, all_last P xs x all.1 own)
 
 -- The log of one step more
 
+-- An answer that the ledger gives by the pair's site after some steps is that of the log with the step after them.
 pub goes_on : (plan : Plan) (steps : List Step) (step : Step) (answer : Answer)
     → answer ≡ (pair_next plan.devs (pair_plan plan (subject_of step)) (bytes_of_site (site_of plan (subject_of step) steps)) (site_of plan (subject_of step) steps).pair step).answer
     → IsAnswered plan steps step answer
@@ -177,6 +184,7 @@ module _ (plan : Plan) (steps : List Step) (k : ℕ) (declared : IsDeclared plan
 queue_there : (plan : Plan) (k : ℕ) (side : Side) (queue : ℕ) (bridge : Bridge) → bridge.plan ≡ pair_plan plan k → IsQueueOf plan k side queue → queue < (side_plan bridge.plan side).queues
 queue_there plan k side queue bridge is may = subst (λ (pair : PairPlan). queue < (side_plan pair side).queues) (sym is) may.among
 
+-- A permitted step finds all that it needs of its bridge, where queues are joined and sides come up only if all fits.
 pub can_make : (plan : Plan) (step : Step) (bridge : Bridge) → IsDeclared plan → bridge.plan ≡ pair_plan plan (subject_of step) → Agrees bridge → IsPermitted plan step → CanMake plan.devs bridge step
 can_make plan (Enable p side) bridge declared is agrees may = record { place = tt; queue = tt; bridge = tt }
 can_make plan (Train p) bridge declared is agrees may = record { place = tt; queue = tt; bridge = tt }
@@ -218,6 +226,7 @@ pub record HasMoved (old new : FabricState) (step : Step) (answer : Answer) : Ty
   pub answer_is : answer ≡ (move_of old.devs (pair_of old (subject_of step)) step).answer
   pub moved : plain_pair (pair_of new (subject_of step)) ≡ plain_pair (move_of old.devs (pair_of old (subject_of step)) step).after
 
+-- A step that a plan permits is made on one of the plan's pairs.
 pub pair_among : (plan : Plan) (step : Step) → IsPermitted plan step → IsPairOf plan (subject_of step)
 pair_among plan (Enable p side) may = may
 pair_among plan (Train p) may = may
@@ -294,6 +303,7 @@ module _ (plan : Plan) (steps : List Step) (step : Step) (old new : FabricState)
 
 -- Where nothing but promises changed it stands for the same steps
 
+-- A fabric that differs in promises alone from one that has made some steps has made them too.
 pub still_made : (plan : Plan) (steps : List Step) (old new : FabricState) → plain new ≡ plain old → HasMade plan steps old → HasMade plan steps new
 still_made plan steps old new same made =
     record {
@@ -326,6 +336,7 @@ still_made plan steps old new same made =
 abbrev pub with_pair : FabricState → ℕ → PairState → FabricState
 with_pair fabric k pair = record fabric { pairs = set fabric.pairs k pair }
 
+-- A fabric in which a step's pair is set to what the step leaves of it, promises aside, has moved by that step.
 pub set_moved : (old : FabricState) (step : Step) (pair : PairState) (answer : Answer) → subject_of step < length old.pairs
     → answer ≡ (move_of old.devs (pair_of old (subject_of step)) step).answer → plain_pair pair ≡ plain_pair (move_of old.devs (pair_of old (subject_of step)) step).after
     → HasMoved old (with_pair old (subject_of step) pair) step answer
@@ -338,11 +349,13 @@ set_moved old step pair answer below is moved =
       moved = ap plain_pair (get_or-set_same old.pairs (subject_of step) pair no_state below) ∙ moved;
     }
 
+-- A fabric with one pair set to another that differs in promises alone is the same, promises aside.
 pub set_plain : (old : FabricState) (k : ℕ) (pair : PairState) → plain_pair pair ≡ plain_pair (pair_of old k) → plain (with_pair old k pair) ≡ plain old
 set_plain old k pair same = ap (λ pairs. record { devs = old.devs; pairs = pairs }) (map-set_same plain_pair old.pairs k pair no_state same)
 
 -- The laws of every log
 
+-- The laws of every log hold of whatever steps a fabric has made.
 pub always_lawful : (plan : Plan) (steps : List Step) (fabric : FabricState) → HasMade plan steps fabric → IsLawful plan steps
 always_lawful plan steps fabric made = laws_hold plan (memory_of plan) steps made.declared made.permitted (memories_keep_pairs_apart plan)
 
@@ -361,6 +374,7 @@ pub record MadeSome (plan : Plan) (fabric : FabricState) : Type 0 where
   pub steps : List Step
   pub made : HasMade plan steps fabric
 
+-- Where a fabric has made some steps of an earlier one's plan, both have the same pairs and devices in their plans.
 pub same_plan : (old new : FabricState) → MadeSome (plan_kept old) new → plan_kept new ≡ plan_kept old
 same_plan old new some = plan_of_standing (plan_kept old) some.steps new some.made.stands
 
@@ -410,18 +424,22 @@ module _ (old : FabricState) (step : Step) (pair : PairState) (may : IsPermitted
         plan = same_plan old new (record { steps = some.steps; made = still_made (plan_kept old) some.steps old new same some.made });
       }
 
+-- A fabric that has made some steps of a plan has made some after a step more too, even one out of memory.
 pub some_made : {E : Type 0} (old new : FabricState) (step : Step) (result : Result Answer E) (plan : Plan) → MadeSome plan old → HasStepped old new step result → MadeSome plan new
 some_made old new step (Ok answer) plan some moved = record { steps = some.steps ++ step ∷ []; made = moved.stands plan some.steps some.made }
 some_made old new step (Err e) plan some moved = record { steps = some.steps; made = moved.still_stands plan some.steps some.made }
 
+-- A fabric that has made some steps of an earlier one's plan has made some of its own plan.
 pub made_itself : (old new : FabricState) → MadeSome (plan_kept old) new → MadeSome (plan_kept new) new
 made_itself old new some = subst (λ plan. MadeSome plan new) (sym (same_plan old new some)) some
 
 -- so does what a fabric keeps
 
+-- Each fabric, as the crate keeps it, has made some steps of the plan of its own pairs and devices.
 pub some : (kept : Inside) → IsFabric kept → MadeSome (plan_kept (fabric_seen kept)) (fabric_seen kept)
 some kept is = record { steps = is.steps; made = record { declared = is.declared; permitted = is.permitted; stands = is.stands } }
 
+-- What is so of every fabric that the crate keeps is so of one that has made some steps of its own plan.
 pub from_some : (kept : Inside) → MadeSome (plan_kept (fabric_seen kept)) (fabric_seen kept) → IsFabric kept
 from_some kept some = record { declared = some.made.declared; steps = some.steps; permitted = some.made.permitted; stands = some.made.stands }
 
@@ -431,6 +449,7 @@ pair_agrees fabric k some below =
     agrees (plan_kept fabric) some.steps k some.made.declared some.made.permitted (omega (arith, below, length-map fabric.pairs (λ (pair : PairState). pair.bridge.plan))) (pair_of fabric k)
     (some.made.stands.pairs k (omega (arith, below, length-map fabric.pairs (λ (pair : PairState). pair.bridge.plan))))
 
+-- A fabric that has made some steps of its plan gives any permitted step all that it needs of its pair.
 pub pair_can : (fabric : FabricState) (step : Step) → MadeSome (plan_kept fabric) fabric → IsPermitted (plan_kept fabric) step → CanMake fabric.devs (pair_of fabric (subject_of step)).bridge step
 pair_can fabric step some may =
     let k = subject_of step in

@@ -64,6 +64,7 @@ made_at devs pair (Xbegin p side queue dev dst kind payload) = xbegin_made pair 
 made_at devs pair (Begin p side queue frame) = refl
 made_at devs pair step = refl
 
+-- What a step makes of a pair is a turn at its place: of one queue, of a side that is cleaned, or of the bridge.
 pub made_there : (devs : List DevPlan) (pair : PairState) (step : Step) (place : StepPlace) → place ≡ place_of step → IsMadeAt devs pair step place
 made_there devs pair step place is = subst (IsMadeAt devs pair step) (sym is) (made_at devs pair step)
 
@@ -71,6 +72,7 @@ made_there devs pair step place is = subst (IsMadeAt devs pair step) (sym is) (m
 pub answered : {E : Type 0} (result : Result Answer E) (move made : Move) → move ≡ made → IfOk result (λ answer. answer ≡ made.answer) → IfOk result (λ answer. answer ≡ move.answer)
 answered result move made is answer = subst (λ (move : Move). IfOk result (λ answer. answer ≡ move.answer)) (sym is) answer
 
+-- Where two moves are equal, a pair that is as the one leaves it, promises aside, is as the other leaves it.
 pub left : {E : Type 0} (result : Result Answer E) (new : PairState) (move made : Move) → move ≡ made → OnOk result (plain_pair new ≡ plain_pair made.after) → OnOk result (plain_pair new ≡ plain_pair move.after)
 left result new move made is after = subst (λ (move : Move). OnOk result (plain_pair new ≡ plain_pair move.after)) (sym is) after
 
@@ -161,12 +163,15 @@ kept_twice old mid new first second =
       spare = λ side. second.spare side ∙ first.spare side;
     }
 
+-- A bridge that has further pages promised is the same, promises aside.
 pub more_plain : (old new : Bridge) → HasMorePages old new → plain_bridge new ≡ plain_bridge old
 more_plain old new more = ap plain_bridge more.rest
 
+-- A step on the bridge, with further pages promised, keeps the plan, all promised pages and each side's room.
 pub turn_promised : (old new : Bridge) (step : Step) → HasMorePages (bridge_turn old step).bridge new → KeepsPromised old new
 turn_promised old new step more =
     kept_twice old (bridge_turn old step).bridge new (still old (bridge_turn old step).bridge (turn_keeps old step)) (more_keeps (bridge_turn old step).bridge new more)
 
+-- A bridge that has further pages promised keeps its plan, all promised pages and each side's room.
 pub more_promised : (old new : Bridge) → HasMorePages old new → KeepsPromised old new
 more_promised old new more = more_keeps old new more

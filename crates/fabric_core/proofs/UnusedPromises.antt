@@ -58,6 +58,7 @@ where_more queue new None begun more = no_less (unused_of queue.port)
 
 -- a frame, and a link-down entry
 
+-- A begin leaves the port of a queue with no fewer unused promises of room than it had.
 pub begin_more : (queue : QueueState) (bridge : Bridge) (frame : List ℕ) → unused_of queue.port ≤ unused_of (after_begin queue bridge frame).port
 begin_more queue bridge frame =
     where_more queue (frame_begun queue.port frame) (sender_refusal queue bridge) (port_begin_answer queue.port bridge (length frame))
@@ -72,6 +73,7 @@ closed_more : (answer : BeginAnswer) (unused : ℕ) (queue : QueueState) → unu
 closed_more (IsBegun number) unused queue more = more
 closed_more answer unused queue more = more
 
+-- A going down leaves the port of a queue with no fewer unused promises of room than it had.
 pub down_more : (queue : QueueState) (bridge : Bridge) → unused_of queue.port ≤ unused_of (after_qpdown queue bridge).port
 down_more queue bridge =
     closed_more (qpdown_answer queue bridge) (unused_of queue.port) (port_unless (sender_refusal queue bridge) queue (where_begun queue.port (down_begun queue.port) (down_answer queue.port bridge)))
@@ -91,6 +93,7 @@ looked_more (Ready number len) queue port more = more
 looked_more PeerDown queue port more = no_less (unused_of queue.port)
 looked_more answer queue port more = no_less (unused_of queue.port)
 
+-- A look leaves the port of a queue with no fewer unused promises of room than it had.
 pub look_more : (queue : QueueState) (bridge : Bridge) → unused_of queue.port ≤ unused_of (after_look queue bridge).port
 look_more queue bridge =
     looked_more (look_answer queue bridge) queue (port_after_look queue.port bridge)

@@ -44,6 +44,7 @@ by_side : (P : Side → Type 0) → P A → P B → (side : Side) → P side
 by_side P a b A = a
 by_side P a b B = b
 
+-- A pair is whole, its queues in place with just the room that they haven't used, where both of its sides are.
 pub both_whole : (bridge : Bridge) (a b : List QueuePart) → SideIsWhole bridge A a → SideIsWhole bridge B b → IsWhole (record { bridge = bridge; queues = record { a = a; b = b } })
 both_whole bridge a b whole_a whole_b =
     let state : PairState = record { bridge = bridge; queues = record { a = a; b = b } } in
@@ -53,11 +54,13 @@ both_whole bridge a b whole_a whole_b =
       room = by_side (λ side. (flight_of bridge side).spare ≡ all_unused (queues_of state side)) whole_a.room whole_b.room;
     }
 
+-- Each side of a whole pair is whole.
 pub side_whole : (state : PairState) (side : Side) → IsWhole state → SideIsWhole state.bridge side (queues_of state side)
 side_whole state side whole = record { all_queues = whole.all_queues side; queues = whole.queues side; room = whole.room side }
 
 -- A side that has the same room, on a bridge whose pages stay
 
+-- A side stays whole on a bridge of the same plan and the same room for it, where no promised page is lost.
 pub side_kept : (old new : Bridge) (side : Side) (parts : List QueuePart) → new.plan ≡ old.plan → PagesStay old new → (flight_of new side).spare ≡ (flight_of old side).spare
     → SideIsWhole old side parts → SideIsWhole new side parts
 side_kept old new side parts plan stay same whole =
@@ -68,6 +71,7 @@ side_kept old new side parts plan stay same whole =
       room = same ∙ whole.room;
     }
 
+-- A pair stays whole with another bridge that keeps the plan, all promised pages and each side's room.
 pub whole_kept : (state : PairState) (new : Bridge) → IsWhole state → KeepsPromised state.bridge new → IsWhole (with_bridge state new)
 whole_kept state new whole keeps =
     both_whole new state.queues.a state.queues.b (side_kept state.bridge new A state.queues.a keeps.plan keeps.pages (keeps.spare A) (side_whole state A whole))
@@ -80,6 +84,7 @@ room_after : (spare spare_after sum sum_after unused unused_after : ℕ) → sum
     → spare_after ≡ sum_after
 room_after spare spare_after sum sum_after unused unused_after sums room keeps = omega (arith, sums, room, keeps)
 
+-- A side stays whole through a call of one of its queues that keeps what was promised.
 pub side_turned : (old new : Bridge) (side : Side) (parts : List QueuePart) (queue : ℕ) (part : QueuePart) → queue < length parts
     → KeepsPort (get_or parts queue no_queue).queue.port part.queue.port old new → SideIsWhole old side parts → SideIsWhole new side (set parts queue part)
 side_turned old new side parts queue part within keeps whole =
@@ -124,6 +129,7 @@ peer_kept old new side parts peer_parts queue part within keeps whole peer =
 forgets : (bridge : Bridge) (plan : PairPlan) (side : Side) (queue : ℕ) → HasPagesIn (fresh_port plan side queue) bridge
 forgets bridge plan side queue = record { writes = search rules; flags = λ busy. absurd (cc busy); index_word = λ busy. absurd (cc busy) }
 
+-- Where no port of some queues has an unused promise, they have none together.
 pub none_unused : (parts : List QueuePart) → ((k : ℕ) → k < length parts → unused_of (get_or parts k no_queue).queue.port ≡ 0) → all_unused parts ≡ 0
 none_unused [] none = refl
 none_unused (part ∷ parts) none =
@@ -144,6 +150,7 @@ place_fresh bridge side queue part fresh =
       ready = subst (λ (port : PortState). HasPagesIn port bridge) (sym fresh) (forgets bridge bridge.plan side queue);
     }
 
+-- A side at which no room is promised is whole where it has all its queues and each has a fresh port.
 pub side_fresh : (bridge : Bridge) (side : Side) (parts : List QueuePart) → (flight_of bridge side).spare ≡ 0 → length parts ≡ (side_plan bridge.plan side).queues
     → ((k : ℕ) → k < length parts → (get_or parts k no_queue).queue.port ≡ fresh_port bridge.plan side k) → SideIsWhole bridge side parts
 side_fresh bridge side parts none all fresh =
@@ -153,6 +160,7 @@ side_fresh bridge side parts none all fresh =
       room = none ∙ sym (none_unused parts (λ k below. ap unused_of (fresh k below)));
     }
 
+-- A side stays whole where all its queues forget their session and no room stays promised at it.
 pub side_forgotten : (old new : Bridge) (side : Side) (parts : List QueuePart) → new.plan ≡ old.plan → (flight_of new side).spare ≡ 0 → SideIsWhole old side parts → SideIsWhole new side (map forgotten_queue parts)
 side_forgotten old new side parts plan none whole =
     side_fresh new side (map forgotten_queue parts) none (length-map parts forgotten_queue ∙ whole.all_queues ∙ ap (λ (plan : PairPlan). (side_plan plan side).queues) (sym plan))

@@ -38,7 +38,7 @@ pub record StandsFor (plan : Plan) (steps : List Step) (fabric : FabricState) : 
   pub all_pairs : length fabric.pairs ≡ length plan.pairs
   pub pairs : (k : ℕ) → k < length plan.pairs → PairStands plan.devs (pair_plan plan k) k (site_of plan k steps) (pair_of fabric k)
 
--- the steps that may answer want of memory: they post, promise or hand out bytes
+-- the steps that may answer out of memory: they post, promise or hand out bytes
 abbrev pub may_want_memory : Step → Bool
 may_want_memory (Offer pair side) = true
 may_want_memory (Check pair side) = true

@@ -1,4 +1,4 @@
--- Numbers that could grow without end: where one of them is this large, want of memory is answered before it is needed.
+-- Numbers that could grow without end: where one of them is this large, out of memory is answered before it is needed.
 use Rattle.std.specs.Prelude.{ℕ, ◌<◌, ◌^◌}
 use Rattle.step_kinds.specs.declared.plan.Counters.{Counters}
 

@@ -18,7 +18,7 @@ count_seen one = record { session = one.session; count = one.count }
 abbrev pub no_count : SessionCount
 no_count = record { session = 0; count = 0 }
 
--- how many frames can be counted before want of memory is answered
+-- how many frames can be counted before out of memory is answered
 abbrev pub most_frames : ℕ
 most_frames = 2 ^ 62
 

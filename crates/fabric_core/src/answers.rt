@@ -11,7 +11,8 @@ use posted_queue::LandAnswer;
 use queue_pair::{BeginAnswer, LookAnswer};
 use step_kinds::{Answer, Label, LaneCopy};
 
-/// The answer under the same name, for each of these variants; behind them, rows for those that a script knows under another name.
+/// The answer under the same name, for each of these variants; after them, rows for those that a script knows under
+/// another name.
 macro_rules! same_name {
     ($given:ident: $kind:ident; $($name:ident $({ $($number:ident),+ })?),+ $(; $other:pat => $answer:expr)*) => {
         match $given {

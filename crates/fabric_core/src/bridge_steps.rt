@@ -36,7 +36,7 @@ use step_kinds::{Answer, Frame, Label, Side, Step};
 ///
 /// # Errors
 ///
-/// [`AllocError`] from want of memory alone. Further pages may then be promised, and nothing else changes.
+/// [`AllocError`] from out of memory alone. Further pages may then be promised, and nothing else changes.
 #[inline(always)]
 pub fn bridge_step(pair: &mut Pair, alloc: Global, step: &Step) -> Result<Answer, AllocError>
     requires { CanTurn pair.old step.now }
@@ -90,7 +90,7 @@ pub fn bridge_step(pair: &mut Pair, alloc: Global, step: &Step) -> Result<Answer
     }
 }
 
-// The steps that never want memory, but for those of the link.
+// The steps that are never out of memory, but for those of the link.
 #[inline(always)]
 fn register_step(pair: &mut Pair, step: &Step) -> Answer
     requires { CanTurn pair.old step.now }

@@ -6,7 +6,7 @@ ghost use Rattle.plan_model.specs.Device.{count_accepted, count_delivered, count
 
 use step_kinds::Counters;
 
-/// Where a count is this large, want of memory is answered before it grows.
+/// Where a count is this large, out of memory is answered before it grows.
 const MOST_COUNT: u64 = 1 << 62;
 
 /// The bytes of an Ethernet header: a shorter frame is counted apart.

@@ -8,7 +8,7 @@ ghost use Rattle.fabric_rule.specs.Parts.{count_in, one_more};
 use std::alloc::{AllocError, Global};
 use std::marker::Model;
 
-/// How many frames are counted before want of memory is answered.
+/// How many frames are counted before out of memory is answered.
 const MOST_FRAMES: u64 = 1 << 62;
 
 /// How many frames there were in one session.
@@ -45,7 +45,7 @@ impl SessionCounts {
     ///
     /// # Errors
     ///
-    /// [`AllocError`] from want of memory alone, and then nothing changes.
+    /// [`AllocError`] from out of memory alone, and then nothing changes.
     pub fn make_room(&mut self) -> Result<(), AllocError>
         ensures ok { OnOk result (self.new ≡ record self.old { has_room = true }) }
         ensures err { OnErr result (self.new ≡ self.old) }
@@ -141,8 +141,8 @@ impl Model for SessionCounts {
     ghost invariant = { IsTally };
 }
 
-// Where a session is counted: mostly at the end, where it is the last one, or nowhere, where it comes after all, or as far behind
-// the first as it comes after it, where each session between them has frames.
+// Where a session is counted: mostly at the end, where it is the last one, or nowhere, where it comes after all, or as
+// many places after the first as it comes after it, where each session between them has frames.
 fn place_of(counts: &[OfSession], most: u32, session: u32) -> Option<usize>
     requires apart { AreApart (map count_seen counts.now) }
     requires most { AreUpTo (map count_seen counts.now) most }

@@ -32,7 +32,7 @@ impl Fabric {
     ///
     /// # Errors
     ///
-    /// [`AllocError`] from want of memory alone.
+    /// [`AllocError`] from out of memory alone.
     pub fn new(alloc: Global, plan: &Plan) -> Result<Fabric, AllocError>
         requires { IsDeclared plan.now }
         ensures stands { IfOk result (λ fabric. StandsFor plan.now [] fabric) }
@@ -65,9 +65,9 @@ impl Fabric {
     ///
     /// # Errors
     ///
-    /// [`AllocError`] from want of memory alone: of a step that posts, promises or hands out bytes, and that the log doesn't
-    /// refuse. The fabric stands for the same steps as before then, and nothing but promised room and pages has changed. A
-    /// device's frame gets it too where its refusal would be one more than 2^62.
+    /// [`AllocError`] from out of memory alone: of a step that posts, promises or hands out bytes, and that the log
+    /// doesn't refuse. The fabric stands for the same steps as before then, and nothing but promised room and pages has
+    /// changed. A device's frame gets it too where its refusal would be one more than 2^62.
     #[inline(always)]
     pub fn step(&mut self, step: &Step) -> Result<Answer, AllocError>
         requires { IsPermitted (plan_kept self.old) step.now }
@@ -176,7 +176,7 @@ impl Fabric {
     ///
     /// # Errors
     ///
-    /// [`AllocError`] from want of memory alone. A part of the key may then be there.
+    /// [`AllocError`] from out of memory alone. A part of the key may then be there.
     pub fn push_key(&self, key: &mut Vec<u8>) -> Result<(), AllocError>
         ensures { OnOk result (key.new.items ≡ key.old.items ++ fabric_key self.now) }
     {

@@ -44,7 +44,7 @@ impl PairBox {
     ///
     /// # Errors
     ///
-    /// [`AllocError`] from want of memory alone.
+    /// [`AllocError`] from out of memory alone.
     pub fn new(
         alloc: Global,
         devs: &[DevPlan],
@@ -67,7 +67,7 @@ impl PairBox {
     ///
     /// # Errors
     ///
-    /// [`AllocError`] from want of memory alone. Further pages may then be promised, and nothing else changes.
+    /// [`AllocError`] from out of memory alone. Further pages may then be promised, and nothing else changes.
     #[inline(always)]
     pub fn make(&mut self, devs: &[DevPlan], step: &Step) -> Result<Answer, AllocError>
         requires agrees { Agrees self.old.bridge }
@@ -198,7 +198,7 @@ impl PairBox {
     ///
     /// # Errors
     ///
-    /// [`AllocError`] from want of memory alone. A part of the key may then be there.
+    /// [`AllocError`] from out of memory alone. A part of the key may then be there.
     pub fn push_key(&self, key: &mut Vec<u8>) -> Result<(), AllocError>
         ensures { OnOk result (key.new.items ≡ key.old.items ++ pair_key self.now) }
     {

@@ -69,7 +69,8 @@ impl QueueBox {
     ///
     /// # Errors
     ///
-    /// [`AllocError`] from want of memory alone. Further pages of the pair may then be promised, and nothing else changes.
+    /// [`AllocError`] from out of memory alone. Further pages of the pair may then be promised, and nothing else
+    /// changes.
     #[inline(always)]
     pub fn make(
         &mut self,

@@ -20,9 +20,11 @@ pub record OneChanges {X : Type 0} (side peer : Side) (queue : ℕ) (old new : B
   pub others : (other : ℕ) → (other ≡ queue → ⊥) → at_side new side other ≡ at_side old side other
   pub peers : (other : ℕ) → at_side new peer other ≡ at_side old peer other
 
+-- What is kept by side and queue and stays as it was counts as changed at one queue, to the value that it had there.
 pub stays : {X : Type 0} (old : Both (ℕ → X)) (side peer : Side) (queue : ℕ) → OneChanges side peer queue old old (at_side old side queue)
 stays old side peer queue = record { here = refl; others = λ other ne. refl; peers = λ other. refl }
 
+-- Putting a value at one queue of a side leaves that side's other queues and all of its peer's as they were.
 pub changes : {X : Type 0} (old : Both (ℕ → X)) (side : Side) (queue : ℕ) (x : X) → OneChanges side (other_side side) queue old (with_side old side (updated (at_side old side) queue x)) x
 changes old A queue x = record { here = updated_here old.a queue x; others = updated_other old.a queue x; peers = λ other. refl }
 changes old B queue x = record { here = updated_here old.b queue x; others = updated_other old.b queue x; peers = λ other. refl }
@@ -47,6 +49,7 @@ grows_at {side = side} {queue = queue} {old = old} {new = new} more one grows ot
   | inr ne ↦ ([], ap (λ (lane : LanePart). lane.sent) (one.others other ne) ∙ sym (append-nil (sent_of (at_side old side) other)))
 ]
 
+-- Where one queue of a side changes, each of its peer's queues still has the entries that were sent on it.
 pub peer_grows : {side peer : Side} {queue : ℕ} {old new : Both (ℕ → LanePart)} {lane : LanePart} → OneChanges side peer queue old new lane → SentGrows (sent_of (at_side old peer)) (sent_of (at_side new peer))
 peer_grows {peer = peer} {old = old} one other = ([], ap (λ (lane : LanePart). lane.sent) (one.peers other) ∙ sym (append-nil (sent_of (at_side old peer) other)))
 
@@ -57,9 +60,11 @@ pub record OneCloses (side peer : Side) (queue : ℕ) (old new : Both SidePart) 
   pub others : (other : ℕ) → (other ≡ queue → ⊥) → has_bit (at_side new side).closed other ≡ has_bit (at_side old side).closed other
   pub peers : (other : ℕ) → has_bit (at_side new peer).closed other ≡ has_bit (at_side old peer).closed other
 
+-- Where both sides stay as they were, each of their queues is closed just if it was before.
 pub none_closes : (old : Both SidePart) (side peer : Side) (queue : ℕ) → OneCloses side peer queue old old (has_bit (at_side old side).closed queue)
 none_closes old side peer queue = record { alike = λ s. refl; here = refl; others = λ other ne. refl; peers = λ other. refl }
 
+-- Marking one queue of a side as closed leaves its other queues, its peer's, and all else of both sides as they were.
 pub one_closes : (old : Both SidePart) (side : Side) (queue : ℕ) → OneCloses side (other_side side) queue old (with_side old side (record (at_side old side) { closed = with_bit (at_side old side).closed queue })) true
 one_closes old A queue = record { alike = alike; here = has-with_same old.a.closed queue; others = has-with_other old.a.closed queue; peers = λ other. refl }
   where

@@ -12,6 +12,7 @@ use Rattle.fabric_rule.specs.Parts.{SessionCount, count_in, one_more}
 abbrev pub one_at : ℕ → ℕ → ℕ
 one_at session other = if session == other then 1 else 0
 
+-- One frame more in a session raises that session's count by one, and no other session's.
 pub count-one_more : (counts : List SessionCount) (session other : ℕ) → count_in (one_more counts session) other ≡ count_in counts other + one_at session other
 count-one_more [] session other = added (if session == other then 1 else 0)
   where
@@ -53,6 +54,7 @@ counts_one_more g counts tallies session tally same more other =
 
 -- one queue more
 
+-- A number in which bit k was set has bit k.
 pub has-with_same : (bits k : ℕ) → has_bit (with_bit bits k) k ≡ true
 has-with_same bits k =
     eq-eqb (bit_at (bit_or bits (2 ^ k)) k) 1
@@ -61,6 +63,7 @@ has-with_same bits k =
     let small = bit_at-lt bits k in
     omega arith)
 
+-- Setting bit k of a number leaves each of its other bits as it was.
 pub has-with_other : (bits k j : ℕ) → (j ≡ k → ⊥) → has_bit (with_bit bits k) j ≡ has_bit bits j
 has-with_other bits k j other = ap (λ n. n == 1) same
   where

@@ -161,6 +161,7 @@ same_outcome plan steps step declared may own among = by_raw (pair_plan plan (su
     by_raw true is = ap by (sym is)
     by_raw false is = bytes_say_the_ledger plan steps step declared may own among is ∙ ap by (sym is)
 
+-- A pair that stands for the permitted steps made answers one more as the ledger does, and then stands for it too.
 pub each_step_stands : EachStepStands
 each_step_stands plan steps step state declared may own among stands = (follows.0, subst (λ (site : Site). PairStands plan.devs (pair_plan plan (subject_of step)) (subject_of step) site (move_of plan.devs state step).after) (sym (one_more plan steps step)) follows.1)
   where

@@ -21,20 +21,24 @@ use Rattle.fabric_rule.specs.StandsFor.{entry_among, flying_labelled, raw_bytes,
 
 -- Lists of which all members hold something
 
+-- A property that all members of a list have, and one more too, holds of all once that one stands at the end.
 pub all_push : {X : Type 0} (P : X → Type 0) (xs : List X) (x : X) → AllByRecursion P xs → P x → AllByRecursion P (xs ++ x ∷ [])
 all_push P [] x all own = (own, tt)
 all_push P (y ∷ xs) x all own = (all.0, all_push P xs x all.1 own)
 
+-- A property of all members of a list holds of all that are left when the one at a place is taken out.
 pub all_remove : {X : Type 0} (P : X → Type 0) (xs : List X) (place : ℕ) → AllByRecursion P xs → AllByRecursion P (remove xs place)
 all_remove P [] zero all = tt
 all_remove P [] (suc place) all = tt
 all_remove P (x ∷ xs) zero all = all.1
 all_remove P (x ∷ xs) (suc place) all = (all.0, all_remove P xs place all.1)
 
+-- Where one property implies another and all members of a list have the first, all have the second.
 pub all_weaker : {X : Type 0} (P Q : X → Type 0) → ((x : X) → P x → Q x) → (xs : List X) → AllByRecursion P xs → AllByRecursion Q xs
 all_weaker P Q weaker [] all = tt
 all_weaker P Q weaker (x ∷ xs) all = (weaker x all.0, all_weaker P Q weaker xs all.1)
 
+-- A property of all members of a list holds of the one that is found at a place.
 pub all_get : {X : Type 0} (P : X → Type 0) (xs : List X) (place : ℕ) (x : X) → AllByRecursion P xs → slice_get xs place ≡ Some x → P x
 all_get P [] place x all at = absurd (none-some x at)
 all_get P (first ∷ xs) zero x all at = subst P (same_Some first x at) all.0
@@ -42,6 +46,7 @@ all_get P (first ∷ xs) (suc place) x all at = all_get P xs place x all.1 at
 
 -- A label's write
 
+-- The write that is made of a label and an entry bears that label.
 pub label-write : (plan : PairPlan) (side : Side) (entry : Entry) (raw : List ℕ) (label : Label) → (write_of plan side entry raw label).label ≡ label
 label-write plan side entry raw (Chunk q n part) = refl
 label-write plan side entry raw (Len q n) = refl
@@ -70,7 +75,7 @@ module _ (plan : PairPlan) (side : Side) where
       ap (λ l. order_of plan side l ∷ map flying_order (writes_labelled plan side sent labels (raws_behind label poked))) (label-write plan side (entry_among sent label) (raw_bytes label poked) label)
       ∙ ap (λ ls. order_of plan side label ∷ ls) (orders-writes sent labels (raws_behind label poked))
 
-  -- writes of labels behind others, and their bytes behind the others'
+  -- writes of labels after others, and their bytes after the others'
   pub writes-append : (sent : ℕ → List Entry) (labels : List Label) (poked : List (List ℕ)) (more : List Label) (bytes : List (List ℕ)) → HaveBytes labels poked
       → writes_labelled plan side sent (labels ++ more) (poked ++ bytes) ≡ writes_labelled plan side sent labels poked ++ writes_labelled plan side sent more bytes
   writes-append sent [] [] more bytes have = refl
@@ -90,6 +95,7 @@ module _ (plan : PairPlan) (side : Side) where
       flying_of_entry : Entry → Flying
       flying_of_entry entry = flying_of plan side (write_of plan side entry (raw_bytes label poked) label)
 
+-- Where the raw writes of two lists of labels have their bytes, those of the joined list have the joined bytes.
 pub have-push : (labels : List Label) (poked : List (List ℕ)) (more : List Label) (bytes : List (List ℕ)) → HaveBytes labels poked → HaveBytes more bytes → HaveBytes (labels ++ more) (poked ++ bytes)
 have-push [] [] more bytes have own = own
 have-push [] (one ∷ poked) more bytes have own = absurd have
@@ -224,6 +230,7 @@ module _ (plan : PairPlan) (side : Side) (sent : ℕ → List Entry) where
       ap (writes_labelled plan side sent (first ∷ remove labels place)) (left-behind first labels poked place label tt)
       ∙ ap (λ ws. flying_labelled plan side sent [] first ∷ ws) (writes-remove labels poked place label have at)
 
+-- The raw writes left in flight have their bytes once a label is taken out, with its own bytes if it is raw.
 pub have-remove : (labels : List Label) (poked : List (List ℕ)) (place : ℕ) (label : Label) → HaveBytes labels poked → slice_get labels place ≡ Some label
     → HaveBytes (remove labels place) (poked_left labels poked place label)
 have-remove [] poked place label have at = absurd (none-some label at)

@@ -22,6 +22,7 @@ use Rattle.fabric_rule.specs.Steps.{move_of}
 
 -- Sides
 
+-- What holds of side A and of side B holds of each side.
 pub by_side : (P : Side → Type 0) → P A → P B → (side : Side) → P side
 by_side P a b A = a
 by_side P a b B = b
@@ -80,15 +81,19 @@ follows_if devs plan k site step made state h follows = subst (λ (state : PairS
 
 -- Functions with another value at one number
 
+-- Functions that have equal values everywhere are equal.
 pub same_at : {X Y : Type 0} {f g : X → Y} → ((x : X) → f x ≡ g x) → f ≡ g
 same_at h = λ i x. h x i
 
+-- A function that was given a new value at a number has that value there.
 pub updated_here : {X : Type 0} (f : ℕ → X) (k : ℕ) (x : X) → updated f k x k ≡ x
 updated_here f k x = ap (λ b. if b then x else f k) (eq-eqb k k refl)
 
+-- A function that was given a new value at one number has its old value at each other number.
 pub updated_other : {X : Type 0} (f : ℕ → X) (k : ℕ) (x : X) (j : ℕ) → (j ≡ k → ⊥) → updated f k x j ≡ f j
 updated_other f k x j other = ap (λ b. if b then x else f j) (ne_eqb j k other)
 
+-- Where a function's new value at a number reads as the old one there, all its values read as before.
 pub updated_same : {X Y : Type 0} (g : X → Y) (f : ℕ → X) (k : ℕ) (x : X) → g x ≡ g (f k) → (j : ℕ) → g (updated f k x j) ≡ g (f j)
 updated_same g f k x same j = elim (cases_eq j k) [
   | inl e ↦ ap (λ b. g (if b then x else f j)) (eq-eqb j k e) ∙ same ∙ ap (λ i. g (f i)) (sym e)
@@ -99,8 +104,10 @@ updated_same g f k x same j = elim (cases_eq j k) [
 pub updated_field : {X Y : Type 0} (g : X → Y) (f : ℕ → X) (k : ℕ) (x : X) (j : ℕ) → g (updated f k x j) ≡ updated (λ i. g (f i)) k (g x) j
 updated_field g f k x j = elim (j == k) as (λ b. g (if b then x else f j) ≡ (if b then g x else g (f j))) [ true ↦ refl | false ↦ refl ]
 
+-- A function of three arguments has equal values at equal arguments.
 pub three_same : {X Y Z W : Type 0} (f : X → Y → Z → W) {x x' : X} {y y' : Y} {z z' : Z} → x ≡ x' → y ≡ y' → z ≡ z' → f x y z ≡ f x' y' z'
 three_same f p q r = λ i. f (p i) (q i) (r i)
 
+-- A function of two arguments has equal values at equal arguments.
 pub two_same : {X Y W : Type 0} (f : X → Y → W) {x x' : X} {y y' : Y} → x ≡ x' → y ≡ y' → f x y ≡ f x' y'
 two_same f p q = λ i. f (p i) (q i)

@@ -34,6 +34,7 @@ abbrev pub NotOk : Answer → Type 0
 NotOk (answer.OkNumber number) = ⊥
 NotOk said = Unit {0}
 
+-- An answer that gives no frame's number adds none to a queue's counts of accepted frames.
 pub not_accepted : (said : Answer) (session : ℕ) (part : QueuePart) → NotOk said → accepted_where_begun said session part ≡ part
 not_accepted (answer.OkNumber number) session part not_ok = absurd not_ok
 not_accepted said session part not_ok = refl

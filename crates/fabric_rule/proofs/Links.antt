@@ -90,6 +90,7 @@ no_writes : (plan : PairPlan) (side : Side) (sent sent' : ℕ → List Entry) (f
     → writes_labelled plan side sent flight poked ≡ writes_labelled plan side sent' flight poked
 no_writes plan side sent sent' flight poked none kept = ap (λ flight. writes_labelled plan side sent flight poked) none ∙ sym (ap (λ flight. writes_labelled plan side sent' flight poked) none)
 
+-- An empty flight has all its writes in place, whatever was sent and whether the link is down or not.
 pub none_in_flight : (plan : PairPlan) (side : Side) (down : Bool) (sent : ℕ → List Entry) → FlightInPlace plan side down sent [] [] []
 none_in_flight plan side down sent = record { begun = tt; raws = tt; places = tt; none = λ _. (refl, refl) }
 
@@ -121,6 +122,7 @@ port_plan : (plan : PairPlan) (side : Side) (queue : ℕ) (forgotten : Bool) (vi
 port_plan plan side queue true view entry port is = ap (λ (port : PortState). fresh_port port.plan port.side port.queue) is
 port_plan plan side queue false view entry port is = ap (λ (port : PortState). fresh_port port.plan port.side port.queue) is
 
+-- The number 0 has no bit.
 pub no_bits : (queue : ℕ) → has_bit 0 queue ≡ false
 no_bits queue = ap (λ b. b == 1) (bit_at-zero queue)
 

@@ -38,14 +38,17 @@ module _ (queue n : ℕ) (entry : Entry) where
 abbrev pub begun_end : ℕ → SendingEnd → Entry → List Entry → ℕ → SendingEnd
 begun_end queue sends first others told = record { sent = sends.sent ++ first ∷ []; waiting = others; todo = labels_of queue (length sends.sent) first; told = told }
 
+-- A list of entries is one longer once an entry was begun.
 pub length-begun : (entries : List Entry) (first : Entry) → length (entries ++ first ∷ []) ≡ length entries + 1
 length-begun entries first = length-append entries (first ∷ [])
 
+-- The entry that a sender has just begun is the one that it began last.
 pub last-begun : (queue : ℕ) (sends : SendingEnd) (first : Entry) (others : List Entry) (told : ℕ) → last_entry (begun_end queue sends first others told) ≡ first
 last-begun queue sends first others told =
     ap (λ n. slice_index_or (sends.sent ++ first ∷ []) n GoesDown) (let l = length-begun sends.sent first in let e : length (sends.sent ++ first ∷ []) - 1 ≡ length sends.sent = omega (arith, l) in e)
     ∙ get_or_push sends.sent first GoesDown (length sends.sent) refl
 
+-- Where a pair's sizes fit, and an entry and those waiting fit a slot, a sender that begins it has all in place.
 pub begun_in_place : (plan : PairPlan) (side : Side) (queue : ℕ) (sends : SendingEnd) (first : Entry) (others : List Entry) (told : ℕ) → SizesFit plan → FitsSlot plan side queue first → AllByRecursion (FitsSlot plan side queue) others
     → SendingInPlace plan side queue (begun_end queue sends first others told)
 begun_in_place plan side queue sends first others told fits short all =
@@ -72,6 +75,7 @@ begun_in_place plan side queue sends first others told fits short all =
 
 -- Pieces
 
+-- A frame is cut into as many pieces as its length takes where each has the largest payload at most.
 pub length-pieces : (largest : ℕ) (bytes : List ℕ) → length (pieces_of largest bytes) ≡ pieces_in largest (length bytes)
 length-pieces largest bytes = length-map (count_from 0 (pieces_in largest (length bytes))) (piece_of largest bytes) ∙ counted 0 (pieces_in largest (length bytes))
   where
@@ -79,6 +83,7 @@ length-pieces largest bytes = length-map (count_from 0 (pieces_in largest (lengt
     counted from zero = refl
     counted from (suc count) = ap suc (counted (suc from) count)
 
+-- Each piece of a frame has at most as many bytes as the largest payload.
 pub pieces_fit : (largest : ℕ) (bytes : List ℕ) → AllByRecursion (λ entry. length (bytes_of entry) ≤ largest) (pieces_of largest bytes)
 pieces_fit largest bytes = each 0 (pieces_in largest (length bytes))
   where
@@ -89,6 +94,7 @@ pieces_fit largest bytes = each 0 (pieces_in largest (length bytes))
     each from zero = tt
     each from (suc count) = (short from, each (suc from) count)
 
+-- A frame of whatever length takes at least one piece.
 pub some_pieces : (largest len : ℕ) → 1 ≤ pieces_in largest len
 some_pieces largest len = at_least ((len + largest - 1) / largest)
   where
@@ -120,6 +126,7 @@ free_then : (entries begun more index : ℕ) → index < entries → more ≤ fr
 free_then entries begun more index small room one =
     ap (λ head. free_entries entries head index) (sym (mod-add-mod begun entries more)) ∙ free_step entries (begun % entries) more index (mod_below begun entries (omega arith)) small room one
 
+-- Beginning one entry or more for which there is room leaves that many fewer free by head and index word.
 pub free_less : (entries begun more index : ℕ) → nat_lt (free_in_memory entries (head_of entries begun) index) more ≡ false → 1 ≤ more
     → free_in_memory entries (head_of entries (begun + more)) index ≡ free_in_memory entries (head_of entries begun) index - more
 free_less entries begun more index room one = at (nat_lt index entries) refl room

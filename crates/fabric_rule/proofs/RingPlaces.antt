@@ -65,9 +65,11 @@ some_entry l has =
 placed_lies : (l : Layout) → IsPlaced l → RingLies l
 placed_lies l placed = ring_lies l placed.ring (some_entry l placed.ring)
 
+-- The ring to which a side of a declared pair sends on one of its queues lies within its window.
 pub lies_of : (plan : PairPlan) (side : Side) (queue : ℕ) → IsPair plan → queue < (side_plan plan side).queues → RingLies (layout_of plan side queue)
 lies_of plan side queue declared among = placed_lies (layout_of plan side queue) (each_queue_has_a_ring plan side queue declared among).0
 
+-- The ring in which a side of a declared pair receives on one of its queues lies within its window.
 pub lies_to : (plan : PairPlan) (side : Side) (queue : ℕ) → IsPair plan → queue < (side_plan plan side).queues → RingLies (layout_to plan side queue)
 lies_to plan side queue declared among = placed_lies (layout_to plan side queue) (each_queue_has_a_ring plan side queue declared among).1
 
@@ -77,6 +79,7 @@ pub record FieldsLie (plan : PairPlan) : Type 0 where
   pub flags : flags_offset plan + 4 ≤ header_bytes plan
   pub version : (n left : ℕ) → length (version_bytes plan n left) ≤ header_bytes plan
 
+-- A header's length, flags and version lie within the header, on version 4 and on version 5.
 pub fields_lie : (plan : PairPlan) → FieldsLie plan
 fields_lie plan = let lie = at (plan.a.version == 5 && plan.b.version == 5) in record { len = lie.0; flags = lie.1; version = lie.2 }
   where
@@ -91,6 +94,7 @@ fields_lie plan = let lie = at (plan.a.version == 5 && plan.b.version == 5) in r
 
 -- In a side's own memory, where the peer's windows fit into those that it gives
 
+-- A stretch of a window in which a side receives lies in its memory, where the peer's windows fit the side's cap.
 pub own_inside : (plan : PairPlan) (side : Side) (queue at len : ℕ) → RingLies (layout_to plan side queue) → (side_plan plan (other_side side)).size ≤ (side_plan plan side).cap → at + len ≤ (side_plan plan (other_side side)).size
     → own_address plan side queue at + len ≤ memory_size plan side
 own_inside plan side queue at len lies fits within = in_window (window_of (layout_to plan side queue)) (side_plan plan side).windows (side_plan plan side).cap at len lies.window (omega (arith, fits, within))

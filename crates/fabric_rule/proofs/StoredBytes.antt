@@ -36,9 +36,11 @@ read_inside stores size at len within =
 abbrev pub IsInside : ℕ → Store → Type 0
 IsInside size store = store.at + length store.bytes ≤ size
 
+-- A store within a memory makes of its bytes those with the store's bytes written over them.
 pub one_stored : (store : Store) (older : List Store) (size : ℕ) → IsInside size store → bytes_in (store ∷ older) 0 size ≡ written store.at store.bytes (bytes_in older 0 size)
 one_stored store older size within = bytes_over store older 0 store.at size (omega arith) within
 
+-- Stores within a memory, written over its bytes one after another, make the bytes that the list of all stores says.
 pub all_stored : (stores older : List Store) (size : ℕ) → AllByRecursion (IsInside size) stores → bytes_after stores (bytes_in older 0 size) ≡ bytes_in (stores ++ older) 0 size
 all_stored [] older size within = refl
 all_stored (store ∷ stores) older size within =

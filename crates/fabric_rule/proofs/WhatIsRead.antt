@@ -29,6 +29,7 @@ pub own_fits : (plan : PairPlan) → SizesFit plan → (side : Side) → (side_p
 own_fits plan fits A = fits.1
 own_fits plan fits B = fits.0
 
+-- Where the sizes of a pair fit, a side's windows are no larger than those that its peer's memory gives.
 pub peer_fits : (plan : PairPlan) → SizesFit plan → (side : Side) → (side_plan plan side).size ≤ (side_plan plan (other_side side)).cap
 peer_fits plan fits A = fits.0
 peer_fits plan fits B = fits.1
@@ -61,6 +62,7 @@ found_test false false false true more seen own len largest sum most left found_
 found_test false false false false true seen own len largest sum most left found_len found_left is = cc
 found_test false false false false false seen own len largest sum most left found_len found_left is = (refl, cc)
 
+-- An entry that a receiver finds in its memory is no longer than the largest payload of its ring.
 pub found_fits : (plan : PairPlan) (bytes : Bytes) (side : Side) (queue got gathered len left : ℕ) → found_in_memory plan bytes side queue got gathered ≡ AnEntry len left → len ≤ max_payload_of (layout_to plan side queue)
 found_fits plan bytes side queue got gathered len left is =
     let header : Header = header_in plan bytes side queue got in

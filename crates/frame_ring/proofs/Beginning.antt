@@ -39,6 +39,7 @@ begun_writes queue told sending (entry ∷ entries) some =
     let n : sending.begun + 1 ≡ suc sending.begun = omega arith in
     ap (λ n. left_of_entry entry (labels_of queue sending.begun entry) ++ writes_from queue n entries) n
 
+-- Where a sender with nothing left begins entries, its port's unused promises grow by the writes that these take.
 pub unused_more : (port : PortState) (after : Sending) (entries : List Entry) → is_busy port.sending ≡ false
     → left_of_entry after.entry after.todo ++ writes_from port.queue after.begun after.waiting ≡ writes_from port.queue port.sending.begun entries
     → unused_of (with_sending port after) - unused_of port ≡ all_writes_in entries
@@ -47,14 +48,17 @@ unused_more port after entries idle is =
     let now : length (writes_left (with_sending port after)) ≡ all_writes_in entries = ap length is ∙ length-writes_from port.queue port.sending.begun entries in
     omega (arith, before, now)
 
+-- Promising a side room for zero more writes leaves the bridge as it was.
 pub no_room : (bridge : Bridge) (side : Side) → with_room bridge side 0 ≡ bridge
 no_room bridge A = let e : (flight_of bridge A).spare + 0 ≡ (flight_of bridge A).spare = omega arith in ap (λ spare. record bridge { flights = record { a = record { writes = bridge.flights.a.writes; spare = spare }; b = bridge.flights.b } }) e
 no_room bridge B = let e : (flight_of bridge B).spare + 0 ≡ (flight_of bridge B).spare = omega arith in ap (λ spare. record bridge { flights = record { a = bridge.flights.a; b = record { writes = bridge.flights.b.writes; spare = spare } } }) e
 
+-- A side's own promised pages stay as its peer's are set anew and room for more of its writes is promised.
 pub own_pages : (bridge : Bridge) (side : Side) (pages : List ℕ) (more : ℕ) → pages_of (with_room (with_pages bridge (other_side side) pages) side more) side ≡ pages_of bridge side
 own_pages bridge A pages more = refl
 own_pages bridge B pages more = refl
 
+-- A port that begins entries still has its pages promised, where the peer's pages grew to hold all that these need.
 pub begun_ready : (port : PortState) (rings : QueueOf) (after : Sending) (entries : List Entry) (own peer new : List ℕ) (touched : ℕ → Type 0)
     → rings.plan ≡ port.plan → rings.side ≡ port.side → rings.queue ≡ port.queue
     → left_of_entry after.entry after.todo ++ writes_from port.queue after.begun after.waiting ≡ writes_from port.queue port.sending.begun entries
@@ -66,6 +70,7 @@ begun_ready port rings after entries own peer new touched plan side queue is gro
       index_word = λ busy reach. promised_still touched peer new _ _ grow (ready.index_word busy reach);
     }
 
+-- No entry waits at a sender that isn't busy.
 pub none_waits : (sending : Sending) → is_busy sending ≡ false → length sending.waiting ≡ 0
 none_waits sending idle = at_lists sending.todo sending.waiting idle where
   at_lists : (todo : List Label) (waiting : List Entry) → (not (is_empty_list todo) || not (is_empty_list waiting)) ≡ false → length waiting ≡ 0
@@ -73,6 +78,7 @@ none_waits sending idle = at_lists sending.todo sending.waiting idle where
   at_lists [] (x ∷ xs) e = absurd (cc e)
   at_lists (x ∷ xs) (y ∷ ys) e = absurd (cc e)
 
+-- Pages that grow only where entries touch them grow only where the writes of these entries touch them.
 pub begun_grows : (rings : QueueOf) (from begun : ℕ) (entries : List Entry) (lefts : List Left) (old new : List ℕ) → from ≡ begun → lefts ≡ writes_from rings.queue begun entries
     → PagesGrow (TouchesEntries rings from entries) old new → PagesGrow (TouchesLeft rings.plan rings.side lefts) old new
 begun_grows rings from begun entries lefts old new is_from is grow =
@@ -89,12 +95,14 @@ rest_is pair mid new side count more pages room is_count =
     ∙ ap (λ pages. with_room (with_pages pair (other_side side) pages) side count) same
     ∙ ap (with_room (with_pages pair (other_side side) (pages_of new (other_side side))) side) is_count
 
+-- Pages that grow only where an entry touches them grow only where the list of that entry alone touches them.
 pub one_grows : (rings : QueueOf) (n : ℕ) (entry : Entry) (old new : List ℕ) → PagesGrow (TouchesEntry rings n (length (bytes_of entry))) old new → PagesGrow (TouchesEntries rings n (entry ∷ [])) old new
 one_grows rings n entry old new grow =
     let first : n ≡ n + 0 = omega arith in
     grows_further (TouchesEntries rings n (entry ∷ [])) (TouchesEntry rings n (length (bytes_of entry))) old old new (grows_nothing (TouchesEntries rings n (entry ∷ [])) old) grow
     (λ page touch. (0, omega arith, subst (λ n. TouchesEntry rings n (length (bytes_of entry)) page) first touch))
 
+-- Where an entry's pages are promised, so are those of each entry of the list of it alone.
 pub one_promised : (rings : QueueOf) (n : ℕ) (entry : Entry) (pages : List ℕ) → IsEntryPromised rings n (length (bytes_of entry)) pages → (k : ℕ) → k < length (entry ∷ [])
     → IsEntryPromised rings (n + k) (length (bytes_of (entry_at (entry ∷ []) k))) pages
 one_promised rings n entry pages promised zero among = let first : n ≡ n + 0 = omega arith in subst (λ n. IsEntryPromised rings n (length (bytes_of entry)) pages) first promised
@@ -116,12 +124,14 @@ lefts_are : (port : PortState) (after : Sending) (entries : List Entry) → 0 < 
 lefts_are port after entries some is =
     ap (λ (after : Sending). left_of_entry after.entry after.todo ++ writes_from port.queue after.begun after.waiting) is ∙ begun_writes port.queue after.told port.sending entries some
 
+-- Beginning entries adds to the pair only pages at the peer, and the room by which the port's unused promises grow.
 pub begins_rest : (port : PortState) (after : Sending) (entries : List Entry) (pair mid new : Bridge) (count : ℕ) → Begins port after entries pair mid new count
     → new ≡ with_room (with_pages pair (other_side port.side) (pages_of new (other_side port.side))) port.side (unused_of (with_sending port after) - unused_of port)
 begins_rest port after entries pair mid new count h =
     rest_is pair mid new port.side count (unused_of (with_sending port after) - unused_of port) h.pages h.room
     (h.count_is ∙ sym (unused_more port after entries h.idle (lefts_are port after entries h.some h.after_is)))
 
+-- Beginning entries promises at the peer only pages that the writes then left to post touch.
 pub begins_pages : (port : PortState) (after : Sending) (entries : List Entry) (pair mid new : Bridge) (count : ℕ) → Begins port after entries pair mid new count
     → PagesGrow (TouchesLeft port.plan port.side (writes_left (with_sending port after))) (pages_of pair (other_side port.side)) (pages_of new (other_side port.side))
 begins_pages port after entries pair mid new count h =
@@ -129,6 +139,7 @@ begins_pages port after entries pair mid new count h =
     subst (λ pages. PagesGrow (TouchesLeft port.plan port.side (writes_left (with_sending port after))) (pages_of pair (other_side port.side)) pages) same
     (begun_grows (record { plan = port.plan; side = port.side; queue = port.queue }) port.sending.begun port.sending.begun entries (writes_left (with_sending port after)) _ _ refl (lefts_are port after entries h.some h.after_is) h.grow)
 
+-- A port whose pages are promised has all of them promised after it begins entries too.
 pub begins_ready : (port : PortState) (after : Sending) (entries : List Entry) (pair mid new : Bridge) (count : ℕ) → Begins port after entries pair mid new count
     → HasPagesIn port pair → HasPagesIn (with_sending port after) new
 begins_ready port after entries pair mid new count h ready =
@@ -144,6 +155,7 @@ begins_ready port after entries pair mid new count h ready =
 abbrev pub rings_of : PortState → QueueOf
 rings_of port = record { plan = port.plan; side = port.side; queue = port.queue }
 
+-- Where a sender isn't busy, no entry waits, so the next entry's number is just the count of those begun.
 pub from_is : (port : PortState) (from : ℕ) → is_busy port.sending ≡ false → from ≡ port.sending.begun + length port.sending.waiting → from ≡ port.sending.begun
 from_is port from idle is = omega (arith, is, none_waits port.sending idle)
 
@@ -152,6 +164,7 @@ from_is port from idle is = omega (arith, is, none_waits port.sending idle)
 abbrev pub pieces_seen : PortState → List ℕ → List Entry
 pieces_seen port frame = pieces_of (sizes_seen port).largest frame
 
+-- A port that isn't busy begins a frame as its pieces, where their pages and room for their writes are promised.
 pub frame_begins : (port : PortState) (frame : List ℕ) (pair mid new : Bridge) (from seen count : ℕ) → is_busy port.sending ≡ false → from ≡ port.sending.begun + length port.sending.waiting
     → seen ≡ (sizes_seen port).largest → count ≡ all_writes_in (pieces_of seen frame)
     → mid ≡ with_pages pair (other_side port.side) (pages_of mid (other_side port.side))
@@ -171,12 +184,14 @@ frame_begins port frame pair mid new from seen count idle is_from is_seen is_cou
       count_is = is_count ∙ ap (λ largest. all_writes_in (pieces_of largest frame)) is_seen;
     }
 
+-- Pages that grow only where a frame's pieces touch them grow only where the writes left after its begin do.
 pub frame_grows : (port : PortState) (frame old new : List ℕ) (from : ℕ) → is_busy port.sending ≡ false → from ≡ port.sending.begun + length port.sending.waiting
     → PagesGrow (TouchesEntries (rings_of port) from (pieces_seen port frame)) old new → PagesGrow (TouchesLeft port.plan port.side (writes_left (frame_begun port frame))) old new
 frame_grows port frame old new from idle is_from grow =
     begun_grows (rings_of port) from port.sending.begun (pieces_seen port frame) (writes_left (frame_begun port frame)) old new (from_is port from idle is_from)
     (lefts_are port (frame_begun port frame).sending (pieces_seen port frame) (some_pieces (sizes_seen port).largest frame) refl) grow
 
+-- A sender that agrees with its port still agrees with it after both have begun the same frame.
 pub frame_sent : (port : PortState) (frame : List ℕ) (sender new : Outgoing) → sender.sending ≡ port.sending → sender.queue ≡ port.queue → sender.largest ≡ (sizes_seen port).largest
     → new ≡ with_progress sender (record (entries_begun sender.queue sender.sending (pieces_of sender.largest frame)) { told = sender.sending.told + 1 }) → new.sending ≡ (frame_begun port frame).sending
 frame_sent port frame sender new is queue largest after =
@@ -187,6 +202,7 @@ frame_sent port frame sender new is queue largest after =
 
 -- A link-down entry
 
+-- A port that isn't busy begins a link-down entry, where its pages and room for its four writes are promised.
 pub down_begins : (port : PortState) (pair mid new : Bridge) (from : ℕ) → is_busy port.sending ≡ false → from ≡ port.sending.begun + length port.sending.waiting
     → mid ≡ with_pages pair (other_side port.side) (pages_of mid (other_side port.side))
     → PagesGrow (TouchesEntry (rings_of port) from 0) (pages_of pair (other_side port.side)) (pages_of mid (other_side port.side))
@@ -205,12 +221,14 @@ down_begins port pair mid new from idle is_from pages grow promised room =
       count_is = refl;
     }
 
+-- Pages that grow only where a link-down entry touches them grow only where the writes left after its begin do.
 pub down_grows : (port : PortState) (old new : List ℕ) (from : ℕ) → is_busy port.sending ≡ false → from ≡ port.sending.begun + length port.sending.waiting
     → PagesGrow (TouchesEntry (rings_of port) from 0) old new → PagesGrow (TouchesLeft port.plan port.side (writes_left (down_begun port))) old new
 down_grows port old new from idle is_from grow =
     begun_grows (rings_of port) from port.sending.begun (GoesDown ∷ []) (writes_left (down_begun port)) old new (from_is port from idle is_from)
     (lefts_are port (down_begun port).sending (GoesDown ∷ []) (omega arith) refl) (one_grows (rings_of port) from GoesDown old new grow)
 
+-- A sender that agrees with its port still agrees with it after both have begun a link-down entry.
 pub down_sent : (port : PortState) (sender new : Outgoing) → sender.sending ≡ port.sending → sender.queue ≡ port.queue
     → new ≡ with_progress sender (entries_begun sender.queue sender.sending (GoesDown ∷ [])) → new.sending ≡ (down_begun port).sending
 down_sent port sender new is queue after =

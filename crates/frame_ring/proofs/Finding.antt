@@ -21,18 +21,22 @@ use Rattle.frame_ring.specs.declared.RingLook.TheVariants.{Ready}
 
 -- Pages of the two sides
 
+-- Setting the promised pages of a side leaves those of its peer as they were.
 pub peer_pages : (bridge : Bridge) (side : Side) (pages : List ℕ) → pages_of (with_pages bridge side pages) (other_side side) ≡ pages_of bridge (other_side side)
 peer_pages bridge A pages = refl
 peer_pages bridge B pages = refl
 
+-- Setting the promised pages of a side's peer leaves those of the side as they were.
 pub side_pages : (bridge : Bridge) (side : Side) (pages : List ℕ) → pages_of (with_pages bridge (other_side side) pages) side ≡ pages_of bridge side
 side_pages bridge A pages = refl
 side_pages bridge B pages = refl
 
+-- Promising room for one write leaves each side's promised pages as they were, whether it is ok or an error.
 pub either_pages : {X E : Type 0} (result : Result X E) (mid new : Bridge) (side any : Side) → OnOk result (new ≡ with_room mid side 1) → OnErr result (new ≡ mid) → pages_of new any ≡ pages_of mid any
 either_pages (Ok x) mid new side any ok err = ap (λ (bridge : Bridge). pages_of bridge any) ok
 either_pages (Err e) mid new side any ok err = ap (λ (bridge : Bridge). pages_of bridge any) err
 
+-- A fact that holds anyway holds where a result is an error.
 pub on_err : {X E : Type 0} (result : Result X E) {P : Type 0} → P → OnErr result P
 on_err (Ok x) p = tt
 on_err (Err e) p = p
@@ -43,10 +47,12 @@ write_still : (plan : PairPlan) (side : Side) (touched : ℕ → Type 0) (old ne
 write_still plan side touched old new None grow ready = tt
 write_still plan side touched old new (Some write) grow ready = λ reach. promised_still touched old new _ (length write.bytes) grow (ready reach)
 
+-- Writes left to post whose pages at the peer are promised stay so as those pages grow.
 pub writes_still : (plan : PairPlan) (side : Side) (touched : ℕ → Type 0) (old new : List ℕ) (lefts : List Left) → PagesGrow touched old new → All (IsLeftReady plan side old) lefts → All (IsLeftReady plan side new) lefts
 writes_still plan side touched old new lefts grow all =
     All-weaker (IsLeftReady plan side old) (IsLeftReady plan side new) (λ (left : Left) (h : IsLeftReady plan side old left). write_still plan side touched old new (entry_write plan side left.entry left.label) grow h) lefts all
 
+-- A port that finds an entry has its pages promised, where those of the entry's flags and index write are.
 pub found_ready : (port : PortState) (len left : ℕ) (own peer own_new peer_new : List ℕ) (touched : ℕ → Type 0)
     → PagesGrow touched peer peer_new → ArePromised (own_header port.plan port.side port.queue port.receiving.got + flags_offset port.plan) 4 own_new
     → IsReadyToLand port.plan port.side peer_new (index_write port.plan port.side port.queue port.receiving.got)
@@ -67,15 +73,18 @@ answer_of receiving (AnotherVersion seen own) number len e = absurd (cc e)
 answer_of receiving (TooManyBytes many most) number len e = absurd (cc e)
 answer_of receiving (AnEntry size left) number len e = let same : size ≡ len = cc in ap (Ready receiving.got) same
 
+-- An idle receiver's look that comes to ready finds an entry, numbered by the entries taken so far.
 pub finds : (port : PortState) (bridge : Bridge) (found : Found) (number len : ℕ) → is_idle port.receiving.phase ≡ true → found ≡ found_seen port bridge → Ready number len ≡ look_found port.receiving found → FindsEntry port bridge
 finds port bridge found number len idle is ready = (len, rw idle (answer_of port.receiving (found_seen port bridge) number len (ready ∙ ap (look_found port.receiving) is)))
 
+-- Where a look finds an entry, pages that grow only by its index write grow only by what the look may promise.
 pub look_touches : (port : PortState) (bridge : Bridge) (old new : List ℕ) → FindsEntry port bridge
     → PagesGrow (TouchesWrite port.plan port.side (index_write port.plan port.side port.queue port.receiving.got)) old new → PagesGrow (TouchedByLook port bridge) old new
 look_touches port bridge old new finds grow =
     grows_further (TouchedByLook port bridge) (TouchesWrite port.plan port.side (index_write port.plan port.side port.queue port.receiving.got)) old old new (grows_nothing (TouchedByLook port bridge) old) grow
     (λ page touch. (finds, touch))
 
+-- Where a look finds an entry, pages that grow only by the entry's flags grow only by what the look may promise.
 pub flags_touch : (port : PortState) (bridge : Bridge) (old new : List ℕ) → FindsEntry port bridge
     → PagesGrow (Touches (own_header port.plan port.side port.queue port.receiving.got + flags_offset port.plan) 4) old new → PagesGrow (TouchedByFlags port bridge) old new
 flags_touch port bridge old new finds grow =

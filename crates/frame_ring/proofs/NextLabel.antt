@@ -27,6 +27,7 @@ each_last : (queue n : ℕ) (entry : Entry) → map (label_of queue entry) (Data
 each_last queue n (Carries bytes left) = refl
 each_last queue n GoesDown = refl
 
+-- The labels of an entry are those of its chunks, and then of its length, version, flags and doorbell.
 pub labels_are : (queue n : ℕ) (entry : Entry) → labels_of queue n entry ≡ chunk_labels queue n (chunks_in (length (bytes_of entry))) ++ last_labels queue n (carries_bytes entry)
 labels_are queue n entry =
     let chunks = map (λ part. Data n (PayloadChunk part)) (count_from 0 (chunks_in (length (bytes_of entry)))) in
@@ -73,6 +74,7 @@ by_last queue n chunks carries (suc (suc (suc (suc k)))) next e =
 below_or_from : (next chunks : ℕ) → (next < chunks) ⊎ (next ≡ chunks + (next - chunks))
 below_or_from next chunks = elim (cases_lt next chunks) [ inl less ↦ inl less | inr more ↦ inr (omega arith) ]
 
+-- The label that a write's number gives is the one at that place among the entry's labels, or none past their end.
 pub next_label : (queue n next : ℕ) (entry : Entry) → label_by queue n (chunks_in (length (bytes_of entry))) (carries_bytes entry) next ≡ first_label (drop next (labels_of queue n entry))
 next_label queue n next entry =
     let chunks = chunks_in (length (bytes_of entry)) in

@@ -19,6 +19,7 @@ moves_by : (queue begun told : ℕ) (entry old : Entry) (todo : List Label) (wai
     ≡ record { begun = begun + 1; told = told; entry = entry; todo = labels_of queue begun entry; waiting = others }
 moves_by queue begun told entry old todo waiting others e more = rw (e, more) refl
 
+-- Where all writes of an entry are posted and another of its frame follows, that one is begun, at its first write.
 pub next_moves : (entries : List Entry) (queue piece next begun told : ℕ) → piece + 1 < length entries → writes_in (entry_at entries piece) ≤ next
     → progress_at queue entries (piece + 1) 0 (begun + 1) told ≡ next_begun queue (progress_at queue entries piece next begun told)
 next_moves entries queue piece next begun told more all =
@@ -28,11 +29,13 @@ next_moves entries queue piece next begun told more all =
     ap (λ n. record { begun = begun + 1; told = told; entry = entry_at entries (piece + 1); todo = labels_of queue n (entry_at entries (piece + 1)); waiting = drop (piece + 1 + 1) entries }) number
     ∙ sym (moves_by queue begun told (entry_at entries (piece + 1)) (entry_at entries piece) _ (drop (piece + 1) entries) (drop (piece + 1 + 1) entries) none others)
 
+-- Beginning the next entry changes nothing of a sender that has labels left to post or no entry waiting.
 pub stays_by : (queue begun told : ℕ) (entry : Entry) (todo : List Label) (waiting : List Entry) → (todo ≡ [] → waiting ≡ [])
     → next_begun queue (record { begun = begun; told = told; entry = entry; todo = todo; waiting = waiting }) ≡ record { begun = begun; told = told; entry = entry; todo = todo; waiting = waiting }
 stays_by queue begun told entry [] waiting h = let none = h refl in rw none refl
 stays_by queue begun told entry (label ∷ todo) waiting h = refl
 
+-- Beginning the next entry changes nothing while writes of the entry at hand are left, or where it is the last.
 pub next_stays : (entries : List Entry) (queue piece next begun told : ℕ) → (writes_in (entry_at entries piece) ≤ next → length entries ≤ piece + 1)
     → progress_at queue entries piece next begun told ≡ next_begun queue (progress_at queue entries piece next begun told)
 next_stays entries queue piece next begun told last =
@@ -77,6 +80,7 @@ one_is_left entries queue n piece next left among some all moved more =
     at_lists [] (entry ∷ waiting) len e moved = absurd (let h = moved refl in cc h)
     at_lists (label ∷ todo) waiting len e moved = omega arith
 
+-- Where more of a frame is left after it, posting a write takes the sender one write further in the same entry.
 pub posted_more : (entries : List Entry) (queue piece next begun told left : ℕ) → piece < length entries → next < writes_in (entry_at entries piece)
     → left + (next + 1) ≡ all_writes_in (drop piece entries) → 0 < left
     → progress_at queue entries piece (next + 1) begun told
@@ -87,6 +91,7 @@ posted_more entries queue piece next begun told left among some all more =
     sym (goes_on (progress_at queue entries piece (next + 1) begun told) busy)
     ∙ ap (λ todo. let_go (record (progress_at queue entries piece next begun told) { todo = todo })) (rest_from next labels)
 
+-- Posting the last write of a frame leaves a sender with nothing to post, nothing waiting and its entry let go.
 pub posted_last : (entries : List Entry) (queue piece next begun told : ℕ) → piece < length entries → next < writes_in (entry_at entries piece)
     → next + 1 ≡ all_writes_in (drop piece entries)
     → record { begun = begun; told = told; entry = GoesDown; todo = []; waiting = [] }
@@ -102,9 +107,11 @@ posted_last entries queue piece next begun told among some all =
 
 -- Another frame
 
+-- A frame is cut into one piece at least, whatever its length.
 pub some_pieces : (largest : ℕ) (bytes : List ℕ) → 0 < length (pieces_of largest bytes)
 some_pieces largest bytes = omega (arith, length-pieces_of largest bytes)
 
+-- A sender that begins some entries stands at the first of them, with none of its writes posted.
 pub begun_is : (entries : List Entry) (queue told : ℕ) (sending : Sending) → 0 < length entries
     → progress_at queue entries 0 0 (sending.begun + 1) told ≡ record (entries_begun queue sending entries) { told = told }
 begun_is [] queue told sending some = absurd (omega arith)
@@ -112,6 +119,7 @@ begun_is (first ∷ others) queue told sending some =
     let number : sending.begun + 1 - 1 ≡ sending.begun = omega arith in
     ap (λ n. record { begun = sending.begun + 1; told = told; entry = first; todo = labels_of queue n first; waiting = others }) number
 
+-- Entries, where there is one at least, take four writes at least.
 pub some_writes : (entries : List Entry) → 0 < length entries → 4 ≤ all_writes_in entries
 some_writes [] some = absurd (omega arith)
 some_writes (entry ∷ entries) some = omega arith

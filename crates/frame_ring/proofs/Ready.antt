@@ -59,10 +59,12 @@ to_copied Copying got is = λ busy. (refl, omega arith)
 to_copied Copied got is = absurd (cc is)
 to_copied Cleared got is = absurd (cc is)
 
+-- A port keeps its promised pages as it clears the entry that it has copied.
 pub cleared_ready : (port : PortState) (own peer : List ℕ) → is_copied port.receiving.phase ≡ true → HasPages port own peer → HasPages (with_receiving port (record port.receiving { phase = Cleared })) own peer
 unfolding hand SameEntry
 cleared_ready port own peer is ready = again port (record port.receiving { phase = Cleared }) own peer ready (to_cleared port.receiving.phase port.receiving.got is)
 
+-- A port keeps its promised pages as it copies the next part of an entry.
 pub copied_ready : (port : PortState) (gathered : List ℕ) (own peer : List ℕ) → is_copying port.receiving.phase ≡ true → HasPages port own peer → HasPages (with_receiving port (part_copied port.receiving gathered)) own peer
 unfolding hand SameEntry
 copied_ready port gathered own peer is ready = at_tests (more_parts port.receiving) (more_entries port.receiving) where
@@ -76,6 +78,7 @@ copied_ready port gathered own peer is ready = at_tests (more_parts port.receivi
   at_tests false false =
       again port (record port.receiving { got = port.receiving.got + 1; phase = Copied; gathered = []; done = port.receiving.done + 1 }) own peer ready (to_copied port.receiving.phase port.receiving.got is)
 
+-- A port that has copied an entry has the pages promised of that entry's flags in its own memory.
 pub copied_flags : (port : PortState) (own peer : List ℕ) → is_copied port.receiving.phase ≡ true → HasPages port own peer
     → ArePromised (own_header port.plan port.side port.queue (port.receiving.got - 1) + flags_offset port.plan) 4 own
 copied_flags port own peer is ready = at_phase port.receiving.phase is ready.flags where
@@ -87,6 +90,7 @@ copied_flags port own peer is ready = at_phase port.receiving.phase is ready.fla
   at_phase Copied e flags = flags refl
   at_phase Cleared e flags = absurd (cc e)
 
+-- A port that has cleared an entry has the pages promised that the entry's index write fills at the peer.
 pub cleared_index_word : (port : PortState) (own peer : List ℕ) → is_cleared port.receiving.phase ≡ true → HasPages port own peer
     → IsReadyToLand port.plan port.side peer (index_write port.plan port.side port.queue (port.receiving.got - 1))
 cleared_index_word port own peer is ready = at_phase port.receiving.phase is ready.index_word where
@@ -100,6 +104,7 @@ cleared_index_word port own peer is ready = at_phase port.receiving.phase is rea
 
 -- Pages of a pair
 
+-- Setting the bytes of a side's memory leaves the promised pages of both sides as they were.
 pub pages_with_bytes : (bridge : Bridge) (side any : Side) (bytes : List ℕ) → pages_of (with_bytes bridge side bytes) any ≡ pages_of bridge any
 pages_with_bytes bridge A A bytes = refl
 pages_with_bytes bridge A B bytes = refl
@@ -128,6 +133,7 @@ pages_of_first : (bridge : Bridge) (side any : Side) (entry : Entry) (todo : Lis
 pages_of_first bridge side any entry [] = refl
 pages_of_first bridge side any entry (label ∷ todo) = pages_of_write bridge side any entry label
 
+-- A post by a port leaves the promised pages of both sides as they were.
 pub pages_posted : (port : PortState) (bridge : Bridge) (any : Side) → pages_of (posted_by port bridge) any ≡ pages_of bridge any
 pages_posted port bridge any = pages_of_first bridge port.side any (next_begun port.queue port.sending).entry (next_begun port.queue port.sending).todo
 
@@ -165,6 +171,7 @@ let_go_by P queue sending false is all = none sending.todo sending.waiting is wh
   none (x ∷ xs) [] e = absurd (cc e)
   none (x ∷ xs) (y ∷ ys) e = absurd (cc e)
 
+-- What holds of all writes left to post holds of those that are left after the next one is posted.
 pub posted_ready : (P : Left → Type 0) (queue : ℕ) (sending : Sending)
     → All P (left_of_entry sending.entry sending.todo ++ writes_from queue sending.begun sending.waiting)
     → (let next = next_begun queue sending in
@@ -176,6 +183,7 @@ posted_ready P queue sending all =
     let rest = rest_by P queue next.begun next.told next.entry next.todo next.waiting still in
     let_go_by P queue (record next { todo = rest_of next.todo }) (is_busy (record next { todo = rest_of next.todo })) refl rest
 
+-- What holds of all writes left to post holds of the one that is posted next.
 pub first_ready : (P : Left → Type 0) (queue : ℕ) (sending : Sending) (label : Label) → Some label ≡ first_label (next_begun queue sending).todo
     → All P (left_of_entry sending.entry sending.todo ++ writes_from queue sending.begun sending.waiting) → P (record { entry = (next_begun queue sending).entry; label = label })
 first_ready P queue sending label is all = at_todo (next_begun queue sending).begun (next_begun queue sending).entry (next_begun queue sending).todo (next_begun queue sending).waiting is (subst (All P) (sym (next_keeps queue sending)) all) where
@@ -185,6 +193,7 @@ first_ready P queue sending label is all = at_todo (next_begun queue sending).be
       let same : first ≡ label = cc in
       subst (λ (label : Label). P (record { entry = entry; label = label })) same (all 0 (record { entry = entry; label = label }) (omega arith))
 
+-- A port whose pages are promised has them promised after it posts its next write too.
 pub post_ready : (port : PortState) (own peer : List ℕ) → HasPages port own peer → HasPages (after_post port) own peer
 post_ready port own peer ready =
     record {
@@ -193,10 +202,12 @@ post_ready port own peer ready =
       index_word = ready.index_word;
     }
 
+-- Where labels are left to post, the write of the first of them is what goes out.
 pub first_posted_is : (bridge : Bridge) (side : Side) (entry : Entry) (todo : List Label) (label : Label) → Some label ≡ first_label todo → first_posted bridge side entry todo ≡ ring_posted bridge side entry label
 first_posted_is bridge side entry [] label e = absurd (cc e)
 first_posted_is bridge side entry (first ∷ todo) label e = let same : first ≡ label = cc in ap (ring_posted bridge side entry) same
 
+-- Where no label is left to post, nothing goes out, and the bridge is as it was.
 pub none_posted_is : (bridge : Bridge) (side : Side) (entry : Entry) (todo : List Label) → None ≡ first_label todo → first_posted bridge side entry todo ≡ bridge
 none_posted_is bridge side entry [] e = refl
 none_posted_is bridge side entry (first ∷ todo) e = absurd (cc e)

@@ -33,6 +33,7 @@ one_less bridge side write false = refl
 spare_of_post : (bridge : Bridge) (side : Side) (write : PostedWrite) → (flight_of (after_posting bridge side write) side).spare ≡ (flight_of bridge side).spare - 1
 spare_of_post bridge side write = ap (λ (flight : Flight Flying). flight.spare) (flight_with bridge side _) ∙ one_less bridge side write (is_up bridge.link.state)
 
+-- Posting a write through a window takes one from its side's spare room, even where the peer lacks the window.
 pub spare_of_window : (bridge : Bridge) (side : Side) (label : Label) (write : WindowWrite) → (flight_of (window_posted bridge side label write) side).spare ≡ (flight_of bridge side).spare - 1
 spare_of_window bridge side label write = at_test (reaches bridge.plan side write.window) where
   at_test : (there : Bool) →
@@ -41,6 +42,7 @@ spare_of_window bridge side label write = at_test (reaches bridge.plan side writ
   at_test true = spare_of_post bridge side (memory_write label write.window write.offset write.bytes)
   at_test false = ap (λ (flight : Flight Flying). flight.spare) (flight_with bridge side (given_back (flight_of bridge side) 1))
 
+-- Posting any write of an entry, its doorbell among them, takes one from its side's spare room.
 pub spare_of_write : (bridge : Bridge) (side : Side) (queue : ℕ) (entry : Entry) (label : Label) → IsLabelOf queue entry label
     → (flight_of (ring_posted bridge side entry label) side).spare ≡ (flight_of bridge side).spare - 1
 spare_of_write bridge side queue entry (Chunk q n part) is = spare_of_window bridge side (Chunk q n part) _
@@ -74,9 +76,11 @@ none_gone queue next is = at_todo next.begun next.told next.entry next.todo next
   at_todo begun told entry [] waiting e = let_go_keeps queue begun told entry [] waiting
   at_todo begun told entry (first ∷ todo) waiting e = absurd (cc e)
 
+-- A post that finds a write to post leaves the port with one unused promise less.
 pub unused_posted : (port : PortState) (label : Label) → Some label ≡ first_label (next_begun port.queue port.sending).todo → unused_of (after_post port) + 1 ≡ unused_of port
 unused_posted port label is = omega (arith, one_gone port.queue (next_begun port.queue port.sending) label is, ap length (next_keeps port.queue port.sending))
 
+-- A post that finds nothing to post leaves the port with as many unused promises as before.
 pub unused_same : (port : PortState) → None ≡ first_label (next_begun port.queue port.sending).todo → unused_of (after_post port) ≡ unused_of port
 unused_same port is = omega (arith, none_gone port.queue (next_begun port.queue port.sending) is, ap length (next_keeps port.queue port.sending))
 
@@ -102,12 +106,14 @@ unused_if : (port : PortState) (receiving : Receiving) (test : Bool) → (test �
 unused_if port receiving true h = h refl
 unused_if port receiving false h = refl
 
+-- A copy leaves a port with as many unused promises as before.
 pub unused_copied : (port : PortState) (bridge : Bridge) → unused_of (after_copy port bridge) ≡ unused_of port
 unused_copied port bridge =
     unused_if port (part_copied port.receiving (gathered_next port bridge)) (is_copying port.receiving.phase)
     (λ copying. let was = busy is_copying refl port.receiving.phase copying in
     unused_busy port (part_copied port.receiving (gathered_next port bridge)) was (still_busy _ _ _ (more_parts port.receiving) (more_entries port.receiving) was refl refl))
 
+-- A clear leaves a port with as many unused promises as before.
 pub unused_cleared : (port : PortState) → unused_of (after_clear port) ≡ unused_of port
 unused_cleared port =
     unused_if port (record port.receiving { phase = Cleared }) (is_copied port.receiving.phase)

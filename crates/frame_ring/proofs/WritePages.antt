@@ -51,7 +51,7 @@ range_part : (rings : QueueOf) (offset len more size : ℕ) (pages : List ℕ) �
 range_part rings offset len more size pages within promised =
     λ reach. part_promised (queue_address rings.plan rings.side rings.queue offset) len (queue_address rings.plan rings.side rings.queue (offset + more)) size pages (omega arith) (omega (arith, within)) (promised reach)
 
--- the bytes of an address are among those of the range, at this place or behind it
+-- the bytes of an address are among those of the range, at this place or after it
 range_from : (rings : QueueOf) (offset len more size page : ℕ) (touch : TouchesRange rings offset len page)
     → queue_address rings.plan rings.side rings.queue offset + more ≤ touch.1.0 → touch.1.0 < queue_address rings.plan rings.side rings.queue offset + (more + size)
     → TouchesRange rings (offset + more) size page
@@ -108,6 +108,7 @@ last_ready rings n entry carries pages promised (suc (suc zero)) d within = flag
 last_ready rings n entry carries pages promised (suc (suc (suc zero))) d within = tt
 last_ready rings n entry carries pages promised (suc (suc (suc (suc k)))) d within = absurd (omega (arith, within))
 
+-- Where an entry's payload and header are promised at the peer, each of its writes is ready to land there.
 pub entry_ready : (rings : QueueOf) (n : ℕ) (entry : Entry) (pages : List ℕ) → IsEntryPromised rings n (length (bytes_of entry)) pages
     → All (IsLeftReady rings.plan rings.side pages) (left_of_entry entry (labels_of rings.queue n entry))
 entry_ready rings n entry pages promised =

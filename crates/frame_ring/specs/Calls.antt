@@ -31,7 +31,7 @@ use Rattle.frame_ring.specs.declared.RingLook.TheVariants.{Ready, Empty, PeerDow
 abbrev pub sizes_seen : PortState → Sizes
 sizes_seen port = sizes_of port.plan port.side port.queue
 
--- the slot of the next entry, behind those that wait; the index word in the side's memory; and the free entries by both
+-- the slot of the next entry, after those that wait; the index word in the side's memory; and the free entries by both
 abbrev pub head_seen : PortState → ℕ
 head_seen port = head_of (sizes_seen port).entries (port.sending.begun + length port.sending.waiting)
 
@@ -141,7 +141,7 @@ gathered_next port bridge =
     port.receiving.gathered
     ++ part_in_memory port.plan (bytes_seen bridge) port.side port.queue port.receiving.got port.receiving.len port.receiving.part
 
--- parts of the entry at hand are left behind the next one, or entries of its frame behind it
+-- parts of the entry at hand are left after the next one, or entries of its frame after it
 abbrev pub more_parts : Receiving → Bool
 more_parts receiving = nat_lt (receiving.part + 1) (chunks_in receiving.len)
 

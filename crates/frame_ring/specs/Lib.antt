@@ -1,7 +1,6 @@
 pub mod Calls
 pub mod Gathering
 pub mod Incoming
-pub mod Needs
 pub mod Outgoing
 pub mod Port
 pub mod PortView

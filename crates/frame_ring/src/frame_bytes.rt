@@ -62,7 +62,7 @@ impl Gathered {
         self.bytes[..self.filled] == other.bytes[..other.filled]
     }
 
-    /// Takes room for `more` bytes. Want of memory leaves the bytes as they were.
+    /// Takes room for `more` bytes. Running out of memory leaves the bytes as they were.
     pub fn make_room(&mut self, more: u32) -> Result<(), AllocError>
         requires { length self.old.bytes + more ≤ most_frame_bytes }
         ensures ok { OnOk result (self.new ≡ record self.old { room = more }) }

@@ -75,8 +75,8 @@ impl Port {
     ///
     /// # Errors
     ///
-    /// [`AllocError`] from want of memory alone, where the frame was to be begun and is not refused. The port is as it was,
-    /// and of the pair nothing but pages that this frame needs may have become promised.
+    /// [`AllocError`] from out of memory alone, where the frame was to be begun and is not refused. The port is as it
+    /// was, and of the pair nothing but pages that this frame needs may have become promised.
     pub fn begin(&mut self, pair: &mut Pair, frame: Frame) -> Result<Begun, AllocError>
         requires some { 0 < length frame }
         requires plan { pair.old.plan ≡ self.old.plan }
@@ -103,8 +103,8 @@ impl Port {
     ///
     /// # Errors
     ///
-    /// [`AllocError`] from want of memory alone, where the entry was to be begun and is not refused. The port is as it was,
-    /// and of the pair nothing but pages that this entry needs may have become promised.
+    /// [`AllocError`] from out of memory alone, where the entry was to be begun and is not refused. The port is as it
+    /// was, and of the pair nothing but pages that this entry needs may have become promised.
     pub fn down(&mut self, pair: &mut Pair) -> Result<Begun, AllocError>
         requires plan { pair.old.plan ≡ self.old.plan }
         requires fits { FitsRings self.old.plan }
@@ -155,8 +155,8 @@ impl Port {
     ///
     /// # Errors
     ///
-    /// [`AllocError`] from want of memory alone, where an entry was found. The port is as it was, and of the pair nothing but
-    /// pages that this entry needs may have become promised.
+    /// [`AllocError`] from out of memory alone, where an entry was found. The port is as it was, and of the pair
+    /// nothing but pages that this entry needs may have become promised.
     pub fn look(&mut self, pair: &mut Pair) -> Result<RingLook, AllocError>
         requires plan { pair.old.plan ≡ self.old.plan }
         requires fits { FitsRings self.old.plan }
@@ -281,7 +281,8 @@ impl Port {
         })
     }
 
-    /// What [`Port::begin`] answers for a frame of `len` bytes, at most 65,536, but for want of memory. It takes no memory.
+    /// What [`Port::begin`] answers for a frame of `len` bytes, at most 65,536, unless out of memory. It takes no
+    /// memory.
     pub fn begin_answer(&self, pair: &Pair, len: u32) -> Begun
         requires plan { pair.now.plan ≡ self.now.plan }
         requires fits { FitsRings self.now.plan }
@@ -299,7 +300,7 @@ impl Port {
         self.room_answer(pair, pieces_in(largest, len))
     }
 
-    /// What [`Port::look`] answers, but for want of memory. It takes no memory.
+    /// What [`Port::look`] answers, unless out of memory. It takes no memory.
     pub fn look_answer(&self, pair: &Pair) -> RingLook
         requires plan { pair.now.plan ≡ self.now.plan }
         requires fits { FitsRings self.now.plan }
@@ -361,7 +362,7 @@ impl Port {
         self.sender.left() + found
     }
 
-    // What a going down answers, but for want of memory.
+    // What a going down answers, unless out of memory.
     fn down_answer(&self, pair: &Pair) -> Begun
         requires plan { pair.now.plan ≡ self.now.plan }
         requires fit { SizesFit self.now.plan }

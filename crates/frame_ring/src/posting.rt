@@ -129,7 +129,7 @@ fn post_version(rings: &QueueRings, pair: &mut Pair, label: Label, n: u64, left:
     }
 }
 
-// Two words, one behind the other.
+// Two words, one after the other.
 fn two_words(first: u32, second: u32) -> [u8; 8]
     ensures { result ≡ word_bytes first ++ word_bytes second }
 {

@@ -46,6 +46,7 @@ fresh_pages : (old : Bridge) (side : Side) (headers words : List ℕ) → pages_
 fresh_pages old A headers words = refl
 fresh_pages old B headers words = refl
 
+-- The steps of a side that comes up leave the bridge that has come up, with the pages promised on the way.
 pub came_up_is : (old headers words zeroed set new : Bridge) (side : Side) → ComesUp old headers words zeroed set new side
     → (new ≡ with_pages (came_up old side) side (pages_of new side)) × (pages_of new side ≡ pages_of words side)
 came_up_is old headers words zeroed set new side comes = (together, same)

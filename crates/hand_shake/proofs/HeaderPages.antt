@@ -22,6 +22,7 @@ use Rattle.bridge_pair.proofs.Promises.{grows_further, grows_nothing, promised_s
 use Rattle.hand_shake.specs.Headers.{AreHeadersOfReady, AreSomeZeroed, IsHeaderReady, IsReceivingRing, IsZeroed, TouchesHeader, TouchesHeaderOf, ring_stores}
 use borrow.Author.Count.{below_more}
 
+-- A window's number times cap, plus a header's offset there, is the header's address in the receiver's memory.
 pub at_header : (plan : PairPlan) (side : Side) (queue n window offset at : ℕ) (ring : Layout) → ring ≡ layout_to plan side queue → window ≡ window_of ring → offset ≡ header_of ring n
     → n < entries_of (layout_to plan side queue) → at ≡ window * (side_plan plan side).cap + offset → at ≡ own_header plan side queue n
 at_header plan side queue n window offset at ring is_ring is_window is_offset within is_at =
@@ -37,6 +38,7 @@ header_place : (plan : PairPlan) (side : Side) (queue n : ℕ) → n < entries_o
 header_place plan side queue n within =
     ap (λ n. window_of (layout_to plan side queue) * (side_plan plan side).cap + header_of (layout_to plan side queue) n) (mod-eq_of_lt within)
 
+-- Of two headers of a ring the one with the lower number doesn't stand after the other in memory.
 pub header_order : (plan : PairPlan) (side : Side) (queue n m : ℕ) → n ≤ m → m < entries_of (layout_to plan side queue) → own_header plan side queue n ≤ own_header plan side queue m
 header_order plan side queue n m least within =
     let l = layout_to plan side queue in
@@ -76,6 +78,7 @@ pub seen_again : (old new : Bridge) (side : Side) (P : PairPlan → List ℕ →
 seen_again old new A P same fact = subst (λ (bridge : Bridge). P bridge.plan (bytes_of bridge A)) same fact
 seen_again old new B P same fact = subst (λ (bridge : Bridge). P bridge.plan (bytes_of bridge B)) same fact
 
+-- A fact of the plan and of a side's bytes still holds where only pages of that side were promised since.
 pub seen_since : (old new : Bridge) (side : Side) (P : PairPlan → List ℕ → Type 0) → new ≡ with_pages old side (pages_of new side) → P old.plan (bytes_of old side) → P new.plan (bytes_of new side)
 seen_since old new A P same fact = subst (λ (bridge : Bridge). P bridge.plan (bytes_of bridge A)) (sym same) fact
 seen_since old new B P same fact = subst (λ (bridge : Bridge). P bridge.plan (bytes_of bridge B)) (sym same) fact
@@ -92,10 +95,12 @@ one_grows plan side queue n at len bytes old new is_at is_len among unlike grow 
     grows_further (TouchesHeaderOf plan side queue bytes) (Touches at len) old old new (grows_nothing (TouchesHeaderOf plan side queue bytes) old) grow
     (λ page touch. (n, among, unlike, subst (λ len. Touches (own_header plan side queue n) len page) is_len (subst (λ at. Touches at len page) is_at touch)))
 
+-- A range that a call promises, if it succeeds, is promised also as named by an equal address and length.
 pub one_promised : {X E : Type 0} (at len from count : ℕ) (new : List ℕ) (told : Result X E) → from ≡ at → count ≡ len → OnOk told (ArePromised from count new) → OnOk told (ArePromised at len new)
 one_promised at len from count new (Ok done) is_at is_len promised = subst (λ len. ArePromised at len new) is_len (subst (λ at. ArePromised at count new) is_at promised)
 one_promised at len from count new (Err wants) is_at is_len promised = tt
 
+-- Pages promised in two goes for headers of a ring that aren't zero are all promised for such headers.
 pub header_grows : (old now : Bridge) (side : Side) (queue : ℕ) (new : List ℕ) → now ≡ with_pages old side (pages_of now side)
     → PagesGrow (TouchesHeaderOf old.plan side queue (bytes_of old side)) (pages_of old side) (pages_of now side)
     → PagesGrow (TouchesHeaderOf now.plan side queue (bytes_of now side)) (pages_of now side) new → PagesGrow (TouchesHeaderOf old.plan side queue (bytes_of old side)) (pages_of old side) new
@@ -112,7 +117,7 @@ ready_still touched plan side queue n bytes now new grow (inr promised) = inr (p
 pub receiving : (plan : PairPlan) (side : Side) (queue : ℕ) (ring : Layout) → ring ≡ layout_to plan side queue → queue < (side_plan plan side).queues → IsReceivingRing plan side ring
 receiving plan side queue ring is among = subst (λ (l : Layout). IsReceivingRing plan side l) (sym is) (refl, among)
 
--- headers behind one are ready once it is promised, and so are those before it that are zero
+-- headers after one are ready once it is promised, and so are those before it that are zero
 pub ready_down : (old now new : Bridge) (side : Side) (queue from count all : ℕ) → now ≡ with_pages old side (pages_of now side) → new ≡ with_pages old side (pages_of new side)
     → ((k : ℕ) → count ≤ k → k < all → IsHeaderReady old.plan side queue k (bytes_of old side) (pages_of now side))
     → PagesGrow (TouchesHeaderOf now.plan side queue (bytes_of now side)) (pages_of now side) (pages_of new side)
@@ -129,6 +134,7 @@ ready_down old now new side queue from count all same so so_far next promised ze
   ]
 ]
 
+-- Pages promised for a side's headers that aren't zero, and then for those of one ring, are all such headers'.
 pub ring_grows : (old now : Bridge) (side : Side) (queue : ℕ) (new : List ℕ) → now ≡ with_pages old side (pages_of now side) → queue < (side_plan old.plan side).queues
     → PagesGrow (TouchesHeader old.plan side (bytes_of old side)) (pages_of old side) (pages_of now side)
     → PagesGrow (TouchesHeaderOf now.plan side queue (bytes_of now side)) (pages_of now side) new → PagesGrow (TouchesHeader old.plan side (bytes_of old side)) (pages_of old side) new
@@ -136,6 +142,7 @@ ring_grows old now side queue new same among so_far next =
     grows_further (TouchesHeader old.plan side (bytes_of old side)) (TouchesHeaderOf now.plan side queue (bytes_of now side)) _ _ _ so_far next
     (λ page touch. (queue, among, seen_again old now side (λ plan bytes. TouchesHeaderOf plan side queue bytes page) same touch))
 
+-- Where all headers of the rings before one can be zeroed, and then that one's too, those of all up to it can be.
 pub ring_ready : (old now : Bridge) (side : Side) (queue : ℕ) (new : List ℕ) → now ≡ with_pages old side (pages_of now side)
     → ((k : ℕ) → k < queue → AreHeadersOfReady old.plan side k (bytes_of old side) (pages_of now side)) → PagesGrow (TouchesHeaderOf now.plan side queue (bytes_of now side)) (pages_of now side) new
     → AreHeadersOfReady now.plan side queue (bytes_of now side) new → (k : ℕ) → k < queue + 1 → AreHeadersOfReady old.plan side k (bytes_of old side) new
@@ -146,21 +153,25 @@ ring_ready old now side queue new same so_far next ready =
 
 -- Zeroing
 
+-- Zeroing a header where those after it are zeroed is zeroing all of the ring's headers from that one on.
 pub header_before : (plan same : PairPlan) (side : Side) (queue n later left more : ℕ) (bytes : List ℕ) → same ≡ plan → n < entries_of (layout_to plan side queue) → later ≡ suc n → more ≡ suc left
     → written (own_header same side queue n) (replicate (header_bytes same) 0) (bytes_after (map (zeroed_header plan side queue) (count_from later left)) bytes)
     ≡ bytes_after (map (zeroed_header plan side queue) (count_from n more)) bytes
 header_before plan same side queue n later left more bytes plans within next one_more = rw (plans, next, one_more)
 
+-- Two lists of stores, the newest first, leave what the first makes of what the second leaves.
 pub bytes_after-append : (stores older : List Store) (bytes : List ℕ) → bytes_after (stores ++ older) bytes ≡ bytes_after stores (bytes_after older bytes)
 bytes_after-append [] older bytes = refl
 bytes_after-append (store ∷ stores) older bytes = ap (written store.at store.bytes) (bytes_after-append stores older bytes)
 
+-- Zeroing a ring's headers where later rings' are zeroed is zeroing the headers of all rings from that one on.
 pub ring_before : (plan same : PairPlan) (side : Side) (queue later left more : ℕ) (bytes : List ℕ) → same ≡ plan → later ≡ suc queue → more ≡ suc left
     → bytes_after (ring_stores same side queue) (bytes_after (flat_map (ring_stores plan side) (count_from later left)) bytes) ≡ bytes_after (flat_map (ring_stores plan side) (count_from queue more)) bytes
 ring_before plan same side queue later left more bytes plans next one_more =
     ap (λ (plan' : PairPlan). bytes_after (ring_stores plan' side queue) (bytes_after (flat_map (ring_stores plan side) (count_from later left)) bytes)) plans
     ∙ rw (next, one_more) (sym (bytes_after-append (ring_stores plan side queue) (flat_map (ring_stores plan side) (count_from (suc queue) left)) bytes))
 
+-- A header has at most 16 bytes, whichever version a pair speaks.
 pub few_bytes : (plan : PairPlan) → header_bytes plan ≤ 16
 few_bytes plan = by_version (agreed_version plan == 5) where
   by_version : (five : Bool) → (if five then 16 else 12) ≤ 16

@@ -12,7 +12,7 @@ use Rattle.step_kinds.specs.declared.steps.Label.TheVariants.{Pad}
 abbrev halves : ℕ → ℕ → ℕ → List Label
 halves size from windows = flat_map (λ m. Pad (high_pad m) (size / word) ∷ Pad (low_pad m) (size % word) ∷ []) (count_from from windows)
 
--- and what comes behind them
+-- and what comes after them
 abbrev pub behind_halves : SidePlan → List Label
 behind_halves own = Pad 3 own.windows ∷ Pad 2 own.queues ∷ Pad 0 own.version ∷ []
 
@@ -31,15 +31,17 @@ half_at size from (suc windows) (suc (suc place)) within =
     ∙ ap (λ i. Pad i (if place % 2 == 0 then size / word else size % word)) e
     ∙ ap (λ rest. Pad (4 + 2 * from + suc (suc place)) (if rest == 0 then size / word else size % word)) same
 
+-- A side's offer has two scratchpads for each of its windows, and three more.
 pub length_offers : (own : SidePlan) → length (offers own) ≡ 2 * own.windows + 3
 length_offers own = length-append (halves own.size 0 own.windows) (behind_halves own) ∙ ap (λ n. n + 3) (length_halves own.size 0 own.windows)
 
+-- The first scratchpads offered, from number 4 on, hold in turn the high and the low half of the window size.
 pub size_offered : (own : SidePlan) (place : ℕ) → place < 2 * own.windows → slice_index_or (offers own) place (Pad 0 0) ≡ Pad (4 + place) (if place % 2 == 0 then own.size / word else own.size % word)
 size_offered own place within =
     get_or_append_left (halves own.size 0 own.windows) (behind_halves own) (Pad 0 0) place (omega (arith, within, length_halves own.size 0 own.windows))
     ∙ half_at own.size 0 own.windows place within
 
--- the place that is k behind the sizes
+-- the place that is k after the sizes
 pub behind_offered : (own : SidePlan) (place k : ℕ) → place ≡ 2 * own.windows + k → slice_index_or (offers own) place (Pad 0 0) ≡ slice_index_or (behind_halves own) k (Pad 0 0)
 behind_offered own place k at =
     let e : place ≡ length (halves own.size 0 own.windows) + k = omega (arith, at, length_halves own.size 0 own.windows) in

@@ -9,10 +9,12 @@ use Rattle.step_kinds.specs.declared.plan.PairPlan.{PairPlan}
 use Rattle.bridge_pair.specs.Bridge.{Bridge, IsBridge, book_of, offer_length}
 use Rattle.hand_shake.proofs.OfferPlaces.{length_offers}
 
+-- Each side of a pair that a script can declare is a side as a script can declare it.
 pub own_side : (plan : PairPlan) (side : Side) → IsPair plan → IsSide (side_plan plan side)
 own_side plan A declared = declared.side_a
 own_side plan B declared = declared.side_b
 
+-- The offer of a side of a declared pair has two scratchpads for each of the side's windows, and three more.
 pub own_length : (plan : PairPlan) (side : Side) → IsPair plan → length (offers (side_plan plan side)) ≡ 2 * (side_plan plan side).windows + 3
 own_length plan side declared = length_offers (side_plan plan side)
 

@@ -25,6 +25,7 @@ count_both from (suc count) more =
     let size : suc count + more ≡ suc (count + more) = omega arith in
     ap (count_from from) size ∙ ap (λ (rest : List ℕ). from ∷ rest) (count_both (suc from) count more ∙ ap (λ (later : ℕ). count_from (suc from) count ++ count_from later more) on)
 
+-- Zeroing a run of headers where those after it are zeroed is zeroing them all from the run's first one on.
 pub some_before : (plan same : PairPlan) (side : Side) (queue from to all : ℕ) (bytes : List ℕ) → same ≡ plan → from ≤ to → to ≤ all
     → bytes_after (some_stores same side queue from (to - from)) (bytes_after (some_stores plan side queue to (all - to)) bytes) ≡ bytes_after (some_stores plan side queue from (all - from)) bytes
 some_before plan same side queue from to all bytes plans first last =
@@ -60,6 +61,7 @@ zeroed_both plan side queue from middle to bytes front rest n least below = elim
   | inr behind ↦ rest n behind below
 ]
 
+-- A header that is zero makes a run of one header, up to the next number, that is zero.
 pub zeroed_one : (plan : PairPlan) (side : Side) (queue n to : ℕ) (bytes : List ℕ) → to ≡ n + 1 → IsZeroed plan side queue n bytes → AreSomeZeroed plan side queue n to bytes
 zeroed_one plan side queue n to bytes one zeroed k least below =
     let same : n ≡ k = omega (arith, one, least, below) in

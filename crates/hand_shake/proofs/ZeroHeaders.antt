@@ -76,6 +76,7 @@ pub ready_after : (plan : PairPlan) (side : Side) (queue n : ℕ) (places mem pa
 ready_after plan side queue n places mem pages (inl zero) = inl (λ i below. header_stays plan side queue places mem (own_header plan side queue n + i) (zero i below))
 ready_after plan side queue n places mem pages (inr promised) = inr promised
 
+-- The headers of a ring that can be zeroed still can be after the headers of any rings are zeroed.
 pub ready_after_rings : (plan : PairPlan) (side : Side) (queue : ℕ) (queues mem pages : List ℕ) → AreHeadersOfReady plan side queue mem pages
     → AreHeadersOfReady plan side queue (bytes_after (flat_map (ring_stores plan side) queues) mem) pages
 ready_after_rings plan side queue queues mem pages ready = λ n within. elim (ready n within) [
@@ -89,6 +90,7 @@ pub stored_again : (old new : Bridge) (side : Side) (bytes : List ℕ) (P : Pair
 stored_again old new A bytes P same fact = subst (λ (bridge : Bridge). P bridge.plan (bytes_of bridge A) (pages_of bridge A)) (sym same) fact
 stored_again old new B bytes P same fact = subst (λ (bridge : Bridge). P bridge.plan (bytes_of bridge B) (pages_of bridge B)) (sym same) fact
 
+-- A fact of a side's bytes once they are stored, and of the plan then, holds of these bytes and the plan before.
 pub stored_before : (old new : Bridge) (side : Side) (bytes : List ℕ) (P : PairPlan → List ℕ → Type 0) → new ≡ with_bytes old side bytes → P new.plan (bytes_of new side) → P old.plan bytes
 stored_before old new A bytes P same fact = subst (λ (bridge : Bridge). P bridge.plan (bytes_of bridge A)) same fact
 stored_before old new B bytes P same fact = subst (λ (bridge : Bridge). P bridge.plan (bytes_of bridge B)) same fact

@@ -16,9 +16,11 @@ use Rattle.host_memory.proofs.Writes.{length-written, written_inside, written_ou
 abbrev pub IsElsewhereTheSame : Found → Found → ℕ → Type 0
 IsElsewhereTheSame pages new page = (other : ℕ) → other ≢ page → new other ≡ pages other
 
+-- A memory in pages shows as many bytes as its length says.
 pub length-bytes_in : (pages : Found) (len : ℕ) → length (bytes_in pages len) ≡ len
 length-bytes_in pages len = length-map-range_with_len (byte_in pages) 0 len
 
+-- A memory in pages shows at each address below its length the byte that the address's page has there.
 pub byte-bytes_in : (pages : Found) (len k d : ℕ) → k < len → get_or (bytes_in pages len) k d ≡ byte_in pages k
 byte-bytes_in pages len k d within = get_or-map-range_with_len (byte_in pages) 0 len k k d within (omega arith)
 
@@ -38,7 +40,7 @@ bytes_in-same pages new len same =
     let within : k < len = subst (λ n. k < n) (length-bytes_in new len) h in
     byte-bytes_in new len k d within ∙ ap (λ found. byte_on found (k % 4096)) (same (k / 4096)) ∙ sym (byte-bytes_in pages len k d within))
 
--- the page and the place of an address that lies behind another one on its page
+-- the page and the place of an address that lies after another one on its page
 pub same_page : (at k : ℕ) → at % 4096 + k < 4096 → ((at + k) / 4096 ≡ at / 4096) × ((at + k) % 4096 ≡ at % 4096 + k)
 same_page at k fits = (omega arith, omega arith)
 

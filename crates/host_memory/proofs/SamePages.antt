@@ -26,6 +26,7 @@ of_page groups number =
 abbrev pub FindSame : Found → Found → Type 0
 FindSame found other = (number : ℕ) → page_bytes (found number) ≡ page_bytes (other number)
 
+-- Two tables whose groups hold the same bytes, page by page, find the same bytes at each page number.
 pub find_same : (groups others : List Group) → bytes_by_group groups ≡ bytes_by_group others → FindSame (page_at groups) (page_at others)
 find_same groups others same number =
     of_page groups number ∙ ap (λ bytes. bytes_at_place (slice_get bytes (number / 512)) (number % 512)) same ∙ sym (of_page others number)

@@ -31,6 +31,7 @@ group_within groups number there =
     (λ past. absurd (true≢false (sym there ∙ ap (λ (found : Option Group). is_some (place_in found (number % 512))) (slice_get_past groups (number / 512) past))))
     (cases_lt (number / 512) (length groups))
 
+-- A page that is there has its place within its group, below the group's length.
 pub page_within : (groups : List Group) (group : Group) (number : ℕ) → number / 512 < length groups → group ≡ get_or groups (number / 512) group
     → IsSome (page_at groups number) → number % 512 < length group.items
 page_within groups group number within read there =

@@ -6,6 +6,7 @@ use Rattle.byteorder.specs.Endian.{little_number}
 use Rattle.host_memory.specs.Memory.{written, bytes_at, word_at}
 use Rattle.host_memory.specs.Laws.{LiesIn, StandsApart}
 
+-- After a write within the memory each address of its range has the byte that was written there.
 pub written_inside : (at : ℕ) (bytes mem : List ℕ) → LiesIn at bytes mem → (k d : ℕ) → at ≤ k → k < at + length bytes
     → get_or (written at bytes mem) k d ≡ get_or bytes (k - at) d
 written_inside at bytes mem h k d from to = grind (arith, common_steps)
@@ -15,6 +16,7 @@ pub written_outside : (at : ℕ) (bytes mem : List ℕ) → LiesIn at bytes mem 
     → get_or (written at bytes mem) k d ≡ get_or mem k d
 written_outside at bytes mem h k d apart = grind (arith, common_steps)
 
+-- A write that lies in a memory leaves the memory's length as it was.
 pub length-written : (at : ℕ) (bytes mem : List ℕ) → LiesIn at bytes mem → length (written at bytes mem) ≡ length mem
 length-written at bytes mem h = grind (arith, common_steps)
 
@@ -24,6 +26,7 @@ bytes_at_same : (from len : ℕ) (xs ys : List ℕ) → length xs ≡ length ys
 bytes_at_same from len xs ys e same =
     same_lists _ _ (grind (arith, places)) (λ k d h. let s = same k d in grind (arith, places))
 
+-- Reading a range apart from a write gives the same bytes before and after the write.
 pub reads_elsewhere : (at : ℕ) (bytes mem : List ℕ) → LiesIn at bytes mem → (from len : ℕ)
     → StandsApart from len at (length bytes) → bytes_at from len (written at bytes mem) ≡ bytes_at from len mem
 reads_elsewhere at bytes mem h from len apart =
@@ -39,6 +42,7 @@ little_number-take xs =
     let e3 = get_or-take 4 xs 3 0 (lit< tt) in
     cc
 
+-- A word of four bytes apart from a write is the same before and after the write.
 pub word_elsewhere : (at : ℕ) (bytes mem : List ℕ) → LiesIn at bytes mem → (from : ℕ)
     → StandsApart from 4 at (length bytes) → word_at from (written at bytes mem) ≡ word_at from mem
 word_elsewhere at bytes mem h from apart =

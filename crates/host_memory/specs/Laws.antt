@@ -6,7 +6,7 @@ use Rattle.host_memory.specs.Memory.{ArePromised, written, bytes_at, word_at, wo
 abbrev pub LiesIn : ℕ → List ℕ → List ℕ → Type 0
 LiesIn at bytes mem = at + length bytes ≤ length mem
 
--- a stretch of bytes lies before a second one, or behind it
+-- a stretch of bytes lies before a second one, or after it
 abbrev pub StandsApart : ℕ → ℕ → ℕ → ℕ → Type 0
 StandsApart from len at size = (from + len ≤ at) ⊎ (at + size ≤ from)
 

@@ -5,7 +5,7 @@ use Rattle.std.proofs.Math.Seq.{take-append_seam}
 use Rattle.io_edges.specs.Streams.{Writes}
 use Rattle.io_edges.specs.Whole.{HoldsAll, HoldsPart, HoldsPartAtWrites}
 
--- a front of the bytes stands behind what was held, and the rest is still to be written
+-- a front of the bytes stands after what was held, and the rest is still to be written
 pub record WrittenSoFar (before now : Option (List ℕ)) (bytes rest : List ℕ) : Type 0 where
   pub front : List ℕ
   pub split : bytes ≡ front ++ rest

@@ -23,7 +23,7 @@ after_read source room =
     if is_due source.plan then record source { plan = after_fault source.plan }
     else record source { left = drop (read_count source room) source.left; plan = after_call source.plan }
 
--- the buffer after a read: what it had stays behind the bytes that were given
+-- the buffer after a read: what it had stays after the bytes that were given
 abbrev pub read_into : SourceState → List ℕ → List ℕ
 read_into source buffer =
     if is_due source.plan then buffer

@@ -15,7 +15,7 @@ Reads None left result buffer = left ≡ None
 Reads (Some content) left result buffer =
     MatchResult result (λ count. TakesFront content left count buffer) (λ _. left ≡ Some content)
 
--- A write put the first bytes of the piece behind those that were held, as many as it says, and at an error nothing.
+-- A write put the first bytes of the piece after those that were held, as many as it says, and at an error nothing.
 -- Content that isn't told stays so.
 abbrev pub Writes : {E : Type 0} → Option (List ℕ) → Option (List ℕ) → Result ℕ E → List ℕ → Type 0
 Writes None held result piece = held ≡ None

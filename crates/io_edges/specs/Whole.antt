@@ -16,24 +16,24 @@ abbrev pub HasGivenAtReads : ℕ → Option (List ℕ) → Option (List ℕ) →
 HasGivenAtReads most before left reads reads' =
     (front : List ℕ) × (length front ≤ most) × (reads' ≤ reads + length front + 1) × HasGiven before left front
 
--- The source has given a piece, which stands behind the bytes that were there.
+-- The source has given a piece, which stands after the bytes that were there.
 pub record AddsPiece (before left : Option (List ℕ)) (old new : List ℕ) : Type 0 where
   pub piece : List ℕ
   pub added : new ≡ old ++ piece
   pub given : HasGiven before left piece
 
--- All of the piece stands behind what was held.
+-- All of the piece stands after what was held.
 abbrev pub HoldsAll : Option (List ℕ) → Option (List ℕ) → List ℕ → Type 0
 HoldsAll None held piece = held ≡ None
 HoldsAll (Some content) held piece = held ≡ Some (content ++ piece)
 
--- A part from the front of the piece, and not all of it, stands behind what was held.
+-- A part from the front of the piece, and not all of it, stands after what was held.
 abbrev pub HoldsPart : Option (List ℕ) → Option (List ℕ) → List ℕ → Type 0
 HoldsPart None held piece = held ≡ None
 HoldsPart (Some content) held piece =
     (count : ℕ) × (count < length piece) × (held ≡ Some (content ++ take count piece))
 
--- A part from the front of the piece, and not all of it, stands behind what was held, and each write but the last one
+-- A part from the front of the piece, and not all of it, stands after what was held, and each write but the last one
 -- took a byte of it.
 abbrev pub HoldsPartAtWrites : Option (List ℕ) → Option (List ℕ) → List ℕ → ℕ → ℕ → Type 0
 HoldsPartAtWrites before held piece writes writes' =

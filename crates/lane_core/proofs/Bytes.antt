@@ -17,6 +17,7 @@ put_mid-overwritten payload written at count long =
     sym (append_assoc (take at payload) written (drop count (drop at payload)))
     ∙ ap (λ rest. (take at payload ++ written) ++ rest) (drop-drop count at payload ∙ ap (λ n. drop (at + n) payload) (sym long))
 
+-- Putting a chunk's bytes into a payload, from the chunk's start to its end, writes that chunk over the payload.
 pub put_chunk_is : (payload bytes written : List ℕ) (part at end : ℕ) → at ≡ chunk_size * part → end ≡ min (length bytes) (at + chunk_size) → at ≤ length bytes
     → written ≡ take (end - at) (drop at bytes) → put_mid at (end - at) payload written ≡ overwritten (chunk_size * part) (chunk_of bytes part) payload
 put_chunk_is payload bytes written part at end begins ends within copied =

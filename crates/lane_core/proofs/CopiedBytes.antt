@@ -14,7 +14,7 @@ use Rattle.lane_core.specs.LaneView.{IsKept, lane_seen}
 use Rattle.lane_core.specs.declared.lane.Lane.TheInside.{Inside}
 use Rattle.lane_core.specs.declared.slot.Slot.{Slot}
 
--- two pieces of a list, one behind the other
+-- two pieces of a list, one after the other
 pub take_both : (n m : ℕ) (xs : List ℕ) → take n xs ++ take m (drop n xs) ≡ take (n + m) xs
 take_both n m xs =
     let low : n ≤ n + m = omega arith in
@@ -32,6 +32,7 @@ pub record CopiesFrom (l : Inside) (place : Slot) (buffer : List ℕ) : Type 0 w
   pub copied : buffer ≡ take (chunk_size * l.part + chunk_size) (bytes_at l)
   pub small : length (bytes_at l) ≤ 65536
 
+-- A copying receiver that appends the next chunk of its slot has copied its entry's bytes up to that chunk's end.
 pub copies_from : (l : Inside) (place : Slot) (copied : List ℕ) → slot_of (lane_seen l) l.got ≡ place_seen place → l.phase ≡ Copying → IsKept l
     → copied ≡ l.copied.items ++ chunk_of (take place.len place.payload.items) l.part → CopiesFrom l place copied
 copies_from l place copied here copying kept now =
@@ -56,6 +57,7 @@ copies_from l place copied here copying kept now =
 pub more_left : (lane : Lane) → chunk_size * (lane.part + 1) < length (bytes_of (entry_of lane lane.got)) → more_to_copy lane ≡ true
 more_left lane more = lt-ltb (lane.part + 1) _ (omega arith)
 
+-- No further part is left to copy where the entry's bytes end with the part that is copied next.
 pub none_left : (lane : Lane) → length (bytes_of (entry_of lane lane.got)) ≤ chunk_size * (lane.part + 1) → more_to_copy lane ≡ false
 none_left lane all = le-ltb (lane.part + 1) _ (omega arith)
 
@@ -65,6 +67,7 @@ pub record IsWhole (l : Inside) (bytes : List ℕ) : Type 0 where
   pub small : length bytes ≤ 65536
   pub last : more_to_copy (lane_seen l) ≡ false
 
+-- The bytes that a receiver has copied are the whole entry, at most 65,536 of them, once no further part is left.
 pub is_whole : (l : Inside) (place : Slot) (buffer bytes : List ℕ) (more : Bool) → CopiesFrom l place buffer → bytes ≡ buffer
     → (chunk_size * (l.part + 1) < place.len → IsTrue more) → more ≡ false → IsWhole l bytes
 is_whole l place buffer bytes more copies same when none =
@@ -75,6 +78,7 @@ is_whole l place buffer bytes more copies same when none =
     let entry : bytes ≡ bytes_at l = same ∙ copies.copied ∙ take_all (chunk_size * l.part + chunk_size) (bytes_at l) (omega (arith, all)) in
     record { bytes_are = entry; small = omega (arith, ap length entry, copies.small); last = none_left (lane_seen l) all }
 
+-- The model's lane answers a copy with the whole frame where a copying receiver has the whole of its entry.
 pub answer_whole : (l : Inside) (bytes : List ℕ) → l.phase ≡ Copying → IsWhole l bytes → Whole l.got bytes ≡ copy_answer (lane_seen l)
 answer_whole l bytes copying whole =
     ap (Whole l.got) whole.bytes_are

@@ -16,6 +16,7 @@ sent-landing lane (Data n field) rest = refl
 sent-landing lane (Flag n) rest = refl
 sent-landing lane Bell rest = refl
 
+-- A landing at any place in flight leaves the entries that the sender began as they were.
 pub sent-land : (value : LaneValue) (place : ℕ) → (after_land value place).sent ≡ value.lane.sent
 sent-land value place = go _
   where

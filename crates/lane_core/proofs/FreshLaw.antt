@@ -13,6 +13,7 @@ use Rattle.lane_core.specs.declared.write.PostedWrite.{PostedWrite}
 use Rattle.lane_core.specs.declared.write.IndexWrite.{IndexWrite}
 use Rattle.lane_core.specs.Fresh.{fresh_lane, zeroed_slot}
 
+-- The law of the ring holds of a lane at the start of its session, with a zeroed ring of at least two slots.
 pub fresh_law : (entries largest : ℕ) → 2 ≤ entries → HoldsRingLaw (fresh_lane entries largest)
 fresh_law entries largest two = new_holds entries largest (entries - 1) (zeroed_slot largest) two (length-replicate largest 0) refl (last_free entries two)
   where

@@ -31,16 +31,19 @@ use Rattle.lane_core.proofs.Parts.{All-remove, map-remove}
 
 -- What the queue answers
 
+-- A flight answers that a write landed only where that write stands at the place and may land.
 pub was_landed : {W : Type 0} (found : Option W) (lands : Bool) (write : W) → QueueLanded write ≡ answer_for found lands → (found ≡ Some write) × (lands ≡ true)
 was_landed None lands write e = absurd (cc e)
 was_landed (Some w) true write e = (cc, refl)
 was_landed (Some w) false write e = absurd (cc e)
 
+-- A flight answers that a write is blocked only where one stands at the place and may not land.
 pub was_blocked : {W : Type 0} (found : Option W) (lands : Bool) → QueueBlocked ≡ answer_for found lands → (write : W) × (found ≡ Some write) × (lands ≡ false)
 was_blocked None lands e = absurd (cc e)
 was_blocked (Some w) true e = absurd (cc e)
 was_blocked (Some w) false e = (w, refl, refl)
 
+-- A flight answers `Nothing` to a landing only where no write stands at the place.
 pub was_nothing : {W : Type 0} (found : Option W) (lands : Bool) → QueueNothing ≡ answer_for found lands → found ≡ None
 was_nothing None lands e = refl
 was_nothing (Some w) true e = absurd (cc e)
@@ -56,18 +59,22 @@ orders_seen is_strict (w ∷ writes) each =
 
 -- What the model's lane answers
 
+-- The model's lane answers that the write at a place landed, with its label, where it may land.
 pub answer_landed : (value : LaneValue) (place : ℕ) (mark : Write) → slice_get value.lane.flight place ≡ Some mark → may_land_in value place ≡ true
     → land_answer value place ≡ Landed (label_in value.queue value.lane mark)
 answer_landed value place mark found lands = ap (land_found value place) found ∙ cond-true _ _ _ lands
 
+-- The model's lane after a landing at a place is the one with that write landed and out of flight, where it may land.
 pub after_landed : (value : LaneValue) (place : ℕ) (mark : Write) → slice_get value.lane.flight place ≡ Some mark → may_land_in value place ≡ true
     → after_land value place ≡ after_landing value.lane mark (remove value.lane.flight place)
 after_landed value place mark found lands = ap (after_found value place) found ∙ cond-true _ _ _ lands
 
+-- The model's lane answers `Blocked` to a landing at a place whose write may not land.
 pub answer_blocked : (value : LaneValue) (place : ℕ) (mark : Write) → slice_get value.lane.flight place ≡ Some mark → may_land_in value place ≡ false
     → land_answer value place ≡ Blocked
 answer_blocked value place mark found waits = ap (land_found value place) found ∙ cond-false _ _ _ waits
 
+-- The model's lane stays as it was after a landing at a place whose write may not land.
 pub after_blocked : (value : LaneValue) (place : ℕ) (mark : Write) → slice_get value.lane.flight place ≡ Some mark → may_land_in value place ≡ false
     → after_land value place ≡ value.lane
 after_blocked value place mark found waits = ap (after_found value place) found ∙ cond-false _ _ _ waits
@@ -87,6 +94,7 @@ bell_is_strict : (is_strict : Bool) → kind_of_mark is_strict Bell ≡ relaxed 
 bell_is_strict true e = omega (arith, e)
 bell_is_strict false e = omega (arith, e)
 
+-- A list that has a first element is that element, followed by the list without it.
 pub first_apart : {X : Type 0} (xs : List X) (x : X) → slice_get xs 0 ≡ Some x → xs ≡ x ∷ remove xs 0
 first_apart [] x found = absurd (none-some x found)
 first_apart (y ∷ ys) x found = ap (λ z. z ∷ ys) (same_Some y x found)
@@ -151,6 +159,7 @@ bell_lands lane place found first law =
       law = subst (λ i. HoldsRingLaw (after_landing lane Bell (remove lane.flight i))) (sym first) (land_bell_keeps lane (remove lane.flight 0) front law);
     }
 
+-- Under the law of the ring, a write in flight that may land finds its slot and entry, and keeps the law as it lands.
 pub lands : (lane : Lane) (is_strict : Bool) (place : ℕ) (mark : Write) → slice_get lane.flight place ≡ Some mark → may_land (map (order_of_mark is_strict) lane.flight) place ≡ true
     → HoldsRingLaw lane → Lands lane place mark
 lands lane is_strict place (Data n field) found may law = cell_lands lane place n field found law
@@ -167,6 +176,7 @@ lands lane is_strict place Bell found may law = elim (may_land_here is_strict la
 abbrev pub with_landed : Lane → List Write → Write → Lane
 with_landed lane rest mark = record lane { flight = rest; ring = ring_after lane.ring lane.sent mark; flagged = lane.flagged + flags_landed mark }
 
+-- A landing changes of a lane its flight, the slot that the write is for, and by flags the count of landed flags.
 pub landed_is : (lane : Lane) (rest : List Write) (mark : Write) → length lane.ring ≡ lane.entries → after_landing lane mark rest ≡ with_landed lane rest mark
 landed_is lane rest (Data n field) slots =
     ap (λ count. record lane { flight = rest; ring = set lane.ring (n % count) (with_field (get_or lane.ring (n % count) blank_slot) n (entry_of lane n) field) }) (sym slots)
@@ -190,9 +200,11 @@ landed_lane lane flight rest ring flagged mark slots same_flight same_ring same_
     ∙ ap (λ (count : ℕ). record lane { flight = rest; ring = ring_after lane.ring lane.sent mark; flagged = count }) same_count
     ∙ sym (landed_is lane rest mark slots)
 
+-- The model's lane answers `Nothing` to a landing at a place where no write is in flight.
 pub answer_nothing : (value : LaneValue) (place : ℕ) → slice_get value.lane.flight place ≡ None → land_answer value place ≡ Nothing
 answer_nothing value place found = ap (land_found value place) found
 
+-- The model's lane stays as it was after a landing at a place where no write is in flight.
 pub after_nothing : (value : LaneValue) (place : ℕ) → slice_get value.lane.flight place ≡ None → after_land value place ≡ value.lane
 after_nothing value place found = ap (after_found value place) found
 
@@ -221,6 +233,7 @@ pub record HasLanded (l : Inside) (place : ℕ) (mark : Write) (flight : Flight 
 abbrev pub order_of_write : PostedWrite → Order
 order_of_write w = order_of_mark w.strict w.mark
 
+-- A write that the flight lets land may land in the model's lane too, which keeps the law of the ring.
 pub has_landed : (l : Inside) (place : ℕ) (write : PostedWrite) (flight : Flight PostedWrite) → QueueLanded write ≡ queue_answer order_of_write l.flight place → flight ≡ queue_after order_of_write l.flight place
     → IsKept l → HasLanded l place write.mark flight
 has_landed l place write flight answer after kept =

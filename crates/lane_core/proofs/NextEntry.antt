@@ -33,6 +33,7 @@ pub record FindsEntry (lane : Lane) : Type 0 where
   pub more : lane.got < lane.flagged
   pub size : length (bytes_of (entry_of lane lane.got)) ≡ (slot_of lane lane.got).len
 
+-- Under the law of the ring, an idle receiver that reads flags has a landed entry there, of the length in the slot.
 pub finds_entry : (lane : Lane) → lane.phase ≡ Idle → ((slot_of lane lane.got).flags ≡ 0 → ⊥) → HoldsRingLaw lane → FindsEntry lane
 finds_entry lane idle some law =
     let more = entry_before lane idle some law in

@@ -14,7 +14,7 @@ use Rattle.lane_core.specs.Parts.{IsKnown}
 abbrev pub chunk_cells : ℕ → ℕ → List Write
 chunk_cells n count = map (λ part. Data n (Chunk part)) (count_from 0 count)
 
--- one more chunk behind others
+-- one more chunk after others
 pub chunk_cells-push : (marks : List Write) (n count : ℕ) → (marks ++ chunk_cells n count) ++ Data n (Chunk count) ∷ [] ≡ marks ++ chunk_cells n (count + 1)
 chunk_cells-push marks n count =
     append_assoc marks (chunk_cells n count) (Data n (Chunk count) ∷ [])
@@ -24,6 +24,7 @@ chunk_cells-push marks n count =
     one_more : (n : ℕ) → suc n ≡ n + 1
     one_more n = omega arith
 
+-- An entry has as many writes as its payload has chunks, and four more: length, version, flags and doorbell.
 pub length-writes_of : (n : ℕ) (entry : Entry) → length (writes_of n entry) ≡ chunks_in (length (bytes_of entry)) + 4
 length-writes_of n entry =
     let chunks = chunks_in (length (bytes_of entry)) in
@@ -33,7 +34,7 @@ length-writes_of n entry =
     let e = length-count_from 0 chunks in
     omega arith
 
--- the four writes behind the chunks
+-- the four writes after the chunks
 pub writes_in_turn : (marks : List Write) (n : ℕ) (entry : Entry)
     → ((((marks ++ chunk_cells n (chunks_in (length (bytes_of entry)))) ++ Data n Length ∷ []) ++ Data n Version ∷ []) ++ Flag n ∷ []) ++ Bell ∷ [] ≡ marks ++ writes_of n entry
 writes_in_turn marks n entry =

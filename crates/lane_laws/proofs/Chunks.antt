@@ -11,6 +11,7 @@ use Rattle.lane_model.specs.declared.Write.TheVariants.{Data}
 use Rattle.lane_model.specs.Law.{Stands, StandsWhole}
 use Rattle.lane_laws.proofs.Numbers.{length-count_from, get_or-count_from}
 
+-- Writing bytes over a part of a list, where they fit within it, leaves the list as long as it was.
 pub length-overwritten : (at : ℕ) (bytes old : List ℕ) → at + length bytes ≤ length old → length (overwritten at bytes old) ≡ length old
 length-overwritten at bytes old fits =
     let a = length-append (take at old ++ bytes) (drop (at + length bytes) old) in
@@ -62,6 +63,7 @@ read_before at bytes old a n fits before = read_alike _ old a n (length-overwrit
 read_behind : (at : ℕ) (bytes old : List ℕ) (a n : ℕ) → at + length bytes ≤ length old → at + length bytes ≤ a → take n (drop a (overwritten at bytes old)) ≡ take n (drop a old)
 read_behind at bytes old a n fits behind = read_alike _ old a n (length-overwritten at bytes old fits) (λ i d low high. at_behind at bytes old i d fits (omega arith))
 
+-- A chunk of a payload has 128 bytes, or as many as are left from the chunk's start where these are fewer.
 pub length-chunk_of : (bytes : List ℕ) (part : ℕ) → length (chunk_of bytes part) ≡ min chunk_size (length bytes - chunk_size * part)
 length-chunk_of bytes part = length-take chunk_size (drop (chunk_size * part) bytes) ∙ ap (min chunk_size) (length-drop (chunk_size * part) bytes)
 
@@ -112,11 +114,13 @@ stands_under_flags slot n entry (Chunk part) flags stands = stands
 stands_under_flags slot n entry Length flags stands = stands
 stands_under_flags slot n entry Version flags stands = stands
 
+-- Writing a field of an entry into a slot leaves the slot's flags as they were.
 pub flags_stay : (slot : Slot) (n : ℕ) (entry : Entry) (field : Field) → (with_field slot n entry field).flags ≡ slot.flags
 flags_stay slot n entry (Chunk part) = refl
 flags_stay slot n entry Length = refl
 flags_stay slot n entry Version = refl
 
+-- Writing a field of an entry into a slot that it fits leaves the slot's payload as long as it was.
 pub room_stays : (slot : Slot) (n : ℕ) (entry : Entry) (field : Field) → IsFieldOf entry field → length (bytes_of entry) ≤ length slot.payload
     → length (with_field slot n entry field).payload ≡ length slot.payload
 room_stays slot n entry (Chunk part) among fits = length-overwritten (chunk_size * part) (chunk_of (bytes_of entry) part) slot.payload (chunk_fits (bytes_of entry) slot.payload part among fits)
@@ -180,12 +184,15 @@ contains_cases {X} y xs x h = go h.0 h.1 h.2
     go zero below e = inl e
     go (suc k) below e = inr (k, omega arith, e)
 
+-- An empty list contains no element.
 pub contains_none : {X : Type 0} (x : X) → Contains [] x → ⊥
 contains_none x h = omega (arith, h.1)
 
+-- A list contains its first element.
 pub contains_first : {X : Type 0} (x : X) (xs : List X) → Contains (x ∷ xs) x
 contains_first x xs = (0, omega arith, refl)
 
+-- What a list contains is still there once another element stands in front of it.
 pub contains_later : {X : Type 0} (y : X) (xs : List X) (x : X) → Contains xs x → Contains (y ∷ xs) x
 contains_later y xs x h = (suc h.0, omega (arith, h.1), h.2)
 

@@ -18,6 +18,7 @@ use Rattle.lane_laws.proofs.Receiver.{more_flagged}
 front_apart : (flight : List Write) (write : Write) (rest lost todo : List Write) → flight ≡ write ∷ rest → (flight ++ lost) ++ todo ≡ write ∷ ((rest ++ lost) ++ todo)
 front_apart flight write rest lost todo e = ap (λ w. (w ++ lost) ++ todo) e
 
+-- The law of the ring, with the same writes lost, is kept when a doorbell that is first in flight lands.
 pub land_bell_keeps : (lost : List Write) (lost_back : List ℕ) (lane : Lane) (rest : List Write) → lane.flight ≡ Bell ∷ rest
     → RingLaw lost lost_back lane → RingLaw lost lost_back (after_landing lane Bell rest)
 land_bell_keeps lost lost_back lane rest front h =
@@ -57,6 +58,7 @@ flag_is_next lost lost_back lane n rest front h =
     apart : (lane.flight ++ lost) ++ lane.todo ≡ Flag n ∷ (rest ++ lost) ++ lane.todo
     apart = front_apart lane.flight (Flag n) rest lost lane.todo front
 
+-- Where the law of the ring holds, a field in flight is of an entry that was begun and whose flags haven't landed.
 pub data_is_ahead : (lost : List Write) (lost_back : List ℕ) (lane : Lane) (n : ℕ) (field : Field) → Contains lane.flight (Data n field)
     → RingLaw lost lost_back lane → (lane.flagged ≤ n) × (n < length lane.sent) × Contains (data_of n (entry_of lane n)) (Data n field)
 data_is_ahead lost lost_back lane n field among h =
@@ -101,6 +103,7 @@ whole_under_flags lost lost_back lane n rest front h =
     ]))
     refl
 
+-- The law of the ring, with the same writes lost, is kept when flags that are first in flight land.
 pub land_flag_keeps : (lost : List Write) (lost_back : List ℕ) (lane : Lane) (n : ℕ) (rest : List Write) → lane.flight ≡ Flag n ∷ rest
     → RingLaw lost lost_back lane → RingLaw lost lost_back (after_landing lane (Flag n) rest)
 land_flag_keeps lost lost_back lane n rest front h =
@@ -176,6 +179,7 @@ contains_without before behind write other h = elim (Contains-append_cases befor
   ]
 ]
 
+-- The law of the ring, with the same writes lost, is kept when a field lands, from whatever place in flight.
 pub land_data_keeps : (lost : List Write) (lost_back : List ℕ) (lane : Lane) (n : ℕ) (field : Field) (before behind : List Write) → lane.flight ≡ before ++ Data n field ∷ behind
     → RingLaw lost lost_back lane → RingLaw lost lost_back (after_landing lane (Data n field) (before ++ behind))
 land_data_keeps lost lost_back lane n field before behind middle h =

@@ -23,6 +23,7 @@ look_sees lost lost_back lane idle h =
       one_of_both = h.counts.got_first;
     }
 
+-- Where the law of the ring holds, a copying receiver's entry stands whole in its slot, with a part left to copy.
 pub copy_sees : (lost : List Write) (lost_back : List ℕ) (lane : Lane) → lane.phase ≡ Copying → RingLaw lost lost_back lane
     → (lane.got < lane.flagged) × StandsWhole (slot_of lane lane.got) lane.got (entry_of lane lane.got)
     × (lane.part < copies_of (entry_of lane lane.got)) × Stands (slot_of lane lane.got) lane.got (entry_of lane lane.got) (Chunk lane.part)
@@ -38,6 +39,7 @@ more_flagged Copying acked cleared got flagged more low h = (h.0, h.1, omega (ar
 more_flagged Copied acked cleared got flagged more low h = h
 more_flagged Cleared acked cleared got flagged more low h = h
 
+-- The law of the ring, with the same writes lost, is kept when an idle receiver finds an entry with its flags landed.
 pub look_keeps : (lost : List Write) (lost_back : List ℕ) (lane : Lane) → lane.phase ≡ Idle → lane.got < lane.flagged
     → RingLaw lost lost_back lane → RingLaw lost lost_back (after_look lane)
 look_keeps lost lost_back lane idle more h =
@@ -56,6 +58,7 @@ look_keeps lost lost_back lane idle more h =
       back = h.back;
     }
 
+-- The law of the ring, with the same writes lost, is kept when a part is copied, be it the last one or not.
 pub copy_keeps : (lost : List Write) (lost_back : List ℕ) (lane : Lane) → lane.phase ≡ Copying → RingLaw lost lost_back lane → RingLaw lost lost_back (after_copy lane)
 copy_keeps lost lost_back lane copying h =
     let counts : PhaseCounts Copying lane.acked lane.cleared lane.got lane.flagged = subst (λ p. PhaseCounts p lane.acked lane.cleared lane.got lane.flagged) copying h.receiver.phase_counts in
@@ -98,6 +101,7 @@ copy_keeps lost lost_back lane copying h =
       | inr last ↦ subst (RingLaw lost lost_back) (sym (cond-false (more_to_copy lane) _ _ last)) the_last
     ]
 
+-- The law of the ring, with the same writes lost, is kept when the flags of a copied entry are cleared.
 pub clear_keeps : (lost : List Write) (lost_back : List ℕ) (lane : Lane) → lane.phase ≡ Copied → RingLaw lost lost_back lane → RingLaw lost lost_back (after_clear lane)
 clear_keeps lost lost_back lane copied h =
     let counts : PhaseCounts Copied lane.acked lane.cleared lane.got lane.flagged = subst (λ p. PhaseCounts p lane.acked lane.cleared lane.got lane.flagged) copied h.receiver.phase_counts in
@@ -140,7 +144,7 @@ clear_keeps lost lost_back lane copied h =
       back = h.back;
     }
 
--- the index write is posted, or lost behind the others
+-- the index write is posted, or lost after the others
 acknowledged : (lost : List Write) (lost_back lost_now : List ℕ) (lane : Lane) → lane.phase ≡ Cleared → (after_ack lane).returning ++ lost_now ≡ (lane.returning ++ lost_back) ++ lane.acked ∷ []
     → (lane.up ≡ true → (lost ≡ []) × (lost_now ≡ [])) → RingLaw lost lost_back lane → RingLaw lost lost_now (after_ack lane)
 acknowledged lost lost_back lost_now lane cleared same none h =
@@ -168,6 +172,7 @@ acknowledged lost lost_back lost_now lane cleared same none h =
       };
     }
 
+-- The law of the ring, with the same writes lost, is kept when a cleared entry is acknowledged on a link that is up.
 pub ack_keeps : (lost : List Write) (lost_back : List ℕ) (lane : Lane) → lane.phase ≡ Cleared → lane.up ≡ true → RingLaw lost lost_back lane → RingLaw lost lost_back (after_ack lane)
 ack_keeps lost lost_back lane cleared up h =
     let none : lost_back ≡ [] = (h.none_lost up).1 in
@@ -177,6 +182,7 @@ ack_keeps lost lost_back lane cleared up h =
     ∙ ap (λ b. b ++ lane.acked ∷ []) (sym (ap (λ b. lane.returning ++ b) none ∙ append-nil lane.returning)))
     h.none_lost h
 
+-- The law of the ring is kept when a cleared entry is acknowledged on a lost link, its index write being lost too.
 pub ack_keeps_lost : (lost : List Write) (lost_back : List ℕ) (lane : Lane) → lane.phase ≡ Cleared → lane.up ≡ false → RingLaw lost lost_back lane
     → RingLaw lost (lost_back ++ lane.acked ∷ []) (after_ack lane)
 ack_keeps_lost lost lost_back lane cleared down h =
@@ -192,6 +198,7 @@ index_is_next lost lost_back lane n rest front h =
     let first = count_from-first lane.freed (lane.acked - lane.freed) n (rest ++ lost_back) (sym (ap (λ b. b ++ lost_back) front) ∙ h.back.returning) in
     (first.0, omega arith, first.2)
 
+-- The law of the ring, with the same writes lost, is kept when the first index write in flight lands.
 pub index_keeps : (lost : List Write) (lost_back : List ℕ) (lane : Lane) (n : ℕ) (rest : List ℕ) → lane.returning ≡ n ∷ rest
     → RingLaw lost lost_back lane → RingLaw lost lost_back (after_index lane n rest)
 index_keeps lost lost_back lane n rest front h =
@@ -235,9 +242,11 @@ lost_keeps lost lost_now lost_back back_now lane up flight returning down writes
       back = subst (IndexesCome lane.entries lane.freed lane.acked lane.index_word) (sym indexes) h.back;
     }
 
+-- The law of the ring, with the same writes lost, is kept when the link is lost: what is in flight may still land.
 pub cut_keeps : (lost : List Write) (lost_back : List ℕ) (lane : Lane) → RingLaw lost lost_back lane → RingLaw lost lost_back (after_cut lane)
 cut_keeps lost lost_back lane h = lost_keeps lost lost lost_back lost_back lane false lane.flight lane.returning refl refl refl h
 
+-- The law of the ring is kept when a lost link is dropped: all that was in flight goes in front of the lost writes.
 pub drop_keeps : (lost : List Write) (lost_back : List ℕ) (lane : Lane) → lane.up ≡ false → RingLaw lost lost_back lane
     → RingLaw (lane.flight ++ lost) (lane.returning ++ lost_back) (after_drop lane)
 drop_keeps lost lost_back lane down h = lost_keeps lost (lane.flight ++ lost) lost_back (lane.returning ++ lost_back) lane lane.up [] [] down refl refl h

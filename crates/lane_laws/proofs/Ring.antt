@@ -15,6 +15,7 @@ pub place_other : (lane : Lane) (n m : ℕ) (slot : Slot) → m % lane.entries �
     → get_or (ring_with lane n slot) (m % lane.entries) blank_slot ≡ slot_of lane m
 place_other lane n m slot e = get_or-set_other lane.ring (n % lane.entries) (m % lane.entries) slot blank_slot e
 
+-- A ring in which one slot was replaced has as many slots as before.
 pub length-ring_with : (lane : Lane) (n : ℕ) (slot : Slot) → length lane.ring ≡ lane.entries → length (ring_with lane n slot) ≡ lane.entries
 length-ring_with lane n slot slots = length-set lane.ring (n % lane.entries) slot ∙ slots
 

@@ -14,6 +14,7 @@ use Rattle.lane_model.specs.declared.Phase.TheVariants.{Copying}
 use Rattle.lane_laws.proofs.Numbers as numbers
 use Rattle.lane_laws.proofs.WritesToCome.{left_to_land_more, other_writes_keep}
 
+-- The law of the ring holds of a lane at the start of its session, with no write lost.
 pub fresh_holds : (lane : Lane) → IsFresh lane → RingLaw [] [] lane
 fresh_holds lane fresh =
     let none_sent : length lane.sent ≡ 0 = ap length fresh.sent in
@@ -82,6 +83,7 @@ free_is_room lost lost_back lane h =
     let low : lane.freed ≤ length lane.sent = omega arith in
     ap (free_entries lane.entries (head_of lane.entries (length lane.sent))) h.back.index_word_is ∙ numbers.free_is_room lane.entries (length lane.sent) lane.freed h.room.two_entries low h.counts.one_free
 
+-- The law of the ring, with the same writes lost, is kept when an entry that fits is begun in a ring with room.
 pub begin_keeps : (lost : List Write) (lost_back : List ℕ) (lane : Lane) (entry : Entry) → lane.todo ≡ [] → 0 < free_in lane
     → length (bytes_of entry) ≤ lane.largest → IsOpen lane → RingLaw lost lost_back lane → RingLaw lost lost_back (after_begin lane entry)
 begin_keeps lost lost_back lane entry no_todo free fits open_yet h =
@@ -162,6 +164,7 @@ posted lost lost_now lost_back lane write rest front same none h =
     other_writes_keep lost lost_now lost_back lane (after_post lane write rest).flight rest (record { left = subst (AreLeftToLand lane.flagged lane.sent) (sym same) h.coming.left; last = last_now }) none
     (λ n field comes. subst (λ w. Contains w (Data n field)) (sym same) comes) h
 
+-- The law of the ring, with the same writes lost, is kept when the next write is posted on a link that is up.
 pub post_keeps : (lost : List Write) (lost_back : List ℕ) (lane : Lane) (write : Write) (rest : List Write) → lane.todo ≡ write ∷ rest → lane.up ≡ true
     → RingLaw lost lost_back lane → RingLaw lost lost_back (after_post lane write rest)
 post_keeps lost lost_back lane write rest front up h =
@@ -175,7 +178,7 @@ post_keeps lost lost_back lane write rest front up h =
     ∙ ap (λ w. w ++ lane.todo) (sym (ap (λ w. lane.flight ++ w) none ∙ append-nil lane.flight)))
     h.none_lost h
 
--- on a lost link the write is lost behind the others
+-- on a lost link the write is lost after the others
 pub post_keeps_lost : (lost : List Write) (lost_back : List ℕ) (lane : Lane) (write : Write) (rest : List Write) → lane.todo ≡ write ∷ rest → lane.up ≡ false
     → RingLaw lost lost_back lane → RingLaw (lost ++ write ∷ []) lost_back (after_post lane write rest)
 post_keeps_lost lost lost_back lane write rest front down h =
@@ -187,7 +190,7 @@ post_keeps_lost lost lost_back lane write rest front down h =
     ∙ ap (λ w. (lane.flight ++ lost) ++ w) (sym front))
     (λ up. absurd (true≢false (sym up ∙ down))) h
 
--- a sender that forgets a lost session has lost what was left to post, behind the others
+-- a sender that forgets a lost session has lost what was left to post, after the others
 pub forget_keeps : (lost : List Write) (lost_back : List ℕ) (lane : Lane) → lane.up ≡ false → RingLaw lost lost_back lane → RingLaw (lost ++ lane.todo) lost_back (record lane { todo = [] })
 forget_keeps lost lost_back lane down h =
     let same : (lane.flight ++ lost) ++ lane.todo ≡ (lane.flight ++ (lost ++ lane.todo)) ++ [] =

@@ -35,6 +35,7 @@ behind_bell (m ∷ mid) rest behind x other e = (mid, cc, cc)
 
 -- ---- writes that are some of others
 
+-- Every list of writes is a subsequence of itself.
 pub picked_all : (xs : List Write) → IsPickedFrom xs xs
 picked_all [] = Nothing
 picked_all (x ∷ xs) = Taken (picked_all xs)
@@ -155,7 +156,7 @@ cell_left (entry ∷ entries) n writes k field h among =
 
 -- ---- with the doorbell of the entry before
 
--- beginning an entry leaves its writes behind the others
+-- beginning an entry leaves its writes after the others
 pub left_to_land_more : (lane : Lane) (writes : List Write) (entry : Entry) → lane.flagged ≤ length lane.sent
     → AreLeftToLand lane.flagged lane.sent writes → AreLeftToLand lane.flagged (lane.sent ++ entry ∷ []) (writes ++ writes_of (length lane.sent) entry)
 left_to_land_more lane writes entry first h =
@@ -172,6 +173,7 @@ left_to_land_more lane writes entry first h =
       )
     ]
 
+-- What is left to land of the begun entries stays in order where any one field is taken out of it.
 pub left_to_land_without : (lane : Lane) (before behind : List Write) (k : ℕ) (field : Field)
     → AreLeftToLand lane.flagged lane.sent (before ++ Data k field ∷ behind) → AreLeftToLand lane.flagged lane.sent (before ++ behind)
 left_to_land_without lane before behind k field h = elim h [

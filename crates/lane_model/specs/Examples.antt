@@ -29,7 +29,7 @@ begun = after_begin fresh letter
 abbrev pub Begun : Type 0
 Begun = (begun ≡ record fresh { sent = letter ∷ []; todo = letter_writes 0 }) × (free_in fresh ≡ 1) × (free_in begun ≡ 0) × (room_of 2 0 0 ≡ 1) × (room_of 2 1 0 ≡ 0)
 
--- posting moves the next write behind those in flight, and loses it where the link is lost
+-- posting moves the next write after those in flight, and loses it where the link is lost
 abbrev pub posted : Lane
 posted = after_post begun (Data 0 (Chunk 0)) (Data 0 Length ∷ Data 0 Version ∷ Flag 0 ∷ Bell ∷ [])
 

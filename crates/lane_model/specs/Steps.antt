@@ -9,7 +9,7 @@ use Rattle.lane_model.specs.declared.Phase.TheVariants.{Idle, Copying, Copied, C
 abbrev pub after_begin : Lane → Entry → Lane
 after_begin lane entry = record lane { sent = lane.sent ++ entry ∷ []; todo = writes_of (length lane.sent) entry }
 
--- the sender posts the next write, `rest` being those behind it
+-- the sender posts the next write, `rest` being those after it
 abbrev pub after_post : Lane → Write → List Write → Lane
 after_post lane write rest = record lane { todo = rest; flight = (if lane.up then lane.flight ++ write ∷ [] else lane.flight) }
 
@@ -23,7 +23,7 @@ after_landing lane Bell rest = record lane { flight = rest }
 abbrev pub after_look : Lane → Lane
 after_look lane = record lane { phase = Copying; part = 0 }
 
--- whether the entry that is being copied has a part behind the next one
+-- whether the entry that is being copied has a part after the next one
 abbrev pub more_to_copy : Lane → Bool
 more_to_copy lane = nat_lt (lane.part + 1) (chunks_in (length (bytes_of (entry_of lane lane.got))))
 
@@ -39,7 +39,7 @@ after_clear lane = record lane { ring = ring_with lane lane.cleared (with_flags 
 abbrev pub after_ack : Lane → Lane
 after_ack lane = record lane { acked = lane.acked + 1; phase = Idle; returning = (if lane.up then lane.returning ++ lane.acked ∷ [] else lane.returning) }
 
--- the index write of entry n lands, `rest` being those behind it
+-- the index write of entry n lands, `rest` being those after it
 abbrev pub after_index : Lane → ℕ → List ℕ → Lane
 after_index lane n rest = record lane { returning = rest; freed = n + 1; index_word = n % lane.entries }
 

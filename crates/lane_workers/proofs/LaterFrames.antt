@@ -12,6 +12,7 @@ pub record IsLater (first next last : List (List ℕ)) : Type 0 where
   pub begins : take (length first) last ≡ first
   pub came : drop (length first) last ≡ drop (length first) next ++ drop (length next) last
 
+-- Where a list of frames begins a second, and that a third, the third is the first and then both growths in order.
 pub is_later : (first next last : List (List ℕ)) → take (length first) next ≡ first → take (length next) last ≡ next → IsLater first next last
 is_later first next last begins goes_on =
     let one : List (List ℕ) = drop (length first) next in

@@ -10,5 +10,6 @@ has_byte byte none = cc
 with_first : (byte : ℕ) (frames : List (List ℕ)) → HaveBytes frames → HaveBytes ((byte ∷ []) ∷ frames)
 with_first byte frames have = All-cons (λ frame. frame ≢ []) (byte ∷ []) frames (has_byte byte) have
 
+-- Two frames of one byte each have at least one byte each, as a sender asks of frames.
 pub two_have_bytes : (first second : ℕ) → HaveBytes ((first ∷ []) ∷ (second ∷ []) ∷ [])
 two_have_bytes first second = with_first first ((second ∷ []) ∷ []) (with_first second [] (All-nil (λ frame. frame ≢ [])))

@@ -21,7 +21,7 @@ impl Fdb {
     ///
     /// # Errors
     ///
-    /// [`AllocError`] from want of memory alone.
+    /// [`AllocError`] from out of memory alone.
     pub fn new(alloc: Global) -> Result<Fdb, AllocError>
         ensures { IfOk result (λ fdb. fdb ≡ []) }
     {

@@ -28,7 +28,7 @@ impl FrameQueue {
     ///
     /// # Errors
     ///
-    /// [`AllocError`] from want of memory alone, and then nothing joined.
+    /// [`AllocError`] from out of memory alone, and then nothing joined.
     pub fn push_copy(&mut self, alloc: Global, frame: &Frame) -> Result<(), AllocError>
         ensures ok { OnOk result (self.new ≡ self.old ++ frame.now ∷ []) }
         ensures err { OnErr result (self.new ≡ self.old) }
@@ -132,7 +132,7 @@ pub fn copies(alloc: Global, queues: &[FrameQueue]) -> Result<Vec<FrameQueue>, A
 ///
 /// # Errors
 ///
-/// [`AllocError`] from want of memory alone, and then it joined none.
+/// [`AllocError`] from out of memory alone, and then it joined none.
 pub fn push_to_all(
     queues: &mut [FrameQueue],
     alloc: Global,
@@ -155,7 +155,7 @@ pub fn push_to_all(
 ///
 /// # Errors
 ///
-/// [`AllocError`] from want of memory alone, and then it joined none.
+/// [`AllocError`] from out of memory alone, and then it joined none.
 pub fn push_to_others(
     queues: &mut [FrameQueue],
     alloc: Global,
@@ -182,7 +182,7 @@ pub fn push_to_others(
 ///
 /// # Errors
 ///
-/// [`AllocError`] from want of memory alone.
+/// [`AllocError`] from out of memory alone.
 pub fn empty_queues(alloc: Global, count: u32) -> Result<Vec<FrameQueue>, AllocError>
     ensures { IfOk result (λ queues. queues.items ≡ replicate count []) }
 {

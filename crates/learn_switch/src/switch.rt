@@ -30,7 +30,7 @@ impl Switch {
     ///
     /// # Errors
     ///
-    /// [`AllocError`] from want of memory alone.
+    /// [`AllocError`] from out of memory alone.
     pub fn new(alloc: Global, ports: u32) -> Result<Switch, AllocError>
         requires two { 2 ≤ ports }
         requires few { ports ≤ 16 }
@@ -48,7 +48,7 @@ impl Switch {
     ///
     /// # Errors
     ///
-    /// [`AllocError`] from want of memory alone, and then nothing changes.
+    /// [`AllocError`] from out of memory alone, and then nothing changes.
     pub fn arrive(&mut self, port: u32, frame: &Frame) -> Result<(), AllocError>
         requires { port < length self.old.inboxes }
         ensures ok { OnOk result (self.new ≡ arrived self.old port frame.now) }
@@ -72,7 +72,7 @@ impl Switch {
     ///
     /// # Errors
     ///
-    /// [`AllocError`] from want of memory alone, and then nothing changes: the frame stays in the inbox.
+    /// [`AllocError`] from out of memory alone, and then nothing changes: the frame stays in the inbox.
     pub fn relay(&mut self, port: u32) -> Result<RelayAnswer, AllocError>
         requires { port < length self.old.inboxes }
         ensures answer { IfOk result (λ answer. answer ≡ bytes_relay_answer self.old port) }
@@ -189,8 +189,8 @@ fn route(fdb: &Fdb, ports: u32, port: u32, header: &Header) -> RelayAnswer
     }
 }
 
-// A copy of a frame from a port joins the waiting frames of the ports that the answer says. Where memory is wanting, it
-// joins none.
+// A copy of a frame from a port joins the waiting frames of the ports that the answer says. Where it is out of memory,
+// it joins none.
 fn forward(
     waiting: &mut Vec<FrameQueue>,
     alloc: Global,

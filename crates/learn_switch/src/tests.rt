@@ -5,7 +5,7 @@ const FIRST: [u8; 6] = [0x02, 0, 0, 0, 0, 0x0a];
 
 const SECOND: [u8; 6] = [0x02, 0, 0, 0, 0, 0x0b];
 
-// Each call once, where memory doesn't want: a call that only asks for memory in vain meets its clauses too.
+// Each call once, unless out of memory: a call that only asks for memory in vain meets its clauses too.
 #[test]
 fn frames_go_through(rt: HostRuntime) -> Result<(), Fail> {
     let mut switch = Switch::new(rt.alloc(), 2)?;

@@ -48,7 +48,7 @@ again_full : (full : Bool) (head tail : ℕ) → again_of (refuse_if full (Again
 again_full true head tail = refl
 again_full false head tail = refl
 
--- refusals of a sender, and those that come behind them
+-- refusals of a sender, and those that come after them
 again_sender : (down apart shut : Bool) (later : Option Answer) (rest full : Bool) → (down ≡ false → again_of later ≡ (not rest && full))
     → again_of (refuse_if down LinkDown (refuse_if apart NotReady (refuse_if shut Closed later))) ≡ (not ((down || (apart || shut)) || rest) && full)
 again_sender true apart shut later rest full h = refl
@@ -146,6 +146,7 @@ room_fresh plan lane =
       counts = λ open_yet. record { taken = refl; given = refl };
     })
 
+-- On an ordinary pair the facts of a ring's room hold before any step, and each turn of the lane keeps them.
 pub room_runs : (plan : Plan) (lane : LaneName) → IsRaw plan lane ≡ false → HoldsAlways plan lane (RoomKnown plan lane)
 room_runs plan lane no_raw = record { fresh = room_fresh plan lane; turns = room_kept plan lane no_raw }
 
@@ -163,6 +164,7 @@ begun_subject (QpDown p side queue) lane e = ap (λ l. l.pair) (same_Some _ _ e)
 begun_subject (Xbegin p side queue dev dst kind payload) lane e = ap (λ l. l.pair) (same_Some _ _ e)
 begun_subject step lane e = absurd (none-some lane e)
 
+-- On an ordinary pair a step that sends is `again` exactly where no earlier test refuses it and the ring lacks room.
 pub again_where_no_room : AgainWhereNoRoom
 again_where_no_room plan memories steps step answer lane no_raw begins goes =
     let log = log_of plan memories steps in

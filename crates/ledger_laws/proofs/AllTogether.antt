@@ -41,6 +41,7 @@ is_ordinary plan k no_raw (Spad p side i value) may on =
 is_ordinary plan k no_raw (Poke p side window offset bytes) may on = true≢false (sym may.1.raw ∙ ap (λ j. (pair_plan plan j).raw) on ∙ no_raw)
 is_ordinary plan k no_raw step may on = tt
 
+-- Steps that a plan permits on a pair that isn't raw poke no bytes and write no scratchpad of the handshake by hand.
 pub are_ordinary : (plan : Plan) (k : ℕ) → IsOrdinaryPair plan k → (steps : List Step) → AllByRecursion (IsPermitted plan) steps → AllByRecursion (IsOrdinaryOn k) steps
 are_ordinary plan k no_raw [] may = tt
 are_ordinary plan k no_raw (step ∷ steps) may = (is_ordinary plan k no_raw step may.0, are_ordinary plan k no_raw steps may.1)
@@ -51,12 +52,14 @@ last_permitted plan (first ∷ steps) step all = last_permitted plan steps step 
 
 -- A declared plan's sides have numbers in the range that the law of a check asks for
 
+-- The sides of a declared plan have versions, queues, windows and sizes in the range that the law of a check needs.
 pub has_sides : (plan : Plan) → IsDeclared plan → HasSidesInRange plan
 has_sides plan declared k A below = in_range (pair_plan plan k).a (declared.pairs k below).side_a
 has_sides plan declared k B below = in_range (pair_plan plan k).b (declared.pairs k below).side_b
 
 -- Together
 
+-- All laws of a log hold of the steps that a declared plan permits, where memories keep pairs apart.
 pub laws_hold : LawsHold
 laws_hold plan memories steps declared permitted apart = record {
   in_order = λ lane session ordinary. every_log_is_in_order plan memories steps lane session ordinary;
@@ -77,6 +80,7 @@ laws_hold plan memories steps declared permitted apart = record {
   joined = λ pair side queue among ordinary joined. joined_means_agreement plan memories steps pair side queue (declared.pairs pair among) (are_ordinary plan pair ordinary steps permitted) joined;
 }
 
+-- In a log of permitted steps each answer is what the log before it says, and a refusal changes no more than a count.
 pub answers_are_right : AnswersAreRight
 answers_are_right plan memories steps step answer declared permitted goes = record {
   link_down = link_down_where_not_up plan memories steps step answer goes;

@@ -14,16 +14,19 @@ use Rattle.ledger_model.specs.Next.{fresh_pair, agreed_side, idle_side}
 use Rattle.plan_model.specs.declared.LinkState.{LinkState}
 use Rattle.plan_model.specs.declared.LinkState.TheVariants.{Down, Up, Closing}
 
+-- A link that is up isn't down.
 pub up-not_down : (state : LinkState) → is_up state ≡ true → is_down state ≡ false
 up-not_down Up e = refl
 up-not_down Down e = absurd (false≢true e)
 up-not_down Closing e = refl
 
+-- A link that is down isn't up.
 pub down-not_up : (state : LinkState) → is_down state ≡ true → is_up state ≡ false
 down-not_up Down e = refl
 down-not_up Up e = absurd (false≢true e)
 down-not_up Closing e = refl
 
+-- A link that is closing isn't up.
 pub closing-not_up : (state : LinkState) → is_closing state ≡ true → is_up state ≡ false
 closing-not_up Down e = refl
 closing-not_up Up e = absurd (false≢true e)

@@ -11,6 +11,7 @@ use Rattle.step_kinds.specs.Bits.{has_bit, with_bit, without_bits}
 bit-set : (b : ℕ) → b ≡ 1 → (b == 1) ≡ true
 bit-set b e = eq-eqb b 1 e
 
+-- A set of bits has the bit that was just set in it.
 pub has-with_same : (bits k : ℕ) → has_bit (with_bit bits k) k ≡ true
 has-with_same bits k =
     bit-set (bit_at (bit_or bits (2 ^ k)) k)
@@ -19,6 +20,7 @@ has-with_same bits k =
     let small = bit_at-lt bits k in
     omega arith)
 
+-- Setting a bit keeps each bit that the set had.
 pub has-with_kept : (bits j k : ℕ) → has_bit bits j ≡ true → has_bit (with_bit bits k) j ≡ true
 has-with_kept bits j k has =
     bit-set (bit_at (bit_or bits (2 ^ k)) j)

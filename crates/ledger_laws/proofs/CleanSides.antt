@@ -36,6 +36,7 @@ SettledEnd state own = IsSettled state own.clean own.enabled own.up own.ready ow
 abbrev pub SettledOf : Sight → Type 0
 SettledOf s = SettledEnd s.state s.sender × SettledEnd s.state s.receiver
 
+-- While the link isn't down every side is settled, since that asks something of a down link alone.
 pub settled_up : (state : LinkState) {clean enabled up : Bool} {ready joined offered : ℕ} {pads : List ℕ} → is_down state ≡ false
     → IsSettled state clean enabled up ready joined offered pads
 settled_up state up = record { new_once_clean = λ down. absurd (both_ways (is_down state) up down); clean_once_enabled = λ down. absurd (both_ways (is_down state) up down) }
@@ -43,6 +44,7 @@ settled_up state up = record { new_once_clean = λ down. absurd (both_ways (is_d
 settled_agreed : (state : LinkState) (own : End) → own.clean ≡ true → SettledEnd state own → SettledEnd state (record own { enabled = true })
 settled_agreed state own clean h = record { new_once_clean = h.new_once_clean; clean_once_enabled = λ down agreed. clean }
 
+-- A clean side that isn't up and has nothing ready, joined, offered or landed is settled in any state of the link.
 pub settled_new : (state : LinkState) (enabled : Bool) → IsSettled state true enabled false 0 0 0 (replicate 16 0)
 settled_new state enabled = record { new_once_clean = λ down clean. record { not_up = refl; none_ready = refl; none_joined = refl; none_offered = refl; none_landed = refl }; clean_once_enabled = λ down agreed. refl }
 
@@ -57,6 +59,7 @@ not_down_with s e place label empty may = elim (cases_Bool (is_down s.state)) [ 
     nothing Sender may none = none-some label (ap (λ flight. slice_get flight place) (sym none.0) ∙ may.there)
     nothing Receiver may none = none-some label (ap (λ flight. slice_get flight place) (sym none.1) ∙ may.there)
 
+-- Each turn keeps it so that on a down link a clean side has nothing of a session and an enabled side is clean.
 pub settled_kept : (plan : Plan) (lane : LaneName) (s : Sight) (made : Answered) (news : News) (t : Sight) → Turn plan lane s made news t → EmptyOf s → SettledOf s → SettledOf t
 settled_kept plan lane s made news t (Enables Sender may) empty h = (settled_agreed s.state s.sender may.clean h.0, h.1)
 settled_kept plan lane s made news t (Enables Receiver may) empty h = (h.0, settled_agreed s.state s.receiver may.clean h.1)

@@ -373,6 +373,7 @@ clear_fits pair side queue looked given h last =
     no_fit (ClearedFrame number) is = absurd (false≢true is)
     no_fit r is = tt
 
+-- An entry is copied part by part in order, its last part answered `frame` if no entry follows, and then cleared.
 pub copied_in_parts : CopiedInParts
 copied_in_parts plan memories steps pair side queue step answer which goes =
     subst (FitsLook looked (lane_to now side queue).left given) (sym (answer_of plan memories steps step answer goes)) (fits step which)

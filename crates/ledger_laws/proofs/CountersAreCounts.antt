@@ -100,6 +100,7 @@ counters-last plan own log made =
 
 -- What a step on another pair tells of a device
 
+-- A side and queue of another pair than a lane's are not on the lane.
 pub on-elsewhere : (own : LaneName) (p : ℕ) (side : Side) (queue : ℕ) → (p ≡ own.pair → ⊥) → is_on own p side queue ≡ false
 on-elsewhere own p side queue ne = ap (λ b. b && (same_side side own.from && (queue == own.queue))) (ne_eqb p own.pair ne)
 
@@ -124,10 +125,12 @@ Devs = Both (ℕ → DevPart)
 abbrev pub with_part : Devs → Side → ℕ → DevPart → Devs
 with_part devs side queue part = with_side devs side (updated (at_side devs side) queue part)
 
+-- A device that is put on a side and queue is read back there.
 pub dev-own : (from : Side) (q : ℕ) (devs : Devs) (part : DevPart) → at_side (with_part devs from q part) from q ≡ part
 dev-own A q devs part = cond-true (q == q) part (devs.a q) (eq-eqb q q refl)
 dev-own B q devs part = cond-true (q == q) part (devs.b q) (eq-eqb q q refl)
 
+-- Putting a device on another side or queue leaves the one on this side and queue as it was.
 pub dev-off : (from : Side) (q : ℕ) (devs : Devs) (side : Side) (queue : ℕ) (part : DevPart) → IsOff from q side queue → at_side (with_part devs side queue part) from q ≡ at_side devs from q
 dev-off from q devs side queue part off = go from side off.placed
   where
@@ -148,15 +151,19 @@ counters-kept from q devs side queue =
     (λ part e. ap counters_of (dev-own from q devs part) ∙ e)
     (λ s k c off part e. ap counters_of (dev-off from q devs s k part off)) side queue
 
+-- A side that posts a write changes no device.
 pub devs-posts : (pair : PairPart) (side : Side) (label : Label) → (posts pair side label).devs ≡ pair.devs
 devs-posts pair side label = same-posts (λ (p : PairPart). p.devs) pair side label (λ _. refl)
 
+-- A side that posts a raw write with its bytes changes no device.
 pub devs-posts_raw : (pair : PairPart) (side : Side) (label : Label) (bytes : List ℕ) → (posts_raw pair side label bytes).devs ≡ pair.devs
 devs-posts_raw pair side label bytes = same-posts_raw (λ (p : PairPart). p.devs) pair side label bytes (λ _. refl)
 
+-- A side that posts a write through a window changes no device, whether the peer has that window or not.
 pub devs-through : (reading : Reading) (pair : PairPart) (side : Side) (label : Label) → (posts_through reading pair side label).devs ≡ pair.devs
 devs-through reading pair side label = same-through (λ (p : PairPart). p.devs) reading pair side label (λ _. refl)
 
+-- A write that lands changes no device.
 pub devs-landed : (pair : PairPart) (side : Side) (label : Label) → (lands_on pair side label).devs ≡ pair.devs
 devs-landed pair side (Flag queue n) = refl
 devs-landed pair side (Down queue n) = refl
@@ -321,5 +328,6 @@ counted_runs plan own = record {
       ∙ sym (counters-last plan own log made);
 }
 
+-- The six counters of the device on a side and queue are what the log counts there, on raw pairs too.
 pub counters_are_counts : CountersAreCounts
 counters_are_counts plan memories steps own = log_after plan own.pair AnyStep (IsCounted plan own) (counted_runs plan own) memories steps (all_fit steps)

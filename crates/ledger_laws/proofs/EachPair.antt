@@ -66,13 +66,16 @@ AnyStep step = Unit {0}
 
 -- What is read of a pair beside its sides is the same where a side posts a write
 
+-- What is read of a pair beside its sides is the same after a side posts a write.
 pub same-posts : {X : Type 0} (read : PairPart → X) (pair : PairPart) (side : Side) (label : Label) → ((part : Both SidePart) → read (record pair { sides = part }) ≡ read pair) → read (posts pair side label) ≡ read pair
 same-posts read pair side label kept = cond_both (link_up pair) _ pair (λ (p : PairPart). read p ≡ read pair) (λ _. kept _) (λ _. refl)
 
+-- What is read of a pair beside its sides is the same after a side posts a raw write with its bytes.
 pub same-posts_raw : {X : Type 0} (read : PairPart → X) (pair : PairPart) (side : Side) (label : Label) (bytes : List ℕ) → ((part : Both SidePart) → read (record pair { sides = part }) ≡ read pair)
     → read (posts_raw pair side label bytes) ≡ read pair
 same-posts_raw read pair side label bytes kept = cond_both (link_up pair) _ pair (λ (p : PairPart). read p ≡ read pair) (λ _. kept _) (λ _. refl)
 
+-- What is read of a pair beside its sides is the same after a write is posted through a window, lost or not.
 pub same-through : {X : Type 0} (read : PairPart → X) (reading : Reading) (pair : PairPart) (side : Side) (label : Label) → ((part : Both SidePart) → read (record pair { sides = part }) ≡ read pair)
     → read (posts_through reading pair side label) ≡ read pair
 same-through read reading pair side label kept =

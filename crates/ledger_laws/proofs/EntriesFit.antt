@@ -32,10 +32,12 @@ use Rattle.ledger_laws.proofs.walk.Turn.{Turn, Trains, Breaks, Drops, Forgets, B
 
 -- Lists of entries
 
+-- What holds of all items of a list, and of one more, holds of all of the list with that one at its end.
 pub all_push : {X : Type 0} (P : X → Type 0) (xs : List X) (x : X) → AllByRecursion P xs → P x → AllByRecursion P (xs ++ x ∷ [])
 all_push P [] x all last = (last, tt)
 all_push P (y ∷ xs) x all last = (all.0, all_push P xs x all.1 last)
 
+-- What holds of all items of a list holds of the item at each place below its length.
 pub all_at : {X : Type 0} (P : X → Type 0) (xs : List X) (x : X) → AllByRecursion P xs → (n : ℕ) → n < length xs → P (slice_index_or xs n x)
 all_at P [] x all n below = absurd (omega arith)
 all_at P (y ∷ xs) x all zero below = all.0
@@ -54,6 +56,7 @@ pieces_within largest bytes from (suc more) =
     let e = length-take largest (drop (largest * from) bytes) in
     ((λ down. absurd (cc down), omega (arith, e)), pieces_within largest bytes (suc from) more)
 
+-- Each piece that a frame is cut into has no more bytes than a slot takes, and is no link-down entry.
 pub cut_within : (largest : ℕ) (bytes : List ℕ) (first : Entry) (others : List Entry) → pieces_of largest bytes ≡ first ∷ others → AllByRecursion (IsPieceWithin largest) (first ∷ others)
 cut_within largest bytes first others cut = subst (AllByRecursion (IsPieceWithin largest)) cut (pieces_within largest bytes 0 (pieces_in largest (length bytes)))
 
@@ -89,7 +92,8 @@ under_way-push sent entry got len h =
 
 -- What holds of a lane's entries
 
--- only the last entry is a link-down entry, and none where a piece waits; and a receiver that copies knows its entry's bytes
+-- No entry is a link-down entry while the link isn't down and the queue is open, or where a piece waits. Entries fit
+-- their slots, and a receiver that copies knows its entry's bytes.
 pub record Fits (largest q : ℕ) (state : LinkState) (closed : ℕ) (sent waiting : List Entry) (phase : Phase) (got len : ℕ) : Type 0 where
   pub open_yet : is_down state ≡ false → has_bit closed q ≡ false → AreOpen sent
   pub open_waiting : 0 < length waiting → AreOpen sent
@@ -146,6 +150,7 @@ fits_down {largest} {q} {sent = sent} {got = got} {len = len} after none is h =
       copying = λ copies. under_way-push sent GoesDown got len (h.copying copies);
     }
 
+-- On an ordinary pair each turn keeps entries within a slot, and none a link-down entry while the queue is open.
 pub fits_kept : (plan : Plan) (lane : LaneName) (s : Sight) (made : Answered) (news : News) (t : Sight) → IsRaw plan lane ≡ false → Turn plan lane s made news t
     → FitsOf (SizesOf plan lane).largest lane.queue s → FitsOf (SizesOf plan lane).largest lane.queue t
 fits_kept plan lane s made news t no_raw (Trains may) h = fits_fresh _ _ _ _ _ refl
@@ -248,6 +253,7 @@ pub record EntriesKnown (plan : Plan) (lane : LaneName) (log : List Answered) (s
   pub fits : FitsOf (SizesOf plan lane).largest lane.queue s
   pub leaves : LeavesOf (SizesOf plan lane).entries s
 
+-- On an ordinary pair entries fit their slots and one slot stays free, before any step and after each turn.
 pub entries_run : (plan : Plan) (lane : LaneName) → IsRaw plan lane ≡ false → HoldsAlways plan lane (EntriesKnown plan lane)
 entries_run plan lane no_raw = record {
   fresh = record {
@@ -272,6 +278,7 @@ pieces_are_within : (largest : ℕ) (entries : List Entry) → AllByRecursion (I
 pieces_are_within largest [] all = tt
 pieces_are_within largest (entry ∷ entries) all = (all.0.1, pieces_are_within largest entries all.1)
 
+-- On an ordinary pair entries begun or waiting fit a slot each, and beside them one slot of the ring stays free.
 pub entries_fit_the_ring : EntriesFitTheRing
 entries_fit_the_ring plan memories steps name no_raw =
     let known = always_after plan name (EntriesKnown plan name) (entries_run plan name no_raw) memories steps in record {

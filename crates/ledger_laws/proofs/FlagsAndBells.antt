@@ -48,7 +48,7 @@ tick_of q label = tick (write_of q label)
 abbrev pub ticks_of : ℕ → List Label → List Bool
 ticks_of q labels = filter_map (tick_of q) labels
 
--- so many flags, each with its doorbell behind it
+-- so many flags, each with its doorbell after it
 abbrev pub rounds : ℕ → List Bool
 rounds zero = []
 rounds (suc n) = true ∷ false ∷ rounds n
@@ -183,6 +183,7 @@ bell_lands q queue s place may (inr ne) h = lined_by (left_of q s) _ _ _ (ticks_
 over : (s : Sight) {X : Type 0} → is_down s.state ≡ true → is_up s.state ≡ true → X
 over s down up = absurd (both_ways (is_up s.state) (down-not_up s.state down) up)
 
+-- While an ordinary pair's link is up each turn keeps flags and doorbell left to land for each entry without flags.
 pub lined_kept : (plan : Plan) (lane : LaneName) (s : Sight) (made : Answered) (news : News) (t : Sight) → IsRaw plan lane ≡ false → Turn plan lane s made news t → EmptyOf s
     → (is_up s.state ≡ true → LinedOf lane.queue s) → is_up t.state ≡ true → LinedOf lane.queue t
 lined_kept plan lane s made news t no_raw (Trains may) empty h up = record { ringing = false; left = 0; is = ap (λ flight. ticks_of lane.queue flight ++ []) (empty may.down).0; count = refl }
@@ -215,7 +216,7 @@ pub record IsWatched (ticks : List Bool) (pending : Bool) (flagged got : ℕ) (p
 abbrev pub WatchedOf : ℕ → Sight → Type 0
 WatchedOf q s = IsWatched (left_of q s) (has_bit s.receiver.pending q) s.lane.flagged s.lane.got s.lane.phase
 
--- the same ticks, or more behind them, and no doorbell less
+-- the same ticks, or more after them, and no doorbell less
 watched_by : (before after : List Bool) (pending still : Bool) (flagged got : ℕ) (phase : Phase) → ((rest : List Bool) → before ≡ false ∷ rest → (more : List Bool) × (after ≡ false ∷ more))
     → (pending ≡ true → still ≡ true) → IsWatched before pending flagged got phase → IsWatched after still flagged got phase
 watched_by before after pending still flagged got phase ticks bells h = record {
@@ -252,6 +253,7 @@ watched_rung q queue s place may (inl e) h = record { idle = h.idle; why = inr (
 watched_rung q queue s place may (inr ne) h =
     watched_by (left_of q s) _ _ _ _ _ _ (λ rest is. (rest, ticks_without q s place (Bell queue) may (other_bell q queue ne) ∙ is)) (has-with_kept s.receiver.pending q queue) h
 
+-- Turns of a session keep a receiver that saw nothing idle, with none to take or a doorbell pending or next to land.
 pub watched_kept : (plan : Plan) (lane : LaneName) (s : Sight) (made : Answered) (news : News) (t : Sight) → IsRaw plan lane ≡ false → Turn plan lane s made news t → (news.starts ≡ false) → (saw : Bool)
     → (is_up s.state ≡ true → LinedOf lane.queue s × (saw ≡ true → WatchedOf lane.queue s)) → news.sees saw ≡ true → is_up t.state ≡ true → WatchedOf lane.queue t
 watched_kept plan lane s made news t no_raw (Rests looked) no_start saw h sees up = (h up).1 (still_saw looked saw sees)

@@ -280,6 +280,7 @@ flags_run plan lane no_raw = record {
   };
 }
 
+-- On an ordinary pair flags in flight are those of the first entries that have none landed, which aren't taken.
 pub flags_known : (plan : Plan) (memories : Memories) (steps : List Step) (lane : LaneName) → IsRaw plan lane ≡ false → FlagsKnown lane.queue (sight lane.from lane.queue (ledger_of plan memories steps lane.pair))
 flags_known plan memories steps lane no_raw = always_after plan lane _ (flags_run plan lane no_raw) memories steps
 

@@ -327,6 +327,7 @@ outbox_run plan k side no_raw = record {
   other = λ log pair made ne h. outbox-last plan k side log made ∙ told-elsewhere plan k side (outbox_after plan k side log) made.step made.answer ne ∙ h;
 }
 
+-- On an ordinary pair a side has in flight what it posted on a link that was up, less what landed or was dropped.
 pub in_flight_is_posted : InFlightIsPosted
 in_flight_is_posted plan memories steps pair side no_raw =
     ap (λ (now : Outbox). now.flight) (sym (log_after plan pair AnyStep _ (outbox_run plan pair side no_raw) memories steps (all_fit steps)))

@@ -567,8 +567,10 @@ down_after plan memories steps (Ack p side queue) ordinary = (neither_after plan
 down_after plan memories steps (Wake p side queue dev) ordinary = (neither_after plan memories steps (Wake p side queue dev) refl).1
 down_after plan memories steps step ordinary = refl
 
+-- On an ordinary pair a look that may be made is answered `empty` exactly where all entries flagged were cleared.
 pub empty_where_nothing_landed : EmptyWhereNothingLanded
 empty_where_nothing_landed plan memories steps step answer ordinary goes = ap is_empty_answer (answer_of plan memories steps step answer goes) ∙ empty_after plan memories steps step ordinary
 
+-- On an ordinary pair a look that may be made is `peerdown` exactly where the next landed flags say link-down.
 pub peer_down_where_down_landed : PeerDownWhereDownLanded
 peer_down_where_down_landed plan memories steps step answer ordinary goes = ap is_peer_down (answer_of plan memories steps step answer goes) ∙ down_after plan memories steps step ordinary

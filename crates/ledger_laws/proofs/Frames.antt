@@ -15,7 +15,7 @@ frames_from n rest (GoesDown ∷ entries) = frames_from n rest entries
 frames_from n rest (Carries bytes zero ∷ entries) = record { number = n; bytes = rest ++ bytes } ∷ frames_from (n + 1) [] entries
 frames_from n rest (Carries bytes (suc left) ∷ entries) = frames_from n (rest ++ bytes) entries
 
--- the number of the next frame behind entries, and the bytes of the frame that is under way there
+-- the number of the next frame after entries, and the bytes of the frame that is under way there
 abbrev pub number_after : ℕ → List Entry → ℕ
 number_after n [] = n
 number_after n (GoesDown ∷ entries) = number_after n entries
@@ -28,18 +28,21 @@ rest_after rest (GoesDown ∷ entries) = rest_after rest entries
 rest_after rest (Carries bytes zero ∷ entries) = rest_after [] entries
 rest_after rest (Carries bytes (suc left) ∷ entries) = rest_after (rest ++ bytes) entries
 
+-- The frames of two lists of entries, joined, are the first's and then the second's, going on where the first ends.
 pub frames-append : (n : ℕ) (rest : List ℕ) (xs ys : List Entry) → frames_from n rest (xs ++ ys) ≡ frames_from n rest xs ++ frames_from (number_after n xs) (rest_after rest xs) ys
 frames-append n rest [] ys = refl
 frames-append n rest (GoesDown ∷ xs) ys = frames-append n rest xs ys
 frames-append n rest (Carries bytes zero ∷ xs) ys = ap (λ frames. record { number = n; bytes = rest ++ bytes } ∷ frames) (frames-append (n + 1) [] xs ys)
 frames-append n rest (Carries bytes (suc left) ∷ xs) ys = frames-append n (rest ++ bytes) xs ys
 
+-- The number of the next frame after two joined lists of entries is counted through one and then the other.
 pub number-append : (n : ℕ) (xs ys : List Entry) → number_after n (xs ++ ys) ≡ number_after (number_after n xs) ys
 number-append n [] ys = refl
 number-append n (GoesDown ∷ xs) ys = number-append n xs ys
 number-append n (Carries bytes zero ∷ xs) ys = number-append (n + 1) xs ys
 number-append n (Carries bytes (suc left) ∷ xs) ys = number-append n xs ys
 
+-- The bytes of a frame under way after two joined lists of entries are gathered through one and then the other.
 pub rest-append : (rest : List ℕ) (xs ys : List Entry) → rest_after rest (xs ++ ys) ≡ rest_after (rest_after rest xs) ys
 rest-append rest [] ys = refl
 rest-append rest (GoesDown ∷ xs) ys = rest-append rest xs ys
@@ -62,6 +65,7 @@ numbered-front : (n : ℕ) (xs rest : List Numbered) → NumberedFrom n (xs ++ r
 numbered-front n [] rest numbers = tt
 numbered-front n (x ∷ xs) rest numbers = (numbers.0, numbered-front (n + 1) xs rest numbers.1)
 
+-- The first frames of a list that is numbered in a row are numbered in a row from the same number on.
 pub numbered-begin : (n : ℕ) (xs ys : List Numbered) → Begins xs ys → NumberedFrom n ys → NumberedFrom n xs
 numbered-begin n xs ys begins numbers = numbered-front n xs begins.0 (subst (NumberedFrom n) begins.1 numbers)
 
@@ -73,6 +77,7 @@ times-below n m (x ∷ xs) numbers below =
     let rest : times_of n xs ≡ 0 = times-below n (m + 1) xs numbers.1 (omega arith) in
     subst (λ b. (if b then 1 else 0) + times_of n xs ≡ 0) (sym other) (omega arith)
 
+-- Among frames that are numbered in a row no number stands twice.
 pub times-once : (n m : ℕ) (xs : List Numbered) → NumberedFrom m xs → times_of n xs < 2
 times-once n m [] numbers = omega arith
 times-once n m (x ∷ xs) numbers = elim (cases_eq x.number n) [
@@ -90,6 +95,7 @@ pub record CarriesAt (xs : List Entry) (n : ℕ) : Type 0 where
   pub left : ℕ
   pub there : slice_index_or xs n GoesDown ≡ Carries bytes left
 
+-- A place at which an entry carries a frame's bytes is below the list's length.
 pub carries-within : (xs : List Entry) (n : ℕ) → CarriesAt xs n → n < length xs
 carries-within [] n at = absurd (let e = at.there in cc)
 carries-within (x ∷ xs) zero at = omega arith

@@ -42,7 +42,7 @@ same_frames {before} e = GoOn (e ∙ sym (append-nil before))
 pub record Begun (up : Bool) (sent waiting coming : List Entry) (told : ℕ) : Type 0 where
   -- they are those that wait, until the sender has forgotten the session
   pub to_come : (coming ≡ waiting) ⊎ ((waiting ≡ []) × (up ≡ false))
-  -- each frame has its number, and nothing rests behind the last
+  -- each frame has its number, and nothing rests after the last
   pub told_is : number_after 0 (sent ++ coming) ≡ told
   pub whole : rest_after [] (sent ++ coming) ≡ []
 
@@ -75,7 +75,7 @@ pub record BegunNext (news : News) (s t : Sight) (coming : List Entry) : Type 0 
   pub begun : BegunOf t after
   pub grows : Grows news.accepted (taken_of s coming) news.starts (taken_of t after)
 
--- a frame of one number more, behind whole frames
+-- a frame of one number more, after whole frames
 record Behind (sent pieces : List Entry) (told : ℕ) (bytes : List ℕ) : Type 0 where
   number : number_after 0 (sent ++ pieces) ≡ told + 1
   rest : rest_after [] (sent ++ pieces) ≡ []
@@ -94,6 +94,7 @@ frame_behind sent pieces told bytes number rest one = record {
 pub alone : {X : Type 0} (read : List Entry → X) (sent coming : List Entry) → coming ≡ [] → read sent ≡ read (sent ++ coming)
 alone read sent coming none = ap read (sym (append-nil sent) ∙ ap (λ more. sent ++ more) (sym none))
 
+-- On an ordinary pair each turn adds the frames that it accepts to those of the lane's entries, or begins a session.
 pub begun_kept : (plan : Plan) (lane : LaneName) (s : Sight) (made : Answered) (news : News) (t : Sight) → IsRaw plan lane ≡ false → Turn plan lane s made news t
     → (coming : List Entry) → BegunOf s coming → BegunNext news s t coming
 begun_kept plan lane s made news t no_raw (Trains may) coming h = record { after = []; begun = record { to_come = inl refl; told_is = refl; whole = refl }; grows = Anew refl refl }
@@ -227,6 +228,7 @@ receives_at after now later h = record {
   ];
 }
 
+-- A receiver that is idle isn't copying.
 pub idle-not_copying : (phase : Phase) → is_idle phase ≡ true → is_copying phase ≡ false
 idle-not_copying Idle e = refl
 idle-not_copying Copying e = absurd (false≢true e)
@@ -245,6 +247,7 @@ cleared-not_copying Copying e = absurd (false≢true e)
 cleared-not_copying Copied e = refl
 cleared-not_copying Cleared e = refl
 
+-- A set of bits that is 0 has no bit.
 pub empty_set : (bits q : ℕ) → bits ≡ 0 → has_bit bits q ≡ false
 empty_set bits q none = elim (cases_Bool (has_bit bits q)) [ inl has ↦ absurd (no_bit bits q none has) | inr hasnt ↦ hasnt ]
 
@@ -296,7 +299,7 @@ receives_between done gathered below done_is is = record {
   has = inl (record { between = λ _. is; copying = λ c. absurd (false≢true c) });
 }
 
--- the entry taken has others of its frame behind it, or not
+-- the entry taken has others of its frame after it, or not
 module _ (n : ℕ) (rest : List ℕ) (xs : List Entry) (bytes : List ℕ) where
   some_left : (left : ℕ) → nat_lt 0 left ≡ true
       → (number_after n (xs ++ Carries bytes left ∷ []) ≡ number_after n xs) × (rest_after rest (xs ++ Carries bytes left ∷ []) ≡ rest_after rest xs ++ bytes)
@@ -314,6 +317,7 @@ module _ (n : ℕ) (rest : List ℕ) (xs : List Entry) (bytes : List ℕ) where
   none_left zero last = (number-append n xs (Carries bytes zero ∷ []), rest-append rest xs (Carries bytes zero ∷ []), frames-append n rest xs (Carries bytes zero ∷ []))
   none_left (suc left) last = absurd (let none = ltb-false 0 (suc left) last in omega arith)
 
+-- On an ordinary pair each turn adds the frames that it delivers to those of the entries taken, or begins a session.
 pub receives_kept : (plan : Plan) (lane : LaneName) (s : Sight) (made : Answered) (news : News) (t : Sight) → IsRaw plan lane ≡ false → Turn plan lane s made news t
     → ReceivesOf lane.queue s → ReceivesNext lane.queue news s t
 receives_kept plan lane s made news t no_raw (Trains may) h = record {
@@ -478,9 +482,11 @@ run_fresh plan lane session =
       lists = record { past = λ _. record { prefix = ([], refl); numbers = tt }; current = λ _. (refl, refl); later = λ _. (refl, refl) };
     })
 
+-- On an ordinary pair the log's frames of a session are those of the lane's entries, at the start and by each turn.
 pub lane_runs : (plan : Plan) (lane : LaneName) (session : ℕ) → IsRaw plan lane ≡ false → HoldsAlways plan lane (LaneRun plan lane session)
 lane_runs plan lane session no_raw = record { fresh = run_fresh plan lane session; turns = run_kept plan lane session no_raw }
 
+-- On an ordinary pair a lane delivers in each session a prefix of what it accepted there, both numbered from 0 on.
 pub every_log_is_in_order : EveryLogIsInOrder
 every_log_is_in_order plan memories steps lane session no_raw =
     let run = always_after plan lane (LaneRun plan lane session) (lane_runs plan lane session no_raw) memories steps in
@@ -493,6 +499,7 @@ every_log_is_in_order plan memories steps lane session no_raw =
       delivered_numbers = numbered-begin 0 (delivered plan log lane session) (accepted plan log lane session) ordered.prefix ordered.numbers;
     }
 
+-- On an ordinary pair no frame number is delivered twice on a lane in a session.
 pub every_frame_comes_once : EveryFrameComesOnce
 every_frame_comes_once plan memories steps lane session n no_raw =
     times-once n 0 (delivered plan (log_of plan memories steps) lane session) (every_log_is_in_order plan memories steps lane session no_raw).delivered_numbers

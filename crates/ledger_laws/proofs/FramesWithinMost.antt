@@ -31,7 +31,7 @@ IsWithinMost most frame = length frame.bytes ≤ most
 abbrev AreWithinMost : ℕ → List Numbered → Type 0
 AreWithinMost most frames = AllByRecursion (IsWithinMost most) frames
 
--- bytes of a frame that goes on in entries behind which none is under way
+-- bytes of a frame that goes on in entries after which none is under way
 rest_within : (most n : ℕ) (rest : List ℕ) (xs : List Entry) → AreWithinMost most (frames_from n rest xs) → rest_after rest xs ≡ [] → length rest ≤ most
 rest_within most n rest [] all whole = let none = ap length whole in omega (arith, none)
 rest_within most n rest (GoesDown ∷ xs) all whole = rest_within most n rest xs all whole
@@ -96,6 +96,7 @@ frame_runs plan lane no_raw = record {
 
 -- The laws
 
+-- On an ordinary pair a receiver that copies knows its entry's length, and a frame under way never gets too long.
 pub receiver_knows_its_frame : ReceiverKnowsItsFrame
 receiver_knows_its_frame plan memories steps name no_raw =
     let s = sight name.from name.queue (ledger_of plan memories steps name.pair) in
@@ -114,6 +115,7 @@ receiver_knows_its_frame plan memories steps name no_raw =
       ];
     }
 
+-- On an ordinary pair no more entries of a lane were given back than were begun.
 pub freed_were_begun : FreedWereBegun
 freed_were_begun plan memories steps pair from queue no_raw =
     let lane : LaneName = record { pair = pair; from = from; queue = queue } in

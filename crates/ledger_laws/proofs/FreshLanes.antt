@@ -50,6 +50,7 @@ pub not_one_down : {sender receiver : Bool} → (sender ≡ true) × (receiver �
 not_one_down {sender} {receiver} both (inl down) = both_ways sender down both.0
 not_one_down {sender} {receiver} both (inr down) = both_ways receiver down both.1
 
+-- Where it is not so that one of two sides is down, both are up.
 pub both_up : (sender receiver : Bool) → (OneDown sender receiver → ⊥) → (sender ≡ true) × (receiver ≡ true)
 both_up sender receiver none = (
   elim (cases_Bool sender) [ inl up ↦ up | inr down ↦ absurd (none (inl down)) ],
@@ -71,9 +72,11 @@ OneLate state clean peer_clean up peer_up = IsLate state clean up ⊎ IsLate sta
 abbrev pub LateOf : Sight → Type 0
 LateOf s = OneLate s.state s.sender.clean s.receiver.clean s.sender.up s.receiver.up
 
+-- While the link isn't down, a side that isn't up has not come up in a session that it hasn't forgotten.
 pub late_up : (state : LinkState) {clean up : Bool} → is_down state ≡ false → up ≡ false → IsLate state clean up
 late_up state {clean} above not_up = record { not_forgotten = ap (λ b. b && clean) above; not_up = not_up }
 
+-- While the link isn't down and not both sides are up, one has not come up in a session that it hasn't forgotten.
 pub one_late : (state : LinkState) {clean peer_clean up peer_up : Bool} → is_down state ≡ false → OneDown up peer_up → OneLate state clean peer_clean up peer_up
 one_late state above (inl down) = inl (late_up state above down)
 one_late state above (inr down) = inr (late_up state above down)
@@ -134,9 +137,11 @@ module _ (q : ℕ) (s : Sight) where
   pub not_in_phase : (test : Phase → Bool) → test Idle ≡ false → test s.lane.phase ≡ true → FreshOf q s → LateOf s → ⊥
   not_in_phase test elsewhere turn h one = both_ways (test s.lane.phase) (ap (λ (l : LanePart). test l.phase) (h one).fresh ∙ elsewhere) turn
 
+-- An index write on a queue is read there as the number of the entry that it gives back.
 pub own_index : (q n : ℕ) → index_of q (Index q n) ≡ Some n
 own_index q n = cond-true (q == q) (Some n) None (eq-eqb q q refl)
 
+-- On an ordinary pair each turn keeps a lane fresh, nothing of it in flight, until both sides came up in the session.
 pub fresh_kept : (plan : Plan) (lane : LaneName) (s : Sight) (made : Answered) (news : News) (t : Sight) → IsRaw plan lane ≡ false → Turn plan lane s made news t
     → EmptyOf s → (LiveOf s → JoinsOf s) → FreshOf lane.queue s → FreshOf lane.queue t
 fresh_kept plan lane s made news t no_raw (Trains may) empty joins h = λ one. record {
@@ -205,6 +210,7 @@ pub record SidesKnown (q : ℕ) (s : Sight) : Type 0 where
 abbrev pub started : PairPlan → Bool → PairPart
 started plan up = record (fresh_pair plan) { link = fresh_link up; sides = (if up then record { a = agreed_side plan.a plan.b; b = agreed_side plan.b plan.a } else both_of idle_side) }
 
+-- Before any step queues are ready only on a side that is up, and joined only where both sides are up.
 pub joins_at_start : (plan : PairPlan) (from : Side) (q : ℕ) (up : Bool) → JoinsOf (sight from q (started plan up))
 joins_at_start plan A q true = (facts_up _ _ _ _, facts_up _ _ _ _)
 joins_at_start plan B q true = (facts_up _ _ _ _, facts_up _ _ _ _)
@@ -232,6 +238,7 @@ sides_at_start plan from q up empty = record {
   fresh = fresh_at_start plan from q up;
 }
 
+-- On an ordinary pair ordinary steps keep a lane fresh, and no queue joined, from the start until both sides are up.
 pub sides_run : (plan : Plan) (lane : LaneName) → IsRaw plan lane ≡ false → HoldsOn plan lane (IsOrdinaryOn lane.pair) (λ log s ring. SidesKnown lane.queue s)
 sides_run plan lane no_raw = record {
   fresh = sides_at_start own lane.from lane.queue own.up (λ down. (fresh-flight own lane.from, fresh-flight own (other_side lane.from)));
@@ -248,6 +255,7 @@ sides_run plan lane no_raw = record {
 
 -- The law
 
+-- On an ordinary pair a lane is fresh, nothing of it in flight, while a side has not come up in its session.
 pub no_entry_before_both_up : NoEntryBeforeBothUp
 no_entry_before_both_up plan memories steps pair side from queue no_raw ordinary late =
     let lane : LaneName = record { pair = pair; from = from; queue = queue } in

@@ -32,31 +32,38 @@ count_by-last p xs x = sum_by-append (λ y. if p y then 1 else 0) xs (x ∷ []) 
 
 -- What is read of a list, with one more at its end, or at its front, and without the one at a place
 
+-- What is read of a list with one item more is what was read of it, and then what is read of that item.
 pub filter_map-last : {X Y : Type 0} (read : X → Option Y) (xs : List X) (x : X) → filter_map read (xs ++ x ∷ []) ≡ filter_map read xs ++ cons_option (read x) []
 filter_map-last read xs x = filter_map-append read xs (x ∷ [])
 
+-- An item that reads as nothing, put at a list's end, leaves what is read of the list as it was.
 pub push_none : {X Y : Type 0} (read : X → Option Y) (xs : List X) (x : X) → read x ≡ None → filter_map read (xs ++ x ∷ []) ≡ filter_map read xs
 push_none read xs x e = filter_map-last read xs x ∙ ap (λ o. filter_map read xs ++ cons_option o []) e ∙ append-nil (filter_map read xs)
 
+-- An item that reads as some value, put at a list's end, puts that value at the end of what is read.
 pub push_some : {X Y : Type 0} (read : X → Option Y) (xs : List X) (x : X) (y : Y) → read x ≡ Some y → filter_map read (xs ++ x ∷ []) ≡ filter_map read xs ++ y ∷ []
 push_some read xs x y e = filter_map-last read xs x ∙ ap (λ o. filter_map read xs ++ cons_option o []) e
 
+-- Where a list's first item reads as some value, that value is first in what is read of the list.
 pub first_some : {X Y : Type 0} (read : X → Option Y) (x : X) (xs : List X) (y : Y) → read x ≡ Some y → filter_map read (x ∷ xs) ≡ y ∷ filter_map read xs
 first_some read x xs y e = ap (λ o. cons_option o (filter_map read xs)) e
 
+-- Where a list's first item reads as nothing, what is read of the list is what is read of the others.
 pub first_none : {X Y : Type 0} (read : X → Option Y) (x : X) (xs : List X) → read x ≡ None → filter_map read (x ∷ xs) ≡ filter_map read xs
 first_none read x xs e = ap (λ o. cons_option o (filter_map read xs)) e
 
--- a list is what stands before a place, the item there, and what stands behind it
+-- a list is what stands before a place, the item there, and what stands after it
 pub split_whole : {X : Type 0} (xs : List X) (place : ℕ) (x : X) → slice_get xs place ≡ Some x → xs ≡ take place xs ++ x ∷ drop (suc place) xs
 split_whole [] place x at = absurd (none-some x at)
 split_whole (y ∷ ys) zero x at = ap (λ first. first ∷ ys) (same_Some y x at)
 split_whole (y ∷ ys) (suc place) x at = ap (λ others. y ∷ others) (split_whole ys place x at)
 
+-- Where an item between two lists reads as some value, that value stands between what is read of the two.
 pub middle_some : {X Y : Type 0} (read : X → Option Y) (before behind : List X) (x : X) (y : Y) → read x ≡ Some y
     → filter_map read (before ++ x ∷ behind) ≡ filter_map read before ++ y ∷ filter_map read behind
 middle_some read before behind x y e = filter_map-append read before (x ∷ behind) ∙ ap (λ o. filter_map read before ++ cons_option o (filter_map read behind)) e
 
+-- Removing an item that reads as nothing from a list leaves what is read of the list as it was.
 pub filter_map-remove : {X Y : Type 0} (read : X → Option Y) (xs : List X) (place : ℕ) (x : X) → slice_get xs place ≡ Some x → read x ≡ None
     → filter_map read (remove xs place) ≡ filter_map read xs
 filter_map-remove read [] place x e none = absurd (cc)
@@ -75,6 +82,7 @@ some_read {Y = Y} read (z ∷ xs) (suc place) x y at some none = some_read read 
 
 -- A strict write lands first of those of its class
 
+-- The item at a place of a mapped list is the function's value of the item at that place.
 pub get-map : {X Y : Type 0} (f : X → Y) (xs : List X) (place : ℕ) (x : X) → slice_get xs place ≡ Some x → slice_get (map f xs) place ≡ Some (f x)
 get-map f [] place x e = absurd (none-some x e)
 get-map f (y ∷ xs) zero x e = ap (λ z. Some (f z)) (same_Some y x e)
@@ -117,6 +125,7 @@ module _ {Y : Type 0} (read : Label → Option Y) (own : PairPlan) (side : Side)
 
 -- What an end posts and what lands, as far as it is read
 
+-- A posted write that reads as nothing leaves what is read of a flight as it was.
 pub posted_unread : {Y : Type 0} (read : Label → Option Y) (state : LinkState) (flight : List Label) (label : Label) → read label ≡ None
     → filter_map read (flight_with state flight label) ≡ filter_map read flight
 posted_unread read state flight label none = go (is_up state)
@@ -125,6 +134,7 @@ posted_unread read state flight label none = go (is_up state)
     go true = push_none read flight label none
     go false = refl
 
+-- A posted write that reads as some value puts it at the end of what is read of a flight, if the link is up.
 pub posted_read : {Y : Type 0} (read : Label → Option Y) (state : LinkState) (flight : List Label) (label : Label) (y : Y) → read label ≡ Some y
     → filter_map read (flight_with state flight label) ≡ (if is_up state then filter_map read flight ++ y ∷ [] else filter_map read flight)
 posted_read {Y} read state flight label y some = go (is_up state)
@@ -133,9 +143,11 @@ posted_read {Y} read state flight label y some = go (is_up state)
     go true = push_some read flight label y some
     go false = refl
 
+-- On a link that is up a posted write is put at the end of the flight.
 pub posted_up : (state : LinkState) (flight : List Label) (label : Label) → is_up state ≡ true → flight_with state flight label ≡ flight ++ label ∷ []
 posted_up state flight label up = cond-true (is_up state) (flight ++ label ∷ []) flight up
 
+-- On a link that isn't up a posted write is lost and the flight stays as it was.
 pub posted_lost : (state : LinkState) (flight : List Label) (label : Label) → is_up state ≡ false → flight_with state flight label ≡ flight
 posted_lost state flight label down = cond-false (is_up state) (flight ++ label ∷ []) flight down
 
@@ -159,6 +171,7 @@ taken_empty : (e : Role) (place : ℕ) (s : Sight) → EmptyOf s → EmptyOf (ta
 taken_empty Sender place s h down = (ap (λ flight. remove flight place) (h down).0 ∙ remove-none place, (h down).1)
 taken_empty Receiver place s h down = ((h down).0, ap (λ flight. remove flight place) (h down).1 ∙ remove-none place)
 
+-- Each turn keeps it so that on a link that is down nothing is in flight either way.
 pub empty_kept : (plan : Plan) (lane : LaneName) (s : Sight) (made : Answered) (news : News) (t : Sight) → Turn plan lane s made news t → EmptyOf s → EmptyOf t
 empty_kept plan lane s made news t (Trains may) h = λ down. absurd (false≢true down)
 empty_kept plan lane s made news t (Breaks may) h = λ down. absurd (false≢true down)

@@ -33,6 +33,7 @@ declared_side : (pair : PairPlan) → IsPair pair → (side : Side) → IsSide (
 declared_side pair is A = is.side_a
 declared_side pair is B = is.side_b
 
+-- A side that a script can declare has version, queues, windows and sizes in the range that the law of a check needs.
 pub in_range : (side : SidePlan) → IsSide side → HasNumbersInRange side
 in_range side is = record {
   a_version = omega (arith, is.known_version.0);
@@ -159,6 +160,7 @@ agree_runs plan lane is =
 
 -- The laws
 
+-- After ordinary steps a side is up only if versions are from 4 on, queues and windows agree and its peer's fit.
 pub up_side_agrees : UpSideAgrees
 up_side_agrees plan memories steps pair side is ordinary up =
     let lane : LaneName = record { pair = pair; from = side; queue = 0 } in
@@ -168,6 +170,7 @@ up_side_agrees plan memories steps pair side is ordinary up =
 whole : (pair : PairPlan) → AgreesWith pair.a pair.b → AgreesWith pair.b pair.a → Agree pair
 whole pair first second = record { versions = first.versions; queues = second.queues; windows = second.windows; sizes = (second.size_fits, first.size_fits) }
 
+-- After ordinary steps a queue is joined only where the numbers of both sides agree and both sides' windows fit.
 pub joined_means_agreement : JoinedMeansAgreement
 joined_means_agreement plan memories steps pair side queue is ordinary has = go side has
   where

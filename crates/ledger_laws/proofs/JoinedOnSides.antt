@@ -74,6 +74,7 @@ up_runs plan lane = record {
   turns = λ log s made news t tells turn h. up_kept plan lane s made news t turn h;
 }
 
+-- After every log a queue is joined only on a side that is up.
 pub joined_side_is_up : JoinedSideIsUp
 joined_side_is_up plan memories steps pair side queue joined =
     let lane : LaneName = record { pair = pair; from = side; queue = queue } in
@@ -84,9 +85,11 @@ joined_side_is_up plan memories steps pair side queue joined =
 abbrev BusyOf : ℕ → Sight → Type 0
 BusyOf q s = is_busy s.lane ≡ true → has_bit s.sender.joined q ≡ true
 
+-- A lane that has a write left to post is busy.
 pub some_todo : (lane : LanePart) (label : Label) (rest : List Label) → lane.todo ≡ label ∷ rest → is_busy lane ≡ true
 some_todo lane label rest next = ap (λ todo. not (is_empty_list todo) || not (is_empty_list lane.waiting)) next
 
+-- A lane in which an entry waits, and no write is left to post, is busy.
 pub some_wait : (lane : LanePart) (entry : Entry) (others : List Entry) → lane.todo ≡ [] → lane.waiting ≡ entry ∷ others → is_busy lane ≡ true
 some_wait lane entry others none waits =
     ap (λ todo. not (is_empty_list todo) || not (is_empty_list lane.waiting)) none ∙ ap (λ waiting. not (is_empty_list waiting)) waits
@@ -109,6 +112,7 @@ busy_runs plan lane no_raw = record {
   turns = λ log s made news t tells turn h. busy_kept plan lane s made news t no_raw turn h;
 }
 
+-- On an ordinary pair a lane has something left to post only where its queue is joined at the sender.
 pub busy_sender_is_joined : BusySenderIsJoined
 busy_sender_is_joined plan memories steps pair side queue no_raw =
     let lane : LaneName = record { pair = pair; from = side; queue = queue } in always_after plan lane _ (busy_runs plan lane no_raw) memories steps
@@ -118,6 +122,7 @@ busy_sender_is_joined plan memories steps pair side queue no_raw =
 abbrev HoldsEntryOf : ℕ → Sight → Type 0
 HoldsEntryOf q s = is_idle s.lane.phase ≡ false → has_bit s.receiver.joined q ≡ true
 
+-- A receiver that is copying isn't idle.
 pub copying-not_idle : (phase : Phase) → is_copying phase ≡ true → is_idle phase ≡ false
 copying-not_idle Copying e = refl
 copying-not_idle phase e = absurd (false≢true e)
@@ -126,6 +131,7 @@ copied-not_idle : (phase : Phase) → is_copied phase ≡ true → is_idle phase
 copied-not_idle Copied e = refl
 copied-not_idle phase e = absurd (false≢true e)
 
+-- A receiver that has cleared an entry and not given it back isn't idle.
 pub cleared-not_idle : (phase : Phase) → is_cleared phase ≡ true → is_idle phase ≡ false
 cleared-not_idle Cleared e = refl
 cleared-not_idle phase e = absurd (false≢true e)
@@ -149,6 +155,7 @@ entry_runs plan lane no_raw = record {
   turns = λ log s made news t tells turn h. entry_kept plan lane s made news t no_raw turn h;
 }
 
+-- On an ordinary pair a receiver has an entry in hand only where the queue is joined on its side.
 pub busy_receiver_is_joined : BusyReceiverIsJoined
 busy_receiver_is_joined plan memories steps pair A queue no_raw =
     let lane : LaneName = record { pair = pair; from = B; queue = queue } in always_after plan lane _ (entry_runs plan lane no_raw) memories steps
@@ -298,5 +305,6 @@ all_fit : (steps : List Step) → AllByRecursion (λ step. Unit {0}) steps
 all_fit [] = tt
 all_fit (step ∷ steps) = (tt, all_fit steps)
 
+-- After every log a device is stopped only where its queue is joined on its side.
 pub stopped_device_is_joined : StoppedDeviceIsJoined
 stopped_device_is_joined plan memories steps pair side queue = pair_after plan pair _ StopsJoined (stops_hold plan pair) memories steps (all_fit steps) side queue

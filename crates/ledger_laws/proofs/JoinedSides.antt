@@ -36,9 +36,11 @@ IsLive state clean peer_clean = is_down state ≡ true → (clean ≡ false) × 
 abbrev pub LiveOf : Sight → Type 0
 LiveOf s = IsLive s.state s.sender.clean s.receiver.clean
 
+-- While the link isn't down the session is one that neither side has forgotten.
 pub live_up : (state : LinkState) {clean peer_clean : Bool} → is_down state ≡ false → IsLive state clean peer_clean
 live_up state up down = absurd (both_ways (is_down state) up down)
 
+-- A link that is closing isn't down.
 pub closing-not_down : (state : LinkState) → is_closing state ≡ true → is_down state ≡ false
 closing-not_down Down e = absurd (false≢true e)
 closing-not_down Up e = refl
@@ -163,12 +165,14 @@ new_facts pads flight new empty = record {
 pub facts_up : (ready joined pad : ℕ) (links : List ℕ) → EndFacts true true ready joined pad links
 facts_up ready joined pad links = record { ready_once_up = inr refl; joined_once_both = inr (refl, refl); pad_once_up = inr refl; posted_once_up = inr refl }
 
+-- An end with no queue ready or joined, nor seen or posted as ready, needs no side up for its facts to hold.
 pub facts_idle : (up other_up : Bool) → EndFacts up other_up 0 0 0 []
 facts_idle up other_up = record { ready_once_up = inl refl; joined_once_both = inl refl; pad_once_up = inl refl; posted_once_up = inl refl }
 
 dropped_facts : {up other_up : Bool} {ready joined pad : ℕ} {links : List ℕ} → EndFacts up other_up ready joined pad links → EndFacts up other_up ready joined pad []
 dropped_facts h = record { ready_once_up = h.ready_once_up; joined_once_both = h.joined_once_both; pad_once_up = h.pad_once_up; posted_once_up = inl refl }
 
+-- Until a side forgets the session, ordinary steps keep queues ready on sides that are up and joined where both are.
 pub joins_kept : (plan : Plan) (lane : LaneName) (s : Sight) (made : Answered) (news : News) (t : Sight) → IsOrdinaryOn lane.pair made.step → Turn plan lane s made news t
     → EmptyOf s → SettledOf s → (LiveOf s → JoinsOf s) → LiveOf t → JoinsOf t
 joins_kept plan lane s made news t ordinary (Trains may) empty settled h live = (

@@ -151,12 +151,14 @@ writes_many n entry =
 writes-number : (n : ℕ) (entry : Entry) → length (writes_of n entry) ≡ length (writes_of 0 entry)
 writes-number n entry = writes_many n entry ∙ sym (writes_many 0 entry)
 
+-- Each entry has at least one write.
 pub writes-some : (entry : Entry) → 0 < length (writes_of 0 entry)
 writes-some entry = let is = writes_many 0 entry in omega arith
 
 writes-alike : (n : ℕ) (entry : Entry) (q : ℕ) → length (labels_of q n entry) ≡ length (writes_of 0 entry)
 writes-alike n entry q = length-map (writes_of n entry) (label_of q entry) ∙ writes-number n entry
 
+-- A list of entries has as many writes as its first entry and the others have together.
 pub writes-more : (entry : Entry) (others : List Entry) → writes_in (entry ∷ others) ≡ length (writes_of 0 entry) + writes_in others
 writes-more entry others = sum_by-cons (λ (e : Entry). length (writes_of 0 e)) entry others
 

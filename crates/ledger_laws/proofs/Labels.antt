@@ -30,6 +30,7 @@ filter_map-back f h back [] = refl
 filter_map-back f h back (x ∷ xs) =
     ap (λ o. cons_option o (filter_map h (map f xs))) (back x) ∙ ap (λ rest. x ∷ rest) (filter_map-back f h back xs)
 
+-- The labels of an entry's writes, read on their queue, are the entry's writes in order.
 pub writes_among-labels : (q n : ℕ) (entry : Entry) → writes_among q (labels_of q n entry) ≡ writes_of n entry
 writes_among-labels q n entry = filter_map-back (label_of q entry) (write_of q) (write_of-label q entry) (writes_of n entry)
 
@@ -38,6 +39,7 @@ pub bell_strict : (strict_pair : Bool) (q : ℕ) → kind_of strict_pair (Bell q
 bell_strict true q = refl
 bell_strict false q = refl
 
+-- An index write is strict on every pair.
 pub index_strict : (strict_pair : Bool) (q n : ℕ) → kind_of strict_pair (Index q n) ≡ strict
 index_strict true q n = refl
 index_strict false q n = refl
@@ -46,6 +48,7 @@ no_flag : {n : ℕ} (b : Bool) (write : Write) → (write ≡ EntryFlag n → �
 no_flag true write ne e = absurd (ne (same_Some _ _ e))
 no_flag false write ne e = absurd (none-some _ e)
 
+-- A label that means the flags of an entry is strict on every pair.
 pub flag_strict : (q : ℕ) (strict_pair : Bool) (label : Label) (n : ℕ) → write_of q label ≡ Some (EntryFlag n) → kind_of strict_pair label ≡ strict
 flag_strict q true label n is = refl
 flag_strict q false (Chunk p m part) n is = no_flag (p == q) (Data m (PayloadChunk part)) (λ e. cc) is
@@ -83,8 +86,10 @@ index_class own side q label n e = absurd (none-some n e)
 abbrev pub ReadsOneClass : {Y : Type 0} → (Label → Option Y) → PairPlan → Side → Label → Type 0
 ReadsOneClass {Y} read own side label = (other : Label) (y : Y) → read other ≡ Some y → (order_of own side other).class ≡ (order_of own side label).class
 
+-- All writes that a side posts of a queue's lane have one traffic class.
 pub writes_one_class : (own : PairPlan) (side : Side) (q : ℕ) (label : Label) (write : Write) → write_of q label ≡ Some write → ReadsOneClass (write_of q) own side label
 writes_one_class own side q label write is other y some = write_class own side q other y some ∙ sym (write_class own side q label write is)
 
+-- All index writes that a side posts on a queue have one traffic class.
 pub indexes_one_class : (own : PairPlan) (side : Side) (q : ℕ) (label : Label) (n : ℕ) → index_of q label ≡ Some n → ReadsOneClass (index_of q) own side label
 indexes_one_class own side q label n is other y some = index_class own side q other y some ∙ sym (index_class own side q label n is)

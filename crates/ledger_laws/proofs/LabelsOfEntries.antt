@@ -40,6 +40,7 @@ all_weaker : {P Q : Label → Type 0} → ((label : Label) → P label → Q lab
 all_weaker weaker [] all = tt
 all_weaker weaker (label ∷ labels) all = (weaker label all.0, all_weaker weaker labels all.1)
 
+-- What holds of all labels of a list holds of all that are left where one is removed.
 pub all_remove : (P : Label → Type 0) (labels : List Label) (place : ℕ) → AllByRecursion P labels → AllByRecursion P (remove labels place)
 all_remove P [] zero all = tt
 all_remove P [] (suc place) all = tt
@@ -53,6 +54,7 @@ all_posted P state flight label own all = go (is_up state)
     go true = all_push P flight label all own
     go false = all
 
+-- What holds of all labels of a list holds of the one at each place.
 pub all_get : (P : Label → Type 0) (labels : List Label) (place : ℕ) (label : Label) → AllByRecursion P labels → slice_get labels place ≡ Some label → P label
 all_get P [] place label all at = absurd (none-some label at)
 all_get P (first ∷ labels) zero label all at = subst P (same_Some first label at) all.0
@@ -252,6 +254,7 @@ labels_run plan lane no_raw =
 
 -- The law
 
+-- On an ordinary pair labels in flight or to post are of entries begun, and index writes of those acknowledged.
 pub labels_are_of_entries : LabelsAreOfEntries
 labels_are_of_entries plan memories steps pair side no_raw = record {
   in_flight = all_from_get (IsOfLane now side) (side_of now side).flight (each side);

@@ -191,6 +191,7 @@ module _ (plan : Plan) (k : ℕ) (is : IsPair (pair_plan plan k)) where
     steps = λ bytes part step may on todos good. good_next (reading_of Own bytes part) bytes part step may on todos good;
   }
 
+-- After permitted steps a label in flight is on a queue of its side, or of a scratchpad, or, if raw, within a window.
 pub labels_are_postable : LabelsArePostable
 labels_are_postable plan memories steps pair side is permitted =
     pair_after plan pair (IsPermitted plan) (Good (pair_plan plan pair)) (good_holds plan pair is) memories steps permitted side

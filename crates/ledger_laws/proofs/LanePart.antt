@@ -87,6 +87,7 @@ index_kind true q label n some = refl
 index_kind false q (Index p m) n some = refl
 index_kind false q label n some = absurd (none-some n some)
 
+-- A write that may land among all that a side has in flight may land in its lane's part, by the kinds alone.
 pub lane_part_lands : LanePartLands
 lane_part_lands plan side q flight place label at may = record {
   write = λ own is. lands_in (write_of q) (kind_of_write plan.strict) plan side label own is (writes_one_class plan side q label own is) (write_kind plan.strict q) flight place at may;

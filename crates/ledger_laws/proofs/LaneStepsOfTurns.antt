@@ -210,6 +210,7 @@ pub record BothUp (s : Sight) : Type 0 where
   pub sender : s.sender.up ≡ true
   pub receiver : s.receiver.up ≡ true
 
+-- While both sides of an ordinary pair are up, each turn of a lane is the steps of the lane's model that it tells.
 pub turn_moves : (plan : Plan) (lane : LaneName) (s : Sight) (made : Answered) (news : News) (t : Sight) (ring : RingPart) → 2 ≤ (SizesOf plan lane).entries → IsRaw plan lane ≡ false
     → Turn plan lane s made news t → SidesKnown lane.queue s → FitsOf (SizesOf plan lane).largest lane.queue s → LeavesOf (SizesOf plan lane).entries t
     → HoldsRingLaw (Shown (SizesOf plan lane) lane.queue s ring) → BothUp s → BothUp t

@@ -72,6 +72,7 @@ turn_begins plan lane s made news t (Forgets Sender may) sides not_yet up = absu
 turn_begins plan lane s made news t (Forgets Receiver may) sides not_yet up = absurd (false≢true up.receiver)
 turn_begins plan lane s made news t turn sides not_yet up = absurd (not_yet (record { sender = up.sender; receiver = up.receiver }))
 
+-- On an ordinary pair a lane is shown fresh where both sides start up, and by each step that brings both up.
 pub each_lane_begins_fresh : EachLaneBeginsFresh
 each_lane_begins_fresh plan memories name no_raw has_ring = record {
   at_start = λ up.

@@ -34,6 +34,7 @@ log_from-last plan memories before ledger (first ∷ steps) step =
     ∙ ap (λ log. rest ++ answered plan (memories log) (ledger_from plan memories (before ++ made ∷ []) after steps) step ∷ [])
     (append_assoc before (made ∷ []) rest))
 
+-- The log of one step more is the log before it, and then that step with the ledger's answer.
 pub log_of-last : (plan : Plan) (memories : Memories) (steps : List Step) (step : Step)
     → log_of plan memories (steps ++ step ∷ [])
     ≡ log_of plan memories steps ++ answered plan (memories (log_of plan memories steps)) (ledger_of plan memories steps) step ∷ []
@@ -51,6 +52,7 @@ ledger_from-last plan memories before ledger (first ∷ steps) step =
     ∙ ap (λ log. ledger_after plan (memories log) (ledger_from plan memories (before ++ made ∷ []) after steps) step)
     (append_assoc before (made ∷ []) (log_from plan memories (before ++ made ∷ []) after steps))
 
+-- The ledger of one step more is the one that the step leaves of the ledger before it.
 pub ledger_of-last : (plan : Plan) (memories : Memories) (steps : List Step) (step : Step)
     → ledger_of plan memories (steps ++ step ∷ []) ≡ ledger_after plan (memories (log_of plan memories steps)) (ledger_of plan memories steps) step
 ledger_of-last plan memories steps step = ledger_from-last plan memories [] (λ j. fresh_pair (pair_plan plan j)) steps step

@@ -11,6 +11,7 @@ use Rattle.ledger_model.specs.Log.{Answered, trains, breaks, up_after, made_in, 
 abbrev pub up_step : ℕ → Answered → Bool → Bool
 up_step k made now = if trains k made then true else if breaks k made then false else now
 
+-- Whether a link is up after one entry of the log more depends on that entry and on whether it was up before.
 pub up_after-last : (k : ℕ) (now : Bool) (log : List Answered) (made : Answered) → up_after k now (log ++ made ∷ []) ≡ up_step k made (up_after k now log)
 up_after-last k now [] made = refl
 up_after-last k now (first ∷ log) made = up_after-last k (up_step k first now) log made
@@ -20,6 +21,7 @@ abbrev pub session_at : ℕ → ℕ → List Answered → ℕ
 session_at k now [] = now
 session_at k now (made ∷ log) = session_at k (if trains k made then now + 1 else now) log
 
+-- With one entry of the log more a pair is in the next session if the entry trains it, and else in the same one.
 pub session_at-last : (k now : ℕ) (log : List Answered) (made : Answered)
     → session_at k now (log ++ made ∷ []) ≡ (if trains k made then session_at k now log + 1 else session_at k now log)
 session_at-last k now [] made = refl
@@ -69,6 +71,7 @@ anew-last read next k log made last = ap read (made_since-last k [] log made) �
     go true = refl
     go false = last (made_since k [] log)
 
+-- With one entry of the log more the last look wasn't empty if a session begins, and else it is as the entry says.
 pub last_look-last : (k : ℕ) (side : Side) (queue : ℕ) (log : List Answered) (made : Answered)
     → last_look_empty (log ++ made ∷ []) k side queue ≡ (if trains k made then false else saw_empty k side queue (last_look_empty log k side queue) (made ∷ []))
 last_look-last k side queue log made =
@@ -80,6 +83,7 @@ pub pad_after-last : (k : ℕ) (side : Side) (i : ℕ) (now : Option ℕ) (log :
 pad_after-last k side i now [] made = refl
 pad_after-last k side i now (first ∷ log) made = pad_after-last k side i (pad_after k side i now (first ∷ [])) log made
 
+-- With one entry of the log more nothing landed in a scratchpad if a session begins, else what the entry leaves.
 pub landed_pad-last : (k : ℕ) (side : Side) (i : ℕ) (log : List Answered) (made : Answered)
     → landed_pad (log ++ made ∷ []) k side i ≡ (if trains k made then None else pad_after k side i (landed_pad log k side i) (made ∷ []))
 landed_pad-last k side i log made =

@@ -78,6 +78,7 @@ module _ (devs : List DevPlan) (plan : PairPlan) (bytes : Bytes) (pair : PairPar
   like_next (Wake p side queue dev) = wake_cases Like Read (dev_plan devs dev) pair side queue (λ r no. refused_like r no.is) refl
   like_next step = refl
 
+-- On an ordinary pair no step is answered `verdiffers` or `long`.
 pub no_ordinary_ver_differs_or_long : NoOrdinaryVerDiffersOrLong
 no_ordinary_ver_differs_or_long plan memories steps step answer no_raw goes =
     let k = subject_of step in

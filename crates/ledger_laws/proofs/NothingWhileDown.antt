@@ -176,12 +176,14 @@ none_holds plan pair = record {
   steps = λ bytes part step fits on todos none. none_next plan.devs (pair_plan plan pair) (reading_of (pair_plan plan pair) bytes part) bytes part step none;
 }
 
+-- Nothing is in flight either way on a link that is down, before any step and after each turn.
 pub empty_runs : (plan : Plan) (lane : LaneName) → HoldsAlways plan lane (λ log s. EmptyOf s)
 empty_runs plan lane = record {
   fresh = λ down. (fresh-flight (pair_plan plan lane.pair) lane.from, fresh-flight (pair_plan plan lane.pair) (other_side lane.from));
   turns = λ log s made news t tells turn h. empty_kept plan lane s made news t turn h;
 }
 
+-- While a pair's link is down a side has nothing in flight, and no bytes of raw writes are kept.
 pub nothing_in_flight_while_down : NothingInFlightWhileDown
 nothing_in_flight_while_down plan memories steps pair side down =
     let lane : LaneName = record { pair = pair; from = side; queue = 0 } in record {

@@ -32,6 +32,7 @@ last_value i now [] = now
 last_value i now (Pad j value ∷ rest) = last_value i (if j == i then Some value else now) rest
 last_value i now (label ∷ rest) = last_value i now rest
 
+-- With one write more in a list its scratchpad has the value of that write, and any other what it had.
 pub last_value-last : (i : ℕ) (now : Option ℕ) (labels : List Label) (j value : ℕ) → last_value i now (labels ++ Pad j value ∷ []) ≡ (if j == i then Some value else last_value i now labels)
 last_value-last i now [] j value = refl
 last_value-last i now (Pad m v ∷ rest) j value = last_value-last i (if m == i then Some v else now) rest j value
@@ -46,12 +47,14 @@ all_at test [] n x all here = here
 all_at test (y ∷ xs) zero x all here = (and_parts (test y) (list_all test xs) all).0
 all_at test (y ∷ xs) (suc n) x all here = all_at test xs n x ((and_parts (test y) (list_all test xs) all).1) here
 
+-- A test that passes on all of each of two lists passes on all of them joined.
 pub all-append : {X : Type 0} (test : X → Bool) (xs ys : List X) → list_all test xs ≡ true → list_all test ys ≡ true → list_all test (xs ++ ys) ≡ true
 all-append test [] ys a b = b
 all-append test (x ∷ xs) ys a b =
     let parts = and_parts (test x) (list_all test xs) a in
     and_from (test x) (list_all test (xs ++ ys)) parts.0 (all-append test xs ys parts.1 b)
 
+-- A test that passes on each value of a function passes on all of a list mapped by it.
 pub list_all-map : {X Y : Type 0} (test : Y → Bool) (f : X → Y) (xs : List X) → ((x : X) → test (f x) ≡ true) → list_all test (map f xs) ≡ true
 list_all-map test f [] each = refl
 list_all-map test f (x ∷ xs) each = and_from (test (f x)) (list_all test (map f xs)) (each x) (list_all-map test f xs each)
@@ -71,7 +74,7 @@ windows-all test own n (suc m) each =
     and_from (test (Pad (high_pad n) (own.size / word))) _ here.0
     (and_from (test (Pad (low_pad n) (own.size % word))) _ here.1 (windows-all test own (suc n) m (λ k below. each k (omega arith))))
 
--- so with the three scratchpads behind them, of each write of an offer
+-- so with the three scratchpads after them, of each write of an offer
 offers-all : (test : Label → Bool) (own : SidePlan)
     → ((k : ℕ) → k < own.windows → (test (Pad (high_pad k) (own.size / word)) ≡ true) × (test (Pad (low_pad k) (own.size % word)) ≡ true)) → list_all test (last_three own) ≡ true
     → test (Pad 0 0) ≡ true → (n : ℕ) → test (slice_index_or (offers own) n (Pad 0 0)) ≡ true
@@ -79,6 +82,7 @@ offers-all test own each three none n =
     all_at test (offers own) n (Pad 0 0)
     (all-append test (windows_from own 0 own.windows) (last_three own) (windows-all test own 0 own.windows (λ k below. each k (omega arith))) three) none
 
+-- Each write that a side offers in the handshake is one of a scratchpad.
 pub offer-is_pad : (own : SidePlan) (n : ℕ) → is_pad (slice_index_or (offers own) n (Pad 0 0)) ≡ true
 offer-is_pad own n = offers-all is_pad own (λ k below. (refl, refl)) refl refl n
 
@@ -93,6 +97,7 @@ pub pad-index : (q : ℕ) (label : Label) → is_pad label ≡ true → index_of
 pad-index q (Pad i value) is = refl
 pad-index q label is = absurd (false≢true is)
 
+-- A write of a scratchpad is no write of a lane, whichever queue is asked for.
 pub pad-write : (q : ℕ) (label : Label) → is_pad label ≡ true → write_of q label ≡ None
 pad-write q (Pad i value) is = refl
 pad-write q label is = absurd (false≢true is)
@@ -103,6 +108,7 @@ abbrev label_offers : Label → Bool
 label_offers (Pad i value) = is_offer i
 label_offers label = false
 
+-- The two scratchpads that tell the size of one of four windows are among those of an offer.
 pub window_offers : (n : ℕ) → n < 4 → (is_offer (high_pad n) ≡ true) × (is_offer (low_pad n) ≡ true)
 window_offers n few = (
   and_from (nat_lt (high_pad n) 12) (not (high_pad n == 1)) (lt-ltb (high_pad n) 12 (omega arith)) (ap not (ne_eqb (high_pad n) 1 (λ e. omega arith))),
@@ -168,21 +174,26 @@ three-past own i now past =
     ∙ ap (λ b. if 0 == i then Some own.version else (if b then Some own.queues else now)) (ne_eqb 2 i (λ e. omega arith))
     ∙ ap (λ b. if b then Some own.version else now) (ne_eqb 0 i (λ e. omega arith))
 
+-- A whole offer leaves the version of its side in the scratchpad for it.
 pub offer-version : (own : SidePlan) → last_value version_pad None (offers own) ≡ Some own.version
 offer-version own = last_value-append version_pad None (windows_from own 0 own.windows) (last_three own)
 
+-- A whole offer leaves its side's number of queues in the scratchpad for it.
 pub offer-queues : (own : SidePlan) → last_value queues_pad None (offers own) ≡ Some own.queues
 offer-queues own = last_value-append queues_pad None (windows_from own 0 own.windows) (last_three own)
 
+-- A whole offer leaves its side's number of windows in the scratchpad for it.
 pub offer-windows : (own : SidePlan) → last_value windows_pad None (offers own) ≡ Some own.windows
 offer-windows own = last_value-append windows_pad None (windows_from own 0 own.windows) (last_three own)
 
+-- A whole offer leaves the upper word of the windows' size in each window's scratchpad for it.
 pub offer-high : (own : SidePlan) (w : ℕ) → w < own.windows → last_value (high_pad w) None (offers own) ≡ Some (own.size / word)
 offer-high own w below =
     last_value-append (high_pad w) None (windows_from own 0 own.windows) (last_three own)
     ∙ three-past own (high_pad w) _ (omega arith)
     ∙ windows-high own w 0 own.windows None (omega arith) (omega arith)
 
+-- A whole offer leaves the lower word of the windows' size in each window's scratchpad for it.
 pub offer-low : (own : SidePlan) (w : ℕ) → w < own.windows → last_value (low_pad w) None (offers own) ≡ Some (own.size % word)
 offer-low own w below =
     last_value-append (low_pad w) None (windows_from own 0 own.windows) (last_three own)

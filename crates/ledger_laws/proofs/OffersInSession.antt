@@ -159,6 +159,7 @@ no_offer : (label : Label) → is_handshake label ≡ false → offer_of label �
 no_offer (Pad i value) e = cond-false (is_offer i) (Some (Pad i value)) None (and_left (nat_lt i 12) _ e)
 no_offer label e = refl
 
+-- Until a side is up, ordinary steps keep the peer's offer so far in order: what landed, then what is in flight.
 pub session_kept : (plan : Plan) (lane : LaneName) (peer : SidePlan) (log : List Answered) (s : Sight) (made : Answered) (news : News) (t : Sight)
     → peer ≡ side_plan (pair_plan plan lane.pair) (other_side lane.from) → peer.windows ≤ 4 → IsOrdinaryOn lane.pair made.step
     → Tells plan lane s.lane made news → Turn plan lane s made news t → EmptyOf s → SettledOf s

@@ -11,10 +11,12 @@ pub data Each (P : Answer → Type 0) : Option Answer → Type 0 where
   Nothing : Each P None
   Just : {refusal : Answer} → P refusal → Each P (Some refusal)
 
+-- What holds of a test's refusal, and of what later tests refuse, holds of the first refusal among them.
 pub each_if : (P : Answer → Type 0) (b : Bool) (refusal : Answer) (later : Option Answer) → P refusal → Each P later → Each P (refuse_if b refusal later)
 each_if P true refusal later first rest = Just first
 each_if P false refusal later first rest = rest
 
+-- What holds of a step's refusal, if there is one, and of its answer holds of what the step is answered.
 pub each_decided : (P : Answer → Type 0) (old : PairPart) (refusal : Option Answer) (answer : Answer) (new : PairPart)
     → Each P refusal → P answer → P (decided old refusal answer new).answer
 each_decided P old refusal answer new Nothing made = made

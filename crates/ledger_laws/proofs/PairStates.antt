@@ -24,6 +24,7 @@ pub record HoldsOfPair (plan : Plan) (pair : ℕ) (Fits : Step → Type 0) (P : 
   pub fresh : P (fresh_pair (pair_plan plan pair))
   pub steps : (bytes : Bytes) (part : PairPart) (step : Step) → Fits step → subject_of step ≡ pair → OwnTodos part → P part → P (left_by plan pair bytes part step)
 
+-- What holds of a fresh pair, and no fitting step on it breaks, holds of the pair after every log of fitting steps.
 pub pair_after : (plan : Plan) (pair : ℕ) (Fits : Step → Type 0) (P : PairPart → Type 0) → HoldsOfPair plan pair Fits P → (memories : Memories) (steps : List Step) → AllByRecursion Fits steps
     → P (ledger_of plan memories steps pair)
 pair_after plan pair Fits P holds =

@@ -15,11 +15,13 @@ some_mapped : (f : ℕ → Entry) (n : ℕ) → 0 < n → (first : Entry) × (ot
 some_mapped f zero some = absurd (omega arith)
 some_mapped f (suc n) some = (f 0, map f (count_from 1 n), refl)
 
+-- Each frame is cut into one piece at least.
 pub has_pieces : (largest : ℕ) (bytes : List ℕ) → HasPieces largest bytes
 has_pieces largest bytes =
     let found = some_mapped (piece_of largest bytes) (pieces_in largest (length bytes)) (omega arith) in
     record { first = found.0; others = found.1; same = found.2 }
 
+-- A frame is cut into as many pieces as a frame of its length takes.
 pub length-pieces : (largest : ℕ) (bytes : List ℕ) → length (pieces_of largest bytes) ≡ pieces_in largest (length bytes)
 length-pieces largest bytes =
     length-map (count_from 0 (pieces_in largest (length bytes))) (piece_of largest bytes) ∙ length-count_from 0 (pieces_in largest (length bytes))

@@ -63,6 +63,7 @@ covered largest len none = elim (cases_eq largest 0) [
       omega (arith, all, small, enough)
 ]
 
+-- The pieces of a frame, joined, are that frame and no other, unless slots take no byte and the frame has some.
 pub pieces_one_frame : (largest : ℕ) (bytes : List ℕ) (n : ℕ) → (largest ≡ 0 → length bytes ≡ 0) → OneFrame n [] (pieces_of largest bytes) bytes
 pieces_one_frame largest bytes n none = go (pieces_in largest (length bytes)) (omega arith) (covered largest (length bytes) none)
   where

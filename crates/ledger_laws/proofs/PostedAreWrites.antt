@@ -399,5 +399,6 @@ posted_runs plan lane = record {
       ∙ h open_yet;
 }
 
+-- Until a sender forgets the session, the writes posted and then those left to post are its entries' in order.
 pub posted_are_writes : PostedAreWrites
 posted_are_writes plan memories steps lane = log_after plan lane.pair AnyStep (HasPosted lane) (posted_runs plan lane) memories steps (all_fit steps)

@@ -71,6 +71,7 @@ watch_fresh plan lane =
 watch_runs : (plan : Plan) (lane : LaneName) → IsRaw plan lane ≡ false → HoldsAlways plan lane (WatchKnown lane)
 watch_runs plan lane no_raw = record { fresh = watch_fresh (pair_plan plan lane.pair) lane; turns = watch_kept plan lane no_raw }
 
+-- On an ordinary pair all that was accepted was delivered once nothing is under way to a receiver that saw so.
 pub quiet_means_done : QuietMeansDone
 quiet_means_done plan memories steps pair side queue no_raw quiet = record {
   all_taken = done.0;

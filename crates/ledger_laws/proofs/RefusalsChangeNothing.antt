@@ -62,6 +62,7 @@ module _ (devs : List DevPlan) (plan : PairPlan) (reading : Reading) (bytes : By
   refused_next (Relay p side queue switch port) = λ h. refl
   refused_next (Xnext p side queue dev) = λ h. refl
 
+-- A step that is refused leaves every pair as it was, but for a device's count of refusals.
 pub refusals_change_nothing : RefusalsChangeNothing
 refusals_change_nothing plan memories steps step answer pair goes refused =
     ap (λ (ledger : Ledger). ledger pair) (ledger_of-last plan memories steps step)

@@ -1,4 +1,5 @@
--- A step is refused as not ready, closed or busy exactly where its driver knows it.
+-- A step is refused as not ready, closed or busy exactly where its driver knows it. A look alone is answered `empty` or
+-- `peerdown`.
 use Rattle.std.proofs.Common.{◌≡◌, ℕ, ◌+◌, ◌==◌, Bool, true, false, not, ◌&&◌, ◌||◌, Option, Some, None, List, [], ◌∷◌, ◌++◌, length, map, refl, sym, ap, ◌∙◌, arith}
 use Rattle.std.specs.Prelude.{if◌then◌else◌, find, nat_lt, slice_get}
 use Rattle.std.proofs.lemmas.Bool.{cond_both, lt-ltb, true≢false}
@@ -550,6 +551,7 @@ abbrev is_queue_look : Step → Bool
 is_queue_look (Look p side queue) = true
 is_queue_look step = false
 
+-- A step that is no look is answered neither `empty` nor `peerdown`.
 pub neither_after : (plan : Plan) (memories : Memories) (steps : List Step) (step : Step) → is_queue_look step ≡ false
     → Neither (outcome_in plan (memories (log_of plan memories steps)) (ledger_of plan memories steps) step).answer
 neither_after plan memories steps (Look p side queue) e = absurd (true≢false e)
@@ -574,11 +576,14 @@ neither_after plan memories steps (Ack p side queue) e = (others_none plan memor
 neither_after plan memories steps (Wake p side queue dev) e = (others_none plan memories steps (Wake p side queue dev) refl).1.1.1
 neither_after plan memories steps step e = (refl, refl)
 
+-- A send or look that no link stops is `notready` exactly if its queue isn't joined, and a join if it isn't ready.
 pub not_ready_where_not_joined : NotReadyWhereNotJoined
 not_ready_where_not_joined plan memories steps step answer goes = ap is_not_ready (answer_of plan memories steps step answer goes) ∙ not_ready_after plan memories steps step
 
+-- A step that sends or looks is `closed` exactly where the link doesn't stop it and its queue is joined and closed.
 pub closed_where_closed : ClosedWhereClosed
 closed_where_closed plan memories steps step answer goes = ap is_closed (answer_of plan memories steps step answer goes) ∙ closed_after plan memories steps step
 
+-- A step that sends is `busy` exactly where its side may send, its frame fits and the log has writes left to post.
 pub busy_where_left_to_post : BusyWhereLeftToPost
 busy_where_left_to_post plan memories steps step answer goes = ap is_busy_answer (answer_of plan memories steps step answer goes) ∙ busy_after plan memories steps step

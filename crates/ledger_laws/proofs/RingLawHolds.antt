@@ -70,6 +70,7 @@ word_fresh sizes plan B q false two here = absurd (false≢true here)
 
 -- Each run
 
+-- A queue's area that has room for a ring has room for at least two entries.
 pub two_entries : (l : Layout) → HasRing l → 2 ≤ entries_of l
 two_entries l h =
     let some : 0 < frame_size l = omega (arith, h.header_fits) in
@@ -77,6 +78,7 @@ two_entries l h =
     let halves : ring_bytes l / 2 * 2 ≤ ring_bytes l = div-mul-le_self (ring_bytes l) 2 in
     (le-div_iff_mul-le {k = frame_size l} {x = 2} {y = ring_bytes l} some).1 (omega arith)
 
+-- On an ordinary pair the facts of a lane's ring of two slots or more hold at the start and by each ordinary step.
 pub ring_runs : (plan : Plan) (lane : LaneName) → 2 ≤ (SizesOf plan lane).entries → IsRaw plan lane ≡ false → HoldsOn plan lane (IsOrdinaryOn lane.pair) (RingKnown plan lane)
 ring_runs plan lane two no_raw = record {
   fresh = record {
@@ -102,16 +104,19 @@ ring_runs plan lane two no_raw = record {
 
 -- The laws
 
+-- On an ordinary pair the law of the ring holds of a lane while its receiver is up, with the tail for index word.
 pub ring_law_of_receiver : RingLawOfReceiver
 ring_law_of_receiver plan memories steps name no_raw ordinary has_ring up =
     let two = two_entries (layout_of (pair_plan plan name.pair) name.from name.queue) has_ring in
     (holds_after plan name (IsOrdinaryOn name.pair) _ (ring_runs plan name two no_raw) memories steps ordinary).law up
 
+-- On an ordinary pair the index word is the tail of the entries given back while the sender's side is up.
 pub index_word_is_tail : IndexWordIsTail
 index_word_is_tail plan memories steps name no_raw ordinary has_ring up =
     let two = two_entries (layout_of (pair_plan plan name.pair) name.from name.queue) has_ring in
     (holds_after plan name (IsOrdinaryOn name.pair) _ (ring_runs plan name two no_raw) memories steps ordinary).word up
 
+-- On an ordinary pair the law of the ring holds of each lane that has a ring while both sides are up.
 pub ring_law_holds : RingLawHolds
 ring_law_holds plan memories steps name no_raw ordinary has_ring sender_up receiver_up =
     let pair = pair_plan plan name.pair in

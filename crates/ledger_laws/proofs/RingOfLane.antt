@@ -105,6 +105,7 @@ cleared_sized sizes ring n two sized =
       ];
     }
 
+-- Where no entry was given back, the tail of a ring of two slots or more is its last slot.
 pub tail_at_start : (entries : ℕ) → 2 ≤ entries → entries - 1 ≡ tail_of entries 0
 tail_at_start entries two =
     let e : 0 + entries - 1 ≡ entries - 1 = omega arith in
@@ -123,18 +124,22 @@ law_at_start sizes q up writes indexes lane ring two sized fresh no_flags =
 
 -- Changes of a lane of which the law speaks
 
+-- A phase that passes the test for idle is `Idle`.
 pub phase_idle : (phase : Phase) → is_idle phase ≡ true → phase ≡ Idle
 phase_idle Idle e = refl
 phase_idle phase e = absurd (false≢true e)
 
+-- A phase that passes the test for copying is `Copying`.
 pub phase_copying : (phase : Phase) → is_copying phase ≡ true → phase ≡ Copying
 phase_copying Copying e = refl
 phase_copying phase e = absurd (false≢true e)
 
+-- A phase that passes the test for copied is `Copied`.
 pub phase_copied : (phase : Phase) → is_copied phase ≡ true → phase ≡ Copied
 phase_copied Copied e = refl
 phase_copied phase e = absurd (false≢true e)
 
+-- A phase that passes the test for cleared is `Cleared`.
 pub phase_cleared : (phase : Phase) → is_cleared phase ≡ true → phase ≡ Cleared
 phase_cleared Cleared e = refl
 phase_cleared phase e = absurd (false≢true e)
@@ -278,6 +283,7 @@ new_at_train s q down own peer sides = (
   (sides.settled.1.new_once_clean down (sides.settled.1.clean_once_enabled down peer)).not_up,
 )
 
+-- On an ordinary pair turns keep the law of a lane's ring while the receiver is up, with the tail for index word.
 pub law_kept : (plan : Plan) (lane : LaneName) (s : Sight) (made : Answered) (news : News) (t : Sight) (ring : RingPart) → 2 ≤ (SizesOf plan lane).entries → IsRaw plan lane ≡ false
     → Turn plan lane s made news t → SidesKnown lane.queue s → FitsOf (SizesOf plan lane).largest lane.queue s → LeavesOf (SizesOf plan lane).entries t → IsSized (SizesOf plan lane) ring.ring
     → LawOf (SizesOf plan lane) lane.queue s ring → LawOf (SizesOf plan lane) lane.queue t (news.ring (SizesOf plan lane) ring)
@@ -342,6 +348,7 @@ law_kept plan lane s made news t ring two no_raw (Clears may) sides fits leaves 
 law_kept plan lane s made news t ring two no_raw (Acks may) sides fits leaves sized h up = acks (SizesOf plan lane) lane.queue s ring may.turn (h up)
 law_kept plan lane s made news t ring two no_raw turn sides fits leaves sized h up = h up
 
+-- On an ordinary pair each turn keeps the index word at the tail of the entries given back while the sender is up.
 pub word_kept : (plan : Plan) (lane : LaneName) (s : Sight) (made : Answered) (news : News) (t : Sight) (ring : RingPart) → 2 ≤ (SizesOf plan lane).entries → IsRaw plan lane ≡ false
     → Turn plan lane s made news t → SidesKnown lane.queue s → WordOf (SizesOf plan lane) s ring → WordOf (SizesOf plan lane) t (news.ring (SizesOf plan lane) ring)
 word_kept plan lane s made news t ring two no_raw (Trains may) sides h up =
@@ -360,6 +367,7 @@ write_up : (q : ℕ) {own : PairPlan} {side : Side} (s : Sight) (place : ℕ) (l
 write_up q s place label write may is sides =
     (both_up s.sender.up s.receiver.up (λ one. no_write q s place label write may is sides.fresh (one_late s.state (not_down_with s Sender place label sides.empty may) one))).1
 
+-- Each turn keeps it so that a lane's ring has all its slots, each with room for the largest payload.
 pub sized_kept : (plan : Plan) (lane : LaneName) (s : Sight) (made : Answered) (news : News) (t : Sight) (ring : RingPart) → 2 ≤ (SizesOf plan lane).entries → Turn plan lane s made news t
     → SidesKnown lane.queue s → LawOf (SizesOf plan lane) lane.queue s ring → IsSized (SizesOf plan lane) ring.ring → IsSized (SizesOf plan lane) (news.ring (SizesOf plan lane) ring).ring
 sized_kept plan lane s made news t ring two (Checks Sender may) sides h sized = sized

@@ -82,6 +82,7 @@ waits_none : (q : ℕ) (up : Bool) (freed acked : ℕ) (back : List Label) → b
 waits_none q up freed acked back empty within all_up =
     record { waiting = 0; indexes = ap (indexes_among q) empty; within = omega arith; all_up = λ up. let e = all_up up in omega arith }
 
+-- An index write that lands first of its lane's is of the first entry not given back, and leaves the others in a row.
 pub waits_freed : (q : ℕ) (up : Bool) (freed acked n : ℕ) (back after : List Label) → indexes_among q back ≡ n ∷ indexes_among q after → (h : Waits q up freed acked back) → (waiting : ℕ)
     → h.waiting ≡ waiting → (n ≡ freed) × Waits q up (n + 1) acked after
 waits_freed q up freed acked n back after head h zero e = absurd (let p = sym head ∙ h.indexes ∙ ap (count_from freed) e in cc)
@@ -163,6 +164,7 @@ takes_at sent got phase after elsewhere h = record { within = h.within; copying 
 takes_next : (sent : List Entry) (got : ℕ) (phase : Phase) → is_copying phase ≡ true → Takes sent got phase → Takes sent (got + 1) Copied
 takes_next sent got phase turn h = record { within = let w = carries-within sent got (h.copying turn) in omega arith; copying = λ copies. absurd (false≢true copies) }
 
+-- On an ordinary pair each turn keeps a receiver within the entries begun, and from copying a link-down entry.
 pub takes_kept : (plan : Plan) (lane : LaneName) (s : Sight) (made : Answered) (news : News) (t : Sight) → IsRaw plan lane ≡ false → Turn plan lane s made news t → TakesOf s → TakesOf t
 takes_kept plan lane s made news t no_raw (Trains may) h = record { within = omega arith; copying = λ copies. absurd (false≢true copies) }
 takes_kept plan lane s made news t no_raw (Forgets Receiver may) h = takes_at _ _ _ _ refl h
@@ -191,6 +193,7 @@ CountsOf plan lane log s = Counts plan lane log (begun_in s.lane) s.lane.freed
 abbrev pub IsOpen : Sight → Type 0
 IsOpen s = (is_down s.state && s.sender.clean) ≡ false
 
+-- While the link isn't down the sender hasn't forgotten its session.
 pub open_above : (s : Sight) → is_down s.state ≡ false → IsOpen s
 open_above s above = ap (λ b. b && s.sender.clean) above
 
@@ -278,6 +281,7 @@ pub record RoomKnown (plan : Plan) (lane : LaneName) (log : List Answered) (s : 
   pub takes : TakesOf s
   pub counts : IsOpen s → CountsOf plan lane log s
 
+-- On an ordinary pair each turn keeps the facts of a ring's room, among them the log's counts of entries.
 pub room_kept : (plan : Plan) (lane : LaneName) → IsRaw plan lane ≡ false → (log : List Answered) (s : Sight) (made : Answered) (news : News) (t : Sight) → Tells plan lane s.lane made news
     → Turn plan lane s made news t → RoomKnown plan lane log s → RoomKnown plan lane (log ++ made ∷ []) t
 room_kept plan lane no_raw log s made news t tells turn h = record {

@@ -32,7 +32,7 @@ use Rattle.ledger_laws.proofs.StoppedByLog.{room_while_stopped, stopped_known}
 
 -- The tests of a side that sends, one after another
 
--- what is found behind those that don't depend on what is sent
+-- what is found after those that don't depend on what is sent
 sender_last : (is : Answer → Bool) → is LinkDown ≡ false → is NotReady ≡ false → is Closed ≡ false → (up joined shut found : Bool) (later : Option Answer) → first_is is later ≡ found
     → first_is is (refuse_if (not up) LinkDown (refuse_if (not joined) NotReady (refuse_if shut Closed later))) ≡ ((up && (joined && not shut)) && found)
 sender_last is a b c false joined shut found later last = a
@@ -173,7 +173,7 @@ module _ (plan : Plan) (memories : Memories) (steps : List Step) where
   others : (step : Step) → sends step ≡ false → Not (After step)
   others step e = others_not plan.devs (pair_plan plan (subject_of step)) (Read (subject_of step)) (Bytes_of (subject_of step)) (Pair (subject_of step)) step e
 
-  -- what is found of each of the three steps, by the tests behind the first ones
+  -- what is found of each of the three steps, by the tests after the first ones
   begin_found : (is : Answer → Bool) → is LinkDown ≡ false → is NotReady ≡ false → is Closed ≡ false → ((n : ℕ) → is (OkNumber n) ≡ false) → (found : Bool)
       → (p : ℕ) (side : Side) (queue : ℕ) (frame : List ℕ)
       → ((len most head tail : ℕ) → first_is is (Frame (Long p side queue frame) (IsBusy p side queue) (Full p side queue (pieces_in (sizes_of (pair_plan plan p) side queue).largest (length frame))) len most head tail) ≡ found)
@@ -327,11 +327,14 @@ module _ (plan : Plan) (memories : Memories) (steps : List Step) where
   again_after (Ack p side queue) no_raw = not_again (After (Ack p side queue)) (others (Ack p side queue) refl)
   again_after step no_raw = refl
 
+-- A step that sends is `toolong` exactly where its side may send by the log and its frame is longer than any may be.
 pub too_long_where_frame_is_long : TooLongWhereFrameIsLong
 too_long_where_frame_is_long plan memories steps step answer goes = ap is_too_long (answer_of plan memories steps step answer goes) ∙ long_after plan memories steps step
 
+-- On an ordinary pair a frame past earlier tests, or a wake short of room, is `stopped` just if the log stops it.
 pub stopped_where_ring_was_low : StoppedWhereRingWasLow
 stopped_where_ring_was_low plan memories steps step answer no_raw goes = ap is_stopped_answer (answer_of plan memories steps step answer goes) ∙ stopped_after plan memories steps step no_raw
 
+-- On an ordinary pair a step past all earlier tests is `again` exactly where the log has less room than it needs.
 pub again_where_ring_is_full : AgainWhereRingIsFull
 again_where_ring_is_full plan memories steps step answer no_raw goes = ap is_again (answer_of plan memories steps step answer goes) ∙ again_after plan memories steps step no_raw

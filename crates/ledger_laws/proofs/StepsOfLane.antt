@@ -61,6 +61,7 @@ ring_of-last : (plan : Plan) (memories : Memories) (name : LaneName) (steps : Li
 ring_of-last plan memories name steps step =
     ring_from-last plan memories name [] (start plan) (fresh_ring (SizesOf plan name) (pair_plan plan name.pair).up) steps step
 
+-- While both sides of an ordinary pair are up, each step is the steps of the lane's model that its answer says.
 pub each_step_is_of_the_lane : EachStepIsOfTheLane
 each_step_is_of_the_lane plan memories steps step answer name no_raw ordinary has_ring up still goes =
     subst (λ (given : Answer). MovesByLaneSteps (change_of name (record { step = step; answer = given })) Before Then) (sym (answer_of plan memories steps step answer goes))

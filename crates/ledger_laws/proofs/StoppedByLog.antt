@@ -265,6 +265,7 @@ pub stopped_known : (plan : Plan) (memories : Memories) (steps : List Step) (own
     → is_stopped_in plan (log_of plan memories steps) own ≡ (dev_of (ledger_of plan memories steps own.pair) own.from own.queue).stopped
 stopped_known plan memories steps own no_raw = (log_after plan own.pair AnyStep (StopKnown plan own) (stop_runs plan own no_raw) memories steps (all_fit steps)).stopped
 
+-- While a device of an ordinary pair is stopped, the ledger has as many entries free in its ring as the log counts.
 pub room_while_stopped : (plan : Plan) (memories : Memories) (steps : List Step) (own : LaneName) → IsRaw plan own ≡ false
     → (dev_of (ledger_of plan memories steps own.pair) own.from own.queue).stopped ≡ true
     → free_of (SizesOf plan own) (lane_of (ledger_of plan memories steps own.pair) own.from own.queue) ≡ room_in plan (log_of plan memories steps) own

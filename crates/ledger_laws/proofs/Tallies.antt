@@ -25,13 +25,16 @@ use Rattle.ledger_laws.proofs.walk.Turn.{Turn, Trains, Begins, CopiesLast, more_
 abbrev pub added : ℕ → ℕ → List Numbered → List Numbered
 added session now frames = if now == session then frames else []
 
+-- Adding no frames to a list, under any condition, leaves it as it was.
 pub added-none : (b : Bool) (xs frames : List Numbered) → frames ≡ [] → xs ++ (if b then frames else []) ≡ xs
 added-none true xs frames e = ap (λ more. xs ++ more) e ∙ append-nil xs
 added-none false xs frames e = append-nil xs
 
+-- Frames made while the pair is in a session are added to the list of that session.
 pub added-now : (session now : ℕ) (xs frames more : List Numbered) → now ≡ session → frames ≡ more → xs ++ added session now frames ≡ xs ++ more
 added-now session now xs frames more e f = ap (λ b. xs ++ (if b then frames else [])) (eq-eqb now session e) ∙ ap (λ ys. xs ++ ys) f
 
+-- Frames made while the pair is in another session add nothing to a session's list.
 pub added-elsewhere : (session now : ℕ) (xs frames : List Numbered) → (now ≡ session → ⊥) → xs ++ added session now frames ≡ xs
 added-elsewhere session now xs frames ne = ap (λ b. xs ++ (if b then frames else [])) (ne_eqb now session ne) ∙ append-nil xs
 
@@ -42,6 +45,7 @@ tally-now tally more session now e = ap (λ b. if b then more (tally now) else t
 tally-elsewhere : (tally : ℕ → Tally) (counted : Tally) (session now : ℕ) → (now ≡ session → ⊥) → updated tally now counted session ≡ tally session
 tally-elsewhere tally counted session now ne = ap (λ b. if b then counted else tally session) (ne_eqb session now (λ e. ne (sym e)))
 
+-- What holds of two lists of frames holds of two that are equal to them.
 pub of_lists : (P : List Numbered → List Numbered → Type 0) {a b c d : List Numbered} → a ≡ b → c ≡ d → P b d → P a c
 of_lists P {a} {b} {c} {d} e f lists = subst (λ x. P x c) (sym e) (subst (λ x. P b x) (sym f) lists)
 
@@ -80,6 +84,7 @@ more_found plan lane session log made now is read =
     found_in-last read lane.pair session (first_session plan lane.pair) log made
     ∙ ap (λ n. flat_map read (made_in lane.pair session (first_session plan lane.pair) log) ++ (if n == session then read made else [])) is
 
+-- Each turn keeps the session that is read off the log equal to the one that the lane has in sight.
 pub now_kept : (plan : Plan) (lane : LaneName) (log : List Answered) (s : Sight) (made : Answered) (news : News) (t : Sight) → Tells plan lane s.lane made news → Turn plan lane s made news t
     → session_at lane.pair (first_session plan lane.pair) log ≡ s.session → session_at lane.pair (first_session plan lane.pair) (log ++ made ∷ []) ≡ t.session
 now_kept plan lane log s made news t tells turn now =
@@ -93,6 +98,7 @@ no_tally_at : (plan : PairPlan) (from : Side) (queue session : ℕ) → tally_of
 no_tally_at plan A queue session = refl
 no_tally_at plan B queue session = refl
 
+-- Before any step a pair is in session 1 where it is declared up, and else in session 0.
 pub fresh_now : (up : Bool) (plan : PairPlan) → plan.up ≡ up → (if plan.up then 1 else 0) ≡ (fresh_pair plan).link.session
 fresh_now true plan e = rw e refl
 fresh_now false plan e = rw e refl
@@ -107,6 +113,7 @@ tally_runs plan lane session = record {
   };
 }
 
+-- The ledger's tally of a lane and session has the numbers of frames that the log accepted and delivered there.
 pub tallies_are_counts : TalliesAreCounts
 tallies_are_counts plan memories steps lane session = (always_after plan lane (TallyRun plan lane session) (tally_runs plan lane session) memories steps).tallied
 
@@ -128,6 +135,7 @@ session_runs plan lane = record {
   turns = λ log s made news t tells turn now. now_kept plan lane log s made news t tells turn now;
 }
 
+-- A pair's session is its first one plus the number of trains of the pair that were made in the log.
 pub sessions_are_counts : SessionsAreCounts
 sessions_are_counts plan memories steps pair =
     sym (always_after plan any _ (session_runs plan any) memories steps) ∙ session_at-counts pair (first_session plan pair) (log_of plan memories steps)

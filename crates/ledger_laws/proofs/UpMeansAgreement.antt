@@ -61,6 +61,7 @@ handshake_fresh plan lane peer = record {
     go false A = ((settled_new _ _, settled_new _ _), λ up no_check. false≢true up)
     go false B = ((settled_new _ _, settled_new _ _), λ up no_check. false≢true up)
 
+-- With four windows at most at the peer, the handshake's facts hold of a side at the start and by ordinary steps.
 pub handshake_runs : (plan : Plan) (lane : LaneName) → (side_plan (pair_plan plan lane.pair) (other_side lane.from)).windows ≤ 4
     → HoldsOn plan lane (IsOrdinaryOn lane.pair) (λ log s ring. HandshakeKnown lane (side_plan (pair_plan plan lane.pair) (other_side lane.from)) log s)
 handshake_runs plan lane few = record {
@@ -99,6 +100,7 @@ versions_passed seen own e = elim (cases_Bool (seen == own)) [
       inr (ltb-false seen 4 both.0, ltb-false own 4 both.1)
 ]
 
+-- A check that passes found the link up, versions that agree, equal queues and windows, and no size too large.
 pub has_found : (own : SidePlan) (part : SidePart) (up : Bool) → check_refusal own part up ≡ None → HasFound own part up
 has_found own part up none =
     let a = passed (not up) LinkDown _ none in
@@ -187,6 +189,7 @@ pub all_front : {X : Type 0} (P : X → Type 0) (xs : List X) (x : X) → AllByR
 all_front P [] x all = tt
 all_front P (y ∷ xs) x all = (all.0, all_front P xs x all.1)
 
+-- After ordinary steps a check answered `up` has the peer's whole offer landed in the session, and it agrees.
 pub up_means_agreement : UpMeansAgreement
 up_means_agreement plan memories steps pair side sides within ordinary goes =
     let now = ledger_of plan memories steps pair in

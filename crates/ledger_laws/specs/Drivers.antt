@@ -148,7 +148,8 @@ finds_long plan log (Xbegin pair side queue dev dst kind payload) =
     may_begin plan log own && not (fits_queue plan own (ethernet_frame dst (dev_plan plan.devs dev).address kind payload))
 finds_long plan log step = false
 
--- `notready`, `closed`, `toolong` and `busy` come exactly there, before whatever stands behind them in the order of the step's tests
+-- `notready`, `closed`, `toolong` and `busy` come exactly there, before whatever stands after them in the order of the
+-- step's tests
 abbrev pub RefusedAs : (Answer → Bool) → (Plan → List Answered → Step → Bool) → Type 0
 RefusedAs is_refusal foreseen = (plan : Plan) (memories : Memories) (steps : List Step) (step : Step) (answer : Answer) → GoesOn plan memories steps step answer →
     is_refusal answer ≡ foreseen plan (log_of plan memories steps) step

@@ -20,8 +20,9 @@ kind_of_write false write = strict
 abbrev pub by_kind : ℕ → Order
 by_kind kind = record { kind = kind; class = 0 }
 
--- Of a list in flight the part of a lane is what is read of it. The write at a place of the list, which is read as `own`, stands in the
--- part behind what is read of those before it; it may land there by the kinds alone; and as it lands the part loses it and nothing else.
+-- Of a list in flight the part of a lane is what is read of it. The write at a place of the list, which is read as
+-- `own`, stands in the part after what is read of those before it; it may land there by the kinds alone; and as it
+-- lands the part loses it and nothing else.
 pub record LandsInPart {Y : Type 0} (read : Label → Option Y) (kind : Y → ℕ) (flight : List Label) (place : ℕ) (own : Y) : Type 0 where
   pub stands : slice_get (filter_map read flight) (length (filter_map read (take place flight))) ≡ Some own
   pub lands : may_land (map (λ write. by_kind (kind write)) (filter_map read flight)) (length (filter_map read (take place flight))) ≡ true

@@ -11,6 +11,7 @@ rests_same : (xs xs' ys ys' : List ℕ) → length xs ≡ length xs' → xs ++ y
 rests_same xs xs' ys ys' len e =
     sym (drop_at xs ys (length xs') len) ∙ ap (drop (length xs')) e ∙ drop_at xs' ys' (length xs') refl
 
+-- Equal Ethernet frames have equal addresses, kinds and payloads, if addresses have six bytes and kinds fit in two.
 pub frame_says_its_parts : FrameSaysItsParts
 frame_says_its_parts dst dst' src src' kind kind' payload payload' fits fits' e =
     let front = kind / 256 ∷ kind % 256 ∷ payload in

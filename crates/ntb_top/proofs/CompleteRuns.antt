@@ -87,6 +87,7 @@ whole_content command before after status content reads honest run whole =
     let all : run.bytes ≡ content = sym (taken.1 ∙ ap (λ rest. run.bytes ++ rest) none ∙ append-nil run.bytes) in
     record { output = whole.output; answers = subst (λ (bytes : List ℕ). IsReplyOf command bytes whole.output) all reply; status_is = whole.status_is; text = whole.text }
 
+-- Where source and sink don't fail, a command that reads answers the whole script in full, or is out of memory.
 pub runs_complete : RunsComplete
 runs_complete command before after status content reads honest run = elim run.ends [
   | inl whole ↦ inl (whole_content command before after status content reads honest run whole)
@@ -103,6 +104,7 @@ runs_complete command before after status content reads honest run = elim run.en
 of_words : (words : List (List ℕ)) (command : Option Command) (before after : Outside) (status : ℕ) → HasAnswered (is_reading command) (IsAnswerTo command) before after status → command ≡ Some Replay → HasAnswered true (IsAnswerTo (Some Replay)) before after status
 of_words words command before after status run is = subst (λ (c : Option Command). HasAnswered (is_reading c) (IsAnswerTo c) before after status) is run
 
+-- Where source and sink don't fail, `replay` of a faultless script writes its whole report, or is out of memory.
 pub replays_complete : ReplaysComplete
 replays_complete words before after status content plan replay honest declares run =
     elim (runs_complete Replay before after status content refl honest (of_words words (command_of words) before after status run replay)) [

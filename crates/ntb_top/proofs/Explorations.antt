@@ -41,6 +41,7 @@ all_written bytes before after output (Ok plan) is (inr many) zero text =
 all_written bytes before after output (Err fault) is answer zero text =
     absurd (subst (λ (output : Output). output.status ≡ 0 → ⊥) (sym answer) (λ zero. omega arith) zero)
 
+-- Where `explore` ends with status 0, it has written all outcomes of the plan that it read, and the number of states.
 pub explorations_true : ExplorationsAreTrue
 explorations_true words before after is run =
     let whole = run.headline refl in

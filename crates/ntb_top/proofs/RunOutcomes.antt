@@ -41,6 +41,7 @@ err_known P (Some content) read is h = h is
 pub not_failed : {X : Type 0} (read : Result X ReadError) → read ≡ Err ReadTooLong → IsErrOf read ReadFault → ⊥
 not_failed read long failed = absurd (cc (long, failed))
 
+-- The input of a command that reads is too long where the source gave one byte past the limit and didn't fail.
 pub input_too_long : (reading : Bool) (before after : Given) → reading ≡ true → IfSome before.left (λ content. most_script_bytes < length content) →
     IfSome before.left (λ content. after.left ≡ Some (drop (most_script_bytes + 1) content)) → HasGivenAtMost (most_script_bytes + 1) before.left after.left →
     after.faults ≡ before.faults → HasInput reading before after (Ok TooLong)

@@ -45,7 +45,7 @@ pub record EndsCut (IsAnswer : Output → Type 0) (before after : Outside) (stat
   pub cause : Rose before.write_faults after.write_faults
   pub text : HoldsPart before.held after.held output.text
 
--- want of memory
+-- out of memory
 pub record EndsWanting (before after : Outside) (status : ℕ) : Type 0 where
   pub status_is : status ≡ number_of OutOfMemory
   pub silent : IsSilent before after
@@ -59,7 +59,7 @@ abbrev pub IsAtEnd : Option (List ℕ) → Type 0
 IsAtEnd None = Unit {0}
 IsAtEnd (Some left) = left ≡ []
 
--- the run neither failed to read nor wanted memory
+-- the run neither failed to read nor ran out of memory
 abbrev pub HasReply : ℕ → Type 0
 HasReply status = (status ≡ number_of SourceFailed → ⊥) × (status ≡ number_of OutOfMemory → ⊥)
 
@@ -73,7 +73,7 @@ pub record HasAnswered (reading : Bool) (IsAnswer : List ℕ → Output → Type
   pub unread : reading ≡ false → (bytes ≡ []) × (after.read_faults ≡ before.read_faults)
   -- one that does reads the source to its end, unless it is too long
   pub whole : reading ≡ true → HasReply status → length bytes ≤ most_script_bytes → IsAtEnd after.left
-  -- it ends with an answer to these bytes, or fails outside, or wants memory
+  -- it ends with an answer to these bytes, or fails outside, or is out of memory
   pub ends : Ends reading (IsAnswer bytes) before after status
   -- no fault is swallowed: the source's count rose only with status 4, and the sink's only with 5
   pub source_kept : (status ≡ number_of SourceFailed → ⊥) → after.read_faults ≡ before.read_faults

@@ -11,7 +11,7 @@ use table_lane::LaneProof;
 /// What a run of the program answers.
 #[derive(Drop)]
 pub struct Ended {
-    /// The exit status, 0 or 2 to 7.
+    /// The exit status, 0 or 2 to 8.
     pub status: u8,
     /// The record whose text was written, where `run` ended with status 0; none in every other case.
     pub runs: Option<RunRecord>,

@@ -104,6 +104,7 @@ fits pair declared side from =
       room = header.1;
     }
 
+-- Each queue of a side of a pair that a script can declare has a ring to send to and one to receive in.
 pub each_queue_has_a_ring : EachQueueHasARing
 each_queue_has_a_ring pair side queue declared among =
     (placed (layout_of pair side queue) among (fits pair declared side side), placed (layout_to pair side queue) among (fits pair declared side (other_side side)))

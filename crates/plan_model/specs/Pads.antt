@@ -8,8 +8,8 @@ use Rattle.step_kinds.specs.declared.steps.Label.{Label}
 use Rattle.step_kinds.specs.declared.steps.Label.TheVariants.{Pad}
 use Rattle.lane_model.specs.Lane.{count_from}
 
--- the numbers of the scratchpads that the handshake uses: each is behind the one before, and the halves of the windows' sizes
--- are behind all these
+-- the numbers of the scratchpads that the handshake uses: each is after the one before, and the halves of the windows'
+-- sizes are after all these
 abbrev pub version_pad : ℕ
 version_pad = 0
 

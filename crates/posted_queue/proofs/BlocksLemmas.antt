@@ -1,4 +1,4 @@
--- Writes in front, and others behind them.
+-- Writes in front, and others after them.
 use Rattle.std.proofs.Common.{◌≡◌, ℕ, ◌≤◌, ◌-◌, true, false, ◌||◌, List, ◌++◌, length, take, Option, Some, None, slice_get, sym, ap, ◌∙◌, arith}
 use Rattle.std.specs.List.{remove}
 use Rattle.std.specs.Option.{OnSome}
@@ -15,15 +15,17 @@ behind-is_held_back order waits_for front rest place far =
     ap (is_held_back order waits_for) (take-append_far front rest place far)
     ∙ is_held_back-append order waits_for front (take (place - length front) rest)
 
+-- A write after the front is held back in the whole list where some write of the front holds it back.
 pub behind-held : {W : Type 0} (order : W → Order) (waits_for : Option ℕ) (front rest : List W) (place : ℕ) → length front ≤ place → is_held_back order waits_for front ≡ true → is_held_back order waits_for (take place (front ++ rest)) ≡ true
 behind-held order waits_for front rest place far held = behind-is_held_back order waits_for front rest place far ∙ or_left _ _ held
 
+-- A write after the front that no write of the front holds back is held back just as among the rest.
 pub behind-free : {W : Type 0} (order : W → Order) (waits_for : Option ℕ) (front rest : List W) (place : ℕ) → length front ≤ place → is_held_back order waits_for front ≡ false → is_held_back order waits_for (take place (front ++ rest)) ≡ is_held_back order waits_for (take (place - length front) rest)
 behind-free order waits_for front rest place far free =
     behind-is_held_back order waits_for front rest place far
     ∙ ap (λ held. held || is_held_back order waits_for (take (place - length front) rest)) free
 
--- the write at a place behind those in front
+-- the write at a place after those in front
 pub behind-slice_get : {W : Type 0} (front rest : List W) (place : ℕ) → length front ≤ place → slice_get (front ++ rest) place ≡ slice_get rest (place - length front)
 behind-slice_get front rest place far = slice_get-append_far front rest place (place - length front) (omega arith)
 

@@ -45,6 +45,7 @@ passes_all {W = W} order write before = by_kind ((order write).kind == relaxed) 
         ∙ ap (λ rest. not ((order x).class == (order write).class) && rest) (by_kind false xs)
         ∙ both ((order x).class == (order write).class) (is_held_back order (Some (order write).class) xs)
 
+-- The write at a place may land exactly where no write before it has the class that it waits for.
 pub may_land-awaited : {W : Type 0} (order : W → Order) (writes : List W) (place : ℕ) (write : W) → slice_get writes place ≡ Some write → may_land (map order writes) place ≡ not (is_held_back order (class_awaited (order write)) (take place writes))
 may_land-awaited order writes place write at = may_land-map order writes place write at ∙ passes_all order write (take place writes)
 

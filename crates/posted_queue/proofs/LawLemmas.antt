@@ -9,12 +9,12 @@ use Rattle.order_rules.specs.Order.{Order, relaxed, passes, lands_behind, may_la
 use Rattle.posted_queue.specs.Laws.{IsRelaxedOrFirstOfClass, LandsAmongKept, lands_by_kind}
 use Rattle.posted_queue.proofs.LandingLemmas.{may_land-map}
 
--- the element behind a list's front
+-- the element after a list's front
 slice_get-at : {X : Type 0} (before : List X) (item : X) (after : List X) → slice_get (before ++ item ∷ after) (length before) ≡ Some item
 slice_get-at [] item after = refl
 slice_get-at (x ∷ before) item after = slice_get-at before item after
 
--- the write behind those before it may land where it passes each of them
+-- the write after those before it may land where it passes each of them
 pub may_land-split : (before after : List Order) (write : Order) → may_land (before ++ write ∷ after) (length before) ≡ list_all (passes write) before
 may_land-split before after write =
     ap (λ found. lands_behind found (take (length before) (before ++ write ∷ after))) (slice_get-at before write after)
@@ -120,7 +120,7 @@ split-at_place (x ∷ xs) (suc place) item at =
     let rest : (xs ≡ take place xs ++ item ∷ drop (suc place) xs) × (length (take place xs) ≡ place) = split-at_place xs place item at in
     (ap (λ others. x ∷ others) rest.0, ap suc rest.1)
 
--- what is left of a list without the item behind those before it
+-- what is left of a list without the item after those before it
 pub remove-split : {X : Type 0} (before : List X) (item : X) (after : List X) → remove (before ++ item ∷ after) (length before) ≡ before ++ after
 remove-split [] item after = refl
 remove-split (x ∷ before) item after = ap (λ rest. x ∷ rest) (remove-split before item after)

@@ -9,7 +9,7 @@ use Rattle.posted_queue.specs.Rows.{PartState, no_part, is_held_back, writes_in,
 use Rattle.posted_queue.specs.Levels.{IsLevel}
 use Rattle.posted_queue.proofs.RowLemmas.{writes_in-append, writes_in-split, writes_in-drop_push, writes_in-at, writes_in-set, is_held_back-append, take-append_far, room_in-append}
 
--- the element behind a list's front
+-- the element after a list's front
 pub slice_get-append_far : {X : Type 0} (xs ys : List X) (n k : ℕ) → n ≡ length xs + k → slice_get (xs ++ ys) n ≡ slice_get ys k
 slice_get-append_far [] ys n k e = ap (slice_get ys) (omega arith)
 slice_get-append_far (x ∷ xs) ys zero k e = absurd (omega arith)
@@ -35,7 +35,7 @@ spot-slice_get row place spot part is read =
     ∙ ap (λ p. slice_get (p.writes ++ behind) spot.place) at
     ∙ slice_get-append_near part.writes behind spot.place within
 
--- the writes of a row, those before and behind a spot's part apart
+-- the writes of a row, those before and after a spot's part apart
 record IsParted {W : Type 0} (row : List (PartState W)) (place : ℕ) (spot : Spot) (part : PartState W) (before behind : List W) : Type 0 where
   within : spot.place < length part.writes
   whole : writes_in row ≡ before ++ (part.writes ++ behind)
@@ -101,10 +101,11 @@ first_spot {W} row n part all read some whole = record {
 pub first-slice_get : {W : Type 0} (writes rest : List W) (write : W) → writes ≡ write ∷ rest → slice_get writes 0 ≡ Some write
 first-slice_get writes rest write first = ap (λ all. slice_get all 0) first
 
+-- Taking out the first write of a list leaves the rest of it.
 pub first-remove : {W : Type 0} (writes rest : List W) (write : W) → writes ≡ write ∷ rest → rest ≡ remove writes 0
 first-remove writes rest write first = sym (ap (λ all. remove all 0) first)
 
--- no part behind the last one in use has a write
+-- no part after the last one in use has a write
 pub behind-later : {W : Type 0} (row : List (PartState W)) (n m : ℕ) → n ≤ m → writes_in (drop n row) ≡ [] → writes_in (drop m row) ≡ []
 behind-later [] n m low none = ap writes_in (drop_all m [] (omega arith))
 behind-later (x ∷ xs) zero zero low none = none
@@ -132,7 +133,7 @@ length-writes_in-drop_set (x ∷ xs) zero (suc n) new within fewer = let rest = 
 length-writes_in-drop_set (x ∷ xs) (suc from) zero new within fewer = omega arith
 length-writes_in-drop_set (x ∷ xs) (suc from) (suc n) new within fewer = length-writes_in-drop_set xs from n new (omega arith) fewer
 
--- no write stands behind the last part in use after a taking
+-- no write stands after the last part in use once one was taken
 behind-taken : {W : Type 0} (row : List (PartState W)) (from n place : ℕ) (old new : PartState W) → n < length row → old ≡ get_or row n old → place < length old.writes → new.writes ≡ remove old.writes place → writes_in (drop from row) ≡ [] → writes_in (drop from (set row n new)) ≡ []
 behind-taken row from n place old new within read there taken none =
     let at : part_at row n ≡ old = get_or_default row n no_part old within ∙ sym read in
@@ -142,14 +143,14 @@ behind-taken row from n place old new within read there taken none =
     let zero_long : length (writes_in (drop from row)) ≡ 0 = ap length none in
     nil_from_length (writes_in (drop from (set row n new))) (omega arith)
 
--- what is left behind an element that is taken out
+-- what is left after an element that is taken out
 drop-remove : {X : Type 0} (xs : List X) (n i : ℕ) → i ≤ n → i < length xs → drop n (remove xs i) ≡ drop (suc n) xs
 drop-remove [] n i low within = absurd (omega arith)
 drop-remove (x ∷ xs) n zero low within = refl
 drop-remove (x ∷ xs) zero (suc i) low within = absurd (omega arith)
 drop-remove (x ∷ xs) (suc n) (suc i) low within = drop-remove xs n i (omega arith) (omega arith)
 
--- the writes of a row stay where an empty part is moved behind all others
+-- the writes of a row stay where an empty part is moved after all others
 pub writes_in-moved : {W : Type 0} (row : List (PartState W)) (n : ℕ) (part : PartState W) → n < length row → part ≡ get_or row n part → part.writes ≡ [] → writes_in (remove row n ++ part ∷ []) ≡ writes_in row
 writes_in-moved row n part within read none =
     let at : part_at row n ≡ part = get_or_default row n no_part part within ∙ sym read in
@@ -163,7 +164,7 @@ writes_in-moved row n part within read none =
     ∙ writes_in-append (take n row) (drop (suc n) row)
     ∙ sym whole
 
--- what a part with no write leaves behind when it is moved behind all others
+-- what a part with no write leaves behind when it is moved after all others
 pub moves_last : {W : Type 0} (row : List (PartState W)) (n : ℕ) (part : PartState W) → n < length row → part ≡ get_or row n part → (part_at row n).writes ≡ [] → MovesLast row (remove row n ++ part ∷ []) n part.spare
 moves_last row n part within read none = record {
   writes = writes_in-moved row n part within read empty;

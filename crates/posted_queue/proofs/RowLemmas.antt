@@ -11,6 +11,7 @@ use Rattle.posted_queue.specs.Rows.{PartState, no_part, left_in, is_held_back, w
 pub writes_in-append : {W : Type 0} (xs ys : List (PartState W)) → writes_in (xs ++ ys) ≡ writes_in xs ++ writes_in ys
 writes_in-append xs ys = flat_map-append (λ part. part.writes) xs ys
 
+-- The writes of a row are those of its first parts, and then those of the parts after them.
 pub writes_in-split : {W : Type 0} (row : List (PartState W)) (n : ℕ) → writes_in row ≡ writes_in (take n row) ++ writes_in (drop n row)
 writes_in-split row n = ap writes_in (sym (take-append-drop n row)) ∙ writes_in-append (take n row) (drop n row)
 
@@ -26,7 +27,7 @@ pub is_held_back-append : {W : Type 0} (order : W → Order) (waits_for : Option
 is_held_back-append order None xs ys = refl
 is_held_back-append order (Some class) xs ys = list_any-append (λ write. (order write).class == class) xs ys
 
--- the front of a list behind so many elements
+-- the front of a list after so many elements
 pub take-append_far : {X : Type 0} (xs ys : List X) (n : ℕ) → length xs ≤ n → take n (xs ++ ys) ≡ xs ++ take (n - length xs) ys
 take-append_far [] ys n far = ap (λ k. take k ys) (omega arith)
 take-append_far (x ∷ xs) ys zero far = absurd (omega arith)
@@ -42,7 +43,7 @@ held_back-before order waits_for row n place held far =
     ∙ is_held_back-append order waits_for (writes_in (take n row)) (take (place - length (writes_in (take n row))) (writes_in (drop n row)))
     ∙ or_left _ _ held
 
--- a write is held back by a part behind whose writes it stands
+-- a write is held back by a part after whose writes it stands
 pub held_back-at : {W : Type 0} (order : W → Order) (waits_for : Option ℕ) (row : List (PartState W)) (n place left : ℕ) (part : PartState W) → n < length row → part ≡ get_or row n part → place ≡ length (writes_in (take n row)) + left → length part.writes ≤ left → is_held_back order waits_for part.writes ≡ true → is_held_back order waits_for (take place (writes_in row)) ≡ true
 held_back-at order waits_for row n place left part within read adds_up far held =
     let same : part_at row n ≡ part = get_or_default row n no_part part within ∙ sym read in
@@ -71,7 +72,7 @@ pub room_in-append : {W : Type 0} (xs ys : List (PartState W)) → room_in (xs +
 room_in-append [] ys = sym (zero-add (room_in ys))
 room_in-append (x ∷ xs) ys = let e = room_in-append xs ys in omega arith
 
--- a write behind all others of a part, where the parts behind it have none
+-- a write after all others of a part, where the parts after it have none
 pub writes_in-push : {W : Type 0} (row : List (PartState W)) (n : ℕ) (old new : PartState W) (write : W) → n < length row → old ≡ get_or row n old → new.writes ≡ old.writes ++ write ∷ [] → writes_in (drop (suc n) row) ≡ [] → writes_in (set row n new) ≡ writes_in row ++ write ∷ []
 writes_in-push row n old new write within read pushed behind =
     let same : part_at row n ≡ old = get_or_default row n no_part old within ∙ sym read in
@@ -109,6 +110,7 @@ left_in-drop_set most (x ∷ xs) (suc n) (suc places) zero new within same = let
 left_in-drop_set most (x ∷ xs) zero places (suc number) new within same = refl
 left_in-drop_set most (x ∷ xs) (suc n) places (suc number) new within same = left_in-drop_set most xs n places number new (omega arith) same
 
+-- A row is kept where one part becomes another of the same writes, that can take as many, and has no less room.
 pub kept-set : {W : Type 0} (most : ℕ) (row : List (PartState W)) (n : ℕ) (old new : PartState W) → n < length row → old ≡ get_or row n old → new.writes ≡ old.writes → old.spare ≤ new.spare → new.left ≡ old.left → KeepsWrites most row (set row n new)
 kept-set most row n old new within read same more same_left = record {
   writes = λ number. writes_in-drop_set row n number new within (same ∙ ap (λ part. part.writes) (sym at));
@@ -120,7 +122,7 @@ kept-set most row n old new within read same more same_left = record {
     at : part_at row n ≡ old
     at = get_or_default row n no_part old within ∙ sym read
 
--- and where an empty part comes behind all others
+-- and where an empty part comes after all others
 pub writes_in-drop_push : {W : Type 0} (row : List (PartState W)) (number : ℕ) (part : PartState W) → part.writes ≡ [] → writes_in (drop number (row ++ part ∷ [])) ≡ writes_in (drop number row)
 writes_in-drop_push [] zero part none = ap (λ ws. ws ++ []) none
 writes_in-drop_push [] (suc number) part none = ap writes_in (drop_all number [] (omega arith))
@@ -143,6 +145,7 @@ left_in-drop_push most (x ∷ xs) zero zero part empty = refl
 left_in-drop_push most (x ∷ xs) (suc places) zero part empty = let rest = left_in-drop_push most xs places zero part empty in omega arith
 left_in-drop_push most (x ∷ xs) places (suc number) part empty = left_in-drop_push most xs places number part empty
 
+-- A row is kept where a part with no write, which can take the most, comes after all others.
 pub kept-push : {W : Type 0} (most : ℕ) (row : List (PartState W)) (part : PartState W) → part.writes ≡ [] → part.left ≡ most → KeepsWrites most row (row ++ part ∷ [])
 kept-push most row part none empty = record {
   writes = λ number. writes_in-drop_push row number part none;
@@ -179,12 +182,13 @@ kept-room most old new from kept =
     let part = room_in-stretch new from (length old) in
     omega arith
 
--- what the places from a part on can take is what that part and the places behind it can take
+-- what the places from a part on can take is what that part and the places after it can take
 left_in-at : {W : Type 0} (most : ℕ) (row : List (PartState W)) (number places : ℕ) → number < length row → left_in most (suc places) (drop number row) ≡ (part_at row number).left + left_in most places (drop (suc number) row)
 left_in-at most [] number places within = absurd (omega arith)
 left_in-at most (x ∷ xs) zero places within = refl
 left_in-at most (x ∷ xs) (suc number) places within = left_in-at most xs number places (omega arith)
 
+-- Where a row is kept, its places from a part on could take before what that part and the later places can now.
 pub kept-left : {W : Type 0} (most : ℕ) (old new : List (PartState W)) (number places : ℕ) → KeepsWrites most old new → number < length new → number < places → left_in most (places - number) (drop number old) ≡ (part_at new number).left + left_in most (places - (number + 1)) (drop (number + 1) new)
 kept-left most old new number places kept within some =
     let one_more : places - number ≡ suc (places - (number + 1)) = omega arith in
@@ -203,6 +207,7 @@ room_in-take_part row from n low within =
     ∙ room_in-append (drop from (take n row)) (part_at row n ∷ [])
     ∙ (omega arith)
 
+-- A stretch of a row's parts that gets one part longer has that part's room more.
 pub room_in-take_more : {W : Type 0} (row : List (PartState W)) (from n : ℕ) (part : PartState W) → from ≤ n → n < length row → part ≡ get_or row n part → room_in (drop from (take (n + 1) row)) ≡ room_in (drop from (take n row)) + part.spare
 room_in-take_more row from n part low within read =
     let at : part_at row n ≡ part = get_or_default row n no_part part within ∙ sym read in

@@ -45,6 +45,7 @@ pub record LandsKept {W : Type 0} (order : W → Order) (old new : Slab W) (tick
   pub kept : AreKept order new.slots left.writes
   pub spare : left.spare ≡ tickets.spare
 
+-- Where a ticket lands and its key is emptied, the write that was kept there lands, and other tickets keep theirs.
 pub lands_kept : {W : Type 0} (order : W → Order) (old new : Slab W) (tickets left : Flight Ticket) (place : ℕ) (ticket : Ticket) (write : W) → AreKept order old.slots tickets.writes → Landed ticket ≡ land_answer ticket_order tickets place → left ≡ after_landing ticket_order tickets place → kept_at old.slots ticket.key ≡ Some write → Updates old new ticket.key None → LandsKept order old new tickets left place write
 lands_kept order old new tickets left place ticket write kept answered after there updates = record {
   answer = sym (ap (λ at. answer_for at (may_land (map order (writes_of old.slots tickets.writes)) place)) (slice_get-kept order old.slots tickets.writes place ticket kept found ∙ there) ∙ ap (answer_for (Some write)) may_too);

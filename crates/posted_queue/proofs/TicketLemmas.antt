@@ -26,13 +26,14 @@ are_kept-update order old new (ticket ∷ rest) key slot none updates kept = (
   are_kept-update order old new rest key slot none.1 updates kept.2,
 )
 
+-- Tickets of which none has a key stand for the same writes when what is kept at that key changes.
 pub writes_of-update : {W : Type 0} (old new : Slab W) (tickets : List Ticket) (key : ℕ) (slot : Option W) → NoneAt key tickets → Updates old new key slot → writes_of new.slots tickets ≡ writes_of old.slots tickets
 writes_of-update old new [] key slot none updates = refl
 writes_of-update old new (ticket ∷ rest) key slot none updates =
     ap (λ slot. cons_option slot (writes_of new.slots rest)) (updates.others ticket.key none.0)
     ∙ ap (cons_option (kept_at old.slots ticket.key)) (writes_of-update old new rest key slot none.1 updates)
 
--- and where a ticket with a key of its own comes behind them
+-- and where a ticket with a key of its own comes after them
 none_at-push : (key : ℕ) (tickets : List Ticket) (ticket : Ticket) → NoneAt key tickets → ticket.key ≢ key → NoneAt key (tickets ++ ticket ∷ [])
 none_at-push key [] ticket none other = (other, tt)
 none_at-push key (first ∷ rest) ticket none other = (none.0, none_at-push key rest ticket none.1 other)
@@ -55,6 +56,7 @@ pub record PostsKept {W : Type 0} (order : W → Order) (old new : Slab W) (tick
   pub after : flight_of new.slots now ≡ posted (flight_of old.slots tickets) write
   pub spare : now.spare ≡ tickets.spare - 1
 
+-- A ticket posted for a write that is put at a vacant key posts the write, and all tickets keep their own.
 pub posts_kept : {W : Type 0} (order : W → Order) (old new : Slab W) (tickets now : Flight Ticket) (ticket : Ticket) (key : ℕ) (write : W) → AreKept order old.slots tickets.writes → kept_at old.slots key ≡ None → Updates old new key (Some write) → ticket.key ≡ key → ticket.kind ≡ (order write).kind → ticket.class ≡ (order write).class → now ≡ posted tickets ticket → PostsKept order old new tickets now write
 posts_kept order old new tickets now ticket key write kept vacant updates same_key kind class pushed = record {
   kept = subst (λ flight. AreKept order new.slots flight.writes) (sym pushed) (are_kept-push order new.slots tickets.writes ticket (are_kept-update order old new tickets.writes key (Some write) none updates kept) (subst (λ k. NoneAt k tickets.writes) (sym same_key) none) (record { write = write; there = there; order_is = order-ticket (order write) ticket kind class }));
@@ -80,12 +82,14 @@ none_at-remove key [] (suc place) none = tt
 none_at-remove key (first ∷ rest) zero none = none.1
 none_at-remove key (first ∷ rest) (suc place) none = (none.0, none_at-remove key rest place none.1)
 
+-- Tickets that each stand for a write of their own still do when one of them is taken out.
 pub are_kept-remove : {W : Type 0} (order : W → Order) (slots : List (Option W)) (tickets : List Ticket) (place : ℕ) → AreKept order slots tickets → AreKept order slots (remove tickets place)
 are_kept-remove order slots [] zero kept = tt
 are_kept-remove order slots [] (suc place) kept = tt
 are_kept-remove order slots (first ∷ rest) zero kept = kept.2
 are_kept-remove order slots (first ∷ rest) (suc place) kept = (kept.0, none_at-remove first.key rest place kept.1, are_kept-remove order slots rest place kept.2)
 
+-- When the ticket at a place is taken out, its write is taken out at that place of the writes.
 pub writes_of-remove : {W : Type 0} (order : W → Order) (slots : List (Option W)) (tickets : List Ticket) (place : ℕ) → AreKept order slots tickets → writes_of slots (remove tickets place) ≡ remove (writes_of slots tickets) place
 writes_of-remove order slots [] zero kept = refl
 writes_of-remove order slots [] (suc place) kept = refl
@@ -101,6 +105,7 @@ none_at-found key [] place ticket none found = absurd (none-some ticket found)
 none_at-found key (first ∷ rest) zero ticket none found = subst (λ t. t.key ≢ key) (same_Some first ticket found) none.0
 none_at-found key (first ∷ rest) (suc place) ticket none found = none_at-found key rest place ticket none.1 found
 
+-- Once a ticket is taken out, none of the others has its key.
 pub none_at-taken : {W : Type 0} (order : W → Order) (slots : List (Option W)) (tickets : List Ticket) (place : ℕ) (ticket : Ticket) → AreKept order slots tickets → slice_get tickets place ≡ Some ticket → NoneAt ticket.key (remove tickets place)
 none_at-taken order slots [] zero ticket kept found = tt
 none_at-taken order slots [] (suc place) ticket kept found = tt
@@ -118,12 +123,14 @@ orders-kept order slots (first ∷ rest) kept =
     ∙ ap (λ o. o ∷ map order (writes_of slots rest)) kept.0.order_is
     ∙ ap (λ orders. ticket_order first ∷ orders) (orders-kept order slots rest kept.2)
 
+-- Tickets that each stand for a write of their own stand for as many writes as there are tickets.
 pub length-kept : {W : Type 0} (order : W → Order) (slots : List (Option W)) (tickets : List Ticket) → AreKept order slots tickets → length (writes_of slots tickets) ≡ length tickets
 length-kept order slots [] kept = refl
 length-kept order slots (first ∷ rest) kept =
     ap (λ slot. length (cons_option slot (writes_of slots rest))) kept.0.there
     ∙ ap suc (length-kept order slots rest kept.2)
 
+-- At the place of a ticket the writes in flight have the one that is kept at the ticket's key.
 pub slice_get-kept : {W : Type 0} (order : W → Order) (slots : List (Option W)) (tickets : List Ticket) (place : ℕ) (ticket : Ticket) → AreKept order slots tickets → slice_get tickets place ≡ Some ticket → slice_get (writes_of slots tickets) place ≡ kept_at slots ticket.key
 slice_get-kept order slots [] place ticket kept found = absurd (none-some ticket found)
 slice_get-kept order slots (first ∷ rest) zero ticket kept found =
@@ -134,6 +141,7 @@ slice_get-kept order slots (first ∷ rest) (suc place) ticket kept found =
     ap (λ slot. slice_get (cons_option slot (writes_of slots rest)) (suc place)) kept.0.there
     ∙ slice_get-kept order slots rest place ticket kept.2 found
 
+-- At a place where there is no ticket there is no write in flight either.
 pub slice_get-none_kept : {W : Type 0} (order : W → Order) (slots : List (Option W)) (tickets : List Ticket) (place : ℕ) → AreKept order slots tickets → slice_get tickets place ≡ None → slice_get (writes_of slots tickets) place ≡ None
 slice_get-none_kept order slots [] place kept none = refl
 slice_get-none_kept order slots (first ∷ rest) zero kept none = absurd (none-some first (sym none))

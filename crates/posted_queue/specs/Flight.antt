@@ -18,7 +18,7 @@ promised flight more = record { writes = flight.writes; spare = flight.spare + m
 abbrev pub given_back : {W : Type 0} → Flight W → ℕ → Flight W
 given_back flight count = record { writes = flight.writes; spare = flight.spare - count }
 
--- the write is posted behind all others, into room that was promised
+-- the write is posted after all others, into room that was promised
 abbrev pub posted : {W : Type 0} → Flight W → W → Flight W
 posted flight write = record { writes = flight.writes ++ write ∷ []; spare = flight.spare - 1 }
 

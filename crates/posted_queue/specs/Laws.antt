@@ -7,7 +7,7 @@ abbrev pub IsRelaxedOrFirstOfClass : List Order → Order → Type 0
 IsRelaxedOrFirstOfClass before write = (write.kind ≡ relaxed) ⊎ All (λ earlier. earlier.class ≢ write.class) before
 
 -- Of the writes `before ++ write ∷ after` only those that are `kept` are looked at, and `write` is one of them.
--- It then stands behind those kept of `before`, may land there, and leaves the kept of the others.
+-- It then stands after those kept of `before`, may land there, and leaves the kept of the others.
 pub record LandsAmongKept {W : Type 0} (order : W → Order) (kept : W → Bool) (before : List W) (write : W) (after : List W) : Type 0 where
   pub stands : filter kept (before ++ write ∷ after) ≡ filter kept before ++ write ∷ filter kept after
   pub lands : IsTrue (may_land (map order (filter kept (before ++ write ∷ after))) (length (filter kept before)))

@@ -2,7 +2,7 @@
 use Rattle.std.specs.Prelude.{◌≡◌, ℕ, ◌≤◌, suc, List, [], length, drop}
 use Rattle.posted_queue.specs.Rows.{PartState, writes_in, room_in}
 
--- the last part in use is of the row or the row is empty, no write stands behind it, and the room is there from it on
+-- the last part in use is of the row or the row is empty, no write stands after it, and the room is there from it on
 pub record IsLevel {W : Type 0} (row : List (PartState W)) (last : ℕ) (room : ℕ) : Type 0 where
   pub in_row : last ≤ length row
   pub behind : writes_in (drop (suc last) row) ≡ []

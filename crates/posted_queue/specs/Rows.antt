@@ -1,4 +1,4 @@
--- Rows of parts of a queue: the writes that stand in them, the room behind, and what holds a write back.
+-- Rows of parts of a queue: the writes that stand in them, the room after them, and what holds a write back.
 use Rattle.std.specs.Prelude.{◌≡◌, ℕ, ◌<◌, ◌≤◌, ◌==◌, ◌+◌, Bool, false, if◌then◌else◌, List, [], ◌∷◌, ◌++◌, Option, Some, None, zero, suc, length, take, drop, remove, slice_index_or}
 use Rattle.std.specs.List.{list_any, flat_map}
 use Rattle.order_rules.specs.Order.{Order}
@@ -20,7 +20,7 @@ abbrev pub is_held_back : {W : Type 0} → (W → Order) → Option ℕ → List
 is_held_back order None before = false
 is_held_back order (Some class) before = list_any (λ write. (order write).class == class) before
 
--- the writes of a row of parts, one part behind the other
+-- the writes of a row of parts, one part after the other
 abbrev pub writes_in : {W : Type 0} → List (PartState W) → List W
 writes_in row = flat_map (λ part. part.writes) row
 
@@ -69,7 +69,7 @@ pub record TakesOut {W : Type 0} (old new : List (PartState W)) (place part : �
   pub behind : (number : ℕ) → writes_in (drop number old) ≡ [] → writes_in (drop number new) ≡ []
   pub room : (number : ℕ) → room_in (drop number old) ≤ room_in (drop number new)
 
--- a part with no write, but with so much room, is moved behind all others
+-- a part with no write, but with so much room, is moved after all others
 pub record MovesLast {W : Type 0} (old new : List (PartState W)) (part room : ℕ) : Type 0 where
   pub writes : writes_in new ≡ writes_in old
   pub len : length new ≡ length old

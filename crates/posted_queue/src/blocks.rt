@@ -114,7 +114,7 @@ impl<W: Ordered> Blocks<W> {
         self.rest.take(place - front, waits_for)
     }
 
-    /// Makes room for `more` writes, or for as many as the blocks can take where they are fewer. The only error is want
+    /// Makes room for `more` writes, or for as many as the blocks can take where they are fewer. The only error is out
     /// of memory.
     pub fn reserve(&mut self, more: usize) -> Result<(), AllocError>
         ensures writes { self.new.writes ≡ self.old.writes }

@@ -50,7 +50,7 @@ pub trait Part<W: Ordered>: Sized {
         ensures writes { OnSome result ((state self.new).writes ≡ remove (state self.old).writes place) }
         ensures room { (state self.old).spare ≤ (state self.new).spare };
 
-    /// Makes room for `more` writes, or for as many as the part can take where they are fewer. The only error is want
+    /// Makes room for `more` writes, or for as many as the part can take where they are fewer. The only error is out
     /// of memory.
     fn reserve(&mut self, more: usize) -> Result<(), AllocError>
         ensures writes { (state self.new).writes ≡ (state self.old).writes }

@@ -1,3 +1,2 @@
 pub mod LookAnswers
-pub mod Needs
 pub mod Refusals

@@ -55,7 +55,7 @@ impl QueuePair {
     ///
     /// # Errors
     ///
-    /// [`AllocError`] from want of memory alone, where the frame is not refused, as [`Port::begin`].
+    /// [`AllocError`] from out of memory alone, where the frame is not refused, as [`Port::begin`].
     pub fn begin(&mut self, pair: &mut Pair, frame: Frame) -> Result<BeginAnswer, AllocError>
         requires some { 0 < length frame }
         requires plan { pair.old.plan ≡ self.old.port.plan }
@@ -80,7 +80,7 @@ impl QueuePair {
     ///
     /// # Errors
     ///
-    /// [`AllocError`] from want of memory alone, where the entry is not refused, as [`Port::down`].
+    /// [`AllocError`] from out of memory alone, where the entry is not refused, as [`Port::down`].
     pub fn qpdown(&mut self, pair: &mut Pair) -> Result<BeginAnswer, AllocError>
         requires plan { pair.old.plan ≡ self.old.port.plan }
         requires fits { is_joined self.old pair.old ≡ true → FitsRings self.old.port.plan }
@@ -123,7 +123,7 @@ impl QueuePair {
     ///
     /// # Errors
     ///
-    /// [`AllocError`] from want of memory alone, where an entry was found, as [`Port::look`].
+    /// [`AllocError`] from out of memory alone, where an entry was found, as [`Port::look`].
     pub fn look(&mut self, pair: &mut Pair) -> Result<LookAnswer, AllocError>
         requires plan { pair.old.plan ≡ self.old.port.plan }
         requires fits { is_joined self.old pair.old ≡ true → FitsRings self.old.port.plan }
@@ -210,7 +210,8 @@ impl QueuePair {
         })
     }
 
-    /// What [`QueuePair::begin`] answers for a frame of `len` bytes, at most 65,536, but for want of memory. It takes no memory.
+    /// What [`QueuePair::begin`] answers for a frame of `len` bytes, at most 65,536, unless out of memory. It takes no
+    /// memory.
     pub fn begin_answer(&self, pair: &Pair, len: u32) -> BeginAnswer
         requires plan { pair.now.plan ≡ self.now.port.plan }
         requires fits { is_joined self.now pair.now ≡ true → FitsRings self.now.port.plan }
@@ -223,7 +224,7 @@ impl QueuePair {
         answer_of_begun(self.port.begin_answer(pair, len))
     }
 
-    /// What [`QueuePair::look`] answers, but for want of memory. It takes no memory.
+    /// What [`QueuePair::look`] answers, unless out of memory. It takes no memory.
     pub fn look_answer(&self, pair: &Pair) -> LookAnswer
         requires plan { pair.now.plan ≡ self.now.port.plan }
         requires fits { is_joined self.now pair.now ≡ true → FitsRings self.now.port.plan }

@@ -12,11 +12,13 @@ AllAhead P before (x ∷ xs) = P before x × AllAhead P (before ++ x ∷ []) xs
 step_over : (before xs : List Sent) (x : Sent) → (before ++ x ∷ []) ++ xs ≡ before ++ x ∷ xs
 step_over before xs x = append_assoc before (x ∷ []) xs
 
+-- Items of two joined lists have facts about all before them, if the second's have theirs after the first list.
 pub ahead_append : (P : List Sent → Sent → Type 0) (before xs ys : List Sent) → AllAhead P before xs → AllAhead P (before ++ xs) ys → AllAhead P before (xs ++ ys)
 ahead_append P before [] ys has more = subst (λ b. AllAhead P b ys) (append-nil before) more
 ahead_append P before (x ∷ xs) ys has more =
     (has.0, ahead_append P (before ++ x ∷ []) xs ys has.1 (subst (λ b. AllAhead P b ys) (sym (step_over before xs x)) more))
 
+-- Where one fact implies another, a list whose items have the first about those before them has the second too.
 pub ahead_map : (P Q : List Sent → Sent → Type 0) → ((b : List Sent) (x : Sent) → P b x → Q b x) → (before xs : List Sent) → AllAhead P before xs → AllAhead Q before xs
 ahead_map P Q weaker before [] has = tt
 ahead_map P Q weaker before (x ∷ xs) has = (weaker before x has.0, ahead_map P Q weaker (before ++ x ∷ []) xs has.1)
@@ -56,11 +58,13 @@ abbrev pub Flies : ℕ → List Sent → Type 0
 Flies w [] = ⊥
 Flies w (x ∷ xs) = ((x.place ≡ w) × IsWrite x.what) ⊎ Flies w xs
 
+-- A write in flight in a list is in flight in that list with more after it.
 pub flies_left : (w : ℕ) (xs ys : List Sent) → Flies w xs → Flies w (xs ++ ys)
 flies_left w [] ys flies = absurd flies
 flies_left w (x ∷ xs) ys (inl here) = inl here
 flies_left w (x ∷ xs) ys (inr later) = inr (flies_left w xs ys later)
 
+-- A write in flight in a list is in flight in that list with more before it.
 pub flies_right : (w : ℕ) (xs ys : List Sent) → Flies w ys → Flies w (xs ++ ys)
 flies_right w [] ys flies = flies
 flies_right w (x ∷ xs) ys flies = inr (flies_right w xs ys flies)

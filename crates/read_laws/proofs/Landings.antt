@@ -244,6 +244,7 @@ is_landed (Request number at len) = refl
 is_landed (Part number part) = refl
 is_landed (Last number bytes) = refl
 
+-- What holds of a path and its log still holds after a `land` of either side, whatever its answer.
 pub landing_holds : (log : List Entry) (path : PathState) (side : Side) (place : ℕ) → Holds log (told_of log) path
     → Holds (log ++ record { step = Land side place; answer = Landed (land_answer path side place) } ∷ [])
     (told_after (told_of log) (record { step = Land side place; answer = Landed (land_answer path side place) })) (after_land path side place)

@@ -139,11 +139,13 @@ stands_from (step ∷ steps) log path (e ∷ before) after entry holds is =
     subst (λ (l : List Entry). StandsAt l entry) (append_assoc log (made ∷ []) before ∙ ap (λ (x : Entry). log ++ x ∷ before) (ap (head_or e) is))
     (stands_from steps (log ++ made ∷ []) (after_step path step) before after entry (numbers_after log path step holds) (ap rest_of is))
 
+-- In the log of any steps the number of a read is how many reads its side made before it.
 pub reads_are_numbered : ReadsAreNumbered
 reads_are_numbered steps before after side at len number is =
     let there = stands_from steps [] fresh_path before after (read_entry side at len number) at_start is in
     read_numbered before there.path there.step side at len number there.holds there.is
 
+-- In the log of any steps the request of a side's read lands once at most.
 pub requests_land_once : RequestsLandOnce
 requests_land_once steps before after side place number is =
     let there = stands_from steps [] fresh_path before after (request_entry side place number) at_start is in

@@ -60,6 +60,7 @@ split_there [] place x is = absurd (false≢true (ap is_some is))
 split_there (y ∷ flight) zero x is = ap (λ o. unwrap_or o x ∷ flight) is
 split_there (y ∷ flight) (suc place) x is = ap (λ (l : List Flying). y ∷ l) (split_there flight place x is)
 
+-- Taking an item out of a flight lowers the number of requests of a read in flight by one if it is one, else by none.
 pub pending_without : (n : ℕ) (flight : List Flying) (place : ℕ) (x : Flying) → slice_get flight place ≡ Some x → pending n (remove flight place) + one_if (requests n x) ≡ pending n flight
 pending_without n flight place x there =
     let f : Flying → ℕ = λ (what : Flying). one_if (requests n what) in

@@ -164,5 +164,6 @@ from_here (step ∷ steps) log path holds (e ∷ before) after side place number
     (append_assoc log (made ∷ []) before ∙ ap (λ (x : Entry). log ++ x ∷ before) first)
     (from_here steps (log ++ made ∷ []) (after_step path step) (after_one log path step holds) before after side place number bytes (ap rest_of is))
 
+-- In the log of any steps each read has pushed: the posted writes before it landed before its data came.
 pub each_read_has_pushed : (steps : List PathStep) → Pushed (log_of steps)
 each_read_has_pushed steps before after side place number bytes is = from_here steps [] fresh_path at_start before after side place number bytes is

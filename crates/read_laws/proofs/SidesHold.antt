@@ -33,10 +33,12 @@ and_right false b both = absurd (false≢true both)
 abbrev pub Within : List ℕ → List ℕ → Type 0
 Within landed more = (w : ℕ) → Contains landed w → Contains more w
 
+-- A write that has landed or is in flight ahead is still so where more writes have landed.
 pub waits_more : (landed more : List ℕ) (ahead : List Sent) (w : ℕ) → Within landed more → Waits landed ahead w → Waits more ahead w
 waits_more landed more ahead w within (inl has) = inl (within w has)
 waits_more landed more ahead w within (inr flies) = inr flies
 
+-- The fact of an item in flight outlasts a new log entry, if each write that was landed or ahead of it still is.
 pub fact_grown : (log : List Entry) (e : Entry) (dropped : ℕ) (landed more : List ℕ) (side : Side) (ahead left : List Sent) (what : Flying)
     → ((w : ℕ) → Waits landed ahead w → Waits more left w) → Fact log dropped landed side ahead what → Fact (log ++ e ∷ []) dropped more side left what
 fact_grown log e dropped landed more side ahead left (Write at bytes relaxed) grow fact = tt
@@ -64,6 +66,7 @@ fact_grown log e dropped landed more side ahead left (Last number bytes) grow fa
   pushes = λ w posted. grow w (fact.pushes w posted);
 }
 
+-- The facts of all items in flight from a side outlast a new log entry, if all writes that had landed still have.
 pub facts_grown : (log : List Entry) (e : Entry) (dropped : ℕ) (landed more : List ℕ) (side : Side) (flight : List Sent) → Within landed more
     → AllAhead (SentFact log dropped landed side) [] flight → AllAhead (SentFact (log ++ e ∷ []) dropped more side) [] flight
 facts_grown log e dropped landed more side flight within facts =
@@ -83,6 +86,7 @@ side_same log e dropped landed more side told state within holds = record {
   writes = λ w posted. waits_more landed more told.flight w within (holds.writes w posted);
 }
 
+-- Each list of landed writes is within itself.
 pub all_within : (landed : List ℕ) → Within landed landed
 all_within landed w has = has
 
@@ -168,6 +172,7 @@ side_drops log dropped landed side told state same = record { memory = same; fli
 
 -- Sides
 
+-- What holds of side A and of side B holds of any side.
 pub by_side : (P : Side → Type 0) → P A → P B → (side : Side) → P side
 by_side P a b A = a
 by_side P a b B = b
@@ -228,10 +233,12 @@ side_stores log dropped landed side told state at bytes holds =
 abbrev pub WaitsForWrites : Flying → Type 0
 WaitsForWrites what = (relaxed : Bool) → may_overtake (kind_of what) (if relaxed then relaxed_kind else strict_kind) ≡ false
 
+-- A read request may pass no posted write, relaxed or strict.
 pub request_waits : (number at len : ℕ) → WaitsForWrites (Request number at len)
 request_waits number at len true = refl
 request_waits number at len false = refl
 
+-- The last completion of a read may pass no posted write, relaxed or strict.
 pub last_waits : (number : ℕ) (bytes : List ℕ) → WaitsForWrites (Last number bytes)
 last_waits number bytes true = refl
 last_waits number bytes false = refl

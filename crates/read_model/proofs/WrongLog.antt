@@ -53,6 +53,7 @@ landing_there (x ∷ y ∷ []) place since is =
     ap (λ e. e ∷ y ∷ []) (sym (ap (first_or x) is)) ∙ ap (λ e. read_entry A 0 1 0 ∷ e ∷ []) (sym (ap (λ log. first_or y (rest_of log)) is))
 landing_there (x ∷ y ∷ z ∷ landing) place since is = absurd (never_empty landing (request_entry A place 0) since (ap (λ log. rest_of (rest_of (rest_of log))) is))
 
+-- A log in which a completion passes a posted write of its own side isn't as `Pushed` says.
 pub not_pushed : ¬ Pushed wrong_log
 not_pushed pushed = none (pushed before [] A 1 0 (0 ∷ []) refl) where
   none : HasPushed before A 0 (0 ∷ []) → ⊥

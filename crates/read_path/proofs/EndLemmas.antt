@@ -10,9 +10,11 @@ use Rattle.read_path.specs.Flights.{FlightState, nothing_flying}
 use Rattle.read_path.specs.declared.end.End.{End}
 use Rattle.read_path.proofs.FlightLemmas.{All-one, All-remove, All-there, sum_by-remove}
 
+-- What is kept of both sides of a path is kept with the two sides exchanged.
 pub swapped : (a b : End) → AreEnds a b → AreEnds b a
 swapped a b ends = record { end_whole = ends.peer_whole; peer_whole = ends.end_whole; end_room = ends.peer_room; peer_room = ends.end_room }
 
+-- A side with a memory of 4,096 zeros, nothing in flight and no read made is seen as a fresh one.
 pub fresh_seen : (bytes : List ℕ) (flight : FlightState) → bytes ≡ replicate 4096 0 → flight ≡ nothing_flying
     → end_seen (record { memory = record { bytes = bytes; promised = [] }; flight = flight; reads = 0 }) ≡ fresh_end
 fresh_seen bytes flight zeros nothing =
@@ -23,6 +25,7 @@ fresh_seen bytes flight zeros nothing =
 due_more : (flight : List Flying) (what : Flying) → all_due (flight ++ what ∷ []) ≡ all_due flight + completions_due what
 due_more flight what = let both = sum_by-append completions_due flight (what ∷ []) in omega (arith, both)
 
+-- A posted write whose bytes lie within the memory of 4,096 bytes keeps what is kept of both sides of a path.
 pub posts_kept : (a b : End) (at : ℕ) (bytes : List ℕ) (relaxed : Bool) → AreEnds a b → at + length bytes ≤ 4096 → AreEnds (posts a at bytes relaxed) b
 posts_kept a b at bytes relaxed ends within =
     let due : all_due (a.flight.flying ++ Write at bytes relaxed ∷ []) ≡ all_due a.flight.flying + 0 = due_more a.flight.flying (Write at bytes relaxed) in
@@ -37,6 +40,7 @@ posts_kept a b at bytes relaxed ends within =
       peer_room = let room = ends.peer_room in omega (arith, due, room);
     }
 
+-- A read of 1 to 512 bytes in range keeps what is kept of both sides, with room promised for its completions.
 pub asks_kept : (from to : End) (at len : ℕ) → AreEnds from to → 1 ≤ len → len ≤ 512 → at + len ≤ 4096 → AreEnds (asks from at len) (promises to len)
 asks_kept from to at len ends some few within =
     let due : all_due (from.flight.flying ++ Request from.reads at len ∷ []) ≡ all_due from.flight.flying + completions_of len = due_more from.flight.flying (Request from.reads at len) in

@@ -22,6 +22,7 @@ one_fails p (x ∷ xs) zero (suc count) d before within fails = ap (λ b. b && l
 one_fails p (x ∷ xs) (suc place) (suc count) d before within fails =
     ap (λ b. p x && b) (one_fails p xs place count d (omega (arith, before)) (omega (arith, within)) fails) ∙ and_false (p x)
 
+-- Mapping a list without the element at a place gives the mapped list without the element at that place.
 pub map-remove : {X Y : Type 0} (f : X → Y) (xs : List X) (place : ℕ) → map f (remove xs place) ≡ remove (map f xs) place
 map-remove f xs place =
     map-append f (take place xs) (drop (suc place) xs)
@@ -33,6 +34,7 @@ split_there {X} [] place x is = absurd (false≢true (ap is_some is))
 split_there (y ∷ xs) zero x is = ap (λ o. unwrap_or o x ∷ xs) is
 split_there (y ∷ xs) (suc place) x is = ap (λ l. y ∷ l) (split_there xs place x is)
 
+-- What holds of all elements of a list holds of all that are left when one is removed.
 pub All-remove : {X : Type 0} (P : X → Type 0) (xs : List X) (place : ℕ) → All P xs → All P (remove xs place)
 All-remove P xs place all = All-append P (take place xs) (drop (suc place) xs) (All-take P place xs all) (All-drop P (suc place) xs all)
 
@@ -46,6 +48,7 @@ sum_by-remove f xs place x there =
     let rest : sum_by f (remove xs place) ≡ sum_by f before + sum_by f after = sum_by-append f before after in
     omega (arith, all, one, rest)
 
+-- What holds of an element holds of all elements of the list of it alone.
 pub All-one : {X : Type 0} (P : X → Type 0) (x : X) → P x → All P (x ∷ [])
 All-one {X = X} P x has = λ k d within. at_place k d within has where
   at_place : (k : ℕ) (d : X) → k < 1 → P x → P (get_or (x ∷ []) k d)
@@ -67,6 +70,7 @@ parts_from_more number part count = subst (λ (n : ℕ). parts_from number part 
   by_count part (suc count) =
       ap (λ (l : List Flying). Part number part ∷ l) (by_count (part + 1) count ∙ ap (λ (n : ℕ). parts_from number (part + 1) count ++ Part number n ∷ []) (omega arith))
 
+-- The first n+1 completions of a read, the last one aside, are the first n and then the one of part n.
 pub parts_more : (number count : ℕ) → parts_from number 0 (count + 1) ≡ parts_from number 0 count ++ Part number count ∷ []
 parts_more number count = parts_from_more number 0 count ∙ ap (λ (n : ℕ). parts_from number 0 count ++ Part number n ∷ []) (omega arith)
 

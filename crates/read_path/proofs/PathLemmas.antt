@@ -30,6 +30,7 @@ a_lands : (link : LinkState) (session : ℕ) (a b : End) (place : ℕ) (what : O
 a_lands link session a b place None before = refl
 a_lands link session a b place (Some flying) before = a_may_land link session a b place flying (may_pass_all flying before)
 
+-- What a landing of side A's flight does to each of the two sides makes up the path after that landing.
 pub a_landing : (link : LinkState) (session : ℕ) (a b : End) (place : ℕ) → path_of link session (from_after a place) (to_after (is_up link) a b place) ≡ after_land (path_of link session a b) A place
 a_landing link session a b place = a_lands link session a b place (slice_get a.flight.flying place) (take place a.flight.flying)
 
@@ -49,11 +50,13 @@ b_lands : (link : LinkState) (session : ℕ) (a b : End) (place : ℕ) (what : O
 b_lands link session a b place None before = refl
 b_lands link session a b place (Some flying) before = b_may_land link session a b place flying (may_pass_all flying before)
 
+-- What a landing of side B's flight does to each of the two sides makes up the path after that landing.
 pub b_landing : (link : LinkState) (session : ℕ) (a b : End) (place : ℕ) → path_of link session (to_after (is_up link) b a place) (from_after b place) ≡ after_land (path_of link session a b) B place
 b_landing link session a b place = b_lands link session a b place (slice_get b.flight.flying place) (take place b.flight.flying)
 
 -- A path whose sides are as after a landing is the path after it
 
+-- Two sides as a landing of side A's flight leaves them make up the path after it, if they made up the path before.
 pub a_seen : (link : LinkState) (session : ℕ) (a b new_a new_b : End) (path : PathState) (side : Side) (place : ℕ) (up : Bool) → path_of link session a b ≡ path → side ≡ A → up ≡ is_up path.link
     → new_a ≡ from_after a place → new_b ≡ to_after up a b place → path_of link session new_a new_b ≡ after_land path side place
 a_seen link session a b new_a new_b path side place up seen side_is up_is from to =
@@ -61,6 +64,7 @@ a_seen link session a b new_a new_b path side place up seen side_is up_is from t
     ∙ (ap (λ (e : End). path_of link session (from_after a place) e) (to ∙ ap (λ (u : Bool). to_after u a b place) (up_is ∙ ap (λ (p : PathState). is_up p.link) (sym seen)))
     ∙ (a_landing link session a b place ∙ (ap (λ (p : PathState). after_land p A place) seen ∙ ap (λ (s : Side). after_land path s place) (sym side_is))))
 
+-- Two sides as a landing of side B's flight leaves them make up the path after it, if they made up the path before.
 pub b_seen : (link : LinkState) (session : ℕ) (a b new_a new_b : End) (path : PathState) (side : Side) (place : ℕ) (up : Bool) → path_of link session a b ≡ path → side ≡ B → up ≡ is_up path.link
     → new_b ≡ from_after b place → new_a ≡ to_after up b a place → path_of link session new_a new_b ≡ after_land path side place
 b_seen link session a b new_a new_b path side place up seen side_is up_is from to =

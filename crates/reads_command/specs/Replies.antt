@@ -11,7 +11,7 @@ use Rattle.reads_command.specs.declared.reply.Reply.{Reply}
 use Rattle.reads_command.specs.declared.reply.ReadsError.{ReadsError}
 use Rattle.reads_command.specs.declared.reply.ReadsError.TheVariants.{BadLine, OutOfMemory}
 
--- exactly what is due, the number of the first bad line included; only want of memory is free
+-- exactly what is due, the number of the first bad line included; only out of memory is free
 abbrev pub Replies : {X : Type 0} → Result X ReadsError → Result X ℕ → Type 0
 Replies (Ok x) due = due ≡ Ok x
 Replies (Err (BadLine line)) due = due ≡ Err line
@@ -35,7 +35,7 @@ abbrev pub with_line : ℕ → ReplyState → Option PathStep → ReplyState
 with_line n reply None = reply
 with_line n reply (Some step) = record { steps = reply.steps + 1; path = after_step reply.path step; text = reply.text ++ made_line n (answer_to reply.path step) }
 
--- line n is added to the reply, or is a bad line; only want of memory is free
+-- line n is added to the reply, or is a bad line; only out of memory is free
 abbrev pub Adds : ℕ → ReplyState → ReplyState → Result (Unit {0}) ReadsError → Result (Option PathStep) Cause → Type 0
 Adds n old new (Ok done) due = (given : Option PathStep) × (due ≡ Ok given) × (new ≡ with_line n old given)
 Adds n old new (Err (BadLine line)) due = (cause : Cause) × (due ≡ Err cause) × (line ≡ n)

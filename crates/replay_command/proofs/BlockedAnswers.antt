@@ -35,6 +35,7 @@ blocked_counted (line ∷ lines) (made ∷ log) n same few =
 
 -- The same answer, so many times
 
+-- Counting a blocked answer a number of times adds that number to the count, up to 2^64 - 1.
 pub blocked_times : (answered : AnsweredStep) (count n : ℕ) → is_blocked answered.made.answer ≡ true → n ≤ 2 ^ 64 - 1 → fold with_blocked n (replicate count answered) ≡ min (n + count) (2 ^ 64 - 1)
 blocked_times answered zero n blocked few = omega arith
 blocked_times answered (suc count) n blocked few =
@@ -43,6 +44,7 @@ blocked_times answered (suc count) n blocked few =
     let sum : min (min (n + 1) (2 ^ 64 - 1) + count) (2 ^ 64 - 1) ≡ min (n + suc count) (2 ^ 64 - 1) = omega arith in
     ap (λ (now : ℕ). fold with_blocked now (replicate count answered)) one ∙ blocked_times answered count (min (n + 1) (2 ^ 64 - 1)) blocked most ∙ sum
 
+-- Counting an answer that isn't blocked, however often, leaves the count as it was.
 pub others_times : (answered : AnsweredStep) (count n : ℕ) → is_blocked answered.made.answer ≡ false → fold with_blocked n (replicate count answered) ≡ n
 others_times answered zero n other = refl
 others_times answered (suc count) n other =

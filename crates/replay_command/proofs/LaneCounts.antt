@@ -27,6 +27,7 @@ line_or_none : (b : Bool) (line : List ℕ) (lines : LaneCount → List ℕ) (co
 line_or_none true line lines count rest is = ap (λ (text : List ℕ). text ++ flat_map lines rest) (sym is)
 line_or_none false line lines count rest is = refl
 
+-- Leaving out the counts of no frame at all changes nothing in the lines that a report has of its lanes.
 pub lines_of_filled : (pairs : List PairPlan) (counts : List LaneCount) → flat_map (count_lines pairs) (filled counts) ≡ flat_map (count_lines pairs) counts
 lines_of_filled pairs [] = refl
 lines_of_filled pairs (count ∷ counts) =
@@ -41,6 +42,7 @@ adds_both old mid new xs ys first second =
     second ∙ ap (λ (before : List LaneCount). before ++ filled ys) first ∙ append_assoc old (filled xs) (filled ys)
     ∙ ap (λ (more : List LaneCount). old ++ more) (sym (filter-append counts_some xs ys))
 
+-- Adding the counts of an empty list leaves the counts as they were.
 pub adds_none : (old : List LaneCount) → old ≡ old ++ filled []
 adds_none old = sym (append-nil old)
 
@@ -48,6 +50,7 @@ adds_none old = sym (append-nil old)
 pub adds_one : (old : List LaneCount) (count : LaneCount) → counts_some count ≡ true → old ++ count ∷ [] ≡ old ++ filled (count ∷ [])
 adds_one old count some = ap (λ (b : Bool). old ++ cond b (count ∷ []) []) (sym some)
 
+-- Adding a count of no frame at all leaves the counts as they were.
 pub adds_nothing : (old : List LaneCount) (count : LaneCount) → counts_some count ≡ false → old ≡ old ++ filled (count ∷ [])
 adds_nothing old count none = sym (append-nil old) ∙ ap (λ (b : Bool). old ++ cond b (count ∷ []) []) (sym none)
 
@@ -80,6 +83,7 @@ range_more a n j e =
 abbrev pub queues_of : Plan → ℕ → ℕ
 queues_of plan k = min (pair_plan plan k).a.queues (pair_plan plan k).b.queues
 
+-- Lane counts of one pair more are those of the pairs before it, then that pair's from side A, then from side B.
 pub pairs_more : (plan : Plan) (log : List Answered) (k : ℕ) →
     flat_map (sessions_of_lane plan log) (flat_map (lanes_of_pair plan) (range_with_len 0 (k + 1)))
     ≡ flat_map (sessions_of_lane plan log) (flat_map (lanes_of_pair plan) (range_with_len 0 k))
@@ -124,6 +128,7 @@ lanes_below plan most k lt =
     all_append P (lanes_from k A (queues_of plan k)) (lanes_from k B (queues_of plan k) ++ []) (of_side A)
     (all_append P (lanes_from k B (queues_of plan k)) [] (of_side B) tt)
 
+-- Each lane count of a plan, of those that count a frame, names a pair that the plan has.
 pub all_known : (plan : Plan) (log : List Answered) → All (λ count. count.name.pair < length plan.pairs) (filled (lane_counts plan log))
 all_known plan log =
     let most : ℕ = length plan.pairs in
@@ -138,6 +143,7 @@ all_known plan log =
 
 -- Devices
 
+-- The counters of a plan's first devices, with the next device's after them, are those of one device more.
 pub devices_more : (plan : Plan) (log : List Answered) (k : ℕ) → k < length plan.devs →
     map (λ dev. counters_in plan log (lane_of_device dev)) (take k plan.devs) ++ counters_in plan log (lane_of_device (dev_plan plan.devs k)) ∷ []
     ≡ map (λ dev. counters_in plan log (lane_of_device dev)) (take (k + 1) plan.devs)
@@ -150,6 +156,7 @@ devices_more plan log k lt =
 own_pair : (plan : Plan) (k : ℕ) (pair : PairPlan) → k < length plan.pairs → pair ≡ get_or plan.pairs k pair → pair ≡ pair_plan plan k
 own_pair plan k pair lt is = get_or_read plan.pairs k pair lt is no_pair
 
+-- Both sides of a pair have the lesser of their two numbers of queues.
 pub has_queues : (plan kept : Plan) (k : ℕ) (pair : PairPlan) (queues : ℕ) → kept ≡ declared_part plan → k < length plan.pairs → pair ≡ get_or plan.pairs k pair →
     queues ≡ min pair.a.queues pair.b.queues → HasQueues kept k queues
 has_queues plan kept k pair queues same lt is least =

@@ -46,9 +46,11 @@ answers_kept (line ∷ lines) (made ∷ log) text =
 
 -- what the report asks of the counts
 
+-- Each lane count that goes into a plan's report names a pair that the plan has.
 pub lanes_known : (plan : Plan) (lanes : List LaneCount) → lanes ≡ filled (lane_counts plan (log_of_plan plan)) → All (λ count. count.name.pair < length plan.pairs) lanes
 lanes_known plan lanes same = subst (λ (counts : List LaneCount). All (λ count. count.name.pair < length plan.pairs) counts) (sym same) (all_known plan (log_of_plan plan))
 
+-- A plan's report has counters for as many devices as the plan has.
 pub devices_known : (plan : Plan) (devs : List Counters) → devs ≡ device_counts plan (log_of_plan plan) → length devs ≡ length plan.devs
 devices_known plan devs same = ap length same ∙ length-map plan.devs (λ dev. counters_in plan (log_of_plan plan) (lane_of_device dev))
 
@@ -59,12 +61,14 @@ one_queue : (seed frames : ℕ) (side : Side) → IsQueueOf (declared_part (load
 one_queue seed frames A = record { declared = omega arith; among = omega arith }
 one_queue seed frames B = record { declared = omega arith; among = omega arith }
 
+-- Each side of a generated load's pair has queue 0.
 pub load_lane_known : (plan kept : Plan) (seed frames : ℕ) (side : Side) → kept ≡ declared_part plan → plan ≡ load_of seed frames → IsQueueOf kept 0 side 0
 load_lane_known plan kept seed frames side same is =
     let of_load : (side : Side) → IsQueueOf (declared_part (load_of seed frames)) 0 side 0 = one_queue seed frames in
     let both : kept ≡ declared_part (load_of seed frames) = same ∙ ap declared_part is in
     subst (λ (given : Plan). IsQueueOf given 0 side 0) (sym both) (of_load side)
 
+-- A text that sums up what the log of a load accepted, delivered and blocked is the text that `load` writes.
 pub summary_same : {E : Type 0} (seed frames : ℕ) (plan : Plan) (taken given blocked : ℕ) (result : Result (Vec ℕ Global) E) → plan ≡ load_of seed frames →
     taken ≡ length (accepted plan (log_of_plan plan) load_lane 1) → given ≡ length (delivered plan (log_of_plan plan) load_lane 1) →
     blocked ≡ blocked_in (log_of_plan plan) → IfOk result (λ text. text.items ≡ summary_text seed frames taken given blocked) →

@@ -33,7 +33,7 @@ length-items_from plan memories net (step ∷ steps) = ap suc (length-items_from
 length-log_after : (plan : Plan) (lines : List Line) → length (log_after plan (steps_in lines)) ≡ length lines
 length-log_after plan lines = length-items_from plan (memory_of plan) (new_network plan) (steps_in lines) ∙ length-map lines step_in
 
--- so lines behind others have as many answers as they are
+-- so lines after others have as many answers as they are
 pub length-answers : (plan : Plan) (before lines : List Line) (answers : List Answered) →
     log_after plan (steps_in (before ++ lines)) ≡ log_after plan (steps_in before) ++ answers → length answers ≡ length lines
 length-answers plan before lines answers log =
@@ -56,7 +56,7 @@ pub fold_more : {K X : Type 0} (with_item : K → X → K) (old : K) (count : �
 fold_more with_item old count x =
     ap (fold with_item old) (sym (replicate-append-replicate count 1 x)) ∙ fold-append with_item old (replicate count x) (replicate 1 x)
 
--- What is kept, of no lines, of one, and of lines behind lines
+-- What is kept, of no lines, of one, and of lines after lines
 
 module _ {K : Type 0} (with_answer : K → AnsweredStep → K) (plan : Plan) (before : List Line) where
   pub kept_none : (cluster : ClusterState) (old : K) → HasReplayed plan before cluster → HasKept with_answer plan before [] cluster old old

@@ -11,6 +11,7 @@ regrouped : (sp load acc del blk s f t g b last : List ℕ) →
     ≡ (((((((load ++ ((sp ++ s) ++ ((sp ++ f) ++ []))) ++ acc) ++ ((sp ++ t) ++ [])) ++ del) ++ ((sp ++ g) ++ [])) ++ blk) ++ ((sp ++ b) ++ [])) ++ last
 regrouped sp load acc del blk s f t g b last = simp (append_assoc, append-nil)
 
+-- The words and numbers of a load's summary, put together one by one, are the line that its definition has.
 pub summary_is : (seed frames taken given blocked : ℕ) →
     codes "load " ++ (decimal seed ++ (codes " " ++ (decimal frames ++ (codes " accepted " ++ (decimal taken ++ (codes " delivered " ++ (decimal given ++ (codes " blocked " ++ (decimal blocked ++ 10 ∷ [])))))))))
     ≡ summary_text seed frames taken given blocked

@@ -56,6 +56,7 @@ true_replay : (read : Result Plan ScriptFault) → (replayed read).status ≡ 0 
 true_replay (Ok plan) zero = (plan, refl, true_log plan)
 true_replay (Err fault) zero = absurd (omega arith)
 
+-- An output that is a script's report or refusal is what `replay` promises: where it is done, the log is true.
 pub replay_is_true : (bytes : List ℕ) (output : Output) → output ≡ replayed (script_of bytes) → IsReplayOf bytes output
 replay_is_true bytes output same =
     record {
@@ -63,5 +64,6 @@ replay_is_true bytes output same =
       headline = λ zero. true_replay (script_of bytes) (subst (λ (output : Output). output.status ≡ 0) same zero);
     }
 
+-- An output that is the text of a generated load is what `load` promises: the load's log is true.
 pub load_is_true : (seed frames : ℕ) (output : Output) → output ≡ done (load_text seed frames) → IsLoadOf seed frames output
 load_is_true seed frames output same = record { answer = same; headline = true_log (load_of seed frames) }

@@ -18,8 +18,8 @@ use Rattle.replay_command.specs.Replays.{log_of_plan, steps_of}
 abbrev pub log_so_far : Plan → List Step → List Answered
 log_so_far plan before = switch_log plan (memory_of plan) before
 
--- a step of the plan, behind these steps and before those, and its item of the log: that of an `xnext` that sends a frame has the
--- begin which it is
+-- a step of the plan, after these steps and before those, and its item of the log: that of an `xnext` that sends a
+-- frame has the begin which it is
 pub record IsStepOf (plan : Plan) (before behind : List Step) (step : Step) (made : Answered) : Type 0 where
   pub place : steps_of plan ≡ before ++ step ∷ behind
   pub goes_on : log_so_far plan (before ++ step ∷ []) ≡ log_so_far plan before ++ made ∷ []

@@ -24,7 +24,7 @@ pub fn replay_reply(alloc: Global, bytes: &[u8]) -> Result<Reply, AllocError>
     }
 }
 
-/// The reply of `load`: the summary of a generated load of 1 to 30,000 frames, with status 0. The only error is want of
+/// The reply of `load`: the summary of a generated load of 1 to 30,000 frames, with status 0. The only error is out of
 /// memory.
 pub fn load_reply(alloc: Global, seed: u64, frames: u32) -> Result<Reply, AllocError>
     requires some { 1 ≤ frames }

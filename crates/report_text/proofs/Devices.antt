@@ -20,10 +20,12 @@ joined_more f xs ys k d e within same =
     rw (add-one, zip_more xs ys k d e within same, flat_map-append f (zip (take k xs) (take k ys)) ((get_or xs k d, get_or ys k e) ∷ []))
     (ap (λ more. flat_map f (zip (take k xs) (take k ys)) ++ more) (append-nil (f (get_or xs k d, get_or ys k e))))
 
+-- The lines of the first k+1 devices are those of the first k and then that of device k with its counters.
 pub device_lines_more : (devs : List DevPlan) (counters : List Counters) (k : ℕ) (d : DevPlan) (e : Counters) → k < length devs → length counters ≡ length devs →
     device_lines (take (k + 1) devs) (take (k + 1) counters) ≡ device_lines (take k devs) (take k counters) ++ device_line (get_or devs k d) (get_or counters k e)
 device_lines_more devs counters k d e within same = joined_more (λ both. device_line both.0 both.1) devs counters k d e within same
 
+-- The lines of the first k devices are those of all where there are at most k, with as many counters.
 pub device_lines_all : (devs : List DevPlan) (counters : List Counters) (k : ℕ) → length devs ≤ k → length counters ≡ length devs →
     device_lines (take k devs) (take k counters) ≡ device_lines devs counters
 device_lines_all devs counters k all same = rw (take_all k devs all, take_all k counters (omega arith)) refl

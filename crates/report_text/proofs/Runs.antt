@@ -19,10 +19,12 @@ frames_step line lines none more n (x ∷ xs) (suc k) d within =
     ∙ sym (append_assoc (line n x) (lines (n + 1) (take k xs)) (line (n + 1 + k) (get_or xs k d)))
     ∙ ap (λ r. r ++ line (n + 1 + k) (get_or xs k d)) (sym (more n x (take k xs))) ∙ ap (λ m. lines n (x ∷ take k xs) ++ line m (get_or xs k d)) (omega arith)
 
+-- The numbered lines of the first k+1 frames are those of the first k and then that of frame k.
 pub frame_lines_more : (word : List ℕ) (n : ℕ) (xs : List (List ℕ)) (k : ℕ) (d : List ℕ) → k < length xs →
     frame_lines word n (take (k + 1) xs) ≡ frame_lines word n (take k xs) ++ frame_line word (n + k) (get_or xs k d)
 frame_lines_more word n xs k d within = rw add-one (frames_step (frame_line word) (frame_lines word) (λ n. refl) (λ n x xs. refl) n xs k d within)
 
+-- The numbered lines of the first k frames are those of all where there are at most k.
 pub frame_lines_all : (word : List ℕ) (n : ℕ) (xs : List (List ℕ)) (k : ℕ) → length xs ≤ k → frame_lines word n (take k xs) ≡ frame_lines word n xs
 frame_lines_all word n xs k all = ap (frame_lines word n) (take_all k xs all)
 
@@ -41,6 +43,7 @@ sessions_step line lines none more n (x ∷ xs) (suc k) d within =
     ∙ ap (λ r. r ++ line (n + 1 + k) (session_shown (get_or xs k d))) (sym (more n (session_shown x) (map session_shown (take k xs))))
     ∙ ap (λ m. lines n (session_shown x ∷ map session_shown (take k xs)) ++ line m (session_shown (get_or xs k d))) (omega arith)
 
+-- The lines of a lane's first k+1 sessions are those of its first k and then those of session number k+1.
 pub sessions_lines_more : (pairs : List PairPlan) (lane : LaneName) (xs : List SessionRun) (k : ℕ) (d : SessionRun) → k < length xs →
     sessions_lines pairs lane 1 (map session_shown (take (k + 1) xs))
     ≡ sessions_lines pairs lane 1 (map session_shown (take k xs)) ++ session_lines pairs lane (k + 1) (session_shown (get_or xs k d))

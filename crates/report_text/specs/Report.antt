@@ -74,11 +74,11 @@ report_of plan lines lanes devs = flat_map answer_line lines ++ ending plan lane
 
 -- The text of a threaded run
 
--- a frame behind a word and its number
+-- a frame after a word and its number
 abbrev pub frame_line : List ℕ → ℕ → List ℕ → List ℕ
 frame_line word n frame = line_of (word ++ numbers_text (n ∷ []) ++ 32 ∷ frame_text frame)
 
--- frames behind a word, numbered from n on
+-- frames after a word, numbered from n on
 abbrev pub frame_lines : List ℕ → ℕ → List (List ℕ) → List ℕ
 frame_lines word n [] = []
 frame_lines word n (frame ∷ frames) = frame_line word n frame ++ frame_lines word (n + 1) frames

@@ -8,7 +8,7 @@ use Rattle.step_kinds.specs.declared.steps.Label.TheVariants.{Chunk, Len, Ver, F
 use Rattle.step_kinds.specs.declared.steps.Answer.{Answer}
 use Rattle.step_kinds.specs.declared.steps.Answer.TheVariants.{Ok as Done, OkSession, OkNumber, NotDown, Dirty, NotEnabled, Spent, NotUp, NotClosing, LinkDown, Already, Offered, NotYet, Version, Queues, Windows, Size, Up, NotChecked, NotReady, Joined, Closed, TooLong, Busy, Stopped, Again, Idle, Posted, Nothing, Blocked, Landed, OutOfTurn, Empty, PeerDown, VerDiffers, Long, ReadyFrame, Copied, Delivered, Cleared, Acked, Awake, Irq, Mem, PadValue, QueueShown, Short, Filtered, To, Flood}
 
--- numbers, each behind a space
+-- numbers, each after a space
 abbrev pub numbers_text : List ℕ → List ℕ
 numbers_text numbers = flat_map (λ n. 32 ∷ decimal n) numbers
 

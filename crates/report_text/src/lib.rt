@@ -7,8 +7,6 @@ pub mod append;
 mod line;
 mod run;
 mod stream;
-#[cfg(test)]
-mod tests;
 mod whole;
 
 pub use answers::{push_answer, text_of};

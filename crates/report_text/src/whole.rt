@@ -25,9 +25,9 @@ pub struct LaneCount {
     pub delivered: u64,
 }
 
-/// The report of a replay: a line for each answer in order, with the number of its script line; a line for each lane and
-/// session where a frame was accepted or delivered; a line for each device of the plan; and `end`. The only error is want
-/// of memory.
+/// The report of a replay: a line for each answer in order, with the number of its script line; a line for each lane
+/// and session where a frame was accepted or delivered; a line for each device of the plan; and `end`. The only error
+/// is out of memory.
 ///
 /// Each lane names a pair of the plan, and there are as many counters as the plan has devices.
 pub fn report(
@@ -77,7 +77,7 @@ fn push_answers(text: &mut Vec<u8>, lines: &[LineAnswer]) -> Result<(), AllocErr
     Ok(())
 }
 
-/// Adds the line of an answer: the number of its script line, a space, and the answer's text. The only error is want of
+/// Adds the line of an answer: the number of its script line, a space, and the answer's text. The only error is out of
 /// memory, and then some part of the line may have been added.
 pub fn push_answer_line(text: &mut Vec<u8>, made: &LineAnswer) -> Result<(), AllocError>
     ensures { OnOk result (text.new.items ≡ text.old.items ++ answer_line made.now) }

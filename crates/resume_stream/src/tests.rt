@@ -48,7 +48,7 @@ const LOST: [StreamEvent; 12] = [
     StreamEvent::Carry,
 ];
 
-// No program makes a world: here it is made once, where memory doesn't want.
+// No program makes a world: here it is made once, unless out of memory.
 #[test]
 fn a_world_brings_all(rt: HostRuntime) -> Result<(), Fail> {
     let (_sender, receiver) = run_world(rt.alloc(), both(rt.alloc())?, &LOST)?;

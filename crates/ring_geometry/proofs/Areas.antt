@@ -27,6 +27,7 @@ place_below queue queues windows p q =
       ]
     ]
 
+-- The area of a queue's ring lies within its window.
 pub area_in_window : (l : Layout) → HasRing l → area_start l + area l ≤ l.window
 area_in_window l h =
     let below = place_below l.queue l.queues l.windows h.some_window h.a_queue in
@@ -51,6 +52,7 @@ quotients_differ a b n e ne q =
     let y = mod-add-div b n in
     ne (cc)
 
+-- The areas of two queues of one side that lie in the same window share no byte.
 pub areas_apart : (k l : Layout) → HasRing k → HasRing l → IsSameSide k l → window_of k ≡ window_of l → k.queue ≢ l.queue
     → StandApart (area_start k) (area k) (area_start l) (area l)
 areas_apart k l _ _ e w ne =
@@ -66,5 +68,6 @@ slot_in_area l h i p =
     let index = h.index_fits in
     grind arith
 
+-- Each slot of a ring lies within its window, with four bytes or more of the window after it for the index word.
 pub slot_in_window : (l : Layout) → HasRing l → (i : ℕ) → i < entries_of l → slot_of l i + frame_size l + 4 ≤ l.window
 slot_in_window l h i p = omega (arith, slot_in_area l h i p, area_in_window l h)

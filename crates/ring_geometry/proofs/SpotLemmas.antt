@@ -132,6 +132,7 @@ in_one_ring l h (Index q) (Header q' j from' len') a b same differ =
     inr (omega (arith, fits, ends, inside))
 in_one_ring l h (Index q) (Index q') a b same differ = absurd (differ same)
 
+-- Two spots of one memory that are no parts of one another share no byte, if the peer's windows fit the memory's.
 pub spots_apart : (rings : Rings) → rings.size ≤ rings.cap → (one other : Spot) → IsSpot rings one → IsSpot rings other → AreOther one other
     → StandApart (spot_at rings one) (spot_bytes rings one) (spot_at rings other) (spot_bytes rings other)
 spots_apart rings fits one other (h, a) (h', b) differ =
@@ -150,6 +151,7 @@ spots_apart rings fits one other (h, a) (h', b) differ =
         let second = in_area (layout_at rings (queue_of other)) h' other b in
         within_apart _ _ _ _ _ _ _ _ areas (omega (arith, first.0)) (omega (arith, first.1)) (omega (arith, second.0)) (omega (arith, second.1))
 
+-- A spot lies within its window as the peer has it, and within the memory if the peer's windows fit the memory's.
 pub spot_inside : (rings : Rings) → (spot : Spot) → IsSpot rings spot
     → (offset_in (layout_at rings (queue_of spot)) spot + spot_bytes rings spot ≤ rings.size)
     × (rings.size ≤ rings.cap → spot_at rings spot + spot_bytes rings spot ≤ rings.cap * rings.windows)

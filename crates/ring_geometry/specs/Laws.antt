@@ -11,11 +11,11 @@ HasTwoEntries = (l : Layout) → HasRing l → 2 ≤ entries_of l
 abbrev pub SlotsStandApart : Type 0
 SlotsStandApart = (l : Layout) → HasRing l → (i j : ℕ) → i < j → slot_of l i + frame_size l ≤ slot_of l j
 
--- an entry is the largest payload and then the header, with nothing between and nothing behind
+-- an entry is the largest payload and then the header, with nothing between and nothing after
 abbrev pub HeaderEndsSlot : Type 0
 HeaderEndsSlot = (l : Layout) → HasRing l → (i : ℕ) → (slot_of l i + max_payload_of l ≡ header_of l i) × (header_of l i + l.header ≡ slot_of l i + frame_size l)
 
--- the index word stands behind all entries and ends the area
+-- the index word stands after all entries and ends the area
 abbrev pub IndexFollowsSlots : Type 0
 IndexFollowsSlots = (l : Layout) → HasRing l → ((i : ℕ) → i < entries_of l → slot_of l i + frame_size l ≤ index_of l) × (area_start l ≤ index_of l) × (index_of l + 4 ≡ area_start l + area l)
 

@@ -11,6 +11,7 @@ use Rattle.script_words.specs.Compact.{flood_of}
 use Rattle.plan_model.specs.TrafficPlans.{frames_in, bytes_in}
 use Rattle.script_words.specs.TrafficLines.{flood_frame}
 
+-- The n+1 consecutive numbers from a start are the first n and then the start plus n.
 pub count_from-last : (from n : ℕ) → count_from from (suc n) ≡ count_from from n ++ (from + n) ∷ []
 count_from-last from zero = ap (λ k. k ∷ []) (omega arith)
 count_from-last from (suc n) = ap (λ ks. from ∷ ks) (count_from-last (suc from) n ∙ ap (λ k. count_from (suc from) n ++ k ∷ []) (omega arith))
@@ -28,11 +29,13 @@ flood_frame_more len i =
     ap (λ n. flood_frame n i) (add-one len) ∙ (ap (map (λ j. (i + j) % 256)) (count_from-last 0 len) ∙ (map-append (λ j. (i + j) % 256) (count_from 0 len) ((0 + len) ∷ [])
     ∙ ap (λ k. flood_frame len i ++ ((i + k) % 256) ∷ []) (zero-first len)))
 
+-- A flood of one frame more is the flood and then the item that sends its next frame.
 pub flood_of_more : (lane : LaneName) (count len : ℕ) → flood_of lane (count + 1) len ≡ flood_of lane count len ++ Send lane (flood_frame len count) ∷ []
 flood_of_more lane count len =
     ap (λ n. flood_of lane n len) (add-one count) ∙ (ap (map (λ i. Send lane (flood_frame len i))) (count_from-last 0 count)
     ∙ (map-append (λ i. Send lane (flood_frame len i)) (count_from 0 count) ((0 + count) ∷ []) ∙ ap (λ k. flood_of lane count len ++ Send lane (flood_frame len k) ∷ []) (zero-first count)))
 
+-- Each frame of a flood has the length that the flood gives.
 pub length_flood_frame : (len i : ℕ) → length (flood_frame len i) ≡ len
 length_flood_frame len i = length-map (count_from 0 len) (λ j. (i + j) % 256) ∙ length-count_from 0 len
 
@@ -45,12 +48,15 @@ sum-same f made v same from (suc n) =
     let whole = suc-mul n v in
     omega arith
 
+-- A sum over two joined lists of traffic is the sum over the first plus the sum over the second.
 pub sum-map-append : (f : Traffic → ℕ) (xs ys : List Traffic) → sum (map f (xs ++ ys)) ≡ sum (map f xs) + sum (map f ys)
 sum-map-append f xs ys = ap sum (map-append f xs ys) ∙ sum_by-append (λ y. y) (map f xs) (map f ys)
 
+-- A flood has just as many frames as its count says.
 pub flood_frames : (lane : LaneName) (count len : ℕ) → sum (map frames_in (flood_of lane count len)) ≡ count
 flood_frames lane count len = sum-same frames_in (λ i. Send lane (flood_frame len i)) 1 (λ i. refl) 0 count ∙ omega arith
 
+-- The bytes of a flood's frames are its count times its length.
 pub flood_bytes : (lane : LaneName) (count len : ℕ) → sum (map bytes_in (flood_of lane count len)) ≡ count * len
 flood_bytes lane count len = sum-same bytes_in (λ i. Send lane (flood_frame len i)) len (length_flood_frame len) 0 count
 
@@ -62,6 +68,7 @@ frames_stay old more lane i count len most h room e =
     let part = flood_frames lane i len in
     rw e (omega arith)
 
+-- Where a whole flood fits the limit of bytes, the traffic with a part of it has room for one frame more of it.
 pub bytes_stay : (old more : List Traffic) (lane : LaneName) (i count len most size : ℕ) → i < count → sum (map bytes_in old) + count * len ≤ most → more ≡ old ++ flood_of lane i len → size ≡ len
     → sum (map bytes_in more) + size ≤ most
 bytes_stay old more lane i count len most size h room e same =

@@ -9,6 +9,7 @@ use Rattle.plan_model.specs.Macros.{posts_in}
 use Rattle.plan_model.specs.Sizes.{agreed_version, sizes_of, pieces_in}
 use Rattle.script_plan.proofs.Floods.{count_from-last}
 
+-- A sum over the numbers from 0 to k is the sum over those below k plus the value at k.
 pub sum_counted_more : (f : ℕ → ℕ) (k : ℕ) → sum (map f (count_from 0 (k + 1))) ≡ sum (map f (count_from 0 k)) + f k
 sum_counted_more f k =
     let zero_first : 0 + k ≡ k = omega arith in

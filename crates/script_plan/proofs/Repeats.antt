@@ -7,5 +7,6 @@ repeats-suc : (line k : ℕ) (step : Step) → lines_with line (replicate (suc k
 repeats-suc line zero step = refl
 repeats-suc line (suc k) step = ap (λ lines. record { line = line; step = step } ∷ lines) (repeats-suc line k step)
 
+-- A step made k+1 times on a line is the same step made k times and then once, on that line.
 pub repeats_more : (line k : ℕ) (step : Step) → lines_with line (replicate (k + 1) step) ≡ lines_with line (replicate k step) ++ lines_with line (step ∷ [])
 repeats_more line k step = rw add-one (repeats-suc line k step)

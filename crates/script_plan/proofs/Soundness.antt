@@ -60,6 +60,7 @@ added_pair before pair hosts sound fits few =
       few_steps = sound.few_steps;
     }
 
+-- Sound lines of a script stay sound with one more pair that can be declared, while pairs are fewer than the most.
 pub pair_added : (before : Before) (more : List PairPlan) (more_hosts : List PairHosts) (pair : PairPlan) (hosts : PairHosts) → IsSound before → IsPair pair → length before.plan.pairs < most_pairs
     → more ≡ before.plan.pairs ++ pair ∷ [] → more_hosts ≡ before.pair_hosts ++ hosts ∷ [] → IsSound (record before { plan = record before.plan { pairs = more }; pair_hosts = more_hosts })
 pair_added before more more_hosts pair hosts sound fits few e e_hosts =
@@ -123,6 +124,7 @@ classes_fit pair a b h are_a are_b = record {
   raw = h.raw;
 }
 
+-- A pair that a script can declare still is one when one of its queues gets a class from 0 to 7.
 pub class_fits : (pair : PairPlan) (side : Side) (queue class : ℕ) → IsPair pair → IsClass class → IsPair (with_class pair side queue class)
 class_fits pair A queue class h small =
     classes_fit pair (slice_set pair.class_a queue class) pair.class_b h (λ k. classes_set pair.class_a queue class k h.classes_a small) h.classes_b
@@ -145,6 +147,7 @@ among_set (p ∷ pairs) zero (suc j) now own e = refl
 among_set (p ∷ pairs) (suc k) zero now own e = refl
 among_set (p ∷ pairs) (suc k) (suc j) now own e = among_set pairs k j now own e
 
+-- A queue of a plan's pair still is one when a queue of any pair of the plan gets a traffic class.
 pub queue_classed : (plan : Plan) (pair : ℕ) (whose : Side) (among class : ℕ) (k : ℕ) (side : Side) (queue : ℕ) → IsQueueOf plan k side queue
     → IsQueueOf (record plan { pairs = slice_set plan.pairs pair (with_class (pair_plan plan pair) whose among class) }) k side queue
 queue_classed plan pair whose among class k side queue h =
@@ -154,6 +157,7 @@ queue_classed plan pair whose among class k side queue h =
       among = subst (λ own. queue < own.queues) (sym (among_set plan.pairs pair k now side (sides_stay (pair_plan plan pair) whose side among class))) h.among;
     }
 
+-- Sound lines of a script stay sound when a queue of one of their pairs gets a class from 0 to 7.
 pub class_added : (before : Before) (more : List PairPlan) (classed : List QueueName) (pair : ℕ) (side : Side) (queue class : ℕ) → IsSound before → pair < length before.plan.pairs → IsClass class
     → more ≡ slice_set before.plan.pairs pair (with_class (pair_plan before.plan pair) side queue class) → IsSound (record before { plan = record before.plan { pairs = more }; classed = classed })
 class_added before more classed pair side queue class sound lt small e =

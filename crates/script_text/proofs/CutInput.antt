@@ -1,4 +1,4 @@
--- Scripts that are cut behind a line feed, or go on otherwise there.
+-- Scripts that are cut after a line feed, or go on otherwise there.
 use Rattle.std.proofs.Common.{◌≡◌, ℕ, suc, ◌+◌, ◌-◌, ◌<◌, ◌≤◌, ◌==◌, Bool, true, false, cond, Result, Ok, Err, List, [], ◌∷◌, ◌++◌, length, get_or, take, drop, map, count_by, refl, sym, ◌∙◌, ap, subst, append_assoc, arith}
 use Rattle.std.proofs.Math.ListN.{take-append-drop}
 use Rattle.std.proofs.Math.Seq.{take-suc}
@@ -17,7 +17,7 @@ use Rattle.script_text.specs.ParseClauses.{after_line}
 use Rattle.script_text.specs.Script.{line_gives, read_lines, plan_of, script_of}
 use Rattle.script_text.proofs.LinesRead.{then_lines, next_line}
 
--- Lines in front of a line feed and behind it
+-- Lines before a line feed and after it
 
 first_of_split : (p : ℕ → Bool) (xs : List ℕ) → (first : List ℕ) × (rest : List (List ℕ)) × (slice_split p xs ≡ first ∷ rest)
 first_of_split p [] = ([], [], refl)
@@ -65,7 +65,7 @@ read-append n before (line ∷ lines) more =
     by (Ok b) ih = let same : (n + 1) + length lines ≡ n + suc (length lines) = omega arith in ih b ∙ ap (λ m. then_rest m more (read_lines (n + 1) b lines)) same
     by (Err fault) ih = refl
 
--- the lines of a front that ends with a line feed, and of what comes behind it
+-- the lines of a front that ends with a line feed, and of what comes after it
 read_apart : (front back : List ℕ) → read_lines 1 nothing_before (lines_of (front ++ 10 ∷ back)) ≡ then_rest (1 + length (lines_of front)) (lines_of back) (read_lines 1 nothing_before (lines_of front))
 read_apart front back = ap (read_lines 1 nothing_before) (lines_apart front back) ∙ read-append 1 nothing_before (lines_of front) (lines_of back)
 
@@ -83,7 +83,7 @@ some_lines front =
     let same = length-map (slice_split (λ b. b == 10) front) without_return in
     omega arith
 
--- an empty line behind the first says nothing
+-- an empty line after the first says nothing
 empty_line : (n : ℕ) (before : Before) → 1 < n → read_lines n before ([] ∷ []) ≡ Ok before
 empty_line n before h = let later : (n == 1) ≡ false = ne_eqb n 1 (λ e. omega arith) in rw later refl
 
@@ -98,6 +98,7 @@ cut_at front back ok =
     let late : 1 < 1 + length (lines_of front) = let some = some_lines front in omega arith in
     subst P (sym (read_apart front [])) (plan_stays (1 + length (lines_of front)) (lines_of back) (read_lines 1 nothing_before (lines_of front)) late (subst P (read_apart front back) ok))
 
+-- A script that is accepted stays accepted when it is cut right after any of its line feeds.
 pub plan_cut : (bytes : List ℕ) (end : ℕ) → IsOk (script_of bytes) → 1 ≤ end → end ≤ length bytes → get_or bytes (end - 1) 0 ≡ 10 → IsOk (script_of (take end bytes))
 plan_cut bytes end ok some within e =
     let k : ℕ = end - 1 in
@@ -146,6 +147,7 @@ lines_counted front =
     let more = sum_by-append (λ x. cond (x == 10) 1 0) front (10 ∷ []) in
     omega arith
 
+-- Scripts with equal bytes up to the line feed that ends the line of the first fault have the same fault.
 pub fault_same : (bytes other : List ℕ) (end : ℕ) → FaultEndsAt bytes end → take end other ≡ take end bytes → script_of other ≡ script_of bytes
 fault_same bytes other end h same =
     let k : ℕ = end - 1 in

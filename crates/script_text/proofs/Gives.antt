@@ -13,6 +13,7 @@ pub record Gives {X E : Type 0} (P : X → Type 0) (result : Result X E) : Type 
 pub gives_ok : {X E : Type 0} (P : X → Type 0) (x : X) → P x → Gives {E = E} P (Ok x)
 gives_ok P x p = record { holds = λ y e. let same : x ≡ y = cc in subst P same p }
 
+-- A fault gives no value, so any property holds of every value that it gives.
 pub gives_fault : {X E : Type 0} (P : X → Type 0) (error : E) → Gives P (Err error)
 gives_fault P error = record { holds = λ y e. cc e }
 
@@ -33,6 +34,7 @@ pub gives_at : {X : Type 0} (P : X → Type 0) (n : ℕ) (result : Result X Caus
 gives_at P n (Ok x) h = gives_ok P x (h.holds x refl)
 gives_at P n (Err cause) h = record { holds = λ y e. cc e }
 
+-- What holds of a result's value still holds where its fault is told with its word and the range wanted.
 pub gives_within : {X : Type 0} (P : X → Type 0) (n least most : ℕ) (result : Result X Cause) → Gives P result → Gives P (within n least most result)
 gives_within P n least most (Ok x) h = gives_ok P x (h.holds x refl)
 gives_within P n least most (Err cause) h = record { holds = λ y e. cc e }
@@ -61,5 +63,6 @@ pub if_some : {X : Type 0} (P : X → Type 0) (test : Bool) (x : X) (rest : Opti
 if_some P true x rest p k y e = let same : x ≡ y = cc in subst P same p
 if_some P false x rest p k y e = k y e
 
+-- Where None is taken to equal Some of a value, any property of that value follows.
 pub none_some : {X : Type 0} (P : X → Type 0) (y : X) → None ≡ Some y → P y
 none_some P y e = cc e

@@ -11,11 +11,12 @@ use Rattle.script_text.specs.Script.{line_gives, read_lines}
 use Rattle.script_text.specs.declared.error.ParseError.{ParseError}
 use Rattle.script_text.specs.declared.error.ParseError.TheVariants.{Fault, OutOfMemory}
 
--- the lines behind line n
+-- the lines after line n
 abbrev pub then_lines : ℕ → List (List ℕ) → Result Before ScriptFault → Result Before ScriptFault
 then_lines n lines (Ok before) = read_lines (n + 1) before lines
 then_lines n lines (Err fault) = Err fault
 
+-- Reading a list of lines reads the first one and, unless it has a fault, the others from the next number on.
 pub next_line : (n : ℕ) (before : Before) (line : List ℕ) (lines : List (List ℕ)) → read_lines n before (line ∷ lines) ≡ then_lines n lines (after_line n before (line_gives n before line))
 next_line n before line lines = by (line_gives n before line) refl
   where
@@ -29,6 +30,7 @@ rest_lines : (rest : Option (Bor (List ℕ))) → map without_return (option_map
 rest_lines None = refl
 rest_lines (Some text) = refl
 
+-- Reading a text reads its first line, less a carriage return, and then the lines after its line feed, if any.
 pub line_turn : (n : ℕ) (before : Before) (text first line : List ℕ) (rest : Option (Bor (List ℕ))) → slice_split (λ b. b == 10) text ≡ first ∷ option_map_or (λ text. slice_split (λ b. b == 10) text.now) rest []
     → line ≡ without_return first
     → read_lines n before (lines_of text) ≡ then_lines n (option_map_or (λ text. lines_of text.now) rest []) (after_line n before (line_gives n before line))
@@ -38,6 +40,7 @@ line_turn n before text first line rest parts same =
     ap (map without_return) parts ∙ (ap (λ l. l ∷ map without_return behind) (sym same) ∙ ap (λ lines. line ∷ lines) (rest_lines rest)) in
     ap (read_lines n before) split ∙ next_line n before line (option_map_or (λ text. lines_of text.now) rest [])
 
+-- A line's number plus the bytes left and one stays within its bound at the next line, as each rest is shorter.
 pub count_turn : (rest : Option (Bor (List ℕ))) (text : List ℕ) (n total : ℕ) → IfSome rest (λ more. length more.now < length text) → n + (length text + 1) ≤ total
     → (n + 1) + option_map_or (λ more. length more.now + 1) rest 0 ≤ total
 count_turn None text n total shorter few = omega arith

@@ -15,8 +15,10 @@ of_six P more (a ∷ b ∷ c ∷ d ∷ []) h = absurd (omega arith)
 of_six P more (a ∷ b ∷ c ∷ d ∷ e ∷ []) h = absurd (omega arith)
 of_six P more (a ∷ b ∷ c ∷ d ∷ e ∷ f ∷ words) h = more a b c d e f words
 
+-- A line of the steps with seven words or more is an unknown line, whatever its words are.
 pub step_line_long : (before : Before) (word : List ℕ) (words : List (List ℕ)) → 6 ≤ length words → step_line before word words ≡ Err unknown_line
 step_line_long before word = of_six (λ words. step_line before word words ≡ Err unknown_line) (λ a b c d e f words. refl)
 
+-- A line of the traffic with seven words or more is an unknown line, whatever its words are.
 pub traffic_line_long : (before : Before) (word : List ℕ) (words : List (List ℕ)) → 6 ≤ length words → traffic_line before word words ≡ Err unknown_line
 traffic_line_long before word = of_six (λ words. traffic_line before word words ≡ Err unknown_line) (λ a b c d e f words. refl)

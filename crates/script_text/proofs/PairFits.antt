@@ -119,6 +119,7 @@ sizes_agree pair h =
     let parts = and_parts (nat_le pair.a.size pair.b.cap) (nat_le pair.b.size pair.a.cap) h in
     (leb-true pair.a.size pair.b.cap parts.0, leb-true pair.b.size pair.a.cap parts.1)
 
+-- A pair that passes the test `agrees` has versions from 4 on, equal queues and windows, and sizes that fit.
 pub sides_agree : (pair : PairPlan) → agrees pair ≡ true → Agree pair
 sides_agree pair h =
     let versions_rest = and_parts (nat_le 4 pair.a.version && nat_le 4 pair.b.version) ((pair.a.queues == pair.b.queues) && ((pair.a.windows == pair.b.windows) && sizes_fit pair)) h in
@@ -155,6 +156,7 @@ no_classes zero k = lit< tt
 no_classes (suc n) zero = lit< tt
 no_classes (suc n) (suc k) = no_classes n k
 
+-- A pair whose options are each in their range and go together is one that a script can declare.
 pub pair_fits : (name : List ℕ) (settings : List Setting) → list_all in_range settings ≡ true → goes_together (pair_with name settings) ≡ true → IsPair (pair_with name settings)
 pair_fits name settings all together =
     let pair : PairPlan = pair_with name settings in

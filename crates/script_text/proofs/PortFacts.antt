@@ -38,6 +38,7 @@ is_there devs dev e =
     let is : other ≡ dev = eqb-true other dev same in
     (k, within, subst (λ d. get_or devs k d ≡ d) is at)
 
+-- A device that the test finds among the ports of some switch stands in the list of all switches' ports.
 pub port_is_there : (switches : List SwitchPlan) (dev : ℕ) → list_any (λ switch. is_among switch.ports dev) switches ≡ true → Contains (ports_in switches) dev
 port_is_there [] dev e = cc e
 port_is_there (switch ∷ switches) dev e = elim (or_cases (is_among switch.ports dev) (list_any (λ other. is_among other.ports dev) switches) e) [
@@ -64,6 +65,7 @@ one_more before devs word adds =
       length-append devs (dev ∷ []),
     )))
 
+-- Further words for ports give one declared device each, none of which is a port yet or is named twice.
 pub all_ports : (before : Before) (devs : List ℕ) (words : List (List ℕ)) → AddsPorts before devs
     → Gives (λ more. AddsPorts before more × (length more ≡ length devs + length words)) (ports_from before devs words)
 all_ports before devs [] adds = gives_ok _ devs (adds, omega arith)
@@ -84,6 +86,7 @@ one_declared before devs word all =
     gives_then _ _ _ (gives_passed (is_port before dev || is_among devs dev) (fault_at (port_place devs) Repeated)) (λ _ _.
     gives_ok _ (devs ++ dev ∷ []) (All-push (λ d. d < length before.plan.devs) devs dev all lt)))
 
+-- The devices that words name as ports are all declared, where those named before them are.
 pub all_declared : (before : Before) (devs : List ℕ) (words : List (List ℕ)) → All (λ dev. dev < length before.plan.devs) devs
     → Gives (λ more. All (λ dev. dev < length before.plan.devs) more) (ports_from before devs words)
 all_declared before devs [] all = gives_ok _ devs all

@@ -3,6 +3,7 @@ use Rattle.std.proofs.Common.{◌≡◌, ◌≢◌, ℕ, zero, suc, ◌==◌, fa
 use Rattle.std.proofs.lemmas.Bool.Decides.{nat_tests}
 use Rattle.script_words.specs.Words.{without_return}
 
+-- A line that ends with a carriage return, without its last byte, is the line without its return.
 pub return_dropped : (line : List ℕ) (n : ℕ) → length line ≡ suc n → get_or line n 0 ≡ 13 → take n line ≡ without_return line
 return_dropped [] n h e = absurd (omega arith)
 return_dropped (b ∷ []) zero h e = rw e refl
@@ -13,6 +14,7 @@ return_dropped (b ∷ c ∷ bytes) (suc n) h e = ap (λ line. b ∷ line) (retur
 lone_byte : (b : ℕ) → b ≢ 13 → (b == 13) ≡ false
 lone_byte b e = grind (arith, nat_tests)
 
+-- A line whose last byte isn't a carriage return is the same line without its return.
 pub return_missing : (line : List ℕ) (n : ℕ) → length line ≡ suc n → get_or line n 0 ≢ 13 → line ≡ without_return line
 return_missing [] n h e = absurd (omega arith)
 return_missing (b ∷ []) zero h e = rw (lone_byte b e) refl

@@ -81,16 +81,18 @@ pub filled_word : (word : List ℕ) (parts : List (List ℕ)) → (length word =
 filled_word [] parts h = cc
 filled_word (b ∷ word) parts h = refl
 
+-- A part without bytes isn't among the words that are taken from the parts of a line.
 pub empty_word : (word : List ℕ) (parts : List (List ℕ)) → (length word == 0) ≡ true → filter is_filled (word ∷ parts) ≡ filter is_filled parts
 empty_word [] parts h = refl
 empty_word (b ∷ word) parts h = absurd (let e = eqb-true (length (b ∷ word)) 0 h in omega arith)
 
 -- Words read byte by byte
 
--- the words of a line behind those that are read: the first begins at `start`, and its bytes before place i are read
+-- the words of a line after those that are read: the first begins at `start`, and its bytes before place i are read
 abbrev pub words_from : List ℕ → ℕ → ℕ → List (List ℕ)
 words_from line start i = filter is_filled (with_front (slice_range line start i) (slice_split (λ b. b == 32) (drop i line)))
 
+-- Before a byte is read, the words that are still to come are all the words of the line.
 pub words_begin : (line : List ℕ) → words_of line ≡ words_from line 0 0
 words_begin line = ap (filter is_filled) (split_start (λ b. b == 32) line)
 

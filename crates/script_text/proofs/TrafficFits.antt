@@ -47,6 +47,7 @@ no_breaks pair made none from (suc n) =
     let here : cond {A = ℕ} (is_break_of pair (made from)) 1 0 ≡ 0 = rw (none from) refl in
     omega arith
 
+-- A single link loss counts once among the link losses of its own pair, and not among those of any other.
 pub one_break : (pair other : ℕ) → count_by (is_break_of other) (Break pair ∷ []) ≡ cond (pair == other) 1 0
 one_break pair other = omega arith
 

@@ -279,6 +279,7 @@ traffic_kept n before traffic held fits =
       declarations_first = λ e. absurd (fits.part e);
     }
 
+-- Lines that declare a whole plan still declare one with what a further line gives, where it fits beside them.
 pub kept : (n : ℕ) (before : Before) (given : Given) → Held before → Fits before given → Held (with_given n before given)
 kept n before Nothing held fits = held
 kept n before (Host name) held fits = record { whole = held.whole; declarations_first = held.declarations_first }
@@ -291,6 +292,7 @@ kept n before TrafficBegins held fits = record { whole = held.whole; declaration
 kept n before (MoreSteps steps) held fits = steps_kept n before steps held fits
 kept n before (MoreTraffic traffic) held fits = traffic_kept n before traffic held fits
 
+-- Before any line is read the plan is whole, and has neither steps nor traffic.
 pub nothing_held : Held nothing_before
 nothing_held = record {
   whole = record {
@@ -311,6 +313,7 @@ nothing_held = record {
 all_devices : (before : Before) → Held before → All (IsDevice before.plan) before.plan.devs
 all_devices before held = All-from_get_or (IsDevice before.plan) before.plan.devs no_dev held.whole.declared.devices
 
+-- What the words of a line give fits beside the lines before it, where these declare a whole plan.
 pub words_fit : (before : Before) → Held before → (part : Part) → before.part ≡ part → (words : List (List ℕ)) → Filled words → Gives (Fits before) (words_line before part words)
 words_fit before held Declarations is [] h = gives_ok (Fits before) Nothing tt
 words_fit before held Steps is [] h = gives_ok (Fits before) Nothing tt
@@ -325,6 +328,7 @@ header_fits before line =
     gives_then _ _ _ (gives_passed (not (is_text line)) (whole NotText)) (λ _ _.
     gives_then _ _ _ (gives_passed (not (is_header (words_of line))) (whole BadHeader)) (λ _ _. gives_ok (Fits before) Nothing tt))
 
+-- What a line gives, be it header, comment or any other, fits beside lines before it that declare a whole plan.
 pub line_fits : (n : ℕ) (before : Before) (line : List ℕ) → Held before → Gives (Fits before) (line_gives n before line)
 line_fits n before line held =
     gives_if _ (n == 1) _ _ (header_fits before line)
@@ -332,6 +336,7 @@ line_fits n before line held =
     (gives_then _ _ _ (gives_passed (not (is_text line)) (whole NotText)) (λ _ _.
     words_fit before held before.part refl (words_of line) (filter_filled (slice_split (λ b. b == 32) line)))))
 
+-- Lines that declare a whole plan declare one with any further line that has no fault.
 pub after_held : (n : ℕ) (before : Before) (line : List ℕ) → Held before → Gives Held (after_line n before (line_gives n before line))
 after_held n before line held = by (line_gives n before line) (line_fits n before line held)
   where
@@ -354,5 +359,6 @@ whole_of : (r : Result Before ScriptFault) (plan : Plan) → Gives Held r → pl
 whole_of (Ok before) plan h e = let same : before.plan ≡ plan = cc in subst IsWhole same (h.holds before refl).whole
 whole_of (Err fault) plan h e = cc e
 
+-- A script's plan is whole: pairs, devices, switches, steps and traffic are as a script can declare them.
 pub plan_is_whole : (bytes : List ℕ) (plan : Plan) → script_of bytes ≡ Ok plan → IsWhole plan
 plan_is_whole bytes plan e = whole_of (read_lines 1 nothing_before (lines_of bytes)) plan (read_held 1 nothing_before (lines_of bytes) nothing_held) e

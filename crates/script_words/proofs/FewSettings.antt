@@ -137,6 +137,7 @@ same_by_number (OfSide key side n) (OfSide other scope m) e =
 pub Apart : List Setting → Type 0
 Apart settings = IsDistinct nat_eq (map setting_number settings)
 
+-- In an empty list of settings none stands twice.
 pub apart_none : Apart []
 unfolding Apart IsDistinct
 apart_none = tt

@@ -4,10 +4,11 @@ use Rattle.std.proofs.lemmas.Bool.Decides.{nat_tests}
 use Rattle.std.specs.List.{list_all}
 use Rattle.script_words.specs.Words.{is_digit, value_from}
 
--- the number that digits spell behind a value that was read
+-- the number that digits spell after a value that was read
 abbrev pub read_on : ℕ → List ℕ → Option ℕ
 read_on v ds = if list_all is_digit ds && nat_lt (value_from v ds) (2 ^ 32) then Some (value_from v ds) else None
 
+-- Reading on from a value with more digits never gives a smaller one.
 pub value-grows : (v : ℕ) (ds : List ℕ) → v ≤ value_from v ds
 value-grows v [] = omega arith
 value-grows v (d ∷ ds) = let more = value-grows (v * 10 + (d - 48)) ds in omega arith

@@ -60,7 +60,7 @@ threshold_of digits = do
   _ ← fault_if (nat_lt most_threshold number) BadGeometry
   Ok number
 
--- the same behind its key, in word n of the line
+-- the same after its key, in word n of the line
 abbrev pub threshold_word : ℕ → List ℕ → List ℕ → Result ℕ LineFault
 threshold_word n key word = do
   digits ← at n (found_or (behind key word) UnknownWord)

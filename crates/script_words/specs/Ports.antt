@@ -38,7 +38,7 @@ is_among devs dev = list_any (λ other. other == dev) devs
 abbrev pub is_port : Before → ℕ → Bool
 is_port before dev = list_any (λ switch. is_among switch.ports dev) before.plan.switches
 
--- the word of a line that names the next port behind these: the first stands in word 3
+-- the word of a line that names the next port after these: the first stands in word 3
 abbrev pub port_place : List ℕ → ℕ
 port_place devs = 3 + length devs
 

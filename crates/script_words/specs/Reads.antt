@@ -7,7 +7,7 @@ use Rattle.script_words.specs.declared.fault.ReadError.TheVariants.{Fault, OutOf
 use Rattle.script_words.specs.declared.fault.LineError.{LineError}
 use Rattle.script_words.specs.declared.fault.LineError.TheVariants.{Fault as LineHas, OutOfMemory as NoRoom}
 
--- a reader gives what is due; only want of memory is free
+-- a reader gives what is due; only out of memory is free
 abbrev pub Reads : {X : Type 0} → Result X ReadError → Result X Cause → Type 0
 Reads (Ok x) due = due ≡ Ok x
 Reads (Err (Fault cause)) due = due ≡ Err cause

@@ -22,7 +22,7 @@ use Rattle.script_words.specs.declared.settings.Setting.TheVariants.{Up, Strict,
 
 -- Spelling
 
--- a word before its equals sign, and what stands behind it where there is one
+-- a word before its equals sign, and what stands after it where there is one
 abbrev pub before_equals : List ℕ → List ℕ
 before_equals [] = []
 before_equals (b ∷ word) = if b == 61 then [] else b ∷ before_equals word
@@ -46,13 +46,13 @@ key_text Windows = codes "windows"
 key_text Queues = codes "queues"
 key_text Version = codes "version"
 
--- which sides a key names behind its text: both, or one
+-- which sides a key names after its text: both, or one
 abbrev pub scope_of : List ℕ → Option (Option Side)
 scope_of [] = Some None
 scope_of (b ∷ []) = if b == 65 then Some (Some A) else if b == 66 then Some (Some B) else None
 scope_of word = None
 
--- a key with its sides and the number that stands behind it
+-- a key with its sides and the number that stands after it
 abbrev pub scoped : SideKey → Option (List ℕ) → Option (ℕ → Setting)
 scoped key None = None
 scoped key (Some scope) = at_sides (scope_of scope) where
@@ -140,7 +140,7 @@ in_range (Mtu number) = is_within mtu_range number
 in_range (OfSide key side number) = is_within (key_range key) number && is_stepped key number
 in_range setting = true
 
--- the word of a line that has the next option behind these: the first stands in word 5
+-- the word of a line that has the next option after these: the first stands in word 5
 abbrev pub option_place : List Setting → ℕ
 option_place settings = 5 + length settings
 

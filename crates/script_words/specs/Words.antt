@@ -65,7 +65,7 @@ side_word word = found_or (side_of word) BadName
 
 -- Numbers
 
--- the value of decimal digits behind those that were read
+-- the value of decimal digits after those that were read
 abbrev pub value_from : ℕ → List ℕ → ℕ
 value_from value [] = value
 value_from value (digit ∷ digits) = value_from (value * 10 + (digit - 48)) digits
@@ -120,7 +120,7 @@ kind_word word = do
   bytes ← hex_of 2 word
   Ok (high_low bytes)
 
--- what a word has behind a key
+-- what a word has after a key
 abbrev pub behind : List ℕ → List ℕ → Option (List ℕ)
 behind [] word = Some word
 behind (k ∷ key) [] = None

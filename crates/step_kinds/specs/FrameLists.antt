@@ -14,7 +14,7 @@ no_frames = record { frames = []; spare = 0 }
 abbrev pub promised : Frames → ℕ → Frames
 promised list more = record { frames = list.frames; spare = list.spare + more }
 
--- the frame stands behind all others, in room that was promised
+-- the frame stands after all others, in room that was promised
 abbrev pub with_last : Frames → List ℕ → Frames
 with_last list frame = record { frames = list.frames ++ frame ∷ []; spare = list.spare - 1 }
 

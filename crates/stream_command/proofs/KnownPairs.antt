@@ -34,6 +34,7 @@ traffic_known plan =
     All-filter (has_traffic plan.traffic) (λ (lane : LaneName). lane.pair < length plan.pairs) (lanes_in (length plan.pairs))
     (lanes_known 0 (length plan.pairs) (length plan.pairs) (omega arith))
 
+-- Each lane of a record of streams whose lanes are the plan's lanes with traffic names a pair of the plan.
 pub known_pairs : (plan : Plan) (lanes : List StreamRun) → map (λ (lane : StreamShown). lane.name) (map stream_shown lanes) ≡ traffic_lanes plan
     → All (λ (lane : StreamRun). lane.name.pair < length plan.pairs) lanes
 known_pairs plan lanes are =

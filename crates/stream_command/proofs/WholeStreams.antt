@@ -21,6 +21,7 @@ each_whole plan [] proofs are = refl
 each_whole plan (lane ∷ lanes) proofs are =
     ap (λ (l : StreamShown). l ∷ lanes) (one_whole plan lane are.0 are.3) ∙ ap (λ (rest : List StreamShown). stream_on plan lane.name ∷ rest) (each_whole plan lanes are.1 are.4)
 
+-- A resumed record of streams has just the lanes with traffic, in order, each with the lane's whole traffic.
 pub whole : (plan : Plan) (streams : List StreamShown) (proofs : List Shown) → AreResumed plan streams proofs → streams ≡ map (stream_on plan) (traffic_lanes plan)
 whole plan streams proofs are = each_whole plan streams proofs are.each ∙ ap (map (stream_on plan)) are.lanes
 
@@ -41,6 +42,7 @@ streams_on_steps plan steps [] proofs are = are
 streams_on_steps plan steps (lane ∷ lanes) proofs are =
     (are.0, are.1, are.2, stream_on_steps plan steps lane are.0 are.3, streams_on_steps plan steps lanes are.1 are.4)
 
+-- Proofs that make a record of streams resumed do so for the plan with any other steps too.
 pub resumed_on_steps : (plan : Plan) (steps : List Line) (streams : List StreamShown) (proofs : List Shown) → AreResumed plan streams proofs → AreResumed (record plan { steps = steps }) streams proofs
 resumed_on_steps plan steps streams proofs are = record { lanes = are.lanes; each = streams_on_steps plan steps streams proofs are.each }
 

@@ -31,6 +31,7 @@ get_front (suc n) [] i h = refl
 get_front (suc n) (y ∷ xs) zero h = refl
 get_front (suc n) (y ∷ xs) (suc i) h = get_front n xs i (omega arith)
 
+-- What stands at a place of a list without its first items stands that many places further on in the list.
 pub get_dropped : {X : Type 0} (n : ℕ) (xs : List X) (i : ℕ) → slice_get (drop n xs) i ≡ slice_get xs (n + i)
 get_dropped zero xs i = let k : i ≡ 0 + i = omega arith in ap (slice_get xs) k
 get_dropped (suc n) [] i = refl
@@ -42,6 +43,7 @@ first_dropped n xs x rest e =
     let k : n ≡ n + 0 = omega arith in
     ap (slice_get xs) k ∙ (sym (get_dropped n xs 0) ∙ ap (λ ys. slice_get ys 0) e)
 
+-- Where a list without its first items is an item and a rest, dropping one item more leaves that rest.
 pub rest_dropped : {X : Type 0} (n : ℕ) (xs : List X) (x : X) (rest : List X) → drop n xs ≡ x ∷ rest → drop (n + 1) xs ≡ rest
 rest_dropped zero xs x rest e = ap (λ ys. drop 1 ys) e
 rest_dropped (suc n) [] x rest e = cc
@@ -51,5 +53,6 @@ rest_dropped (suc n) (y ∷ xs) x rest e = let k : suc n + 1 ≡ suc (n + 1) = o
 pub begins_take : {X : Type 0} (front whole : List X) → Begins front whole → front ≡ take (length front) whole
 begins_take front whole b = sym (ap (take (length front)) b.1 ∙ take_at front b.0 (length front) refl)
 
+-- A list that begins another one is no longer than that one.
 pub begins_short : {X : Type 0} (front whole : List X) → Begins front whole → length front ≤ length whole
 begins_short front whole b = let h : length front ≡ min (length front) (length whole) = ap length (begins_take front whole b) ∙ length-take (length front) whole in omega (arith, h)

@@ -11,6 +11,7 @@ use Rattle.stream_laws.specs.Laws.{given_by}
 use Rattle.stream_laws.proofs.Lists.{take_next}
 use Rattle.stream_laws.proofs.Numbers.{number_in-number_frame}
 
+-- The frame that a sender gives next stands after all that it gave in the session before.
 pub next_follows : (sender : Sender) (frame : List ℕ) → next_frame sender ≡ Some frame → given_by (one_given sender) ≡ given_by sender ++ frame ∷ []
 next_follows sender frame e = take_next (frames_of sender) sender.place.given frame e
 
@@ -39,6 +40,7 @@ took_number sender number most =
       | inr below ↦ subst P (sym (old sender number most below)) (record { acked = omega arith; items = refl; start = refl; place = refl; before = inl refl; good = λ bad. cc })
     ]
 
+-- An acknowledgement of no more than was ever given counts if it is above the last one, and is never bad.
 pub took_ack : (sender : Sender) (number : ℕ) (frame : List ℕ) → number < 2 ^ 32 → number ≤ sender.place.ever → frame ≡ number_frame number
     → TookAckOf sender number (ack_taken sender frame) (ack_answer sender frame)
 took_ack sender number frame small most e =
@@ -46,6 +48,7 @@ took_ack sender number frame small most e =
     let P : Option ℕ → Type 0 = λ o. TookAckOf sender number (after_ack sender (unwrap_or o 0) (number_answer sender o)) (number_answer sender o) in
     subst P (sym said) (took_number sender number most)
 
+-- Of acknowledgements that say no more than was ever given, the largest counts, if it is above the last one.
 pub largest_counts : (sender : Sender) (frames : List (List ℕ)) → sender.place.ever < most_items → All (SaysAtMost sender.place.ever) frames
     → (fold ack_taken sender frames).acked ≡ max sender.acked (largest_in frames)
 largest_counts sender [] few all = omega arith

@@ -26,6 +26,7 @@ got_front items receiver start got few front fresh within b =
     let k : 0 + length got ≡ length got = omega arith in
     (subst (λ (n : ℕ). StandsAt items start n (fold taken receiver got)) k all.0, all.1 ∙ omega arith)
 
+-- A receiver that gets the front of a session keeps the first items, no fewer than before, and each that it got.
 pub front_is_kept : (items : List (List ℕ)) (receiver : Receiver) (start : ℕ) (got : List (List ℕ))
     → CanSend items → Begins receiver.items items → receiver.session ≡ Fresh → start ≤ length receiver.items → Begins got (session_frames items start)
     → (fold taken receiver got).items ≡ take (max (length receiver.items) (start + length got - 1)) items
@@ -141,10 +142,12 @@ keeps_first items sessions few are order (suc k) within =
     subst (KeepsFront items) (sym more ∙ ap (λ (n : ℕ). take n sessions) next)
     (grown items (take k sessions) session few keeps (All-get_or IsInOrder sessions k no_exchange below order) (are.sent k below) acks)
 
+-- Over a stream's sessions, the kept items are a prefix of all, and no more is acknowledged than is kept.
 pub sessions_keep_front : (items : List (List ℕ)) (sessions : List Exchange) → CanSend items → AreSessionsOf items sessions → All IsInOrder sessions → KeepsFront items sessions
 sessions_keep_front items sessions few are order =
     subst (KeepsFront items) (take_all (length sessions) sessions (omega arith)) (keeps_first items sessions few are order (length sessions) (omega arith))
 
+-- After a session that carried all its frames the receiver keeps all items of the stream.
 pub whole_session_brings_all : (items : List (List ℕ)) (sessions : List Exchange) (session : Exchange) → CanSend items → AreSessionsOf items sessions → All IsInOrder sessions
     → session.got ≡ session_frames items (acked_by sessions) → kept_by (sessions ++ session ∷ []) ≡ items
 whole_session_brings_all items sessions session few are order whole =

@@ -21,6 +21,7 @@ use Rattle.stream_laws.specs.Laws.{CanSend, CarriedAll, IsOrdered, NoneIsBad}
 use Rattle.stream_laws.proofs.Lists.{get_front, none_past}
 use Rattle.stream_laws.proofs.Worlds.{CanGoBack, CanGoBackTo, IsHeld, ack_good, carry_good, event_held, events_held, length-given, length-session, new_held}
 
+-- After any events start, acknowledged, kept and ever given are in this order, and forward frames are those given.
 pub held_after : (items : List (List ℕ)) (events : List StreamEvent) → CanSend items → IsHeld items (world_after items events)
 held_after items events few = events_held items (new_world items) events few (new_held items)
 
@@ -33,6 +34,7 @@ kept_begins items w held =
       acked = held.acked;
     }
 
+-- After any events the kept items are a prefix of all, and no more is acknowledged than is kept.
 pub every_world_is_ordered : (items : List (List ℕ)) (events : List StreamEvent) → CanSend items → IsOrdered items (world_after items events)
 every_world_is_ordered items events few = kept_begins items (world_after items events) (held_after items events few)
 
@@ -78,6 +80,7 @@ all_good items place w (event ∷ events) few held =
     (good_of place (answer_to w event) (event_good items w event few held))
     (all_good items (place + 1) (after_event w event) events few (event_held items w event few held))
 
+-- Whatever the events, no frame and no acknowledgement that is carried is answered bad.
 pub no_answer_is_bad : (items : List (List ℕ)) (events : List StreamEvent) → CanSend items → NoneIsBad (answers_to items events)
 no_answer_is_bad items events few = all_good items 0 (new_world items) events few (new_held items)
 
@@ -187,6 +190,7 @@ kept_all items w few held done carried =
     let whole : length items ≤ length w.receiver.items = omega (arith, given, long, same, reached, done, carried) in
     held.stands.kept ∙ take_all (length w.receiver.items) items whole
 
+-- Once `next_frame` gave none, with no loss or give-back since, and all frames were carried, all items are kept.
 pub all_is_brought : (items : List (List ℕ)) (events : List StreamEvent) → CanSend items → CarriedAll items events → (world_after items events).receiver.items ≡ items
 all_is_brought items events few brought =
     let was = was_done brought.place 0 (new_world items) events brought.none in
@@ -212,6 +216,7 @@ last_of items w held (Some place) e some =
     ap (slice_get w.forward.given) less ∙ (ap (λ (xs : List (List ℕ)). slice_get xs place.given) held.given ∙ get_front w.sender.place.given frames place.given (omega (arith, one))) in
     ap (λ (xs : List (List ℕ)). slice_get (session_frames xs w.sender.start) place.given) held.all ∙ sym last
 
+-- Where a frame can be given back, it is the last one that was given to the forward direction.
 pub last_after : (items : List (List ℕ)) (events : List StreamEvent) → CanSend items → can_give_back (world_after items events) ≡ true
     → last_given (world_after items events).sender ≡ last_frame (world_after items events).forward
 last_after items events few can =

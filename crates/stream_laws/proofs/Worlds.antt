@@ -177,6 +177,7 @@ carry_held items w few held (Some frame) e =
           (more_counts (length w.receiver.items) (length (taken w.receiver frame).items) (omega (arith, count))) w.back.given held.acks;
     }
 
+-- The frame that is carried to the receiver next isn't answered bad.
 pub carry_good : (items : List (List ℕ)) (w : World) → CanSend items → IsHeld items w → (frame : List ℕ) → first_waiting w.forward ≡ Some frame → take_answer w.receiver frame ≢ TakeBad
 carry_good items w few held frame e =
     let place = w.sender.place in
@@ -238,6 +239,7 @@ carry_ack_held items w few held (Some frame) e =
       acks = held.acks;
     }
 
+-- The acknowledgement that is carried to the sender next isn't answered bad.
 pub ack_good : (items : List (List ℕ)) (w : World) → CanSend items → IsHeld items w → (frame : List ℕ) → first_waiting w.back ≡ Some frame → ack_answer w.sender frame ≢ AckBad
 ack_good items w few held frame e =
     let says = ack_says items w held frame e in

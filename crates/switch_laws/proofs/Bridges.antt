@@ -61,9 +61,11 @@ module _ {F : Type 0} (keeping : Keeping F) (plan : Plan) (memories : Memories) 
       ∙ append_assoc (log_of plan memories net.steps) (on_bridges (item ∷ [])) (on_bridges rest)
       ∙ ap (λ log. log_of plan memories net.steps ++ log) (sym (filter-append is_on_bridge (item ∷ []) rest))
 
+-- A log without what switches did alone is the log of the steps that were made on bridges.
 pub bridges_have_a_log : BridgesHaveALog
 bridges_have_a_log plan memories steps = sym (log_from_bridges bytes_kept plan memories (new_network plan) steps)
 
+-- One step more appends one item to the log, and item and next network are told by the network before it.
 pub log_grows_by_items : LogGrowsByItems
 log_grows_by_items plan memories steps step =
     (items-last bytes_kept plan memories (new_network plan) steps step, network-last bytes_kept plan memories (new_network plan) steps step)

@@ -148,6 +148,7 @@ module _ (plan : Plan) (memories : Memories) where
   plain_network net (step ∷ steps) =
       plain_network (next_network origins_kept plan memories net step) steps ∙ ap (λ now. network_from bytes_kept plan memories now steps) (sym (plain_next net step))
 
+-- A network whose switches keep origins has the same log, and without the origins is the same network.
 pub origins_change_nothing : OriginsChangeNothing
 origins_change_nothing plan memories steps =
     let new : erased (new_network plan) ≡ new_network plan = ap (λ switches. record { steps = []; switches = switches; passages = [] }) (plain_new plan) in (

@@ -32,6 +32,7 @@ use Rattle.switch_laws.proofs.Subsequences.{all-weaker}
 reads_as : (plan : Plan) (memories : Memories) (steps : List Step) → ReadsAlike plan (switch_log plan memories steps) (log_of plan memories (bridge_steps plan memories steps))
 reads_as plan memories steps = subst (ReadsAlike plan (switch_log plan memories steps)) (bridges_have_a_log plan memories steps) (log_reads_as_bridges plan (switch_log plan memories steps))
 
+-- On a lane of an ordinary pair a session's delivered frames are a prefix of those accepted, numbered from 0.
 pub frames_come_in_order : FramesComeInOrder
 frames_come_in_order plan memories steps lane session ordinary =
     let same = reads_as plan memories steps in
@@ -46,6 +47,7 @@ frames_come_in_order plan memories steps lane session ordinary =
       delivered_numbers = subst (NumberedFrom 0) (sym given) known.delivered_numbers;
     }
 
+-- On a lane of an ordinary pair no frame number is delivered twice in a session, switches in the plan or not.
 pub frames_come_once : FramesComeOnce
 frames_come_once plan memories steps lane session n ordinary =
     subst (λ xs. times_of n xs < 2) (sym ((reads_as plan memories steps).same_delivered lane session)) (every_frame_comes_once plan memories (bridge_steps plan memories steps) lane session n ordinary)
@@ -76,6 +78,7 @@ module _ (plan : Plan) (memories : Memories) (net : Network (List ℕ)) (Q : Ans
 none_some : (lane : LaneName) → None ≡ Some lane → ⊥
 none_some lane e = cc
 
+-- On an ordinary pair a begin is `again` exactly where it isn't refused earlier and its ring has too little room.
 pub items_again_where_no_room : ItemsAgainWhereNoRoom
 items_again_where_no_room plan memories steps step lane ordinary =
     each_item plan memories (network_of plan memories steps) IsRight (λ pair side queue switch port answer e. absurd (none_some lane e)) (λ pair side queue dev e. absurd (none_some lane e))
@@ -98,6 +101,7 @@ no_link_down Dropped = refl
 no_link_down (ToPort port) = refl
 no_link_down (ToOthers count) = refl
 
+-- A step is answered `linkdown` exactly where it needs a link that its pair's last link step left not up.
 pub items_link_down_where_not_up : ItemsLinkDownWhereNotUp
 items_link_down_where_not_up plan memories steps step =
     each_item plan memories (network_of plan memories steps) IsRight (λ pair side queue switch port answer. no_link_down answer) (λ pair side queue dev. refl)
@@ -130,6 +134,7 @@ keeps_alike plan log other lane path same keeps = record {
   in_order = keeps.in_order;
 }
 
+-- Over lanes of ordinary pairs joined by switches, frames keep their bytes and order, and none comes twice.
 pub paths_keep_order : PathsKeepOrder
 paths_keep_order plan memories steps first others ordinary =
     let net = traced_network plan memories steps in

@@ -164,5 +164,6 @@ module _ (plan : Plan) (memories : Memories) (one other : LaneName) where
     begun = Ends;
   }
 
+-- After any steps the frames that passed, wait and arrived between two lanes are a subsequence of the deliveries.
 pub passages_kept : (plan : Plan) (memories : Memories) (steps : List Step) (one other : LaneName) → Kept plan memories one other (network_from origins_kept plan memories (new_network plan) steps)
 passages_kept plan memories steps one other = kept_from plan memories one other (new_network plan) (kept_new plan memories one other) steps

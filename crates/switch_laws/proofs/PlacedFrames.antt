@@ -19,6 +19,7 @@ abbrev pub session_from : ℕ → ℕ → List Answered → ℕ
 session_from k now [] = now
 session_from k now (made ∷ log) = session_from k (if trains k made then now + 1 else now) log
 
+-- The session after a log is the session before it plus the number of times that the log trains the pair.
 pub session_from-count : (k now : ℕ) (log : List Answered) → session_from k now log ≡ now + count_by (trains k) log
 session_from-count k now [] = omega arith
 session_from-count k now (made ∷ log) =
@@ -71,6 +72,7 @@ of_session-placed session lane now frames = go (now == session) refl frames
         ap (λ b. map numbered (if b then placed lane now frame ∷ filter (λ c. c.origin.session == session) (map (placed lane now) frames) else filter (λ c. c.origin.session == session) (map (placed lane now) frames))) e
         ∙ go false e frames
 
+-- Of the frames that a reading places on a lane, those of a session are what it finds in that session's items.
 pub of_session-placed_from : (read : Answered → List Numbered) (lane : LaneName) (session now : ℕ) (log : List Answered)
     → of_session session (placed_from read lane now log) ≡ flat_map read (made_in lane.pair session now log)
 of_session-placed_from read lane session now [] = refl
@@ -171,6 +173,7 @@ above k [] f h s = absurd s
 above k (g ∷ frames) f h (inl e) = let n = ap (λ (x : Numbered). x.number) e in omega (arith, h.0)
 above k (g ∷ frames) f h (inr s) = omega (arith, above (k + 1) frames f h.1 s)
 
+-- In a list of frames that are numbered in a row, two frames with the same number are the same frame.
 pub number_tells : (k : ℕ) (frames : List Numbered) (f g : Numbered) → NumberedFrom k frames → StandsIn f frames → StandsIn g frames → f.number ≡ g.number → f ≡ g
 number_tells k [] f g h s t e = absurd s
 number_tells k (x ∷ frames) f g h (inl a) (inl b) e = a ∙ sym b

@@ -26,6 +26,7 @@ other_side-twice : (a : Side) → other_side (other_side a) ≡ a
 other_side-twice A = refl
 other_side-twice B = refl
 
+-- A lane that passes the test for a pair, a side and a queue is the lane with just these.
 pub lane_is : (lane : LaneName) (pair : ℕ) (side : Side) (queue : ℕ) → is_on lane pair side queue ≡ true → record { pair = pair; from = side; queue = queue } ≡ lane
 lane_is lane pair side queue e =
     let parts = and_parts (pair == lane.pair) (same_side side lane.from && (queue == lane.queue)) e in
@@ -36,11 +37,13 @@ lane_is lane pair side queue e =
     ap (λ n. record { pair = n; from = side; queue = queue }) p ∙ ap (λ n. record { pair = lane.pair; from = n; queue = queue }) s
     ∙ ap (λ n. record { pair = lane.pair; from = lane.from; queue = n }) q
 
+-- Every lane passes the test for its own pair, side and queue.
 pub lane_itself : (lane : LaneName) → is_on lane lane.pair lane.from lane.queue ≡ true
 lane_itself lane =
     and_from (lane.pair == lane.pair) (same_side lane.from lane.from && (lane.queue == lane.queue)) (eq-eqb lane.pair lane.pair refl)
     (and_from (same_side lane.from lane.from) (lane.queue == lane.queue) (same_side-itself lane.from) (eq-eqb lane.queue lane.queue refl))
 
+-- Two lanes that pass the test of being the same are equal.
 pub same_lane-true : (one other : LaneName) → same_lane one other ≡ true → one ≡ other
 same_lane-true one other e = lane_is other one.pair one.from one.queue e
 
@@ -48,6 +51,7 @@ same_lane-true one other e = lane_is other one.pair one.from one.queue e
 pub receiver-towards : (pair : ℕ) (side : Side) (queue : ℕ) → receiver_of (record { pair = pair; from = other_side side; queue = queue }) ≡ record { pair = pair; from = side; queue = queue }
 receiver-towards pair side queue = ap (λ s. record { pair = pair; from = s; queue = queue }) (other_side-twice side)
 
+-- Two origins that pass the test of being the same are equal.
 pub same_origin-true : (one other : Origin) → same_origin one other ≡ true → one ≡ other
 same_origin-true one other e =
     let parts = and_parts (same_lane one.lane other.lane) (one.session == other.session && (one.number == other.number)) e in
@@ -61,6 +65,7 @@ pub before-another : (one other : Origin) → IsBefore one other → (one ≡ ot
 before-another one other (inl less) e = let s = ap (λ (o : Origin). o.session) e in absurd (omega arith)
 before-another one other (inr less) e = let n = ap (λ (o : Origin). o.number) e in absurd (omega (arith, less.1))
 
+-- Where one origin is before another on its lane, the test of being the same tells them apart.
 pub before-differs : (one other : Origin) → IsBefore one other → same_origin one other ≡ false
 before-differs one other less = by (same_origin one other) refl
   where
@@ -68,6 +73,7 @@ before-differs one other less = by (same_origin one other) refl
     by true e = absurd (before-another one other less (same_origin-true one other e))
     by false e = refl
 
+-- Of two origins not each can be before the other: the order by session and number is asymmetric.
 pub before-one_way : (one other : Origin) → IsBefore one other → IsBefore other one → ⊥
 before-one_way one other (inl a) (inl b) = omega arith
 before-one_way one other (inl a) (inr b) = omega (arith, b.0)

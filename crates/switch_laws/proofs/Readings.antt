@@ -105,6 +105,7 @@ module _ (value : Answered → ℕ) (quiet : IsSilent value 0) where
       by true e h = sum_by-cons value made log ∙ ap (λ n. value made + n) h ∙ sym (sum_by-cons value made (on_bridges log))
       by false e h = let none = silent value 0 quiet made e in sum_by-cons value made log ∙ ap (λ n. n + sum_by value log) none ∙ zero-add (sum_by value log) ∙ h
 
+-- A test that what a switch does alone never passes counts the same in a log as in its part on bridges.
 pub count_on_bridges : (test : Answered → Bool) → IsSilent test false → (log : List Answered) → count_by test log ≡ count_by test (on_bridges log)
 count_on_bridges test quiet log = sum_on_bridges (λ made. if test made then 1 else 0) (record {
   of_relay = λ pair side queue switch port answer. ap (λ b. if b then 1 else 0) (quiet.of_relay pair side queue switch port answer);
@@ -147,6 +148,7 @@ since_on_bridges k kept (made ∷ log) = since_on_bridges k (if trains k made th
         (part (trains k made) ∙ ap (λ b. if b then [] else on_bridges kept ++ on_bridges (made ∷ [])) (silent (trains k) false (trains-silent k) made e)
         ∙ ap (λ b. on_bridges kept ++ (if b then made ∷ [] else [])) e ∙ append-nil (on_bridges kept))
 
+-- The frames delivered on a lane are the same in a log and in its part on bridges.
 pub deliveries_on_bridges : (plan : Plan) (log : List Answered) (lane : LaneName) → deliveries plan log lane ≡ deliveries plan (on_bridges log) lane
 deliveries_on_bridges plan log lane =
     placed_on_bridges (delivers lane) (record { of_relay = λ pair side queue switch port answer. refl; of_xnext = λ pair side queue dev answer. refl }) lane (first_session plan lane.pair) log
@@ -189,6 +191,7 @@ same_counters plan log own =
     ∙ ap (λ n. counted (flat_map (device_accepts plan own) (on_bridges log)) n (flat_map (device_delivers own) log)) refused
     ∙ ap (counted (flat_map (device_accepts plan own) (on_bridges log)) (count_by (device_refuses own) (on_bridges log))) found
 
+-- Of pairs, lanes and devices a log tells what its part on bridges tells: what switches do alone adds nothing.
 pub log_reads_as_bridges : LogReadsAsBridges
 log_reads_as_bridges plan log = record {
   same_accepted = λ lane session.

@@ -48,6 +48,7 @@ begun_on lane passages = map begun_as (filter (λ p. same_lane p.begun.lane lane
 abbrev pub acceptances : Plan → List Answered → LaneName → List Carried
 acceptances plan log lane = placed_from (accepts plan lane) lane (first_session plan lane.pair) log
 
+-- A subsequence of a list is a subsequence of that list with more items after it.
 pub part-more : {A : Type 0} {xs ys : List A} (zs : List A) → IsPartOf xs ys → IsPartOf xs (ys ++ zs)
 part-more zs Ends = part-none zs
 part-more zs (Drops y part) = Drops y (part-more zs part)

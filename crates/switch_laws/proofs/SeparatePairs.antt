@@ -113,6 +113,7 @@ module _ (plan : Plan) (memories : Memories) (pair : ℕ) (no_port : HasNoPort p
           ∙ ap (λ made. net.steps ++ made) (sym (filter-append is_bridge_step (step ∷ []) (steps_on pair steps)))
       by false e rest = rest net
 
+-- On a pair without a switch's port the log is what it would be without the other pairs' steps.
 pub pairs_without_ports_are_separate : PairsWithoutPortsAreSeparate
 pairs_without_ports_are_separate plan memories apart steps pair no_port =
     ap (made_on pair) (bridges_have_a_log plan memories steps)

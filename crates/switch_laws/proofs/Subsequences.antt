@@ -86,6 +86,7 @@ module _ {A : Type 0} (P : A → Type 0) where
   all-mapped f [] h = tt
   all-mapped f (x ∷ xs) h = (h.0, all-mapped f xs h.1)
 
+-- Where one property implies another, a list whose items all have the first has the second of all of them.
 pub all-weaker : {A : Type 0} (P Q : A → Type 0) → ((x : A) → P x → Q x) → (xs : List A) → AllByRecursion P xs → AllByRecursion Q xs
 all-weaker P Q weaker [] h = tt
 all-weaker P Q weaker (x ∷ xs) h = (weaker x h.0, all-weaker P Q weaker xs h.1)
@@ -117,21 +118,25 @@ module _ {A : Type 0} (R : A → A → Type 0) where
   compare-rises x y (z ∷ zs) h (inr s) (inl f) = inr (inr (subst (λ w. R w x) (sym f) (all-at (R z) x zs h.0 s)))
   compare-rises x y (z ∷ zs) h (inr s) (inr t) = compare-rises x y zs h.1 s t
 
+-- The image of an item of a list stands in the list of the images.
 pub stands-map : {A B : Type 0} (f : A → B) (x : A) (xs : List A) → StandsIn x xs → StandsIn (f x) (map f xs)
 stands-map f x [] s = absurd s
 stands-map f x (y ∷ ys) (inl e) = inl (ap f e)
 stands-map f x (y ∷ ys) (inr s) = inr (stands-map f x ys s)
 
+-- What stands in the list of the images is the image of an item of the list.
 pub stands-unmap : {A B : Type 0} (f : A → B) (y : B) (xs : List A) → StandsIn y (map f xs) → (x : A) × (StandsIn x xs × (f x ≡ y))
 stands-unmap f y [] s = absurd s
 stands-unmap f y (x ∷ xs) (inl e) = (x, (inl refl, sym e))
 stands-unmap f y (x ∷ xs) (inr s) = let found = stands-unmap f y xs s in (found.0, (inr found.1.0, found.1.1))
 
+-- An item that stands in a list stands in that list with more items after it.
 pub stands-append : {A : Type 0} (x : A) (xs ys : List A) → StandsIn x xs → StandsIn x (xs ++ ys)
 stands-append x [] ys s = absurd s
 stands-append x (z ∷ xs) ys (inl e) = inl e
 stands-append x (z ∷ xs) ys (inr s) = inr (stands-append x xs ys s)
 
+-- The images of a subsequence of a list are a subsequence of the list's images.
 pub part-map : {A B : Type 0} (f : A → B) {xs ys : List A} → IsPartOf xs ys → IsPartOf (map f xs) (map f ys)
 part-map f Ends = Ends
 part-map f (Drops y part) = Drops (f y) (part-map f part)

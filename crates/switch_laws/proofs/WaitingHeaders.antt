@@ -128,9 +128,11 @@ module _ (plan : Plan) (memories : Memories) where
   long_from net [] h = h
   long_from net (step ∷ steps) h = long_from (next_network bytes_kept plan memories net step) steps (long_after net step (action_of plan net.switches step) h)
 
+-- Where each frame that waits in a switch has an Ethernet header, each does after any further step.
 pub headers_stay : HeadersStay
 headers_stay plan memories net step h = long_after plan memories net step (action_of plan net.switches step) h
 
+-- After any steps each frame that waits at a port of a switch has an Ethernet header, of 14 bytes at least.
 pub waiting_have_headers : WaitingHaveHeaders
 waiting_have_headers plan memories steps port =
     let net = network_from bytes_kept plan memories (new_network plan) steps in

@@ -28,6 +28,7 @@ port_at-ahead : (s : Station) (rest : List Station) (o : Option ℕ) → port_at
 port_at-ahead s rest None = refl
 port_at-ahead s rest (Some n) = refl
 
+-- A lookup by a station's place in the database gives what a search from station to station gives.
 pub lookup-found : (fdb : List Station) (a : List ℕ) → lookup fdb a ≡ found fdb a
 lookup-found [] a = refl
 lookup-found (s ∷ rest) a = by (bytes_eq a s.address) (lookup-found rest a)
@@ -131,6 +132,7 @@ found-below ports (s ∷ rest) a h = by (bytes_eq a s.address) (found-below port
     by true k = h.0
     by false k = k
 
+-- A lookup gives a port of the switch or none, where all stations are on ports of the switch.
 pub lookup-below : (ports : ℕ) (fdb : List Station) (a : List ℕ) → AreBelow ports fdb → IfSome (lookup fdb a) (λ port. port < ports)
 lookup-below ports fdb a h = subst (λ o. IfSome o (λ port. port < ports)) (sym (lookup-found fdb a)) (found-below ports fdb a h)
 
@@ -143,6 +145,7 @@ put-below ports room (s ∷ rest) st h k = by (bytes_eq st.address s.address) (p
     by true e = (k, h.1)
     by false e = (h.0, e)
 
+-- All stations are on ports of the switch after a station on one of them was learned, where they were so before.
 pub learned-below : (ports : ℕ) (fdb : List Station) (a : List ℕ) (port : ℕ) → AreBelow ports fdb → port < ports → AreBelow ports (learned fdb a port)
 learned-below ports fdb a port h k =
     subst (AreBelow ports) (sym (learned-put fdb a port)) (put-below ports (nat_lt (length fdb) most_stations) fdb (record { address = a; port = port }) h k)
@@ -168,6 +171,7 @@ put-few : (room : Bool) (fdb : List Station) (st : Station) → nat_lt (length f
 put-few true fdb st e h = let below : length fdb < most_stations = (Decides-ltb (length fdb) most_stations).0 e in omega (arith, put-long fdb st, below)
 put-few false fdb st e h = omega (arith, put-full fdb st, h)
 
+-- At most 256 stations are known after one was learned, where there were at most 256 before.
 pub learned-few : (fdb : List Station) (a : List ℕ) (port : ℕ) → length fdb ≤ most_stations → length (learned fdb a port) ≤ most_stations
 learned-few fdb a port h =
     let room = nat_lt (length fdb) most_stations in
@@ -178,19 +182,23 @@ learned-few fdb a port h =
 pub lookup-multicast : (fdb : List Station) (src : List ℕ) (port : ℕ) (other : List ℕ) → is_multicast src ≡ true → lookup (learned_source fdb port src) other ≡ lookup fdb other
 lookup-multicast fdb src port other e = ap (λ b. lookup (cond b fdb (learned fdb src port)) other) e
 
+-- Learning a source that is no group's address leaves what a lookup of any other address gives.
 pub lookup-another : (fdb : List Station) (src : List ℕ) (port : ℕ) (other : List ℕ) → is_multicast src ≡ false → bytes_eq other src ≡ false → lookup (learned_source fdb port src) other ≡ lookup fdb other
 lookup-another fdb src port other e differs = ap (λ b. lookup (cond b fdb (learned fdb src port)) other) e ∙ lookup-other fdb src port other differs
 
+-- A source that is no group's address is found on its port once learned, if it was known or there was room, else not.
 pub lookup-source : (fdb : List Station) (src : List ℕ) (port : ℕ) (other : List ℕ) → is_multicast src ≡ false → bytes_eq other src ≡ true
     → lookup (learned_source fdb port src) other ≡ once_learned (nat_lt (length fdb) most_stations) (lookup fdb src) port
 lookup-source fdb src port other e same =
     ap (λ b. lookup (cond b fdb (learned fdb src port)) other) e
     ∙ (ap (lookup (learned fdb src port)) ((bytes_eq-Decides other src).0 same) ∙ lookup-learned fdb src port)
 
+-- A station that was known is found on the port that was learned last, whether there is room or not.
 pub known-source : (room : Bool) (known : Option ℕ) (place port : ℕ) → known ≡ Some place → once_learned room known port ≡ Some port
 known-source true known place port e = refl
 known-source false known place port e = ap (λ o. once_learned false o port) e
 
+-- All stations are on ports of the switch after a frame's source on one of them was learned, where they were before.
 pub learned_source-below : (ports : ℕ) (fdb : List Station) (src : List ℕ) (port : ℕ) → AreBelow ports fdb → port < ports → AreBelow ports (learned_source fdb port src)
 learned_source-below ports fdb src port h k = by (is_multicast src)
   where

@@ -62,6 +62,7 @@ chosen_raises [] k all before after answer raise raise_all made = load_raises (e
 chosen_raises (move ∷ moves) zero all before after answer raise raise_all made = made_raises before after move answer raise.0 made
 chosen_raises (move ∷ moves) (suc k) all before after answer raise raise_all made = chosen_raises moves k all before after answer raise.1 raise_all made
 
+-- Each step of the mover is at least one try more, and leaves the ring's number of entries.
 pub each_move_is_a_try : EachMoveIsATry
 each_move_is_a_try before choice answer after moves =
     let open_all = open_raise before in
@@ -73,5 +74,6 @@ after_load : (new : Bool) (before after : BackPart) (found : ℕ) → after ≡ 
 after_load true before after found is = (ap (λ (p : BackPart). p.loads) is, ap (λ (p : BackPart). p.entries) is)
 after_load false before after found is = (ap (λ (p : BackPart). p.loads) is, ap (λ (p : BackPart). p.entries) is)
 
+-- Each step of the way back is just one load more, and leaves the ring's number of entries.
 pub each_step_back_is_a_load : EachStepBackIsALoad
 each_step_back_is_a_load before answer after gives = after_load _ before after after.index gives.1

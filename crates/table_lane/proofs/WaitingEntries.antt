@@ -17,6 +17,7 @@ waiting-push n m [] is = let same : n ≡ m = omega arith in ap (λ (k : ℕ). k
 waiting-push n m (true ∷ stored) is = waiting-push (suc n) m stored (omega arith)
 waiting-push n m (false ∷ stored) is = ap (λ ns. n ∷ ns) (waiting-push (suc n) m stored (omega arith))
 
+-- No more entries wait for their header than the mover holds.
 pub waiting-length : (n : ℕ) (stored : List Bool) → length (waiting n stored) ≤ length stored
 waiting-length n [] = omega arith
 waiting-length n (true ∷ stored) = omega (arith, waiting-length (suc n) stored)
@@ -38,7 +39,7 @@ waiting-store n (suc k) (false ∷ stored) below =
 pub waiting-from : (n k : ℕ) (stored : List Bool) → k < length (waiting n stored) → n ≤ get_or (waiting n stored) k 0
 waiting-from n k stored below = let w = waiting-store n k stored below in omega (arith, w.1)
 
--- one more slot is with the mover, behind the others
+-- one more slot is with the mover, after the others
 pub slots-push : (N n m : ℕ) (frames : List (List ℕ)) (frame : List ℕ) → m ≡ n + length frames → slots_of N n (frames ++ frame ∷ []) ≡ slots_of N n frames ++ (m % N, Some frame) ∷ []
 slots-push N n m [] frame is = let same : n ≡ m = omega arith in ap (λ (k : ℕ). (k % N, Some frame) ∷ []) same
 slots-push N n m (f ∷ frames) frame is = ap (λ slots. (n % N, Some f) ∷ slots) (slots-push N (suc n) m frames frame (omega arith))
@@ -144,7 +145,7 @@ module _ (N first next : ℕ) (waits : List ℕ) (me : Sitter) (h : MovesWith N 
     few = h.few;
   }
 
-  -- a frame is taken, and its slot goes behind the others
+  -- a frame is taken, and its slot goes after the others
   pub with_frame : (found : ℕ) (frame : List ℕ) → length part.held + 2 ≤ N → MovesWith N first (next + 1) (waits ++ next ∷ []) (with_move me.0 (frame_taken (posted_loaded part found) frame), me.1 ++ (next % N, Some frame) ∷ [])
   with_frame found frame room =
       let more : length (part.held ++ frame ∷ []) ≡ length part.held + 1 = length_push part.held frame in

@@ -14,6 +14,7 @@ use Rattle.table_rule.proofs.WordLists.{index_out_at, set_index, set_link}
 use Rattle.table_rule.proofs.Order.{in_order}
 use Rattle.table_rule.proofs.WayBackShows as returning
 
+-- The rule of a table allows the way back to load index out, and then to know the index that it found.
 pub sees_index_out_allowed : (N slots id : ℕ) (me : Sitter) (i : ℕ) → i ≡ index_out_word N → HasBack me.0 → Allows (ShowsALane N) slots id me i (λ n. n) (sees_index_out me)
 sees_index_out_allowed N slots id me i is has board h counted at fits =
     let part : BackPart = the_back me.0 in
@@ -30,6 +31,7 @@ sees_index_out_allowed N slots id me i is has board h counted at fits =
     let low : part.freed ≤ length m.send.sent = omega (arith, o.freed, o.acked, o.cleared, o.looked, o.taken) in
     load_keeps (sees_index_out me found) me.1 after i seat seat.now.knows (subst (λ (index : ℕ). ShowsLane N (record m { back = record part { index = index } }) board.homes) (sym word) loaded) (refl, omega arith, omega arith)
 
+-- The rule of a table allows the way back to store the index that it loaded, where that one is new.
 pub stores_index_allowed : (N slots id : ℕ) (me : Sitter) (i new : ℕ) → i ≡ index_word N → new ≡ (the_back me.0).index → HasBack me.0 → (the_back me.0).entries ≡ N → (the_back me.0).index ≢ tail_of N (the_back me.0).freed
     → Allows (ShowsALane N) slots id me i (λ _. new) (λ _. stores_index me new)
 stores_index_allowed N slots id me i new is index has entries newer =
@@ -42,6 +44,7 @@ stores_index_allowed N slots id me i new is index has entries newer =
     store_shows (index_stored part) seat is index (set_index N m.words seat.now.sized seat.two part.index) seat.now.knows
     (subst (λ (f : ℕ). ShowsLane N (record m { words = record m.words { index = part.index }; lane = stored.0; back = record part { freed = f } }) board.homes) freed stored.2))
 
+-- The rule of a table allows the seat that has the cut to store the link word.
 pub cuts_link_allowed : (N slots id : ℕ) (me : Sitter) (i : ℕ) → i ≡ link_word N → HasCut me.0 → Allows (ShowsALane N) slots id me i (λ _. cut_word) (λ _. cuts_link me cut_word)
 cuts_link_allowed N slots id me i is has =
     store_keeps N slots id me i cut_word (with_cut me.0 (link_cut (the_cut me.0))) (λ board h at.

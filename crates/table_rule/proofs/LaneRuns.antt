@@ -41,6 +41,7 @@ map_chunks : (n : ℕ) (parts : List ℕ) → map (λ part. Data n (Chunk part))
 map_chunks n [] = refl
 map_chunks n (part ∷ parts) = ap (λ w. Data n (Chunk part) ∷ w) (map_chunks n parts)
 
+-- The writes of an entry before its flags are its fields in their order: chunks, length and version.
 pub data_is_fields : (n : ℕ) (entry : Entry) → data_of n entry ≡ map (Data n) (fields_of entry)
 data_is_fields n entry =
     let parts : List ℕ = count_from 0 (chunks_in (length (bytes_of entry))) in
@@ -56,6 +57,7 @@ field_keeps_flags slot n entry (Chunk part) = refl
 field_keeps_flags slot n entry Length = refl
 field_keeps_flags slot n entry Version = refl
 
+-- Writing fields of an entry into a slot, however many, leaves the slot's flags as they were.
 pub fields_keep_flags : (fields : List Field) (slot : Slot) (n : ℕ) (entry : Entry) → (with_fields slot n entry fields).flags ≡ slot.flags
 fields_keep_flags [] slot n entry = refl
 fields_keep_flags (field ∷ fields) slot n entry = fields_keep_flags fields (with_field slot n entry field) n entry ∙ field_keeps_flags slot n entry field
@@ -65,6 +67,7 @@ version_last : (fields : List Field) (slot : Slot) (n : ℕ) (entry : Entry) →
 version_last [] slot n entry = refl
 version_last (field ∷ fields) slot n entry = version_last fields (with_field slot n entry field) n entry
 
+-- A slot into which all fields of entry n were written has the version of n.
 pub fields_give_version : (slot : Slot) (n : ℕ) (entry : Entry) → (with_fields slot n entry (fields_of entry)).ver ≡ version_of n
 fields_give_version slot n entry = version_last (map Chunk (count_from 0 (chunks_in (length (bytes_of entry))))) slot n entry
 
@@ -90,7 +93,7 @@ land_fields (field ∷ fields) lane n before behind front within =
           rest,
     )
 
--- the flags of the first entry in flight land, and the doorbell behind them
+-- the flags of the first entry in flight land, and the doorbell after them
 pub land_flag_and_bell : (lane : Lane) (n : ℕ) (rest : List Write) → lane.flight ≡ Flag n ∷ Bell ∷ rest → Runs (flag_steps n) lane (record (after_landing lane (Flag n) rest) { flight = rest })
 land_flag_and_bell lane n rest front = (after_landing lane (Flag n) (Bell ∷ rest), (Bell ∷ rest, front, refl), (after_landing (after_landing lane (Flag n) (Bell ∷ rest)) Bell rest, (rest, refl, refl), refl))
 

@@ -7,6 +7,7 @@ use Rattle.table_rule.specs.Words.{header_of}
 use Rattle.table_rule.specs.Knowledge.{head, free_by, index_loaded, slot_claimed, taken, posted_loaded, frame_taken, flag_loaded, frame_found}
 use Rattle.table_rule.specs.Views.{Bytes, LaneView, the_cut, the_move, the_recv, the_send, with_move, with_recv, with_send}
 
+-- A table shows the same lane after a load of link, index, posted header or flag that takes no slot.
 pub loads_are_no_steps : LoadsAreNoSteps
 loads_are_no_steps N m slots found h = record { link = h; index = h; posted = h; flag = h }
 
@@ -43,6 +44,7 @@ ReceiverTook before found after =
     × (after ≡ (with_recv before.0 (frame_found (flag_loaded part found) frame), (length part.got % part.entries, Some frame) ∷ before.1))
     × (length part.got < 2 ^ 62)
 
+-- A seat that knows of the cut still knows of it after each atomic step of sender, mover, receiver, way back or cut.
 pub cut_stays : CutStays
 cut_stays = record {
   sees_link = λ before found after tells cut. view_keeps before after _ refl tells cut;

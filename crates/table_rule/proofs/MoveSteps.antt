@@ -20,6 +20,7 @@ use Rattle.table_rule.proofs.WordLists.{posted_at, set_header, set_flag}
 use Rattle.table_rule.proofs.Order.{in_order}
 use Rattle.table_rule.proofs.MoverShows as moving
 
+-- The rule of a table allows the mover to load the next posted header, and to take the entry's slot if it is new.
 pub sees_posted_allowed : (N slots id : ℕ) (me : Sitter) (i : ℕ) → i ≡ posted_word N (taken (the_move me.0)) → HasMove me.0 → Allows (ShowsALane N) slots id me i (λ n. n) (sees_posted me)
 sees_posted_allowed N slots id me i is has board h counted at fits =
     let part : MovePart = the_move me.0 in
@@ -57,6 +58,7 @@ sees_posted_allowed N slots id me i is has board h counted at fits =
           load_keeps (sees_posted me found) me.1 after i seat seat.now.knows seat.now.shows (let miss : eqb found (header_of n) ≡ false = ne_eqb found (header_of n) old in rw miss refl, surely)
     ]
 
+-- The rule of a table allows the mover to store the header of an entry that it holds, if it hasn't done so yet.
 pub stores_header_allowed : (N slots id : ℕ) (me : Sitter) (i new n : ℕ) → i ≡ header_word N n → new ≡ header_of n → HasMove me.0 → (the_move me.0).entries ≡ N
     → (the_move me.0).flagged ≤ n → n < taken (the_move me.0) → get_or (the_move me.0).stored (n - (the_move me.0).flagged) false ≡ false
     → Allows (ShowsALane N) slots id me i (λ _. new) (λ _. stores_header i me new)
@@ -78,6 +80,7 @@ stores_header_allowed N slots id me i new n is header has entries low high left 
       ap (λ (k : ℕ). (with_move me.0 (header_stored part k), me.1)) (sym named),
     )
 
+-- The rule of a table allows the mover to store the flag of its first held entry, whose slot then goes home.
 pub stores_flag_allowed : (N slots id : ℕ) (me : Sitter) (i : ℕ) (k : ℕ) (frame : Bytes) (others : List (ℕ × Content)) → i ≡ flag_word N (the_move me.0).flagged → me.1 ≡ (k, Some frame) ∷ others → k ≡ (the_move me.0).flagged % N → HasMove me.0
     → (the_move me.0).held ≡ frame ∷ drop 1 (the_move me.0).held → (the_move me.0).stored ≡ true ∷ drop 1 (the_move me.0).stored → Allows (ShowsALane N) slots id me i (λ _. done) (λ _. stores_flag me done)
 stores_flag_allowed N slots id me i k frame others is hand slot has holds marked =

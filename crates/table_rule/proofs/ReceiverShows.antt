@@ -19,6 +19,7 @@ use Rattle.table_rule.proofs.Order.{in_order}
 use Rattle.table_rule.proofs.SenderShows.{borders_in, entry_is_frame}
 use Rattle.table_rule.proofs.MoverShows.{ring_stores_flag}
 
+-- A list of length 0 is empty.
 pub none_long : (xs : List Bytes) → length xs ≡ 0 → xs ≡ []
 none_long [] e = refl
 none_long (x ∷ xs) e = absurd (omega arith)

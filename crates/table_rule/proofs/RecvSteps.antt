@@ -19,6 +19,7 @@ use Rattle.table_rule.proofs.WordLists.{header_at, flag_at, set_flag, set_index_
 use Rattle.table_rule.proofs.ReceiverShows.{none_long}
 use Rattle.table_rule.proofs.ReceiverShows as receiving
 
+-- The rule of a table allows an idle receiver to load the next entry's flag, and to take its slot if the flag is up.
 pub sees_flag_allowed : (N slots id : ℕ) (me : Sitter) (i : ℕ) → i ≡ flag_word N (length (the_recv me.0).got) → HasRecv me.0 → (the_recv me.0).phase ≡ Idle → Allows (ShowsALane N) slots id me i (λ n. n) (sees_flag me)
 sees_flag_allowed N slots id me i is has idle board h counted at fits =
     let part : RecvPart = the_recv me.0 in
@@ -56,6 +57,7 @@ sees_flag_allowed N slots id me i is has idle board h counted at fits =
           load_keeps (sees_flag me found) me.1 after i seat seat.now.knows seat.now.shows (rw miss refl, surely, begins)
     ]
 
+-- The rule of a table allows a copying receiver to load the header of its entry, and then to have the frame.
 pub copies_frame_allowed : (N slots id : ℕ) (me : Sitter) (i : ℕ) → i ≡ header_word N (length (the_recv me.0).got) → HasRecv me.0 → (the_recv me.0).phase ≡ Copying → Allows (ShowsALane N) slots id me i (λ n. n) (copies_frame me)
 copies_frame_allowed N slots id me i is has copying board h counted at fits =
     let part : RecvPart = the_recv me.0 in
@@ -69,6 +71,7 @@ copies_frame_allowed N slots id me i is has copying board h counted at fits =
     sym (append-nil after.got) ∙ copy.3.receiving.prefix ∙ ap (λ (j : ℕ). take j m.send.sent) (let e : length after.got + 0 ≡ length after.got = omega arith in e) in
     load_keeps (copies_frame me (get_or board.words i 0)) me.1 after i seat seat.now.knows copy.3 (refl, ap (λ (header : ℕ). header % 2 ^ 32) word ∙ receiving.version_stands N m board.homes n refl copying seat.now.shows, part_too (λ v. v.send) board.views id me.0 m.send (λ send. after.got ≡ take (length after.got) send.sent) at seat.now.seats.send prefix)
 
+-- The rule of a table allows the receiver to clear the flag of a copied entry, whose slot then goes home empty.
 pub clears_flag_allowed : (N slots id : ℕ) (me : Sitter) (i n : ℕ) (k : ℕ) (others : List (ℕ × Content)) → i ≡ flag_word N n → n + 1 ≡ length (the_recv me.0).got → me.1 ≡ (k, None) ∷ others → k ≡ n % N
     → HasRecv me.0 → (the_recv me.0).phase ≡ Copied → Allows (ShowsALane N) slots id me i (λ _. 0) (λ _. clears_flag me 0)
 clears_flag_allowed N slots id me i n k others is last hand slot has copied =
@@ -79,6 +82,7 @@ clears_flag_allowed N slots id me i n k others is last hand slot has copied =
     let clear = receiving.clears N m board.homes n last copied seat.now.shows in
     store_shows (flag_cleared m.recv) seat is refl (set_flag N m.words seat.now.sized seat.two n 0) seat.now.knows clear.2)
 
+-- The rule of a table allows the receiver to store index out once it has cleared its last entry's flag.
 pub stores_index_out_allowed : (N slots id : ℕ) (me : Sitter) (i n new : ℕ) → i ≡ index_out_word N → n + 1 ≡ length (the_recv me.0).got → new ≡ n % N → HasRecv me.0 → (the_recv me.0).phase ≡ Cleared
     → Allows (ShowsALane N) slots id me i (λ _. new) (λ _. stores_index_out me new)
 stores_index_out_allowed N slots id me i n new is last index has cleared =

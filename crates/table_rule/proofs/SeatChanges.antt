@@ -30,6 +30,7 @@ pub load_shows : {P : Type 0} {N : ℕ} {board : Board} {id : ℕ} {moment : P �
     → ShowsLane N (record (moment after) { words = (moment part).words; lane = lane }) homes → ShowsALane N (record { words = set board.words i (get_or board.words i 0); homes = homes; views = set board.views id (view after) })
 load_shows after i seat knows shows = (_, record { words = set-get_or _ i 0 ∙ seat.now.words; sized = seat.now.sized; seats = seat.seats after; knows = knows; shows = shows })
 
+-- A table shows a lane after a store by a seat if the moment with the new words and the seat's new part does.
 pub store_shows : {P : Type 0} {N : ℕ} {board : Board} {id : ℕ} {moment : P → Moment} {view : P → LaneView} {part : P} {i j x y : ℕ} {words : Words} {lane : Lane} {homes : Slots} (after : P) → Sits P N board id moment view part → i ≡ j → x ≡ y
     → Stores N (moment part).words j y words → AllKnow N (moment after) → ShowsLane N (record (moment after) { words = words; lane = lane }) homes
     → ShowsALane N (record { words = set board.words i x; homes = homes; views = set board.views id (view after) })
@@ -46,6 +47,7 @@ pub store_keeps : (N slots id : ℕ) (me : Sitter) (i x : ℕ) (view : LaneView)
     → Allows (ShowsALane N) slots id me i (λ _. x) (λ _ after. after ≡ (view, me.1))
 store_keeps N slots id me i x view shows board h count at small = (view, keeps, tt, shows board h at, refl)
 
+-- A store that sends home the slot which the seat took last is allowed, if the table shows a lane after it.
 pub store_gives : (N slots id : ℕ) (me : Sitter) (i x slot place : ℕ) (content : Content) (others : List (ℕ × Content)) (view : List (ℕ × Content) → LaneView) → me.1 ≡ (slot, content) ∷ others → slot ≡ place
     → ((board : Board) → ShowsALane N board → get_elem? board.views id ≡ some me.0 → ShowsALane N (record { words = set board.words i x; homes = set board.homes place (some content); views = set board.views id (view ((place, content) ∷ others)) }))
     → Allows (ShowsALane N) slots id me i (λ _. x) (λ _ after. after ≡ (view me.1, rest me.1))

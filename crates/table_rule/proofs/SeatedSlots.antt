@@ -50,6 +50,7 @@ to_claim false n sent at = absurd (false≢true at.0)
 phase_counts : (N : ℕ) (m : Moment) (lane : Lane) → lane ≡ m.lane → lane.phase ≡ m.recv.phase → PhaseCounts lane.phase lane.acked lane.cleared lane.got lane.flagged → PhaseCounts m.recv.phase m.lane.acked m.lane.cleared m.lane.got m.lane.flagged
 phase_counts N m lane is stage counts = subst (λ (l : Lane). PhaseCounts m.recv.phase l.acked l.cleared l.got l.flagged) is (subst (λ p. PhaseCounts p lane.acked lane.cleared lane.got lane.flagged) stage counts)
 
+-- A slot that is out is with the sender, the mover or the receiver, whose part says so.
 pub slots_out_are_with_seats : SlotsOutAreWithSeats
 slots_out_are_with_seats N m slots h n from to is =
     let o = in_order N m slots h in
@@ -89,6 +90,7 @@ slots_out_are_with_seats N m slots h n from to is =
           ]
     ]
 
+-- A slot that is with the sender, the mover or the receiver, as its part says, is out.
 pub seats_have_slots_out : SeatsHaveSlotsOut
 seats_have_slots_out N m slots h n has =
     let o = in_order N m slots h in

@@ -16,6 +16,7 @@ use Rattle.table_rule.proofs.WordLists.{index_at, set_posted}
 use Rattle.table_rule.proofs.Order.{in_order}
 use Rattle.table_rule.proofs.SenderShows as sending
 
+-- The rule of a table allows the sender to load a word, and then to know what it found as the link word.
 pub sees_link_allowed : (N slots id : ℕ) (me : Sitter) (i : ℕ) → HasSend me.0 → Allows (ShowsALane N) slots id me i (λ n. n) (sees_link me)
 sees_link_allowed N slots id me i has board h counted at fits =
     let part : SendPart = the_send me.0 in
@@ -24,6 +25,7 @@ sees_link_allowed N slots id me i has board h counted at fits =
     let new : SendPart = link_loaded part (get_or board.words i 0) in
     load_keeps (sees_link me (get_or board.words i 0)) me.1 new i seat seat.now.knows seat.now.shows refl
 
+-- The rule of a table allows a sender without a slot to load the index word, and to take one where that shows room.
 pub sees_index_allowed : (N slots id : ℕ) (me : Sitter) (i : ℕ) → i ≡ index_word N → HasSend me.0 → (the_send me.0).claims ≡ false → Allows (ShowsALane N) slots id me i (λ n. n) (sees_index me)
 sees_index_allowed N slots id me i is has no_claim board h counted at fits =
     let part : SendPart = the_send me.0 in
@@ -54,6 +56,7 @@ sees_index_allowed N slots id me i is has no_claim board h counted at fits =
           load_keeps (sees_index me found) me.1 new i seat seat.now.knows seat.now.shows (small, rw none_free refl)
     ]
 
+-- The rule of a table allows the sender to store a posted header, its slot then going home with the frame.
 pub stores_posted_allowed : (N slots id : ℕ) (me : Sitter) (i new : ℕ) (frame : Bytes) (k : ℕ) (others : List (ℕ × Content)) → i ≡ posted_word N (length (the_send me.0).sent) → new ≡ header_of (length (the_send me.0).sent)
     → me.1 ≡ (k, Some frame) ∷ others → k ≡ length (the_send me.0).sent % N → length frame ≤ 65536 → length (the_send me.0).sent < 2 ^ 62 → HasSend me.0 → (the_send me.0).claims ≡ true
     → Allows (ShowsALane N) slots id me i (λ _. new) (λ _. stores_posted me new)

@@ -13,6 +13,7 @@ use Rattle.table_rule.proofs.LaneLaws.{other_number}
 abbrev pub slot_by : (a b c d e f : Bool) → home.Option (Option Bytes) → home.Option (Option Bytes)
 slot_by a b c d e f here = if a then empty else if b then out else if c then here else if d then out else if e then here else if f then out else empty
 
+-- How n compares with the borders of a ring says where the slot of entry n is, and what is in it.
 pub slot_is : (k : Borders) (sent : List Bytes) (n : ℕ) {a b c d e f : Bool} → nat_lt n k.cleared ≡ a → nat_lt n k.looked ≡ b → nat_lt n k.flagged ≡ c → nat_lt n k.taken ≡ d → nat_lt n k.sent ≡ e
     → nat_lt n k.claimed ≡ f → slot_at k sent n ≡ slot_by a b c d e f (full sent n)
 slot_is k sent n p q r s t u = λ i. slot_by (p i) (q i) (r i) (s i) (t i) (u i) (full sent n)

@@ -41,6 +41,7 @@ splits_are_no_steps N m board id view OfReceiver = seats_split N id view (withou
 splits_are_no_steps N m board id view OfWayBack = seats_split N id view (without OfWayBack view) (alone OfWayBack view) (inl (refl, refl)) (inl (refl, refl)) (inl (refl, refl)) (inr (refl, refl)) (inl (refl, refl)) m board
 splits_are_no_steps N m board id view OfCut = seats_split N id view (without OfCut view) (alone OfCut view) (inl (refl, refl)) (inl (refl, refl)) (inl (refl, refl)) (inl (refl, refl)) (inr (refl, refl)) m board
 
+-- The rule of a table allows a seat to be split, one of its parts going to a new seat alone.
 pub splits_off : (part : PartKind) (N id : ℕ) (view : LaneView) → Splits (ShowsALane N) id view (without part view) (alone part view)
 splits_off part N id view board h at = (h.0, splits_are_no_steps N h.0 board id view part h.1 at)
 
@@ -56,6 +57,7 @@ joins_are_no_steps N m board id other view second is apart at at_other =
       cut = part_joins (λ v. v.cut) board.views id other view second (joined view second) m.cut at apart at_other refl refl is.seats.cut;
     })
 
+-- The rule of a table allows two seats to be joined, one having the parts of both and the other none.
 pub seats_join : (N id : ℕ) (view : LaneView) (other : ℕ) (second : LaneView) → Joins (ShowsALane N) id view other second (joined view second) no_parts
 seats_join N id view other second board h at apart at_other = (h.0, joins_are_no_steps N h.0 board id other view second h.1 apart at at_other)
 

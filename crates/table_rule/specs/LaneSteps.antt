@@ -45,7 +45,7 @@ send_steps n frame = Begin (entry_of_frame frame) ∷ map (λ write. Post) (writ
 abbrev pub header_steps : ℕ → Entry → List LaneStep
 header_steps n entry = map Land (data_of n entry)
 
--- a flag is stored: it lands, and the doorbell behind it
+-- a flag is stored: it lands, and the doorbell after it
 abbrev pub flag_steps : ℕ → List LaneStep
 flag_steps n = Land (Flag n) ∷ Land Bell ∷ []
 

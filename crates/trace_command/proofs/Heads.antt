@@ -23,6 +23,7 @@ range_more : (n : ℕ) → range_with_len 0 (n + 1) ≡ range_with_len 0 n ++ n 
 range_more n =
     sym (same_list (range_with_len 0 (n + 1))) ∙ map-range_with_len_more (λ (x : ℕ). x) 0 n n (omega arith) ∙ ap (λ (xs : List ℕ). xs ++ n ∷ []) (same_list (range_with_len 0 n))
 
+-- The rings of a side's first n+1 queues are written as those of its first n and then that of queue n.
 pub rings_more : (pair : PairPlan) (side : Side) (n : ℕ) →
     flat_map (ring_after pair side) (range_with_len 0 (n + 1)) ≡ flat_map (ring_after pair side) (range_with_len 0 n) ++ ring_after pair side n
 rings_more pair side n =
@@ -40,6 +41,7 @@ members_of pair side own version queues windows =
     ++ number_member (codes ",\"size\":") own.size ++ number_member (codes ",\"cap\":") own.cap ++ codes ",\"rings\":["
     ++ flat_map (ring_after pair side) (range_with_len 0 own.queues) ++ codes "]}"
 
+-- A text that got the members of a side one after another has grown by the side's object.
 pub side_text : (pair : PairPlan) (side : Side) (own : SidePlan) (version queues windows : ℕ) (old t1 t2 t3 t4 t5 t6 t7 new : List ℕ) → own ≡ side_plan pair side →
     version ≡ own.version → queues ≡ own.queues → windows ≡ own.windows → t1 ≡ old ++ number_member (codes "{\"version\":") version →
     t2 ≡ t1 ++ number_member (codes ",\"queues\":") queues → t3 ≡ t2 ++ number_member (codes ",\"windows\":") windows → t4 ≡ t3 ++ number_member (codes ",\"size\":") own.size →
@@ -79,6 +81,7 @@ line_with pair name version mtu =
     ++ number_member (codes ",\"version\":") version ++ number_member (codes ",\"mtu\":") mtu ++ codes ",\"A\":" ++ side_object pair A ++ codes ",\"B\":" ++ side_object pair B ++ codes "}")
     ++ 10 ∷ []
 
+-- A text that got the members of a pair one after another has grown by the pair's line.
 pub pair_text : (pair : PairPlan) (name : List ℕ) (version mtu : ℕ) (old t1 t2 t3 t4 t5 t6 t7 t8 t9 t10 new : List ℕ) → name ≡ pair.name → version ≡ agreed_version pair → mtu ≡ pair.mtu →
     t1 ≡ old ++ text_member (codes "{\"pair\":") name → t2 ≡ (t1 ++ codes ",\"up\":") ++ truth_text pair.up → t3 ≡ (t2 ++ codes ",\"strict\":") ++ truth_text pair.strict →
     t4 ≡ (t3 ++ codes ",\"raw\":") ++ truth_text pair.raw → t5 ≡ t4 ++ number_member (codes ",\"version\":") version → t6 ≡ t5 ++ number_member (codes ",\"mtu\":") mtu →

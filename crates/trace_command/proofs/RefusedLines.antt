@@ -37,6 +37,7 @@ set_same [] k d = refl
 set_same (x ∷ xs) zero d = refl
 set_same (x ∷ xs) (suc k) d = ap (λ rest. x ∷ rest) (set_same xs k d)
 
+-- A step that isn't made leaves all writes of all pairs, with their numbers, as they were.
 pub unchanged_writes : (pairs : List PairPlan) (writes : List PairWrites) (step : Step) (answer : Answer) → is_made step answer ≡ false → writes_after pairs writes step answer ≡ writes
 unchanged_writes pairs writes step answer refused =
     let k = subject_of step in

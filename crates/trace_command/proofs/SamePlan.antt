@@ -55,6 +55,7 @@ line_same plan steps writes step made =
     ++ change_members (pair_in writes (subject_of step)) (change_in plan.pairs step made.answer) ++ codes "}"))
     (members_same plan steps step)
 
+-- The lines of a trace are the same for a plan with any other list of steps.
 pub lines_same : (plan : Plan) (steps : List Line) (writes : List PairWrites) (lines : List AnsweredStep) →
     step_lines plan writes lines ≡ step_lines (record plan { steps = steps }) writes lines
 lines_same plan steps writes [] = refl

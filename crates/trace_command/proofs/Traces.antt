@@ -5,6 +5,7 @@ use Rattle.report_text.specs.Report.{AnsweredStep}
 use Rattle.trace_text.specs.Lines.{step_line, step_lines}
 use Rattle.trace_command.specs.Trace.{Traced, with_line}
 
+-- Lines put to a trace's text answer by answer are the text before and then the lines that the definition gives.
 pub lines_kept : (answers : List AnsweredStep) (traced : Traced) → (fold with_line traced answers).text ≡ traced.text ++ step_lines traced.plan traced.writes answers
 lines_kept [] traced = sym (append-nil traced.text)
 lines_kept (answered ∷ answers) traced =

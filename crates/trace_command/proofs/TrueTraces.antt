@@ -44,6 +44,7 @@ true_trace (Ok plan) zero =
     (plan, refl, λ pair side among ordinary. traces_are_true plan (memory_of plan) (answered_steps plan.steps (log_of_plan plan)) pair side (have_answers plan) among ordinary)
 true_trace (Err fault) zero = absurd (omega arith)
 
+-- What `trace` answers to a script is true: if it is done, the script declares a plan whose trace is true.
 pub trace_is_true : (bytes : List ℕ) (output : Output) → output ≡ traced (script_of bytes) → IsTraceOf bytes output
 trace_is_true bytes output same =
     record {

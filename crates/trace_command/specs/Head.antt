@@ -17,7 +17,7 @@ ring_object pair side queue =
     number_member (codes "{\"entries\":") (sizes_of pair side queue).entries ++ number_member (codes ",\"largest\":") (sizes_of pair side queue).largest
     ++ number_member (codes ",\"class\":") (slice_index_or (classes_of pair side) queue 0) ++ codes "}"
 
--- objects of a list, each after the first behind a comma
+-- objects of a list, each but the first after a comma
 abbrev pub ring_after : PairPlan → Side → ℕ → List ℕ
 ring_after pair side queue = (if queue == 0 then [] else codes ",") ++ ring_object pair side queue
 

@@ -41,7 +41,7 @@ module _ (plan : Plan) (memories : Memories) where
       let others : AnswersFrom (next_network bytes_kept plan memories net line.step) before = first_answers (next_network bytes_kept plan memories net line.step) before behind rest in
       cc
 
-  -- the line behind them has the answer of the item behind theirs
+  -- the line after them has the answer of the item after theirs
   next_answer : (net : Net) (before behind : List AnsweredStep) (line : AnsweredStep) → AnswersFrom net (before ++ line ∷ behind)
       → line.made.answer ≡ (next_item bytes_kept plan memories (network_from bytes_kept plan memories net (steps_of before)) line.step).answer
   next_answer net [] behind line e = cc
@@ -55,7 +55,7 @@ module _ (plan : Plan) (memories : Memories) where
   abbrev bridged : List AnsweredStep → List Step
   bridged before = bridge_steps plan memories (steps_of before)
 
-  -- the first lines have a log of their bridges, which goes on by a landing with the answer of the line behind them
+  -- the first lines have a log of their bridges, which goes on by a landing with the answer of the line after them
   landing_goes_on : (before behind : List AnsweredStep) (line : AnsweredStep) (pair : ℕ) (side : Side) (place : ℕ) (answer : Answer)
       → HaveTheirAnswers plan memories (before ++ line ∷ behind) → line.step ≡ Land pair side place → line.made.answer ≡ answer
       → GoesOn plan memories (bridged before) (Land pair side place) answer

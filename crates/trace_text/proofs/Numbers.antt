@@ -26,6 +26,7 @@ numbers_first [] place first within = absurd (omega arith)
 numbers_first (write ∷ flight) zero first within = append-nil (decimal write.number)
 numbers_first flight (suc place) first within = absurd (omega arith)
 
+-- The numbers of writes in flight up to a place after the first are those before it, a comma and the number there.
 pub numbers_more : (flight : List FlyingWrite) (place : ℕ) → 0 < place → place < length flight
     → separated (numbers_in (take (place + 1) flight)) ≡ separated (numbers_in (take place flight)) ++ 44 ∷ decimal (write_at flight place).number
 numbers_more flight place some within =

@@ -19,7 +19,7 @@ text_member name text = name ++ 34 ∷ text ++ 34 ∷ []
 abbrev pub bytes_member : List ℕ → List ℕ → List ℕ
 bytes_member name bytes = text_member name (encode_lower bytes)
 
--- the members behind the first of a list, each behind a comma
+-- the members after the first of a list, each after a comma
 abbrev pub more_numbers : List ℕ → List ℕ
 more_numbers numbers = flat_map (λ n. 44 ∷ decimal n) numbers
 

@@ -19,6 +19,7 @@ past_small : (state : ℕ) → state_past state < 2 ^ 64
 unfolding state_past
 past_small state = mod-lt _ (lit< tt)
 
+-- Each state of the generator is below 2^64 where the seed is.
 pub state_small : (seed n : ℕ) → seed < 2 ^ 64 → state_after seed n < 2 ^ 64
 state_small seed zero small = small
 state_small seed (suc n) small = past_small (state_after seed n)
@@ -38,11 +39,13 @@ more-suc f a (suc n) =
     ap (λ lines. f a ++ lines) (more-suc f (a + 1) n)
     ∙ (sym (append_assoc (f a) (flat_map f (range_with_len (a + 1) n)) (f (a + 1 + n))) ∙ ap (λ k. f a ++ flat_map f (range_with_len (a + 1) n) ++ f k) (omega arith))
 
+-- The lines of the first n+1 frames are those of the first n and then those of frame n.
 pub frames_more : (f : ℕ → List Line) (n : ℕ) → flat_map f (range_with_len 0 (n + 1)) ≡ flat_map f (range_with_len 0 n) ++ f n
 frames_more f n =
     let first : 0 + n ≡ n = omega arith in
     ap (λ m. flat_map f (range_with_len 0 m)) (add-one n) ∙ (more-suc f 0 n ∙ ap (λ k. flat_map f (range_with_len 0 n) ++ f k) first)
 
+-- The lines of a load's first k frames and then those of its next are the lines of its first k+1 frames.
 pub frame_more : (seed k : ℕ) (load : LoadGiven) (old new : List Line) → load ≡ frames_given seed k → old ≡ flat_map (lines_of_frame seed) (range_with_len 0 k)
     → new ≡ old ++ lines_of_frame load.seed load.given → new ≡ flat_map (lines_of_frame seed) (range_with_len 0 (k + 1))
 frame_more seed k load old new given was is =
@@ -101,6 +104,7 @@ eight_bytes word k i (suc n) few =
     ∙ (ap (λ byte. byte ∷ map (byte_of word) (range_with_len (8 * k + i + 1) n)) (same_byte word i (omega arith))
     ∙ ap (λ (rest : List ℕ). byte_at i word ∷ rest) (ap (λ b. map (byte_of word) (range_with_len b n)) on ∙ eight_bytes word k (suc i) n (omega arith)))
 
+-- The first 8(k+1) bytes of a word that is repeated are its first 8k and then its eight bytes, the lowest first.
 pub bytes_more : (word k : ℕ) → map (byte_of word) (range_with_len 0 (8 * (k + 1))) ≡ map (byte_of word) (range_with_len 0 (8 * k)) ++ bytes_low_first 0 8 word
 bytes_more word k =
     let size : 8 * (k + 1) ≡ 8 * k + 8 = omega arith in
@@ -118,6 +122,7 @@ first_bytes f a (suc len) (suc all) few = ap (λ (rest : List ℕ). f a ∷ rest
 pub length_payload : (word : ℕ) → length (payload_of word) ≡ length_of word
 length_payload word = length-map-range_with_len _ 0 (length_of word)
 
+-- A frame of a load has at most 300 bytes.
 pub few_bytes : (word : ℕ) → length_of word ≤ 300
 few_bytes word = let h : word % 300 < 300 = mod-lt word (lit< tt) in omega arith
 
@@ -140,6 +145,7 @@ length_receive copies =
     let copied = length-replicate copies (Copy 0 B 0) in
     omega arith
 
+-- A frame of a load takes at most 30 steps.
 pub few_steps : (word landings : ℕ) → length (frame_steps word landings) ≤ 30
 few_steps word landings =
     let chunks = chunks_in (length_of word) in

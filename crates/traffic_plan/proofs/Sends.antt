@@ -6,6 +6,7 @@ use Rattle.step_kinds.specs.declared.names.LaneName.{LaneName}
 use Rattle.step_kinds.specs.declared.plan.Traffic.{Traffic}
 use Rattle.traffic_plan.specs.Lanes.{frame_on, frames_on}
 
+-- The frames on a lane of the first i+1 items of traffic are those of the first i and then those of item i alone.
 pub frames_on_more : (lane : LaneName) (items : List Traffic) (i : ℕ) (item : Traffic) → i < length items → item ≡ get_or items i item
     → frames_on lane (take (i + 1) items) ≡ frames_on lane (take i items) ++ frames_on lane (item ∷ [])
 frames_on_more lane items i item h is =

@@ -108,6 +108,7 @@ each_frame : (P : Line → Type 0) (f : ℕ → List Line) → ((k : ℕ) → Al
 each_frame P f each a zero = All-nil P
 each_frame P f each a (suc n) = All-append P (f a) (flat_map f (range_with_len (a + 1) n)) (each a) (each_frame P f each (a + 1) n)
 
+-- Each step of each frame of a load is permitted by a plan of the load's pair, whatever lines that plan has.
 pub lines_permitted : (lines : List Line) (seed k : ℕ) → All (λ line. IsPermitted (plan_of lines) line.step) (lines_of_frame seed k)
 lines_permitted lines seed k =
     let steps = frame_steps (word_of seed (2 * k)) (word_of seed (2 * k + 1)) in
@@ -123,6 +124,7 @@ few_of_frame seed k =
     let few = few_steps word landings in
     omega (arith, same, few)
 
+-- The plan of a load of at most 30,000 frames is a whole one, which a script can declare, within all limits.
 pub load_is_whole : LoadIsWhole
 load_is_whole seed frames most =
     let lines = flat_map (lines_of_frame seed) (range_with_len 0 frames) in

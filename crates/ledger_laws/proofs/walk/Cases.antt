@@ -86,6 +86,7 @@ link_cases P old None answer new refused made = made refl
 link_cases P old (Some NotDown) answer new refused made = refused _ (record { is = refl; link = refl })
 link_cases P old (Some refusal) answer new refused made = refused _ (record { is = refl; link = refl })
 
+-- An enable is refused and leaves its pair as it was, or passes its tests and has its side enabled.
 pub enable_cases : (P : Outcome → Type 0) (pair : PairPart) (side : Side)
     → ((r : Answer) → Refused false r → P (record { answer = r; after = pair }))
     → (enable_refusal pair.link side ≡ None → P (record { answer = Done; after = record pair { link = enabled_link pair.link side } }))
@@ -95,6 +96,7 @@ enable_cases P pair side refused made = link_cases P pair (enable_refusal pair.l
 abbrev pub trained : PairPart → PairPart
 trained pair = record pair { link = trained_link pair.link; lanes = both_of (λ queue. fresh_lane) }
 
+-- A train is refused and leaves its pair as it was, or passes its tests and begins the next session with fresh lanes.
 pub train_cases : (P : Outcome → Type 0) (pair : PairPart)
     → ((r : Answer) → Refused false r → P (record { answer = r; after = pair }))
     → (train_refusal pair.link ≡ None → P (record { answer = OkSession (pair.link.session + 1); after = trained pair }))
@@ -104,6 +106,7 @@ train_cases P pair refused made = link_cases P pair (train_refusal pair.link) (O
 abbrev pub broken : PairPart → PairPart
 broken pair = record pair { link = cut_link pair.link }
 
+-- A break is refused and leaves its pair as it was, or passes its test and has the link closing.
 pub break_cases : (P : Outcome → Type 0) (pair : PairPart)
     → ((r : Answer) → Refused false r → P (record { answer = r; after = pair }))
     → (cut_refusal pair.link ≡ None → P (record { answer = Done; after = broken pair }))
@@ -113,6 +116,7 @@ break_cases P pair refused made = link_cases P pair (cut_refusal pair.link) Done
 abbrev pub dropped : PairPart → PairPart
 dropped pair = record pair { link = dropped_link pair.link; sides = record { a = emptied_side pair.sides.a; b = emptied_side pair.sides.b } }
 
+-- A drop is refused and leaves its pair as it was, or passes its test and leaves the link down, nothing in flight.
 pub drop_cases : (P : Outcome → Type 0) (pair : PairPart)
     → ((r : Answer) → Refused false r → P (record { answer = r; after = pair }))
     → (drop_refusal pair.link ≡ None → P (record { answer = Done; after = dropped pair }))
@@ -127,6 +131,7 @@ cleaned pair side = record pair {
   devs = with_side pair.devs side (λ queue. started_dev (at_side pair.devs side queue));
 }
 
+-- A clean is refused and leaves its pair as it was, or passes its test and has its side forget the session.
 pub clean_cases : (P : Outcome → Type 0) (pair : PairPart) (side : Side)
     → ((r : Answer) → Refused false r → P (record { answer = r; after = pair }))
     → (clean_refusal pair.link ≡ None → P (record { answer = Done; after = cleaned pair side }))
@@ -140,6 +145,7 @@ next_offer plan pair side = slice_index_or (offers (side_plan plan side)) (side_
 abbrev pub offering : PairPart → Side → PairPart
 offering pair side = with_side_part pair side (record (side_of pair side) { offered = (side_of pair side).offered + 1 })
 
+-- An offer is refused and leaves its pair as it was, or finds the link up and posts the side's next number.
 pub offer_cases : (P : Outcome → Type 0) (plan : PairPlan) (pair : PairPart) (side : Side)
     → ((r : Answer) → Refused (not (link_up pair)) r → P (record { answer = r; after = pair }))
     → (link_up pair ≡ true → ((side_of pair side).offered == length (offers (side_plan plan side))) ≡ false
@@ -173,6 +179,7 @@ check_each own part up =
     (differing_each (pad_in part windows_pad) own.windows Windows _ (record { is = refl; link = refl })
     (larger_each part own.cap (find (λ m. nat_lt own.cap (size_in part m)) (count_from 0 own.windows))))))))
 
+-- A check is refused and leaves its pair as it was, or passes its tests and has its side up.
 pub check_cases : (P : Outcome → Type 0) (plan : PairPlan) (pair : PairPart) (side : Side)
     → ((r : Answer) → Refused (not (link_up pair)) r → P (record { answer = r; after = pair }))
     → (check_refusal (side_plan plan side) (side_of pair side) (link_up pair) ≡ None
@@ -189,6 +196,7 @@ readied pair side queue = with_side_part pair side (record (side_of pair side) {
 abbrev pub ready_pad : PairPart → Side → ℕ → Label
 ready_pad pair side queue = Pad links_pad (with_bit (side_of pair side).ready queue)
 
+-- A ready is refused and leaves its pair as it was, or finds link and side up and posts the queues that are ready.
 pub ready_cases : (P : Outcome → Type 0) (pair : PairPart) (side : Side) (queue : ℕ)
     → ((r : Answer) → Refused (not (link_up pair)) r → P (record { answer = r; after = pair }))
     → (link_up pair ≡ true → (side_of pair side).up ≡ true → P (record { answer = Done; after = posts (readied pair side queue) side (ready_pad pair side queue) }))
@@ -204,6 +212,7 @@ ready_cases P pair side queue refused made =
 abbrev pub joining : PairPart → Side → ℕ → PairPart
 joining pair side queue = with_side_part pair side (record (side_of pair side) { joined = with_bit (side_of pair side).joined queue })
 
+-- A join is refused and leaves its pair as it was, or finds the queue ready on both sides and has it joined.
 pub join_cases : (P : Outcome → Type 0) (pair : PairPart) (side : Side) (queue : ℕ)
     → ((r : Answer) → Refused (not (link_up pair)) r → P (record { answer = r; after = pair }))
     → (link_up pair ≡ true → has_bit (side_of pair side).ready queue ≡ true → has_bit (pad_in (side_of pair side) links_pad) queue ≡ true
@@ -240,10 +249,12 @@ pub record MaySend (reading : Reading) (sizes : Sizes) (pair : PairPart) (side :
   pub room : needed ≤ reading.free side queue
   pub fits : len ≤ sizes.most
 
+-- A list that fails the test of not being empty is empty.
 pub empty_is : {X : Type 0} (xs : List X) → not (is_empty_list xs) ≡ false → xs ≡ []
 empty_is [] e = refl
 empty_is (x ∷ xs) e = absurd (true≢false e)
 
+-- Where it is false that one of two tests passes, neither does.
 pub neither : (a b : Bool) → (a || b) ≡ false → (a ≡ false) × (b ≡ false)
 neither true b e = absurd (true≢false e)
 neither false b e = (refl, e)
@@ -408,6 +419,7 @@ module _ (reading : Reading) where
       go [] e = next lane.waiting refl e
       go (label ∷ rest) e = subst (λ todo. Post lane todo) (sym e) (made label rest e)
 
+-- A wake is refused and leaves its pair as it was, or has its device no longer stopped.
 pub wake_cases : (P : Outcome → Type 0) (reading : Reading) (plan : DevPlan) (pair : PairPart) (side : Side) (queue : ℕ)
     → ((r : Answer) → Refused false r → P (record { answer = r; after = pair }))
     → P (record { answer = Awake; after = with_dev pair side queue (record (dev_of pair side queue) { stopped = false }) })
@@ -422,6 +434,7 @@ wake_cases P reading plan pair side queue refused made =
 abbrev pub landed : PairPart → Side → ℕ → Label → PairPart
 landed pair side place label = lands_on (taken_out pair side place label) side label
 
+-- A landing is refused and leaves its pair as it was, or lands the write at its place, which may land there.
 pub land_cases : (P : Outcome → Type 0) (plan : PairPlan) (pair : PairPart) (side : Side) (place : ℕ)
     → ((r : Answer) → Refused false r → P (record { answer = r; after = pair }))
     → ((label : Label) → slice_get (side_of pair side).flight place ≡ Some label → may_land (map (order_of plan side) (side_of pair side).flight) place ≡ true
@@ -456,11 +469,12 @@ found_refusals (VerDiffers seen own) = true
 found_refusals (Long len most) = true
 found_refusals r = false
 
--- a test and those behind it
+-- a test and those after it
 test_cases : (P : Option Answer → Type 0) (b : Bool) (r : Answer) (later : Option Answer) → P (Some r) → (b ≡ false → P later) → P (refuse_if b r later)
 test_cases P true r later first rest = first
 test_cases P false r later first rest = rest refl
 
+-- A look is refused, or an idle receiver of a joined and open queue finds nothing, an entry or a link-down entry.
 pub look_cases : (reading : Reading) (P : Outcome → Type 0) (pair : PairPart) (side : Side) (queue : ℕ)
     → ((r : Answer) → is_link_down r ≡ false → found_refusals r ≡ true → P (record { answer = r; after = pair }))
     → (MayLookAt pair side queue → reading.found side queue ≡ NoEntry → P (record { answer = Empty; after = pair }))
@@ -487,7 +501,8 @@ look_cases reading P pair side queue refused none ready gone =
     found may (TooManyBytes len most) is = refused (Long len most) refl refl
     found may (AnEntry len left) is = ready may len left is
 
--- the three cases of a copy: a part that isn't the entry's last, the last part of an entry with others behind it, and of a frame
+-- the three cases of a copy: a part that isn't the entry's last, the last part of an entry with others after it, and of
+-- a frame
 abbrev pub copied_more : PairPart → Side → ℕ → LanePart → List ℕ → Outcome
 copied_more pair side queue lane gathered = record {
   answer = CopiedPart lane.got lane.part;
@@ -518,6 +533,7 @@ part_cases P pair side queue lane gathered more entry last =
     (if nat_lt 0 lane.left then copied_entry pair side queue lane gathered else copied_last pair side queue lane gathered) P more
     (λ all. cond_both (nat_lt 0 lane.left) (copied_entry pair side queue lane gathered) (copied_last pair side queue lane gathered) P (entry all) (last all))
 
+-- A copy is refused, or copies a part that isn't its entry's last, the last of an entry, or the last of a frame.
 pub copy_cases : (reading : Reading) (P : Outcome → Type 0) (pair : PairPart) (side : Side) (queue : ℕ)
     → let lane = lane_to pair side queue in
     let gathered = lane.gathered ++ reading.part side queue in
@@ -539,6 +555,7 @@ copy_cases reading P pair side queue refused more entry last =
 abbrev pub clearing : PairPart → Side → ℕ → PairPart
 clearing pair side queue = with_lane pair (other_side side) queue (record (lane_to pair side queue) { cleared = (lane_to pair side queue).cleared + 1; phase = Cleared })
 
+-- A clear is refused and leaves its pair as it was, or finds the entry copied and counts it as cleared.
 pub clear_cases : (P : Outcome → Type 0) (pair : PairPart) (side : Side) (queue : ℕ)
     → ((r : Answer) → Refused false r → P (record { answer = r; after = pair }))
     → (is_copied (lane_to pair side queue).phase ≡ true → P (record { answer = ClearedFrame (lane_to pair side queue).cleared; after = clearing pair side queue }))
@@ -551,6 +568,7 @@ clear_cases P pair side queue refused made =
 abbrev pub acking : PairPart → Side → ℕ → PairPart
 acking pair side queue = with_lane pair (other_side side) queue (record (lane_to pair side queue) { acked = (lane_to pair side queue).acked + 1; phase = IsIdle })
 
+-- An ack is refused and leaves its pair as it was, or finds the entry cleared and posts its index write.
 pub ack_cases : (reading : Reading) (P : Outcome → Type 0) (pair : PairPart) (side : Side) (queue : ℕ)
     → ((r : Answer) → Refused false r → P (record { answer = r; after = pair }))
     → (is_cleared (lane_to pair side queue).phase ≡ true

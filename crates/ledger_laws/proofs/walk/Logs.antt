@@ -26,6 +26,7 @@ use Rattle.ledger_laws.proofs.walk.SendingTurns.{on_queue-labels}
 
 -- The writes that are left to post are those of their lane
 
+-- Each turn keeps it so that all writes left to post of a lane are on the lane's queue.
 pub todo_kept : (plan : Plan) (lane : LaneName) (s : Sight) (made : Answered) (news : News) (t : Sight) → Turn plan lane s made news t
     → list_all (on_queue lane.queue) s.lane.todo ≡ true → list_all (on_queue lane.queue) t.lane.todo ≡ true
 todo_kept plan lane s made news t (Trains may) own = refl
@@ -123,10 +124,12 @@ pub record HoldsAlways (plan : Plan) (lane : LaneName) (Inv : List Answered → 
   pub turns : (log : List Answered) (s : Sight) (made : Answered) (news : News) (t : Sight) → Tells plan lane s.lane made news → Turn plan lane s made news t → Inv log s
       → Inv (log ++ made ∷ []) t
 
+-- Every list of steps fits where nothing is asked of a step.
 pub all_fit : (steps : List Step) → AllByRecursion (λ step. Unit {0}) steps
 all_fit [] = tt
 all_fit (step ∷ steps) = (tt, all_fit steps)
 
+-- What holds of a lane before any step, and no turn breaks, holds of the lane after every log.
 pub always_after : (plan : Plan) (lane : LaneName) (Inv : List Answered → Sight → Type 0) → HoldsAlways plan lane Inv → (memories : Memories) (steps : List Step)
     → Inv (log_of plan memories steps) (sight lane.from lane.queue (ledger_of plan memories steps lane.pair))
 always_after plan lane Inv holds memories steps =

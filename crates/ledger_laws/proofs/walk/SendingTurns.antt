@@ -64,6 +64,7 @@ on_queue-label q (Carries bytes left) (EntryFlag n) = eq-eqb q q refl
 on_queue-label q GoesDown (EntryFlag n) = eq-eqb q q refl
 on_queue-label q entry QueueBell = eq-eqb q q refl
 
+-- The labels of an entry's writes on a queue are all on that queue.
 pub on_queue-labels : (q n : ℕ) (entry : Entry) → list_all (on_queue q) (labels_of q n entry) ≡ true
 on_queue-labels q n entry = list_all-map (on_queue q) (label_of q entry) (writes_of n entry) (on_queue-label q entry)
 

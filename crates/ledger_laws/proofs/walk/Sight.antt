@@ -125,6 +125,7 @@ by_role A P each B = each Receiver
 by_role B P each A = each Receiver
 by_role B P each B = each Sender
 
+-- The other side of a side's other side is the side itself.
 pub other_other : (side : Side) → other_side (other_side side) ≡ side
 other_other A = refl
 other_other B = refl
@@ -174,6 +175,7 @@ pub data OffCase (from : Side) (q : ℕ) : Side → ℕ → Type 0 where
   OtherQueue : {queue : ℕ} → (q ≡ queue → ⊥) → OffCase from q from queue
   OtherWay : {queue : ℕ} → OffCase from q (other_side from) queue
 
+-- A lane of the same sender and another queue, or of the other sender, fails both tests for being this lane.
 pub is_off : (from : Side) (q : ℕ) (side : Side) (queue : ℕ) → OffCase from q side queue → IsOff from q side queue
 is_off from q side queue (OtherQueue ne) = record {
   named = and_right (same_side from from) _ (ne_eqb queue q (λ e. ne (sym e)));
@@ -199,6 +201,7 @@ pub data OffReceived (from : Side) (q : ℕ) : Side → Side → ℕ → Type 0 
   QueueOff : {queue : ℕ} → (q ≡ queue → ⊥) → OffReceived from q (other_side from) from queue
   WayOff : {queue : ℕ} → OffReceived from q from (other_side from) queue
 
+-- A lane that a side receives isn't this one where its queue is another or where it goes the other way.
 pub received-off : (from : Side) (q : ℕ) (side sender : Side) (queue : ℕ) → OffReceived from q side sender queue → IsOff from q (other_side side) queue
 received-off from q side sender queue (QueueOff ne) = subst (λ s. IsOff from q s queue) (sym (other_other from)) (is_off from q from queue (OtherQueue ne))
 received-off from q side sender queue WayOff = is_off from q (other_side from) queue OtherWay
@@ -216,20 +219,24 @@ by_received_lane from q P own off side queue = by_role from (λ s. P s (other_si
       | inr ne ↦ off (other_side from) from queue (QueueOff ne) (is_off from q from queue (OtherQueue ne))
     ])
 
+-- A side passes the test for being the same side as itself.
 pub same_side-refl : (side : Side) → same_side side side ≡ true
 same_side-refl A = refl
 same_side-refl B = refl
 
+-- A side's other side fails the test for being the same side as it.
 pub other_side-not : (side : Side) → same_side (other_side side) side ≡ false
 other_side-not A = refl
 other_side-not B = refl
 
+-- A side fails the test for being the same side as its other side.
 pub other_side-across : (side : Side) → same_side side (other_side side) ≡ false
 other_side-across A = refl
 other_side-across B = refl
 
 -- How the changes of a pair look to a lane
 
+-- Each end that a lane has in sight is that of its side in the pair.
 pub end-own : (from : Side) (q : ℕ) (pair : PairPart) (e : Role) → end_at (sight from q pair) e ≡ end_of pair (side_at from e)
 end-own from q pair Sender = refl
 end-own from q pair Receiver = refl

@@ -187,10 +187,12 @@ pub bell_in_ring : (q k : ℕ) (e : Role) (lane : LanePart) (sizes : Sizes) (rin
 bell_in_ring q k Sender lane sizes ring = cond_both (k == q) (Some QueueBell) None (λ w. record { ring = with_write sizes.entries lane ring.ring w; index_word = ring.index_word } ≡ ring) (λ _. refl) (λ _. refl)
 bell_in_ring q k Receiver lane sizes ring = refl
 
+-- A scratchpad write that lands changes neither slots nor index word of a lane.
 pub pad_in_ring : (q i value : ℕ) (e : Role) (lane : LanePart) (sizes : Sizes) (ring : RingPart) → ring_heard q e (Pad i value) lane sizes ring ≡ ring
 pad_in_ring q i value Sender lane sizes ring = refl
 pad_in_ring q i value Receiver lane sizes ring = refl
 
+-- A write that isn't the lane's, where it lands, changes neither slots nor index word of the lane.
 pub foreign_in_ring : (q : ℕ) (e : Role) (label : Label) (lane : LanePart) (sizes : Sizes) (ring : RingPart) → IsForeign q e label → ring_heard q e label lane sizes ring ≡ ring
 foreign_in_ring q Sender label lane sizes ring none = ap (λ w. record { ring = with_write sizes.entries lane ring.ring w; index_word = ring.index_word }) none
 foreign_in_ring q Receiver label lane sizes ring none = ap (λ n. record { ring = ring.ring; index_word = with_index sizes.entries ring.index_word n }) none
@@ -200,6 +202,7 @@ pub pad_no_change : (q i value : ℕ) (e : Role) → change_heard q e (Pad i val
 pad_no_change q i value Sender = refl
 pad_no_change q i value Receiver = refl
 
+-- A write that isn't the lane's, where it lands, is no change of the lane.
 pub foreign_no_change : (q : ℕ) (e : Role) (label : Label) → IsForeign q e label → change_heard q e label ≡ Unchanged
 foreign_no_change q Sender label none = ap change_by_write none
 foreign_no_change q Receiver label none = ap change_by_index none
@@ -217,9 +220,11 @@ told takes gives starts ends accepted delivered sees pads ring change =
 pub on-own : (lane : LaneName) (p : ℕ) → p ≡ lane.pair → is_on lane p lane.from lane.queue ≡ true
 on-own lane p e = rw (eq-eqb p lane.pair e, same_side-refl lane.from, eq-eqb lane.queue lane.queue refl) refl
 
+-- On the lane's pair and queue, the other side of the receiver's side is the lane's sender.
 pub on-back : (lane : LaneName) (p : ℕ) → p ≡ lane.pair → is_on lane p (other_side (other_side lane.from)) lane.queue ≡ true
 on-back lane p e = ap (λ s. is_on lane p s lane.queue) (other_other lane.from) ∙ on-own lane p e
 
+-- A side and queue that aren't those of a lane are not on the lane, whichever pair they are of.
 pub on-off : (lane : LaneName) (p : ℕ) (side : Side) (queue : ℕ) → IsOff lane.from lane.queue side queue → is_on lane p side queue ≡ false
 on-off lane p side queue off = and_right (p == lane.pair) _ off.named
 
@@ -227,9 +232,11 @@ on-off lane p side queue off = and_right (p == lane.pair) _ off.named
 abbrev pub at_receiver : LaneName → ℕ → Side → ℕ → Bool
 at_receiver lane p side queue = (p == lane.pair) && (same_side side (other_side lane.from) && (queue == lane.queue))
 
+-- The other side of a lane's sender is, on the lane's pair and queue, the lane's receiver.
 pub receives-own : (lane : LaneName) (p : ℕ) → p ≡ lane.pair → at_receiver lane p (other_side lane.from) lane.queue ≡ true
 receives-own lane p e = rw (eq-eqb p lane.pair e, same_side-refl (other_side lane.from), eq-eqb lane.queue lane.queue refl) refl
 
+-- A side and queue that receive another lane aren't the lane's receiver, whichever pair they are of.
 pub receives-off : (lane : LaneName) (p : ℕ) (side : Side) (queue : ℕ) → IsOff lane.from lane.queue (other_side side) queue → at_receiver lane p side queue ≡ false
 receives-off lane p side queue off = and_right (p == lane.pair) _ (ap (λ b. b && (queue == lane.queue)) (across lane.from side) ∙ off.named)
   where

@@ -188,13 +188,13 @@ pub record MayLook (raw : Bool) (q : ℕ) (s : Sight) (len left : ℕ) : Type 0 
   pub idle : is_idle s.lane.phase ≡ true
   pub found : raw ≡ false → IsPiece s.lane len left
 
--- it copies a part, with more parts behind it or not
+-- it copies a part, with more parts after it or not
 pub record MayCopy (raw : Bool) (s : Sight) (more_parts : Bool) (bytes : List ℕ) : Type 0 where
   pub turn : is_copying s.lane.phase ≡ true
   pub more : nat_lt (s.lane.part + 1) (chunks_in s.lane.len) ≡ more_parts
   pub are : raw ≡ false → bytes ≡ part_in_ledger s.lane
 
--- it copies the last part of an entry, with entries of its frame behind it or not
+-- it copies the last part of an entry, with entries of its frame after it or not
 pub record MayTake (raw : Bool) (s : Sight) (more_entries : Bool) (bytes : List ℕ) : Type 0 where
   pub copy : MayCopy raw s false bytes
   pub left : nat_lt 0 s.lane.left ≡ more_entries
@@ -312,6 +312,7 @@ pub record Turned (plan : Plan) (lane : LaneName) (s : Sight) (made : Answered) 
   pub tells : Tells plan lane s.lane made news
   pub turn : Turn plan lane s made news t
 
+-- A step that makes a turn of a lane and tells the log's readers that turn's news has turned the lane.
 pub turned : {plan : Plan} {lane : LaneName} {s : Sight} {made : Answered} {news : News} {t : Sight} → Turn plan lane s made news t → Tells plan lane s.lane made news
     → Turned plan lane s made t
 turned {news} turn tells = record { news = news; tells = tells; turn = turn }

@@ -45,7 +45,7 @@ returns-in-Xbegin-clause-after c = (turned c).after
 pub returns-in-Xbegin-clause-border : goal.returns-in-Xbegin-clause-border
 returns-in-Xbegin-clause-border c = (turned c).wants
 
--- a frame, a link-down entry and a look want memory where an entry is begun or found
+-- a frame, a link-down entry and a look are out of memory only where an entry is begun or found
 
 pub returns-in-Begin-clause-border : goal.returns-in-Begin-clause-border
 returns-in-Begin-clause-border c =
