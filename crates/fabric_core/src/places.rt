@@ -34,6 +34,24 @@ pub fn place_of(step: &Step) -> StepPlace
             queue: *queue,
         },
         Step::Clean { side, .. } => StepPlace::OnSide { side: *side },
-        _ => StepPlace::OnBridge,
+        Step::Enable { .. }
+        | Step::Train { .. }
+        | Step::Break { .. }
+        | Step::DropDone { .. }
+        | Step::Offer { .. }
+        | Step::Check { .. }
+        | Step::Ready { .. }
+        | Step::Join { .. }
+        | Step::Land { .. }
+        | Step::Irq { .. }
+        | Step::Mask { .. }
+        | Step::Unmask { .. }
+        | Step::Spad { .. }
+        | Step::Poke { .. }
+        | Step::ShowMem { .. }
+        | Step::ShowPad { .. }
+        | Step::ShowQueue { .. }
+        | Step::Relay { .. }
+        | Step::Xnext { .. } => StepPlace::OnBridge,
     }
 }

@@ -117,7 +117,26 @@ impl QueueBox {
             Step::Clear { .. } => Ok(self.clear(pair)),
             Step::Ack { .. } => Ok(self.ack(pair)),
             Step::Wake { .. } => Ok(self.wake(pair)),
-            _ => Ok(Answer::Ok),
+            Step::Enable { .. }
+            | Step::Train { .. }
+            | Step::Break { .. }
+            | Step::DropDone { .. }
+            | Step::Clean { .. }
+            | Step::Offer { .. }
+            | Step::Check { .. }
+            | Step::Ready { .. }
+            | Step::Join { .. }
+            | Step::Land { .. }
+            | Step::Irq { .. }
+            | Step::Mask { .. }
+            | Step::Unmask { .. }
+            | Step::Spad { .. }
+            | Step::Poke { .. }
+            | Step::ShowMem { .. }
+            | Step::ShowPad { .. }
+            | Step::ShowQueue { .. }
+            | Step::Relay { .. }
+            | Step::Xnext { .. } => Ok(Answer::Ok),
         }
     }
 
