@@ -39,8 +39,8 @@ pub too_many_exactly : (read : Result Plan ScriptFault) (output : Output) → Ex
 too_many_exactly (Ok plan) output (inl tells) = (
   λ is. absurd (omega (arith, is, status_of tells.answer)),
   λ more.
-  let same : plan ≡ more.0 = cc more.1 in
-  absurd (few_or_many plan tells.states tells.census tells.few (subst HasTooMany (sym same) more.2)),
+      let same : plan ≡ more.0 = cc more.1 in
+      absurd (few_or_many plan tells.states tells.census tells.few (subst HasTooMany (sym same) more.2)),
 )
 too_many_exactly (Ok plan) output (inr more) = (λ is. (plan, refl, more.many), λ _. status_of more.answer)
 too_many_exactly (Err fault) output answer = (λ is. absurd (omega (arith, is, status_of answer)), λ more. absurd (cc more.1))

@@ -7,11 +7,12 @@ ghost use Rattle.explore_model.specs.States.{HasMoreThan, IsCensus};
 
 use crate::Machine;
 
-/// The number of a census is exact: the schedules of its script don't reach more states, and each census of them has that
-/// number. No premise but the first law of machines.
+/// The number of a census is exact: the schedules of its script don't reach more states, and each census of them has
+/// that number. The premise is the first law of a [`Machine`]: machines that have made one list of steps have made the
+/// same lists.
 pub fn census_is_exact<M: Machine>()
-    ensures no_more { (plan : PlanValue) (script : List StepValue) (count : ℕ) → IsCensus M.has_made plan script count
-        → HasMoreThan M.has_made plan script count → ⊥ }
-    ensures one { (plan : PlanValue) (script : List StepValue) (count other : ℕ) → IsCensus M.has_made plan script count
-        → IsCensus M.has_made plan script other → count ≡ other }
+    ensures no_more { (plan : PlanValue) (script : List StepValue) (count : ℕ)
+        → IsCensus M.has_made plan script count → HasMoreThan M.has_made plan script count → ⊥ }
+    ensures one { (plan : PlanValue) (script : List StepValue) (count other : ℕ)
+        → IsCensus M.has_made plan script count → IsCensus M.has_made plan script other → count ≡ other }
 {}
