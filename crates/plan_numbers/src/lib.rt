@@ -1,4 +1,4 @@
-//! The numbers of a plan: what it says to one side of its pair, the rings of a side's queues, and the writes of a frame.
+//! The numbers of a plan: what it says to one side of its pair, the rings of a side's queues, the writes of a frame.
 //!
 //! Each function answers by the plan alone. None keeps anything, and none takes memory.
 #![tactic(auto)]

@@ -1,6 +1,6 @@
 //! What a plan says to one side of its pair: its numbers and its memory, and how its writes are ordered.
 
-ghost use Rattle.std.specs.Prelude.{◌≡◌, ◌+◌, ◌*◌, ◌/◌, ◌%◌, ◌<◌, ◌≤◌, List, ℕ, if◌then◌else◌};
+ghost use Rattle.std.specs.Prelude.{◌≡◌, ◌+◌, ◌*◌, ◌/◌, ◌%◌, ◌<◌, ◌≤◌, ℕ, if◌then◌else◌};
 ghost use Rattle.plan_model.specs.DeclaredPlans.{AreClasses, IsPair};
 ghost use Rattle.plan_model.specs.Orders.{class_of as order_class, classes_of as plan_classes, kind_of as order_kind};
 ghost use Rattle.plan_model.specs.Pads.{word};
@@ -68,8 +68,8 @@ pub fn class_among(classes: &[u32; 16], label: Label) -> u32
     }
 }
 
-/// How bridges order a write: on a strict pair each write is strict; elsewhere the chunks, length and version of an entry
-/// and raw bytes are relaxed.
+/// How bridges order a write: on a strict pair each write is strict; elsewhere the chunks, length and version of an
+/// entry and raw bytes are relaxed.
 pub fn kind_of(is_strict: bool, label: Label) -> usize
     ensures value { result ≡ order_kind is_strict label }
     ensures small { result < 2 }
