@@ -98,21 +98,6 @@ fn are_same_frames(frames: &VecDeque<Frame>, others: &VecDeque<Frame>) -> bool
     true
 }
 
-/// Whether two lists have the same queues, in one order.
-pub fn are_same_queues(queues: &[FrameQueue], others: &[FrameQueue]) -> bool
-    ensures { IsTrue result ↔ (queues.now ≡ others.now) }
-{
-    if queues.len() != others.len() {
-        return false;
-    }
-    for place in 0..queues.len() {
-        if !queues[place].is_same(&others[place]) {
-            return false;
-        }
-    }
-    true
-}
-
 /// The same queues, in one order.
 ///
 /// # Errors

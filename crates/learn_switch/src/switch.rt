@@ -6,7 +6,7 @@ ghost use Rattle.switch_model.specs.Fdb.{AreBelow, destination, learned_source, 
 ghost use Rattle.learn_switch.specs.Frames.{GoesBelow, HasHeader, HaveHeaders, bytes_after_relay, bytes_relay_answer};
 
 use crate::fdb::{Fdb, is_multicast};
-use crate::frame_queue::{FrameQueue, are_same_queues, copies, empty_queues, push_to_others};
+use crate::frame_queue::{FrameQueue, copies, empty_queues, push_to_others};
 use net_dev::{Header, Short, decode};
 use std::alloc::{AllocError, Global};
 use std::marker::Model;
@@ -159,6 +159,21 @@ impl Model for Switch {
     ghost view = { λ switch. record { inboxes = switch.inboxes.items; waiting = switch.waiting.items; fdb = switch.fdb } };
 
     ghost invariant = { λ switch. IsSwitch switch.inboxes.items switch.waiting.items switch.fdb };
+}
+
+// Whether two lists have the same queues, in one order.
+fn are_same_queues(queues: &[FrameQueue], others: &[FrameQueue]) -> bool
+    ensures { IsTrue result ↔ (queues.now ≡ others.now) }
+{
+    if queues.len() != others.len() {
+        return false;
+    }
+    for place in 0..queues.len() {
+        if !queues[place].is_same(&others[place]) {
+            return false;
+        }
+    }
+    true
 }
 
 // The addresses of a frame, where it has an Ethernet header.

@@ -1,6 +1,6 @@
 use Rattle.std.proofs.Common.{[], refl, arith}
 use Rattle.std.proofs.lemmas.List.{ext_get_or}
-use Rattle.learn_switch.proofs.frame_queue.are_same_queues.Goals as goal
+use Rattle.learn_switch.proofs.switch.are_same_queues.Goals as goal
 
 pub returns : goal.returns
 returns c = (
