@@ -6,6 +6,3 @@ mod status;
 
 pub use reply::Reply;
 pub use status::Status;
-
-#[cfg(test)]
-mod tests;

@@ -20,6 +20,3 @@ pub use plain_source::PlainSource;
 pub use std_streams::{StdSink, StdSource, StdStream};
 pub use streams::{Failed, Sink, Source};
 pub use whole::{ReadError, WriteFault, read_all, write_all};
-
-#[cfg(test)]
-mod tests;

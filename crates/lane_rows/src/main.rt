@@ -1,11 +1,9 @@
-//! Makes each call of the two lanes that no other program uses, and says of each answer whether it is the one that was worked
+//! Makes each call of the lane that no other program uses, and says of each answer whether it is the one that was worked
 //! out by hand from the model of a lane.
 #![tactic(auto)]
 
-mod between_threads;
 mod in_one_ring;
 
-use between_threads::ends_answer;
 use in_one_ring::{frame_comes_whole, link_down_entry_stays, lost_write_never_lands};
 use std::test::Fail;
 
@@ -22,10 +20,6 @@ fn main(rt: HostRuntime) -> Result<(), Fail> {
     println!(rt;
         "{}: What is posted on a lost link never lands.",
         word_of(lost_write_never_lands(alloc)?)
-    )?;
-    println!(rt;
-        "{}: Five ends pass a frame on, and what a cut leaves comes out.",
-        word_of(ends_answer(alloc)?)
     )?;
     Ok(())
 }

@@ -8,8 +8,6 @@
 mod fdb;
 mod frame_queue;
 mod switch;
-#[cfg(test)]
-mod tests;
 
 pub use switch::Switch;
 pub use switch_model::{RelayAnswer, Station};
