@@ -13,8 +13,6 @@
 mod numbers;
 mod receiver;
 mod sender;
-#[cfg(test)]
-mod tests;
 mod wire;
 mod world;
 

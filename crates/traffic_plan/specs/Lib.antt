@@ -1,3 +1,4 @@
+pub mod Examples
 pub mod Lanes
 pub mod Laws
 pub mod Load

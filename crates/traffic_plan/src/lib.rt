@@ -4,6 +4,7 @@
 //! generator of numbers: the same seed gives the same plan.
 #![tactic(auto)]
 
+pub mod examples;
 mod lanes;
 pub mod laws;
 mod load;
@@ -11,6 +12,3 @@ mod steps;
 
 pub use lanes::{breaks, lane_traffic};
 pub use load::{LoadFrames, generate, load_without_steps};
-
-#[cfg(test)]
-mod tests;

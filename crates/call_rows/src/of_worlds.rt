@@ -1,8 +1,9 @@
+//! A row of the two ends of a resumable stream.
+
 ghost use Rattle.std.specs.Prelude.{◌≡◌, length, IfOk};
 
-use super::*;
+use resume_stream::{StreamEvent, run_world};
 use std::alloc::{AllocError, Global};
-use std::test::Fail;
 use step_kinds::{Frame, FrameList};
 
 // The items `a` and `b`.
@@ -34,13 +35,11 @@ const LOST: [StreamEvent; 12] = [
     StreamEvent::Carry,
 ];
 
-// No program makes a world: here it is made once, unless out of memory.
-#[test]
-fn a_world_brings_all(rt: HostRuntime) -> Result<(), Fail> {
-    let (_sender, receiver) = run_world(rt.alloc(), both(rt.alloc())?, &LOST)?;
+/// Whether both items come once, in order, although a session is lost.
+pub fn all_items_come(alloc: Global) -> Result<bool, AllocError> {
+    let (_sender, receiver) = run_world(alloc, both(alloc)?, &LOST)?;
     let items = receiver.into_items();
-    assert_eq!(rt; items.len(), 2);
-    assert!(rt; items.frame_at(0).bytes() == b"a".as_slice());
-    assert!(rt; items.frame_at(1).bytes() == b"b".as_slice());
-    Ok(())
+    Ok(items.len() == 2
+        && items.frame_at(0).bytes() == b"a".as_slice()
+        && items.frame_at(1).bytes() == b"b".as_slice())
 }

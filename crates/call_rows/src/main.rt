@@ -1,10 +1,14 @@
-//! Makes each call of the lane that no other program uses, and says of each answer whether it is the one that was worked
-//! out by hand from the model of a lane.
+//! Makes each public call that no other program makes, and says of each answer whether it is the one that was worked out
+//! by hand from the definitions.
 #![tactic(auto)]
 
 mod in_one_ring;
+mod of_loads;
+mod of_worlds;
 
 use in_one_ring::{frame_comes_whole, link_down_entry_stays, lost_write_never_lands};
+use of_loads::load_has_its_steps;
+use of_worlds::all_items_come;
 use std::test::Fail;
 
 fn main(rt: HostRuntime) -> Result<(), Fail> {
@@ -20,6 +24,14 @@ fn main(rt: HostRuntime) -> Result<(), Fail> {
     println!(rt;
         "{}: What is posted on a lost link never lands.",
         word_of(lost_write_never_lands(alloc)?)
+    )?;
+    println!(rt;
+        "{}: A load of one frame has its steps.",
+        word_of(load_has_its_steps(alloc)?)
+    )?;
+    println!(rt;
+        "{}: Both items come, although a session is lost.",
+        word_of(all_items_come(alloc)?)
     )?;
     Ok(())
 }
