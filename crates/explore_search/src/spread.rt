@@ -1,6 +1,6 @@
 //! States closed under landings.
 
-ghost use Rattle.std.specs.Prelude.{◌≡◌, ◌≤◌, ◌<◌, ◌↔◌, [], IfOk, IsTrue, OnOk, length};
+ghost use Rattle.std.specs.Prelude.{◌≡◌, ◌≤◌, ◌<◌, ◌↔◌, ◌++◌, ◌∷◌, [], IfOk, IsTrue, OnOk, length};
 ghost use Rattle.std.specs.List.{All, HoldsAt};
 ghost use Rattle.plan_model.specs.DeclaredPlans.{IsPairOf};
 ghost use Rattle.explore_search.specs.Machines.{declared_part};
@@ -95,10 +95,23 @@ fn land<M: Machine>(
     let Answer::Landed { .. } = answer else {
         return Ok(Some(machine));
     };
-    let mut landings = Vec::from_slice(alloc, &states.as_slice()[from].landings)?;
-    landings.push(landing)?;
+    let landings = longer(alloc, &states.as_slice()[from].landings, landing)?;
     join(alloc, plan, done, states, landings, machine, live)?;
     Ok(None)
+}
+
+// A path with one landing more.
+fn longer(
+    alloc: Global,
+    path: &[Landing],
+    landing: Landing,
+) -> Result<Vec<Landing>, AllocError>
+    ensures { IfOk result (λ longer. longer.items ≡ path.now ++ landing ∷ []) }
+{
+    let mut longer = Vec::with_capacity(alloc, path.len().saturating_add(1))?;
+    longer.extend_from_slice(path)?;
+    longer.push(landing)?;
+    Ok(longer)
 }
 
 // A machine of a state: the one at hand, or a copy of the one that the state keeps, or one that is made anew along the

@@ -16,6 +16,9 @@ use std::alloc::{AllocError, Global};
 use std::marker::Model;
 use step_kinds::Plan;
 
+// So many bytes most keys don't exceed: a longer one grows.
+const KEY_ROOM: usize = 128;
+
 /// A state of a search: the landings of a path to it, the key of its machine, and maybe the machine.
 #[derive(Drop)]
 pub struct State<M> {
@@ -136,7 +139,7 @@ pub fn join<M: Machine>(
     requires machine { IsMachineAt M.has_made M.plan_held plan.now (path (script_of plan.now) landings.items done) machine }
     ensures { OnOk result (Joined M.has_made M.plan_held M.key_of plan.now done landings.items states.old states.new) }
 {
-    let mut key = Vec::new(alloc);
+    let mut key = Vec::with_capacity(alloc, KEY_ROOM)?;
     machine.push_key(&mut key)?;
     if is_among(alloc, plan, done, states, &machine, &key)? {
         return Ok(());

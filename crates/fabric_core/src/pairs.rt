@@ -302,7 +302,7 @@ fn fresh_queues(
     let mut queues = Vec::new(alloc);
     for queue in 0..side_plan(plan, side).queues {
         let (stop, start) = limits_on(devs, k, side, queue);
-        queues.push(QueueBox::new(alloc, plan, side, queue, stop, start))?;
+        queues.push(QueueBox::new(alloc, plan, side, queue, stop, start)?)?;
     }
     Ok(queues)
 }

@@ -44,6 +44,10 @@ pub struct QueueBox {
 
 impl QueueBox {
     /// A queue before any step, with the limits of the device on it.
+    ///
+    /// # Errors
+    ///
+    /// [`AllocError`] from out of memory alone.
     pub fn new(
         alloc: Global,
         plan: &PairPlan,
@@ -51,18 +55,18 @@ impl QueueBox {
         queue: u32,
         stop: u32,
         start: u32,
-    ) -> QueueBox
+    ) -> Result<QueueBox, AllocError>
         requires declared { IsPair plan.now }
         requires among { queue < (side_plan_of plan.now side).queues }
-        ensures { result ≡ fresh_part plan.now side queue stop start }
+        ensures { IfOk result (λ part. part ≡ fresh_part plan.now side queue stop start) }
     {
-        QueueBox {
-            queue: QueuePair::new(alloc, plan, side, queue),
+        Ok(QueueBox {
+            queue: QueuePair::new(alloc, plan, side, queue)?,
             flow: Flow::new(stop, start),
             counters: no_counts(),
             accepted: SessionCounts::new(alloc),
             delivered: SessionCounts::new(alloc),
-        }
+        })
     }
 
     /// Makes a step on the queue and answers it. A step that is made elsewhere changes nothing here.

@@ -50,20 +50,28 @@ impl Port {
     ghost use Rattle.frame_ring.specs.PortView.{FitsRings, HasPagesIn, HasRoomIn, TouchesLeft, TouchesWrite, with_room};
     ghost use Rattle.frame_ring.specs.Same.{IsSamePort};
 
-    /// The port of one of a side's queues, with nothing sent and nothing received. It takes no memory yet; the
-    /// allocator is kept for [`Port::look`].
-    pub fn new(alloc: Global, plan: &PairPlan, side: Side, queue: u32) -> Port
+    /// The port of one of a side's queues, with nothing sent and nothing received.
+    ///
+    /// # Errors
+    ///
+    /// [`AllocError`] from out of memory alone.
+    pub fn new(
+        alloc: Global,
+        plan: &PairPlan,
+        side: Side,
+        queue: u32,
+    ) -> Result<Port, AllocError>
         requires declared { IsPair plan.now }
         requires among { queue < (side_plan_of plan.now side).queues }
-        ensures { result ≡ fresh_port plan.now side queue }
+        ensures { IfOk result (λ port. port ≡ fresh_port plan.now side queue) }
     {
-        let rings = QueueRings::new(plan, side, queue);
+        let rings = QueueRings::new(alloc, plan, side, queue)?;
         let largest = rings.out().max_payload();
-        Port {
+        Ok(Port {
             rings,
             sender: Sender::new(queue, largest),
             receiver: Receiver::new(alloc),
-        }
+        })
     }
 
     /// Begins a frame, of one byte at least: as one entry, or on version 5 as so many as its bytes fill. Room for all its
@@ -276,7 +284,7 @@ impl Port {
         ensures { IfOk result (λ copy. copy ≡ self.now) }
     {
         Ok(Port {
-            rings: self.rings.copy_of(),
+            rings: self.rings.copy_of()?,
             sender: self.sender.copy_of(alloc)?,
             receiver: self.receiver.copy_of(alloc)?,
         })

@@ -36,15 +36,24 @@ impl QueuePair {
     ghost use Rattle.queue_pair.specs.Same.{IsSameQueue};
 
     /// The queue pair of one of a side's queues, open, with nothing sent and nothing received.
-    pub fn new(alloc: Global, plan: &PairPlan, side: Side, queue: u32) -> QueuePair
+    ///
+    /// # Errors
+    ///
+    /// [`AllocError`] from out of memory alone.
+    pub fn new(
+        alloc: Global,
+        plan: &PairPlan,
+        side: Side,
+        queue: u32,
+    ) -> Result<QueuePair, AllocError>
         requires among { queue < (side_plan_of plan.now side).queues }
         requires declared { IsPair plan.now }
-        ensures { result ≡ fresh_queue plan.now side queue }
+        ensures { IfOk result (λ queue_pair. queue_pair ≡ fresh_queue plan.now side queue) }
     {
-        QueuePair {
-            port: Port::new(alloc, plan, side, queue),
+        Ok(QueuePair {
+            port: Port::new(alloc, plan, side, queue)?,
             closed: false,
-        }
+        })
     }
 
     /// Begins a frame, of one byte at least, as [`Port::begin`] does.

@@ -49,7 +49,7 @@ join-requires-clause-landings g c =
     let here = c.index-as_slice-from-2.is ∙ ap (λ (states : List (State g.row.M.Denot)). get_or states c.args.from state) c.as_slice-2.ensures in
     let at = c.requires.landing.at in
     subst (λ (landings : List Landing). All (IsLandingBy c.args.plan.now c.args.done) landings)
-    (sym (c.in_ok-push.ensures.items ∙ ap (λ (landings : List Landing). landings ++ c.args.landing ∷ []) (c.in_ok-landings.ensures.items ∙ c.deref.ensures.value ∙ ap (λ (state : State g.row.M.Denot). state.landings.items) (sym c.index-as_slice-from-2.is))))
+    (sym (c.in_ok-landings.ensures ∙ ap (λ (landings : List Landing). landings ++ c.args.landing ∷ []) (c.deref.ensures.value ∙ ap (λ (state : State g.row.M.Denot). state.landings.items) (sym c.index-as_slice-from-2.is))))
     (All-push (IsLandingBy c.args.plan.now c.args.done) state.landings.items c.args.landing
     (subst (λ (state : State g.row.M.Denot). All (IsLandingBy c.args.plan.now c.args.done) state.landings.items) (sym here) (c.requires.states c.args.from state c.requires.from).landings)
     (record { may = c.requires.landing.may; at = omega arith }))
@@ -63,13 +63,13 @@ join-requires-clause-machine g c =
     let again = c.index-as_slice-from-2.is ∙ ap (λ (states : List (State g.row.M.Denot)). get_or states c.args.from state) c.as_slice-2.ensures in
     let same = get_or_read c.args.states.now c.args.from first c.requires.from here state ∙ sym again in
     let landings : List Landing = state.landings.items in
-    let copied = c.in_ok-landings.ensures.items ∙ c.deref.ensures.value ∙ ap (λ (state : State g.row.M.Denot). state.landings.items) (sym c.index-as_slice-from-2.is) in
+    let copied = c.deref.ensures.value ∙ ap (λ (state : State g.row.M.Denot). state.landings.items) (sym c.index-as_slice-from-2.is) in
     record {
       made =
-          made_by_landing g.M.Machine.has_made g.M.Machine.plan_held g.M.Machine.key_of plan c.args.done c.step.new.self landings c.push.new.self.items c.args.landing c.as_step.result
+          made_by_landing g.M.Machine.has_made g.M.Machine.plan_held g.M.Machine.key_of plan c.args.done c.step.new.self landings c.in_ok-landings.landings.items c.args.landing c.as_step.result
           (c.in_ok-answer.ensures.made plan (path (script_of plan) landings c.args.done)
           (subst (λ (state : State g.row.M.Denot). g.M.Machine.has_made c.in_ok-machine.machine plan (made_to plan c.args.done state)) same c.in_ok-machine.ensures.made))
-          c.as_step.ensures c.requires.landing.at (c.in_ok-push.ensures.items ∙ ap (λ (landings : List Landing). landings ++ c.args.landing ∷ []) copied);
+          c.as_step.ensures c.requires.landing.at (c.in_ok-landings.ensures ∙ ap (λ (landings : List Landing). landings ++ c.args.landing ∷ []) copied);
       held = c.in_ok-answer.ensures.plan ∙ c.in_ok-machine.ensures.held;
     }
 
@@ -82,10 +82,10 @@ returns-clause-grown g c =
     let again = c.index-as_slice-from-2.is ∙ ap (λ (states : List (State g.row.M.Denot)). get_or states c.args.from state) c.as_slice-2.ensures in
     let same = get_or_read c.args.states.now c.args.from first c.requires.from here state ∙ sym again in
     let at = subst (λ (state : State g.row.M.Denot). g.M.Machine.has_made c.in_ok-machine.machine plan (made_to plan c.args.done state)) same c.in_ok-machine.ensures.made in
-    let copied = c.in_ok-landings.ensures.items ∙ c.deref.ensures.value ∙ ap (λ (state : State g.row.M.Denot). state.landings.items) (sym c.index-as_slice-from-2.is) in
+    let copied = c.deref.ensures.value ∙ ap (λ (state : State g.row.M.Denot). state.landings.items) (sym c.index-as_slice-from-2.is) in
     let size = length-map plan.steps (λ (line : Line). line.step) in
-    grown_by_landing g.M.Machine.has_made g.M.Machine.plan_held g.M.Machine.key_of plan c.args.done c.args.states.now c.join.new.states c.args.from state c.args.landing c.push.new.self.items
-    c.requires.from again (omega arith) c.requires.landing (c.in_ok-push.ensures.items ∙ ap (λ (landings : List Landing). landings ++ c.args.landing ∷ []) copied)
+    grown_by_landing g.M.Machine.has_made g.M.Machine.plan_held g.M.Machine.key_of plan c.args.done c.args.states.now c.join.new.states c.args.from state c.args.landing c.in_ok-landings.landings.items
+    c.requires.from again (omega arith) c.requires.landing (c.in_ok-landings.ensures ∙ ap (λ (landings : List Landing). landings ++ c.args.landing ∷ []) copied)
     (ap is_landed (ap (λ (step : Step). answer_after plan (made_to plan c.args.done state) step) (sym c.as_step.ensures) ∙ sym (c.in_ok-answer.ensures.answer plan (made_to plan c.args.done state) at))
     ∙ landed_is_landed c.in_ok-answer.answer c.in-Landed.label c.in-Landed.is)
     c.in_ok-join.ensures
@@ -100,12 +100,12 @@ returns-clause-lands g c =
     let again = c.index-as_slice-from-2.is ∙ ap (λ (states : List (State g.row.M.Denot)). get_or states c.args.from state) c.as_slice-2.ensures in
     let same = get_or_read c.args.states.now c.args.from first c.requires.from here state ∙ sym again in
     let at = subst (λ (state : State g.row.M.Denot). g.M.Machine.has_made c.in_ok-machine.machine plan (made_to plan c.args.done state)) same c.in_ok-machine.ensures.made in
-    let copied = c.in_ok-landings.ensures.items ∙ c.deref.ensures.value ∙ ap (λ (state : State g.row.M.Denot). state.landings.items) (sym c.index-as_slice-from-2.is) in
+    let copied = c.deref.ensures.value ∙ ap (λ (state : State g.row.M.Denot). state.landings.items) (sym c.index-as_slice-from-2.is) in
     subst (λ (state : State g.row.M.Denot). Lands g.M.Machine.has_made plan c.args.done c.join.new.states state c.args.landing)
     (get_or_read c.args.states.now c.args.from state c.requires.from again d)
-    (leads_by_landing g.M.Machine.has_made g.M.Machine.plan_held g.M.Machine.key_of plan c.args.done g.met.M.Machine.same_steps c.args.states.now c.join.new.states state c.args.landing c.push.new.self.items
+    (leads_by_landing g.M.Machine.has_made g.M.Machine.plan_held g.M.Machine.key_of plan c.args.done g.met.M.Machine.same_steps c.args.states.now c.join.new.states state c.args.landing c.in_ok-landings.landings.items
     c.in_ok-machine.machine c.step.new.self c.as_step.result at (λ made has. c.in_ok-answer.ensures.made plan made has) c.as_step.ensures
-    (made_by_landing g.M.Machine.has_made g.M.Machine.plan_held g.M.Machine.key_of plan c.args.done c.step.new.self state.landings.items c.push.new.self.items c.args.landing c.as_step.result
+    (made_by_landing g.M.Machine.has_made g.M.Machine.plan_held g.M.Machine.key_of plan c.args.done c.step.new.self state.landings.items c.in_ok-landings.landings.items c.args.landing c.as_step.result
     (c.in_ok-answer.ensures.made plan (path (script_of plan) state.landings.items c.args.done) at)
-    c.as_step.ensures c.requires.landing.at (c.in_ok-push.ensures.items ∙ ap (λ (landings : List Landing). landings ++ c.args.landing ∷ []) copied))
+    c.as_step.ensures c.requires.landing.at (c.in_ok-landings.ensures ∙ ap (λ (landings : List Landing). landings ++ c.args.landing ∷ []) copied))
     c.in_ok-join.ensures)

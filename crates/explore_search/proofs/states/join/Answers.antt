@@ -21,7 +21,7 @@ returns g c =
     (state_by g.M.Machine.has_made g.M.Machine.plan_held g.M.Machine.key_of plan c.args.done pushed.state c.args.landings.items c.push_key.new.key.items c.kept-machine.result
     pushed.landings_are pushed.key_is pushed.machine_is c.requires.landings
     (λ machine has.
-    g.met.M.Machine.same_keys plan made machine c.args.machine has c.requires.machine.made ∙ sym (c.in_ok-push_key.ensures ∙ ap (λ (key : List ℕ). key ++ g.M.Machine.key_of c.args.machine) c.new-key.ensures.items))
+    g.met.M.Machine.same_keys plan made machine c.args.machine has c.requires.machine.made ∙ sym (c.in_ok-push_key.ensures ∙ ap (λ (key : List ℕ). key ++ g.M.Machine.key_of c.args.machine) c.in_ok-key.ensures.items))
     (IfSome_then c.kept-machine.result c.kept-machine.ensures
     (λ machine same. subst (λ (machine : g.row.M.Denot). IsMachineAt g.M.Machine.has_made g.M.Machine.plan_held plan made machine) (sym same) c.requires.machine)))
     pushed.landings_are
