@@ -39,7 +39,9 @@ const LOST: [StreamEvent; 12] = [
 pub fn all_items_come(alloc: Global) -> Result<bool, AllocError> {
     let (_sender, receiver) = run_world(alloc, both(alloc)?, &LOST)?;
     let items = receiver.into_items();
-    Ok(items.len() == 2
-        && items.frame_at(0).bytes() == b"a".as_slice()
-        && items.frame_at(1).bytes() == b"b".as_slice())
+    Ok(
+        items.len() == 2
+            && items.frame_at(0).bytes() == b"a".as_slice()
+            && items.frame_at(1).bytes() == b"b".as_slice(),
+    )
 }

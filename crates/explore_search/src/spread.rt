@@ -101,11 +101,7 @@ fn land<M: Machine>(
 }
 
 // A path with one landing more.
-fn longer(
-    alloc: Global,
-    path: &[Landing],
-    landing: Landing,
-) -> Result<Vec<Landing>, AllocError>
+fn longer(alloc: Global, path: &[Landing], landing: Landing) -> Result<Vec<Landing>, AllocError>
     ensures { IfOk result (λ longer. longer.items ≡ path.now ++ landing ∷ []) }
 {
     let mut longer = Vec::with_capacity(alloc, path.len().saturating_add(1))?;

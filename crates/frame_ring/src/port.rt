@@ -55,12 +55,7 @@ impl Port {
     /// # Errors
     ///
     /// [`AllocError`] from out of memory alone.
-    pub fn new(
-        alloc: Global,
-        plan: &PairPlan,
-        side: Side,
-        queue: u32,
-    ) -> Result<Port, AllocError>
+    pub fn new(alloc: Global, plan: &PairPlan, side: Side, queue: u32) -> Result<Port, AllocError>
         requires declared { IsPair plan.now }
         requires among { queue < (side_plan_of plan.now side).queues }
         ensures { IfOk result (λ port. port ≡ fresh_port plan.now side queue) }

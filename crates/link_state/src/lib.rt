@@ -30,6 +30,8 @@ use std::marker::Model;
 use step_kinds::Side;
 
 mod flags;
+#[cfg(test)]
+mod tests;
 
 use flags::Flags;
 

@@ -32,8 +32,8 @@ PlacesOfWords =
 abbrev pub StepsOfAFrame : Type 0
 StepsOfAFrame =
     (frame_steps 0 0x0706050403020100
-     ≡ Begin 0 A 0 (0 ∷ []) ∷ replicate 5 (Post 0 A 0) ++ lands (0 ∷ 1 ∷ 2 ∷ 3 ∷ 0 ∷ 1 ∷ 2 ∷ 3 ∷ []) ++ replicate 5 (Land 0 A 0)
-       ++ Look 0 B 0 ∷ Copy 0 B 0 ∷ Clear 0 B 0 ∷ Ack 0 B 0 ∷ Land 0 B 0 ∷ [])
+    ≡ Begin 0 A 0 (0 ∷ []) ∷ replicate 5 (Post 0 A 0) ++ lands (0 ∷ 1 ∷ 2 ∷ 3 ∷ 0 ∷ 1 ∷ 2 ∷ 3 ∷ []) ++ replicate 5 (Land 0 A 0)
+    ++ Look 0 B 0 ∷ Copy 0 B 0 ∷ Clear 0 B 0 ∷ Ack 0 B 0 ∷ Land 0 B 0 ∷ [])
     × (map (λ line. line.line) (frame_lines 3 0 0) ≡ replicate 24 3)
 
 pub record ExamplesHold : Type 0 where
