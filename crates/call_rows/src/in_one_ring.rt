@@ -1,6 +1,7 @@
 //! Rows of the lane that holds its ring's slots.
 
-ghost use Rattle.std.specs.Prelude.{◌≡◌, length, IfOk};
+ghost use Rattle.std.specs.Prelude.{◌≡◌, ◌<◌, ◌^◌, length, IfOk};
+ghost use Rattle.lane_laws.specs.Laws.{IsOpen};
 
 use lane_core::{Begun, Lane, LaneCopy, LaneLand, LaneLook};
 use std::alloc::{AllocError, Global};
@@ -25,24 +26,38 @@ fn post_and_land(lane: &mut Lane, writes: u32) {
 
 /// Whether a frame of one byte, which has five writes, comes whole, and its entry is given back.
 pub fn frame_comes_whole(alloc: Global) -> Result<bool, AllocError> {
+    let frame = one_byte(alloc)?;
     let mut lane = Lane::new(alloc, 0, 2, 1011, true)?;
-    let begun = lane.begin(one_byte(alloc)?)?;
-    post_and_land(&mut lane, 5);
+    goes_round(&mut lane, frame)
+}
+
+// Whether the first frame of a lane is begun, comes whole, and its entry is given back.
+fn goes_round(lane: &mut Lane, frame: Frame) -> Result<bool, AllocError>
+    requires bytes { 0 < length frame }
+    requires open { IsOpen lane.old.lane }
+    requires few { length lane.old.lane.sent < 2 ^ 46 }
+{
+    let begun = lane.begin(frame)?;
+    post_and_land(lane, 5);
+    let is_received = receives_it(lane)?;
+    Ok(begun == Begun::Ok { number: 0 } && is_received && gives_its_entry_back(lane))
+}
+
+// Whether the first frame is there, and is copied whole.
+fn receives_it(lane: &mut Lane) -> Result<bool, AllocError> {
     let looked = lane.look()?;
-    let copied = is_whole(&lane.copy());
-    let given_back = (lane.clear(), lane.ack(), lane.land_index(0));
+    Ok(looked == LaneLook::Ready { number: 0, len: 1 } && is_whole(&lane.copy()))
+}
+
+// Whether the first frame's flags are cleared, and the index write that gives its entry back is posted and lands.
+fn gives_its_entry_back(lane: &mut Lane) -> bool {
     let index = Label::Index {
         queue: 0,
         number: 0,
     };
-    Ok(
-        begun == Begun::Ok { number: 0 }
-            && looked == LaneLook::Ready { number: 0, len: 1 }
-            && copied
-            && given_back.0 == Some(0)
-            && given_back.1 == Some(0)
-            && given_back.2 == LaneLand::Landed(index),
-    )
+    lane.clear() == Some(0)
+        && lane.ack() == Some(0)
+        && lane.land_index(0) == LaneLand::Landed(index)
 }
 
 fn is_whole(copied: &LaneCopy) -> bool {
@@ -55,8 +70,16 @@ fn is_whole(copied: &LaneCopy) -> bool {
 /// Whether a link-down entry, which has four writes, is seen at each look.
 pub fn link_down_entry_stays(alloc: Global) -> Result<bool, AllocError> {
     let mut lane = Lane::new(alloc, 0, 4, 1011, true)?;
+    goes_down(&mut lane)
+}
+
+// Whether the first entry of a lane is a link-down entry, which is seen twice.
+fn goes_down(lane: &mut Lane) -> Result<bool, AllocError>
+    requires open { IsOpen lane.old.lane }
+    requires few { length lane.old.lane.sent < 2 ^ 46 }
+{
     let begun = lane.down()?;
-    post_and_land(&mut lane, 4);
+    post_and_land(lane, 4);
     Ok(
         begun == Begun::Ok { number: 0 }
             && lane.look()? == LaneLook::PeerDown
@@ -66,8 +89,18 @@ pub fn link_down_entry_stays(alloc: Global) -> Result<bool, AllocError> {
 
 /// Whether a write that is posted on a lost link has its label and never lands.
 pub fn lost_write_never_lands(alloc: Global) -> Result<bool, AllocError> {
+    let frame = one_byte(alloc)?;
     let mut lane = Lane::new(alloc, 0, 4, 1011, true)?;
-    lane.begin(one_byte(alloc)?)?;
+    posts_in_vain(&mut lane, frame)
+}
+
+// Whether the second write of a lane's first frame is lost with the link.
+fn posts_in_vain(lane: &mut Lane, frame: Frame) -> Result<bool, AllocError>
+    requires bytes { 0 < length frame }
+    requires open { IsOpen lane.old.lane }
+    requires few { length lane.old.lane.sent < 2 ^ 46 }
+{
+    lane.begin(frame)?;
     lane.post();
     lane.cut();
     lane.drop_all();

@@ -1,5 +1,5 @@
 use super::*;
-use io_edges::{MemorySink, NoGate, PlainSource};
+use io_edges::{MemorySink, PlainSource};
 use std::alloc::AllocError;
 use std::sync::atomic::{AtomicBool, Ordering};
 use std::test::Fail;
@@ -7,34 +7,6 @@ use std::thread;
 
 /// More bytes than any text here has.
 const ROOM: usize = 1_000;
-
-const ONE_FRAME: &str = "ntb 1
-host a
-host b
-pair p a b up strict size=4096 mtu=1023
-steps
-send p A 0 61
-landall p A 4
-recv p B 0
-";
-
-const ONE_FRAME_REPORT: &str = "6 ok 0
-6 posted chunk 0 0 0
-6 posted len 0 0
-6 posted ver 0 0
-6 posted flag 0 0
-6 posted bell 0
-7 landed chunk 0 0 0
-7 landed len 0 0
-7 landed ver 0 0
-7 landed flag 0 0
-8 ready 0 1
-8 frame 0 61
-8 cleared 0
-8 acked 0
-lane p A 0 1 accepted 1 delivered 1
-end
-";
 
 const TWO_FRAMES: &str = "ntb 1
 host a
@@ -57,28 +29,6 @@ item 1 6263
 end
 ";
 
-const ONE_WRITE: &str = "ntb 1
-host a
-host b
-pair p a b up size=4096 mtu=1023
-steps
-begin p A 0 61
-post p A 0
-showq p A 0
-";
-
-// The write lands before the last step, or not. States: one before each of the first two steps, and two before the third.
-const ONE_WRITE_TEXT: &str = "outcomes 2 states 4
-outcome 1
-by 8 1 land p A 0
-8 queue 0 -
-outcome 2
-8 queue 1 chunk 0 0 0
-always 6 ok 0
-always 7 posted chunk 0 0 0
-end
-";
-
 // Words of a command line.
 fn words_of(alloc: Global, texts: &[&str]) -> Result<Vec<String>, AllocError> {
     let mut words = Vec::new(alloc);
@@ -88,58 +38,18 @@ fn words_of(alloc: Global, texts: &[&str]) -> Result<Vec<String>, AllocError> {
     Ok(words)
 }
 
-// What the program answers to these words over these bytes, and what it wrote.
+// What the program answers to a command over the script of two frames, and what it wrote.
 fn answer_to<R: Threads + Wait + Sync, G: Gate>(
     rt: &R,
     alloc: Global,
-    texts: &[&str],
-    script: &str,
+    command: &str,
     gate: &G,
 ) -> Result<(Ended, MemorySink), AllocError> {
-    let words = words_of(alloc, texts)?;
-    let mut source = PlainSource::new(String::from_str(alloc, script)?.into_bytes());
+    let words = words_of(alloc, &[command])?;
+    let mut source = PlainSource::new(String::from_str(alloc, TWO_FRAMES)?.into_bytes());
     let mut sink = MemorySink::new(alloc, ROOM, ROOM, Vec::new(alloc))?;
     let ended = run_program(rt, alloc, &words, &mut source, &mut sink, gate);
     Ok((ended, sink))
-}
-
-#[test]
-fn one_frame_there_and_back(rt: HostRuntime) -> Result<(), Fail> {
-    let (ended, sink) = answer_to(&rt, rt.alloc(), &["replay"], ONE_FRAME, &NoGate)?;
-    assert_eq!(rt; ended.status, 0);
-    assert_eq!(rt; sink.held(), ONE_FRAME_REPORT.as_bytes());
-    Ok(())
-}
-
-// The landings that the order rules blocked are the generator's business.
-#[test]
-fn load_of_one_frame(rt: HostRuntime) -> Result<(), Fail> {
-    let (ended, sink) = answer_to(&rt, rt.alloc(), &["load", "1", "1"], "", &NoGate)?;
-    assert_eq!(rt; ended.status, 0);
-    assert!(rt;
-        sink.held()
-            .starts_with(b"load 1 1 accepted 1 delivered 1 blocked ")
-    );
-    Ok(())
-}
-
-#[test]
-fn more_frames_than_a_load_has(rt: HostRuntime) -> Result<(), Fail> {
-    let (ended, sink) = answer_to(&rt, rt.alloc(), &["load", "1", "30001"], "", &NoGate)?;
-    assert_eq!(rt; ended.status, 2);
-    assert_eq!(rt; sink.held(), "usage\n".as_bytes());
-    Ok(())
-}
-
-#[test]
-fn line_with_a_fault(rt: HostRuntime) -> Result<(), Fail> {
-    let script = "ntb 1\nhost a\nhots b\n";
-    let (ended, sink) = answer_to(&rt, rt.alloc(), &["run"], script, &NoGate)?;
-    assert_eq!(rt; ended.status, 3);
-    assert_eq!(rt; sink.held(), "refused line 3 unknownword\n".as_bytes());
-    assert!(rt; ended.runs.is_none());
-    assert_eq!(rt; ended.proofs.len(), 0);
-    Ok(())
 }
 
 /// How often a worker reads the other's flag.
@@ -167,6 +77,11 @@ impl Meeting {
             receiver_saw: AtomicBool::new(false),
         }
     }
+
+    // Whether each of both saw the other come.
+    fn both_saw(&self) -> bool {
+        self.sender_saw.load(Ordering::SeqCst) && self.receiver_saw.load(Ordering::SeqCst)
+    }
 }
 
 impl Gate for Meeting {
@@ -193,26 +108,18 @@ fn meet(came: &AtomicBool, other_came: &AtomicBool, saw: &AtomicBool) {
     }
 }
 
+// Whether status 0 came with this text and so many proofs.
+fn is_answer(ended: &Ended, sink: &MemorySink, text: &str, proofs: usize) -> bool {
+    ended.status == 0 && sink.held() == text.as_bytes() && ended.proofs.len() == proofs
+}
+
 // A run whose workers never act beside one another doesn't pass: the first of both spends its reads before the other comes.
 #[test]
 fn workers_meet(rt: HostRuntime) -> Result<(), Fail> {
     let gate = Meeting::new();
-    let (ended, sink) = answer_to(&rt, rt.alloc(), &["run"], TWO_FRAMES, &gate)?;
-    assert_eq!(rt; ended.status, 0);
-    assert_eq!(rt; sink.held(), TWO_FRAMES_TEXT.as_bytes());
-    assert!(rt; ended.runs.is_some());
-    assert_eq!(rt; ended.proofs.len(), 1);
-    assert!(rt; gate.sender_saw.load(Ordering::SeqCst));
-    assert!(rt; gate.receiver_saw.load(Ordering::SeqCst));
-    Ok(())
-}
-
-// All outcomes of a script whose one write may land or not.
-#[test]
-fn both_outcomes_are_found(rt: HostRuntime) -> Result<(), Fail> {
-    let (ended, sink) = answer_to(&rt, rt.alloc(), &["explore"], ONE_WRITE, &NoGate)?;
-    assert_eq!(rt; ended.status, 0);
-    assert_eq!(rt; sink.held(), ONE_WRITE_TEXT.as_bytes());
+    let (ended, sink) = answer_to(&rt, rt.alloc(), "run", &gate)?;
+    assert!(rt; is_answer(&ended, &sink, TWO_FRAMES_TEXT, 1) && ended.runs.is_some());
+    assert!(rt; gate.both_saw());
     Ok(())
 }
 
@@ -220,13 +127,8 @@ fn both_outcomes_are_found(rt: HostRuntime) -> Result<(), Fail> {
 #[test]
 fn stream_meets(rt: HostRuntime) -> Result<(), Fail> {
     let gate = Meeting::new();
-    let (ended, sink) = answer_to(&rt, rt.alloc(), &["stream"], TWO_FRAMES, &gate)?;
-    assert_eq!(rt; ended.status, 0);
-    assert_eq!(rt; sink.held(), TWO_STREAMED_TEXT.as_bytes());
-    assert!(rt; ended.runs.is_none());
-    assert!(rt; ended.streams.is_some());
-    assert_eq!(rt; ended.proofs.len(), 2);
-    assert!(rt; gate.sender_saw.load(Ordering::SeqCst));
-    assert!(rt; gate.receiver_saw.load(Ordering::SeqCst));
+    let (ended, sink) = answer_to(&rt, rt.alloc(), "stream", &gate)?;
+    assert!(rt; is_answer(&ended, &sink, TWO_STREAMED_TEXT, 2) && ended.streams.is_some());
+    assert!(rt; ended.runs.is_none() && gate.both_saw());
     Ok(())
 }
