@@ -1,8 +1,10 @@
 //! Runs over streams that fail, over scripts that are cut, over other words and over an input that is too long.
 
+ghost use Rattle.std.specs.Prelude.{◌<◌, length};
+
 use crate::cases::Case;
 use crate::runs::{sink_of, source_of, status_of};
-use io_edges::PlainSource;
+use io_edges::{MemorySink, MemorySource, PlainSource};
 use std::alloc::{AllocError, Global};
 use std::sync::Wait;
 use std::thread::Threads;
@@ -16,6 +18,16 @@ const PIECE: usize = 8;
 /// More calls than a stream of such pieces has.
 const CALLS: u64 = 1_000;
 
+/// What the program answers where a call of a stream fails.
+enum Seen {
+    /// The fault is told.
+    Fault,
+    /// The call isn't made.
+    Whole,
+    /// Something else.
+    Other,
+}
+
 /// Whether a source that fails at a call is answered with status 4 and nothing is written, for each call that is made, and the whole text
 /// comes where the call isn't made.
 pub fn read_faults_are_told<R: Threads + Wait + Sync>(
@@ -25,18 +37,42 @@ pub fn read_faults_are_told<R: Threads + Wait + Sync>(
 ) -> Result<bool, AllocError> {
     let mut told = 0u64;
     for call in 0..CALLS {
-        let mut source = source_of(alloc, &case.script, PIECE, Some(call))?;
-        let mut sink = sink_of(alloc, PIECE, None)?;
-        let status = status_of(rt, alloc, "replay", &mut source, &mut sink)?;
-        if status == case.status {
-            break;
+        match read_fault(rt, alloc, case, call)? {
+            Seen::Fault => told = told.saturating_add(1),
+            Seen::Whole => break,
+            Seen::Other => return Ok(false),
         }
-        if status != 4 || !sink.held().is_empty() {
-            return Ok(false);
-        }
-        told = told.saturating_add(1);
     }
     Ok(told > case.script.len() as u64 / PIECE as u64 && told < CALLS)
+}
+
+// What is answered where this call of the source fails.
+fn read_fault<R: Threads + Wait + Sync>(
+    rt: &R,
+    alloc: Global,
+    case: &Case,
+    call: u64,
+) -> Result<Seen, AllocError> {
+    let mut source = source_of(alloc, &case.script, PIECE, Some(call))?;
+    let mut sink = sink_of(alloc, PIECE, None)?;
+    read_fault_over(rt, alloc, case, &mut source, &mut sink)
+}
+
+fn read_fault_over<R: Threads + Wait + Sync>(
+    rt: &R,
+    alloc: Global,
+    case: &Case,
+    source: &mut MemorySource,
+    sink: &mut MemorySink,
+) -> Result<Seen, AllocError> {
+    let status = status_of(rt, alloc, "replay", source, sink)?;
+    if status == case.status {
+        return Ok(Seen::Whole);
+    }
+    if status == 4 && sink.held().is_empty() {
+        return Ok(Seen::Fault);
+    }
+    Ok(Seen::Other)
 }
 
 /// Whether a sink that fails at a call is answered with status 5 and keeps a front of the text, a piece for each call before, for each
@@ -46,21 +82,48 @@ pub fn write_faults_are_told<R: Threads + Wait + Sync>(
     alloc: Global,
     case: &Case,
 ) -> Result<bool, AllocError> {
-    let whole = text_of(rt, alloc, case)?;
+    let whole = answer_to(rt, alloc, &case.script)?;
+    are_told_of(rt, alloc, case, &whole)
+}
+
+// Whether each failing call of the sink leaves a front of the whole text.
+fn are_told_of<R: Threads + Wait + Sync>(
+    rt: &R,
+    alloc: Global,
+    case: &Case,
+    whole: &[u8],
+) -> Result<bool, AllocError> {
     let mut kept = 0usize;
     for call in 0..CALLS {
-        let mut source = source_of(alloc, &case.script, PIECE, None)?;
-        let mut sink = sink_of(alloc, PIECE, Some(call))?;
-        let status = status_of(rt, alloc, "replay", &mut source, &mut sink)?;
-        if status == case.status {
-            break;
+        match write_fault(rt, alloc, case, call, whole, kept)? {
+            Seen::Fault => kept = kept.saturating_add(PIECE),
+            Seen::Whole => break,
+            Seen::Other => return Ok(false),
         }
-        if status != 5 || sink.held().len() != kept || !whole.starts_with(sink.held()) {
-            return Ok(false);
-        }
-        kept = kept.saturating_add(PIECE);
     }
     Ok(kept >= whole.len())
+}
+
+// What is answered where this call of the sink fails, which then keeps so many bytes.
+fn write_fault<R: Threads + Wait + Sync>(
+    rt: &R,
+    alloc: Global,
+    case: &Case,
+    call: u64,
+    whole: &[u8],
+    kept: usize,
+) -> Result<Seen, AllocError> {
+    let mut source = source_of(alloc, &case.script, PIECE, None)?;
+    let mut sink = sink_of(alloc, PIECE, Some(call))?;
+    let status = status_of(rt, alloc, "replay", &mut source, &mut sink)?;
+    if status == case.status {
+        return Ok(Seen::Whole);
+    }
+    let held = sink.held();
+    if status == 5 && held.len() == kept && whole.starts_with(held) {
+        return Ok(Seen::Fault);
+    }
+    Ok(Seen::Other)
 }
 
 /// Whether the case's script, cut after each of its line feeds, is a script, and gives the same text without its last
@@ -73,12 +136,24 @@ pub fn cuts_are_told<R: Threads + Wait + Sync>(
     let mut passed = true;
     for (place, byte) in case.script.iter().enumerate() {
         if *byte == b'\n' {
-            let cut = answer_to(rt, alloc, &case.script[..place + 1])?;
-            let unended = answer_to(rt, alloc, &case.script[..place])?;
-            passed = passed && cut.ends_with(b"end\n".as_slice()) && unended == cut;
+            passed = passed && is_cut_told(rt, alloc, &case.script, place)?;
         }
     }
     Ok(passed)
+}
+
+// Whether a script that is cut after a line feed is a script, and gives the same text without it.
+fn is_cut_told<R: Threads + Wait + Sync>(
+    rt: &R,
+    alloc: Global,
+    script: &[u8],
+    place: usize,
+) -> Result<bool, AllocError>
+    requires { place < length script.now }
+{
+    let cut = answer_to(rt, alloc, &script[..place + 1])?;
+    let unended = answer_to(rt, alloc, &script[..place])?;
+    Ok(cut.ends_with(b"end\n".as_slice()) && unended == cut)
 }
 
 /// Whether words that are no command are answered with `usage` and status 2.
@@ -108,15 +183,6 @@ fn comment_of(alloc: Global, len: usize) -> Result<Vec<u8>, AllocError> {
     vec![in alloc; b'#'; len]
 }
 
-// The text of a case, by streams that never fail.
-fn text_of<R: Threads + Wait + Sync>(
-    rt: &R,
-    alloc: Global,
-    case: &Case,
-) -> Result<Vec<u8>, AllocError> {
-    answer_to(rt, alloc, &case.script)
-}
-
 // What is written to a script.
 fn answer_to<R: Threads + Wait + Sync>(
     rt: &R,
@@ -126,7 +192,5 @@ fn answer_to<R: Threads + Wait + Sync>(
     let mut source = source_of(alloc, script, PIECE, None)?;
     let mut sink = sink_of(alloc, PIECE, None)?;
     let _status = status_of(rt, alloc, "replay", &mut source, &mut sink)?;
-    let mut text = Vec::new(alloc);
-    text.extend_from_slice(sink.held())?;
-    Ok(text)
+    Vec::from_slice(alloc, sink.held())
 }

@@ -11,7 +11,7 @@ mod faults;
 mod runs;
 mod sessions;
 
-use cases::{Case, read_table};
+use cases::{Case, Table, read_table};
 use faults::{
     cuts_are_told, long_input_is_told, other_words_are_told, read_faults_are_told,
     write_faults_are_told,
@@ -24,14 +24,23 @@ use std::thread::Threads;
 
 fn main(rt: HostRuntime) -> io::Result<()> {
     let table = read_table(&rt)?;
+    tell_table(&rt, rt.alloc(), &table)
+}
+
+// What comes of each case, whether the table has its form, and what else is told.
+fn tell_table<R: Print + Threads + Wait + Sync>(
+    rt: &R,
+    alloc: Global,
+    table: &Table,
+) -> io::Result<()> {
     for case in &table.cases {
-        let verdict = verdict_of(&rt, rt.alloc(), case)?;
+        let verdict = verdict_of(rt, alloc, case)?;
         let about = case.about.as_str();
         println!(rt; "{verdict}: {about}")?;
     }
     let form = word_of(table.is_whole);
     println!(rt; "{form}: The table has its form.")?;
-    tell_faults(&rt, rt.alloc(), table.cases.as_slice())
+    tell_faults(rt, alloc, table.cases.as_slice())
 }
 
 // What failing streams, other words, long inputs and cut scripts are answered, by the first case's script.

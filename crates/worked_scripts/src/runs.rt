@@ -32,11 +32,32 @@ fn gives_in_pieces<R: Threads + Wait + Sync>(
 ) -> Result<bool, AllocError> {
     let mut source = source_of(alloc, &case.script, piece, None)?;
     let mut sink = sink_of(alloc, piece, None)?;
-    let status = status_of(rt, alloc, case.command, &mut source, &mut sink)?;
-    let text = behind_line_feed(alloc, sink.held())?;
-    let mut passed = status == case.status;
-    for wanted in &case.wanted {
-        passed = passed && is_there(alloc, &text, wanted)?;
+    gives_over(rt, alloc, case, &mut source, &mut sink)
+}
+
+// Whether the program answers the case's status over these streams, and writes its parts.
+fn gives_over<R: Threads + Wait + Sync>(
+    rt: &R,
+    alloc: Global,
+    case: &Case,
+    source: &mut MemorySource,
+    sink: &mut MemorySink,
+) -> Result<bool, AllocError> {
+    let status = status_of(rt, alloc, case.command, source, sink)?;
+    Ok(status == case.status && are_there(alloc, sink.held(), &case.wanted)?)
+}
+
+// Whether all that is wanted stands in what was written.
+fn are_there(alloc: Global, written: &[u8], wanted: &[Wanted]) -> Result<bool, AllocError> {
+    let text = behind_line_feed(alloc, written)?;
+    are_in(alloc, &text, wanted)
+}
+
+// Whether all that is wanted stands in a text that is after a line feed.
+fn are_in(alloc: Global, text: &[u8], wanted: &[Wanted]) -> Result<bool, AllocError> {
+    let mut passed = true;
+    for one in wanted {
+        passed = passed && is_there(alloc, text, one)?;
     }
     Ok(passed)
 }
