@@ -1,23 +1,26 @@
 -- What a look promises: the pages of the flags and of the index word of the entry that it found.
-use Rattle.std.proofs.Common.{◌≡◌, ◌∙◌, ℕ, ◌+◌, All, true, List, Option, Some, None, Result, Ok, Err, OnErr, OnOk, length, refl, ap}
+use Rattle.std.proofs.Common.{◌≡◌, ◌∙◌, ◌≤◌, ℕ, ◌+◌, All, Bool, true, false, List, Option, Some, None, Result, Ok, Err, OnErr, OnOk, length, nat_lt, refl, ap, subst, arith, if◌then◌else◌}
 use Rattle.std.proofs.lemmas.List.Elements.{All-weaker}
+use Rattle.std.proofs.lemmas.Bool.{ltb-false}
 use Rattle.step_kinds.specs.Sides.{other_side}
 use Rattle.step_kinds.specs.declared.names.Side.{Side}
 use Rattle.step_kinds.specs.declared.names.Side.TheVariants.{A, B}
 use Rattle.step_kinds.specs.declared.plan.PairPlan.{PairPlan}
 use Rattle.byte_model.specs.Addresses.{own_header}
-use Rattle.byte_model.specs.Headers.{Found, NoEntry, ALinkDownEntry, AnotherVersion, TooManyBytes, AnEntry, flags_offset}
+use Rattle.byte_model.specs.Headers.{Found, Header, NoEntry, ALinkDownEntry, AnotherVersion, TooManyBytes, AnEntry, flags_offset, header_in}
 use Rattle.byte_model.specs.RingWrites.{WindowWrite, entry_write, index_write}
 use Rattle.host_memory.specs.Memory.{ArePromised, Touches}
+use Rattle.lane_model.specs.Lane.{version_of}
 use Rattle.lane_model.specs.Tests.{is_idle}
+use Rattle.plan_model.specs.Sizes.{Sizes, layout_to, sizes_in}
 use Rattle.lane_model.specs.declared.Phase.TheVariants.{Copying}
 use Rattle.bridge_pair.specs.Bridge.{Bridge, pages_of, with_pages}
 use Rattle.bridge_pair.specs.Pages.{PagesGrow}
 use Rattle.bridge_pair.proofs.Promises.{grows_further, grows_nothing, promised_still}
-use Rattle.frame_ring.specs.Calls.{FindsEntry, TouchedByFlags, TouchedByLook, found_seen, look_found}
+use Rattle.frame_ring.specs.Calls.{FindsEntry, TouchedByFlags, TouchedByLook, found_seen, look_answer, look_found}
 use Rattle.frame_ring.specs.Port.{Left, PortState, Receiving, with_receiving, writes_left}
-use Rattle.frame_ring.specs.PortView.{HasPages, IsLeftReady, IsReady, IsReadyToLand, TouchesWrite, with_room}
-use Rattle.frame_ring.specs.declared.RingLook.TheVariants.{Ready}
+use Rattle.frame_ring.specs.PortView.{HasPages, IsLeftReady, IsReady, IsReadyToLand, TouchesWrite, bytes_seen, with_room}
+use Rattle.frame_ring.specs.declared.RingLook.TheVariants.{OutOfTurn, Ready}
 
 -- Pages of the two sides
 
@@ -76,6 +79,32 @@ answer_of receiving (AnEntry size left) number len e = let same : size ≡ len =
 -- An idle receiver's look that comes to ready finds an entry, numbered by the entries taken so far.
 pub finds : (port : PortState) (bridge : Bridge) (found : Found) (number len : ℕ) → is_idle port.receiving.phase ≡ true → found ≡ found_seen port bridge → Ready number len ≡ look_found port.receiving found → FindsEntry port bridge
 finds port bridge found number len idle is ready = (len, rw idle (answer_of port.receiving (found_seen port bridge) number len (ready ∙ ap (look_found port.receiving) is)))
+
+fits_where : (sizes : Sizes) (header : Header) (receiving : Receiving) (gathered own len : ℕ) (empty down other large longer : Bool) → nat_lt sizes.most (gathered + header.len) ≡ longer
+    → look_found receiving (if empty then NoEntry else if down then ALinkDownEntry else if other then AnotherVersion header.ver own
+    else if large then TooManyBytes header.len sizes.largest else if longer then TooManyBytes (gathered + header.len) sizes.most else AnEntry header.len header.left) ≡ Ready receiving.got len
+    → gathered + len ≤ sizes.most
+fits_where sizes header receiving gathered own len true down other large longer is e = absurd (cc e)
+fits_where sizes header receiving gathered own len false true other large longer is e = absurd (cc e)
+fits_where sizes header receiving gathered own len false false true large longer is e = absurd (cc e)
+fits_where sizes header receiving gathered own len false false false true longer is e = absurd (cc e)
+fits_where sizes header receiving gathered own len false false false false true is e = absurd (cc e)
+fits_where sizes header receiving gathered own len false false false false false is e =
+    let same : header.len ≡ len = cc e in
+    subst (λ n. gathered + n ≤ sizes.most) same (ltb-false sizes.most (gathered + header.len) is)
+
+-- The bytes of an entry that a look finds make its frame no longer than one may be.
+pub entry_fits : (port : PortState) (bridge : Bridge) (len : ℕ) → look_answer port bridge ≡ Ready port.receiving.got len
+    → length port.receiving.gathered + len ≤ (sizes_in port.plan (layout_to port.plan port.side port.queue)).most
+entry_fits port bridge len found = at_phase (is_idle port.receiving.phase) found where
+  at_phase : (idle : Bool) → (if idle then look_found port.receiving (found_seen port bridge) else OutOfTurn) ≡ Ready port.receiving.got len
+      → length port.receiving.gathered + len ≤ (sizes_in port.plan (layout_to port.plan port.side port.queue)).most
+  at_phase true e =
+      let header = header_in port.plan (bytes_seen bridge) port.side port.queue port.receiving.got in
+      let sizes = sizes_in port.plan (layout_to port.plan port.side port.queue) in
+      let gathered = length port.receiving.gathered in
+      fits_where sizes header port.receiving gathered (version_of port.receiving.got) len _ _ _ _ _ refl e
+  at_phase false e = absurd (cc e)
 
 -- Where a look finds an entry, pages that grow only by its index write grow only by what the look may promise.
 pub look_touches : (port : PortState) (bridge : Bridge) (old new : List ℕ) → FindsEntry port bridge

@@ -16,11 +16,12 @@ ghost use Rattle.ring_geometry.specs.Geometry.{max_payload_of};
 ghost use Rattle.step_kinds.specs.Limits.{most_frame_bytes};
 ghost use Rattle.step_kinds.specs.Sides.{other_side};
 ghost use Rattle.step_kinds.specs.declared.lanes.Begun.TheVariants.{Ok as BegunOk};
+ghost use Rattle.frame_ring.specs.declared.RingLook.TheVariants.{Ready};
 
 use crate::RingLook;
 use crate::posting::{clear_flags, post_index, post_write};
 use crate::promises::count_writes;
-use crate::reading::{free_by, has_index_word, header, index_word, slot_at, tail};
+use crate::reading::{followers, free_by, has_index_word, header, index_word, slot_at, tail};
 use crate::receiving::Receiver;
 use crate::rings::{QueueRings, slot_in};
 use crate::sending::{Sender, has_numbers};
@@ -45,7 +46,7 @@ pub struct Port {
 }
 
 impl Port {
-    ghost use Rattle.frame_ring.specs.Calls.{FindsEntry, down_begun, frame_begun, room_answer, TouchedByBegin, TouchedByDown, TouchedByFlags, TouchedByLook, ack_answer, acked_by, after_ack, after_begin, after_clear, after_copy, after_down, after_look, after_post, begin_answer, clear_answer, cleared_by, copy_answer, down_answer, free_answer, look_answer, post_answer, posted_by, refuses_answer, reset_by};
+    ghost use Rattle.frame_ring.specs.Calls.{Begins, FindsEntry, down_begun, frame_begun, room_answer, TouchedByBegin, TouchedByDown, TouchedByFlags, TouchedByLook, ack_answer, acked_by, after_ack, after_begin, after_clear, after_copy, after_down, after_look, after_post, begin_answer, clear_answer, cleared_by, copy_answer, down_answer, free_answer, look_answer, post_answer, posted_by, refuses_answer, reset_by};
     ghost use Rattle.frame_ring.specs.Port.{fresh_port, is_busy, unused_of, with_receiving, writes_left};
     ghost use Rattle.frame_ring.specs.PortView.{FitsRings, HasPagesIn, HasRoomIn, TouchesLeft, TouchesWrite, with_room};
     ghost use Rattle.frame_ring.specs.Same.{IsSamePort};
@@ -94,12 +95,36 @@ impl Port {
         ensures ready { OnOk result (HasPagesIn self.old pair.old → HasPagesIn self.new pair.new) }
     {
         match self.begin_answer(pair, frame.len()) {
-            Begun::Ok { number } => {
-                self.begin_frame(pair, frame)?;
+            Begun::Ok { .. } => {
+                let number = self.begin_unrefused(pair, frame)?;
                 Ok(Begun::Ok { number })
             }
             refusal => Ok(refusal),
         }
+    }
+
+    /// Begins a frame to which [`Port::begin_answer`] answers [`Begun::Ok`], as [`Port::begin`] does, and answers its
+    /// number. Nothing is tested again.
+    ///
+    /// # Errors
+    ///
+    /// [`AllocError`] from out of memory alone. The port is as it was, and of the pair nothing but pages that this frame
+    /// needs may have become promised.
+    pub fn begin_unrefused(&mut self, pair: &mut Pair, frame: Frame) -> Result<u64, AllocError>
+        requires some { 0 < length frame }
+        requires plan { pair.old.plan ≡ self.old.plan }
+        requires fits { FitsRings self.old.plan }
+        requires begins { Begins self.old pair.old (length frame) }
+        ensures number { IfOk result (λ number. begin_answer self.old pair.old (length frame) ≡ BegunOk number) }
+        ensures after { OnOk result (self.new ≡ after_begin self.old pair.old frame) }
+        ensures err { OnErr result (self.new ≡ self.old) }
+        ensures rest { pair.new ≡ with_room (with_pages pair.old (other_side self.old.side) (pages_of pair.new (other_side self.old.side))) self.old.side (unused_of self.new - unused_of self.old) }
+        ensures pages { PagesGrow (TouchedByBegin self.old pair.old frame) (pages_of pair.old (other_side self.old.side)) (pages_of pair.new (other_side self.old.side)) }
+        ensures ready { OnOk result (HasPagesIn self.old pair.old → HasPagesIn self.new pair.new) }
+    {
+        let number = self.sender.told();
+        self.begin_frame(pair, frame)?;
+        Ok(number)
     }
 
     /// Begins a link-down entry, which tells the peer that this end of the queue goes down. [`Begun::Busy`] and
@@ -179,11 +204,35 @@ impl Port {
         let header = header(&self.rings, pair, self.receiver.got());
         match self.receiver.sight(&self.rings, &header) {
             RingLook::Ready { number, len } => {
-                self.find(pair, len, header.left)?;
+                self.stand_at(pair, len, header.left)?;
                 Ok(RingLook::Ready { number, len })
             }
             other => Ok(other),
         }
+    }
+
+    /// Finds the next entry where [`Port::look_answer`] answers [`RingLook::Ready`] with this length, as [`Port::look`]
+    /// does. Nothing is tested again.
+    ///
+    /// # Errors
+    ///
+    /// [`AllocError`] from out of memory alone. The port is as it was, and of the pair nothing but pages that this entry
+    /// needs may have become promised.
+    pub fn find(&mut self, pair: &mut Pair, len: u32) -> Result<(), AllocError>
+        requires plan { pair.old.plan ≡ self.old.plan }
+        requires fits { FitsRings self.old.plan }
+        requires found { look_answer self.old pair.old ≡ Ready self.old.receiving.got len }
+        ensures after { OnOk result (self.new ≡ after_look self.old pair.old) }
+        ensures err { OnErr result (self.new ≡ self.old) }
+        ensures rest { pair.new ≡ with_room (with_pages (with_pages pair.old (other_side self.old.side) (pages_of pair.new (other_side self.old.side))) self.old.side (pages_of pair.new self.old.side)) self.old.side (unused_of self.new - unused_of self.old) }
+        ensures pages { PagesGrow (TouchedByLook self.old pair.old) (pages_of pair.old (other_side self.old.side)) (pages_of pair.new (other_side self.old.side)) }
+        ensures flags { PagesGrow (TouchedByFlags self.old pair.old) (pages_of pair.old self.old.side) (pages_of pair.new self.old.side) }
+        ensures ready { OnOk result (HasPagesIn self.old pair.old → HasPagesIn self.new pair.new) }
+    {
+        let left = followers(&self.rings, pair, self.receiver.got());
+        // (so that a frame is known to have no more bytes than one may have)
+        let _most = self.rings.most_received();
+        self.stand_at(pair, len, left)
     }
 
     /// Copies the next part of the entry at hand, as it stands in the side's memory: 128 bytes, or the rest. With the last part
@@ -441,7 +490,7 @@ impl Port {
     }
 
     // Promises what an entry of `len` bytes needs to be taken and given back, and stands at it.
-    fn find(&mut self, pair: &mut Pair, len: u32, left: u32) -> Result<(), AllocError>
+    fn stand_at(&mut self, pair: &mut Pair, len: u32, left: u32) -> Result<(), AllocError>
         requires plan { pair.old.plan ≡ self.old.plan }
         requires fit { SizesFit self.old.plan }
         requires idle { is_idle self.old.receiving.phase ≡ true }

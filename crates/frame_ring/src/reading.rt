@@ -99,6 +99,19 @@ pub fn header(rings: &QueueRings, pair: &Pair, n: u64) -> HeaderWords
     }
 }
 
+/// How many entries of its frame follow entry `n`, by the header of its slot: on version 4 none.
+pub fn followers(rings: &QueueRings, pair: &Pair, n: u64) -> u32
+    requires plan { pair.now.plan ≡ rings.now.plan }
+    requires fit { SizesFit rings.now.plan }
+    ensures { result ≡ (header_in rings.now.plan (bytes_seen pair.now) rings.now.side rings.now.queue n).left }
+{
+    if rings.speaks_five() {
+        word(rings, pair, header_at(rings, n))
+    } else {
+        0
+    }
+}
+
 /// The address of the index word of the lane that the side sends, which needn't lie in the side's memory.
 pub fn index_word_at(rings: &QueueRings) -> u64
     ensures value { result ≡ own_index_word rings.now.plan rings.now.side rings.now.queue }

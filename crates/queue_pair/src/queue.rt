@@ -31,7 +31,7 @@ impl QueuePair {
     ghost use Rattle.frame_ring.specs.Calls.{TouchedByBegin, TouchedByDown, TouchedByFlags, TouchedByLook, ack_answer, acked_by, after_ack, after_clear, after_copy, after_post, clear_answer, cleared_by, copy_answer, free_answer, post_answer, posted_by, reset_by};
     ghost use Rattle.frame_ring.specs.Port.{unused_of};
     ghost use Rattle.frame_ring.specs.PortView.{FitsRings, HasPagesIn, HasRoomIn, with_room};
-    ghost use Rattle.queue_pair.specs.Gates.{FindsEntry, after_begin, after_look, after_qpdown, begin_answer, is_joined, look_answer, qpdown_answer, refuses_answer, sender_refusal};
+    ghost use Rattle.queue_pair.specs.Gates.{Begins, FindsEntry, after_begin, after_look, after_qpdown, begin_answer, is_joined, look_answer, qpdown_answer, refuses_answer, sender_refusal};
     ghost use Rattle.queue_pair.specs.Queue.{fresh_queue, with_port};
     ghost use Rattle.queue_pair.specs.Same.{IsSameQueue};
 
@@ -82,6 +82,27 @@ impl QueuePair {
         }
         let begun = self.port.begin(pair, frame)?;
         Ok(answer_of_begun(begun))
+    }
+
+    /// Begins a frame to which [`QueuePair::begin_answer`] answers [`BeginAnswer::Ok`], as [`QueuePair::begin`] does, and
+    /// answers its number. Nothing is tested again.
+    ///
+    /// # Errors
+    ///
+    /// [`AllocError`] from out of memory alone, as [`Port::begin_unrefused`].
+    pub fn begin_unrefused(&mut self, pair: &mut Pair, frame: Frame) -> Result<u64, AllocError>
+        requires some { 0 < length frame }
+        requires plan { pair.old.plan ≡ self.old.port.plan }
+        requires fits { is_joined self.old pair.old ≡ true → FitsRings self.old.port.plan }
+        requires begins { Begins self.old pair.old (length frame) }
+        ensures number { IfOk result (λ number. begin_answer self.old pair.old (length frame) ≡ IsBegun number) }
+        ensures after { OnOk result (self.new ≡ after_begin self.old pair.old frame) }
+        ensures err { OnErr result (self.new ≡ self.old) }
+        ensures rest { pair.new ≡ with_room (with_pages pair.old (other_side self.old.port.side) (pages_of pair.new (other_side self.old.port.side))) self.old.port.side (unused_of self.new.port - unused_of self.old.port) }
+        ensures pages { PagesGrow (TouchedByBegin self.old.port pair.old frame) (pages_of pair.old (other_side self.old.port.side)) (pages_of pair.new (other_side self.old.port.side)) }
+        ensures ready { OnOk result (HasPagesIn self.old.port pair.old → HasPagesIn self.new.port pair.new) }
+    {
+        self.port.begin_unrefused(pair, frame)
     }
 
     /// Begins a link-down entry, as [`Port::down`] does, and closes the queue on this side. The refusals are those of
@@ -156,6 +177,26 @@ impl QueuePair {
             self.closed = true;
         }
         Ok(answer_of_look(look))
+    }
+
+    /// Finds the next entry where [`QueuePair::look_answer`] answers [`LookAnswer::Ready`] with this length, as
+    /// [`QueuePair::look`] does. Nothing is tested again.
+    ///
+    /// # Errors
+    ///
+    /// [`AllocError`] from out of memory alone, as [`Port::find`].
+    pub fn find(&mut self, pair: &mut Pair, len: u32) -> Result<(), AllocError>
+        requires plan { pair.old.plan ≡ self.old.port.plan }
+        requires fits { is_joined self.old pair.old ≡ true → FitsRings self.old.port.plan }
+        requires found { look_answer self.old pair.old ≡ Ready self.old.port.receiving.got len }
+        ensures after { OnOk result (self.new ≡ after_look self.old pair.old) }
+        ensures err { OnErr result (self.new ≡ self.old) }
+        ensures rest { pair.new ≡ with_room (with_pages (with_pages pair.old (other_side self.old.port.side) (pages_of pair.new (other_side self.old.port.side))) self.old.port.side (pages_of pair.new self.old.port.side)) self.old.port.side (unused_of self.new.port - unused_of self.old.port) }
+        ensures pages { PagesGrow (TouchedByLook self.old.port pair.old) (pages_of pair.old (other_side self.old.port.side)) (pages_of pair.new (other_side self.old.port.side)) }
+        ensures flags { PagesGrow (TouchedByFlags self.old.port pair.old) (pages_of pair.old self.old.port.side) (pages_of pair.new self.old.port.side) }
+        ensures ready { OnOk result (HasPagesIn self.old.port pair.old → HasPagesIn self.new.port pair.new) }
+    {
+        self.port.find(pair, len)
     }
 
     /// Copies the next part of the entry at hand, as [`Port::copy`]. It takes no memory.

@@ -1,12 +1,6 @@
 use Rattle.frame_ring.proofs.Finding.{on_err}
-use Rattle.frame_ring.proofs.NextNumber.{begin_told, begin_touches}
+use Rattle.frame_ring.proofs.NextNumber.{begin_told}
 use Rattle.frame_ring.proofs.port.Port.begin.Goals as goal
 
-pub returns-in_err-begin_frame-in-Ok-clause-wants : goal.returns-in_err-begin_frame-in-Ok-clause-wants
-returns-in_err-begin_frame-in-Ok-clause-wants c = on_err _ (begin_told c.args.self.now c.args.pair.now c.args.frame c.len.result c.in-Ok.number c.len.ensures.value c.in-Ok.ensures)
-
-pub returns-in_err-begin_frame-in-Ok-clause-pages : goal.returns-in_err-begin_frame-in-Ok-clause-pages
-returns-in_err-begin_frame-in-Ok-clause-pages c = begin_touches c.args.self.now c.args.pair.now c.args.frame c.len.result c.in-Ok.number _ _ c.len.ensures.value c.in-Ok.ensures c.begin_frame.ensures.pages
-
-pub returns-in_ok-begin_frame-in-Ok-clause-pages : goal.returns-in_ok-begin_frame-in-Ok-clause-pages
-returns-in_ok-begin_frame-in-Ok-clause-pages c = begin_touches c.args.self.now c.args.pair.now c.args.frame c.len.result c.in-Ok.number _ _ c.len.ensures.value c.in-Ok.ensures c.begin_frame.ensures.pages
+pub returns-in_err-number-in-Ok-clause-wants : goal.returns-in_err-number-in-Ok-clause-wants
+returns-in_err-number-in-Ok-clause-wants c = on_err _ (begin_told c.args.self.now c.args.pair.now c.args.frame c.len.result c.in-Ok.number c.len.ensures.value c.in-Ok.ensures)

@@ -12,8 +12,8 @@ use Rattle.frame_ring.proofs.Finding.{finds, flags_touch, look_touches, on_err}
 use Rattle.frame_ring.proofs.port.Port.look.Goals as goal
 use Rattle.frame_ring.proofs.port.Port.look.Goals.{In-Ready}
 
-pub find-requires-clause-fits : goal.find-requires-clause-fits
-find-requires-clause-fits c =
+pub stand_at-requires-clause-fits : goal.stand_at-requires-clause-fits
+stand_at-requires-clause-fits c =
     let few = c.sight.ensures.few c.in-Ready.number c.in-Ready.len c.in-Ready.is in
     subst (λ (port : PortState). length port.receiving.gathered + c.in-Ready.len ≤ most_frame_bytes) c.self.view_is few
 
@@ -29,17 +29,17 @@ found c =
     let at : FindsEntry port bridge = finds port bridge _ c.in-Ready.number c.in-Ready.len idle by_header c.in-Ready.ensures.value in
     subst (λ (port : PortState). FindsEntry port bridge) c.self.view_is at
 
-pub returns-in_err-find-in-Ready-clause-wants : goal.returns-in_err-find-in-Ready-clause-wants
-returns-in_err-find-in-Ready-clause-wants c = on_err _ (found (goal.at.returns-in_err-find-in-Ready-clause-wants c).In-Ready)
+pub returns-in_err-stand_at-in-Ready-clause-wants : goal.returns-in_err-stand_at-in-Ready-clause-wants
+returns-in_err-stand_at-in-Ready-clause-wants c = on_err _ (found (goal.at.returns-in_err-stand_at-in-Ready-clause-wants c).In-Ready)
 
-pub returns-in_err-find-in-Ready-clause-pages : goal.returns-in_err-find-in-Ready-clause-pages
-returns-in_err-find-in-Ready-clause-pages c = look_touches c.args.self.now c.args.pair.now _ _ (found (goal.at.returns-in_err-find-in-Ready-clause-pages c).In-Ready) c.find.ensures.pages
+pub returns-in_err-stand_at-in-Ready-clause-pages : goal.returns-in_err-stand_at-in-Ready-clause-pages
+returns-in_err-stand_at-in-Ready-clause-pages c = look_touches c.args.self.now c.args.pair.now _ _ (found (goal.at.returns-in_err-stand_at-in-Ready-clause-pages c).In-Ready) c.stand_at.ensures.pages
 
-pub returns-in_err-find-in-Ready-clause-flags : goal.returns-in_err-find-in-Ready-clause-flags
-returns-in_err-find-in-Ready-clause-flags c = flags_touch c.args.self.now c.args.pair.now _ _ (found (goal.at.returns-in_err-find-in-Ready-clause-flags c).In-Ready) c.find.ensures.flags
+pub returns-in_err-stand_at-in-Ready-clause-flags : goal.returns-in_err-stand_at-in-Ready-clause-flags
+returns-in_err-stand_at-in-Ready-clause-flags c = flags_touch c.args.self.now c.args.pair.now _ _ (found (goal.at.returns-in_err-stand_at-in-Ready-clause-flags c).In-Ready) c.stand_at.ensures.flags
 
-pub returns-in_ok-find-in-Ready-clause-pages : goal.returns-in_ok-find-in-Ready-clause-pages
-returns-in_ok-find-in-Ready-clause-pages c = look_touches c.args.self.now c.args.pair.now _ _ (found (goal.at.returns-in_ok-find-in-Ready-clause-pages c).In-Ready) c.find.ensures.pages
+pub returns-in_ok-stand_at-in-Ready-clause-pages : goal.returns-in_ok-stand_at-in-Ready-clause-pages
+returns-in_ok-stand_at-in-Ready-clause-pages c = look_touches c.args.self.now c.args.pair.now _ _ (found (goal.at.returns-in_ok-stand_at-in-Ready-clause-pages c).In-Ready) c.stand_at.ensures.pages
 
-pub returns-in_ok-find-in-Ready-clause-flags : goal.returns-in_ok-find-in-Ready-clause-flags
-returns-in_ok-find-in-Ready-clause-flags c = flags_touch c.args.self.now c.args.pair.now _ _ (found (goal.at.returns-in_ok-find-in-Ready-clause-flags c).In-Ready) c.find.ensures.flags
+pub returns-in_ok-stand_at-in-Ready-clause-flags : goal.returns-in_ok-stand_at-in-Ready-clause-flags
+returns-in_ok-stand_at-in-Ready-clause-flags c = flags_touch c.args.self.now c.args.pair.now _ _ (found (goal.at.returns-in_ok-stand_at-in-Ready-clause-flags c).In-Ready) c.stand_at.ensures.flags
