@@ -48,6 +48,16 @@ was_begun : BeginAnswer → Bool
 was_begun (QueueBegun number) = true
 was_begun answer = false
 
+-- Where a begin is answered as one that was begun, the queue begins it.
+pub begins_where : (answer : BeginAnswer) → IsBegun (of_begin answer) → (number : ℕ) × (answer ≡ QueueBegun number)
+begins_where (QueueBegun number) is = (number, refl)
+begins_where LinkDown is = absurd (cc is)
+begins_where NotReady is = absurd (cc is)
+begins_where Closed is = absurd (cc is)
+begins_where (TooLong len most) is = absurd (cc is)
+begins_where Busy is = absurd (cc is)
+begins_where (NoRoom head tail) is = absurd (cc is)
+
 unbegun_by : (refusal : Option BeginAnswer) (begun : Begun) (queue : QueueState) (new : PortState) → was_begun (answer_unless refusal begun) ≡ false
     → port_unless refusal queue (where_begun queue.port new begun) ≡ queue
 unfolding was_begun

@@ -1,16 +1,18 @@
 -- Where a port's receiver stands after each call, and that the port is of the same queue.
-use Rattle.std.proofs.Common.{◌≡◌, ℕ, ◌+◌, Bool, true, false, List, [], refl, if◌then◌else◌}
+use Rattle.std.proofs.Common.{◌≡◌, ℕ, ◌+◌, Bool, true, false, not, List, [], refl, if◌then◌else◌}
 use Rattle.step_kinds.specs.declared.lanes.LaneCopy.{LaneCopy}
 use Rattle.step_kinds.specs.declared.lanes.LaneCopy.TheVariants.{Part, Whole, OutOfTurn as NotCopying}
 use Rattle.lane_model.specs.Tests.{is_cleared, is_copied, is_copying, is_idle}
 use Rattle.lane_model.specs.declared.Phase.TheVariants.{Idle, Copied, Cleared}
 use Rattle.bridge_pair.specs.Bridge.{Bridge}
-use Rattle.frame_ring.specs.Calls.{after_ack, after_clear, after_copy, after_look as port_after_look, after_post, copy_answer, entry_found, found_seen, gathered_next, more_entries, more_parts, part_answer, part_copied}
+use Rattle.byte_model.specs.Headers.{Found, NoEntry, ALinkDownEntry, AnotherVersion, TooManyBytes, AnEntry}
+use Rattle.frame_ring.specs.Calls.{after_ack, after_clear, after_copy, after_look as port_after_look, after_post, copy_answer, entry_found, found_seen, gathered_next, look_found, more_entries, more_parts, part_answer, part_copied}
 use Rattle.frame_ring.specs.Port.{PortState, Receiving, with_receiving}
-use Rattle.queue_pair.specs.Gates.{after_look, after_look_answer, look_answer}
+use Rattle.frame_ring.specs.declared.RingLook.TheVariants.{OutOfTurn as RingOutOfTurn}
+use Rattle.queue_pair.specs.Gates.{after_look, after_look_answer, answer_of_look, is_joined, look_answer}
 use Rattle.queue_pair.specs.Queue.{QueueState}
 use Rattle.queue_pair.specs.declared.LookAnswer.{LookAnswer}
-use Rattle.queue_pair.specs.declared.LookAnswer.TheVariants.{Ready, PeerDown}
+use Rattle.queue_pair.specs.declared.LookAnswer.TheVariants.{Ready, PeerDown, NotReady as NotJoined, Closed as QueueClosed}
 use Rattle.fabric_core.proofs.PromisesOfQueues.{SamePlace, same_place}
 
 -- of a receiver that goes on where a test says so, or stays
@@ -107,6 +109,27 @@ look_at answer queue port same = same_place queue.port
 pub look_place : (queue : QueueState) (bridge : Bridge) → SamePlace (after_look queue bridge).port queue.port
 look_place queue bridge =
     look_at (look_answer queue bridge) queue (port_after_look queue.port bridge) (place_if queue.port (entry_found queue.port.receiving (found_seen queue.port bridge)) (is_idle queue.port.receiving.phase))
+
+-- an entry that is found is the next one
+
+next_found : (receiving : Receiving) (found : Found) (number len : ℕ) → answer_of_look (look_found receiving found) ≡ Ready number len → number ≡ receiving.got
+next_found receiving NoEntry number len e = absurd (cc e)
+next_found receiving ALinkDownEntry number len e = absurd (cc e)
+next_found receiving (AnotherVersion seen own) number len e = absurd (cc e)
+next_found receiving (TooManyBytes many most) number len e = absurd (cc e)
+next_found receiving (AnEntry size left) number len e = cc e
+
+next_where : (receiving : Receiving) (found : Found) (joined closed idle : Bool) (number len : ℕ)
+    → (if not joined then NotJoined else if closed then QueueClosed else answer_of_look (if idle then look_found receiving found else RingOutOfTurn)) ≡ Ready number len → number ≡ receiving.got
+next_where receiving found false closed idle number len e = absurd (cc e)
+next_where receiving found true true idle number len e = absurd (cc e)
+next_where receiving found true false false number len e = absurd (cc e)
+next_where receiving found true false true number len e = next_found receiving found number len e
+
+-- A look that is answered ready is answered with the number of entries taken so far.
+pub ready_next : (queue : QueueState) (bridge : Bridge) (number len : ℕ) → look_answer queue bridge ≡ Ready number len → number ≡ queue.port.receiving.got
+ready_next queue bridge number len e =
+    next_where queue.port.receiving (found_seen queue.port bridge) (is_joined queue bridge) queue.closed (is_idle queue.port.receiving.phase) number len e
 
 -- a look that finds no entry leaves the receiver as it was
 

@@ -15,7 +15,8 @@ ghost use Rattle.frame_ring.specs.Calls.{free_answer, reset_by};
 ghost use Rattle.frame_ring.specs.PortView.{FitsRings, HasPagesIn, HasRoomIn};
 ghost use Rattle.plan_model.specs.DeclaredPlans.{IsPair, IsPayload};
 ghost use Rattle.plan_model.specs.Plans.{side_plan as side_plan_of};
-ghost use Rattle.queue_pair.specs.Gates.{is_joined};
+ghost use Rattle.queue_pair.specs.Gates.{is_joined, look_answer as queue_look_answer};
+ghost use Rattle.queue_pair.specs.declared.LookAnswer.TheVariants.{Ready as QueueReady};
 ghost use Rattle.step_kinds.specs.Limits.{most_frame_bytes};
 
 use crate::answers::{
@@ -166,9 +167,9 @@ impl QueueBox {
         ensures { HasTurnedUnlessWanting IsBegun (begin_turn self.old pair.old frame) result self.old self.new pair.old pair.new }
     {
         self.accepted.make_room()?;
-        let begun = self.queue.begin(pair, frame)?;
+        let number = self.queue.begin_unrefused(pair, frame)?;
         self.accepted.one_more(pair.link().session());
-        Ok(begin_answer(begun))
+        Ok(Answer::OkNumber { number })
     }
 
     // Begins a device's frame, where it isn't refused, or counts the refusal.
@@ -269,25 +270,25 @@ impl QueueBox {
         requires { CanBegin self.old.queue pair.old }
         ensures { HasTurnedUnlessWanting IsFound (look_turn self.old pair.old) result self.old self.new pair.old pair.new }
     {
-        if let LookAnswer::Ready { .. } = self.queue.look_answer(pair) {
-            return self.find(pair);
+        if let LookAnswer::Ready { number, len } = self.queue.look_answer(pair) {
+            return self.find(pair, number, len);
         }
         let look = self.queue.look(pair)?;
         Ok(look_answer(look))
     }
 
     // Finds the next entry, which is there, so that the frame that it may be the last of can be counted.
-    fn find(&mut self, pair: &mut Pair) -> Result<Answer, AllocError>
+    fn find(&mut self, pair: &mut Pair, number: u64, len: u32) -> Result<Answer, AllocError>
         requires ready { CanBegin self.old.queue pair.old }
-        requires found { IsFound (look_turn self.old pair.old).answer }
+        requires found { queue_look_answer self.old.queue pair.old ≡ QueueReady number len }
         ensures { HasTurnedUnlessWanting IsFound (look_turn self.old pair.old) result self.old self.new pair.old pair.new }
     {
         if !can_deliver(self.counters) {
             return Err(AllocError);
         }
         self.delivered.make_room()?;
-        let look = self.queue.look(pair)?;
-        Ok(look_answer(look))
+        self.queue.find(pair, len)?;
+        Ok(Answer::ReadyFrame { number, len })
     }
 
     // Copies the next part of the entry at hand, and counts a frame that is delivered with it.
