@@ -7,6 +7,7 @@ ghost use Rattle.plan_model.specs.DeclaredPlans.{IsPair};
 ghost use Rattle.plan_model.specs.Plans.{side_plan as side_plan_of};
 ghost use Rattle.queue_pair.specs.Gates.{after_irq, answer_of_begun as begun_answer, answer_of_look as answer_of_ring, irq_bits};
 ghost use Rattle.queue_pair.specs.declared.BeginAnswer.TheVariants.{Ok as IsBegun};
+ghost use Rattle.queue_pair.specs.declared.LookAnswer.TheVariants.{Ready};
 ghost use Rattle.step_kinds.specs.Limits.{most_frame_bytes};
 ghost use Rattle.step_kinds.specs.Sides.{other_side};
 
