@@ -1,5 +1,5 @@
 -- What a look promises: the pages of the flags and of the index word of the entry that it found.
-use Rattle.std.proofs.Common.{◌≡◌, ◌∙◌, ◌≤◌, ℕ, ◌+◌, All, Bool, true, false, List, Option, Some, None, Result, Ok, Err, OnErr, OnOk, length, nat_lt, refl, ap, subst, arith, if◌then◌else◌}
+use Rattle.std.proofs.Common.{◌≡◌, ◌∙◌, ◌≤◌, ℕ, ◌+◌, All, Bool, true, false, List, Option, Some, None, Result, Ok, Err, OnErr, OnOk, length, nat_lt, refl, ap, subst, if◌then◌else◌}
 use Rattle.std.proofs.lemmas.List.Elements.{All-weaker}
 use Rattle.std.proofs.lemmas.Bool.{ltb-false}
 use Rattle.step_kinds.specs.Sides.{other_side}

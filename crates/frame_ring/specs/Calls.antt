@@ -65,8 +65,8 @@ abbrev pub down_answer : PortState → Bridge → Begun
 down_answer port bridge = if is_busy port.sending then Busy else room_answer port bridge 1
 
 -- a frame of so many bytes is begun, and not refused
-abbrev pub Begins : PortState → Bridge → ℕ → Type 0
-Begins port bridge len = (number : ℕ) × (begin_answer port bridge len ≡ BegunOk number)
+abbrev pub BeginsFrame : PortState → Bridge → ℕ → Type 0
+BeginsFrame port bridge len = (number : ℕ) × (begin_answer port bridge len ≡ BegunOk number)
 
 -- the first of these entries is begun: its writes are left to post, and the others wait
 abbrev pub entries_begun : ℕ → Sending → List Entry → Sending

@@ -46,7 +46,7 @@ pub struct Port {
 }
 
 impl Port {
-    ghost use Rattle.frame_ring.specs.Calls.{Begins, FindsEntry, down_begun, frame_begun, room_answer, TouchedByBegin, TouchedByDown, TouchedByFlags, TouchedByLook, ack_answer, acked_by, after_ack, after_begin, after_clear, after_copy, after_down, after_look, after_post, begin_answer, clear_answer, cleared_by, copy_answer, down_answer, free_answer, look_answer, post_answer, posted_by, refuses_answer, reset_by};
+    ghost use Rattle.frame_ring.specs.Calls.{BeginsFrame, FindsEntry, down_begun, frame_begun, room_answer, TouchedByBegin, TouchedByDown, TouchedByFlags, TouchedByLook, ack_answer, acked_by, after_ack, after_begin, after_clear, after_copy, after_down, after_look, after_post, begin_answer, clear_answer, cleared_by, copy_answer, down_answer, free_answer, look_answer, post_answer, posted_by, refuses_answer, reset_by};
     ghost use Rattle.frame_ring.specs.Port.{fresh_port, is_busy, unused_of, with_receiving, writes_left};
     ghost use Rattle.frame_ring.specs.PortView.{FitsRings, HasPagesIn, HasRoomIn, TouchesLeft, TouchesWrite, with_room};
     ghost use Rattle.frame_ring.specs.Same.{IsSamePort};
@@ -114,7 +114,7 @@ impl Port {
         requires some { 0 < length frame }
         requires plan { pair.old.plan ≡ self.old.plan }
         requires fits { FitsRings self.old.plan }
-        requires begins { Begins self.old pair.old (length frame) }
+        requires begins { BeginsFrame self.old pair.old (length frame) }
         ensures number { IfOk result (λ number. begin_answer self.old pair.old (length frame) ≡ BegunOk number) }
         ensures after { OnOk result (self.new ≡ after_begin self.old pair.old frame) }
         ensures err { OnErr result (self.new ≡ self.old) }

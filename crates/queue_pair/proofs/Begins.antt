@@ -1,11 +1,11 @@
 -- A queue begins a frame where its port does, and finds an entry where its port does.
 use Rattle.std.proofs.Common.{◌≡◌, ℕ, Bool, true, false, not, Some, None, ap, if◌then◌else◌}
 use Rattle.bridge_pair.specs.Bridge.{Bridge}
-use Rattle.frame_ring.specs.Calls.{Begins as PortBegins, begin_answer as port_begin_answer, look_answer as port_look_answer}
+use Rattle.frame_ring.specs.Calls.{BeginsFrame as PortBegins, begin_answer as port_begin_answer, look_answer as port_look_answer}
 use Rattle.frame_ring.specs.declared.RingLook.{RingLook}
 use Rattle.frame_ring.specs.declared.RingLook.TheVariants.{Ready as RingReady, Empty as RingEmpty, PeerDown as RingPeerDown, VerDiffers as RingVerDiffers, Long as RingLong, OutOfTurn as RingOutOfTurn}
 use Rattle.plan_model.specs.Link.{is_up}
-use Rattle.queue_pair.specs.Gates.{Begins, answer_of_begun, answer_of_look, answer_unless, is_joined, look_answer}
+use Rattle.queue_pair.specs.Gates.{BeginsFrame, answer_of_begun, answer_of_look, answer_unless, is_joined, look_answer}
 use Rattle.queue_pair.specs.Queue.{QueueState}
 use Rattle.queue_pair.specs.declared.BeginAnswer.TheVariants.{Ok as IsBegun, LinkDown, NotReady, Closed}
 use Rattle.queue_pair.specs.declared.LookAnswer.TheVariants.{Ready, NotReady as NotJoined, Closed as QueueClosed}
@@ -26,7 +26,7 @@ begun_by_port true true true begun number e = absurd (cc e)
 begun_by_port true true false begun number e = begun_number begun number e
 
 -- Where a queue begins a frame, its port does.
-pub port_begins : (queue : QueueState) (bridge : Bridge) (len : ℕ) → Begins queue bridge len → PortBegins queue.port bridge len
+pub port_begins : (queue : QueueState) (bridge : Bridge) (len : ℕ) → BeginsFrame queue bridge len → PortBegins queue.port bridge len
 port_begins queue bridge len begins =
     (begins.0, begun_by_port (is_up bridge.link.state) (is_joined queue bridge) queue.closed (port_begin_answer queue.port bridge len) begins.0 begins.1)
 

@@ -50,8 +50,8 @@ abbrev pub begin_answer : QueueState → Bridge → ℕ → BeginAnswer
 begin_answer queue bridge len = answer_unless (sender_refusal queue bridge) (port_begin_answer queue.port bridge len)
 
 -- a frame of so many bytes is begun, and not refused
-abbrev pub Begins : QueueState → Bridge → ℕ → Type 0
-Begins queue bridge len = (number : ℕ) × (begin_answer queue bridge len ≡ IsBegun number)
+abbrev pub BeginsFrame : QueueState → Bridge → ℕ → Type 0
+BeginsFrame queue bridge len = (number : ℕ) × (begin_answer queue bridge len ≡ IsBegun number)
 
 abbrev pub after_begin : QueueState → Bridge → List ℕ → QueueState
 after_begin queue bridge frame = port_unless (sender_refusal queue bridge) queue (port_after_begin queue.port bridge frame)

@@ -32,7 +32,7 @@ impl QueuePair {
     ghost use Rattle.frame_ring.specs.Calls.{TouchedByBegin, TouchedByDown, TouchedByFlags, TouchedByLook, ack_answer, acked_by, after_ack, after_clear, after_copy, after_post, clear_answer, cleared_by, copy_answer, free_answer, post_answer, posted_by, reset_by};
     ghost use Rattle.frame_ring.specs.Port.{unused_of};
     ghost use Rattle.frame_ring.specs.PortView.{FitsRings, HasPagesIn, HasRoomIn, with_room};
-    ghost use Rattle.queue_pair.specs.Gates.{Begins, FindsEntry, after_begin, after_look, after_qpdown, begin_answer, is_joined, look_answer, qpdown_answer, refuses_answer, sender_refusal};
+    ghost use Rattle.queue_pair.specs.Gates.{BeginsFrame, FindsEntry, after_begin, after_look, after_qpdown, begin_answer, is_joined, look_answer, qpdown_answer, refuses_answer, sender_refusal};
     ghost use Rattle.queue_pair.specs.Queue.{fresh_queue, with_port};
     ghost use Rattle.queue_pair.specs.Same.{IsSameQueue};
 
@@ -95,7 +95,7 @@ impl QueuePair {
         requires some { 0 < length frame }
         requires plan { pair.old.plan ≡ self.old.port.plan }
         requires fits { is_joined self.old pair.old ≡ true → FitsRings self.old.port.plan }
-        requires begins { Begins self.old pair.old (length frame) }
+        requires begins { BeginsFrame self.old pair.old (length frame) }
         ensures number { IfOk result (λ number. begin_answer self.old pair.old (length frame) ≡ IsBegun number) }
         ensures after { OnOk result (self.new ≡ after_begin self.old pair.old frame) }
         ensures err { OnErr result (self.new ≡ self.old) }

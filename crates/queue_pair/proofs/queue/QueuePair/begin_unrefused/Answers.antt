@@ -1,13 +1,13 @@
 use Rattle.std.proofs.Common.{OnOk, length, sym, subst}
 use Rattle.frame_ring.specs.PortView.{HasPagesIn}
-use Rattle.queue_pair.specs.Gates.{Begins}
+use Rattle.queue_pair.specs.Gates.{BeginsFrame}
 use Rattle.queue_pair.specs.Queue.{QueueState}
 use Rattle.queue_pair.proofs.Begins.{port_begins}
 use Rattle.queue_pair.proofs.queue.QueuePair.begin_unrefused.Goals as goal
 
 pub begin_unrefused-requires-clause-begins : goal.begin_unrefused-requires-clause-begins
 begin_unrefused-requires-clause-begins c =
-    let begins = subst (λ (queue : QueueState). Begins queue c.args.pair.now (length c.args.frame)) (sym c.self.view_is) c.requires.begins in
+    let begins = subst (λ (queue : QueueState). BeginsFrame queue c.args.pair.now (length c.args.frame)) (sym c.self.view_is) c.requires.begins in
     port_begins (record { port = c.self.inside.port; closed = c.self.inside.closed }) c.args.pair.now (length c.args.frame) begins
 
 pub returns-clause-ready : goal.returns-clause-ready
