@@ -4,10 +4,12 @@
 
 mod in_one_ring;
 mod of_loads;
+mod of_passes;
 mod of_worlds;
 
 use in_one_ring::{frame_comes_whole, link_down_entry_stays, lost_write_never_lands};
 use of_loads::load_has_its_steps;
+use of_passes::one_of_two_frames_goes_round;
 use of_worlds::all_items_come;
 use std::test::Fail;
 
@@ -32,6 +34,10 @@ fn main(rt: HostRuntime) -> Result<(), Fail> {
     println!(rt;
         "{}: Both items come, although a session is lost.",
         word_of(all_items_come(alloc)?)
+    )?;
+    println!(rt;
+        "{}: Of two frames one goes round before the link is cut.",
+        word_of(one_of_two_frames_goes_round(alloc)?)
     )?;
     Ok(())
 }

@@ -16,6 +16,3 @@ pub use cut::cut_pass;
 pub use moving::move_pass;
 pub use receiving::recv_pass;
 pub use sending::send_pass;
-
-#[cfg(test)]
-mod tests;

@@ -1,11 +1,12 @@
+//! A row of the workers' passes over one lane.
+
 ghost use Rattle.std.specs.Prelude.{◌≡◌, ◌+◌, ◌≤◌, ◌∷◌, [], length, IfOk};
 ghost use Rattle.lane_workers.specs.Passes.{HaveBytes};
 
-use super::*;
 use io_edges::{Gate, NoGate};
+use lane_workers::{cut_pass, move_pass, recv_pass, send_pass};
 use std::alloc::{AllocError, Global};
 use std::sync::atomic::{AtomicU64, Ordering};
-use std::test::Fail;
 use step_kinds::{Frame, FrameList};
 use table_lane::{BackEnd, CutEnd, MoveEnd, RecvEnd, SendEnd, make};
 
@@ -93,18 +94,35 @@ impl Gate for Sum {
     }
 }
 
-// Of two frames the second finds no room, and then the link cut. Turns 0 and 1 of worker 0, 0 to 2 of worker 1, 0 and 1
-// of worker 2, and 5 of worker 3 pass the gate.
-#[test]
-fn one_of_two_frames_goes_round(rt: HostRuntime) -> Result<(), Fail> {
-    let mut lane = new_lane(rt.alloc())?;
+/// Whether of two frames one goes round a ring of two entries, before the link is cut and the other one stays. Turns 0
+/// and 1 of worker 0, 0 to 2 of worker 1, 0 and 1 of worker 2, and 5 of worker 3 pass the gate.
+pub fn one_of_two_frames_goes_round(alloc: Global) -> Result<bool, AllocError> {
+    let mut lane = new_lane(alloc)?;
+    Ok(goes_round(&mut lane) && lane.got.len() == 1 && stays_after_the_cut(&mut lane))
+}
+
+// Whether the first frame goes round.
+fn goes_round(lane: &mut Lane) -> bool
+    requires bytes { HaveBytes lane.old.todo.frames }
+    requires few { length lane.old.send.part.sent + length lane.old.todo.frames ≡ 2 }
+    requires room { 5 ≤ lane.old.got.spare }
+    ensures bytes { HaveBytes lane.new.todo.frames }
+    ensures few { length lane.new.send.part.sent + length lane.new.todo.frames ≡ 2 }
+    ensures room { 5 ≤ lane.new.got.spare + length lane.new.got.frames }
+{
     let gate = Sum {
         sum: AtomicU64::new(0),
     };
-    assert_eq!(rt; go_round(&mut lane, &gate), [2, 3, 2, 1]);
-    assert_eq!(rt; gate.sum.load(Ordering::SeqCst), 10010);
-    assert_eq!(rt; lane.got.len(), 1);
-    assert_eq!(rt; go_round(&mut lane, &NoGate), [1, 3, 2, 1]);
-    assert_eq!(rt; lane.todo.len(), 1);
-    Ok(())
+    let turns = go_round(lane, &gate);
+    turns == [2, 3, 2, 1] && gate.sum.load(Ordering::SeqCst) == 10010
+}
+
+// Whether the second frame stays, since the link is cut.
+fn stays_after_the_cut(lane: &mut Lane) -> bool
+    requires bytes { HaveBytes lane.old.todo.frames }
+    requires few { length lane.old.send.part.sent + length lane.old.todo.frames ≡ 2 }
+    requires room { 2 ≤ lane.old.got.spare }
+{
+    let turns = go_round(lane, &NoGate);
+    turns == [1, 3, 2, 1] && lane.todo.len() == 1
 }
