@@ -9,7 +9,7 @@ use Rattle.bridge_pair.specs.declared.pair.Pair.TheInside.{Inside}
 abbrev pub bridge_seen : Inside → Bridge
 bridge_seen pair =
     record {
-      plan = pair.plan;
+      plan = pair.plan.value;
       link = pair.link;
       books = record { a = pair.book_a; b = pair.book_b };
       pads = record { a = pair.a.pads; b = pair.b.pads };
@@ -20,8 +20,8 @@ bridge_seen pair =
 
 -- what a pair keeps beside what its two ends keep
 pub record IsJoined (pair : Inside) : Type 0 where
-  pub plan : IsPair pair.plan
-  pub book_a : IsBook pair.plan A pair.book_a
-  pub book_b : IsBook pair.plan B pair.book_b
-  pub memory_a : length pair.a.memory.bytes ≡ memory_size pair.plan A
-  pub memory_b : length pair.b.memory.bytes ≡ memory_size pair.plan B
+  pub plan : IsPair pair.plan.value
+  pub book_a : IsBook pair.plan.value A pair.book_a
+  pub book_b : IsBook pair.plan.value B pair.book_b
+  pub memory_a : length pair.a.memory.bytes ≡ memory_size pair.plan.value A
+  pub memory_b : length pair.b.memory.bytes ≡ memory_size pair.plan.value B

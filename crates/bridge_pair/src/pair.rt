@@ -32,13 +32,14 @@ use plan_numbers::{
 use posted_queue::LandAnswer;
 use std::alloc::{AllocError, Global};
 use std::marker::Model;
+use std::rc::Rc;
 use step_kinds::{Label, PairPlan, Side};
 
 /// A pair: two sides with their memories and registers, the bridge between them and the link. Contracts see it as a record
-/// of all that.
+/// of all that. A copy shares the plan.
 #[derive(Drop)]
 pub struct Pair {
-    plan: PairPlan,
+    plan: Rc<PairPlan, Global>,
     link: Link,
     book_a: SideBook,
     book_b: SideBook,
@@ -97,13 +98,18 @@ impl Pair {
         requires { IsPair plan.now }
         ensures { IfOk result (λ pair. pair ≡ fresh_bridge_with plan.now (record { a = zero_memory plan.now A; b = zero_memory plan.now B })) }
     {
+        let a = fresh_endpoint(alloc, plan, Side::A)?;
+        let b = fresh_endpoint(alloc, plan, Side::B)?;
+        let Ok(shared) = Rc::new(alloc, copy_of(plan)) else {
+            return Err(AllocError);
+        };
         Ok(Pair {
-            plan: copy_of(plan),
+            plan: shared,
             link: Link::fresh(plan.up),
             book_a: fresh_book(plan, Side::A),
             book_b: fresh_book(plan, Side::B),
-            a: fresh_endpoint(alloc, plan, Side::A)?,
-            b: fresh_endpoint(alloc, plan, Side::B)?,
+            a,
+            b,
         })
     }
 
@@ -116,7 +122,7 @@ impl Pair {
     {
         self.a.law();
         self.b.law();
-        &self.plan
+        self.plan.as_ref()
     }
 
     /// Whether two pairs are in the same state: link, books, scratchpads, doorbells, each byte of both memories and all
@@ -132,12 +138,12 @@ impl Pair {
     ///
     /// # Errors
     ///
-    /// [`AllocError`] from out of memory alone.
+    /// [`AllocError`] from out of memory, or where the plan has as many copies as can be counted.
     pub fn copy_of(&self, alloc: Global) -> Result<Pair, AllocError>
         ensures { IfOk result (λ copy. copy ≡ self.now) }
     {
         Ok(Pair {
-            plan: copy_of(&self.plan),
+            plan: self.plan.clone()?,
             link: self.link,
             book_a: self.book_a,
             book_b: self.book_b,
@@ -270,10 +276,14 @@ impl Pair {
         if !self.is_up() {
             return self.give_back(side, 1);
         }
-        let at = own_address(&self.plan, side.other(), window, offset);
+        let at = own_address(self.plan.as_ref(), side.other(), window, offset);
         match side {
-            Side::A => self.b.post_bytes(&self.plan, side, label, at, bytes),
-            Side::B => self.a.post_bytes(&self.plan, side, label, at, bytes),
+            Side::A => self
+                .b
+                .post_bytes(self.plan.as_ref(), side, label, at, bytes),
+            Side::B => self
+                .a
+                .post_bytes(self.plan.as_ref(), side, label, at, bytes),
         }
     }
 
@@ -294,7 +304,7 @@ impl Pair {
         if !self.is_up() {
             return self.give_back(side, 1);
         }
-        let write = FlyingWrite::new(&self.plan, side, label, arrival);
+        let write = FlyingWrite::new(self.plan.as_ref(), side, label, arrival);
         match side {
             Side::A => self.b.post(write),
             Side::B => self.a.post(write),
@@ -343,7 +353,7 @@ impl Pair {
     pub fn class_of(&self, side: Side, label: Label) -> u32
         ensures { result ≡ order_class (plan_classes self.now.plan side) label }
     {
-        class_among(classes_of(&self.plan, side), label)
+        class_among(classes_of(self.plan.as_ref(), side), label)
     }
 
     /// Whether no page is there of those that the `len` bytes from the address `at` of a side's memory on touch, which then

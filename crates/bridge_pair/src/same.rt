@@ -43,7 +43,7 @@ pub fn have_same_bytes(one: &Memory, other: &Memory) -> bool
 // Whether they have the same bytes from a page's first on. Of a range of which neither has a page nothing is compared;
 // any other that is longer than a page is halved between pages.
 fn have_same_range(one: &Memory, other: &Memory, at: u64, len: u64) -> bool
-    requires first { at % 4096 ≡ 0 }
+    requires first { at % 512 ≡ 0 }
     requires here { at + len ≤ length one.now.bytes }
     requires there { at + len ≤ length other.now.bytes }
     ensures { IsTrue result ↔ (bytes_at at len one.now.bytes ≡ bytes_at at len other.now.bytes) }

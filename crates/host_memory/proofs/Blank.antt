@@ -37,7 +37,7 @@ absent_zeros memory contents at len is seen within absent = λ i below.
     λ some. here (page_of (at + i)) (at + i, omega arith, omega (arith, below), refl) (is.among (page_of (at + i)) some) in
     subst (λ (c : Contents). slice_index_or c.bytes (at + i) 0 ≡ 0) seen
     (byte-bytes_in (page_at memory.pages.groups.items) memory.len (at + i) 0 (omega (arith, within, below))
-    ∙ byte_of_none (page_at memory.pages.groups.items (page_of (at + i))) ((at + i) % 4096) none)
+    ∙ byte_of_none (page_at memory.pages.groups.items (page_of (at + i))) ((at + i) % 512) none)
 
 -- of the first so many numbers of a list none lies between two others
 abbrev pub LieOutside : ℕ → ℕ → ℕ → List ℕ → Type 0
@@ -60,7 +60,7 @@ inside_not first last k numbers within from to none =
 
 -- what a test of the pages from a range's first to its last one tells of the range
 pub told_blank : (memory : Inside) (contents : Contents) (at len : ℕ) (told : Bool) → IsMemory memory → contents_seen memory ≡ contents → at + len ≤ length contents.bytes → ¬ (len ≡ 0)
-    → (IsTrue told ↔ AreNotAmong (at / 4096) ((at + len - 1) / 4096) contents.promised) → (IsTrue told ↔ AreAbsent at len contents.promised) × (IsTrue told → AreZero at len contents.bytes)
+    → (IsTrue told ↔ AreNotAmong (at / 512) ((at + len - 1) / 512) contents.promised) → (IsTrue told ↔ AreAbsent at len contents.promised) × (IsTrue told → AreZero at len contents.bytes)
 told_blank memory contents at len told is seen within some told_of =
     let size : length contents.bytes ≡ memory.len = ap (λ (c : Contents). length c.bytes) (sym seen) ∙ length-bytes_in (page_at memory.pages.groups.items) memory.len in
     let absent : IsTrue told → AreAbsent at len contents.promised =

@@ -30,7 +30,7 @@ bytes_in-none pages len empty =
     same_lists _ _ (length-bytes_in pages len ∙ sym (length-replicate len 0))
     (λ k d h.
     let within : k < len = subst (λ n. k < n) (length-bytes_in pages len) h in
-    byte-bytes_in pages len k d within ∙ ap (λ found. byte_on found (k % 4096)) (empty (k / 4096)) ∙ sym (get_or-replicate len k 0 d within))
+    byte-bytes_in pages len k d within ∙ ap (λ found. byte_on found (k % 512)) (empty (k / 512)) ∙ sym (get_or-replicate len k 0 d within))
 
 -- the same pages hold the same bytes
 pub bytes_in-same : (pages new : Found) (len : ℕ) → ((page : ℕ) → new page ≡ pages page) → bytes_in new len ≡ bytes_in pages len
@@ -38,10 +38,10 @@ bytes_in-same pages new len same =
     same_lists _ _ (length-bytes_in new len ∙ sym (length-bytes_in pages len))
     (λ k d h.
     let within : k < len = subst (λ n. k < n) (length-bytes_in new len) h in
-    byte-bytes_in new len k d within ∙ ap (λ found. byte_on found (k % 4096)) (same (k / 4096)) ∙ sym (byte-bytes_in pages len k d within))
+    byte-bytes_in new len k d within ∙ ap (λ found. byte_on found (k % 512)) (same (k / 512)) ∙ sym (byte-bytes_in pages len k d within))
 
 -- the page and the place of an address that lies after another one on its page
-pub same_page : (at k : ℕ) → at % 4096 + k < 4096 → ((at + k) / 4096 ≡ at / 4096) × ((at + k) % 4096 ≡ at % 4096 + k)
+pub same_page : (at k : ℕ) → at % 512 + k < 512 → ((at + k) / 512 ≡ at / 512) × ((at + k) % 512 ≡ at % 512 + k)
 same_page at k fits = (omega arith, omega arith)
 
 -- what a view says of bytes
@@ -61,57 +61,57 @@ middle_written xs xs' ys ys' start end same_xs same_ys size fits =
     ∙ search (rules, overwrites)
 
 -- one page, read
-read_piece : (pages : Found) (len at n : ℕ) (out : List ℕ) → at + n ≤ len → at % 4096 + n ≤ 4096 → length out ≡ n
-    → ((k : ℕ) → k < n → get_or out k 0 ≡ byte_on (pages (at / 4096)) (at % 4096 + k))
+read_piece : (pages : Found) (len at n : ℕ) (out : List ℕ) → at + n ≤ len → at % 512 + n ≤ 512 → length out ≡ n
+    → ((k : ℕ) → k < n → get_or out k 0 ≡ byte_on (pages (at / 512)) (at % 512 + k))
     → out ≡ bytes_at at n (bytes_in pages len)
 read_piece pages len at n out within one_page size same =
     same_lists _ _ (let l = length-bytes_in pages len in grind (arith, places))
     (λ k d h.
     let k<n : k < n = omega (arith, h, size) in
     let there = same_page at k (omega (arith, within, one_page, k<n)) in
-    let found : byte_on (pages (at / 4096)) (at % 4096 + k) ≡ byte_in pages (at + k) =
-    sym (ap (λ page. byte_on (pages page) ((at + k) % 4096)) there.0 ∙ ap (λ place. byte_on (pages (at / 4096)) place) there.1) in
+    let found : byte_on (pages (at / 512)) (at % 512 + k) ≡ byte_in pages (at + k) =
+    sym (ap (λ page. byte_on (pages page) ((at + k) % 512)) there.0 ∙ ap (λ place. byte_on (pages (at / 512)) place) there.1) in
     get_or_default_zero out k d h ∙ same k k<n ∙ found
     ∙ sym (byte-bytes_in pages len (at + k) d (omega (arith, within, k<n)))
     ∙ sym (get_or-drop at (bytes_in pages len) k d)
     ∙ sym (get_or-take n (drop at (bytes_in pages len)) k d k<n))
 
 -- the same of the bytes that the memory shows
-pub read_shown : (pages : Found) (len at n : ℕ) (out shown : List ℕ) → bytes_in pages len ≡ shown → at + n ≤ length shown → at % 4096 + n ≤ 4096 → length out ≡ n
-    → ((k : ℕ) → k < n → get_or out k 0 ≡ byte_on (pages (at / 4096)) (at % 4096 + k)) → out ≡ bytes_at at n shown
+pub read_shown : (pages : Found) (len at n : ℕ) (out shown : List ℕ) → bytes_in pages len ≡ shown → at + n ≤ length shown → at % 512 + n ≤ 512 → length out ≡ n
+    → ((k : ℕ) → k < n → get_or out k 0 ≡ byte_on (pages (at / 512)) (at % 512 + k)) → out ≡ bytes_at at n shown
 read_shown pages len at n out shown seen within one_page size same =
     rw (sym seen) (read_piece pages len at n out (subst (λ m. at + n ≤ m) (ap length (sym seen) ∙ length-bytes_in pages len) within) one_page size same)
 
 -- a page of zeros, added
-pub zeros_added : (pages new : Found) (page : ℕ) → ¬ IsSome (pages page) → IsSomeAnd (new page) (λ zeros. zeros.value ≡ replicate 4096 0) → IsElsewhereTheSame pages new page
+pub zeros_added : (pages new : Found) (page : ℕ) → ¬ IsSome (pages page) → IsSomeAnd (new page) (λ zeros. zeros.value ≡ replicate 512 0) → IsElsewhereTheSame pages new page
     → (len : ℕ) → bytes_in new len ≡ bytes_in pages len
 zeros_added pages new page absent blank others len =
     same_lists _ _ (length-bytes_in new len ∙ sym (length-bytes_in pages len))
     (λ k d h.
     let within : k < len = subst (λ n. k < n) (length-bytes_in new len) h in
-    byte-bytes_in new len k d within ∙ reads k (cases_eq (k / 4096) page) ∙ sym (byte-bytes_in pages len k d within))
+    byte-bytes_in new len k d within ∙ reads k (cases_eq (k / 512) page) ∙ sym (byte-bytes_in pages len k d within))
   where
-    zero_on : (found : Option (Box (List ℕ))) (place : ℕ) → IsSomeAnd found (λ zeros. zeros.value ≡ replicate 4096 0) → place < 4096 → byte_on found place ≡ 0
+    zero_on : (found : Option (Box (List ℕ))) (place : ℕ) → IsSomeAnd found (λ zeros. zeros.value ≡ replicate 512 0) → place < 512 → byte_on found place ≡ 0
     zero_on None place blank within = absurd blank
-    zero_on (Some zeros) place blank within = ap (λ bytes. get_or bytes place 0) blank ∙ get_or-replicate 4096 place 0 0 within
+    zero_on (Some zeros) place blank within = ap (λ bytes. get_or bytes place 0) blank ∙ get_or-replicate 512 place 0 0 within
 
     none_on : (found : Option (Box (List ℕ))) (place : ℕ) → ¬ IsSome found → byte_on found place ≡ 0
     none_on None place absent = refl
     none_on (Some other) place absent = absurd (absent refl)
 
-    reads : (k : ℕ) → (k / 4096 ≡ page) ⊎ (k / 4096 ≢ page) → byte_in new k ≡ byte_in pages k
+    reads : (k : ℕ) → (k / 512 ≡ page) ⊎ (k / 512 ≢ page) → byte_in new k ≡ byte_in pages k
     reads k (inl same) =
-        ap (λ q. byte_on (new q) (k % 4096)) same ∙ zero_on (new page) (k % 4096) blank (omega arith)
-        ∙ sym (ap (λ q. byte_on (pages q) (k % 4096)) same ∙ none_on (pages page) (k % 4096) absent)
-    reads k (inr differs) = ap (λ found. byte_on found (k % 4096)) (others (k / 4096) differs)
+        ap (λ q. byte_on (new q) (k % 512)) same ∙ zero_on (new page) (k % 512) blank (omega arith)
+        ∙ sym (ap (λ q. byte_on (pages q) (k % 512)) same ∙ none_on (pages page) (k % 512) absent)
+    reads k (inr differs) = ap (λ found. byte_on found (k % 512)) (others (k / 512) differs)
 
 -- one page, written
-pub write_piece : (pages new : Found) (len at : ℕ) (piece : List ℕ) (page page' : Box (List ℕ)) → at + length piece ≤ len → at % 4096 + length piece ≤ 4096
-    → pages (at / 4096) ≡ Some page
-    → new (at / 4096) ≡ Some page'
-    → IsElsewhereTheSame pages new (at / 4096)
-    → length page.value ≡ 4096
-    → page'.value ≡ written (at % 4096) piece page.value
+pub write_piece : (pages new : Found) (len at : ℕ) (piece : List ℕ) (page page' : Box (List ℕ)) → at + length piece ≤ len → at % 512 + length piece ≤ 512
+    → pages (at / 512) ≡ Some page
+    → new (at / 512) ≡ Some page'
+    → IsElsewhereTheSame pages new (at / 512)
+    → length page.value ≡ 512
+    → page'.value ≡ written (at % 512) piece page.value
     → bytes_in new len ≡ written at piece (bytes_in pages len)
 write_piece pages new len at piece page page' within one_page there put others whole changed =
     same_lists _ _ (sizes ∙ sym (length-written at piece (bytes_in pages len) (lies_in)))
@@ -125,53 +125,53 @@ write_piece pages new len at piece page page' within one_page there put others w
     sizes : length (bytes_in new len) ≡ length (bytes_in pages len)
     sizes = length-bytes_in new len ∙ sym (length-bytes_in pages len)
 
-    fits : at % 4096 + length piece ≤ length page.value
+    fits : at % 512 + length piece ≤ length page.value
     fits = rw whole one_page
 
-    inside : (k : ℕ) → k < length piece → get_or page'.value (at % 4096 + k) 0 ≡ get_or piece k 0
+    inside : (k : ℕ) → k < length piece → get_or page'.value (at % 512 + k) 0 ≡ get_or piece k 0
     inside k h =
-        ap (λ bytes. get_or bytes (at % 4096 + k) 0) changed
-        ∙ written_inside (at % 4096) piece page.value fits (at % 4096 + k) 0 (omega arith) (omega (arith, h))
+        ap (λ bytes. get_or bytes (at % 512 + k) 0) changed
+        ∙ written_inside (at % 512) piece page.value fits (at % 512 + k) 0 (omega arith) (omega (arith, h))
         ∙ ap (λ i. get_or piece i 0) (omega arith)
 
-    outside : (i : ℕ) → (i < at % 4096) ⊎ (at % 4096 + length piece ≤ i) → get_or page'.value i 0 ≡ get_or page.value i 0
-    outside i apart = ap (λ bytes. get_or bytes i 0) changed ∙ written_outside (at % 4096) piece page.value fits i 0 apart
+    outside : (i : ℕ) → (i < at % 512) ⊎ (at % 512 + length piece ≤ i) → get_or page'.value i 0 ≡ get_or page.value i 0
+    outside i apart = ap (λ bytes. get_or bytes i 0) changed ∙ written_outside (at % 512) piece page.value fits i 0 apart
 
     -- an address on the page
-    on_page : (k : ℕ) → k / 4096 ≡ at / 4096 → byte_in new k ≡ get_or page'.value (k % 4096) 0
-    on_page k same = ap (λ q. byte_on (new q) (k % 4096)) same ∙ ap (λ found. byte_on found (k % 4096)) put
+    on_page : (k : ℕ) → k / 512 ≡ at / 512 → byte_in new k ≡ get_or page'.value (k % 512) 0
+    on_page k same = ap (λ q. byte_on (new q) (k % 512)) same ∙ ap (λ found. byte_on found (k % 512)) put
 
-    was_on_page : (k : ℕ) → k / 4096 ≡ at / 4096 → byte_in pages k ≡ get_or page.value (k % 4096) 0
-    was_on_page k same = ap (λ q. byte_on (pages q) (k % 4096)) same ∙ ap (λ found. byte_on found (k % 4096)) there
+    was_on_page : (k : ℕ) → k / 512 ≡ at / 512 → byte_in pages k ≡ get_or page.value (k % 512) 0
+    was_on_page k same = ap (λ q. byte_on (pages q) (k % 512)) same ∙ ap (λ found. byte_on found (k % 512)) there
 
-    stays : (k : ℕ) → (k < at) ⊎ (at + length piece ≤ k) → (k / 4096 ≡ at / 4096) ⊎ (k / 4096 ≢ at / 4096) → byte_in new k ≡ byte_in pages k
+    stays : (k : ℕ) → (k < at) ⊎ (at + length piece ≤ k) → (k / 512 ≡ at / 512) ⊎ (k / 512 ≢ at / 512) → byte_in new k ≡ byte_in pages k
     stays k apart (inl same) =
-        on_page k same ∙ outside (k % 4096) (⊎_elim (λ h. inl (omega (arith, same, h))) (λ h. inr (omega (arith, same, h, one_page))) apart) ∙ sym (was_on_page k same)
-    stays k apart (inr differs) = ap (λ found. byte_on found (k % 4096)) (others (k / 4096) differs)
+        on_page k same ∙ outside (k % 512) (⊎_elim (λ h. inl (omega (arith, same, h))) (λ h. inr (omega (arith, same, h, one_page))) apart) ∙ sym (was_on_page k same)
+    stays k apart (inr differs) = ap (λ found. byte_on found (k % 512)) (others (k / 512) differs)
 
     written_here : (k d : ℕ) → k < len → at ≤ k → k < at + length piece → byte_in new k ≡ get_or (written at piece (bytes_in pages len)) k d
     written_here k d k<len not_below hit =
-        let place : (k / 4096 ≡ at / 4096) × (k % 4096 ≡ at % 4096 + (k - at)) = (omega (arith, not_below, hit, one_page), omega (arith, not_below, hit, one_page)) in
+        let place : (k / 512 ≡ at / 512) × (k % 512 ≡ at % 512 + (k - at)) = (omega (arith, not_below, hit, one_page), omega (arith, not_below, hit, one_page)) in
         let j : k - at < length piece = omega (arith, not_below, hit) in
         on_page k place.0 ∙ ap (λ i. get_or page'.value i 0) place.1 ∙ inside (k - at) j ∙ sym (get_or_default_zero piece (k - at) d j)
         ∙ sym (written_inside at piece (bytes_in pages len) lies_in k d not_below hit)
 
     elsewhere : (k d : ℕ) → k < len → (k < at) ⊎ (at + length piece ≤ k) → byte_in new k ≡ get_or (written at piece (bytes_in pages len)) k d
     elsewhere k d k<len apart =
-        stays k apart (cases_eq (k / 4096) (at / 4096))
+        stays k apart (cases_eq (k / 512) (at / 512))
         ∙ sym (byte-bytes_in pages len k d k<len)
         ∙ sym (written_outside at piece (bytes_in pages len) lies_in k d (⊎_elim (λ h. inl (omega (arith, h))) (λ h. inr h) apart))
 
 -- the same where the page is known by its number
-pub page_written : (pages new : Found) (len at : ℕ) (piece : List ℕ) → at + length piece ≤ len → at % 4096 + length piece ≤ 4096
-    → new (at / 4096) ≡ option_map (with_bytes (at % 4096) piece) (pages (at / 4096))
-    → IsElsewhereTheSame pages new (at / 4096)
-    → IfSome (pages (at / 4096)) (λ page. length page.value ≡ 4096)
-    → IsSome (pages (at / 4096))
+pub page_written : (pages new : Found) (len at : ℕ) (piece : List ℕ) → at + length piece ≤ len → at % 512 + length piece ≤ 512
+    → new (at / 512) ≡ option_map (with_bytes (at % 512) piece) (pages (at / 512))
+    → IsElsewhereTheSame pages new (at / 512)
+    → IfSome (pages (at / 512)) (λ page. length page.value ≡ 512)
+    → IsSome (pages (at / 512))
     → bytes_in new len ≡ written at piece (bytes_in pages len)
-page_written pages new len at piece within one_page put others whole there = at_page (pages (at / 4096)) refl put whole there
+page_written pages new len at piece within one_page put others whole there = at_page (pages (at / 512)) refl put whole there
   where
-    at_page : (found : Option (Box (List ℕ))) → pages (at / 4096) ≡ found → new (at / 4096) ≡ option_map (with_bytes (at % 4096) piece) found
-        → IfSome found (λ page. length page.value ≡ 4096) → IsSome found → bytes_in new len ≡ written at piece (bytes_in pages len)
+    at_page : (found : Option (Box (List ℕ))) → pages (at / 512) ≡ found → new (at / 512) ≡ option_map (with_bytes (at % 512) piece) found
+        → IfSome found (λ page. length page.value ≡ 512) → IsSome found → bytes_in new len ≡ written at piece (bytes_in pages len)
     at_page None is put whole there = absurd (false≢true there)
-    at_page (Some page) is put whole there = write_piece pages new len at piece page (with_bytes (at % 4096) piece page) within one_page is put others whole refl
+    at_page (Some page) is put whole there = write_piece pages new len at piece page (with_bytes (at % 512) piece page) within one_page is put others whole refl

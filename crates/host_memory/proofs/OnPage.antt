@@ -15,19 +15,19 @@ pub length-mid : (start n : ℕ) (bytes : List ℕ) → start + n ≤ length byt
 length-mid start n bytes within = grind (arith, common_steps)
 
 -- its bytes are those of the page that is there
-pub read_there : (pages : Found) (len at n : ℕ) (page : Box (List ℕ)) (bytes shown : List ℕ) → bytes_in pages len ≡ shown → at + n ≤ length shown → at % 4096 + n ≤ 4096
-    → Some page ≡ pages (at / 4096) → bytes ≡ page.value → length bytes ≡ 4096 → mid_of (at % 4096) (at % 4096 + n - at % 4096) bytes ≡ bytes_at at n shown
+pub read_there : (pages : Found) (len at n : ℕ) (page : Box (List ℕ)) (bytes shown : List ℕ) → bytes_in pages len ≡ shown → at + n ≤ length shown → at % 512 + n ≤ 512
+    → Some page ≡ pages (at / 512) → bytes ≡ page.value → length bytes ≡ 512 → mid_of (at % 512) (at % 512 + n - at % 512) bytes ≡ bytes_at at n shown
 read_there pages len at n page bytes shown seen within one_page there same size =
-    read_shown pages len at n (mid_of (at % 4096) (at % 4096 + n - at % 4096) bytes) shown seen within one_page (length-mid (at % 4096) n bytes (omega (arith, one_page, size)))
+    read_shown pages len at n (mid_of (at % 512) (at % 512 + n - at % 512) bytes) shown seen within one_page (length-mid (at % 512) n bytes (omega (arith, one_page, size)))
     (λ k less.
-    middle bytes _ (at % 4096) (at % 4096 + n) n k refl refl less ∙ ap (λ xs. get_or xs (at % 4096 + k) 0) same ∙ ap (λ found. byte_on found (at % 4096 + k)) there)
+    middle bytes _ (at % 512) (at % 512 + n) n k refl refl less ∙ ap (λ xs. get_or xs (at % 512 + k) 0) same ∙ ap (λ found. byte_on found (at % 512 + k)) there)
 
 -- its bytes are zeros where the page isn't there
-pub read_absent : (pages : Found) (len at n : ℕ) (shown : List ℕ) → bytes_in pages len ≡ shown → at + n ≤ length shown → at % 4096 + n ≤ 4096
-    → None ≡ pages (at / 4096) → replicate n 0 ≡ bytes_at at n shown
+pub read_absent : (pages : Found) (len at n : ℕ) (shown : List ℕ) → bytes_in pages len ≡ shown → at + n ≤ length shown → at % 512 + n ≤ 512
+    → None ≡ pages (at / 512) → replicate n 0 ≡ bytes_at at n shown
 read_absent pages len at n shown seen within one_page none =
     read_shown pages len at n (replicate n 0) shown seen within one_page (length-replicate n 0)
-    (λ k less. get_or-replicate n k 0 0 less ∙ ap (λ found. byte_on found (at % 4096 + k)) none)
+    (λ k less. get_or-replicate n k 0 0 less ∙ ap (λ found. byte_on found (at % 512 + k)) none)
 
 -- what a test of the bytes of two ranges tells of the ranges
 pub told_same : (xs ys here there : List ℕ) (told : Bool) → xs ≡ here → ys ≡ there → told ≡ bytes_eq xs ys → IsTrue told ↔ (here ≡ there)
@@ -46,5 +46,5 @@ told_zeros xs here there n told front size behind is =
     )
 
 -- bytes are compared with as many of a page of zeros
-pub told_zero_page : (bytes : List ℕ) (told : Bool) → length bytes ≤ 4096 → told ≡ bytes_eq bytes (take (length bytes) (replicate 4096 0)) → IsTrue told ↔ (bytes ≡ replicate (length bytes) 0)
-told_zero_page bytes told within is = told_same bytes (take (length bytes) (replicate 4096 0)) bytes (replicate (length bytes) 0) told refl (take-replicate (length bytes) 4096 0 within) is
+pub told_zero_page : (bytes : List ℕ) (told : Bool) → length bytes ≤ 512 → told ≡ bytes_eq bytes (take (length bytes) (replicate 512 0)) → IsTrue told ↔ (bytes ≡ replicate (length bytes) 0)
+told_zero_page bytes told within is = told_same bytes (take (length bytes) (replicate 512 0)) bytes (replicate (length bytes) 0) told refl (take-replicate (length bytes) 512 0 within) is

@@ -7,14 +7,14 @@ use Rattle.std.proofs.lemmas.Slice.{take-put_mid}
 use Rattle.host_memory.specs.Memory.{ArePromised, Touches, bytes_at, page_of, written}
 
 -- a page between the first and the last one of a range
-pub touches_between : (at len page : ℕ) → 0 < len → at / 4096 ≤ page → page < (at + len - 1) / 4096 + 1 → Touches at len page
+pub touches_between : (at len page : ℕ) → 0 < len → at / 512 ≤ page → page < (at + len - 1) / 512 + 1 → Touches at len page
 touches_between at len page some from to =
-    ⊎_elim (λ inside. (page * 4096, omega (arith, inside), omega (arith, some, to), omega arith))
+    ⊎_elim (λ inside. (page * 512, omega (arith, inside), omega (arith, some, to), omega arith))
     (λ before. (at, omega arith, omega (arith, some), omega (arith, from, before)))
-    (cases_lt at (page * 4096))
+    (cases_lt at (page * 512))
 
 -- each page of a range is between its first and its last one
-pub touched_between : (at len page : ℕ) → Touches at len page → (at / 4096 ≤ page) × (page < (at + len - 1) / 4096 + 1)
+pub touched_between : (at len page : ℕ) → Touches at len page → (at / 512 ≤ page) × (page < (at + len - 1) / 512 + 1)
 touched_between at len page (address, from, to, on) = (omega (arith, from, on), omega (arith, from, to, on))
 
 -- the page of a byte of a range

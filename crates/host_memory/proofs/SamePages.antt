@@ -49,8 +49,8 @@ byte_by_bytes (Some page) place = refl
 
 byte_same : (found other : Found) → FindSame found other → (address : ℕ) → byte_in found address ≡ byte_in other address
 byte_same found other same address =
-    byte_by_bytes (found (address / 4096)) (address % 4096) ∙ ap (λ bytes. byte_of bytes (address % 4096)) (same (address / 4096))
-    ∙ sym (byte_by_bytes (other (address / 4096)) (address % 4096))
+    byte_by_bytes (found (address / 512)) (address % 512) ∙ ap (λ bytes. byte_of bytes (address % 512)) (same (address / 512))
+    ∙ sym (byte_by_bytes (other (address / 512)) (address % 512))
 
 -- the memory's bytes are the same
 pub bytes_in-found : (found other : Found) (len : ℕ) → FindSame found other → bytes_in found len ≡ bytes_in other len

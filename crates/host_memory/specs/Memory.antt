@@ -26,7 +26,7 @@ word_bytes value = little_bytes 4 value
 
 -- the number of the page that an address lies on
 abbrev pub page_of : ℕ → ℕ
-page_of address = address / 4096
+page_of address = address / 512
 
 -- the range of so many bytes from an address on has a byte on the page
 abbrev pub Touches : ℕ → ℕ → ℕ → Type 0

@@ -16,7 +16,7 @@ byte_on (Some page) place = slice_index page.value place
 
 -- the byte at an address
 abbrev pub byte_in : Found → ℕ → ℕ
-byte_in found address = byte_on (found (address / 4096)) (address % 4096)
+byte_in found address = byte_on (found (address / 512)) (address % 512)
 
 -- all bytes of a memory of this length
 abbrev pub bytes_in : Found → ℕ → List ℕ

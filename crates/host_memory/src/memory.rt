@@ -9,10 +9,10 @@ use std::alloc::{AllocError, Global};
 use std::marker::Model;
 
 /// The bytes of a page: page 0 begins at address 0, and each further one where the one before it ends.
-pub const PAGE_SIZE: u64 = 4096;
+pub const PAGE_SIZE: u64 = 512;
 
 // What a page that isn't there reads as.
-static ZEROS: [u8; 4096] = [0; 4096];
+static ZEROS: [u8; 512] = [0; 512];
 
 /// A host's memory: bytes at the addresses from 0 to its length. Contracts see its list of bytes, `bytes`, and the list
 /// of the numbers of the pages that were promised, `promised`, in which no number stands twice.
@@ -110,7 +110,7 @@ impl Memory {
     pub fn has_same_on_page(&self, other: &Memory, at: u64, len: usize) -> bool
         requires here { at + len ≤ length self.now.bytes }
         requires there { at + len ≤ length other.now.bytes }
-        requires one_page { at % 4096 + len ≤ 4096 }
+        requires one_page { at % 512 + len ≤ 512 }
         ensures { IsTrue result ↔ (bytes_at at len self.now.bytes ≡ bytes_at at len other.now.bytes) }
     {
         let start = (at % PAGE_SIZE) as usize;
@@ -267,7 +267,7 @@ impl Memory {
     #[inline]
     fn read_on_page(&self, at: u64, out: &mut [u8])
         requires within { at + length out.old ≤ length self.now.bytes }
-        requires one_page { at % 4096 + length out.old ≤ 4096 }
+        requires one_page { at % 512 + length out.old ≤ 512 }
         ensures { out.new ≡ bytes_at at (length out.old) self.now.bytes }
     {
         let start = (at % PAGE_SIZE) as usize;
@@ -300,7 +300,7 @@ impl Memory {
     #[inline]
     fn write_on_page(&mut self, at: u64, bytes: &[u8])
         requires within { at + length bytes.now ≤ length self.old.bytes }
-        requires one_page { at % 4096 + length bytes.now ≤ 4096 }
+        requires one_page { at % 512 + length bytes.now ≤ 512 }
         requires promised { Contains self.old.promised (page_of at) }
         ensures bytes { self.new.bytes ≡ written at bytes.now self.old.bytes }
         ensures promised { self.new.promised ≡ self.old.promised }
@@ -353,7 +353,7 @@ impl Model for Memory {
 // How many bytes of its page stand from an address on.
 #[inline]
 fn room_on_page(address: u64) -> usize
-    ensures { result ≡ 4096 - address % 4096 }
+    ensures { result ≡ 512 - address % 512 }
 {
     (PAGE_SIZE - address % PAGE_SIZE) as usize
 }
@@ -361,7 +361,7 @@ fn room_on_page(address: u64) -> usize
 // Whether the bytes, no more than a page of them, are all zero.
 #[inline]
 fn are_zeros(bytes: &[u8]) -> bool
-    requires { length bytes.now ≤ 4096 }
+    requires { length bytes.now ≤ 512 }
     ensures { IsTrue result ↔ (bytes.now ≡ replicate (length bytes.now) 0) }
 {
     bytes == &ZEROS[..bytes.len()]

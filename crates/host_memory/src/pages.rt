@@ -6,7 +6,7 @@ ghost use Rattle.host_memory.specs.Pages.{KeepsPages, KeepsPlaces, bytes_by_grou
 use std::alloc::{AllocError, Global};
 
 /// One page.
-pub type Page = Box<[u8; 4096]>;
+pub type Page = Box<[u8; 512]>;
 
 type Group = Vec<Option<Page>>;
 
@@ -57,10 +57,10 @@ impl Pages {
     #[inline]
     pub fn write(&mut self, number: u64, start: usize, bytes: &[u8])
         requires there { IsSome (page_at self.old.groups.items number) }
-        requires fits { start + length bytes.now ≤ 4096 }
+        requires fits { start + length bytes.now ≤ 512 }
         ensures page { page_at self.new.groups.items number ≡ option_map (with_bytes start bytes.now) (page_at self.old.groups.items number) }
         ensures others { (other : ℕ) → other ≢ number → page_at self.new.groups.items other ≡ page_at self.old.groups.items other }
-        ensures whole { IfSome (page_at self.old.groups.items number) (λ page. length page.value ≡ 4096) }
+        ensures whole { IfSome (page_at self.old.groups.items number) (λ page. length page.value ≡ 512) }
     {
         let group = &mut self.groups[(number / GROUP_PAGES) as usize];
         if let Some(page) = &mut group[(number % GROUP_PAGES) as usize] {
@@ -70,11 +70,11 @@ impl Pages {
 
     /// Puts a page of zeros there, in place of any that was. Running out of memory leaves all pages as they were.
     pub fn put_zeros(&mut self, number: u64) -> Result<(), AllocError>
-        ensures ok { OnOk result (IsSomeAnd (page_at self.new.groups.items number) (λ page. page.value ≡ replicate 4096 0)) }
+        ensures ok { OnOk result (IsSomeAnd (page_at self.new.groups.items number) (λ page. page.value ≡ replicate 512 0)) }
         ensures others { (other : ℕ) → other ≢ number → page_at self.new.groups.items other ≡ page_at self.old.groups.items other }
         ensures err { OnErr result (KeepsPages self.old.groups.items self.new.groups.items) }
     {
-        let zeros = Box::new(self.alloc, [0u8; 4096])?;
+        let zeros = Box::new(self.alloc, [0u8; 512])?;
         let row = (number / GROUP_PAGES) as usize;
         let place = (number % GROUP_PAGES) as usize;
         make_groups(self.alloc, &mut self.groups, row + 1)?;

@@ -30,8 +30,6 @@ use std::marker::Model;
 use step_kinds::Side;
 
 mod flags;
-#[cfg(test)]
-mod tests;
 
 use flags::Flags;
 

@@ -24,7 +24,7 @@ returns-in-Some-None c =
     told_zeros _ _ _ c.args.len c.are_zeros.result
     (read_there (page_at c.self.inside.pages.groups.items) c.self.inside.len c.args.at c.args.len c.in-Some-None.page.now c.deref-in-Some-None.result.now c.args.self.now.bytes
     (ap (λ (contents : Contents). contents.bytes) c.self.view_is) c.requires.here c.requires.one_page c.in-Some-None.ensures c.deref-in-Some-None.ensures (search rules))
-    (length-mid (c.args.at % 4096) c.args.len c.deref-in-Some-None.result.now (search rules))
+    (length-mid (c.args.at % 512) c.args.len c.deref-in-Some-None.result.now (search rules))
     (read_absent (page_at c.other.inside.pages.groups.items) c.other.inside.len c.args.at c.args.len c.args.other.now.bytes (ap (λ (contents : Contents). contents.bytes) c.other.view_is)
     c.requires.there c.requires.one_page c.in-Some-None.ensures')
     c.are_zeros.ensures
@@ -34,7 +34,7 @@ returns-in-None-Some c =
     let told = told_zeros _ _ _ c.args.len c.are_zeros-in-None-Some.result
     (read_there (page_at c.other.inside.pages.groups.items) c.other.inside.len c.args.at c.args.len c.in-None-Some.page.now c.deref-in-None-Some.result.now c.args.other.now.bytes
     (ap (λ (contents : Contents). contents.bytes) c.other.view_is) c.requires.there c.requires.one_page c.in-None-Some.ensures' c.deref-in-None-Some.ensures (search rules))
-    (length-mid (c.args.at % 4096) c.args.len c.deref-in-None-Some.result.now (search rules))
+    (length-mid (c.args.at % 512) c.args.len c.deref-in-None-Some.result.now (search rules))
     (read_absent (page_at c.self.inside.pages.groups.items) c.self.inside.len c.args.at c.args.len c.args.self.now.bytes (ap (λ (contents : Contents). contents.bytes) c.self.view_is)
     c.requires.here c.requires.one_page c.in-None-Some.ensures)
     c.are_zeros-in-None-Some.ensures in

@@ -24,7 +24,7 @@ returns-in-Some-clause-page c =
     let found : page_at groups number ≡ Some c.in-Some.page = page_read groups group number c.index_mut.result.now _ c.index_mut-group.ensures.value c.requires.there c.index_mut.ensures.value c.in-Some.is in
     let start = c.args.start in
     let after : List ℕ = put_mid start (start + length c.args.bytes.now - start) c.deref_mut.result.now c.copy_from_slice.new.self in
-    let whole : length c.in-Some.page.value ≡ 4096 = search rules in
+    let whole : length c.in-Some.page.value ≡ 512 = search rules in
     let changed = middle_written c.deref_mut.result.now c.in-Some.page.value c.copy_from_slice.new.self c.args.bytes.now start (start + length c.args.bytes.now) c.deref_mut.ensures.value c.copy_from_slice.ensures.after refl (rw whole c.requires.fits) in
     page_in_set_group groups _ number row
     ∙ get_or-set_same group.items (number % 512) _ None within
@@ -36,7 +36,7 @@ returns-in-Some-clause-whole c =
     let groups = c.args.self.now.groups.items in
     let number = c.args.number in
     let group = c.index_mut-group.result.now in
-    let whole : length c.in-Some.page.value ≡ 4096 = search rules in
+    let whole : length c.in-Some.page.value ≡ 512 = search rules in
     let found : page_at groups number ≡ Some c.in-Some.page = page_read groups group number c.index_mut.result.now _ c.index_mut-group.ensures.value c.requires.there c.index_mut.ensures.value c.in-Some.is in
-    let P : Option (Box (List ℕ)) → Type 0 = λ o. IfSome o (λ page. length page.value ≡ 4096) in
+    let P : Option (Box (List ℕ)) → Type 0 = λ o. IfSome o (λ page. length page.value ≡ 512) in
     subst P (sym found) whole
