@@ -132,6 +132,3 @@ fn written<K: Sink>(alloc: Global, sink: &mut K, run: RunReply) -> Ended
     }
     Ended::alone(alloc, status)
 }
-
-#[cfg(test)]
-mod tests;

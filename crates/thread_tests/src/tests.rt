@@ -1,9 +1,11 @@
-use super::*;
-use io_edges::{MemorySink, PlainSource};
-use std::alloc::AllocError;
+use io_edges::{Gate, MemorySink, PlainSource};
+use ntb_top::{Ended, run_program};
+use std::alloc::{AllocError, Global};
+use std::sync::Wait;
 use std::sync::atomic::{AtomicBool, Ordering};
 use std::test::Fail;
 use std::thread;
+use std::thread::Threads;
 
 /// More bytes than any text here has.
 const ROOM: usize = 1_000;
