@@ -14,15 +14,15 @@ post_bytes-requires-clause-place c =
     let target = ThroughWindow c.args.window c.args.offset c.args.bytes.now in
     let pages = subst (λ (bridge : Bridge). HasPages (pages_of bridge (other_side c.args.side)) (arrival_of bridge.plan c.args.side target)) (sym c.self.view_is) c.requires.pages in
     let at_peer = subst (λ (side : Side). HasPages (pages_of (bridge_seen c.self.inside) (other_side side)) (arrival_of c.self.inside.plan.value c.args.side target)) c.in-A.is pages in
-    rw c.own_address-at.ensures.value (rw c.other.ensures
+    rw c.own_address-at.ensures.value (rw c.other.ensures (rw c.as_ref.ensures
     (translated c.self.inside.plan.value c.args.side c.self.inside.b.memory target (rw c.in-A.is c.self.invariant.memory_b) (c.requires.some, c.requires.few)
-    (rw (← c.self.view_is) at c.requires.translates) at_peer))
+    (rw (← c.self.view_is) at c.requires.translates) at_peer)))
 
 pub post_bytes-requires-in-B-clause-place : goal.post_bytes-requires-in-B-clause-place
 post_bytes-requires-in-B-clause-place c =
     let target = ThroughWindow c.args.window c.args.offset c.args.bytes.now in
     let pages = subst (λ (bridge : Bridge). HasPages (pages_of bridge (other_side c.args.side)) (arrival_of bridge.plan c.args.side target)) (sym c.self.view_is) c.requires.pages in
     let at_peer = subst (λ (side : Side). HasPages (pages_of (bridge_seen c.self.inside) (other_side side)) (arrival_of c.self.inside.plan.value c.args.side target)) c.in-B.is pages in
-    rw c.own_address-at.ensures.value (rw c.other.ensures
+    rw c.own_address-at.ensures.value (rw c.other.ensures (rw c.as_ref.ensures
     (translated c.self.inside.plan.value c.args.side c.self.inside.a.memory target (rw c.in-B.is c.self.invariant.memory_a) (c.requires.some, c.requires.few)
-    (rw (← c.self.view_is) at c.requires.translates) at_peer))
+    (rw (← c.self.view_is) at c.requires.translates) at_peer)))

@@ -8,11 +8,12 @@ use Rattle.bridge_pair.proofs.pair.Pair.with_zeros.Goals as goal
 
 pub invariant_of-result : goal.invariant_of-result
 invariant_of-result c =
-    rw (c.copy_of.ensures, c.fresh_book.ensures, c.fresh_book-2.ensures)
+    let plan = c.in-Ok.ensures.ok ∙ c.copy_of.ensures in
+    rw (plan, c.fresh_book.ensures, c.fresh_book-2.ensures)
     (record {
       plan = c.requires;
       book_a = fresh_is_book c.args.plan.now A;
       book_b = fresh_is_book c.args.plan.now B;
-      memory_a = ap (λ (end : End). length end.memory.bytes) (c.in_ok-fresh_endpoint.ensures) ∙ length-replicate (memory_size c.args.plan.now A) 0;
-      memory_b = ap (λ (end : End). length end.memory.bytes) (c.in_ok-fresh_endpoint-2.ensures) ∙ length-replicate (memory_size c.args.plan.now B) 0;
+      memory_a = ap (λ (end : End). length end.memory.bytes) c.in_ok-a.ensures ∙ length-replicate (memory_size c.args.plan.now A) 0;
+      memory_b = ap (λ (end : End). length end.memory.bytes) c.in_ok-b.ensures ∙ length-replicate (memory_size c.args.plan.now B) 0;
     })
