@@ -3,9 +3,11 @@
 //! An example for callers: docs/CALLING.md says which crates to list, and what the calls ask for.
 #![tactic(auto)]
 
-ghost use Rattle.std.specs.Prelude.{◌≤◌, length};
+ghost use Rattle.std.specs.Prelude.{◌≡◌, ◌≤◌, OnOk, length};
 ghost use Rattle.step_kinds.specs.Limits.{most_script_bytes};
+ghost use Rattle.plan_model.specs.Switches.{IsMakeable};
 ghost use Rattle.plan_model.specs.TrafficPlans.{IsWhole};
+ghost use Rattle.cluster_core.specs.Cluster.{declared_part, plan_held};
 
 use cluster_core::Cluster;
 use report_text::push_answer_line;
@@ -13,7 +15,7 @@ use script_text::{ParseError, parse};
 use std::alloc::{AllocError, Global};
 use std::io::Write;
 use std::test::Fail;
-use step_kinds::{LineAnswer, Plan};
+use step_kinds::{Line, LineAnswer, Plan};
 
 /// A frame of one byte from side A, whose doorbell stays in flight.
 const SCRIPT: &[u8] = b"ntb 1
@@ -27,38 +29,54 @@ recv p B 0
 ";
 
 fn main(rt: HostRuntime) -> Result<(), Fail> {
-    let text = reply_to(rt.alloc(), SCRIPT)?;
-    rt.stdout().write_all(text.as_slice())?;
+    let mut reply = Vec::new(rt.alloc());
+    push_reply(&mut reply, rt.alloc(), SCRIPT)?;
+    rt.stdout().write_all(reply.as_slice())?;
     Ok(())
 }
 
-// What there is to print of a script: the answers to its steps, or the first line with a fault.
-fn reply_to(alloc: Global, script: &[u8]) -> Result<Vec<u8>, AllocError>
+// Adds what there is to print of a script: the answers to its steps, or the first line with a fault.
+fn push_reply(reply: &mut Vec<u8>, alloc: Global, script: &[u8]) -> Result<(), AllocError>
     requires { length script.now ≤ most_script_bytes }
 {
     match parse(alloc, script) {
-        Ok(plan) => report_of(alloc, &plan),
+        Ok(plan) => push_answers(reply, alloc, &plan),
         Err(ParseError::Fault(fault)) => {
             let text = format!(in alloc; "refused line {}\n", fault.line)?;
-            Ok(text.into_bytes())
+            reply.extend_from_slice(text.as_bytes())
         }
         Err(ParseError::OutOfMemory) => Err(AllocError),
     }
 }
 
-// Makes the steps of a plan, in order, on the cluster that it declares; a line for each answer.
-fn report_of(alloc: Global, plan: &Plan) -> Result<Vec<u8>, AllocError>
+// Adds the answers to the steps of a plan, on the cluster that it declares.
+fn push_answers(reply: &mut Vec<u8>, alloc: Global, plan: &Plan) -> Result<(), AllocError>
     requires { IsWhole plan.now }
 {
     let mut cluster = Cluster::new(alloc, plan)?;
-    let mut report = Vec::new(alloc);
+    make_steps(&mut cluster, plan, reply)
+}
+
+// Makes the steps of a plan, in order, and adds a line for each answer.
+fn make_steps(cluster: &mut Cluster, plan: &Plan, reply: &mut Vec<u8>) -> Result<(), AllocError>
+    requires whole { IsWhole plan.now }
+    requires held { plan_held cluster.old ≡ declared_part plan.now }
+{
     for line in plan.steps.as_slice() {
-        let answer = cluster.step(&line.step)?;
-        let made = LineAnswer {
-            line: line.line,
-            answer,
-        };
-        push_answer_line(&mut report, &made)?;
+        make_step(cluster, line, reply)?;
     }
-    Ok(report)
+    Ok(())
+}
+
+// Makes a step, and adds the line of its answer.
+fn make_step(cluster: &mut Cluster, line: &Line, reply: &mut Vec<u8>) -> Result<(), AllocError>
+    requires { IsMakeable (plan_held cluster.old) line.now.step }
+    ensures { OnOk result (plan_held cluster.new ≡ plan_held cluster.old) }
+{
+    let answer = cluster.step(&line.step)?;
+    let made = LineAnswer {
+        line: line.line,
+        answer,
+    };
+    push_answer_line(reply, &made)
 }
