@@ -9,3 +9,4 @@ pub mod Sides
 pub mod SameBytes
 pub mod SameWrites
 pub mod SameBridges
+pub mod LandedEnds

@@ -1,38 +1,68 @@
--- Where two memories have the same bytes.
-use Rattle.std.proofs.Common.{◌≡◌, ◌↔◌, ◌∙◌, ℕ, ◌+◌, ◌-◌, ◌≤◌, List, ◌++◌, take, drop, sym, ap, subst, arith}
-use Rattle.std.proofs.Math.Seq.{take-add}
-use Rattle.std.proofs.lemmas.List.{drop-drop, drop-take, take-take}
-use Rattle.host_memory.specs.Memory.{bytes_at}
+-- Where two memories have the same bytes, as they are or once some are written.
+use Rattle.std.proofs.Common.{◌≡◌, ◌∙◌, ℕ, ◌+◌, ◌-◌, ◌<◌, ◌≤◌, List, length, slice_index_or, ap, sym, subst, arith, ⊎_elim}
+use Rattle.std.proofs.lemmas.Bool.{cases_lt}
+use Rattle.std.proofs.lemmas.Grind.{get_or_default_zero}
+use Rattle.std.proofs.lemmas.List.{get_or-drop, get_or-take, places, same_lists}
+use Rattle.host_memory.specs.Memory.{AreSameBetween, bytes_at, written}
 
--- a range is its first bytes and the rest
-in_two : (at half rest : ℕ) (mem : List ℕ) → bytes_at at (half + rest) mem ≡ bytes_at at half mem ++ bytes_at (at + half) rest mem
-in_two at half rest mem = take-add half rest (drop at mem) ∙ ap (λ bytes. bytes_at at half mem ++ take rest bytes) (drop-drop half at mem)
+-- memories of one length that have the same byte at each address have the same bytes
+pub all_same : (one other : List ℕ) → length one ≡ length other → AreSameBetween 0 (length one) one other → one ≡ other
+all_same one other size same =
+    same_lists one other size (λ k d less. get_or_default_zero one k d less ∙ same k (omega arith) less ∙ sym (get_or_default_zero other k d (subst (λ n. k < n) size less)))
 
--- its first bytes
-first_of : (at half rest : ℕ) (mem : List ℕ) → take half (bytes_at at (half + rest) mem) ≡ bytes_at at half mem
-first_of at half rest mem = take-take half (half + rest) (drop at mem) (omega arith)
+-- the bytes of a range, one by one
+in_range : (at n k : ℕ) (mem : List ℕ) → k < n → slice_index_or (bytes_at at n mem) k 0 ≡ slice_index_or mem (at + k) 0
+in_range at n k mem within = get_or-take n _ k 0 within ∙ get_or-drop at mem k 0
 
--- and the rest of it
-rest_of : (at half rest : ℕ) (mem : List ℕ) → drop half (bytes_at at (half + rest) mem) ≡ bytes_at (at + half) rest mem
-rest_of at half rest mem = drop-take half rest (drop at mem) ∙ ap (λ bytes. take rest bytes) (drop-drop half at mem)
+-- what stands at each address once some bytes are written: what stood there before and after them, and they
+before_written : (at : ℕ) (bytes mem : List ℕ) (k : ℕ) → at + length bytes ≤ length mem → k < at → slice_index_or (written at bytes mem) k 0 ≡ slice_index_or mem k 0
+before_written at bytes mem k within low = grind (arith, places)
 
--- two ranges are the same exactly where their first bytes and the rest are
-pub both_parts : (at half len : ℕ) (one other : List ℕ) → half ≤ len
-    → (bytes_at at half one ≡ bytes_at at half other) × (bytes_at (at + half) (len - half) one ≡ bytes_at (at + half) (len - half) other) ↔ (bytes_at at len one ≡ bytes_at at len other)
-both_parts at half len one other within =
-    let all : half + (len - half) ≡ len = omega arith in
-    subst (λ len. (bytes_at at half one ≡ bytes_at at half other) × (bytes_at (at + half) rest one ≡ bytes_at (at + half) rest other) ↔ (bytes_at at len one ≡ bytes_at at len other)) all (forth, back)
-  where
-    rest : ℕ
-    rest = len - half
+within_written : (at : ℕ) (bytes mem : List ℕ) (k : ℕ) → at + length bytes ≤ length mem → k < length bytes → slice_index_or (written at bytes mem) (at + k) 0 ≡ slice_index_or bytes k 0
+within_written at bytes mem k within inside = grind (arith, places)
 
-    forth : (bytes_at at half one ≡ bytes_at at half other) × (bytes_at (at + half) rest one ≡ bytes_at (at + half) rest other) → bytes_at at (half + rest) one ≡ bytes_at at (half + rest) other
-    forth parts =
-        in_two at half rest one ∙ ap (λ bytes. bytes ++ bytes_at (at + half) rest one) parts.0 ∙ ap (λ bytes. bytes_at at half other ++ bytes) parts.1
-        ∙ sym (in_two at half rest other)
+after_written : (at : ℕ) (bytes mem : List ℕ) (k : ℕ) → at + length bytes ≤ length mem → at + length bytes ≤ k → slice_index_or (written at bytes mem) k 0 ≡ slice_index_or mem k 0
+after_written at bytes mem k within high = grind (arith, places)
 
-    back : bytes_at at (half + rest) one ≡ bytes_at at (half + rest) other → (bytes_at at half one ≡ bytes_at at half other) × (bytes_at (at + half) rest one ≡ bytes_at (at + half) rest other)
-    back same = (
-      sym (first_of at half rest one) ∙ ap (take half) same ∙ first_of at half rest other,
-      sym (rest_of at half rest one) ∙ ap (drop half) same ∙ rest_of at half rest other,
-    )
+size_written : (at : ℕ) (bytes mem : List ℕ) → at + length bytes ≤ length mem → length (written at bytes mem) ≡ length mem
+size_written at bytes mem within = grind (arith, places)
+
+-- so where some are written it is enough that these are there, and all before and after them the same
+pub same_after : (at : ℕ) (bytes one other : List ℕ) → at + length bytes ≤ length one → length one ≡ length other → bytes_at at (length bytes) other ≡ bytes → AreSameBetween 0 at one other
+    → AreSameBetween (at + length bytes) (length one) one other → written at bytes one ≡ other
+same_after at bytes one other within size there before after =
+    all_same (written at bytes one) other (size_written at bytes one within ∙ size)
+    (λ k from to.
+    ⊎_elim
+    (λ low. before_written at bytes one k within low ∙ before k from low)
+    (λ high.
+    ⊎_elim
+    (λ inside.
+    let place : at + (k - at) ≡ k = omega (arith, high) in
+    let less : k - at < length bytes = omega (arith, inside, high) in
+    subst (λ k. slice_index_or (written at bytes one) k 0 ≡ slice_index_or other k 0) place
+    (within_written at bytes one (k - at) within less ∙ ap (λ (bytes : List ℕ). slice_index_or bytes (k - at) 0) (sym there) ∙ in_range at (length bytes) (k - at) other less))
+    (λ above. after_written at bytes one k within above ∙ after k above (subst (λ n. k < n) (size_written at bytes one within) to))
+    (cases_lt k (at + length bytes)))
+    (cases_lt k at))
+
+-- and these are there then
+pub there_after : (at : ℕ) (bytes one other : List ℕ) → at + length bytes ≤ length one → written at bytes one ≡ other → bytes_at at (length bytes) other ≡ bytes
+there_after at bytes one other within same =
+    let size : length (bytes_at at (length bytes) (written at bytes one)) ≡ length bytes = grind (arith, places, size_written at bytes one within) in
+    subst (λ (other : List ℕ). bytes_at at (length bytes) other ≡ bytes) same
+    (all_same (bytes_at at (length bytes) (written at bytes one)) bytes size
+    (λ k from to.
+    let less : k < length bytes = omega (arith, to, size) in
+    in_range at (length bytes) k (written at bytes one) less ∙ within_written at bytes one k within less))
+
+pub same_before : (at : ℕ) (bytes one other : List ℕ) → at + length bytes ≤ length one → written at bytes one ≡ other → AreSameBetween 0 at one other
+same_before at bytes one other within same k from low =
+    sym (before_written at bytes one k within low) ∙ ap (λ (bytes : List ℕ). slice_index_or bytes k 0) same
+
+pub same_beyond : (at : ℕ) (bytes one other : List ℕ) → at + length bytes ≤ length one → written at bytes one ≡ other → AreSameBetween (at + length bytes) (length one) one other
+same_beyond at bytes one other within same k above to =
+    sym (after_written at bytes one k within above) ∙ ap (λ (bytes : List ℕ). slice_index_or bytes k 0) same
+
+pub size_after : (at : ℕ) (bytes one other : List ℕ) → at + length bytes ≤ length one → written at bytes one ≡ other → length one ≡ length other
+size_after at bytes one other within same = sym (size_written at bytes one within) ∙ ap (λ (bytes : List ℕ). length bytes) same

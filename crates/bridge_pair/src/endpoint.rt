@@ -8,7 +8,7 @@ ghost use Rattle.plan_model.specs.Orders.{order_of};
 ghost use Rattle.bridge_pair.specs.Flights.{Flying, flying_order};
 ghost use Rattle.bridge_pair.specs.declared.flying_write.Arrival.TheVariants.{AtAddress};
 ghost use Rattle.bridge_pair.specs.Pages.{PagesGrow};
-ghost use Rattle.bridge_pair.specs.Same.{IsSameEnd};
+ghost use Rattle.bridge_pair.specs.Same.{HasSameParts, IsSameEnd, LandsAsEnd};
 ghost use Rattle.bridge_regs.specs.Doorbell.{with_pending};
 ghost use Rattle.host_memory.specs.Memory.{AreAbsent, ArePromised, AreZero, Touches, bytes_at, word_at, word_bytes};
 ghost use Rattle.posted_queue.specs.Flight.{discarded, given_back, posted, promised};
@@ -16,7 +16,9 @@ ghost use Rattle.posted_queue.specs.Landing.{after_landing, land_answer};
 
 use crate::flying_bytes::{Buffer, FEW, FlyingBytes};
 use crate::flying_write::{Arrival, FlyingWrite};
-use crate::same::{have_same_bytes, have_same_writes};
+use crate::same::{
+    have_same_bytes, have_same_bytes_after, have_same_writes, have_same_writes_without, may_land,
+};
 use bridge_regs::{Bells, Pads};
 use host_memory::Memory;
 use posted_queue::{LandAnswer, Queue};
@@ -87,6 +89,50 @@ impl Endpoint {
             && self.bells == other.bells
             && have_same_writes(&self.coming, &other.coming)
             && have_same_bytes(&self.memory, &other.memory)
+    }
+
+    /// Whether the write at a place of those that come may land, and makes this end the same as another.
+    pub fn lands_as(&self, place: usize, other: &Endpoint) -> bool
+        ensures { IsTrue result ↔ LandsAsEnd self.now place other.now }
+    {
+        let Some(write) = self.coming.label_at(place) else {
+            return false;
+        };
+        may_land(&self.coming, place, write)
+            && have_same_writes_without(&self.coming, place, &other.coming)
+            && self.arrives_as(&write.arrival, other)
+    }
+
+    // Whether what arrives makes the registers and bytes of this end those of another.
+    fn arrives_as(&self, arrival: &Arrival, other: &Endpoint) -> bool
+        requires { HasPlace self.now.memory arrival.now }
+        ensures { IsTrue result ↔ HasSameParts (after_arrival self.now arrival.now) other.now }
+    {
+        match arrival {
+            Arrival::AtAddress { at, bytes } => {
+                other.has_registers(self.pads, self.bells)
+                    && have_same_bytes_after(&self.memory, *at, bytes.as_slice(), &other.memory)
+            }
+            Arrival::AtPad { index, value } => {
+                let mut pads = self.pads;
+                pads.set(*index, *value);
+                other.has_registers(pads, self.bells)
+                    && have_same_bytes(&self.memory, &other.memory)
+            }
+            Arrival::AtBell { bit } => {
+                let mut bells = self.bells;
+                bells.ring(*bit);
+                other.has_registers(self.pads, bells)
+                    && have_same_bytes(&self.memory, &other.memory)
+            }
+        }
+    }
+
+    // Whether its registers are these.
+    fn has_registers(&self, pads: Pads, bells: Bells) -> bool
+        ensures { IsTrue result ↔ ((pads ≡ self.now.pads) × (bells ≡ self.now.bells)) }
+    {
+        self.pads == pads && self.bells == bells
     }
 
     // What comes

@@ -77,7 +77,8 @@ impl FlyingBytes {
     /// The bytes.
     #[inline]
     pub fn as_slice(&self) -> &[u8]
-        ensures { result.now ≡ self.now }
+        ensures value { result.now ≡ self.now }
+        ensures few { length result.now ≤ most_write_bytes }
     {
         let len = self.len as usize;
         match &self.kept {

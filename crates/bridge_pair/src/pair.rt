@@ -57,7 +57,7 @@ impl Pair {
     ghost use Rattle.bridge_pair.specs.Lending.{LendsBellsOf};
     ghost use Rattle.std.specs.Borrow.{sem};
     ghost use Rattle.bridge_pair.specs.Links.{after_clean, after_cut, after_drop, after_enable, after_train};
-    ghost use Rattle.bridge_pair.specs.Same.{HasSameEnds, IsSameBridge};
+    ghost use Rattle.bridge_pair.specs.Same.{EndsLandAs, HasSameEnds, IsSameBridge, LandsAs};
 
     /// The pair of a plan before any step, with nothing in flight. Its memories are zero and its link is down; where the plan
     /// says that the pair starts up, all is as after a whole handshake in session 1: the scratchpads have the peer's offer,
@@ -131,7 +131,17 @@ impl Pair {
     pub fn is_same(&self, other: &Pair) -> bool
         ensures { IsTrue result ↔ IsSameBridge self.now other.now }
     {
-        self.link == other.link && self.has_same_books(other) && self.has_same_ends(other)
+        self.has_same_link(other) && self.has_same_books(other) && self.has_same_ends(other)
+    }
+
+    /// Whether the write at this place of those that a side has in flight may land, and the pair is then in the same state
+    /// as another, as [`Pair::is_same`] has it. It is found out without landing the write, and takes no memory.
+    pub fn lands_as(&self, side: Side, place: usize, other: &Pair) -> bool
+        ensures { IsTrue result ↔ LandsAs self.now side place other.now }
+    {
+        self.has_same_link(other)
+            && self.has_same_books(other)
+            && self.ends_land_as(side, place, other)
     }
 
     /// A pair in the same state, with the same promises: the same pages of both memories, and as much room for writes.
@@ -152,6 +162,13 @@ impl Pair {
         })
     }
 
+    // Whether the links are in one state and session.
+    fn has_same_link(&self, other: &Pair) -> bool
+        ensures { IsTrue result ↔ (self.now.link ≡ other.now.link) }
+    {
+        self.link == other.link
+    }
+
     // Whether both sides have reached the same in the handshake.
     fn has_same_books(&self, other: &Pair) -> bool
         ensures { IsTrue result ↔ (self.now.books ≡ other.now.books) }
@@ -164,6 +181,16 @@ impl Pair {
         ensures { IsTrue result ↔ HasSameEnds self.now other.now }
     {
         self.a.is_same(&other.a) && self.b.is_same(&other.b)
+    }
+
+    // Whether both ends are the same once that write has landed.
+    fn ends_land_as(&self, side: Side, place: usize, other: &Pair) -> bool
+        ensures { IsTrue result ↔ EndsLandAs self.now side place other.now }
+    {
+        match side {
+            Side::A => self.b.lands_as(place, &other.b) && self.a.is_same(&other.a),
+            Side::B => self.a.lands_as(place, &other.a) && self.b.is_same(&other.b),
+        }
     }
 
     /// What a side has reached in the handshake.

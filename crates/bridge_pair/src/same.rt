@@ -1,60 +1,132 @@
-//! Whether memories have the same bytes, and queues the same writes in flight.
+//! Whether memories have the same bytes, and queues the same writes in flight: as they are, or once one write has landed.
 
-ghost use Rattle.std.specs.Prelude.{◌≡◌, ◌↔◌, ◌+◌, ◌%◌, ◌<◌, ◌≤◌, IsTrue, length, slice_get};
-ghost use Rattle.host_memory.specs.Memory.{bytes_at};
+ghost use Rattle.std.specs.Prelude.{◌≡◌, ◌↔◌, ℕ, ◌+◌, ◌<◌, ◌≤◌, ◌^◌, IsTrue, length, map, remove, slice_get};
+ghost use Rattle.bridge_pair.specs.Flights.{flying_order};
+ghost use Rattle.bridge_pair.specs.Writes.{most_write_bytes};
+ghost use Rattle.host_memory.specs.Memory.{bytes_at, written};
+ghost use Rattle.order_rules.specs.Order.{may_land as may_land_at, passes as order_passes};
 
 use crate::flying_write::FlyingWrite;
-use host_memory::{Memory, PAGE_SIZE};
-use posted_queue::Queue;
+use host_memory::Memory;
+use order_rules::posted_table;
+use posted_queue::{Ordered, Queue};
 
 /// Whether two queues have the same writes in flight, in one order.
 pub fn have_same_writes(one: &Queue<FlyingWrite>, other: &Queue<FlyingWrite>) -> bool
     ensures { IsTrue result ↔ (one.now.writes ≡ other.now.writes) }
 {
-    if one.len() != other.len() {
+    one.len() == other.len() && have_same_run(one, 0, other, 0, one.len())
+}
+
+/// Whether a queue's writes in flight without the one at a place are those of another, in one order.
+pub fn have_same_writes_without(
+    one: &Queue<FlyingWrite>,
+    place: usize,
+    other: &Queue<FlyingWrite>,
+) -> bool
+    requires { place < length one.now.writes }
+    ensures { IsTrue result ↔ (remove one.now.writes place ≡ other.now.writes) }
+{
+    if other.len() != one.len() - 1 || !have_same_run(one, 0, other, 0, place) {
         return false;
     }
-    for place in 0..one.len() {
-        if !is_same_at(one, other, place) {
+    have_same_run(one, place + 1, other, place, other.len() - place)
+}
+
+// Whether so many writes are the same, from one place on in the one and from another in the other.
+fn have_same_run(
+    one: &Queue<FlyingWrite>,
+    from: usize,
+    other: &Queue<FlyingWrite>,
+    at: usize,
+    count: usize,
+) -> bool
+    requires from { from + count < 2 ^ 64 }
+    requires at { at + count < 2 ^ 64 }
+    ensures { IsTrue result ↔ ((k : ℕ) → k < count → slice_get one.now.writes (from + k) ≡ slice_get other.now.writes (at + k)) }
+{
+    for k in 0..count {
+        if !is_same_at(one, from + k, other, at + k) {
             return false;
         }
     }
     true
 }
 
-// Whether the same write stands at this place of both, or none.
-fn is_same_at(one: &Queue<FlyingWrite>, other: &Queue<FlyingWrite>, place: usize) -> bool
-    ensures { IsTrue result ↔ (slice_get one.now.writes place ≡ slice_get other.now.writes place) }
+// Whether the same write stands at these places of two queues, or none at both.
+fn is_same_at(
+    one: &Queue<FlyingWrite>,
+    from: usize,
+    other: &Queue<FlyingWrite>,
+    at: usize,
+) -> bool
+    ensures { IsTrue result ↔ (slice_get one.now.writes from ≡ slice_get other.now.writes at) }
 {
-    match (one.label_at(place), other.label_at(place)) {
+    match (one.label_at(from), other.label_at(at)) {
         (Some(write), Some(against)) => write.is_same(against),
         (None, None) => true,
         (Some(_), None) | (None, Some(_)) => false,
     }
 }
 
+/// Whether this write, which is the one at a place in flight, may land: it passes each write before it (PCI Express Base
+/// 4.0, section 2.4).
+pub fn may_land(queue: &Queue<FlyingWrite>, place: usize, write: &FlyingWrite) -> bool
+    requires { slice_get queue.now.writes place ≡ Some write.now }
+    ensures { result ≡ may_land_at (map flying_order queue.now.writes) place }
+{
+    for earlier in 0..place {
+        if let Some(before) = queue.label_at(earlier)
+            && !passes(write, before)
+        {
+            return false;
+        }
+    }
+    true
+}
+
+// Whether a later write may pass an earlier one.
+fn passes(later: &FlyingWrite, earlier: &FlyingWrite) -> bool
+    ensures { result ≡ order_passes later.now.order earlier.now.order }
+{
+    posted_table().passes(
+        later.kind(),
+        later.class(),
+        earlier.kind(),
+        earlier.class(),
+    )
+}
+
 /// Whether two memories have the same bytes.
 pub fn have_same_bytes(one: &Memory, other: &Memory) -> bool
     ensures { IsTrue result ↔ (one.now.bytes ≡ other.now.bytes) }
 {
-    one.len() == other.len() && have_same_range(one, other, 0, one.len())
+    one.len() == other.len() && one.has_same_between(other, 0, one.len())
 }
 
-// Whether they have the same bytes from a page's first on. Of a range of which neither has a page nothing is compared;
-// any other that is longer than a page is halved between pages.
-fn have_same_range(one: &Memory, other: &Memory, at: u64, len: u64) -> bool
-    requires first { at % 512 ≡ 0 }
-    requires here { at + len ≤ length one.now.bytes }
-    requires there { at + len ≤ length other.now.bytes }
-    ensures { IsTrue result ↔ (bytes_at at len one.now.bytes ≡ bytes_at at len other.now.bytes) }
+/// Whether one memory has the bytes of another once these few are written to it from an address on. They have to lie in
+/// it.
+pub fn have_same_bytes_after(one: &Memory, at: u64, bytes: &[u8], other: &Memory) -> bool
+    requires within { at + length bytes.now ≤ length one.now.bytes }
+    requires few { length bytes.now ≤ most_write_bytes }
+    ensures { IsTrue result ↔ (written at bytes.now one.now.bytes ≡ other.now.bytes) }
 {
-    if one.is_blank(at, len) && other.is_blank(at, len) {
-        return true;
+    if one.len() != other.len() || !has_bytes(other, at, bytes) {
+        return false;
     }
-    if len <= PAGE_SIZE {
-        return one.has_same_on_page(other, at, len as usize);
-    }
-    prove!(at <= one.len() - len);
-    let half = len.div_ceil(PAGE_SIZE) / 2 * PAGE_SIZE;
-    have_same_range(one, other, at, half) && have_same_range(one, other, at + half, len - half)
+    prove!(at <= one.len() - bytes.len() as u64);
+    one.has_same_between(other, 0, at)
+        && one.has_same_between(other, at + bytes.len() as u64, one.len())
+}
+
+// Whether a memory has these few bytes from an address on.
+fn has_bytes(memory: &Memory, at: u64, bytes: &[u8]) -> bool
+    requires within { at + length bytes.now ≤ length memory.now.bytes }
+    requires few { length bytes.now ≤ most_write_bytes }
+    ensures { IsTrue result ↔ (bytes_at at (length bytes.now) memory.now.bytes ≡ bytes.now) }
+{
+    let mut room = [0u8; 128];
+    let read = &mut room[..bytes.len()];
+    memory.read(at, read);
+    &*read == bytes
 }

@@ -1,5 +1,5 @@
 -- From which place on nothing lands, and the keys of what is in flight.
-use Rattle.std.proofs.Common.{◌≡◌, ◌∙◌, ℕ, zero, suc, ◌<◌, ◌≤◌, List, [], ◌∷◌, ◌++◌, Option, Some, None, length, map, take, refl, sym, ap, subst, arith}
+use Rattle.std.proofs.Common.{◌≡◌, ◌∙◌, ℕ, zero, suc, ◌<◌, ◌≤◌, List, [], ◌∷◌, ◌++◌, Option, Some, None, length, map, remove, take, refl, sym, ap, subst, arith}
 use Rattle.std.specs.Prelude.{option_map, slice_get}
 use Rattle.std.specs.List.{flat_map}
 use Rattle.std.proofs.lemmas.List.{append-nil, append_assoc}
@@ -41,6 +41,19 @@ lands_none fabric pair side among plan steps made place beyond =
     goes_on plan steps (Land pair side place) Nothing
     (sym (none_there (pair_of fabric pair).bridge side place beyond)
     ∙ (each_step_stands plan steps (Land pair side place) (pair_of fabric pair) made.declared made.permitted may may (made.stands.pairs pair may)).0)
+
+-- The key without a write
+
+-- a list without an item that it hasn't is the list
+pub without_none : {X : Type 0} (xs : List X) (n : ℕ) → length xs ≤ n → remove xs n ≡ xs
+without_none [] zero past = refl
+without_none [] (suc n) past = refl
+without_none (x ∷ xs) zero past = absurd (omega (arith, past))
+without_none (x ∷ xs) (suc n) past = ap (λ rest. x ∷ rest) (without_none xs n (omega (arith, past)))
+
+-- the key of the writes before a place, without one of them
+abbrev pub key_before_without : List Flying → ℕ → ℕ → List ℕ
+key_before_without writes without place = flat_map (λ (flying : Flying). label_key flying.label) (remove (take place writes) without)
 
 -- The key of one write more
 

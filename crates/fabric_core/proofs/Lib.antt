@@ -5,6 +5,7 @@ pub mod FrameTurns
 pub mod FreshFabrics
 pub mod FreshQueues
 pub mod InFlight
+pub mod LandedFabrics
 pub mod LogCounts
 pub mod MorePages
 pub mod OneFlight

@@ -19,7 +19,7 @@ use Rattle.bridge_pair.specs.declared.book.SideBook.{SideBook}
 use Rattle.fabric_rule.specs.Parts.{PairState, QueuePart, SessionCount, count_in, no_queue, plain_bridge, queues_of}
 use Rattle.fabric_core.specs.Fabric.{no_state}
 use Rattle.fabric_core.specs.Parts.{IsWhole}
-use Rattle.fabric_core.specs.Same.{AreOfOneSide, AreSameCounts, AreSameParts, AreSameWhereCounted, IsSamePair, IsSamePart, plan_at}
+use Rattle.fabric_core.specs.Same.{AreOfOneSide, AreSameCounts, AreSameParts, AreSameWhereCounted, HasSameQueues, IsSamePair, IsSamePart, plan_at}
 use Rattle.fabric_core.specs.Sessions.{AreApart, IsNowhere, IsPlaceOf, count_seen, no_count}
 use Rattle.fabric_core.specs.declared.counts.OfSession.{OfSession}
 use Rattle.fabric_core.proofs.SessionTallies.{count_in-nowhere, count_in-there}
@@ -212,20 +212,24 @@ same_by_plain one other same =
     same_writes one other same A = ap (λ (bridge : Bridge). (flight_of bridge A).writes) same
     same_writes one other same B = ap (λ (bridge : Bridge). (flight_of bridge B).writes) same
 
--- pairs are the same where their bridges and the queues of both sides are
-pub same_pair_of : (pair other : PairState) → pair.bridge.plan ≡ other.bridge.plan → IsSameBridge pair.bridge other.bridge → AreSameParts pair.queues.a other.queues.a → AreSameParts pair.queues.b other.queues.b → IsSamePair pair other
-same_pair_of pair other plans bridge a b = record { bridge = plain_same pair.bridge other.bridge plans bridge; queues = by_side } where
-  by_side : (side : Side) → AreSameParts (queues_of pair side) (queues_of other side)
-  by_side A = a
-  by_side B = b
+-- the queues of both sides are the same where those of each are
+pub both_sides : (pair other : PairState) → AreSameParts pair.queues.a other.queues.a → AreSameParts pair.queues.b other.queues.b → HasSameQueues pair other
+both_sides pair other a b A = a
+both_sides pair other a b B = b
 
--- so the tests on these say whether the pairs are the same
-pub pair_test : (pair other : PairState) (value : Bool) → pair.bridge.plan ≡ other.bridge.plan →
-    (IsTrue value ↔ ((IsSameBridge pair.bridge other.bridge × AreSameParts pair.queues.a other.queues.a) × AreSameParts pair.queues.b other.queues.b)) → IsTrue value ↔ IsSamePair pair other
-pair_test pair other value plans tests = (
-  λ yes. let same = tests.0 yes in same_pair_of pair other plans same.0.0 same.0.1 same.1,
-  λ same. tests.1 ((same_by_plain pair.bridge other.bridge same.bridge, same.queues A), same.queues B),
-)
+-- so the tests on these say whether they are
+pub queues_test : (pair other : PairState) (value : Bool) → (IsTrue value ↔ (AreSameParts pair.queues.a other.queues.a × AreSameParts pair.queues.b other.queues.b)) → IsTrue value ↔ HasSameQueues pair other
+queues_test pair other value tests = (λ yes. let same = tests.0 yes in both_sides pair other same.0 same.1, λ same. tests.1 (same A, same B))
+
+-- what is so of two bridges is so of those that contracts see
+pub bridges_seen : (R : Bridge → Bridge → Type 0) (kept other told shown : PairState) → kept ≡ told → other ≡ shown → R kept.bridge other.bridge → R told.bridge shown.bridge
+bridges_seen R kept other told shown is are holds =
+    subst (λ (pair : PairState). R pair.bridge shown.bridge) is (subst (λ (pair : PairState). R kept.bridge pair.bridge) are holds)
+
+-- pairs are the same where their bridges and the queues of both sides are
+pub same_pair_of : (pair other : PairState) → pair.bridge.plan ≡ other.bridge.plan → IsSameBridge pair.bridge other.bridge → HasSameQueues pair other → IsSamePair pair other
+same_pair_of pair other plans bridge queues = record { bridge = plain_same pair.bridge other.bridge plans bridge; queues = queues }
+
 
 -- Lists of them, by place
 

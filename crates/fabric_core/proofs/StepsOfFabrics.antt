@@ -379,7 +379,7 @@ pub same_plan : (old new : FabricState) → MadeSome (plan_kept old) new → pla
 same_plan old new some = plan_of_standing (plan_kept old) some.steps new some.made.stands
 
 module _ (old : FabricState) (step : Step) (pair : PairState) (may : IsPermitted (plan_kept old) step) where
-  permitted_by : (plan : Plan) (steps : List Step) → HasMade plan steps old → IsPermitted plan step
+  pub permitted_by : (plan : Plan) (steps : List Step) → HasMade plan steps old → IsPermitted plan step
   permitted_by plan steps made = permitted_bare plan step (subst (λ plan. IsPermitted plan step) (plan_of_standing plan steps old made.stands) may)
 
   pub among_pairs : subject_of step < length old.pairs

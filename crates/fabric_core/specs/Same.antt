@@ -1,10 +1,11 @@
 -- Fabrics that no step can tell apart. Left out is what is promised, what a port keeps of an entry that it has posted
 -- whole, the limits of a device, which are the plan's, and the order in which sessions are counted.
-use Rattle.std.specs.Prelude.{◌≡◌, ℕ, ◌<◌, List, length, slice_index_or}
+use Rattle.std.specs.Prelude.{◌≡◌, ◌≢◌, ℕ, ◌<◌, List, length, slice_index_or}
 use Rattle.step_kinds.specs.declared.names.Side.{Side}
 use Rattle.step_kinds.specs.declared.plan.PairPlan.{PairPlan}
 use Rattle.step_kinds.specs.declared.plan.Plan.{Plan}
 use Rattle.step_kinds.specs.declared.steps.Step.{Step}
+use Rattle.bridge_pair.specs.Same.{LandsAs}
 use Rattle.queue_pair.specs.Same.{IsSameQueue}
 use Rattle.fabric_rule.specs.Parts.{PairState, QueuePart, SessionCount, count_in, no_queue, plain_bridge, queues_of}
 use Rattle.fabric_core.specs.Fabric.{FabricState, no_state}
@@ -34,6 +35,19 @@ pub record AreSameParts (parts others : List QueuePart) : Type 0 where
 pub record IsSamePair (pair other : PairState) : Type 0 where
   pub bridge : plain_bridge pair.bridge ≡ plain_bridge other.bridge
   pub queues : (side : Side) → AreSameParts (queues_of pair side) (queues_of other side)
+
+-- no step tells the queues of both sides apart
+abbrev pub HasSameQueues : PairState → PairState → Type 0
+HasSameQueues pair other = (side : Side) → AreSameParts (queues_of pair side) (queues_of other side)
+
+-- the write at a place of those that a side has in flight may land, and then no step tells the pair apart from another
+pub record LandsAsPair (pair : PairState) (side : Side) (place : ℕ) (other : PairState) : Type 0 where
+  pub bridge : LandsAs pair.bridge side place other.bridge
+  pub queues : HasSameQueues pair other
+
+-- no step tells the pairs at each place apart, but for one place
+abbrev pub AreSameBut : List PairState → List PairState → ℕ → Type 0
+AreSameBut pairs others but = (k : ℕ) → k < length pairs → k ≢ but → IsSamePair (slice_index_or pairs k no_state) (slice_index_or others k no_state)
 
 pub record AreSamePairs (pairs others : List PairState) : Type 0 where
   pub all : length pairs ≡ length others

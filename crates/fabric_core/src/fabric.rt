@@ -4,15 +4,18 @@ ghost use Rattle.std.specs.Prelude.{IfOk, IsErr, IsTrue, List, OnErr, OnOk, [], 
 ghost use Rattle.std.specs.List.{flat_map};
 ghost use Rattle.bridge_pair.specs.Bridge.{flight_of};
 ghost use Rattle.fabric_core.specs.Fabric.{StandsFor, bare_plan, may_want_memory, pair_of, plain, plan_kept};
-ghost use Rattle.fabric_core.specs.InFlight.{LandsNoneFrom, fabric_key, pair_key};
-ghost use Rattle.fabric_core.specs.LogClauses.{AreCounters, HasMade, IsAccepted, IsDelivered, IsSession};
+ghost use Rattle.fabric_core.specs.InFlight.{LandsNoneFrom, fabric_key, fabric_key_without, pair_key};
+ghost use Rattle.fabric_core.specs.LogClauses.{AreCounters, HasMade, IsAccepted, IsAnswered, IsDelivered, IsSession};
 ghost use Rattle.fabric_core.specs.FabricStep.{HasStepped};
-ghost use Rattle.fabric_core.specs.Same.{AreSamePairs, plan_at};
+ghost use Rattle.fabric_core.specs.Same.{AreSameBut, AreSamePairs, plan_at};
 ghost use Rattle.fabric_rule.specs.Parts.{queue_of};
 ghost use Rattle.plan_model.specs.DeclaredPlans.{IsDeclared, IsPairOf, IsPermitted, IsQueueOf};
 ghost use Rattle.step_kinds.specs.Sides.{other_side};
 ghost use Rattle.step_kinds.specs.declared.plan.Plan.{Plan as DeclaredPlan};
+ghost use Rattle.step_kinds.specs.declared.steps.Answer.TheVariants.{Landed};
+ghost use Rattle.step_kinds.specs.declared.steps.Label.{Label as LabelValue};
 ghost use Rattle.step_kinds.specs.declared.steps.Step.{Step as MadeStep};
+ghost use Rattle.step_kinds.specs.declared.steps.Step.TheVariants.{Land};
 
 use crate::pairs::PairBox;
 use crate::queues::QueueBox;
@@ -147,6 +150,23 @@ impl Fabric {
         are_same_pairs(&self.pairs, &other.pairs)
     }
 
+    /// Whether the write at this place of those that a side of a pair has in flight may land, and no step can then tell
+    /// the fabric apart from another, as [`Fabric::is_same`] has it. The pair has to be one of the fabric's, and both
+    /// have to be of the same pairs and devices.
+    ///
+    /// Where the answer is `true`, the other stands for whatever steps this one stands for and the landing after them.
+    /// Where it stands for such a list, and the landing is answered `landed`, the answer is `true`. It is found out
+    /// without landing the write, and takes no memory.
+    pub fn lands_as(&self, pair: u32, side: Side, place: usize, other: &Fabric) -> bool
+        requires plans { plan_kept self.now ≡ plan_kept other.now }
+        requires pair { IsPairOf (plan_kept self.now) pair }
+        ensures merges { result ≡ true → (plan : DeclaredPlan) (steps : List MadeStep) → HasMade plan steps self.now → HasMade plan (steps ++ Land pair side place ∷ []) other.now }
+        ensures apart { (plan : DeclaredPlan) (steps : List MadeStep) (label : LabelValue) → HasMade plan steps self.now → IsAnswered plan steps (Land pair side place) (Landed label) → HasMade plan (steps ++ Land pair side place ∷ []) other.now → result ≡ true }
+    {
+        self.pair(pair).lands_as(side, place, other.pair(pair))
+            && are_same_but(&self.pairs, &other.pairs, pair as usize)
+    }
+
     /// A fabric in the same state, with the same promises. It stands for whatever steps this one stands for.
     ///
     /// # Errors
@@ -182,6 +202,28 @@ impl Fabric {
     {
         push_keys(key, &self.pairs)
     }
+
+    /// Adds the key without the write at a place of those that a side of a pair has in flight, if there is one: once it
+    /// has landed, this is the key. The pair has to be one of the fabric's.
+    ///
+    /// # Errors
+    ///
+    /// [`AllocError`] from out of memory alone. A part of the key may then be there.
+    pub fn push_key_without(
+        &self,
+        pair: u32,
+        side: Side,
+        place: usize,
+        key: &mut Vec<u8>,
+    ) -> Result<(), AllocError>
+        requires { IsPairOf (plan_kept self.now) pair }
+        ensures { OnOk result (key.new.items ≡ key.old.items ++ fabric_key_without self.now pair side place) }
+    {
+        let k = pair as usize;
+        push_keys(key, &self.pairs[..k])?;
+        self.pair(pair).push_key_without(side, place, key)?;
+        push_keys(key, &self.pairs[k + 1..])
+    }
 }
 
 impl Model for Fabric {
@@ -203,6 +245,19 @@ fn are_same_pairs(pairs: &[PairBox], others: &[PairBox]) -> bool
 {
     for k in 0..pairs.len() {
         if !pairs[k].is_same(&others[k]) {
+            return false;
+        }
+    }
+    true
+}
+
+// Whether no step can tell pairs apart, which are of the same plans, but for one of them.
+fn are_same_but(pairs: &[PairBox], others: &[PairBox], but: usize) -> bool
+    requires { map plan_at pairs.now ≡ map plan_at others.now }
+    ensures { IsTrue result ↔ AreSameBut pairs.now others.now but }
+{
+    for k in 0..pairs.len() {
+        if k != but && !pairs[k].is_same(&others[k]) {
             return false;
         }
     }

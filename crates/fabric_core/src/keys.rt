@@ -1,7 +1,7 @@
 //! Keys of what is in flight, by which few states are looked at.
 
 ghost use Rattle.std.specs.Prelude.{◌≡◌, ◌++◌, OnOk};
-ghost use Rattle.fabric_core.specs.InFlight.{flight_key, label_key as key_of_label, low_byte as byte_of};
+ghost use Rattle.fabric_core.specs.InFlight.{flight_key, flight_key_without, label_key as key_of_label, low_byte as byte_of};
 
 use bridge_pair::Pair;
 use std::alloc::AllocError;
@@ -15,8 +15,26 @@ use step_kinds::{Label, Side};
 pub fn push_flight(key: &mut Vec<u8>, pair: &Pair, side: Side) -> Result<(), AllocError>
     ensures { OnOk result (key.new.items ≡ key.old.items ++ flight_key pair.now side) }
 {
+    push_flight_without(key, pair, side, pair.in_flight(side))
+}
+
+/// Adds the key of what a side has in flight without the write at a place, if there is one.
+///
+/// # Errors
+///
+/// [`AllocError`] from out of memory alone. A part of the key may then be there.
+pub fn push_flight_without(
+    key: &mut Vec<u8>,
+    pair: &Pair,
+    side: Side,
+    without: usize,
+) -> Result<(), AllocError>
+    ensures { OnOk result (key.new.items ≡ key.old.items ++ flight_key_without pair.now side without) }
+{
     for place in 0..pair.in_flight(side) {
-        if let Some(label) = pair.label_at(side, place) {
+        if place != without
+            && let Some(label) = pair.label_at(side, place)
+        {
             key.extend_from_slice(&label_key(label))?;
         }
     }

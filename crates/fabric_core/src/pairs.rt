@@ -3,10 +3,10 @@
 ghost use Rattle.std.specs.Prelude.{IfOk, IsErr, IsTrue, OnErr, OnOk, length, map, slice_index_or, slice_set, true, ◌++◌, ◌<◌, ◌↔◌, ◌≡◌};
 ghost use Rattle.bridge_pair.specs.Bridge.{flight_of, pages_of};
 ghost use Rattle.fabric_core.specs.Fabric.{may_want_memory};
-ghost use Rattle.fabric_core.specs.InFlight.{pair_key};
+ghost use Rattle.fabric_core.specs.InFlight.{pair_key, pair_key_without};
 ghost use Rattle.fabric_core.specs.Parts.{Agrees, AreAlone, AreFreshQueues, AreLimitsOn, CanForget, CanMake, CanTurnQueue, HasOtherRoom, KeepsPort};
 ghost use Rattle.fabric_core.specs.Promises.{CanTurn};
-ghost use Rattle.fabric_core.specs.Same.{AreOfOneSide, AreSameParts, IsSamePair};
+ghost use Rattle.fabric_core.specs.Same.{AreOfOneSide, AreSameParts, HasSameQueues, IsSamePair, LandsAsPair};
 ghost use Rattle.fabric_core.specs.Turns.{bridge_turn, queue_turn, turned};
 ghost use Rattle.fabric_core.specs.Wants.{MayWant, counters_at};
 ghost use Rattle.ledger_laws.specs.Laws.{is_made};
@@ -22,7 +22,7 @@ ghost use Rattle.step_kinds.specs.declared.names.Side.TheVariants.{A, B};
 
 use crate::answers::refusal_answer;
 use crate::bridge_steps::bridge_step;
-use crate::keys::push_flight;
+use crate::keys::{push_flight, push_flight_without};
 use crate::places::{StepPlace, place_of};
 use crate::queues::QueueBox;
 use bridge_pair::Pair;
@@ -167,8 +167,24 @@ impl PairBox {
         requires { self.now.bridge.plan ≡ other.now.bridge.plan }
         ensures { IsTrue result ↔ IsSamePair self.now other.now }
     {
-        self.pair.is_same(&other.pair)
-            && are_same_queues(&self.queues_a, &other.queues_a)
+        self.pair.is_same(&other.pair) && self.has_same_queues(other)
+    }
+
+    /// Whether the write at this place of those that a side has in flight may land, and no step can then tell the pair apart
+    /// from another of its plan. It is found out without landing the write, and takes no memory.
+    pub fn lands_as(&self, side: Side, place: usize, other: &PairBox) -> bool
+        requires { self.now.bridge.plan ≡ other.now.bridge.plan }
+        ensures { IsTrue result ↔ LandsAsPair self.now side place other.now }
+    {
+        self.pair.lands_as(side, place, &other.pair) && self.has_same_queues(other)
+    }
+
+    // Whether no step can tell the queues of both sides apart.
+    fn has_same_queues(&self, other: &PairBox) -> bool
+        requires { self.now.bridge.plan ≡ other.now.bridge.plan }
+        ensures { IsTrue result ↔ HasSameQueues self.now other.now }
+    {
+        are_same_queues(&self.queues_a, &other.queues_a)
             && are_same_queues(&self.queues_b, &other.queues_b)
     }
 
@@ -205,6 +221,31 @@ impl PairBox {
     {
         push_flight(key, &self.pair, Side::A)?;
         push_flight(key, &self.pair, Side::B)
+    }
+
+    /// Adds the key of what both sides have in flight without the write at a place of one of them.
+    ///
+    /// # Errors
+    ///
+    /// [`AllocError`] from out of memory alone. A part of the key may then be there.
+    pub fn push_key_without(
+        &self,
+        side: Side,
+        place: usize,
+        key: &mut Vec<u8>,
+    ) -> Result<(), AllocError>
+        ensures { OnOk result (key.new.items ≡ key.old.items ++ pair_key_without self.now side place) }
+    {
+        match side {
+            Side::A => {
+                push_flight_without(key, &self.pair, Side::A, place)?;
+                push_flight(key, &self.pair, Side::B)
+            }
+            Side::B => {
+                push_flight(key, &self.pair, Side::A)?;
+                push_flight_without(key, &self.pair, Side::B, place)
+            }
+        }
     }
 }
 

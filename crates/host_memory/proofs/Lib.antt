@@ -3,6 +3,7 @@ pub mod MemoryPages
 pub mod OnPage
 pub mod Pieces
 pub mod PromisedPages
+pub mod SameBetween
 pub mod SamePages
 pub mod Table
 pub mod Writes

@@ -48,6 +48,15 @@ AreAbsent at len promised = (page : ℕ) → Touches at len page → ¬ Contains
 abbrev pub AreZero : ℕ → ℕ → List ℕ → Type 0
 AreZero at len mem = (i : ℕ) → i < len → slice_index_or mem (at + i) 0 ≡ 0
 
+-- two memories have the same bytes at all addresses from one up to another
+abbrev pub AreSameBetween : ℕ → ℕ → List ℕ → List ℕ → Type 0
+AreSameBetween from to mem other = (address : ℕ) → from ≤ address → address < to → slice_index_or mem address 0 ≡ slice_index_or other address 0
+
+-- and at those of them that lie on a page
+abbrev pub AreSameOnPage : ℕ → ℕ → ℕ → List ℕ → List ℕ → Type 0
+AreSameOnPage page from to mem other =
+    (address : ℕ) → from ≤ address → address < to → page_of address ≡ page → slice_index_or mem address 0 ≡ slice_index_or other address 0
+
 -- no page stands twice
 abbrev pub NoRepeats : List ℕ → Type 0
 NoRepeats pages = (i j : ℕ) → i < j → j < length pages → slice_index pages i ≢ slice_index pages j

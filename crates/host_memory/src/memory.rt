@@ -1,7 +1,7 @@
 //! The memory of a host, kept in pages.
 
 ghost use Rattle.std.specs.Prelude.{◌≡◌, ◌↔◌, ℕ, ◌+◌, ◌-◌, ◌%◌, ◌<◌, ◌≤◌, ◌^◌, ◌⊎◌, [], length, replicate, Contains, IfOk, IsOk, IsTrue, OnOk, OnErr};
-ghost use Rattle.host_memory.specs.Memory.{AreAbsent, AreNotAmong, ArePromised, AreZero, NoRepeats, Touches, bytes_at, page_of, word_at, word_bytes, written};
+ghost use Rattle.host_memory.specs.Memory.{AreAbsent, AreNotAmong, ArePromised, AreSameBetween, AreSameOnPage, AreZero, NoRepeats, Touches, bytes_at, page_of, word_at, word_bytes, written};
 
 use crate::pages::Pages;
 use byteorder::{ByteOrder, LittleEndian};
@@ -105,22 +105,22 @@ impl Memory {
         }
     }
 
-    /// Whether the `len` bytes from the address `at` on are the same in two memories. They have to lie in both, and on
-    /// one page. A page that isn't there reads as zeros. It takes no memory.
-    pub fn has_same_on_page(&self, other: &Memory, at: u64, len: usize) -> bool
-        requires here { at + len ≤ length self.now.bytes }
-        requires there { at + len ≤ length other.now.bytes }
-        requires one_page { at % 512 + len ≤ 512 }
-        ensures { IsTrue result ↔ (bytes_at at len self.now.bytes ≡ bytes_at at len other.now.bytes) }
+    /// Whether two memories have the same bytes at all addresses from one up to another, which have to lie in both. Pages
+    /// that neither has aren't looked at. It takes no memory.
+    pub fn has_same_between(&self, other: &Memory, from: u64, to: u64) -> bool
+        requires here { to ≤ length self.now.bytes }
+        requires there { to ≤ length other.now.bytes }
+        ensures { IsTrue result ↔ AreSameBetween from to self.now.bytes other.now.bytes }
     {
-        let start = (at % PAGE_SIZE) as usize;
-        let number = at / PAGE_SIZE;
-        match (self.pages.get(number), other.pages.get(number)) {
-            (Some(page), Some(against)) => page[start..start + len] == against[start..start + len],
-            (Some(page), None) => are_zeros(&page[start..start + len]),
-            (None, Some(page)) => are_zeros(&page[start..start + len]),
-            (None, None) => true,
+        if !self.has_same_on_own(other, from, to) {
+            return false;
         }
+        for &page in &other.promised {
+            if self.pages.get(page).is_none() && !self.has_same_part(other, page, from, to) {
+                return false;
+            }
+        }
+        true
     }
 
     /// Reads the bytes from the address `at` on into the whole of `out`. They have to lie in the memory: `at` and the
@@ -201,6 +201,53 @@ impl Memory {
             return Ok(());
         }
         self.promise_pages(at, len)
+    }
+
+    // Whether the same bytes stand there on each page that this memory has.
+    fn has_same_on_own(&self, other: &Memory, from: u64, to: u64) -> bool
+        requires here { to ≤ length self.now.bytes }
+        requires there { to ≤ length other.now.bytes }
+        ensures { IsTrue result ↔ ((page : ℕ) → Contains self.now.promised page → AreSameOnPage page from to self.now.bytes other.now.bytes) }
+    {
+        for &page in &self.promised {
+            if !self.has_same_part(other, page, from, to) {
+                return false;
+            }
+        }
+        true
+    }
+
+    // The same, asked of one page.
+    fn has_same_part(&self, other: &Memory, page: u64, from: u64, to: u64) -> bool
+        requires here { to ≤ length self.now.bytes }
+        requires there { to ≤ length other.now.bytes }
+        ensures { IsTrue result ↔ AreSameOnPage page from to self.now.bytes other.now.bytes }
+    {
+        let start = page.saturating_mul(PAGE_SIZE);
+        let first = start.max(from);
+        let end = start.saturating_add(PAGE_SIZE).min(to);
+        if end <= first {
+            return true;
+        }
+        self.has_same_on_page(other, first, (end - first) as usize)
+    }
+
+    // Whether the `len` bytes from the address `at` on are the same in two memories. They have to lie in both, and on one
+    // page. A page that isn't there reads as zeros.
+    fn has_same_on_page(&self, other: &Memory, at: u64, len: usize) -> bool
+        requires here { at + len ≤ length self.now.bytes }
+        requires there { at + len ≤ length other.now.bytes }
+        requires one_page { at % 512 + len ≤ 512 }
+        ensures { IsTrue result ↔ (bytes_at at len self.now.bytes ≡ bytes_at at len other.now.bytes) }
+    {
+        let start = (at % PAGE_SIZE) as usize;
+        let number = at / PAGE_SIZE;
+        match (self.pages.get(number), other.pages.get(number)) {
+            (Some(page), Some(against)) => page[start..start + len] == against[start..start + len],
+            (Some(page), None) => are_zeros(&page[start..start + len]),
+            (None, Some(page)) => are_zeros(&page[start..start + len]),
+            (None, None) => true,
+        }
     }
 
     // Whether none of the promised pages is one of the pages from `first` to `last`.
