@@ -1,7 +1,5 @@
 -- When a bridge is the same as another once one write has landed.
 use Rattle.std.proofs.Common.{◌≡◌, ◌∙◌, ℕ, ap, refl, subst, sym}
-use Rattle.plan_model.specs.Both.{Both}
-use Rattle.plan_model.specs.Link.{Link}
 use Rattle.step_kinds.specs.declared.names.Side.{Side}
 use Rattle.step_kinds.specs.declared.names.Side.TheVariants.{A, B}
 use Rattle.step_kinds.specs.Sides.{other_side}
@@ -12,9 +10,8 @@ use Rattle.bridge_pair.specs.Bridge.{Bridge, flight_of, with_flight}
 use Rattle.bridge_pair.specs.Calls.{after_land, after_landed, arrived, landing}
 use Rattle.bridge_pair.specs.Ends.{End, after_arrival}
 use Rattle.bridge_pair.specs.Flights.{Flying, flying_order}
-use Rattle.bridge_pair.specs.Same.{EndsLandAs, HasSameEnds, IsSameBridge, IsSameEnd, LandsAs, LandsAsEnd}
+use Rattle.bridge_pair.specs.Same.{EndsLandAs, HasSameEnds, IsSameEnd, LandsAs, LandsAsEnd}
 use Rattle.bridge_pair.specs.Views.{bridge_seen}
-use Rattle.bridge_pair.specs.declared.book.SideBook.{SideBook}
 use Rattle.bridge_pair.specs.declared.flying_write.Arrival.{Arrival}
 use Rattle.bridge_pair.specs.declared.flying_write.Arrival.TheVariants.{AtAddress, AtBell, AtPad}
 use Rattle.bridge_pair.specs.declared.pair.Pair.TheInside.{Inside}
@@ -117,24 +114,24 @@ module _ (one other : Inside) (place : ℕ) (seen shown : Bridge) (is : bridge_s
 
 -- The whole bridge
 
--- what a landing leaves: the link, the books and the plan
-abbrev pub HasSameRest : Bridge → Bridge → Type 0
-HasSameRest new old = (new.link ≡ old.link) × (new.books ≡ old.books) × (new.plan ≡ old.plan)
+-- what a landing leaves: the link and the books
+abbrev HasSameRest : Bridge → Bridge → Type 0
+HasSameRest new old = (new.link ≡ old.link) × (new.books ≡ old.books)
 
 arrived_rest : (bridge : Bridge) (side : Side) (arrival : Arrival) → HasSameRest (arrived bridge side arrival) bridge
-arrived_rest bridge side (AtAddress at bytes) = (refl, refl, refl)
-arrived_rest bridge side (AtPad index value) = (refl, refl, refl)
-arrived_rest bridge side (AtBell bit) = (refl, refl, refl)
+arrived_rest bridge side (AtAddress at bytes) = (refl, refl)
+arrived_rest bridge side (AtPad index value) = (refl, refl)
+arrived_rest bridge side (AtBell bit) = (refl, refl)
 
-pub rest_stays : (bridge : Bridge) (side : Side) (place : ℕ) → HasSameRest (after_land bridge side place) bridge
+rest_stays : (bridge : Bridge) (side : Side) (place : ℕ) → HasSameRest (after_land bridge side place) bridge
 rest_stays bridge side place = by_answer (landing bridge side place) where
   taken : Bridge
   taken = with_flight bridge side (after_landing flying_order (flight_of bridge side) place)
 
   by_answer : (answer : LandAnswer Flying) → HasSameRest (after_landed taken (other_side side) answer) bridge
   by_answer (Landed flying) = arrived_rest taken (other_side side) flying.arrival
-  by_answer Blocked = (refl, refl, refl)
-  by_answer Nothing = (refl, refl, refl)
+  by_answer Blocked = (refl, refl)
+  by_answer Nothing = (refl, refl)
 
 -- so the whole is the same where link, books and ends are
 pub lands_whole : (bridge : Bridge) (side : Side) (place : ℕ) (other : Bridge) → bridge.link ≡ other.link → bridge.books ≡ other.books → EndsLandAs bridge side place other → LandsAs bridge side place other
@@ -153,6 +150,7 @@ lands_whole bridge side place other link books lands =
       };
     }
 
+-- and where the whole is, the ends are
 pub ends_of_whole : (bridge : Bridge) (side : Side) (place : ℕ) (other : Bridge) → LandsAs bridge side place other → EndsLandAs bridge side place other
 ends_of_whole bridge side place other lands =
     record {
@@ -160,9 +158,3 @@ ends_of_whole bridge side place other lands =
       lands = lands.lands;
       same = record { pads = lands.same.pads; bells = lands.same.bells; bytes = lands.same.bytes; writes = lands.same.writes };
     }
-
-pub link_of_whole : (bridge : Bridge) (side : Side) (place : ℕ) (other : Bridge) → LandsAs bridge side place other → bridge.link ≡ other.link
-link_of_whole bridge side place other lands = sym (rest_stays bridge side place).0 ∙ lands.same.link
-
-pub books_of_whole : (bridge : Bridge) (side : Side) (place : ℕ) (other : Bridge) → LandsAs bridge side place other → bridge.books ≡ other.books
-books_of_whole bridge side place other lands = sym (rest_stays bridge side place).1 ∙ lands.same.books

@@ -46,23 +46,7 @@ same_after at bytes one other within size there before after =
     (cases_lt k (at + length bytes)))
     (cases_lt k at))
 
--- and these are there then
-pub there_after : (at : ℕ) (bytes one other : List ℕ) → at + length bytes ≤ length one → written at bytes one ≡ other → bytes_at at (length bytes) other ≡ bytes
-there_after at bytes one other within same =
-    let size : length (bytes_at at (length bytes) (written at bytes one)) ≡ length bytes = grind (arith, places, size_written at bytes one within) in
-    subst (λ (other : List ℕ). bytes_at at (length bytes) other ≡ bytes) same
-    (all_same (bytes_at at (length bytes) (written at bytes one)) bytes size
-    (λ k from to.
-    let less : k < length bytes = omega (arith, to, size) in
-    in_range at (length bytes) k (written at bytes one) less ∙ within_written at bytes one k within less))
-
-pub same_before : (at : ℕ) (bytes one other : List ℕ) → at + length bytes ≤ length one → written at bytes one ≡ other → AreSameBetween 0 at one other
-same_before at bytes one other within same k from low =
-    sym (before_written at bytes one k within low) ∙ ap (λ (bytes : List ℕ). slice_index_or bytes k 0) same
-
+-- and then all after them is the same
 pub same_beyond : (at : ℕ) (bytes one other : List ℕ) → at + length bytes ≤ length one → written at bytes one ≡ other → AreSameBetween (at + length bytes) (length one) one other
 same_beyond at bytes one other within same k above to =
     sym (after_written at bytes one k within above) ∙ ap (λ (bytes : List ℕ). slice_index_or bytes k 0) same
-
-pub size_after : (at : ℕ) (bytes one other : List ℕ) → at + length bytes ≤ length one → written at bytes one ≡ other → length one ≡ length other
-size_after at bytes one other within same = sym (size_written at bytes one within) ∙ ap (λ (bytes : List ℕ). length bytes) same

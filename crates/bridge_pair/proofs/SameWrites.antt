@@ -51,13 +51,7 @@ same_without (x ∷ xs) (y ∷ ys) (suc place) within all before after =
     sym (next_of x xs (suc place + 1 + k) (place + 1 + k) (omega arith)) ∙ after k (omega (arith, less)) ∙ next_of y ys (suc place + k) (place + k) (omega arith)) in
     cc
 
--- what stands before the item, and after it
-pub before_removed : {X : Type 0} (xs : List X) (place k : ℕ) → k < place → place < length xs → slice_get xs k ≡ slice_get (remove xs place) k
-before_removed [] place k low within = absurd (omega (arith, within))
-before_removed (x ∷ xs) zero k low within = absurd (omega (arith, low))
-before_removed (x ∷ xs) (suc place) zero low within = refl
-before_removed (x ∷ xs) (suc place) (suc k) low within = before_removed xs place k (omega (arith, low)) (omega (arith, within))
-
+-- what stands after an item, once it is removed
 pub after_removed : {X : Type 0} (xs : List X) (place k : ℕ) → place < length xs → slice_get xs (place + 1 + k) ≡ slice_get (remove xs place) (place + k)
 after_removed [] place k within = absurd (omega (arith, within))
 after_removed (x ∷ xs) zero k within =
@@ -65,12 +59,6 @@ after_removed (x ∷ xs) zero k within =
     next_of x xs (0 + 1 + k) k (omega arith) ∙ ap (slice_get xs) at
 after_removed (x ∷ xs) (suc place) k within =
     next_of x xs (suc place + 1 + k) (place + 1 + k) (omega arith) ∙ after_removed xs place k (omega (arith, within)) ∙ sym (next_of x (remove xs place) (suc place + k) (place + k) (omega arith))
-
--- a list without one item has one less
-pub size_without : {X : Type 0} (xs : List X) (place : ℕ) → place < length xs → length (remove xs place) + 1 ≡ length xs
-size_without [] place within = absurd (omega (arith, within))
-size_without (x ∷ xs) zero within = omega arith
-size_without (x ∷ xs) (suc place) within = let rest = size_without xs place (omega (arith, within)) in omega (arith, rest)
 
 -- When a write may land
 
@@ -101,6 +89,7 @@ by_each order writes place write at =
     ∙ ap (list_all (passes (order write))) (take-map order place writes)
     ∙ list_all-map (passes (order write)) order (take place writes)
 
+-- so it may land where it passes each of them
 pub passes_all : {W : Type 0} (order : W → Order) (writes : List W) (place : ℕ) (write : W) → slice_get writes place ≡ Some write
     → ((k : ℕ) (earlier : W) → k < place → slice_get writes k ≡ Some earlier → passes (order write) (order earlier) ≡ true) → may_land (map order writes) place ≡ true
 passes_all order writes place write is all = by_each order writes place write is ∙ all_true _ writes place all

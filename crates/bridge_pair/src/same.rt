@@ -54,12 +54,7 @@ fn have_same_run(
 }
 
 // Whether the same write stands at these places of two queues, or none at both.
-fn is_same_at(
-    one: &Queue<FlyingWrite>,
-    from: usize,
-    other: &Queue<FlyingWrite>,
-    at: usize,
-) -> bool
+fn is_same_at(one: &Queue<FlyingWrite>, from: usize, other: &Queue<FlyingWrite>, at: usize) -> bool
     ensures { IsTrue result ↔ (slice_get one.now.writes from ≡ slice_get other.now.writes at) }
 {
     match (one.label_at(from), other.label_at(at)) {
@@ -89,12 +84,7 @@ pub fn may_land(queue: &Queue<FlyingWrite>, place: usize, write: &FlyingWrite) -
 fn passes(later: &FlyingWrite, earlier: &FlyingWrite) -> bool
     ensures { result ≡ order_passes later.now.order earlier.now.order }
 {
-    posted_table().passes(
-        later.kind(),
-        later.class(),
-        earlier.kind(),
-        earlier.class(),
-    )
+    posted_table().passes(later.kind(), later.class(), earlier.kind(), earlier.class())
 }
 
 /// Whether two memories have the same bytes.

@@ -1,17 +1,22 @@
 -- Clusters that have made one common list of steps, what they have made else, and their keys.
-use Rattle.std.proofs.Common.{◌≡◌, ◌∙◌, ℕ, List, sym, ap, refl}
+use Rattle.std.proofs.Common.{◌≡◌, ◌∙◌, ◌++◌, ◌∷◌, [], ℕ, List, sym, ap, refl, subst}
 use Rattle.step_kinds.specs.declared.names.Side.{Side}
 use Rattle.step_kinds.specs.declared.plan.Plan.{Plan}
+use Rattle.step_kinds.specs.declared.steps.Answer.{Answer}
 use Rattle.step_kinds.specs.declared.steps.Answer.TheVariants.{Nothing}
 use Rattle.step_kinds.specs.declared.steps.Step.{Step}
 use Rattle.step_kinds.specs.declared.steps.Step.TheVariants.{Land}
 use Rattle.fabric_core.specs.InFlight.{LandsNoneFrom as LandsNoneOnBridges}
-use Rattle.fabric_core.specs.LogClauses.{HasMade as HasMadeOnBridges}
+use Rattle.ledger_laws.proofs.Facade.{log_of-last}
+use Rattle.memory_model.specs.Memory.{memory_of}
+use Rattle.switch_log.specs.Network.{Network}
+use Rattle.fabric_core.specs.LogClauses.{HasMade as HasMadeOnBridges, IsAnswered as IsAnsweredOnBridges, log_after as log_on_bridges}
 use Rattle.fabric_core.proofs.Facade.{one_list_makes_same, same_has_made_same, same_keys as same_fabrics_keys}
 use Rattle.cluster_core.specs.Cluster.{ClusterState, plan_held}
 use Rattle.cluster_core.specs.InFlight.{LandsNoneFrom}
 use Rattle.cluster_core.specs.Laws.{OneAnswer, SameKeys, SameSteps}
-use Rattle.cluster_core.specs.LogClauses.{HasMade, network_after}
+use Rattle.cluster_core.specs.LogClauses.{HasMade, IsNetwork, answer_after, network_after}
+use Rattle.cluster_core.proofs.Networks.{network-last}
 use Rattle.cluster_core.proofs.RefusedAgain.{answer_on_bridges, item_answer}
 
 -- The laws
@@ -51,6 +56,38 @@ merged cluster other plans merges switches plan steps made =
 -- what has made one list has the same switches
 pub same_switches : (plan : Plan) (steps : List Step) (cluster other : ClusterState) → HasMade plan steps cluster → HasMade plan steps other → cluster.switches ≡ other.switches
 same_switches plan steps cluster other made owns = made.switches ∙ sym owns.switches
+
+-- One landing more
+
+module _ (plan : Plan) (steps : List Step) (pair : ℕ) (side : Side) (place : ℕ) where
+  -- a landing is made on the bridges alone
+  landed_network : network_after plan (steps ++ Land pair side place ∷ []) ≡ record (network_after plan steps) { steps = (network_after plan steps).steps ++ Land pair side place ∷ [] }
+  landed_network = network-last plan steps (Land pair side place)
+
+  -- so a cluster has made it where its bridges have, and its switches stayed
+  pub landed_too : (cluster other : ClusterState) → plan_held cluster ≡ plan_held other → HasMadeOnBridges plan ((network_after plan steps).steps ++ Land pair side place ∷ []) other.fabric → cluster.switches ≡ other.switches
+      → HasMade plan steps cluster → HasMade plan (steps ++ Land pair side place ∷ []) other
+  landed_too cluster other plans bridges switches made =
+      subst (λ (net : Network (List ℕ)). IsNetwork plan net other) (sym landed_network)
+      (record {
+        bridges = bridges;
+        plans = sym (ap (λ (plan : Plan). plan.switches) plans) ∙ made.plans;
+        switches = sym switches ∙ made.switches;
+      })
+
+  -- and where it has, they have
+  pub bridges_landed : (other : ClusterState) → HasMade plan (steps ++ Land pair side place ∷ []) other → HasMadeOnBridges plan ((network_after plan steps).steps ++ Land pair side place ∷ []) other.fabric
+  bridges_landed other owns = (subst (λ (net : Network (List ℕ)). IsNetwork plan net other) landed_network owns).bridges
+
+  pub switches_stayed : (cluster other : ClusterState) → HasMade plan steps cluster → HasMade plan (steps ++ Land pair side place ∷ []) other → cluster.switches ≡ other.switches
+  switches_stayed cluster other made owns = made.switches ∙ sym (subst (λ (net : Network (List ℕ)). IsNetwork plan net other) landed_network owns).switches
+
+  -- the bridges answer as the network does
+  pub answered_on_bridges : (answer : Answer) → answer_after plan steps (Land pair side place) ≡ answer → IsAnsweredOnBridges plan (network_after plan steps).steps (Land pair side place) answer
+  answered_on_bridges answer is =
+      let net = network_after plan steps in
+      log_of-last plan (memory_of plan) net.steps (Land pair side place)
+      ∙ ap (λ (answer : Answer). log_on_bridges plan net.steps ++ record { step = Land pair side place; answer = answer } ∷ []) is
 
 -- From a place on nothing lands
 

@@ -5,7 +5,7 @@ use Rattle.step_kinds.specs.declared.plan.Plan.{Plan}
 use Rattle.step_kinds.specs.declared.steps.Answer.TheVariants.{Nothing}
 use Rattle.step_kinds.specs.declared.steps.Step.{Step}
 use Rattle.step_kinds.specs.declared.steps.Step.TheVariants.{Land}
-use Rattle.fabric_core.specs.InFlight.{fabric_key}
+use Rattle.fabric_core.specs.InFlight.{fabric_key, fabric_key_without}
 use Rattle.cluster_core.specs.Cluster.{ClusterState}
 use Rattle.cluster_core.specs.LogClauses.{HasMade, answer_after}
 
@@ -18,3 +18,7 @@ LandsNoneFrom cluster pair side count =
 -- of the labels in flight, by their kinds and low bytes of their numbers
 abbrev pub key_of : ClusterState → List ℕ
 key_of cluster = fabric_key cluster.fabric
+
+-- the key without a write: that of the cluster once the write has landed
+abbrev pub key_without : ClusterState → ℕ → Side → ℕ → List ℕ
+key_without cluster pair side place = fabric_key_without cluster.fabric pair side place

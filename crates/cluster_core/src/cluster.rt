@@ -1,16 +1,18 @@
 //! The cluster.
 
-ghost use Rattle.std.specs.Prelude.{◌≡◌, ◌++◌, ◌↔◌, ◌<◌, ℕ, [], IfOk, IfSome, IsTrue, List, OnErr, OnOk, Some, length, true};
+ghost use Rattle.std.specs.Prelude.{◌≡◌, ◌++◌, ◌↔◌, ◌<◌, ◌∷◌, ℕ, [], IfOk, IfSome, IsTrue, List, OnErr, OnOk, Some, length, true};
 ghost use Rattle.step_kinds.specs.Sides.{other_side};
 ghost use Rattle.step_kinds.specs.declared.plan.Plan.{Plan as PlanValue};
+ghost use Rattle.step_kinds.specs.declared.steps.Answer.TheVariants.{Landed};
+ghost use Rattle.step_kinds.specs.declared.steps.Label.{Label as LabelValue};
 ghost use Rattle.step_kinds.specs.declared.steps.Step.{Step as MadeStep};
-ghost use Rattle.step_kinds.specs.declared.steps.Step.TheVariants.{Copy, Xnext};
+ghost use Rattle.step_kinds.specs.declared.steps.Step.TheVariants.{Copy, Land, Xnext};
 ghost use Rattle.plan_model.specs.DeclaredPlans.{IsDeclared, IsPairOf, IsQueueOf};
 ghost use Rattle.plan_model.specs.Switches.{AreSwitches, IsMakeable};
 ghost use Rattle.cluster_core.specs.Cluster.{declared_part, plan_held};
 ghost use Rattle.cluster_core.specs.ClusterStep.{HasStepped};
-ghost use Rattle.cluster_core.specs.InFlight.{LandsNoneFrom, key_of};
-ghost use Rattle.cluster_core.specs.LogClauses.{AreCounters, HasMade, IsAccepted, IsDelivered, IsSession};
+ghost use Rattle.cluster_core.specs.InFlight.{LandsNoneFrom, key_of, key_without};
+ghost use Rattle.cluster_core.specs.LogClauses.{AreCounters, HasMade, IsAccepted, IsDelivered, IsSession, answer_after};
 ghost use Rattle.cluster_core.specs.Moves.{CanBeSent, HasWaiting, arrived_in, brought_in, relay_answer_in, relayed_in, sending_in, sends_next, taken_in};
 ghost use Rattle.cluster_core.specs.Parts.{HasDeviceOn, IsPortAmong};
 
@@ -236,6 +238,23 @@ impl Cluster {
         self.fabric.is_same(&other.fabric) && are_same_switches(&self.switches, &other.switches)
     }
 
+    /// Whether the write at this place of those that a side of a pair has in flight may land, and no step can then tell
+    /// the cluster apart from another, as [`Cluster::is_same`] has it. The pair has to be one of the cluster's, and both
+    /// have to be of the same pairs, devices and switches.
+    ///
+    /// Where the answer is `true`, the other has made whatever steps this one has made and the landing after them. Where
+    /// it has made such a list, and the landing is answered `landed`, the answer is `true`. It is found out without
+    /// landing the write, and takes no memory.
+    pub fn lands_as(&self, pair: u32, side: Side, place: usize, other: &Cluster) -> bool
+        requires plans { plan_held self.now ≡ plan_held other.now }
+        requires pair { IsPairOf (plan_held self.now) pair }
+        ensures merges { result ≡ true → (plan : PlanValue) (steps : List MadeStep) → HasMade plan steps self.now → HasMade plan (steps ++ Land pair side place ∷ []) other.now }
+        ensures apart { (plan : PlanValue) (steps : List MadeStep) (label : LabelValue) → HasMade plan steps self.now → answer_after plan steps (Land pair side place) ≡ Landed label → HasMade plan (steps ++ Land pair side place ∷ []) other.now → result ≡ true }
+    {
+        self.fabric.lands_as(pair, side, place, &other.fabric)
+            && are_same_switches(&self.switches, &other.switches)
+    }
+
     /// A cluster in the same state, with the same promises. It has made whatever steps this one has made.
     ///
     /// # Errors
@@ -271,6 +290,25 @@ impl Cluster {
         ensures { OnOk result (key.new.items ≡ key.old.items ++ key_of self.now) }
     {
         self.fabric.push_key(key)
+    }
+
+    /// Adds the key without the write at a place of those that a side of a pair has in flight, if there is one: once it
+    /// has landed, this is the key. The pair has to be one of the cluster's.
+    ///
+    /// # Errors
+    ///
+    /// [`AllocError`] from out of memory alone. A part of the key may then be there.
+    pub fn push_key_without(
+        &self,
+        pair: u32,
+        side: Side,
+        place: usize,
+        key: &mut Vec<u8>,
+    ) -> Result<(), AllocError>
+        requires { IsPairOf (plan_held self.now) pair }
+        ensures { OnOk result (key.new.items ≡ key.old.items ++ key_without self.now pair side place) }
+    {
+        self.fabric.push_key_without(pair, side, place, key)
     }
 }
 

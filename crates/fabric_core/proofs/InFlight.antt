@@ -1,5 +1,5 @@
 -- From which place on nothing lands, and the keys of what is in flight.
-use Rattle.std.proofs.Common.{◌≡◌, ◌∙◌, ℕ, zero, suc, ◌<◌, ◌≤◌, List, [], ◌∷◌, ◌++◌, Option, Some, None, length, map, remove, take, refl, sym, ap, subst, arith}
+use Rattle.std.proofs.Common.{◌≡◌, ◌≢◌, ◌∙◌, ℕ, zero, suc, ◌<◌, ◌≤◌, List, [], ◌∷◌, ◌++◌, Option, Some, None, length, map, remove, take, refl, sym, ap, subst, arith}
 use Rattle.std.specs.Prelude.{option_map, slice_get}
 use Rattle.std.specs.List.{flat_map}
 use Rattle.std.proofs.lemmas.List.{append-nil, append_assoc}
@@ -42,19 +42,6 @@ lands_none fabric pair side among plan steps made place beyond =
     (sym (none_there (pair_of fabric pair).bridge side place beyond)
     ∙ (each_step_stands plan steps (Land pair side place) (pair_of fabric pair) made.declared made.permitted may may (made.stands.pairs pair may)).0)
 
--- The key without a write
-
--- a list without an item that it hasn't is the list
-pub without_none : {X : Type 0} (xs : List X) (n : ℕ) → length xs ≤ n → remove xs n ≡ xs
-without_none [] zero past = refl
-without_none [] (suc n) past = refl
-without_none (x ∷ xs) zero past = absurd (omega (arith, past))
-without_none (x ∷ xs) (suc n) past = ap (λ rest. x ∷ rest) (without_none xs n (omega (arith, past)))
-
--- the key of the writes before a place, without one of them
-abbrev pub key_before_without : List Flying → ℕ → ℕ → List ℕ
-key_before_without writes without place = flat_map (λ (flying : Flying). label_key flying.label) (remove (take place writes) without)
-
 -- The key of one write more
 
 abbrev flying_key : Flying → List ℕ
@@ -83,6 +70,41 @@ pub some_there : (writes : List Flying) (place : ℕ) → place < length writes 
 some_there [] place below is = omega (arith, below)
 some_there (flying ∷ writes) zero below is = cc is
 some_there (flying ∷ writes) (suc place) below is = some_there writes place (omega (arith, below)) is
+
+-- The key without a write
+
+-- the key of the writes before a place, without one of them
+abbrev pub key_before_without : List Flying → ℕ → ℕ → List ℕ
+key_before_without writes without place = flat_map (λ (flying : Flying). label_key flying.label) (remove (take place writes) without)
+
+none_without : (n : ℕ) → flat_map flying_key (remove [] n) ≡ []
+none_without zero = refl
+none_without (suc n) = refl
+
+-- with the label at a place it is that of the writes up to there, unless it is the one that is left out
+pub key_more_without : (writes : List Flying) (without place : ℕ) (label : Label) → place ≢ without → Some label ≡ label_at writes place →
+    key_before_without writes without (suc place) ≡ key_before_without writes without place ++ label_key label
+key_more_without [] without place label other is = absurd (cc is)
+key_more_without (flying ∷ writes) zero zero label other is = absurd (other refl)
+key_more_without (flying ∷ writes) zero (suc place) label other is = key_more writes place label is
+key_more_without (flying ∷ writes) (suc without) zero label other is =
+    let same : label ≡ flying.label = cc is in
+    flat_map-cons flying_key flying (remove [] without) ∙ ap (λ (rest : List ℕ). flying_key flying ++ rest) (none_without without) ∙ append-nil (flying_key flying)
+    ∙ ap label_key (sym same) ∙ ap (λ (front : List ℕ). front ++ label_key label) (sym (none_without (suc without)))
+key_more_without (flying ∷ writes) (suc without) (suc place) label other is =
+    flat_map-cons flying_key flying (remove (take (suc place) writes) without)
+    ∙ ap (λ (rest : List ℕ). flying_key flying ++ rest) (key_more_without writes without place label (λ same. other (ap suc same)) is)
+    ∙ sym (append_assoc (flying_key flying) (key_before_without writes without place) (label_key label))
+    ∙ ap (λ (front : List ℕ). front ++ label_key label) (sym (flat_map-cons flying_key flying (remove (take place writes) without)))
+
+-- the one that is left out adds nothing
+pub key_same_without : (writes : List Flying) (without : ℕ) → key_before_without writes without (suc without) ≡ key_before_without writes without without
+key_same_without [] zero = refl
+key_same_without [] (suc without) = refl
+key_same_without (flying ∷ writes) zero = refl
+key_same_without (flying ∷ writes) (suc without) =
+    flat_map-cons flying_key flying (remove (take (suc without) writes) without) ∙ ap (λ (rest : List ℕ). flying_key flying ++ rest) (key_same_without writes without)
+    ∙ sym (flat_map-cons flying_key flying (remove (take without writes) without))
 
 -- The same pairs have the same keys
 

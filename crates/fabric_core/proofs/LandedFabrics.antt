@@ -1,7 +1,8 @@
 -- A fabric that another comes to by one landing more.
-use Rattle.std.proofs.Common.{◌≡◌, ◌≢◌, ◌∙◌, ℕ, ◌<◌, true, false, List, [], ◌∷◌, ◌++◌, map, length, refl, sym, ap, subst, arith, get_or, get_or-set_other, get_or-set_same, length-set, set, inl, inr, ◌⊎◌}
+use Rattle.std.proofs.Common.{◌≡◌, ◌≢◌, ◌∙◌, ℕ, ◌<◌, List, [], ◌∷◌, ◌++◌, map, length, refl, sym, ap, subst, get_or, get_or-set_other, get_or-set_same, length-set, set, inl, inr, ◌⊎◌}
 use Rattle.std.proofs.lemmas.Bool.{cases_eq}
-use Rattle.std.proofs.lemmas.List.{append_cancel_left, length-map}
+use Rattle.std.proofs.lemmas.List.{append_cancel_left}
+use Rattle.step_kinds.specs.Sides.{other_side}
 use Rattle.step_kinds.specs.declared.names.Side.{Side}
 use Rattle.step_kinds.specs.declared.plan.Plan.{Plan}
 use Rattle.step_kinds.specs.declared.steps.Answer.{Answer}
@@ -13,10 +14,13 @@ use Rattle.ledger_model.specs.Log.{Answered}
 use Rattle.plan_model.specs.DeclaredPlans.{IsPairOf}
 use Rattle.posted_queue.specs.declared.LandAnswer.{LandAnswer}
 use Rattle.posted_queue.specs.declared.LandAnswer.TheVariants as landing_answer
-use Rattle.bridge_pair.specs.Calls.{after_land, landing}
+use Rattle.posted_queue.specs.Landing.{after_landing}
+use Rattle.bridge_pair.specs.Bridge.{Bridge, flight_of, with_flight}
+use Rattle.bridge_pair.specs.Calls.{after_land, after_landed, arrived, landing}
 use Rattle.bridge_pair.specs.Ends.{label_landed}
-use Rattle.bridge_pair.specs.Flights.{Flying}
-use Rattle.bridge_pair.proofs.LandedEnds.{rest_stays}
+use Rattle.bridge_pair.specs.Flights.{Flying, flying_order}
+use Rattle.bridge_pair.specs.declared.flying_write.Arrival.{Arrival}
+use Rattle.bridge_pair.specs.declared.flying_write.Arrival.TheVariants.{AtAddress, AtBell, AtPad}
 use Rattle.fabric_rule.specs.Answers.{of_land}
 use Rattle.fabric_rule.specs.Parts.{PairState}
 use Rattle.fabric_rule.specs.Steps.{move_of}
@@ -33,11 +37,28 @@ use Rattle.fabric_core.proofs.StepsOfFabrics.{MadeSome, among_pairs, permitted_b
 abbrev landed_pair : PairState → ℕ → Side → ℕ → PairState
 landed_pair pair k side place = (move_of [] pair (Land k side place)).after
 
+-- what arrives leaves the plan
+plan_of_arrived : (bridge : Bridge) (side : Side) (arrival : Arrival) → (arrived bridge side arrival).plan ≡ bridge.plan
+plan_of_arrived bridge side (AtAddress at bytes) = refl
+plan_of_arrived bridge side (AtPad index value) = refl
+plan_of_arrived bridge side (AtBell bit) = refl
+
+-- and so does a landing
+plan_stays : (bridge : Bridge) (side : Side) (place : ℕ) → (after_land bridge side place).plan ≡ bridge.plan
+plan_stays bridge side place = by_answer (landing bridge side place) where
+  taken : Bridge
+  taken = with_flight bridge side (after_landing flying_order (flight_of bridge side) place)
+
+  by_answer : (answer : LandAnswer Flying) → (after_landed taken (other_side side) answer).plan ≡ bridge.plan
+  by_answer (landing_answer.Landed flying) = plan_of_arrived taken (other_side side) flying.arrival
+  by_answer landing_answer.Blocked = refl
+  by_answer landing_answer.Nothing = refl
+
 -- once the write has landed it is the same as another
 same_landed : (pair other : PairState) (k : ℕ) (side : Side) (place : ℕ) → pair.bridge.plan ≡ other.bridge.plan → LandsAsPair pair side place other → IsSamePair (landed_pair pair k side place) other
 same_landed pair other k side place plans lands =
     record {
-      bridge = plain_same (after_land pair.bridge side place) other.bridge ((rest_stays pair.bridge side place).2 ∙ plans) lands.bridge.same;
+      bridge = plain_same (after_land pair.bridge side place) other.bridge (plan_stays pair.bridge side place ∙ plans) lands.bridge.same;
       queues = lands.queues;
     }
 

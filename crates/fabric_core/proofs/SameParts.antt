@@ -230,7 +230,6 @@ bridges_seen R kept other told shown is are holds =
 pub same_pair_of : (pair other : PairState) → pair.bridge.plan ≡ other.bridge.plan → IsSameBridge pair.bridge other.bridge → HasSameQueues pair other → IsSamePair pair other
 same_pair_of pair other plans bridge queues = record { bridge = plain_same pair.bridge other.bridge plans bridge; queues = queues }
 
-
 -- Lists of them, by place
 
 abbrev pub SamePartsBefore : List QueuePart → List QueuePart → ℕ → Type 0

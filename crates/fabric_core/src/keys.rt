@@ -32,9 +32,10 @@ pub fn push_flight_without(
     ensures { OnOk result (key.new.items ≡ key.old.items ++ flight_key_without pair.now side without) }
 {
     for place in 0..pair.in_flight(side) {
-        if place != without
-            && let Some(label) = pair.label_at(side, place)
-        {
+        if place == without {
+            continue;
+        }
+        if let Some(label) = pair.label_at(side, place) {
             key.extend_from_slice(&label_key(label))?;
         }
     }

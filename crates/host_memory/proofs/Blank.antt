@@ -11,6 +11,7 @@ use Rattle.host_memory.specs.declared.memory.Memory.TheInside.{Inside}
 use Rattle.host_memory.proofs.MemoryPages.{byte-bytes_in, length-bytes_in}
 use Rattle.host_memory.proofs.Pieces.{touched_between, touches_between}
 
+-- on a page that isn't there each byte is zero
 pub byte_of_none : (page : Option (Box (List ℕ))) (place : ℕ) → ¬ IsSome page → byte_on page place ≡ 0
 byte_of_none None place none = refl
 byte_of_none (Some page) place none = absurd (none refl)

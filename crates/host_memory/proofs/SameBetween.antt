@@ -110,5 +110,6 @@ pub not_promised : (memory : Inside) (contents : Contents) → IsMemory memory �
 not_promised memory contents is seen page absent =
     subst (λ (contents : Contents). ¬ Contains contents.promised page) seen (λ has. absent (is.there page has))
 
+-- and of one that it has
 pub is_promised : (memory : Inside) (contents : Contents) → IsMemory memory → contents_seen memory ≡ contents → (page : ℕ) → IsSome (page_at memory.pages.groups.items page) → Contains contents.promised page
 is_promised memory contents is seen page some = subst (λ (contents : Contents). Contains contents.promised page) seen (is.among page some)

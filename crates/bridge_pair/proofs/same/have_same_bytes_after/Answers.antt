@@ -1,5 +1,5 @@
-use Rattle.std.proofs.Common.{◌≡◌, length, arith}
-use Rattle.bridge_pair.proofs.SameBytes.{same_after, same_before, same_beyond, size_after, there_after}
+use Rattle.std.proofs.Common.{arith}
+use Rattle.bridge_pair.proofs.SameBytes.{same_after, same_beyond}
 use Rattle.bridge_pair.proofs.same.have_same_bytes_after.Goals as goal
 
 pub returns-then-has_same_between : goal.returns-then-has_same_between

@@ -1,4 +1,4 @@
-use Rattle.std.proofs.Common.{◌≡◌, ap, length, refl, subst, sym, arith}
+use Rattle.std.proofs.Common.{◌≡◌, length, arith}
 use Rattle.bridge_pair.proofs.SameWrites.{run_is_whole}
 use Rattle.bridge_pair.proofs.same.have_same_writes.Goals as goal
 

@@ -1,5 +1,5 @@
 use Rattle.std.proofs.Common.{◌≡◌}
-use Rattle.bridge_pair.proofs.LandedEnds.{books_of_whole, ends_of_whole, lands_whole, link_of_whole}
+use Rattle.bridge_pair.proofs.LandedEnds.{ends_of_whole, lands_whole}
 use Rattle.bridge_pair.proofs.pair.Pair.lands_as.Goals as goal
 use Rattle.bridge_pair.proofs.pair.Pair.lands_as.Goals.{then-has_same_link, else-has_same_link}
 
