@@ -1,11 +1,12 @@
 //! A cluster, as a search drives it.
 
 ghost use Rattle.cluster_core.specs.Cluster.{ClusterState, plan_held as plan_of_cluster};
-ghost use Rattle.cluster_core.specs.InFlight.{key_of as key_of_cluster};
+ghost use Rattle.cluster_core.specs.InFlight.{key_of as key_of_cluster, key_without as key_of_cluster_without};
 ghost use Rattle.explore_command.specs.Answers.{has_made as cluster_has_made};
 ghost use Rattle.cluster_core.proofs.Facade.{same_keys as clusters_have_same_keys, same_steps as clusters_have_same_steps};
 
 use cluster_core::Cluster;
+use explore_model::Landing;
 use explore_search::Machine;
 use std::alloc::{AllocError, Global};
 use std::marker::Model;
@@ -30,6 +31,8 @@ impl Machine for PathCluster {
 
     ghost key_of = { key_of_cluster };
 
+    ghost key_without = { λ cluster landing. key_of_cluster_without cluster landing.pair landing.side landing.place };
+
     fn fresh(alloc: Global, plan: &Plan) -> Result<PathCluster, AllocError> {
         Ok(PathCluster {
             cluster: Cluster::new(alloc, plan)?,
@@ -50,12 +53,24 @@ impl Machine for PathCluster {
         self.cluster.is_same(&other.cluster)
     }
 
+    fn lands_as(&self, landing: Landing, other: &PathCluster) -> bool {
+        let place = landing.place as usize;
+        self.cluster
+            .lands_as(landing.pair, landing.side, place, &other.cluster)
+    }
+
     fn in_flight(&self, pair: u32, side: Side) -> usize {
         self.cluster.in_flight(pair, side)
     }
 
     fn push_key(&self, key: &mut Vec<u8>) -> Result<(), AllocError> {
         self.cluster.push_key(key)
+    }
+
+    fn push_key_without(&self, landing: Landing, key: &mut Vec<u8>) -> Result<(), AllocError> {
+        let place = landing.place as usize;
+        self.cluster
+            .push_key_without(landing.pair, landing.side, place, key)
     }
 
     ghost same_steps = { clusters_have_same_steps };

@@ -5,6 +5,7 @@ pub mod Census
 pub mod ClosedLayers
 pub mod CountedStates
 pub mod Facade
+pub mod KnownStates
 pub mod LandedAnswers
 pub mod LayersInTurn
 pub mod Lists

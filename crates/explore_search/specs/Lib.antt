@@ -1,5 +1,6 @@
 pub mod Chains
 pub mod Closing
+pub mod Known
 pub mod Layers
 pub mod Machines
 pub mod Paths

@@ -6,6 +6,7 @@
 #![tactic(auto)]
 
 mod groups;
+mod known;
 pub mod laws;
 mod layers;
 mod live;

@@ -1,6 +1,6 @@
 //! What a search needs of a machine.
 
-ghost use Rattle.std.specs.Prelude.{◌≡◌, ◌≤◌, ◌∷◌, ◌++◌, ℕ, [], false, IfOk, IsTrue, List, OnOk};
+ghost use Rattle.std.specs.Prelude.{◌≡◌, ◌≤◌, ◌∷◌, ◌++◌, ℕ, [], false, true, IfOk, IsTrue, List, OnOk};
 ghost use Rattle.step_kinds.specs.declared.plan.Plan.{Plan as PlanValue};
 ghost use Rattle.step_kinds.specs.declared.steps.Answer.TheVariants.{Nothing};
 ghost use Rattle.step_kinds.specs.declared.steps.Step.{Step as StepValue};
@@ -11,6 +11,7 @@ ghost use Rattle.explore_model.specs.declared.outcome.Landing.{Landing as Landin
 ghost use Rattle.explore_model.specs.Schedules.{answer_after, is_landed, landing_step};
 ghost use Rattle.explore_search.specs.Machines.{HaveSameKeys, HaveSameSteps, declared_part};
 
+use explore_model::Landing;
 use std::alloc::{AllocError, Global};
 use step_kinds::{Answer, Plan, Side, Step};
 
@@ -24,6 +25,9 @@ pub trait Machine: Drop {
 
     // a few bytes of its state
     ghost key_of: { Self → List ℕ };
+
+    // those bytes once the write of a landing has landed
+    ghost key_without: { Self → LandingValue → List ℕ };
 
     /// A machine that has made no step of the plan, which is one that a script can declare. The only error is out of
     /// memory.
@@ -56,6 +60,14 @@ pub trait Machine: Drop {
         ensures merges { IsTrue result → (plan : PlanValue) (steps : List StepValue) → has_made self.now plan steps → has_made other.now plan steps }
         ensures apart { (plan : PlanValue) (steps : List StepValue) → has_made self.now plan steps → has_made other.now plan steps → IsTrue result };
 
+    /// Whether the write of a landing may land, and the machine is then in the same state as another of its plan. It is
+    /// found out without making the landing. The landing's pair has to be one of the plan's.
+    fn lands_as(&self, landing: Landing, other: &Self) -> bool
+        requires plans { plan_held self.now ≡ plan_held other.now }
+        requires pair { IsPairOf (plan_held self.now) landing.pair }
+        ensures merges { IsTrue result → (plan : PlanValue) (steps : List StepValue) → has_made self.now plan steps → has_made other.now plan (steps ++ landing_step landing ∷ []) }
+        ensures apart { (plan : PlanValue) (steps : List StepValue) → has_made self.now plan steps → is_landed (answer_after plan steps (landing_step landing)) ≡ true → has_made other.now plan (steps ++ landing_step landing ∷ []) → IsTrue result };
+
     /// How many writes a side of a pair has in flight. From this place on no landing finds a write.
     fn in_flight(&self, pair: u32, side: Side) -> usize
         requires { IsPairOf (plan_held self.now) pair }
@@ -66,6 +78,12 @@ pub trait Machine: Drop {
     /// steps have the same. The only error is out of memory.
     fn push_key(&self, key: &mut Vec<u8>) -> Result<(), AllocError>
         ensures { OnOk result (key.new.items ≡ key.old.items ++ key_of self.now) };
+
+    /// Adds the key without the write of a landing, by which a search looks for the state in which the landing leaves the
+    /// machine. The landing's pair has to be one of the plan's. The only error is out of memory.
+    fn push_key_without(&self, landing: Landing, key: &mut Vec<u8>) -> Result<(), AllocError>
+        requires { IsPairOf (plan_held self.now) landing.pair }
+        ensures { OnOk result (key.new.items ≡ key.old.items ++ key_without self.now landing) };
 
     ghost same_steps: { HaveSameSteps has_made };
 

@@ -8,6 +8,7 @@ ghost use Rattle.explore_search.specs.Paths.{IsExplorable};
 ghost use Rattle.explore_search.specs.Spread.{AreAdded, AreClosed, IsNext, IsOfSide, IsSpread, Lands};
 ghost use Rattle.explore_search.specs.States.{HaveGrown, IsMachineAt, IsSpareOf, IsState, made_to};
 
+use crate::known::leads_back;
 use crate::machine::Machine;
 use crate::paths::rebuilt;
 use crate::states::{State, States, join};
@@ -68,8 +69,9 @@ fn spread<M: Machine>(
     Ok(())
 }
 
-// Makes a landing after a state, and adds the state to which it leads where it is answered `landed`. It takes a machine
-// of the state where one is at hand, and answers one where the landing left it at the state.
+// Makes a landing after a state, and adds the state to which it leads where it is answered `landed`, unless it is known
+// to lead to one of the states. It takes a machine of the state where one is at hand, and answers one where the landing
+// left it at the state.
 fn land<M: Machine>(
     alloc: Global,
     plan: &Plan,
@@ -90,6 +92,9 @@ fn land<M: Machine>(
     ensures lands { OnOk result (HoldsAt (λ state. Lands M.has_made plan.now done states.new state landing) states.old from) }
     ensures spare { IfOk result (λ spare. HoldsAt (IsSpareOf M.has_made M.plan_held plan.now done spare) states.old from) }
 {
+    if leads_back(alloc, plan, done, states, from, landing)? {
+        return Ok(spare);
+    }
     let mut machine = machine_of(alloc, plan, done, &states.as_slice()[from], spare)?;
     let answer = machine.step(&landing.as_step())?;
     let Answer::Landed { .. } = answer else {

@@ -17,7 +17,7 @@ use std::marker::Model;
 use step_kinds::Plan;
 
 // So many bytes most keys don't exceed: a longer one grows.
-const KEY_ROOM: usize = 128;
+pub const KEY_ROOM: usize = 128;
 
 /// A state of a search: the landings of a path to it, the key of its machine, and maybe the machine.
 #[derive(Drop)]
