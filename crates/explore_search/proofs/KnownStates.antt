@@ -1,5 +1,5 @@
 -- A landing that leads to a state which keeps a machine.
-use Rattle.std.proofs.Common.{◌≡◌, ℕ, List, Option, Some, get_or, length, subst, sym}
+use Rattle.std.proofs.Common.{◌≡◌, ℕ, List, Option, Some, subst}
 use Rattle.std.specs.List.{All, Any}
 use Rattle.std.specs.Prelude.{IfSome}
 use Rattle.step_kinds.specs.declared.plan.Plan.{Plan}
