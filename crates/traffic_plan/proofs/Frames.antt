@@ -112,6 +112,27 @@ bytes_more word k =
     ap (λ n. map (byte_of word) (range_with_len 0 n)) size ∙ (range_both (byte_of word) 0 (8 * k) 8
     ∙ ap (λ (rest : List ℕ). map (byte_of word) (range_with_len 0 (8 * k)) ++ rest) (ap (λ b. map (byte_of word) (range_with_len b 8)) first ∙ eight_bytes word k 0 8 (omega arith)))
 
+-- and the first 32(k+1) are its first 32k and then its eight bytes four times
+pub four_words_more : (word k : ℕ) → map (byte_of word) (range_with_len 0 (32 * (k + 1)))
+    ≡ map (byte_of word) (range_with_len 0 (32 * k)) ++ (bytes_low_first 0 8 word ++ bytes_low_first 0 8 word ++ bytes_low_first 0 8 word ++ bytes_low_first 0 8 word)
+four_words_more word k =
+    let so_far : ℕ → List ℕ = λ n. map (byte_of word) (range_with_len 0 (8 * n)) in
+    let own : List ℕ = bytes_low_first 0 8 word in
+    let first : List ℕ = map (byte_of word) (range_with_len 0 (32 * k)) in
+    let all : 32 * (k + 1) ≡ 8 * (4 * k + 3 + 1) = omega arith in
+    let third : 4 * k + 3 ≡ 4 * k + 2 + 1 = omega arith in
+    let second : 4 * k + 2 ≡ 4 * k + 1 + 1 = omega arith in
+    let none : 8 * (4 * k) ≡ 32 * k = omega arith in
+    ap (λ n. map (byte_of word) (range_with_len 0 n)) all
+    ∙ bytes_more word (4 * k + 3)
+    ∙ ap (λ (before : List ℕ). before ++ own) (ap so_far third ∙ bytes_more word (4 * k + 2))
+    ∙ ap (λ (before : List ℕ). (before ++ own) ++ own) (ap so_far second ∙ bytes_more word (4 * k + 1))
+    ∙ ap (λ (before : List ℕ). ((before ++ own) ++ own) ++ own) (bytes_more word (4 * k))
+    ∙ ap (λ n. (((map (byte_of word) (range_with_len 0 n) ++ own) ++ own) ++ own) ++ own) none
+    ∙ append_assoc ((first ++ own) ++ own) own own
+    ∙ append_assoc (first ++ own) own (own ++ own)
+    ∙ append_assoc first own (own ++ (own ++ own))
+
 -- of which the first are those of a shorter range
 pub first_bytes : (f : ℕ → ℕ) (a len all : ℕ) → len ≤ all → take len (map f (range_with_len a all)) ≡ map f (range_with_len a len)
 first_bytes f a zero all few = refl
