@@ -73,8 +73,14 @@ pub fn put_start(line: &mut LineText, answer: &Answer)
         }
         Answer::VerDiffers { seen, own } => put_pair(line, b"verdiffers", *seen, *own),
         Answer::Long { len, max } => put_pair(line, b"long", *len, *max),
-        Answer::ReadyFrame { number, len } => line.put_two(b"ready", *number, u64::from(*len)),
-        Answer::Copied { number, part } => line.put_two(b"copied", *number, u64::from(*part)),
+        Answer::ReadyFrame { number, len } => {
+            line.put_one(b"ready", *number);
+            line.put_fresh(u64::from(*len));
+        }
+        Answer::Copied { number, part } => {
+            line.put_one(b"copied", *number);
+            line.put_fresh(u64::from(*part));
+        }
         Answer::Delivered { number, .. } => {
             line.put_one(b"frame", *number);
             line.put_word(b" ");

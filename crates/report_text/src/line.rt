@@ -176,7 +176,7 @@ impl LineText {
         self.put_spaced(two);
     }
 
-    /// Adds a word and three numbers.
+    /// Adds a word and three numbers, the last of which isn't kept.
     #[inline]
     pub fn put_three<const N: usize>(&mut self, word: &[u8; N], one: u64, two: u64, three: u64)
         requires { N + 3 * SPACED + length self.old ≤ ROOM }
@@ -186,7 +186,7 @@ impl LineText {
         self.put_word(word);
         self.put_spaced(one);
         self.put_spaced(two);
-        self.put_spaced(three);
+        self.put_fresh(three);
     }
 
     // Adds a number after a space. Most have one digit.
@@ -203,7 +203,23 @@ impl LineText {
         }
     }
 
-    // The same for a number of any digits.
+    /// Adds a number after a space. Its digits aren't kept: it is seldom that of the line before.
+    pub fn put_fresh(&mut self, number: u64)
+        requires { SPACED + length self.old ≤ ROOM }
+        ensures text { self.new ≡ self.old ++ numbers_text (number ∷ []) }
+        ensures len { length self.new ≤ length self.old + SPACED }
+    {
+        if number < 10 {
+            self.put_word(&[b' ', b'0' + number as u8]);
+        } else {
+            let mut digits = Digits::new();
+            digits.set(number);
+            self.put_word(b" ");
+            self.put_some(&digits.bytes, digits.len);
+        }
+    }
+
+    // Adds a number of any digits after a space.
     #[inline(never)]
     fn put_long(&mut self, number: u64)
         requires { SPACED + length self.old ≤ ROOM }
