@@ -3,7 +3,7 @@
 ghost use Rattle.std.specs.Prelude.{◌≡◌, ◌∷◌, [], ◌++◌, ◌+◌, ◌^◌, ◌<◌, ◌≤◌, length, IfOk, OnErr, OnOk};
 ghost use Rattle.std.specs.Int.{bytes_low_first};
 ghost use Rattle.lane_model.specs.Lane.{chunks_in};
-ghost use Rattle.traffic_plan.specs.Load.{word_at, state_past, load_pair, most_load_frames, length_of, payload_of, frame_lines, frames_given, lines_of_frame, load_of, plan_of};
+ghost use Rattle.traffic_plan.specs.Load.{eight_of, word_at, state_past, load_pair, most_load_frames, length_of, payload_of, frame_lines, frames_given, lines_of_frame, load_of, plan_of};
 
 use crate::steps::{land, land_all, push_landings, receive, send};
 use plan_numbers::chunks_in;
@@ -40,15 +40,16 @@ fn load_pair() -> PairPlan
     pair_with(Name::of_bytes(b"p"), &[Setting::Up, size, mtu])
 }
 
-/// The bytes of a word, the lowest first, four times.
+/// The bytes of a word, the lowest first, eight times.
 #[inline]
-fn four_times(word: u64) -> [u8; 32]
-    ensures { result ≡ bytes_low_first 0 8 word ++ bytes_low_first 0 8 word ++ bytes_low_first 0 8 word ++ bytes_low_first 0 8 word }
+fn eight_times(word: u64) -> [u8; 64]
+    ensures { result ≡ eight_of (bytes_low_first 0 8 word) }
 {
     let [a, b, c, d, e, f, g, h] = word.to_le_bytes();
     [
         a, b, c, d, e, f, g, h, a, b, c, d, e, f, g, h, a, b, c, d, e, f, g, h, a, b, c, d, e, f,
-        g, h,
+        g, h, a, b, c, d, e, f, g, h, a, b, c, d, e, f, g, h, a, b, c, d, e, f, g, h, a, b, c, d,
+        e, f, g, h,
     ]
 }
 
@@ -58,10 +59,10 @@ fn payload(alloc: Global, word: u64) -> Result<Frame, AllocError>
     ensures len { IfOk result (λ frame. length frame ≡ length_of word) }
 {
     let len = 1 + (word % 300) as usize;
-    let words = four_times(word);
+    let words = eight_times(word);
     let mut bytes = Vec::new(alloc);
-    bytes.reserve(len + 31)?;
-    for _ in 0..len.div_ceil(32) {
+    bytes.reserve(len + 63)?;
+    for _ in 0..len.div_ceil(64) {
         bytes.extend_from_slice(&words)?;
     }
     bytes.truncate(len);
