@@ -1,5 +1,5 @@
 -- The report of a plan, made of what its functions give.
-use Rattle.std.proofs.Common.{◌≡◌, ◌∙◌, ℕ, ◌<◌, List, [], ◌∷◌, ◌++◌, append-nil, append_assoc, Result, Ok, Err, IfOk, length, sym, ap, subst, arith, Global, Vec}
+use Rattle.std.proofs.Common.{◌≡◌, ◌∙◌, ℕ, zero, suc, ◌<◌, List, [], ◌∷◌, ◌++◌, append-nil, append_assoc, Result, Ok, Err, IfOk, length, replicate, sym, ap, subst, arith, Global, Vec}
 use Rattle.std.specs.List.{All, flat_map, fold}
 use Rattle.std.proofs.lemmas.List.{length-map}
 use Rattle.step_kinds.specs.declared.plan.Counters.{Counters}
@@ -43,6 +43,14 @@ answers_kept (line ∷ lines) [] text = sym (append-nil text)
 answers_kept (line ∷ lines) (made ∷ log) text =
     let own : List ℕ = answer_line (record { line = line.line; answer = made.answer }) in
     answers_kept lines log (text ++ own) ∙ append_assoc text own (answers_text lines log)
+
+-- one line so many times is what is kept of as many answers
+pub lines_again : (count : ℕ) (answered : AnsweredStep) (text : List ℕ) →
+    text ++ flat_map answer_line (replicate count answered.made) ≡ fold (λ (text : List ℕ) (answered : AnsweredStep). text ++ answer_line answered.made) text (replicate count answered)
+lines_again zero answered text = append-nil text
+lines_again (suc count) answered text =
+    let own : List ℕ = answer_line answered.made in
+    sym (append_assoc text own (flat_map answer_line (replicate count answered.made))) ∙ lines_again count answered (text ++ own)
 
 -- what the report asks of the counts
 

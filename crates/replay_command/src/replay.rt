@@ -18,32 +18,16 @@ ghost use Rattle.replay_command.specs.Replays.{
 
 use crate::steps::{KeepsAnswers, make_steps};
 use cluster_core::Cluster;
-use report_text::{LaneCount, push_answer_line, push_ending};
+use report_text::{AnswerLines, LaneCount, push_ending};
 use script_plan::Script;
 use std::alloc::{AllocError, Global};
-use std::marker::Model;
 use step_kinds::{Counters, LaneName, LineAnswer, Side, Step};
-
-/// The lines of the answers so far, and room for one line that comes again and again. Contracts see the bytes of the lines.
-#[derive(Drop)]
-struct AnswerLines {
-    text: Vec<u8>,
-    line: Vec<u8>,
-}
-
-impl Model for AnswerLines {
-    ghost use Rattle.std.specs.Prelude.{ℕ, List};
-
-    ghost Value = { List ℕ };
-
-    ghost view = { λ lines. lines.text.items };
-}
 
 impl KeepsAnswers for AnswerLines {
     ghost with_answer = { λ text answered. text ++ answer_line answered.made };
 
     fn keep(&mut self, _step: &Step, made: &LineAnswer) -> Result<(), AllocError> {
-        push_answer_line(&mut self.text, made)
+        self.push(made)
     }
 
     fn keep_times(
@@ -52,12 +36,7 @@ impl KeepsAnswers for AnswerLines {
         made: &LineAnswer,
         count: u32,
     ) -> Result<(), AllocError> {
-        self.line.clear();
-        push_answer_line(&mut self.line, made)?;
-        for _ in 0..count {
-            self.text.extend_from_slice(&self.line)?;
-        }
-        Ok(())
+        self.push_times(made, count)
     }
 }
 
@@ -68,14 +47,11 @@ pub fn replay_text(alloc: Global, script: &Script) -> Result<Vec<u8>, AllocError
     ensures { IfOk result (λ text. text.items ≡ text_of_plan (plan_in script.now)) }
 {
     let mut cluster = Cluster::new(alloc, &script.declared)?;
-    let mut lines = AnswerLines {
-        text: Vec::new(alloc),
-        line: Vec::new(alloc),
-    };
+    let mut lines = AnswerLines::new(alloc);
     make_steps(&script.steps, &mut cluster, &mut lines)?;
     let lanes = lane_counts(alloc, script, &cluster)?;
     let devs = device_counts(alloc, script, &cluster)?;
-    let mut text = lines.text;
+    let mut text = lines.into_text()?;
     push_ending(&mut text, &script.declared, &lanes, &devs)?;
     Ok(text)
 }

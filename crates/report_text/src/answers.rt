@@ -12,8 +12,8 @@ use step_kinds::{Answer, Label};
 // The most bytes of a label's text: a word of five letters and three numbers.
 const LABEL_ROOM: usize = 68;
 
-// The most bytes of an answer's text before its bytes: a word of five letters, a number, a space and a label.
-const START_ROOM: usize = 95;
+/// The most bytes of an answer's text before its bytes: a word of five letters, a number, a space and a label.
+pub const START_ROOM: usize = 95;
 
 /// The text of an answer, as it stands in a report after the number of its line. The only error is running out of
 /// memory.
@@ -47,11 +47,11 @@ pub fn push_bytes(text: &mut Vec<u8>, answer: &Answer) -> Result<(), AllocError>
     }
 }
 
-/// Puts the text of an answer in front of a line, but for the bytes that the answer ends with.
+/// Adds the text of an answer to a line, but for the bytes that the answer ends with.
 pub fn put_start(line: &mut LineText, answer: &Answer)
     requires { START_ROOM + length line.old ≤ ROOM }
-    ensures text { line.new ≡ start_text answer.now ++ line.old }
-    ensures len { length line.new ≤ START_ROOM + length line.old }
+    ensures text { line.new ≡ line.old ++ start_text answer.now }
+    ensures len { length line.new ≤ length line.old + START_ROOM }
 {
     match answer {
         Answer::OkSession { session } => line.put_one(b"ok", u64::from(*session)),
@@ -64,20 +64,26 @@ pub fn put_start(line: &mut LineText, answer: &Answer)
         Answer::TooLong { len, max } => put_pair(line, b"toolong", *len, *max),
         Answer::Again { head, tail } => put_pair(line, b"again", *head, *tail),
         Answer::Posted { label } => {
-            put_label(line, label);
             line.put_word(b"posted ");
+            put_label(line, label);
         }
         Answer::Landed { label } => {
-            put_label(line, label);
             line.put_word(b"landed ");
+            put_label(line, label);
         }
         Answer::VerDiffers { seen, own } => put_pair(line, b"verdiffers", *seen, *own),
         Answer::Long { len, max } => put_pair(line, b"long", *len, *max),
-        Answer::ReadyFrame { number, len } => line.put_two(b"ready", *number, u64::from(*len)),
-        Answer::Copied { number, part } => line.put_two(b"copied", *number, u64::from(*part)),
+        Answer::ReadyFrame { number, len } => {
+            line.put_one(b"ready", *number);
+            line.put_fresh(u64::from(*len));
+        }
+        Answer::Copied { number, part } => {
+            line.put_one(b"copied", *number);
+            line.put_fresh(u64::from(*part));
+        }
         Answer::Delivered { number, .. } => {
-            line.put_word(b" ");
             line.put_one(b"frame", *number);
+            line.put_word(b" ");
         }
         Answer::Cleared { number } => line.put_one(b"cleared", *number),
         Answer::Acked { number } => line.put_one(b"acked", *number),
@@ -116,12 +122,12 @@ pub fn put_start(line: &mut LineText, answer: &Answer)
     }
 }
 
-// Puts the text of an answer of one word in front of a line.
+// Adds the text of an answer of one word to a line.
 fn put_one_word(line: &mut LineText, answer: &Answer)
     requires room { START_ROOM + length line.old ≤ ROOM }
     requires word { IsOneWord answer.now }
-    ensures text { line.new ≡ answer_text answer.now ++ line.old }
-    ensures len { length line.new ≤ START_ROOM + length line.old }
+    ensures text { line.new ≡ line.old ++ answer_text answer.now }
+    ensures len { length line.new ≤ length line.old + START_ROOM }
 {
     match answer {
         Answer::Ok => line.put_word(b"ok"),
@@ -153,35 +159,35 @@ fn put_one_word(line: &mut LineText, answer: &Answer)
     }
 }
 
-// Puts a word and two numbers in front of a line.
+// Adds a word and two numbers to a line.
 #[inline]
 fn put_pair<const N: usize>(line: &mut LineText, word: &[u8; N], one: u32, other: u32)
     requires { N + 2 * SPACED + length line.old ≤ ROOM }
-    ensures text { line.new ≡ with_two word.now one other ++ line.old }
-    ensures len { length line.new ≤ N + 2 * SPACED + length line.old }
+    ensures text { line.new ≡ line.old ++ with_two word.now one other }
+    ensures len { length line.new ≤ length line.old + N + 2 * SPACED }
 {
     line.put_two(word, u64::from(one), u64::from(other))
 }
 
-// Puts the text of the writes in flight in front of a line; a dash stands where none is at the place that was asked for.
+// Adds the text of the writes in flight to a line; a dash stands where none is at the place that was asked for.
 fn put_queue(line: &mut LineText, count: u64, label: &Option<Label>)
     requires { START_ROOM + length line.old ≤ ROOM }
-    ensures text { line.new ≡ answer_text (Answer.QueueShown count label.now) ++ line.old }
-    ensures len { length line.new ≤ START_ROOM + length line.old }
+    ensures text { line.new ≡ line.old ++ answer_text (Answer.QueueShown count label.now) }
+    ensures len { length line.new ≤ length line.old + START_ROOM }
 {
+    line.put_one(b"queue", count);
+    line.put_word(b" ");
     match label {
         Some(label) => put_label(line, label),
         None => line.put_word(b"-"),
     }
-    line.put_word(b" ");
-    line.put_one(b"queue", count);
 }
 
-// Puts the text of a label in front of a line.
+// Adds the text of a label to a line.
 fn put_label(line: &mut LineText, label: &Label)
     requires { LABEL_ROOM + length line.old ≤ ROOM }
-    ensures text { line.new ≡ label_text label.now ++ line.old }
-    ensures len { length line.new ≤ LABEL_ROOM + length line.old }
+    ensures text { line.new ≡ line.old ++ label_text label.now }
+    ensures len { length line.new ≤ length line.old + LABEL_ROOM }
 {
     match label {
         Label::Chunk {

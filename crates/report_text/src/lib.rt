@@ -2,6 +2,7 @@
 //! buffer. Numbers are decimal, bytes lower-case hexadecimal, and each line ends with a line feed.
 #![tactic(auto)]
 
+mod answer_lines;
 mod answers;
 pub mod append;
 mod line;
@@ -9,7 +10,8 @@ mod run;
 mod stream;
 mod whole;
 
+pub use answer_lines::{AnswerLines, push_answer_line};
 pub use answers::{push_answer, text_of};
 pub use run::record_text;
 pub use stream::push_stream;
-pub use whole::{LaneCount, push_answer_line, push_ending, report};
+pub use whole::{LaneCount, push_ending, report};

@@ -1,16 +1,13 @@
 //! The report of a replay.
 
 ghost use Rattle.std.specs.Prelude.{◌≡◌, ◌++◌, ◌<◌, ◌≤◌, IfOk, OnOk, All, length, ◌∷◌};
-ghost use Rattle.std.specs.Fmt.{decimal};
 ghost use Rattle.std.specs.List.{flat_map};
-ghost use Rattle.report_text.specs.Texts.{start_text};
 ghost use Rattle.report_text.specs.Report.{answer_line, count_lines, device_line, device_lines, ending, lane_text, report_of, side_text};
 
-use crate::answers::{push_bytes, put_start};
+use crate::answer_lines::AnswerLines;
 use crate::append::{push_numbers, push_word};
-use crate::line::LineText;
 use std::alloc::{AllocError, Global};
-use step_kinds::{Answer, Counters, DevPlan, LaneName, LineAnswer, PairPlan, Plan, Side};
+use step_kinds::{Counters, DevPlan, LaneName, LineAnswer, PairPlan, Plan, Side};
 
 /// What a lane accepted and delivered in a link session, in frames.
 #[derive(Clone, Copy, Debug, PartialEq, Eq)]
@@ -41,8 +38,11 @@ pub fn report(
     requires all_devices { length devs.now ≡ length plan.now.devs }
     ensures { IfOk result (λ text. text.items ≡ report_of plan.now lines.now lanes.now devs.now) }
 {
-    let mut text = Vec::new(alloc);
-    push_answers(&mut text, lines)?;
+    let mut answers = AnswerLines::new(alloc);
+    for made in lines {
+        answers.push(made)?;
+    }
+    let mut text = answers.into_text()?;
     push_ending(&mut text, plan, lanes, devs)?;
     Ok(text)
 }
@@ -65,50 +65,6 @@ pub fn push_ending(
     push_lanes(text, plan.pairs.as_slice(), lanes)?;
     push_devices(text, plan.devs.as_slice(), devs)?;
     push_word(text, "end\n")
-}
-
-// Adds the lines of all answers.
-fn push_answers(text: &mut Vec<u8>, lines: &[LineAnswer]) -> Result<(), AllocError>
-    ensures { OnOk result (text.new.items ≡ text.old.items ++ flat_map answer_line lines.now) }
-{
-    for made in lines {
-        push_answer_line(text, made)?;
-    }
-    Ok(())
-}
-
-/// Adds the line of an answer: the number of its script line, a space, and the answer's text. The only error is out of
-/// memory, and then some part of the line may have been added.
-pub fn push_answer_line(text: &mut Vec<u8>, made: &LineAnswer) -> Result<(), AllocError>
-    ensures { OnOk result (text.new.items ≡ text.old.items ++ answer_line made.now) }
-{
-    match &made.answer {
-        Answer::Delivered { .. } | Answer::Mem { .. } => {
-            push_start(text, made, b"")?;
-            push_bytes(text, &made.answer)?;
-            text.push(b'\n')?;
-            Ok(())
-        }
-        _ => push_start(text, made, b"\n"),
-    }
-}
-
-// Adds the line of an answer up to the bytes that the answer ends with, and after it a word of one byte at most.
-#[inline]
-fn push_start<const N: usize>(
-    text: &mut Vec<u8>,
-    made: &LineAnswer,
-    last: &[u8; N],
-) -> Result<(), AllocError>
-    requires { N ≤ 1 }
-    ensures { OnOk result (text.new.items ≡ text.old.items ++ decimal made.now.line ++ 32 ∷ start_text made.now.answer ++ last.now) }
-{
-    let mut line = LineText::new();
-    line.put_word(last);
-    put_start(&mut line, &made.answer);
-    line.put_word(b" ");
-    line.put_number(u64::from(made.line));
-    text.extend_from_slice(line.as_slice())
 }
 
 // Adds the lines of what lanes accepted and delivered.

@@ -12,7 +12,7 @@ use Rattle.step_kinds.specs.declared.steps.Step.TheVariants.{Post, Land, Copy, C
 use Rattle.lane_model.specs.Lane.{chunks_in}
 use Rattle.plan_model.specs.Macros.{send, receive}
 use Rattle.step_list.specs.Compact.{lines_with}
-use Rattle.traffic_plan.specs.Load.{word_at, state_past, state_after, word_of, load_pair, length_of, payload_of, landings_of, frame_steps, frame_lines, lines_of_frame, LoadGiven, frames_given}
+use Rattle.traffic_plan.specs.Load.{eight_of, word_at, state_past, state_after, word_of, load_pair, length_of, payload_of, landings_of, frame_steps, frame_lines, lines_of_frame, LoadGiven, frames_given}
 
 -- a state is a number of 64 bits
 past_small : (state : ℕ) → state_past state < 2 ^ 64
@@ -111,6 +111,40 @@ bytes_more word k =
     let first : 0 + 8 * k ≡ 8 * k + 0 = omega arith in
     ap (λ n. map (byte_of word) (range_with_len 0 n)) size ∙ (range_both (byte_of word) 0 (8 * k) 8
     ∙ ap (λ (rest : List ℕ). map (byte_of word) (range_with_len 0 (8 * k)) ++ rest) (ap (λ b. map (byte_of word) (range_with_len b 8)) first ∙ eight_bytes word k 0 8 (omega arith)))
+
+-- The first 32(k+1) are its first 32k and then its eight bytes four times.
+pub four_words_more : (word k : ℕ) → map (byte_of word) (range_with_len 0 (32 * (k + 1)))
+    ≡ map (byte_of word) (range_with_len 0 (32 * k)) ++ (bytes_low_first 0 8 word ++ bytes_low_first 0 8 word ++ bytes_low_first 0 8 word ++ bytes_low_first 0 8 word)
+four_words_more word k =
+    let so_far : ℕ → List ℕ = λ n. map (byte_of word) (range_with_len 0 (8 * n)) in
+    let own : List ℕ = bytes_low_first 0 8 word in
+    let first : List ℕ = map (byte_of word) (range_with_len 0 (32 * k)) in
+    let all : 32 * (k + 1) ≡ 8 * (4 * k + 3 + 1) = omega arith in
+    let third : 4 * k + 3 ≡ 4 * k + 2 + 1 = omega arith in
+    let second : 4 * k + 2 ≡ 4 * k + 1 + 1 = omega arith in
+    let none : 8 * (4 * k) ≡ 32 * k = omega arith in
+    ap (λ n. map (byte_of word) (range_with_len 0 n)) all
+    ∙ bytes_more word (4 * k + 3)
+    ∙ ap (λ (before : List ℕ). before ++ own) (ap so_far third ∙ bytes_more word (4 * k + 2))
+    ∙ ap (λ (before : List ℕ). (before ++ own) ++ own) (ap so_far second ∙ bytes_more word (4 * k + 1))
+    ∙ ap (λ (before : List ℕ). ((before ++ own) ++ own) ++ own) (bytes_more word (4 * k))
+    ∙ ap (λ n. (((map (byte_of word) (range_with_len 0 n) ++ own) ++ own) ++ own) ++ own) none
+    ∙ append_assoc ((first ++ own) ++ own) own own
+    ∙ append_assoc (first ++ own) own (own ++ own)
+    ∙ append_assoc first own (own ++ (own ++ own))
+
+-- The first 64(k+1) are its first 64k and then its eight bytes eight times.
+pub eight_words_more : (word k : ℕ) → map (byte_of word) (range_with_len 0 (64 * (k + 1))) ≡ map (byte_of word) (range_with_len 0 (64 * k)) ++ eight_of (bytes_low_first 0 8 word)
+eight_words_more word k =
+    let own : List ℕ = bytes_low_first 0 8 word in
+    let four : List ℕ = own ++ own ++ own ++ own in
+    let all : 64 * (k + 1) ≡ 32 * (2 * k + 1 + 1) = omega arith in
+    let none : 32 * (2 * k) ≡ 64 * k = omega arith in
+    ap (λ n. map (byte_of word) (range_with_len 0 n)) all
+    ∙ four_words_more word (2 * k + 1)
+    ∙ ap (λ (before : List ℕ). before ++ four) (four_words_more word (2 * k))
+    ∙ ap (λ n. (map (byte_of word) (range_with_len 0 n) ++ four) ++ four) none
+    ∙ append_assoc (map (byte_of word) (range_with_len 0 (64 * k))) four four
 
 -- of which the first are those of a shorter range
 pub first_bytes : (f : ℕ → ℕ) (a len all : ℕ) → len ≤ all → take len (map f (range_with_len a all)) ≡ map f (range_with_len a len)

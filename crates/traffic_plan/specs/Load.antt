@@ -46,6 +46,10 @@ length_of word = 1 + word % 300
 abbrev pub payload_of : ℕ → List ℕ
 payload_of word = map (λ j. word / 2 ^ (8 * (j % 8)) % 256) (range_with_len 0 (length_of word))
 
+-- bytes eight times
+abbrev pub eight_of : List ℕ → List ℕ
+eight_of bytes = (bytes ++ bytes ++ bytes ++ bytes) ++ (bytes ++ bytes ++ bytes ++ bytes)
+
 -- each byte of its second word says where a write may land: at a place from 0 to 3
 abbrev pub landings_of : ℕ → List Step
 landings_of word = map (λ i. Land 0 A (word / 2 ^ (8 * i) % 4)) (range_with_len 0 8)

@@ -1,8 +1,9 @@
 //! The plan of a generated load.
 
 ghost use Rattle.std.specs.Prelude.{◌≡◌, ◌∷◌, [], ◌++◌, ◌+◌, ◌^◌, ◌<◌, ◌≤◌, length, IfOk, OnErr, OnOk};
+ghost use Rattle.std.specs.Int.{bytes_low_first};
 ghost use Rattle.lane_model.specs.Lane.{chunks_in};
-ghost use Rattle.traffic_plan.specs.Load.{word_at, state_past, load_pair, most_load_frames, length_of, payload_of, frame_lines, frames_given, lines_of_frame, load_of, plan_of};
+ghost use Rattle.traffic_plan.specs.Load.{eight_of, word_at, state_past, load_pair, most_load_frames, length_of, payload_of, frame_lines, frames_given, lines_of_frame, load_of, plan_of};
 
 use crate::steps::{land, land_all, push_landings, receive, send};
 use plan_numbers::chunks_in;
@@ -39,16 +40,30 @@ fn load_pair() -> PairPlan
     pair_with(Name::of_bytes(b"p"), &[Setting::Up, size, mtu])
 }
 
+/// The bytes of a word, the lowest first, eight times.
+#[inline]
+fn eight_times(word: u64) -> [u8; 64]
+    ensures { result ≡ eight_of (bytes_low_first 0 8 word) }
+{
+    let [a, b, c, d, e, f, g, h] = word.to_le_bytes();
+    [
+        a, b, c, d, e, f, g, h, a, b, c, d, e, f, g, h, a, b, c, d, e, f, g, h, a, b, c, d, e, f,
+        g, h, a, b, c, d, e, f, g, h, a, b, c, d, e, f, g, h, a, b, c, d, e, f, g, h, a, b, c, d,
+        e, f, g, h,
+    ]
+}
+
 /// The bytes of a frame, by its first word.
 fn payload(alloc: Global, word: u64) -> Result<Frame, AllocError>
     ensures value { IfOk result (λ frame. frame ≡ payload_of word) }
     ensures len { IfOk result (λ frame. length frame ≡ length_of word) }
 {
     let len = 1 + (word % 300) as usize;
+    let words = eight_times(word);
     let mut bytes = Vec::new(alloc);
-    bytes.reserve(len + 7)?;
-    for _ in 0..len.div_ceil(8) {
-        bytes.extend_from_slice(&word.to_le_bytes())?;
+    bytes.reserve(len + 63)?;
+    for _ in 0..len.div_ceil(64) {
+        bytes.extend_from_slice(&words)?;
     }
     bytes.truncate(len);
     Ok(Frame::of_vec(bytes))

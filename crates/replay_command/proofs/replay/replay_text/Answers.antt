@@ -37,9 +37,9 @@ returns c =
     c.in_ok-make_steps.ensures.kept plan []
     (record { made = c.in_ok-cluster.ensures.made plan refl; kept = c.in_ok-cluster.ensures.plan }) in
     let answers : List Answered = made.answers in
-    let text : c.lines.inside.text.items ≡ answers_text script.steps (log_of_plan plan) =
-    c.lines.view_is ∙ made.kept ∙ answers_kept script.steps answers c.new-2.result.items
-    ∙ ap (λ (before : List ℕ). before ++ answers_text script.steps answers) c.new-2.ensures.items
+    let text : c.in_ok-text.text.items ≡ answers_text script.steps (log_of_plan plan) =
+    c.in_ok-text.ensures ∙ made.kept ∙ answers_kept script.steps answers c.new-lines.result
+    ∙ ap (λ (before : List ℕ). before ++ answers_text script.steps answers) c.new-lines.ensures
     ∙ ap (answers_text script.steps) (sym made.log) in
     replay_text_is plan c.deref.result.now c.deref-2.result.now _ _ text (c.deref.ensures.value ∙ c.in_ok-lanes.ensures)
     (c.deref-2.ensures.value ∙ c.in_ok-devs.ensures) c.in_ok-push_ending.ensures

@@ -1,8 +1,0 @@
--- The lines of the answers before the index are in the text.
-use Rattle.std.proofs.Common.{◌≡◌, ◌++◌, take}
-use Rattle.std.specs.List.{flat_map}
-use Rattle.report_text.specs.Report.{answer_line}
-use Rattle.report_text.proofs.whole.push_answers.Given as goal
-
-abbrev pub invariant-loop-made : goal.invariant-loop-made
-invariant-loop-made l = l.text.items ≡ l.initial.text.items ++ flat_map answer_line (take l.made-index l.lines)
