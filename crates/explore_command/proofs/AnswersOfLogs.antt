@@ -1,9 +1,11 @@
 -- What a cluster answers is the answer of the log of which a search speaks, and from a place on it lands nothing.
-use Rattle.std.proofs.Common.{◌≡◌, ◌∙◌, ℕ, ◌≤◌, false, List, refl, sym, subst}
+use Rattle.std.proofs.Common.{◌≡◌, ◌∙◌, ℕ, ◌≤◌, false, true, List, refl, sym, subst}
+use Rattle.std.proofs.lemmas.Bool.{false≢true}
 use Rattle.step_kinds.specs.declared.names.Side.{Side}
 use Rattle.step_kinds.specs.declared.plan.Plan.{Plan}
 use Rattle.step_kinds.specs.declared.steps.Answer.{Answer}
 use Rattle.step_kinds.specs.declared.steps.Answer.TheVariants.{Landed, Nothing}
+use Rattle.step_kinds.specs.declared.steps.Label.{Label}
 use Rattle.step_kinds.specs.declared.steps.Step.{Step}
 use Rattle.step_kinds.specs.declared.steps.Step.TheVariants.{Land}
 use Rattle.ledger_laws.specs.Laws.{is_made}
@@ -32,3 +34,15 @@ lands_nothing cluster pair side count none plan steps place made beyond =
 pub unmade_landing : (pair : ℕ) (side : Side) (place : ℕ) (answer : Answer) → is_landed answer ≡ false → is_made (Land pair side place) answer ≡ false
 unmade_landing pair side place (Landed label) idle = idle
 unmade_landing pair side place answer idle = refl
+
+-- an answer that says `landed` has a label
+label_of : (answer : Answer) → is_landed answer ≡ true → (label : Label) × (answer ≡ Landed label)
+label_of (Landed label) is = (label, refl)
+label_of answer is = absurd (false≢true is)
+
+-- so the cluster's log says it with one
+pub landed_with : (plan : Plan) (steps : List Step) (pair : ℕ) (side : Side) (place : ℕ) → is_landed (answer_after plan steps (Land pair side place)) ≡ true →
+    (label : Label) × (answer_of_cluster plan steps (Land pair side place) ≡ Landed label)
+landed_with plan steps pair side place is =
+    let found = label_of (answer_after plan steps (Land pair side place)) is in
+    (found.0, one_definition plan steps (Land pair side place) ∙ found.1)
