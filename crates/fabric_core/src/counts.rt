@@ -1,6 +1,6 @@
 //! How many frames of a lane there were in each session.
 
-ghost use Rattle.std.specs.Prelude.{◌↔◌, ◌≡◌, ◌≢◌, ◌<◌, ◌≤◌, All, IfNone, IfOk, IfSome, IsTrue, OnErr, OnOk, ℕ, length, map, slice_index_or, true};
+ghost use Rattle.std.specs.Prelude.{◌↔◌, ◌≡◌, ◌≢◌, ◌<◌, ◌≤◌, All, IfNone, IfOk, IfSome, IsTrue, OnErr, OnOk, ℕ, false, length, map, slice_index_or, true};
 ghost use Rattle.fabric_core.specs.Same.{AreSameCounts, AreSameWhereCounted};
 ghost use Rattle.fabric_core.specs.Sessions.{AreApart, AreUpTo, IsNowhere, IsPlaceOf, count_seen, no_count, nothing_tallied};
 ghost use Rattle.fabric_rule.specs.Parts.{count_in, one_more};
@@ -58,10 +58,11 @@ impl SessionCounts {
         Ok(())
     }
 
-    /// Counts one more frame in a session. Room has to be there; it takes no memory.
+    /// Counts one more frame in a session. Room has to be there, and is used by it; it takes no memory.
     pub fn one_more(&mut self, session: u32)
         requires { self.old.has_room ≡ true }
-        ensures { self.new.counts ≡ one_more self.old.counts session }
+        ensures counts { self.new.counts ≡ one_more self.old.counts session }
+        ensures room { self.new.has_room ≡ false }
     {
         match place_of(&self.counts, self.most, session) {
             Some(place) => {

@@ -7,8 +7,8 @@ use Rattle.fabric_core.proofs.SessionTallies.{one_more_at, one_more_behind, tall
 use Rattle.fabric_core.proofs.counts.SessionCounts.one_more.Goals.{in-Some, in-None}
 use Rattle.fabric_core.proofs.counts.SessionCounts.one_more.Goals as goal
 
-pub returns : goal.returns
-returns c =
+pub returns-clause-counts : goal.returns-clause-counts
+returns-clause-counts c =
     let seen : one_more (map count_seen c.self.inside.counts.items) c.args.session ≡ one_more c.args.self.now.counts c.args.session =
     ap (λ (tallied : Tallied). one_more tallied.counts c.args.session) c.self.view_is in
     elim c.match-place_of.branch [

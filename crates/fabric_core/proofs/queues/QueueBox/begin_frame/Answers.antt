@@ -49,7 +49,7 @@ returns c =
     (subst (λ (part : QueuePart). part_with c.begin_unrefused.new.self inside.flow inside.counters c.one_more.new.self.counts inside.delivered.counts ≡ (begin_turn part bridge c.args.frame).part) c.self.view_is
     (same_part c.begin_unrefused.new.self queue inside.flow inside.flow inside.counters inside.counters c.one_more.new.self.counts _ inside.delivered.counts inside.delivered.counts
     c.in_ok-number.ensures.after refl refl
-    (c.one_more.ensures ∙ ap (λ counts. one_more counts c.session.result) room
+    (c.one_more.ensures.counts ∙ ap (λ counts. one_more counts c.session.result) room
     ∙ ap (one_more inside.accepted.counts) (c.session.ensures.value ∙ ap (λ (link : Link). link.session) (c.link.ensures ∙ link))) refl
     ∙ sym (begun_counts answer bridge.link.session part begins)))
     (plain_grown inside.queue.port c.begin_unrefused.new.self.port bridge c.begin_unrefused.new.pair c.begin_unrefused.ensures.rest)

@@ -45,7 +45,7 @@ returns-clause-after c =
           w.self-is
           ∙ same_part c.copy-copy.new.self queue inside.flow inside.flow w.delivered-self-inside.result _ inside.accepted.counts inside.accepted.counts w.one_more.new.self.counts _
           c.copy-copy.ensures.after refl (w.delivered-self-inside.ensures ∙ ap (count_delivered inside.counters) w.len.ensures.value) refl
-          (w.one_more.ensures ∙ ap (one_more inside.delivered.counts) (w.session.ensures.value ∙ ap (λ (link : Link). link.session) w.link.ensures))
+          (w.one_more.ensures.counts ∙ ap (one_more inside.delivered.counts) (w.session.ensures.value ∙ ap (λ (link : Link). link.session) w.link.ensures))
           ∙ ap (λ (copy : LaneCopy). delivered_where_whole copy bridge.link.session part) (sym w.in-Whole.is ∙ c.copy-copy.ensures.answer)
       | in_default w ↦
           w.self-is
