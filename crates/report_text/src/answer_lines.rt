@@ -7,6 +7,7 @@ ghost use Rattle.report_text.specs.Texts.{start_text};
 ghost use Rattle.report_text.specs.Report.{answer_line};
 
 use crate::answers::{START_ROOM, push_bytes, put_start};
+use crate::append::push_repeated;
 use crate::line::{DIGITS, LineText, ROOM};
 use std::alloc::{AllocError, Global};
 use std::marker::Model;
@@ -23,6 +24,7 @@ pub struct AnswerLines {
     text: Vec<u8>,
     last: LineText,
     again: Vec<u8>,
+    block: Vec<u8>,
 }
 
 impl AnswerLines {
@@ -34,6 +36,7 @@ impl AnswerLines {
             text: Vec::new(alloc),
             last: LineText::new(),
             again: Vec::new(alloc),
+            block: Vec::new(alloc),
         }
     }
 
@@ -62,10 +65,7 @@ impl AnswerLines {
         gather(&mut self.text, &mut self.last)?;
         self.again.clear();
         push_line(&mut self.again, &mut self.last, made)?;
-        for _ in 0..count {
-            self.text.extend_from_slice(&self.again)?;
-        }
-        Ok(())
+        push_repeated(&mut self.text, &mut self.block, &self.again, count)
     }
 
     /// All lines. The only error is out of memory.

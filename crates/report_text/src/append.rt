@@ -1,11 +1,15 @@
 //! Appending to a text.
 
 ghost use Rattle.std.specs.Prelude.{◌≡◌, ◌++◌, OnOk, List, map};
+ghost use Rattle.std.specs.List.{repeat};
 ghost use Rattle.hex.specs.Hex.{encode_lower};
 ghost use Rattle.report_text.specs.Texts.{frame_text, numbers_text};
 
 use itoa::Buffer;
 use std::alloc::AllocError;
+
+// How many copies of bytes that repeat are added at a time.
+const COPIES: u32 = 64;
 
 /// Adds a word.
 pub fn push_word(text: &mut Vec<u8>, word: &str) -> Result<(), AllocError>
@@ -46,4 +50,33 @@ pub fn push_frame(text: &mut Vec<u8>, bytes: &[u8]) -> Result<(), AllocError>
         return push_word(text, "-");
     }
     push_hex(text, bytes)
+}
+
+/// Adds bytes so many times. The block is a place for many copies, which are then added at a time; what stood there is
+/// gone.
+pub fn push_repeated(
+    text: &mut Vec<u8>,
+    block: &mut Vec<u8>,
+    bytes: &[u8],
+    count: u32,
+) -> Result<(), AllocError>
+    ensures { OnOk result (text.new.items ≡ text.old.items ++ repeat count bytes.now) }
+{
+    if count < COPIES {
+        return push_copies(text, bytes, count);
+    }
+    block.clear();
+    push_copies(block, bytes, COPIES)?;
+    push_copies(text, block, count / COPIES)?;
+    push_copies(text, bytes, count % COPIES)
+}
+
+// Adds bytes so many times, one copy at a time.
+fn push_copies(text: &mut Vec<u8>, bytes: &[u8], count: u32) -> Result<(), AllocError>
+    ensures { OnOk result (text.new.items ≡ text.old.items ++ repeat count bytes.now) }
+{
+    for _ in 0..count {
+        text.extend_from_slice(bytes)?;
+    }
+    Ok(())
 }
