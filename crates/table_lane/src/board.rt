@@ -28,20 +28,15 @@ pub(crate) struct Standing {
 }
 
 impl Standing {
-    /// At a table that other ends stand at too. The only error is running out of memory.
-    pub(crate) fn beside(
-        table: &Arc<LaneTable, Global>,
-        seat: LaneSeat,
-        entries: u64,
-    ) -> Result<Standing, AllocError>
-        ensures { IfOk result (λ at. (arc_value at.table ≡ arc_value table.now) × (at.seat.table_id ≡ seat.table_id) × (at.seat.me ≡ seat.me) × (at.entries ≡ entries)) }
+    /// At a table, with a seat.
+    pub(crate) fn new(table: Arc<LaneTable, Global>, seat: LaneSeat, entries: u64) -> Standing
+        ensures { (result.table ≡ table) × (result.seat ≡ seat) × (result.entries ≡ entries) }
     {
-        let table = Arc::try_clone(table)?;
-        Ok(Standing {
+        Standing {
             table,
             seat,
             entries,
-        })
+        }
     }
 }
 

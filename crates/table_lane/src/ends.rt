@@ -1,5 +1,6 @@
 //! A lane is made: one table, and an end for each part.
 ghost use Rattle.std.specs.Prelude.{◌≡◌, ◌≤◌, ◌<◌, [], IfOk};
+ghost use Rattle.std.specs.Arc.{arc_value};
 ghost use Rattle.table_rule.specs.Views.{all_parts, OfMover, OfReceiver, OfWayBack, OfCut, without, alone};
 ghost use Rattle.table_rule.specs.Words.{first_words, words_of};
 ghost use Rattle.table_lane.specs.NewEnds.{AreNew};
@@ -16,6 +17,14 @@ use std::sync::Arc;
 use step_kinds::FrameList;
 use table_rule::parts::{BackPart, CutPart, MovePart, RecvPart};
 use table_rule::plays::SplitsOff;
+
+// A table, shared by four ends.
+type FourTables = (
+    Arc<LaneTable, Global>,
+    Arc<LaneTable, Global>,
+    Arc<LaneTable, Global>,
+    Arc<LaneTable, Global>,
+);
 
 // The words of a new table: all 0, but both indices name the last position.
 fn start_words(alloc: Global, entries: u64) -> Result<Vec<u64>, AllocError>
@@ -48,6 +57,17 @@ fn room_for(alloc: Global, entries: u64) -> Result<FrameList, AllocError>
     Ok(list)
 }
 
+// What four more ends share of a table.
+fn four_more(table: &Arc<LaneTable, Global>) -> Result<FourTables, AllocError>
+    ensures { IfOk result (λ more. (arc_value more.0 ≡ arc_value table.now) × (arc_value more.1 ≡ arc_value table.now) × (arc_value more.2 ≡ arc_value table.now) × (arc_value more.3 ≡ arc_value table.now)) }
+{
+    let first = Arc::try_clone(table)?;
+    let second = Arc::try_clone(table)?;
+    let third = Arc::try_clone(table)?;
+    let fourth = Arc::try_clone(table)?;
+    Ok((first, second, third, fourth))
+}
+
 // The seats of the mover, the receiver, the way back and the cut, split off that of the sender.
 fn split_off(board: &Board, send: &mut LaneSeat) -> (LaneSeat, LaneSeat, LaneSeat, LaneSeat)
     requires table { (send.old.table_id ≡ board.now.table_id) × (0 < board.now.table_id.words) }
@@ -78,31 +98,28 @@ pub fn make(
     let waiting = VecDeque::with_capacity(alloc, entries as usize)?;
     let left = room_for(alloc, entries)?;
     let (table, mut seat) = new_table(alloc, entries)?;
-    let (mover, recv, back, cut) = split_off(&table.shared, &mut seat);
     let table = Arc::new(alloc, table)?;
+    let (of_mover, of_recv, of_back, of_cut) = four_more(&table)?;
+    let (mover, recv, back, cut) = split_off(&table.shared, &mut seat);
     let mover = MoveEnd {
-        at: Standing::beside(&table, mover, entries)?,
+        at: Standing::new(of_mover, mover, entries),
         flagged: 0,
         taken: 0,
         waiting,
     };
     let recv = RecvEnd {
-        at: Standing::beside(&table, recv, entries)?,
+        at: Standing::new(of_recv, recv, entries),
         got: 0,
         left,
     };
     let back = BackEnd {
-        at: Standing::beside(&table, back, entries)?,
+        at: Standing::new(of_back, back, entries),
         freed: 0,
     };
     let cut = CutEnd {
-        at: Standing::beside(&table, cut, entries)?,
+        at: Standing::new(of_cut, cut, entries),
     };
-    let at = Standing {
-        table,
-        seat,
-        entries,
-    };
+    let at = Standing::new(table, seat, entries);
     let send = SendEnd { at, sent: 0 };
     Ok((send, mover, recv, back, cut))
 }
