@@ -11,7 +11,7 @@ ghost use Rattle.bridge_pair.specs.Pages.{PagesGrow};
 ghost use Rattle.bridge_pair.specs.Same.{HasSameParts, IsSameEnd, LandsAsEnd};
 ghost use Rattle.bridge_regs.specs.Doorbell.{with_pending};
 ghost use Rattle.host_memory.specs.Memory.{AreAbsent, ArePromised, AreZero, Touches, bytes_at, word_at, word_bytes};
-ghost use Rattle.posted_queue.specs.Flight.{discarded, given_back, posted, promised};
+ghost use Rattle.posted_queue.specs.Flight.{discarded, given_back, nothing_in_flight, posted, promised};
 ghost use Rattle.posted_queue.specs.Landing.{after_landing, land_answer};
 
 use crate::flying_bytes::{Buffer, FEW, FlyingBytes};
@@ -333,8 +333,23 @@ fn copy_of_queue(
 ) -> Result<Queue<FlyingWrite>, AllocError>
     ensures { IfOk result (λ copy. copy ≡ queue.now) }
 {
-    let mut copied = Queue::new(alloc);
     let room = queue.len().checked_add(queue.spare()).ok_or(AllocError)?;
+    let mut copied = Queue::new(alloc);
+    push_copies(&mut copied, queue, room, alloc)?;
+    Ok(copied)
+}
+
+// Makes room for so many writes in an empty queue, and adds copies of those of another.
+fn push_copies(
+    copied: &mut Queue<FlyingWrite>,
+    queue: &Queue<FlyingWrite>,
+    room: usize,
+    alloc: Global,
+) -> Result<(), AllocError>
+    requires none { copied.old ≡ nothing_in_flight }
+    requires room { room ≡ length queue.now.writes + queue.now.spare }
+    ensures { OnOk result (copied.new ≡ queue.now) }
+{
     copied.promise(room)?;
     for place in 0..queue.len() {
         let Some(write) = queue.label_at(place) else {
@@ -342,7 +357,7 @@ fn copy_of_queue(
         };
         copied.push(write.copy_of(alloc)?);
     }
-    Ok(copied)
+    Ok(())
 }
 
 // Makes so many buffers at least.

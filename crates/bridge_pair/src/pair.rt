@@ -98,11 +98,11 @@ impl Pair {
         requires { IsPair plan.now }
         ensures { IfOk result (λ pair. pair ≡ fresh_bridge_with plan.now (record { a = zero_memory plan.now A; b = zero_memory plan.now B })) }
     {
-        let a = fresh_endpoint(alloc, plan, Side::A)?;
-        let b = fresh_endpoint(alloc, plan, Side::B)?;
         let Ok(shared) = Rc::new(alloc, copy_of(plan)) else {
             return Err(AllocError);
         };
+        let a = fresh_endpoint(alloc, plan, Side::A)?;
+        let b = fresh_endpoint(alloc, plan, Side::B)?;
         Ok(Pair {
             plan: shared,
             link: Link::fresh(plan.up),

@@ -1,5 +1,5 @@
 use Rattle.std.proofs.Common.{◌≡◌, ◌+◌, length, take}
-use Rattle.bridge_pair.proofs.endpoint.copy_of_queue.Given as goal
+use Rattle.bridge_pair.proofs.endpoint.push_copies.Given as goal
 
 abbrev pub invariant-loop-place : goal.invariant-loop-place
 invariant-loop-place l = record {

@@ -1,6 +1,6 @@
 use Rattle.std.proofs.Common.{sym, arith}
 use Rattle.bridge_pair.proofs.SameWrites.{one_more}
-use Rattle.bridge_pair.proofs.endpoint.copy_of_queue.Goals as goal
+use Rattle.bridge_pair.proofs.endpoint.push_copies.Goals as goal
 
 pub loop-place-preserved : goal.loop-place-preserved
 loop-place-preserved c =
