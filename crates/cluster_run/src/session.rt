@@ -8,7 +8,7 @@ use crate::aim::Aim;
 use crate::clock::Clock;
 use crate::in_threads::pass_in_threads;
 use crate::in_turn::pass_in_turn;
-use crate::workers::{Cutting, Moving, Receiving, Sending};
+use crate::workers::{Cutting, Moving, Receiving, Sending, room_for};
 use io_edges::Gate;
 use std::alloc::{AllocError, Global};
 use std::marker::Model;
@@ -72,6 +72,8 @@ impl Session {
         ensures { IfOk result (λ s. s ≡ new_session entries todo.frames) }
     {
         let total = todo.len();
+        let room = total + SPARE_ROOM;
+        let got = room_for(alloc, room)?;
         let (send, mover, recv, back, cut) = make(alloc, entries)?;
         let first = 4 * number;
         Ok(Session {
@@ -81,7 +83,7 @@ impl Session {
                 clock: Clock::new(first),
             },
             moving: Moving::new(mover, back, first + 1),
-            receiving: Receiving::new(alloc, recv, total + SPARE_ROOM, first + 2)?,
+            receiving: Receiving::new(recv, got, room, first + 2),
             cutting: Cutting::new(cut, first + 3),
             entries,
             total,

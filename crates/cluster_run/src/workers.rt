@@ -109,6 +109,15 @@ impl Model for Moving {
     ghost invariant = { IsMoving };
 }
 
+/// A list with room for so many frames. The only error is running out of memory.
+pub fn room_for(alloc: Global, frames: usize) -> Result<FrameList, AllocError>
+    ensures { IfOk result (λ list. (list.frames ≡ []) × (list.spare ≡ frames)) }
+{
+    let mut list = FrameList::new(alloc);
+    list.promise(frames)?;
+    Ok(list)
+}
+
 /// The worker that receives frames into a list with room for `room` of them. Contracts see the lane that its end stands
 /// at, and the frames that were received.
 #[derive(Drop)]
@@ -120,25 +129,20 @@ pub struct Receiving {
 }
 
 impl Receiving {
-    /// The worker with this number, before its first turn in a session, with room for so many frames. Its end has received
-    /// nothing. The only error is running out of memory.
-    pub fn new(
-        alloc: Global,
-        end: RecvEnd,
-        room: usize,
-        worker: u32,
-    ) -> Result<Receiving, AllocError>
-        requires { end.part.got ≡ [] }
-        ensures { IfOk result (λ w. w ≡ record { lane = end.lane; got = [] }) }
+    /// The worker with this number, before its first turn in a session, with a list that has room for so many frames. Its
+    /// end has received nothing.
+    pub fn new(end: RecvEnd, got: FrameList, room: usize, worker: u32) -> Receiving
+        requires received { end.part.got ≡ [] }
+        requires none { got.frames ≡ [] }
+        requires room { got.spare ≡ room }
+        ensures { result ≡ record { lane = end.lane; got = [] } }
     {
-        let mut got = FrameList::new(alloc);
-        got.promise(room)?;
-        Ok(Receiving {
+        Receiving {
             end,
             got,
             room,
             clock: Clock::new(worker),
-        })
+        }
     }
 
     /// Makes at most so many turns, and no more than the list has room for.

@@ -134,9 +134,10 @@ impl StreamWork {
         } = self;
         laws_of_sessions();
         let total = session.total();
+        proofs.reserve(2)?;
         let end = session.ended()?;
-        proofs.push(end.item_proof)?;
-        proofs.push(end.ack_proof)?;
+        proofs.push_reserved(end.item_proof);
+        proofs.push_reserved(end.ack_proof);
         let StreamEnds { sender, receiver } = next_ends(end.sender, end.receiver, end.acks);
         Ok(StreamWork {
             name,
@@ -162,9 +163,10 @@ impl StreamWork {
             ..
         } = self;
         laws_of_sessions();
+        proofs.reserve(2)?;
         let end = session.ended()?;
-        proofs.push(end.item_proof)?;
-        proofs.push(end.ack_proof)?;
+        proofs.push_reserved(end.item_proof);
+        proofs.push_reserved(end.ack_proof);
         let items = end.receiver.into_items();
         let sessions = losses + 1;
         Ok((

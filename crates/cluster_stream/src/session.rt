@@ -9,8 +9,8 @@ use crate::in_turn::pass_in_turn;
 use crate::numbers::LaneNumbers;
 use crate::pair::{PairCutting, PairMoving};
 use crate::sink::{Sink, SinkEnd};
-use crate::source::{Source, SourceEnd};
-use cluster_run::workers::{Cutting, Moving};
+use crate::source::{ACK_ROOM, Source, SourceEnd};
+use cluster_run::workers::{Cutting, Moving, room_for};
 use io_edges::Gate;
 use resume_stream::{StreamReceiver, StreamSender};
 use std::alloc::{AllocError, Global};
@@ -63,21 +63,28 @@ impl Session {
         requires total { total ≡ length sender.items }
         ensures { IfOk result (λ s. s ≡ new_session entries sender receiver) }
     {
-        let (item_send, item_mover, item_recv, item_back, item_cut) = make(alloc, entries)?;
-        let (ack_send, ack_mover, ack_recv, ack_back, ack_cut) = make(alloc, entries)?;
+        let got = room_for(alloc, ACK_ROOM)?;
+        let items = make(alloc, entries)?;
+        let acks = make(alloc, entries)?;
+        let (item_send, item_mover, item_recv, item_back, item_cut) = items;
+        let (ack_send, ack_mover, ack_recv, ack_back, ack_cut) = acks;
         let item_worker = 4 * numbers.items;
         let ack_worker = 4 * numbers.acks;
+        let moving = PairMoving::new(
+            Moving::new(item_mover, item_back, item_worker + 1),
+            Moving::new(ack_mover, ack_back, ack_worker + 1),
+        );
+        let source = Source::new(sender, item_send, ack_recv, got, numbers);
+        let sink = Sink::new(receiver, item_recv, ack_send, numbers, total);
+        let cutting = PairCutting::new(
+            Cutting::new(item_cut, item_worker + 3),
+            Cutting::new(ack_cut, ack_worker + 3),
+        );
         Ok(Session {
-            source: Source::new(alloc, sender, item_send, ack_recv, numbers)?,
-            moving: PairMoving::new(
-                Moving::new(item_mover, item_back, item_worker + 1),
-                Moving::new(ack_mover, ack_back, ack_worker + 1),
-            ),
-            sink: Sink::new(receiver, item_recv, ack_send, numbers, total),
-            cutting: PairCutting::new(
-                Cutting::new(item_cut, item_worker + 3),
-                Cutting::new(ack_cut, ack_worker + 3),
-            ),
+            source,
+            moving,
+            sink,
+            cutting,
             entries,
             total,
         })
@@ -166,26 +173,29 @@ impl Session {
     pub(crate) fn ended(self) -> Result<SessionEnd, AllocError>
         ensures { IfOk result (λ end. EndsWith self end) }
     {
-        let Session {
-            source,
-            moving,
-            sink,
-            cutting,
-            ..
-        } = self;
+        if self.source.is_wanting {
+            return Err(AllocError);
+        }
+        self.into_end()
+    }
+
+    // What the session leaves. The only error is running out of memory, which its sink may have met before.
+    fn into_end(self) -> Result<SessionEnd, AllocError>
+        ensures { IfOk result (λ end. EndsWith self end) }
+    {
+        let SinkEnd {
+            receiver,
+            recv: item_recv,
+            send: ack_send,
+        } = self.sink.ended()?;
         let SourceEnd {
             sender,
             send: item_send,
             recv: ack_recv,
             acks,
-        } = source.ended()?;
-        let SinkEnd {
-            receiver,
-            recv: item_recv,
-            send: ack_send,
-        } = sink.ended()?;
-        let (item_mover, item_back, ack_mover, ack_back) = moving.into_ends();
-        let (item_cut, ack_cut) = cutting.into_ends();
+        } = self.source.ended();
+        let (item_mover, item_back, ack_mover, ack_back) = self.moving.into_ends();
+        let (item_cut, ack_cut) = self.cutting.into_ends();
         let items = finish(item_send, item_mover, item_recv, item_back, item_cut);
         let acknowledged = finish(ack_send, ack_mover, ack_recv, ack_back, ack_cut);
         Ok(SessionEnd {

@@ -1,6 +1,6 @@
 //! The worker that gives the items of a stream, and receives their acknowledgements.
 
-ghost use Rattle.std.specs.Prelude.{◌≡◌, ◌≤◌, [], IfOk};
+ghost use Rattle.std.specs.Prelude.{◌≡◌, ◌≤◌, []};
 ghost use Rattle.cluster_stream.specs.Ends.{HasOffered};
 ghost use Rattle.cluster_stream.specs.Leaving.{LeavesSource};
 
@@ -10,7 +10,7 @@ use cluster_run::clock::Clock;
 use cluster_run::workers::Receiving;
 use io_edges::Gate;
 use resume_stream::StreamSender;
-use std::alloc::{AllocError, Global};
+use std::alloc::AllocError;
 use std::marker::Model;
 use step_kinds::FrameList;
 use table_lane::{RecvEnd, SendEnd};
@@ -40,34 +40,36 @@ pub(crate) struct SourceEnd {
 }
 
 /// At most so many acknowledgements come in a session.
-const ACK_ROOM: usize = 1_024;
+pub(crate) const ACK_ROOM: usize = 1_024;
 
 /// At most so many acknowledgements are received after a pass.
 const ACK_TURNS: u32 = 4;
 
 impl Source {
-    /// The source of a stream in a new session, by the numbers of its two lanes. Nothing was sent or received. The only
-    /// error is running out of memory.
+    /// The source of a stream in a new session, by the numbers of its two lanes, with a list that has room for
+    /// `ACK_ROOM` acknowledgements. Nothing was sent or received.
     pub(crate) fn new(
-        alloc: Global,
         sender: StreamSender,
         send: SendEnd,
         recv: RecvEnd,
+        got: FrameList,
         numbers: LaneNumbers,
-    ) -> Result<Source, AllocError>
+    ) -> Source
         requires numbers { (numbers.items ≤ 65535) × (numbers.acks ≤ 131071) }
         requires offered { HasOffered sender send.part.sent }
         requires acked { sender.acked ≡ sender.start }
-        requires got { recv.part.got ≡ [] }
-        ensures { IfOk result (λ w. w ≡ record { key = record { lane = send.lane; ack_lane = recv.lane; entries = send.part.entries; items = sender.items; start = sender.start }; ever = sender.place.ever }) }
+        requires received { recv.part.got ≡ [] }
+        requires none { got.frames ≡ [] }
+        requires room { got.spare ≡ ACK_ROOM }
+        ensures { result ≡ record { key = record { lane = send.lane; ack_lane = recv.lane; entries = send.part.entries; items = sender.items; start = sender.start }; ever = sender.place.ever } }
     {
-        Ok(Source {
+        Source {
             sender,
             end: send,
-            acks: Receiving::new(alloc, recv, ACK_ROOM, 4 * numbers.acks + 2)?,
+            acks: Receiving::new(recv, got, ACK_ROOM, 4 * numbers.acks + 2),
             clock: Clock::new(4 * numbers.items),
             is_wanting: false,
-        })
+        }
     }
 
     /// Makes at most so many turns that give, and a few that receive. It answers how far the first came.
@@ -107,27 +109,17 @@ impl Source {
 }
 
 impl Source {
-    /// What it leaves at the end of a session. The only error is running out of memory, where it met that before.
-    pub(crate) fn ended(self) -> Result<SourceEnd, AllocError>
-        ensures { IfOk result (λ end. LeavesSource self end) }
+    /// What it leaves at the end of a session.
+    pub(crate) fn ended(self) -> SourceEnd
+        ensures { LeavesSource self result }
     {
-        let Source {
-            sender,
-            end: send,
-            acks,
-            is_wanting,
-            ..
-        } = self;
-        if is_wanting {
-            return Err(AllocError);
-        }
-        let (recv, acks) = acks.into_parts();
-        Ok(SourceEnd {
-            sender,
-            send,
+        let (recv, acks) = self.acks.into_parts();
+        SourceEnd {
+            sender: self.sender,
+            send: self.end,
             recv,
             acks,
-        })
+        }
     }
 }
 
