@@ -1,5 +1,6 @@
--- A lane after an entry was begun.
-use Rattle.std.proofs.Common.{◌≡◌, ℕ, ◌*◌, ◌%◌, ◌≤◌, List, [], ◌∷◌, ◌++◌, length, map, take, get_or, sym, ap, ◌∙◌, subst, arith, vec_capacity}
+-- A lane before and after an entry is begun.
+use Rattle.std.proofs.Common.{refl, false, eqb, ◌≡◌, ℕ, ◌*◌, ◌%◌, ◌≤◌, List, [], ◌∷◌, ◌++◌, length, map, take, get_or, sym, ap, ◌∙◌, subst, arith, vec_capacity}
+use Rattle.std.proofs.lemmas.Bool.{cond-false, cond-true, ne_eqb}
 use Rattle.std.proofs.lemmas.List.{get_or_append_left, length-map, map_push}
 use Rattle.lane_model.specs.Ring.{free_entries}
 use Rattle.lane_model.specs.Lane as model
@@ -8,9 +9,13 @@ use Rattle.lane_model.specs.Steps.{after_begin}
 use Rattle.lane_model.specs.declared.Write.{Write}
 use Rattle.lane_model.specs.declared.Phase.TheVariants.{Copying}
 use Rattle.lane_laws.proofs.Facade.{copy_sees}
+use Rattle.posted_queue.specs.Flight.{Flight}
+use Rattle.step_kinds.specs.declared.lanes.Begun.TheVariants.{Ok as Began, Busy, NoRoom}
+use Rattle.lane_core.specs.Calls.{down_answer, has_room, is_empty_list}
 use Rattle.lane_core.specs.Parts.{entry_seen}
 use Rattle.lane_core.specs.LaneView.{Buffers, IsKept, lane_seen}
 use Rattle.lane_core.specs.declared.entry.Entry.{Entry}
+use Rattle.lane_core.specs.declared.write.PostedWrite.{PostedWrite}
 use Rattle.lane_core.specs.declared.lane.Lane.TheInside.{Inside}
 
 -- the free entries that the sender counts are the model's
@@ -18,6 +23,40 @@ pub free_seen : (l : Inside) (number head free : ℕ) → number ≡ length l.se
 free_seen l number head free begun at counted =
     counted
     ∙ ap (λ h. free_entries l.entries h l.index_word) (at ∙ ap (λ n. n % l.entries) (begun ∙ sym (length-map l.sent.items entry_seen)))
+
+-- where writes are left to post, no entry is begun
+pub answers_busy : (lane : Lane) (count : ℕ) → count ≡ length lane.todo → eqb count 0 ≡ false → down_answer lane ≡ Busy
+answers_busy lane count all some = cond-false (is_empty_list lane.todo) (has_room lane) Busy (not_empty lane.todo (subst (λ (n : ℕ). eqb n 0 ≡ false) all some))
+  where
+    not_empty : (marks : List Write) → eqb (length marks) 0 ≡ false → is_empty_list marks ≡ false
+    not_empty [] h = h
+    not_empty (mark ∷ marks) h = refl
+
+-- where none is left, an entry is begun exactly where the ring has room
+no_writes : (lane : Lane) → lane.todo ≡ [] → down_answer lane ≡ has_room lane
+no_writes lane none = cond-true (is_empty_list lane.todo) (has_room lane) Busy (ap is_empty_list none)
+
+-- a ring with no free entry has no room
+pub answers_no_room : (lane : Lane) (head : ℕ) → lane.todo ≡ [] → head ≡ length lane.sent % lane.entries → free_in lane ≡ 0 → down_answer lane ≡ NoRoom head lane.index_word
+answers_no_room lane head none at full =
+    no_writes lane none
+    ∙ cond-true (eqb (free_in lane) 0) _ _ (ap (λ n. eqb n 0) full)
+    ∙ ap (λ n. NoRoom n lane.index_word) (sym at)
+
+-- a ring with a free entry takes one more
+pub answers_begun : (lane : Lane) (number : ℕ) → lane.todo ≡ [] → number ≡ length lane.sent → (free_in lane ≡ 0 → ⊥) → down_answer lane ≡ Began number
+answers_begun lane number none begun room =
+    no_writes lane none
+    ∙ cond-false (eqb (free_in lane) 0) _ _ (ne_eqb (free_in lane) 0 room)
+    ∙ ap Began (sym begun)
+
+-- lists with the same in them are seen as the same lane
+pub seen_stays : (l : Inside) (sent : List Entry) (todo : List Write) (flight : Flight PostedWrite) → sent ≡ l.sent.items → todo ≡ l.todo.items → flight ≡ l.flight
+    → record (lane_seen l) { sent = map entry_seen sent; todo = todo; flight = map (λ (write : PostedWrite). write.mark) flight.writes } ≡ lane_seen l
+seen_stays l sent todo flight same_sent same_todo same_flight =
+    ap (λ (entries : List Entry). record (lane_seen l) { sent = map entry_seen entries; todo = todo; flight = map (λ (write : PostedWrite). write.mark) flight.writes }) same_sent
+    ∙ ap (λ (marks : List Write). record (lane_seen l) { todo = marks; flight = map (λ (write : PostedWrite). write.mark) flight.writes }) same_todo
+    ∙ ap (λ (f : Flight PostedWrite). record (lane_seen l) { flight = map (λ (write : PostedWrite). write.mark) f.writes }) same_flight
 
 -- the entry and its writes are the model's
 pub begun_lane : (l : Inside) (entry : Entry) (sent : List Entry) (todo : List Write) (number : ℕ) → number ≡ length l.sent.items → l.todo.items ≡ []

@@ -1,13 +1,14 @@
 -- What a copying receiver reads, and what it has copied.
-use Rattle.std.proofs.Common.{◌≡◌, ℕ, ◌+◌, ◌*◌, ◌<◌, ◌≤◌, Bool, true, false, IsTrue, List, ◌++◌, length, take, drop, sym, ap, ◌∙◌, inl, inr, arith, lt-ltb, le-ltb}
+use Rattle.std.proofs.Common.{refl, ◌-◌, vec_capacity, length-take, ◌≡◌, ℕ, ◌+◌, ◌*◌, ◌<◌, ◌≤◌, Bool, true, false, IsTrue, List, ◌++◌, length, take, drop, sym, ap, ◌∙◌, inl, inr, arith, lt-ltb, le-ltb}
 use Rattle.std.proofs.lemmas.Bool.{cases_lt, cond-true, cond-false, false≢true}
 use Rattle.std.proofs.lemmas.List.{take-take, drop-take, take-append-drop, take_all}
 use Rattle.lane_model.specs.Lane as model
 use Rattle.lane_model.specs.Lane.{Lane, bytes_of, chunk_of, chunk_size, copies_of, entry_of, slot_of}
 use Rattle.lane_model.specs.Steps.{more_to_copy}
-use Rattle.lane_model.specs.declared.Phase.TheVariants.{Copying}
+use Rattle.lane_model.specs.declared.Phase.{Phase}
+use Rattle.lane_model.specs.declared.Phase.TheVariants.{Idle, Copying, Copied, Cleared}
 use Rattle.lane_laws.proofs.Facade.{copy_sees}
-use Rattle.lane_core.specs.Calls.{copy_answer, is_copying}
+use Rattle.lane_core.specs.Calls.{after_copying, copy_answer, is_copying}
 use Rattle.lane_core.specs.Parts.{place_seen}
 use Rattle.step_kinds.specs.declared.lanes.LaneCopy.TheVariants.{Whole, OutOfTurn}
 use Rattle.lane_core.specs.LaneView.{IsKept, lane_seen}
@@ -83,3 +84,44 @@ pub answer_whole : (l : Inside) (bytes : List ℕ) → l.phase ≡ Copying → I
 answer_whole l bytes copying whole =
     ap (Whole l.got) whole.bytes_are
     ∙ sym (cond-true (is_copying l.phase) _ OutOfTurn (ap is_copying copying) ∙ cond-false (more_to_copy (lane_seen l)) _ _ whole.last)
+
+-- a receiver that copies nothing answers so, and stays as it is
+pub record StaysOutOfTurn (lane : Lane) : Type 0 where
+  pub answer : copy_answer lane ≡ OutOfTurn
+  pub after : after_copying lane ≡ lane
+
+-- A copy is out of turn where the receiver is not copying.
+pub not_copying_lane : (lane : Lane) → (lane.phase ≡ Copying → ⊥) → StaysOutOfTurn lane
+not_copying_lane lane other = record {
+  answer = cond-false (is_copying lane.phase) _ _ (not_now lane.phase other);
+  after = cond-false (is_copying lane.phase) _ _ (not_now lane.phase other);
+}
+  where
+    not_now : (phase : Phase) → (phase ≡ Copying → ⊥) → is_copying phase ≡ false
+    not_now Idle h = refl
+    not_now Copying h = absurd (h refl)
+    not_now Copied h = refl
+    not_now Cleared h = refl
+
+-- the next part begins within the frame in the slot, which stands whole there, and has room after what was copied
+pub record CanCopy (l : Inside) (place : Slot) : Type 0 where
+  pub begins : chunk_size * l.part ≤ place.len
+  pub stands : place.len ≤ length place.payload.items
+  pub room : length l.copied.items + (place.len - chunk_size * l.part) ≤ vec_capacity l.copied
+
+-- A copying receiver can copy the next part of the frame in its slot.
+pub can_copy : (l : Inside) (place : Slot) → slot_of (lane_seen l) l.got ≡ place_seen place → l.phase ≡ Copying → IsKept l → CanCopy l place
+can_copy l place here copying kept =
+    let sees = copy_sees (lane_seen l) copying kept.law in
+    let len : place.len ≡ length (bytes_at l) = sym (ap (λ (p : model.Slot). p.len) here) ∙ sees.1.len in
+    let payload : take (length (bytes_at l)) place.payload.items ≡ bytes_at l = ap (λ (p : model.Slot). take (length (bytes_at l)) p.payload) (sym here) ∙ sees.1.payload in
+    let whole : length (bytes_at l) ≤ length place.payload.items = omega (arith, length-take (length (bytes_at l)) place.payload.items, ap length payload) in
+    let part : l.part < copies_of (entry_of (lane_seen l) l.got) = sees.2 in
+    let copied = ap length (kept.buffers.items copying) in
+    let most : length (bytes_at l) ≤ vec_capacity l.copied = kept.buffers.room copying in
+    let begins : chunk_size * l.part ≤ place.len = omega (arith, len, part) in
+    record {
+      begins = begins;
+      stands = omega (arith, len, whole);
+      room = omega (arith, len, begins, most, copied, length-take (chunk_size * l.part) (bytes_at l));
+    }

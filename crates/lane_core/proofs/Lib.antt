@@ -3,6 +3,7 @@ pub mod Bytes
 pub mod CopiedBytes
 pub mod EntriesStay
 pub mod LandSteps
+pub mod LookAnswers
 pub mod NextEntry
 pub mod OneClass
 pub mod OnePiece

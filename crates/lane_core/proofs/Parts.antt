@@ -1,6 +1,7 @@
 -- What a lane keeps beside what contracts see of it.
-use Rattle.std.proofs.Common.{◌≡◌, ℕ, suc, Bool, true, false, if◌then◌else◌, List, [], ◌∷◌, ◌++◌, map, take, drop, refl, sym, ap, ◌∙◌, All}
+use Rattle.std.proofs.Common.{Result, Ok, Err, ◌≡◌, ℕ, suc, Bool, true, false, if◌then◌else◌, List, [], ◌∷◌, ◌++◌, map, take, drop, refl, sym, ap, ◌∙◌, All}
 use Rattle.std.specs.List.{remove}
+use Rattle.std.specs.Prelude.{OnErr}
 use Rattle.std.proofs.lemmas.List.{map_push, map-append, take-map, drop-map}
 use Rattle.std.proofs.lemmas.List.Elements.{All-append, All-drop, All-push, All-same, All-take}
 use Rattle.lane_model.specs.declared.Phase.{Phase}
@@ -35,3 +36,8 @@ map-remove f xs i =
     map-append f (take i xs) (drop (suc i) xs)
     ∙ ap (λ front. front ++ map f (drop (suc i) xs)) (sym (take-map f i xs))
     ∙ ap (λ behind. take i (map f xs) ++ behind) (sym (drop-map f (suc i) xs))
+
+-- what holds in any case holds at an error
+pub on_err : {T E P : Type 0} (r : Result T E) → P → OnErr r P
+on_err (Ok x) h = tt
+on_err (Err e) h = h

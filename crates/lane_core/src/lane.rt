@@ -1,12 +1,14 @@
 //! A lane.
 
-ghost use Rattle.std.specs.Prelude.{◌≡◌, ◌<◌, ◌≤◌, ◌^◌, length, false, IfOk, OnErr};
+ghost use Rattle.std.specs.Prelude.{◌≡◌, ◌+◌, ◌<◌, ◌≤◌, ◌^◌, length, vec_len, vec_capacity, false, IfOk, OnOk, OnErr};
+ghost use Rattle.std.specs.VecDeque.{deque_len, deque_capacity};
 ghost use Rattle.lane_laws.specs.Laws.{IsOpen};
 ghost use Rattle.lane_model.specs.Lane.{Carries, GoesDown, bytes_of, entry_of};
 ghost use Rattle.lane_model.specs.Law.{HoldsRingLaw};
 ghost use Rattle.lane_model.specs.Steps.{after_cut, after_drop};
 ghost use Rattle.lane_core.specs.Parts.{entry_seen};
 ghost use Rattle.lane_core.specs.declared.answers.LaneLook.TheVariants.{Ready};
+ghost use Rattle.posted_queue.specs.Flight.{promised};
 ghost use Rattle.step_kinds.specs.declared.lanes.Begun.TheVariants.{Ok as Began};
 
 use crate::answers::{Begun, LaneCopy, LaneLand, LaneLook};
@@ -179,9 +181,7 @@ impl Lane {
             });
         }
         let writes = entry.chunks() as usize + 4;
-        self.sent.reserve(1)?;
-        self.todo.reserve(writes)?;
-        self.flight.promise(writes)?;
+        make_room(&mut self.sent, &mut self.todo, &mut self.flight, writes)?;
         fill_todo(&mut self.todo, number, &entry);
         self.sent.push_reserved(entry);
         Ok(Begun::Ok { number })
@@ -384,4 +384,23 @@ impl Model for Lane {
     ghost view = { value_seen };
 
     ghost invariant = { IsKept };
+}
+
+// Makes room for one more entry, for so many writes that are left to post, and for their posts.
+fn make_room(
+    sent: &mut Vec<Entry>,
+    todo: &mut VecDeque<Write>,
+    flight: &mut Queue<PostedWrite>,
+    writes: usize,
+) -> Result<(), AllocError>
+    ensures sent { sent.new.items ≡ sent.old.items }
+    ensures todo { todo.new.items ≡ todo.old.items }
+    ensures sent_room { OnOk result (vec_len sent.new + 1 ≤ vec_capacity sent.new) }
+    ensures todo_room { OnOk result (deque_len todo.new + writes ≤ deque_capacity todo.new) }
+    ensures promised { OnOk result (flight.new ≡ promised flight.old writes) }
+    ensures err { OnErr result (flight.new ≡ flight.old) }
+{
+    sent.reserve(1)?;
+    todo.reserve(writes)?;
+    flight.promise(writes)
 }

@@ -1,4 +1,4 @@
-use Rattle.std.proofs.Common.{◌≡◌, ℕ, ◌+◌, ◌*◌, ◌<◌, ◌≤◌, ap, ◌∙◌, sym, subst, arith, take, Vec, Global}
+use Rattle.std.proofs.Common.{true, ◌≡◌, ℕ, ◌+◌, ◌*◌, ◌<◌, ◌≤◌, ap, ◌∙◌, sym, subst, arith, take, Vec, Global}
 use Rattle.std.proofs.lemmas.Bool.{cond-false, cond-true}
 use Rattle.std.proofs.lemmas.List.{length-map}
 use Rattle.lane_model.specs.Lane.{chunk_size}
@@ -8,9 +8,10 @@ use Rattle.lane_model.specs.declared.Phase.{Phase}
 use Rattle.lane_model.specs.declared.Phase.TheVariants.{Copied}
 use Rattle.lane_laws.proofs.Facade.{copy_keeps}
 use Rattle.lane_core.specs.Calls.{LaneValue, with_lane, after_copying, copy_answer, is_copying}
+use Rattle.step_kinds.specs.declared.lanes.LaneCopy.TheVariants.{OutOfTurn, Part}
 use Rattle.lane_core.specs.Parts.{place_seen}
 use Rattle.lane_core.specs.LaneView.{index_room, lane_seen, value_seen}
-use Rattle.lane_core.proofs.CopiedBytes.{IsWhole, answer_whole, bytes_at, copies_from, is_whole, more_left}
+use Rattle.lane_core.proofs.CopiedBytes.{IsWhole, can_copy, not_copying_lane, answer_whole, bytes_at, copies_from, is_whole, more_left}
 use Rattle.lane_core.proofs.NextEntry.{read_place}
 use Rattle.lane_core.proofs.Parts.{not_copying}
 use Rattle.lane_core.proofs.lane.Lane.copy.Goals as goal
@@ -86,3 +87,45 @@ returns-clause-after c =
     let old = c.self.inside in
     let after = cond-true (is_copying old.phase) _ (lane_seen old) (ap is_copying c.in-Copying.is) ∙ cond-false (more_to_copy (lane_seen old)) _ _ (copied_whole c).last in
     ap (with_lane (value_seen old)) (sym after) ∙ ap (λ (value : LaneValue). with_lane value (after_copying value.lane)) c.self.view_is
+
+pub returns-in_default : goal.returns-in_default
+returns-in_default c =
+    let old = c.self.inside in
+    let other = not_copying_lane (lane_seen old) c.in_default.not-Copying in
+    record {
+      answer = subst (λ (value : LaneValue). OutOfTurn ≡ copy_answer value.lane) c.self.view_is (sym other.answer);
+      after = subst (λ (value : LaneValue). value ≡ with_lane value (after_copying value.lane)) c.self.view_is (ap (with_lane (value_seen old)) (sym other.after));
+      law = subst (λ (value : LaneValue). HoldsRingLaw value.lane) c.self.view_is c.self.invariant.law;
+    }
+
+-- more is left to copy than this part
+more_copied : (c : goal.After-self-1) → more_to_copy (lane_seen c.self.inside) ≡ true
+more_copied c =
+    let old = c.self.inside in
+    let place = c.index-place.result.now in
+    let count = length-map old.ring.items place_seen in
+    let here = read_place old old.got c.position_of.result place c.position_of.ensures.value (omega arith) c.index-place.ensures in
+    let copies = copies_from old place c.copy_chunk.new.copied.items here c.in-Copying.is c.self.invariant c.copy_chunk.ensures.copied in
+    let more : chunk_size * (old.part + 1) < place.len = c.copy_chunk.ensures.more.0 c.if-copy_chunk.true in
+    more_left (lane_seen old) (omega (arith, more, copies.len))
+
+pub returns-then-copy_chunk-clause-answer : goal.returns-then-copy_chunk-clause-answer
+returns-then-copy_chunk-clause-answer c =
+    let old = c.self.inside in
+    let answer = cond-true (is_copying old.phase) _ OutOfTurn (ap is_copying c.in-Copying.is) ∙ cond-true (more_to_copy (lane_seen old)) (Part old.got old.part) _ (more_copied c) in
+    sym answer ∙ ap (λ (value : LaneValue). copy_answer value.lane) c.self.view_is
+
+pub returns-then-copy_chunk-clause-after : goal.returns-then-copy_chunk-clause-after
+returns-then-copy_chunk-clause-after c =
+    let old = c.self.inside in
+    let after = cond-true (is_copying old.phase) _ (lane_seen old) (ap is_copying c.in-Copying.is) ∙ cond-true (more_to_copy (lane_seen old)) _ _ (more_copied c) in
+    ap (with_lane (value_seen old)) (sym after) ∙ ap (λ (value : LaneValue). with_lane value (after_copying value.lane)) c.self.view_is
+
+pub copy_chunk-requires : goal.copy_chunk-requires
+copy_chunk-requires c =
+    let old = c.self.inside in
+    let place = c.index-place.result.now in
+    let count = length-map old.ring.items place_seen in
+    let here = read_place old old.got c.position_of.result place c.position_of.ensures.value (omega arith) c.index-place.ensures in
+    let can = can_copy old place here c.in-Copying.is c.self.invariant in
+    record { begins = can.begins; stands = can.stands; room = omega (arith, can.room, old.copied.ok.0) }
