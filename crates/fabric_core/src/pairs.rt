@@ -57,9 +57,9 @@ impl PairBox {
         ensures { IfOk result (λ kept. IsFreshPair devs.now plan.now k (record { a = pages_of kept.bridge A; b = pages_of kept.bridge B }) kept) }
     {
         Ok(PairBox {
-            pair: Pair::new(alloc, plan)?,
             queues_a: fresh_queues(alloc, devs, plan, k, Side::A)?,
             queues_b: fresh_queues(alloc, devs, plan, k, Side::B)?,
+            pair: Pair::new(alloc, plan)?,
             alloc,
         })
     }
@@ -197,9 +197,9 @@ impl PairBox {
         ensures { IfOk result (λ copy. copy ≡ self.now) }
     {
         Ok(PairBox {
-            pair: self.pair.copy_of(alloc)?,
             queues_a: queue_copies(alloc, &self.queues_a)?,
             queues_b: queue_copies(alloc, &self.queues_b)?,
+            pair: self.pair.copy_of(alloc)?,
             alloc,
         })
     }
