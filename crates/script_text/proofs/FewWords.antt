@@ -1,5 +1,5 @@
 -- Lines of few words: what is so of a line of one word, of two or more, is so of words of which there are as many.
-use Rattle.std.proofs.Common.{◌≡◌, ℕ, ◌<◌, ◌≤◌, Bool, Result, Ok, Err, List, [], ◌∷◌, length, get_or, map, Bor, sym, ◌∙◌, ap, arith}
+use Rattle.std.proofs.Common.{◌≡◌, ℕ, ◌<◌, ◌≤◌, Bool, Result, Ok, Err, List, [], ◌∷◌, length, get_or, map, Bor, sym, ◌∙◌, ap, subst, arith}
 use Rattle.std.specs.Result.{IsErrAnd}
 use Rattle.std.specs.Str.{bytes_eq}
 use Rattle.script_words.specs.Before.{Given}
@@ -60,3 +60,7 @@ compared word read text result outcome tested same is = sym (tested ∙ ap (byte
 pub hands_on : {X : Type 0} (seen : X → Given) (result : Result X LineError) (fault : LineFault) (due : Result Given LineFault) → IsErrAnd result (λ error. error ≡ Fault fault) → due ≡ Err fault → ReadsLine (result_map seen result) due
 hands_on seen (Ok x) fault due is same = absurd is
 hands_on seen (Err error) fault due is same = rw is same
+
+-- what is due of a line is due of it where it gives the same as another
+pub reads_by : {X : Type 0} (seen : X → Given) (result : Result X LineError) (due other : Result Given LineFault) → due ≡ other → ReadsLine (result_map seen result) other → ReadsLine (result_map seen result) due
+reads_by seen result due other same reads = subst (λ r. ReadsLine (result_map seen result) r) (sym same) reads
