@@ -1,11 +1,9 @@
 -- Lines of few words: what is so of a line of one word, of two or more, is so of words of which there are as many.
 use Rattle.std.proofs.Common.{◌≡◌, ℕ, ◌<◌, ◌≤◌, Bool, Result, Ok, Err, List, [], ◌∷◌, length, get_or, map, Bor, sym, ◌∙◌, ap, subst, arith}
-use Rattle.std.specs.Result.{IsErrAnd}
 use Rattle.std.specs.Str.{bytes_eq}
 use Rattle.script_words.specs.Before.{Given}
 use Rattle.script_words.specs.Reads.{ReadsLine, result_map}
 use Rattle.script_words.specs.declared.fault.LineError.{LineError}
-use Rattle.script_words.specs.declared.fault.LineError.TheVariants.{Fault}
 use Rattle.script_words.specs.declared.fault.LineFault.{LineFault}
 
 -- a word where none stands
@@ -55,11 +53,6 @@ module _ (P : List (List ℕ) → Type 0) where
 -- what a comparison of a word with a text gave, told of the text itself
 pub compared : (word read text : List ℕ) (result outcome : Bool) → result ≡ bytes_eq word read → read ≡ text → result ≡ outcome → bytes_eq word text ≡ outcome
 compared word read text result outcome tested same is = sym (tested ∙ ap (bytes_eq word) same) ∙ is
-
--- a line's fault that is handed on as an error
-pub hands_on : {X : Type 0} (seen : X → Given) (result : Result X LineError) (fault : LineFault) (due : Result Given LineFault) → IsErrAnd result (λ error. error ≡ Fault fault) → due ≡ Err fault → ReadsLine (result_map seen result) due
-hands_on seen (Ok x) fault due is same = absurd is
-hands_on seen (Err error) fault due is same = rw is same
 
 -- what is due of a line is due of it where it gives the same as another
 pub reads_by : {X : Type 0} (seen : X → Given) (result : Result X LineError) (due other : Result Given LineFault) → due ≡ other → ReadsLine (result_map seen result) other → ReadsLine (result_map seen result) due

@@ -1,10 +1,10 @@
-use Rattle.std.proofs.Common.{◌≡◌, Ok, Err, map, sym, ◌∙◌, ap}
+use Rattle.std.proofs.Common.{◌≡◌, Err, map, sym, ◌∙◌, ap}
 use Rattle.std.proofs.lemmas.Bool.{cond-true, cond-false}
 use Rattle.std.proofs.lemmas.List.{length-map}
 use Rattle.script_words.specs.Compact.{given_of}
 use Rattle.script_words.specs.Reads.{ReadsLine, result_map}
 use Rattle.script_words.specs.TrafficLines.{traffic_line}
-use Rattle.script_text.proofs.FewWords.{of_none, of_one, of_two, of_three, of_four, of_five, compared, hands_on}
+use Rattle.script_text.proofs.FewWords.{of_none, of_one, of_two, of_three, of_four, of_five, compared, reads_by}
 use Rattle.script_text.proofs.LongLines.{traffic_line_long}
 use Rattle.script_text.proofs.traffic_lines.traffic_line.Goals as goal
 
@@ -17,16 +17,11 @@ returns-in-len2 c = of_two (λ words. traffic_line c.args.before.now c.args.word
 pub returns-in-len3 : goal.returns-in-len3
 returns-in-len3 c = of_three (λ words. traffic_line c.args.before.now c.args.word.now words ≡ Err c.unknown_line-in-len3.result) c.args.words.now c.in-len3.len_at_least c.in-len3.len_below (ap Err (sym c.unknown_line-in-len3.ensures))
 
-pub returns-in_ok-break_line-in-len1 : goal.returns-in_ok-break_line-in-len1
-returns-in_ok-break_line-in-len1 c =
-    of_one (λ words. traffic_line c.args.before.now c.args.word.now words ≡ Ok (given_of c.in_ok-break_line-in-len1.field-0)) c.args.words.now c.in-len1.len_at_least c.in-len1.len_below
-    (cond-true _ _ _ (compared c.args.word.now _ _ _ _ c.eq.ensures c.as_slice.ensures c.if-eq.true) ∙ sym c.in_ok-break_line-in-len1.ensures)
-
-pub returns-in_err-break_line-in-len1 : goal.returns-in_err-break_line-in-len1
-returns-in_err-break_line-in-len1 c =
-    hands_on given_of c.from_residual.result c.in_err-break_line-in-len1.field-0.0 _ c.from_residual.ensures.1
-    (of_one (λ words. traffic_line c.args.before.now c.args.word.now words ≡ Err c.in_err-break_line-in-len1.field-0.0) c.args.words.now c.in-len1.len_at_least c.in-len1.len_below
-    (cond-true _ _ _ (compared c.args.word.now _ _ _ _ c.eq.ensures c.as_slice.ensures c.if-eq.true) ∙ sym c.in_err-break_line-in-len1.ensures))
+pub returns-then-eq : goal.returns-then-eq
+returns-then-eq c =
+    of_one (λ words. ReadsLine (result_map given_of c.or_fault.result) (traffic_line c.args.before.now c.args.word.now words)) c.args.words.now c.in-len1.len_at_least c.in-len1.len_below
+    (reads_by given_of c.or_fault.result _ _
+    (cond-true _ _ _ (compared c.args.word.now _ _ _ _ c.eq.ensures c.as_slice.ensures c.if-eq.true) ∙ sym c.break_line.ensures) c.or_fault.ensures)
 
 pub returns-else-eq : goal.returns-else-eq
 returns-else-eq c =
@@ -38,16 +33,11 @@ returns-else-eq-2 c =
     of_four (λ words. traffic_line c.args.before.now c.args.word.now words ≡ Err c.unknown_line-else-eq-2.result) c.args.words.now c.in-len4.len_at_least c.in-len4.len_below
     (cond-false _ _ _ (compared c.args.word.now _ _ _ _ c.eq-in-len4.ensures c.as_slice-in-len4.ensures c.if-eq-2.false) ∙ ap Err (sym c.unknown_line-else-eq-2.ensures))
 
-pub returns-in_ok-flood_line-in-len5 : goal.returns-in_ok-flood_line-in-len5
-returns-in_ok-flood_line-in-len5 c =
-    of_five (λ words. traffic_line c.args.before.now c.args.word.now words ≡ Ok (given_of c.in_ok-flood_line-in-len5.field-0)) c.args.words.now c.in-len5.len_at_least c.in-len5.len_below
-    (cond-true _ _ _ (compared c.args.word.now _ _ _ _ c.eq-in-len5.ensures c.as_slice-in-len5.ensures c.if-eq-3.true) ∙ sym c.in_ok-flood_line-in-len5.ensures)
-
-pub returns-in_err-flood_line-in-len5 : goal.returns-in_err-flood_line-in-len5
-returns-in_err-flood_line-in-len5 c =
-    hands_on given_of c.from_residual-in_err-flood_line-in-len5.result c.in_err-flood_line-in-len5.field-0.0 _ c.from_residual-in_err-flood_line-in-len5.ensures.1
-    (of_five (λ words. traffic_line c.args.before.now c.args.word.now words ≡ Err c.in_err-flood_line-in-len5.field-0.0) c.args.words.now c.in-len5.len_at_least c.in-len5.len_below
-    (cond-true _ _ _ (compared c.args.word.now _ _ _ _ c.eq-in-len5.ensures c.as_slice-in-len5.ensures c.if-eq-3.true) ∙ sym c.in_err-flood_line-in-len5.ensures))
+pub returns-then-eq-3 : goal.returns-then-eq-3
+returns-then-eq-3 c =
+    of_five (λ words. ReadsLine (result_map given_of c.or_fault-then-eq-3.result) (traffic_line c.args.before.now c.args.word.now words)) c.args.words.now c.in-len5.len_at_least c.in-len5.len_below
+    (reads_by given_of c.or_fault-then-eq-3.result _ _
+    (cond-true _ _ _ (compared c.args.word.now _ _ _ _ c.eq-in-len5.ensures c.as_slice-in-len5.ensures c.if-eq-3.true) ∙ sym c.flood_line.ensures) c.or_fault-then-eq-3.ensures)
 
 pub returns-else-eq-3 : goal.returns-else-eq-3
 returns-else-eq-3 c =
