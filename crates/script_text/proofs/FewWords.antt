@@ -1,5 +1,5 @@
 -- Lines of few words: what is so of a line of one word, of two or more, is so of words of which there are as many.
-use Rattle.std.proofs.Common.{◌≡◌, ℕ, ◌<◌, ◌≤◌, Bool, Result, Ok, Err, List, [], ◌∷◌, length, get_or, map, Bor, sym, ◌∙◌, ap, subst, arith}
+use Rattle.std.proofs.Common.{◌≡◌, ℕ, ◌<◌, ◌≤◌, Bool, Result, List, [], ◌∷◌, length, get_or, map, Bor, sym, ◌∙◌, ap, subst, arith}
 use Rattle.std.specs.Str.{bytes_eq}
 use Rattle.script_words.specs.Before.{Given}
 use Rattle.script_words.specs.Reads.{ReadsLine, result_map}
