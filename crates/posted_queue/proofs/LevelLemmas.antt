@@ -1,5 +1,5 @@
 -- How the parts of a level stand after a write was found, pushed or taken out.
-use Rattle.std.proofs.Common.{◌≡◌, ℕ, ◌<◌, ◌≤◌, ◌+◌, ◌-◌, zero, suc, false, ◌||◌, List, [], ◌∷◌, ◌++◌, length, get_or, set, take, drop, Option, Some, slice_get, refl, sym, ap, subst, ◌∙◌, arith, append-nil, length-append, length-set}
+use Rattle.std.proofs.Common.{◌≡◌, ℕ, ◌<◌, ◌≤◌, ◌+◌, ◌-◌, zero, suc, false, ◌||◌, List, [], ◌∷◌, ◌++◌, length, get_or, set, take, drop, Option, Some, slice_get, refl, sym, ap, subst, ◌∙◌, arith, append-nil, length-append, length-set, drop-cons}
 use Rattle.std.specs.List.{remove}
 use Rattle.std.proofs.lemmas.List.{get_or_default, drop-set-lt, drop-append-le, nil_from_length, length_push, drop_all, take-append-le}
 use Rattle.std.proofs.lemmas.List.Edits.{length-remove, remove-append_left, remove-append_right}
@@ -78,7 +78,7 @@ spot-is_held_back order waits_for row place spot part is read free =
     ∙ ap (λ b. b || is_held_back order waits_for (take spot.place part.writes)) free
 
 -- a part is there where a write stands from it on
-within-some : {W : Type 0} (row : List (PartState W)) (n : ℕ) → 0 < length (writes_in (drop n row)) → n < length row
+pub within-some : {W : Type 0} (row : List (PartState W)) (n : ℕ) → 0 < length (writes_in (drop n row)) → n < length row
 within-some {W} [] n some =
     let none : length (writes_in (drop n [])) ≡ 0 = ap (λ (rest : List (PartState W)). length (writes_in rest)) (drop_all n [] (omega arith)) in absurd (omega (arith, none))
 within-some (x ∷ xs) zero some = omega arith
@@ -208,3 +208,44 @@ level-taken row new last room place part level taken = record {
   behind = taken.behind (suc last) level.behind;
   room_there = (let r = level.room_there in let e = taken.room last in omega arith);
 }
+
+-- a level stays one where a part with no write, which stands before the last one in use, is moved after all others
+pub level-moved : {W : Type 0} (row new : List (PartState W)) (last room part more all : ℕ) → IsLevel row last room → part < last → MovesLast row new part more → all ≤ room + more → IsLevel new (last - 1) all
+level-moved row new last room part more all level before moved fits = record {
+  in_row = (let i = level.in_row in let e = moved.len in omega arith);
+  behind = ap (λ n. writes_in (drop n new)) next ∙ moved.behind last before ∙ level.behind;
+  room_there = (let r = level.room_there in let i = level.in_row in
+      let e = moved.room_behind (last - 1) (omega arith) (omega arith) in
+      let same = ap (λ n. room_in (drop n row)) next in
+      omega arith);
+}
+  where
+    next : suc (last - 1) ≡ last
+    next = omega arith
+
+-- a part that has 0 writes has none
+pub no_writes : {W : Type 0} (row : List (PartState W)) (n count : ℕ) (part : PartState W) → n < length row → part ≡ get_or row n part → count ≡ length part.writes → count ≡ 0 → (part_at row n).writes ≡ []
+no_writes row n count part within read long none =
+    ap (λ p. p.writes) (get_or_default row n no_part part within ∙ sym read) ∙ nil_from_length part.writes (sym long ∙ none)
+
+-- the parts after one with no write have the writes that stand from it on
+pub writes_in-drop_more : {W : Type 0} (row : List (PartState W)) (n count : ℕ) (part : PartState W) → n < length row → part ≡ get_or row n part → count ≡ length part.writes → count ≡ 0 → writes_in (drop (n + 1) row) ≡ writes_in (drop n row)
+writes_in-drop_more row n count part within read long none =
+    let next : n + 1 ≡ suc n = omega arith in
+    ap (λ k. writes_in (drop k row)) next
+    ∙ sym (ap writes_in (drop-cons row n no_part within) ∙ ap (λ writes. writes ++ writes_in (drop (suc n) row)) (no_writes row n count part within read long none))
+
+-- a part is there where room is from it on
+pub within-room : {W : Type 0} (row : List (PartState W)) (n : ℕ) → 0 < room_in (drop n row) → n < length row
+within-room {W} [] n some =
+    let none : room_in (drop n []) ≡ 0 = ap (λ (rest : List (PartState W)). room_in rest) (drop_all n [] (omega arith)) in absurd (omega (arith, none))
+within-room (x ∷ xs) zero some = omega arith
+within-room (x ∷ xs) (suc n) some = let rest = within-room xs n some in omega arith
+
+-- the room from a part on is its own and that of the parts after it
+pub room_in-drop_more : {W : Type 0} (row : List (PartState W)) (n : ℕ) (part : PartState W) → n < length row → part ≡ get_or row n part → room_in (drop n row) ≡ part.spare + room_in (drop (n + 1) row)
+room_in-drop_more row n part within read =
+    let next : suc n ≡ n + 1 = omega arith in
+    ap room_in (drop-cons row n no_part within)
+    ∙ ap (λ p. p.spare + room_in (drop (suc n) row)) (get_or_default row n no_part part within ∙ sym read)
+    ∙ ap (λ k. part.spare + room_in (drop k row)) next

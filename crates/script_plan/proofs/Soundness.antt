@@ -11,6 +11,7 @@ use Rattle.step_kinds.specs.declared.plan.DevPlan.{DevPlan}
 use Rattle.step_kinds.specs.declared.plan.Line.{Line}
 use Rattle.step_kinds.specs.declared.plan.SwitchPlan.{SwitchPlan}
 use Rattle.step_kinds.specs.declared.plan.Plan.{Plan}
+use Rattle.step_kinds.specs.declared.plan.Traffic.{Traffic}
 use Rattle.step_kinds.specs.declared.steps.Step.{Step}
 use Rattle.plan_model.specs.DeclaredPlans.{IsPair, IsDevice, IsQueueOf, AreClasses}
 use Rattle.plan_model.specs.Plans.{side_plan, pair_plan, no_pair}
@@ -18,6 +19,7 @@ use Rattle.plan_model.specs.Switches.{IsSwitch}
 use Rattle.script_words.specs.Before.{Before, with_class}
 use Rattle.step_list.specs.Compact.{lines_with}
 use Rattle.script_words.specs.declared.parts.PairHosts.{PairHosts}
+use Rattle.script_words.specs.declared.parts.Part.{Part}
 use Rattle.script_words.specs.declared.parts.QueueName.{QueueName}
 use Rattle.script_plan.specs.Sound.{IsSound, IsKept}
 use Rattle.script_plan.proofs.Classes.{length-set_pairs}
@@ -193,4 +195,22 @@ steps_added before more line count steps n kept own few e =
         few_steps = omega arith;
       };
       counted = let counted = kept.counted in omega arith;
+    }
+
+-- the lines so far are kept where their part, their hosts or their traffic are others
+pub kept_beside : (before : Before) (count : ℕ) (part : Part) (hosts : List (List ℕ)) (traffic : List Traffic) → IsKept count before → IsKept count (record before { part = part; hosts = hosts; plan = record before.plan { traffic = traffic } })
+kept_beside before count part hosts traffic kept =
+    let plan : Plan = record before.plan { traffic = traffic } in
+    let sound = kept.sound in
+    record {
+      sound = record {
+        pairs = sound.pairs;
+        few_pairs = sound.few_pairs;
+        devices = All-weaker (IsDevice before.plan) (IsDevice plan)
+            (device_stays before.plan plan (λ k side queue h. record { declared = h.declared; among = h.among })) before.plan.devs sound.devices;
+        switches = switches_stay before.plan plan (omega arith) before.plan.switches sound.switches;
+        hosts = sound.hosts;
+        few_steps = sound.few_steps;
+      };
+      counted = kept.counted;
     }

@@ -7,7 +7,7 @@ ghost use Rattle.script_words.specs.Declarations as rules;
 ghost use Rattle.script_words.specs.Reads.{ReadsLine, result_map};
 ghost use Rattle.script_words.specs.Words.{hex_of};
 
-use crate::lines::LineResult;
+use crate::lines::{LineResult, or_fault};
 use crate::lookups::{QueueWords, new_device, new_host, new_pair, read_host, read_queue_name};
 use crate::switch_lines::switch_words;
 use script_plan::Reader;
@@ -215,19 +215,19 @@ pub fn declaration_line(alloc: Global, before: &Reader, word: &[u8], words: &[&[
     ensures { ReadsLine (result_map given_of result) (rules.declaration_line before.now word.now (map (λ word. word.now) words.now)) }
 {
     if word == b"host".as_slice() {
-        Ok(host_words(before, words)?)
+        or_fault(host_words(before, words))
     } else if word == b"pair".as_slice() {
         pair_words(alloc, before, words)
     } else if word == b"dev".as_slice() {
-        Ok(dev_words(before, words)?)
+        or_fault(dev_words(before, words))
     } else if word == b"class".as_slice() {
-        Ok(class_words(before, words)?)
+        or_fault(class_words(before, words))
     } else if word == b"switch".as_slice() {
         switch_words(alloc, before, words)
     } else if word == b"steps".as_slice() {
-        Ok(lone_word(words, Given::StepsBegin)?)
+        or_fault(lone_word(words, Given::StepsBegin))
     } else if word == b"traffic".as_slice() {
-        Ok(lone_word(words, Given::TrafficBegins)?)
+        or_fault(lone_word(words, Given::TrafficBegins))
     } else {
         Err(LineError::Fault(unknown_line()))
     }

@@ -3,10 +3,12 @@
 ghost use Rattle.std.specs.Prelude.{◌≡◌, ◌∷◌, ◌++◌, ◌==◌, ◌<◌, [], filter, length, map, IfOk, OnOk, IfSome, IsTrue};
 ghost use Rattle.std.specs.List.{slice_split};
 ghost use Rattle.std.specs.Option.{option_map_or};
+ghost use Rattle.script_words.specs.Compact.{given_of};
+ghost use Rattle.script_words.specs.Reads.{ReadsLine, result_map};
 ghost use Rattle.script_words.specs.Words as spelled;
 
 use memchr::memchr;
-use script_words::{Given, LineError};
+use script_words::{Given, LineError, LineFault};
 use std::alloc::AllocError;
 
 /// A line of fewer bytes is read byte by byte, a longer one by searches of many bytes at a time.
@@ -17,6 +19,14 @@ pub type LineResult = Result<Given, LineError>;
 
 /// Nothing where what a line gives is added, or why it isn't.
 pub type AddResult = Result<(), LineError>;
+
+/// What a line gives, or its fault.
+#[inline]
+pub fn or_fault(given: Result<Given, LineFault>) -> LineResult
+    ensures { ReadsLine (result_map given_of result) (result_map given_of given) }
+{
+    Ok(given?)
+}
 
 /// What stands before the first of such bytes, and what stands after it where there is one. A short text is read byte
 /// by byte, which takes less there than a search of many bytes at a time.

@@ -5,6 +5,7 @@ ghost use Rattle.std.specs.Prelude.{◌≡◌, ◌≤◌, ◌+◌, ◌^◌, ◌<
 ghost use Rattle.step_kinds.specs.Limits.{most_script_bytes};
 ghost use Rattle.script_words.specs.Before.{Nothing};
 ghost use Rattle.script_words.specs.Reads.{ReadsLine, result_map};
+ghost use Rattle.script_words.specs.Words.{lines_of};
 ghost use Rattle.script_plan.specs.Scripts.{plan_in};
 ghost use Rattle.script_text.specs.SoundLines.{Held, Filled};
 ghost use Rattle.script_text.specs.ParseClauses.{Parses, Adds, after_line};
@@ -121,16 +122,30 @@ pub fn read_declared(alloc: Global, bytes: &[u8]) -> Result<Reader, ParseError>
     ensures { Parses result (rules.declared_by bytes.now) }
 {
     let mut before = Reader::new(alloc);
+    if let Err(error) = add_lines(alloc, &mut before, bytes) {
+        // One call drops all its fields: dropped at the return, each would be a step of this function's proof.
+        drop(before);
+        return Err(error);
+    }
+    Ok(before)
+}
+
+/// Adds what the lines of a script give, the first of which is line 1.
+fn add_lines(alloc: Global, before: &mut Reader, bytes: &[u8]) -> Result<(), ParseError>
+    requires few { length bytes.now ≤ most_script_bytes }
+    requires held { Held before.old }
+    ensures { Parses (result_map (λ _. before.new) result) (rules.read_lines 1 before.old (lines_of bytes.now)) }
+{
     let mut words = Vec::new(alloc);
     let mut number = 1;
     let mut rest = Some(bytes);
     while let Some(text) = rest {
         let (line, more) = cut(text, b'\n');
-        add_line(alloc, number, &mut before, &mut words, without_return(line))?;
+        add_line(alloc, number, before, &mut words, without_return(line))?;
         number += 1;
         rest = more;
     }
-    Ok(before)
+    Ok(())
 }
 
 /// What a script of at most 16,777,216 bytes declares, with its steps as its lines have them, or its fault, as

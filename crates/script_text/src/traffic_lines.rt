@@ -10,7 +10,7 @@ ghost use Rattle.script_words.specs.Compact.{given_of};
 ghost use Rattle.script_words.specs.Reads.{ReadsLine, result_map};
 ghost use Rattle.script_words.specs.TrafficLines as rules;
 
-use crate::lines::LineResult;
+use crate::lines::{LineResult, or_fault};
 use crate::lookups::{QueueWords, read_pair, read_queue_name};
 use plan_numbers::sending_ring;
 use script_plan::Reader;
@@ -112,7 +112,7 @@ pub fn traffic_line(alloc: Global, before: &Reader, word: &[u8], words: &[&[u8]]
         [] => Err(LineError::Fault(unknown_line())),
         [pair] => {
             if word == b"break".as_slice() {
-                Ok(break_line(before, pair)?)
+                or_fault(break_line(before, pair))
             } else {
                 Err(LineError::Fault(unknown_line()))
             }
@@ -128,7 +128,7 @@ pub fn traffic_line(alloc: Global, before: &Reader, word: &[u8], words: &[&[u8]]
         }
         [pair, side, queue, count, len] => {
             if word == b"flood".as_slice() {
-                Ok(flood_line(before, QueueWords { pair, side, queue }, count, len)?)
+                or_fault(flood_line(before, QueueWords { pair, side, queue }, count, len))
             } else {
                 Err(LineError::Fault(unknown_line()))
             }

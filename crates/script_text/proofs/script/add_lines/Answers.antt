@@ -8,7 +8,7 @@ use Rattle.script_text.specs.ParseClauses.{Parses, after_line}
 use Rattle.script_text.specs.Script.{line_gives, read_lines}
 use Rattle.script_text.proofs.LinesRead.{then_lines, line_turn, count_turn, error_stays}
 use Rattle.script_text.proofs.Whole.{after_held}
-use Rattle.script_text.proofs.script.read_declared.Goals as goal
+use Rattle.script_text.proofs.script.add_lines.Goals as goal
 
 pub loop-rest-preserved : goal.loop-rest-preserved
 loop-rest-preserved c =
