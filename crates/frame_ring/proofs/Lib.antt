@@ -3,6 +3,7 @@ pub mod Entries
 pub mod EntryPages
 pub mod Finding
 pub mod FoundEntries
+pub mod HeaderWords
 pub mod LookAnswers
 pub mod NextLabel
 pub mod NextNumber
