@@ -95,6 +95,11 @@ rest_is pair mid new side count more pages room is_count =
     ∙ ap (λ pages. with_room (with_pages pair (other_side side) pages) side count) same
     ∙ ap (with_room (with_pages pair (other_side side) (pages_of new (other_side side))) side) is_count
 
+-- Where pages of a side's peer were promised and no room, they are all that was promised.
+pub rest_kept : (pair mid new : Bridge) (side : Side) (more : ℕ) → mid ≡ with_pages pair (other_side side) (pages_of mid (other_side side)) → new ≡ mid → more ≡ 0
+    → new ≡ with_room (with_pages pair (other_side side) (pages_of new (other_side side))) side more
+rest_kept pair mid new side more pages same none = rest_is pair mid new side 0 more pages (same ∙ sym (no_room mid side)) (sym none)
+
 -- Pages that grow only where an entry touches them grow only where the list of that entry alone touches them.
 pub one_grows : (rings : QueueOf) (n : ℕ) (entry : Entry) (old new : List ℕ) → PagesGrow (TouchesEntry rings n (length (bytes_of entry))) old new → PagesGrow (TouchesEntries rings n (entry ∷ [])) old new
 one_grows rings n entry old new grow =

@@ -2,6 +2,9 @@ pub mod Beginning
 pub mod Entries
 pub mod EntryPages
 pub mod Finding
+pub mod FoundEntries
+pub mod HeaderWords
+pub mod LookAnswers
 pub mod NextLabel
 pub mod NextNumber
 pub mod PostedBytes

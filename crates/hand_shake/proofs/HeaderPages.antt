@@ -1,8 +1,8 @@
 -- Headers: their pages are promised one after the other, and they are zeroed from the last one on.
-use Rattle.std.proofs.Common.{◌≡◌, ℕ, suc, ◌+◌, ◌*◌, ◌%◌, ◌-◌, ◌<◌, ◌≤◌, List, [], ◌∷◌, ◌++◌, map, take, replicate, Result, Ok, Err, OnOk, inl, inr, refl, sym, ap, ◌∙◌, subst, arith, Bool, true, false, ◌==◌, if◌then◌else◌}
+use Rattle.std.proofs.Common.{◌≡◌, ℕ, suc, ◌+◌, ◌*◌, ◌%◌, ◌-◌, ◌<◌, ◌≤◌, List, [], ◌∷◌, ◌++◌, length, map, take, replicate, Result, Ok, Err, OnOk, inl, inr, refl, sym, ap, ◌∙◌, subst, arith, Bool, true, false, ◌==◌, if◌then◌else◌}
 use Rattle.std.proofs.Math.Nat.{add-mul, mod-eq_of_lt, mul-le-mul_right}
 use Rattle.std.proofs.lemmas.Bool.{cases_lt}
-use Rattle.std.proofs.lemmas.List.{take-replicate}
+use Rattle.std.proofs.lemmas.List.{length-replicate, take-replicate}
 use Rattle.std.specs.List.{flat_map}
 use Rattle.byte_model.specs.Addresses.{own_header}
 use Rattle.byte_model.specs.Stores.{Store}
@@ -87,6 +87,11 @@ seen_since old new B P same fact = subst (λ (bridge : Bridge). P bridge.plan (b
 pub bytes_same : (bridge : Bridge) (side : Side) → with_bytes bridge side (bytes_of bridge side) ≡ bridge
 bytes_same bridge A = refl
 bytes_same bridge B = refl
+
+-- Setting a side's promised pages to those that it has changes nothing.
+pub pages_same : (bridge : Bridge) (side : Side) → bridge ≡ with_pages bridge side (pages_of bridge side)
+pages_same bridge A = refl
+pages_same bridge B = refl
 
 -- the pages of a header that isn't zero are promised
 pub one_grows : (plan : PairPlan) (side : Side) (queue n at len : ℕ) (bytes old new : List ℕ) → at ≡ own_header plan side queue n → len ≡ header_bytes plan → n < entries_of (layout_to plan side queue)
@@ -181,3 +186,20 @@ few_bytes plan = by_version (agreed_version plan == 5) where
 -- the zeros of a header
 pub zeros_of : (plan : PairPlan) (len : ℕ) → len ≡ header_bytes plan → take len (replicate 16 0) ≡ replicate {A = ℕ} (header_bytes plan) 0
 zeros_of plan len is_len = take-replicate len 16 0 (omega (arith, few_bytes plan, is_len)) ∙ ap (λ len. replicate len 0) is_len
+
+-- there are as many as the header has bytes
+pub zeros_size : (plan : PairPlan) (len : ℕ) → len ≡ header_bytes plan → length (take len (replicate {A = ℕ} 16 0)) ≡ header_bytes plan
+zeros_size plan len is_len = ap length (zeros_of plan len is_len) ∙ length-replicate (header_bytes plan) 0
+
+-- Where a header's pages are promised, those of the zeros that are written over it are.
+pub zeros_promised : (plan : PairPlan) (at from len : ℕ) (pages : List ℕ) → from ≡ at → len ≡ header_bytes plan → ArePromised at (header_bytes plan) pages
+    → ArePromised from (length (take len (replicate {A = ℕ} 16 0))) pages
+zeros_promised plan at from len pages is_from is_len promised page touch =
+    promised page (subst (λ (size : ℕ). Touches at size page) (zeros_size plan len is_len) (subst (λ (place : ℕ). Touches place (length (take len (replicate {A = ℕ} 16 0))) page) is_from touch))
+
+-- Zeros written at a header's place, as many as it has bytes, make the header zero.
+pub zeros_over : (bridge : Bridge) (side : Side) (at from len : ℕ) → from ≡ at → len ≡ header_bytes bridge.plan
+    → with_bytes bridge side (written from (take len (replicate {A = ℕ} 16 0)) (bytes_of bridge side)) ≡ with_bytes bridge side (written at (replicate (header_bytes bridge.plan) 0) (bytes_of bridge side))
+zeros_over bridge side at from len is_from is_len =
+    ap (λ (place : ℕ). with_bytes bridge side (written place (take len (replicate {A = ℕ} 16 0)) (bytes_of bridge side))) is_from
+    ∙ ap (λ (zeros : List ℕ). with_bytes bridge side (written at zeros (bytes_of bridge side))) (zeros_of bridge.plan len is_len)

@@ -61,6 +61,14 @@ zeroed_both plan side queue from middle to bytes front rest n least below = elim
   | inr behind ↦ rest n behind below
 ]
 
+-- The last of some headers lies in the memory where the last one that is still looked at does, or where headers after that one were looked at.
+pub last_within : (plan : PairPlan) (side : Side) (queue to count : ℕ) (bytes : List ℕ) → to ≤ count → (to < count → own_header plan side queue (count - 1) + header_bytes plan ≤ length bytes)
+    → own_header plan side queue (to - 1) + header_bytes plan ≤ length bytes → own_header plan side queue (count - 1) + header_bytes plan ≤ length bytes
+last_within plan side queue to count bytes fewer before here = elim (cases_lt to count) [
+  | inl less ↦ before less
+  | inr none ↦ (let same : to ≡ count = omega (arith, fewer, none) in subst (λ (n : ℕ). own_header plan side queue (n - 1) + header_bytes plan ≤ length bytes) same here)
+]
+
 -- A header that is zero makes a run of one header, up to the next number, that is zero.
 pub zeroed_one : (plan : PairPlan) (side : Side) (queue n to : ℕ) (bytes : List ℕ) → to ≡ n + 1 → IsZeroed plan side queue n bytes → AreSomeZeroed plan side queue n to bytes
 zeroed_one plan side queue n to bytes one zeroed k least below =

@@ -1,15 +1,21 @@
-use Rattle.std.proofs.Common.{◌≡◌, ◌∙◌, ◌-◌, false, refl, ap, sym, subst}
+use Rattle.std.proofs.Common.{◌≡◌, ◌∙◌, ℕ, ◌+◌, ◌-◌, ◌<◌, ◌≤◌, false, not, length, refl, ap, sym, subst, arith}
+use Rattle.plan_model.specs.DeclaredPlans.{SizesFit}
+use Rattle.plan_model.specs.Pieces.{pieces_of}
+use Rattle.plan_model.specs.Sizes.{pieces_in}
 use Rattle.ring_geometry.specs.Geometry.{max_payload_of}
 use Rattle.step_kinds.specs.Sides.{other_side}
 use Rattle.step_kinds.specs.declared.names.Side.{Side}
 use Rattle.bridge_pair.specs.Bridge.{Bridge, flight_of, pages_of, with_flight, with_pages}
 use Rattle.bridge_pair.specs.Pages.{PagesGrow}
+use Rattle.bridge_pair.proofs.Promises.{grows_nothing}
 use Rattle.posted_queue.specs.Flight.{promised}
 use Rattle.frame_ring.specs.Calls.{frame_begun, sizes_seen}
+use Rattle.frame_ring.specs.Outgoing.{Outgoing, all_writes_in, most_numbers}
 use Rattle.frame_ring.specs.Port.{PortState, Sending, is_busy, unused_of, with_sending, writes_left}
 use Rattle.frame_ring.specs.Ports.{port_seen}
 use Rattle.frame_ring.specs.PortView.{HasPagesIn, TouchesLeft, with_room}
-use Rattle.frame_ring.proofs.Beginning.{Begins, begins_pages, begins_ready, begins_rest, frame_begins, frame_grows, frame_sent, pieces_seen}
+use Rattle.frame_ring.proofs.Beginning.{Begins, begins_pages, begins_ready, begins_rest, frame_begins, frame_grows, frame_sent, pieces_seen, rest_kept}
+use Rattle.frame_ring.proofs.FoundEntries.{pages_same}
 use Rattle.frame_ring.proofs.port.Port.begin_frame.Goals as goal
 use Rattle.frame_ring.proofs.port.Port.begin_frame.Goals.{After-begin}
 
@@ -42,6 +48,73 @@ begins c =
 
 sent : (c : After-begin) → c.begin.new.self.sending ≡ (frame_begun (port_seen c.self.inside) c.args.frame).sending
 sent c = frame_sent (port_seen c.self.inside) c.args.frame c.self.inside.sender c.begin.new.self refl c.self.invariant.queue c.self.invariant.largest c.begin.ensures
+
+pub begin-requires-clause-free : goal.begin-requires-clause-free
+begin-requires-clause-free c =
+    let idle : is_busy c.self.inside.sender.sending ≡ false = ap (λ (port : PortState). is_busy port.sending) c.self.view_is ∙ c.requires.idle in
+    ap not idle
+
+pub begin-requires-clause-writes : goal.begin-requires-clause-writes
+begin-requires-clause-writes c =
+    let largest : c.max_payload-largest.result ≡ c.self.inside.sender.largest = c.max_payload-largest.ensures ∙ ap max_payload_of c.out.ensures.value ∙ sym c.self.invariant.largest in
+    c.count_writes-count.ensures.value ∙ ap (λ (largest : ℕ). all_writes_in (pieces_of largest c.args.frame)) largest
+
+pub begin-requires-clause-few : goal.begin-requires-clause-few
+begin-requires-clause-few c = c.count_writes-count.ensures.small
+
+pub begin-requires-clause-numbers : goal.begin-requires-clause-numbers
+begin-requires-clause-numbers c =
+    let largest : c.max_payload-largest.result ≡ c.self.inside.sender.largest = c.max_payload-largest.ensures ∙ ap max_payload_of c.out.ensures.value ∙ sym c.self.invariant.largest in
+    let pieces : c.pieces_in-pieces.result ≡ pieces_in c.self.inside.sender.largest (length c.args.frame) =
+    c.pieces_in-pieces.ensures.value ∙ ap (λ (largest : ℕ). pieces_in largest c.len.result) largest ∙ ap (pieces_in c.self.inside.sender.largest) c.len.ensures.value in
+    let left = c.has_numbers.ensures.0 c.if-not-has_numbers.false in
+    subst (λ (more : ℕ). c.self.inside.sender.sending.begun + more ≤ most_numbers) pieces (omega (arith, left.0, c.begun-from.ensures.value))
+
+pub begin-requires-clause-frames : goal.begin-requires-clause-frames
+begin-requires-clause-frames c =
+    let left = c.has_numbers.ensures.0 c.if-not-has_numbers.false in
+    subst (λ (told : ℕ). told < most_numbers) c.told.ensures.value left.1
+
+pub promise_frame-requires-clause-fit : goal.promise_frame-requires-clause-fit
+promise_frame-requires-clause-fit c = subst (λ (port : PortState). SizesFit port.plan) (sym c.self.view_is) c.requires.fit
+
+pub invariant_of-self : goal.invariant_of-self
+invariant_of-self c =
+    record {
+      queue = ap (λ (sender : Outgoing). sender.queue) c.begin.ensures ∙ c.self.invariant.queue;
+      largest = ap (λ (sender : Outgoing). sender.largest) c.begin.ensures ∙ c.self.invariant.largest;
+      sends = λ _. subst (λ (port : PortState). SizesFit port.plan) (sym c.self.view_is) c.requires.fit;
+      receives = c.self.invariant.receives;
+      fits = c.self.invariant.fits;
+    }
+
+pub returns-then-not-has_numbers-clause-rest : goal.returns-then-not-has_numbers-clause-rest
+returns-then-not-has_numbers-clause-rest c =
+    let port = c.args.self.now in
+    let pair = c.args.pair.now in
+    rest_kept pair pair pair port.side (unused_of port - unused_of port) (pages_same pair (other_side port.side)) refl (omega arith)
+
+pub returns-then-not-has_numbers-clause-pages : goal.returns-then-not-has_numbers-clause-pages
+returns-then-not-has_numbers-clause-pages c =
+    let port = c.args.self.now in
+    grows_nothing (TouchesLeft port.plan port.side (writes_left (frame_begun port c.args.frame))) (pages_of c.args.pair.now (other_side port.side))
+
+pub returns-in_err-promise_frame-clause-rest : goal.returns-in_err-promise_frame-clause-rest
+returns-in_err-promise_frame-clause-rest c =
+    let port = port_seen c.self.inside in
+    let new = c.promise_frame.new.pair in
+    subst (λ (seen : PortState). new ≡ with_room (with_pages c.args.pair.now (other_side seen.side) (pages_of new (other_side seen.side))) seen.side (unused_of seen - unused_of seen)) c.self.view_is
+    (rest_kept c.args.pair.now new new port.side (unused_of port - unused_of port) c.promise_frame.ensures.rest refl (omega arith))
+
+pub returns-in_err-promise-clause-rest : goal.returns-in_err-promise-clause-rest
+returns-in_err-promise-clause-rest c =
+    let port = port_seen c.self.inside in
+    let new = c.promise.new.self in
+    subst (λ (seen : PortState). new ≡ with_room (with_pages c.args.pair.now (other_side seen.side) (pages_of new (other_side seen.side))) seen.side (unused_of seen - unused_of seen)) c.self.view_is
+    (rest_kept c.args.pair.now c.promise_frame.new.pair new port.side (unused_of port - unused_of port) c.promise_frame.ensures.rest c.in_err-promise.ensures.err (omega arith))
+
+pub returns-clause-after : goal.returns-clause-after
+returns-clause-after c = ap (with_sending (port_seen c.self.inside)) (sent (goal.at.returns-clause-after c).After-begin) ∙ ap (λ (seen : PortState). frame_begun seen c.args.frame) c.self.view_is
 
 pub returns-clause-rest : goal.returns-clause-rest
 returns-clause-rest c =

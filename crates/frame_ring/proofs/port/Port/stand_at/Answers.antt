@@ -1,23 +1,30 @@
-use Rattle.std.proofs.Common.{◌≡◌, ◌∙◌, ◌+◌, OnOk, ap, sym, subst}
+use Rattle.std.proofs.Common.{◌≡◌, ◌∙◌, true, ℕ, ◌+◌, ◌-◌, ◌≤◌, OnOk, length, refl, ap, sym, subst, arith}
 use Rattle.byte_model.specs.Addresses.{own_header}
 use Rattle.byte_model.specs.Headers.{flags_offset}
 use Rattle.byte_model.specs.RingWrites.{index_write}
-use Rattle.host_memory.specs.Memory.{ArePromised}
+use Rattle.host_memory.specs.Memory.{ArePromised, Touches}
+use Rattle.lane_model.specs.Tests.{is_idle}
 use Rattle.lane_model.specs.declared.Phase.TheVariants.{Copying}
+use Rattle.step_kinds.specs.Limits.{most_frame_bytes}
 use Rattle.step_kinds.specs.Sides.{other_side}
 use Rattle.step_kinds.specs.declared.names.Side.{Side}
-use Rattle.bridge_pair.specs.Bridge.{Bridge, pages_of}
+use Rattle.bridge_pair.specs.Bridge.{Bridge, pages_of, with_pages}
+use Rattle.bridge_pair.proofs.Promises.{grows_nothing}
+use Rattle.plan_model.specs.DeclaredPlans.{SizesFit}
+use Rattle.ring_geometry.specs.Geometry.{max_payload_of}
 use Rattle.bridge_pair.specs.Pages.{PagesGrow}
-use Rattle.plan_model.specs.Sizes.{layout_of}
+use Rattle.plan_model.specs.Sizes.{layout_of, layout_to}
 use Rattle.ring_geometry.specs.Geometry.{index_of}
-use Rattle.frame_ring.specs.Port.{PortState, Receiving, with_receiving}
+use Rattle.frame_ring.specs.Port.{PortState, Receiving, unused_of, with_receiving}
 use Rattle.frame_ring.specs.Ports.{port_seen}
 use Rattle.frame_ring.specs.Promises.{TouchesRange}
 use Rattle.frame_ring.specs.PortView.{HasPagesIn, TouchesWrite, with_room}
 use Rattle.frame_ring.proofs.EntryPages.{ok_map}
 use Rattle.frame_ring.proofs.Finding.{either_pages, found_ready, peer_pages}
+use Rattle.frame_ring.proofs.FoundEntries.{err_map, fits_found, found_grown, own_still, pages_grown, pages_same}
+use Rattle.frame_ring.proofs.LookAnswers.{nothing_more}
 use Rattle.frame_ring.proofs.port.Port.stand_at.Goals as goal
-use Rattle.frame_ring.proofs.port.Port.stand_at.Goals.{After-find}
+use Rattle.frame_ring.proofs.port.Port.stand_at.Goals.{After-find, After-promise_flags}
 
 pub returns-in_err-promise_index_word-clause-pages : goal.returns-in_err-promise_index_word-clause-pages
 returns-in_err-promise_index_word-clause-pages c =
@@ -64,3 +71,103 @@ returns-clause-ready c =
     (subst (λ pages. ArePromised (own_header port.plan port.side port.queue port.receiving.got + flags_offset port.plan) 4 pages) (sym own) flags)
     (rw peer c.in_ok-promise_index_word.ensures.ok) before)))
     c.find.ensures.ok
+
+-- Promised pages of the side's own
+
+pub returns-in_err-promise_index_word-clause-flags : goal.returns-in_err-promise_index_word-clause-flags
+returns-in_err-promise_index_word-clause-flags c =
+    let port = port_seen c.self.inside in
+    let touched : ℕ → Type 0 = Touches (own_header port.plan port.side port.queue port.receiving.got + flags_offset port.plan) 4 in
+    let same = own_still c.args.pair.now c.promise_index_word.new.pair port.side c.promise_index_word.ensures.rest in
+    subst (λ (seen : PortState). PagesGrow (Touches (own_header seen.plan seen.side seen.queue seen.receiving.got + flags_offset seen.plan) 4) (pages_of c.args.pair.now seen.side) (pages_of c.promise_index_word.new.pair seen.side)) c.self.view_is
+    (subst (λ pages. PagesGrow touched (pages_of c.args.pair.now port.side) pages) (sym same) (grows_nothing touched (pages_of c.args.pair.now port.side)))
+
+-- those that grew by the flags alone
+flags_grown : (c : After-promise_flags)
+    → PagesGrow (Touches (own_header (port_seen c.self.inside).plan (port_seen c.self.inside).side (port_seen c.self.inside).queue (port_seen c.self.inside).receiving.got + flags_offset (port_seen c.self.inside).plan) 4)
+    (pages_of c.args.pair.now (port_seen c.self.inside).side) (pages_of c.promise_flags.new.pair (port_seen c.self.inside).side)
+flags_grown c =
+    let port = port_seen c.self.inside in
+    let same = own_still c.args.pair.now c.promise_index_word.new.pair port.side c.promise_index_word.ensures.rest in
+    subst (λ pages. PagesGrow (Touches (own_header port.plan port.side port.queue port.receiving.got + flags_offset port.plan) 4) pages (pages_of c.promise_flags.new.pair port.side)) same
+    (subst (λ (n : ℕ). PagesGrow (Touches (own_header port.plan port.side port.queue n + flags_offset port.plan) 4) (pages_of c.promise_index_word.new.pair port.side) (pages_of c.promise_flags.new.pair port.side)) c.got-got.ensures.value
+    c.promise_flags.ensures.pages)
+
+pub returns-in_err-promise_flags-clause-flags : goal.returns-in_err-promise_flags-clause-flags
+returns-in_err-promise_flags-clause-flags c =
+    subst (λ (seen : PortState). PagesGrow (Touches (own_header seen.plan seen.side seen.queue seen.receiving.got + flags_offset seen.plan) 4) (pages_of c.args.pair.now seen.side) (pages_of c.promise_flags.new.pair seen.side)) c.self.view_is
+    (flags_grown (goal.at.returns-in_err-promise_flags-clause-flags c).After-promise_flags)
+
+pub returns-clause-flags : goal.returns-clause-flags
+returns-clause-flags c =
+    let port = port_seen c.self.inside in
+    let here = (goal.at.returns-clause-flags c).After-find in
+    let own : pages_of c.find.new.pair port.side ≡ pages_of c.promise_flags.new.pair port.side = either_pages c.find.result c.promise_flags.new.pair c.find.new.pair port.side port.side (room_is here) c.find.ensures.same in
+    subst (λ (seen : PortState). PagesGrow (Touches (own_header seen.plan seen.side seen.queue seen.receiving.got + flags_offset seen.plan) 4) (pages_of c.args.pair.now seen.side) (pages_of c.find.new.pair seen.side)) c.self.view_is
+    (subst (λ pages. PagesGrow (Touches (own_header port.plan port.side port.queue port.receiving.got + flags_offset port.plan) 4) (pages_of c.args.pair.now port.side) pages) (sym own)
+    (flags_grown (goal.at.returns-clause-flags c).After-promise_flags))
+
+-- What else is left
+
+pub returns-then-not-has_numbers-clause-rest : goal.returns-then-not-has_numbers-clause-rest
+returns-then-not-has_numbers-clause-rest c =
+    let port = c.args.self.now in
+    nothing_more c.args.pair.now port.side (unused_of port - unused_of port) (omega arith)
+
+pub returns-in_err-promise_index_word-clause-rest : goal.returns-in_err-promise_index_word-clause-rest
+returns-in_err-promise_index_word-clause-rest c =
+    let port = port_seen c.self.inside in
+    let new = c.promise_index_word.new.pair in
+    subst (λ (seen : PortState). new ≡ with_room (with_pages (with_pages c.args.pair.now (other_side seen.side) (pages_of new (other_side seen.side))) seen.side (pages_of new seen.side)) seen.side (unused_of seen - unused_of seen)) c.self.view_is
+    (pages_grown c.args.pair.now new new port.side (unused_of port - unused_of port) c.promise_index_word.ensures.rest (pages_same new port.side) (omega arith))
+
+pub returns-in_err-promise_flags-clause-rest : goal.returns-in_err-promise_flags-clause-rest
+returns-in_err-promise_flags-clause-rest c =
+    let port = port_seen c.self.inside in
+    let new = c.promise_flags.new.pair in
+    subst (λ (seen : PortState). new ≡ with_room (with_pages (with_pages c.args.pair.now (other_side seen.side) (pages_of new (other_side seen.side))) seen.side (pages_of new seen.side)) seen.side (unused_of seen - unused_of seen)) c.self.view_is
+    (pages_grown c.args.pair.now c.promise_index_word.new.pair new port.side (unused_of port - unused_of port) c.promise_index_word.ensures.rest c.promise_flags.ensures.rest (omega arith))
+
+pub returns-clause-rest : goal.returns-clause-rest
+returns-clause-rest c =
+    let port = port_seen c.self.inside in
+    let new = c.find.new.pair in
+    let idle : is_idle port.receiving.phase ≡ true = ap (λ (port : PortState). is_idle port.receiving.phase) c.self.view_is ∙ c.requires.idle in
+    subst (λ (seen : PortState). new ≡ with_room (with_pages (with_pages c.args.pair.now (other_side seen.side) (pages_of new (other_side seen.side))) seen.side (pages_of new seen.side)) seen.side (unused_of (with_receiving port c.find.new.self) - unused_of seen)) c.self.view_is
+    (found_grown c.find.result port (record port.receiving { phase = Copying; part = 0; len = c.args.len; left = c.args.left }) c.find.new.self c.args.pair.now c.promise_index_word.new.pair c.promise_flags.new.pair new idle refl
+    c.promise_index_word.ensures.rest c.promise_flags.ensures.rest c.find.ensures.ok c.find.ensures.err (room_is (goal.at.returns-clause-rest c).After-find) c.find.ensures.same)
+
+pub returns-clause-after : goal.returns-clause-after
+returns-clause-after c =
+    let port = port_seen c.self.inside in
+    ok_map (c.find.new.self ≡ record port.receiving { phase = Copying; part = 0; len = c.args.len; left = c.args.left })
+    (with_receiving port c.find.new.self ≡ with_receiving c.args.self.now (record c.args.self.now.receiving { phase = Copying; part = 0; len = c.args.len; left = c.args.left })) c.find.result
+    (λ found. ap (with_receiving port) found
+    ∙ ap (λ (seen : PortState). with_receiving seen (record seen.receiving { phase = Copying; part = 0; len = c.args.len; left = c.args.left })) c.self.view_is)
+    c.find.ensures.ok
+
+pub returns-clause-err : goal.returns-clause-err
+returns-clause-err c =
+    let port = port_seen c.self.inside in
+    err_map (c.find.new.self ≡ port.receiving) (with_receiving port c.find.new.self ≡ c.args.self.now) c.find.result (λ same. ap (with_receiving port) same ∙ c.self.view_is) c.find.ensures.err
+
+pub find-requires-clause-fits : goal.find-requires-clause-fits
+find-requires-clause-fits c = subst (λ (port : PortState). length port.receiving.gathered + c.args.len ≤ most_frame_bytes) (sym c.self.view_is) c.requires.fits
+
+pub find-requires-clause-number : goal.find-requires-clause-number
+find-requires-clause-number c =
+    let left = c.has_numbers.ensures.0 c.if-not-has_numbers.false in
+    omega (arith, left, c.got-got.ensures.value)
+
+pub invariant_of-self : goal.invariant_of-self
+invariant_of-self c =
+    let port = port_seen c.self.inside in
+    record {
+      queue = c.self.invariant.queue;
+      largest = c.self.invariant.largest;
+      sends = c.self.invariant.sends;
+      receives = λ _. subst (λ (seen : PortState). SizesFit seen.plan) (sym c.self.view_is) c.requires.fit;
+      fits =
+          fits_found c.find.result port.receiving (record port.receiving { phase = Copying; part = 0; len = c.args.len; left = c.args.left }) c.find.new.self (max_payload_of (layout_to port.plan port.side port.queue))
+          c.find.ensures.ok c.find.ensures.err (subst (λ (seen : PortState). c.args.len ≤ max_payload_of (layout_to seen.plan seen.side seen.queue)) (sym c.self.view_is) c.requires.short) c.self.invariant.fits;
+    }
