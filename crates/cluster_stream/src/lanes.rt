@@ -134,7 +134,11 @@ impl StreamWork {
         } = self;
         laws_of_sessions();
         let total = session.total();
-        proofs.reserve(2)?;
+        if let Err(error) = proofs.reserve(2) {
+            // One call drops all its fields: dropped at the return, each would be a step of this function's proof.
+            drop(session);
+            return Err(error);
+        }
         let end = session.ended()?;
         proofs.push_reserved(end.item_proof);
         proofs.push_reserved(end.ack_proof);
@@ -163,7 +167,11 @@ impl StreamWork {
             ..
         } = self;
         laws_of_sessions();
-        proofs.reserve(2)?;
+        if let Err(error) = proofs.reserve(2) {
+            // One call drops all its fields: dropped at the return, each would be a step of this function's proof.
+            drop(session);
+            return Err(error);
+        }
         let end = session.ended()?;
         proofs.push_reserved(end.item_proof);
         proofs.push_reserved(end.ack_proof);

@@ -24,7 +24,7 @@ invariant_of-result c =
     let less : (w.ahead - 1) + 1 ≡ w.ahead = omega arith in
     let cut : w.session.cut ≡ true = sym c.is_cut.ensures ∙ c.if-not-is_cut.false in
     next_work laws w c.in_ok-end.end next.result.sender next.result.receiver c.in_ok-new.field-0 c.push_reserved.new.self.items c.push_reserved-2.new.self (w.ahead - 1) c.self.invariant less cut c.in_ok-end.ensures
-    next.ensures.sender next.ensures.receiver c.in_ok-new.ensures (rw c.in_ok-reserve.ensures.items at c.push_reserved.ensures.items) c.push_reserved-2.ensures.items
+    next.ensures.sender next.ensures.receiver c.in_ok-new.ensures (rw c.reserve.ensures.items at c.push_reserved.ensures.items) c.push_reserved-2.ensures.items
 
 pub returns : goal.returns
 returns c =
