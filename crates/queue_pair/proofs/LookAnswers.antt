@@ -1,9 +1,11 @@
 -- What a look leaves of a queue: the port where nothing is found, and the queue closed where a link-down entry is.
-use Rattle.std.proofs.Common.{◌≡◌, ◌∙◌, Bool, true, false, not, refl, ap, if◌then◌else◌}
-use Rattle.bridge_pair.specs.Bridge.{Bridge}
+use Rattle.std.proofs.Common.{◌≡◌, ◌∙◌, ◌-◌, Bool, true, false, not, refl, ap, if◌then◌else◌}
+use Rattle.bridge_pair.specs.Bridge.{Bridge, pages_of, with_pages}
+use Rattle.bridge_pair.specs.Pages.{PagesGrow}
 use Rattle.byte_model.specs.Headers.{Found, NoEntry, ALinkDownEntry, AnotherVersion, TooManyBytes, AnEntry}
-use Rattle.frame_ring.specs.Port.{PortState, with_receiving}
-use Rattle.frame_ring.specs.Calls.{entry_found, look_found, found_seen, look_answer as port_look_answer, after_look as port_after_look}
+use Rattle.frame_ring.specs.Port.{PortState, unused_of, with_receiving}
+use Rattle.frame_ring.specs.PortView.{HasPagesIn, with_room}
+use Rattle.frame_ring.specs.Calls.{TouchedByFlags, TouchedByLook, entry_found, look_found, found_seen, look_answer as port_look_answer, after_look as port_after_look}
 use Rattle.frame_ring.specs.declared.RingLook.{RingLook}
 use Rattle.frame_ring.specs.declared.RingLook.TheVariants.{Ready as RingReady, Empty as RingEmpty, PeerDown as RingPeerDown, VerDiffers as RingVerDiffers, Long as RingLong, OutOfTurn as RingOutOfTurn}
 use Rattle.lane_model.specs.Tests.{is_idle}
@@ -11,6 +13,7 @@ use Rattle.queue_pair.specs.Gates.{after_look, after_look_answer, answer_of_look
 use Rattle.queue_pair.specs.Queue.{QueueState, with_port}
 use Rattle.queue_pair.specs.declared.LookAnswer.{LookAnswer}
 use Rattle.queue_pair.specs.declared.LookAnswer.TheVariants.{NotReady as NotJoined, Closed as QueueClosed}
+use Rattle.step_kinds.specs.Sides.{other_side}
 
 -- the queue with the port that was left, closed where a link-down entry was found
 abbrev pub looked : RingLook → QueueState → PortState → QueueState
@@ -54,3 +57,18 @@ looked_else queue RingEmpty port not_down = refl
 looked_else queue (RingVerDiffers seen own) port not_down = refl
 looked_else queue (RingLong len most) port not_down = refl
 looked_else queue RingOutOfTurn port not_down = refl
+
+-- What a look that left this port leaves of a pair: pages at both sides, and promises of room.
+
+abbrev pub IsRest : PortState → PortState → Bridge → Bridge → Type 0
+IsRest port left before after =
+    after ≡ with_room (with_pages (with_pages before (other_side port.side) (pages_of after (other_side port.side))) port.side (pages_of after port.side)) port.side (unused_of left - unused_of port)
+
+abbrev pub ArePages : PortState → Bridge → Bridge → Type 0
+ArePages port before after = PagesGrow (TouchedByLook port before) (pages_of before (other_side port.side)) (pages_of after (other_side port.side))
+
+abbrev pub AreFlags : PortState → Bridge → Bridge → Type 0
+AreFlags port before after = PagesGrow (TouchedByFlags port before) (pages_of before port.side) (pages_of after port.side)
+
+abbrev pub StaysReady : PortState → PortState → Bridge → Bridge → Type 0
+StaysReady port left before after = HasPagesIn port before → HasPagesIn left after
