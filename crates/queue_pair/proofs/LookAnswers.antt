@@ -1,19 +1,16 @@
 -- What a look leaves of a queue: the port where nothing is found, and the queue closed where a link-down entry is.
-use Rattle.std.proofs.Common.{◌≡◌, ◌∙◌, ◌-◌, Bool, true, false, not, refl, ap, if◌then◌else◌}
-use Rattle.bridge_pair.specs.Bridge.{Bridge, pages_of, with_pages}
-use Rattle.bridge_pair.specs.Pages.{PagesGrow}
+use Rattle.std.proofs.Common.{◌≡◌, ◌∙◌, Bool, true, false, not, refl, ap, if◌then◌else◌}
+use Rattle.bridge_pair.specs.Bridge.{Bridge}
 use Rattle.byte_model.specs.Headers.{Found, NoEntry, ALinkDownEntry, AnotherVersion, TooManyBytes, AnEntry}
-use Rattle.frame_ring.specs.Port.{PortState, unused_of, with_receiving}
-use Rattle.frame_ring.specs.PortView.{HasPagesIn, with_room}
-use Rattle.frame_ring.specs.Calls.{TouchedByFlags, TouchedByLook, entry_found, look_found, found_seen, look_answer as port_look_answer, after_look as port_after_look}
+use Rattle.frame_ring.specs.Port.{PortState, with_receiving}
+use Rattle.frame_ring.specs.Calls.{entry_found, look_found, found_seen, look_answer as port_look_answer, after_look as port_after_look}
 use Rattle.frame_ring.specs.declared.RingLook.{RingLook}
 use Rattle.frame_ring.specs.declared.RingLook.TheVariants.{Ready as RingReady, Empty as RingEmpty, PeerDown as RingPeerDown, VerDiffers as RingVerDiffers, Long as RingLong, OutOfTurn as RingOutOfTurn}
 use Rattle.lane_model.specs.Tests.{is_idle}
-use Rattle.queue_pair.specs.Gates.{after_look, after_look_answer, answer_of_look, is_joined}
+use Rattle.queue_pair.specs.Gates.{after_look, after_look_answer, answer_of_look, is_joined, look_answer}
 use Rattle.queue_pair.specs.Queue.{QueueState, with_port}
 use Rattle.queue_pair.specs.declared.LookAnswer.{LookAnswer}
 use Rattle.queue_pair.specs.declared.LookAnswer.TheVariants.{NotReady as NotJoined, Closed as QueueClosed}
-use Rattle.step_kinds.specs.Sides.{other_side}
 
 -- the queue with the port that was left, closed where a link-down entry was found
 abbrev pub looked : RingLook → QueueState → PortState → QueueState
@@ -41,12 +38,33 @@ open_answer false closed answer is_joined is_open = absurd (cc is_joined)
 open_answer true true answer is_joined is_open = absurd (cc is_open)
 open_answer true false answer is_joined is_open = refl
 
+unjoined_answer : (joined closed : Bool) (answer : LookAnswer) → joined ≡ false → (if not joined then NotJoined else if closed then QueueClosed else answer) ≡ NotJoined
+unjoined_answer true closed answer unjoined = absurd (cc unjoined)
+unjoined_answer false closed answer unjoined = refl
+
+closed_answer : (joined closed : Bool) (answer : LookAnswer) → joined ≡ true → closed ≡ true → (if not joined then NotJoined else if closed then QueueClosed else answer) ≡ QueueClosed
+closed_answer false closed answer is_joined is_closed = absurd (cc is_joined)
+closed_answer true false answer is_joined is_closed = absurd (cc is_closed)
+closed_answer true true answer is_joined is_closed = refl
+
+-- what a look answers where the queue isn't joined
+pub answers_unjoined : (queue : QueueState) (bridge : Bridge) → is_joined queue bridge ≡ false → look_answer queue bridge ≡ NotJoined
+answers_unjoined queue bridge unjoined = unjoined_answer (is_joined queue bridge) queue.closed (answer_of_look (port_look_answer queue.port bridge)) unjoined
+
+-- where it is joined and closed
+pub answers_closed : (queue : QueueState) (bridge : Bridge) → is_joined queue bridge ≡ true → queue.closed ≡ true → look_answer queue bridge ≡ QueueClosed
+answers_closed queue bridge joined closed = closed_answer (is_joined queue bridge) queue.closed (answer_of_look (port_look_answer queue.port bridge)) joined closed
+
+-- where it is joined and open
+pub answers_by_port : (queue : QueueState) (bridge : Bridge) → is_joined queue bridge ≡ true → queue.closed ≡ false → look_answer queue bridge ≡ answer_of_look (port_look_answer queue.port bridge)
+answers_by_port queue bridge joined opened = open_answer (is_joined queue bridge) queue.closed (answer_of_look (port_look_answer queue.port bridge)) joined opened
+
 -- what a look leaves of a queue that is joined and open
 pub looked_is : (queue : QueueState) (bridge : Bridge) (look : RingLook) (port : PortState) → is_joined queue bridge ≡ true → queue.closed ≡ false
     → look ≡ port_look_answer queue.port bridge → port ≡ port_after_look queue.port bridge → after_look queue bridge ≡ looked look queue port
 looked_is queue bridge look port joined opened look_is port_is =
     rw look_is (rw port_is (
-    ap (λ answer. after_look_answer answer queue (port_after_look queue.port bridge)) (open_answer (is_joined queue bridge) queue.closed (answer_of_look (port_look_answer queue.port bridge)) joined opened)
+    ap (λ answer. after_look_answer answer queue (port_after_look queue.port bridge)) (answers_by_port queue bridge joined opened)
     ∙ idle_looked queue (found_seen queue.port bridge) (is_idle queue.port.receiving.phase)))
 
 -- where no link-down entry was found
@@ -57,18 +75,3 @@ looked_else queue RingEmpty port not_down = refl
 looked_else queue (RingVerDiffers seen own) port not_down = refl
 looked_else queue (RingLong len most) port not_down = refl
 looked_else queue RingOutOfTurn port not_down = refl
-
--- What a look that left this port leaves of a pair: pages at both sides, and promises of room.
-
-abbrev pub IsRest : PortState → PortState → Bridge → Bridge → Type 0
-IsRest port left before after =
-    after ≡ with_room (with_pages (with_pages before (other_side port.side) (pages_of after (other_side port.side))) port.side (pages_of after port.side)) port.side (unused_of left - unused_of port)
-
-abbrev pub ArePages : PortState → Bridge → Bridge → Type 0
-ArePages port before after = PagesGrow (TouchedByLook port before) (pages_of before (other_side port.side)) (pages_of after (other_side port.side))
-
-abbrev pub AreFlags : PortState → Bridge → Bridge → Type 0
-AreFlags port before after = PagesGrow (TouchedByFlags port before) (pages_of before port.side) (pages_of after port.side)
-
-abbrev pub StaysReady : PortState → PortState → Bridge → Bridge → Type 0
-StaysReady port left before after = HasPagesIn port before → HasPagesIn left after

@@ -2,7 +2,8 @@
 use Rattle.std.proofs.Common.{◌≡◌, ◌∙◌, sym, ap, subst, true}
 use Rattle.frame_ring.specs.Port.{PortState}
 use Rattle.frame_ring.specs.declared.RingLook.{RingLook}
-use Rattle.queue_pair.proofs.LookAnswers.{AreFlags, ArePages, IsRest, StaysReady, looked, looked_else, looked_is}
+use Rattle.queue_pair.proofs.LookAnswers.{looked, looked_else, looked_is}
+use Rattle.queue_pair.proofs.PairsLeft.{GrowsByFlags, GrowsByLook, IsLookedAt, StaysReady}
 use Rattle.queue_pair.specs.Gates.{after_look, is_joined}
 use Rattle.queue_pair.specs.Queue.{QueueState}
 use Rattle.queue_pair.proofs.queue.QueuePair.look.Goals as goal
@@ -27,14 +28,14 @@ port_left c = elim c.match-look.branch [
 
 pub returns-clause-rest : goal.returns-clause-rest
 returns-clause-rest c =
-    let rest = subst (λ (left : PortState). IsRest c.self.inside.port left c.args.pair.now c.look.new.pair) (sym (port_left c)) c.look.ensures.rest in
-    subst (λ (queue : QueueState). IsRest queue.port c.match-look.self.port c.args.pair.now c.look.new.pair) c.self.view_is rest
+    let rest = subst (λ (left : PortState). IsLookedAt c.self.inside.port left c.args.pair.now c.look.new.pair) (sym (port_left c)) c.look.ensures.rest in
+    subst (λ (queue : QueueState). IsLookedAt queue.port c.match-look.self.port c.args.pair.now c.look.new.pair) c.self.view_is rest
 
 pub returns-clause-pages : goal.returns-clause-pages
-returns-clause-pages c = subst (λ (queue : QueueState). ArePages queue.port c.args.pair.now c.look.new.pair) c.self.view_is c.look.ensures.pages
+returns-clause-pages c = subst (λ (queue : QueueState). GrowsByLook queue.port c.args.pair.now c.look.new.pair) c.self.view_is c.look.ensures.pages
 
 pub returns-clause-flags : goal.returns-clause-flags
-returns-clause-flags c = subst (λ (queue : QueueState). AreFlags queue.port c.args.pair.now c.look.new.pair) c.self.view_is c.look.ensures.flags
+returns-clause-flags c = subst (λ (queue : QueueState). GrowsByFlags queue.port c.args.pair.now c.look.new.pair) c.self.view_is c.look.ensures.flags
 
 pub returns-clause-ready : goal.returns-clause-ready
 returns-clause-ready c =
@@ -42,10 +43,10 @@ returns-clause-ready c =
     subst (λ (queue : QueueState). StaysReady queue.port c.match-look.self.port c.args.pair.now c.look.new.pair) c.self.view_is ready
 
 pub returns-in_err-look-clause-rest : goal.returns-in_err-look-clause-rest
-returns-in_err-look-clause-rest c = subst (λ (queue : QueueState). IsRest queue.port c.look.new.self c.args.pair.now c.look.new.pair) c.self.view_is c.look.ensures.rest
+returns-in_err-look-clause-rest c = subst (λ (queue : QueueState). IsLookedAt queue.port c.look.new.self c.args.pair.now c.look.new.pair) c.self.view_is c.look.ensures.rest
 
 pub returns-in_err-look-clause-pages : goal.returns-in_err-look-clause-pages
-returns-in_err-look-clause-pages c = subst (λ (queue : QueueState). ArePages queue.port c.args.pair.now c.look.new.pair) c.self.view_is c.look.ensures.pages
+returns-in_err-look-clause-pages c = subst (λ (queue : QueueState). GrowsByLook queue.port c.args.pair.now c.look.new.pair) c.self.view_is c.look.ensures.pages
 
 pub returns-in_err-look-clause-flags : goal.returns-in_err-look-clause-flags
-returns-in_err-look-clause-flags c = subst (λ (queue : QueueState). AreFlags queue.port c.args.pair.now c.look.new.pair) c.self.view_is c.look.ensures.flags
+returns-in_err-look-clause-flags c = subst (λ (queue : QueueState). GrowsByFlags queue.port c.args.pair.now c.look.new.pair) c.self.view_is c.look.ensures.flags
