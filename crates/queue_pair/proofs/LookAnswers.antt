@@ -59,6 +59,14 @@ answers_closed queue bridge joined closed = closed_answer (is_joined queue bridg
 pub answers_by_port : (queue : QueueState) (bridge : Bridge) → is_joined queue bridge ≡ true → queue.closed ≡ false → look_answer queue bridge ≡ answer_of_look (port_look_answer queue.port bridge)
 answers_by_port queue bridge joined opened = open_answer (is_joined queue bridge) queue.closed (answer_of_look (port_look_answer queue.port bridge)) joined opened
 
+-- a look leaves a queue as it is where it isn't joined
+pub unchanged_unjoined : (queue : QueueState) (bridge : Bridge) → is_joined queue bridge ≡ false → after_look queue bridge ≡ queue
+unchanged_unjoined queue bridge unjoined = ap (λ answer. after_look_answer answer queue (port_after_look queue.port bridge)) (answers_unjoined queue bridge unjoined)
+
+-- and where it is closed
+pub unchanged_closed : (queue : QueueState) (bridge : Bridge) → is_joined queue bridge ≡ true → queue.closed ≡ true → after_look queue bridge ≡ queue
+unchanged_closed queue bridge joined closed = ap (λ answer. after_look_answer answer queue (port_after_look queue.port bridge)) (answers_closed queue bridge joined closed)
+
 -- what a look leaves of a queue that is joined and open
 pub looked_is : (queue : QueueState) (bridge : Bridge) (look : RingLook) (port : PortState) → is_joined queue bridge ≡ true → queue.closed ≡ false
     → look ≡ port_look_answer queue.port bridge → port ≡ port_after_look queue.port bridge → after_look queue bridge ≡ looked look queue port

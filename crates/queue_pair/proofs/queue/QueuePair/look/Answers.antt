@@ -2,7 +2,7 @@
 use Rattle.std.proofs.Common.{◌≡◌, ◌∙◌, sym, ap, subst, true}
 use Rattle.frame_ring.specs.Port.{PortState}
 use Rattle.frame_ring.specs.declared.RingLook.{RingLook}
-use Rattle.queue_pair.proofs.LookAnswers.{looked, looked_else, looked_is}
+use Rattle.queue_pair.proofs.LookAnswers.{answers_closed, answers_unjoined, looked, looked_else, looked_is, unchanged_closed, unchanged_unjoined}
 use Rattle.queue_pair.proofs.PairsLeft.{GrowsByFlags, GrowsByLook, IsLookedAt, StaysReady}
 use Rattle.queue_pair.specs.Gates.{after_look, is_joined}
 use Rattle.queue_pair.specs.Queue.{QueueState}
@@ -50,3 +50,19 @@ returns-in_err-look-clause-pages c = subst (λ (queue : QueueState). GrowsByLook
 
 pub returns-in_err-look-clause-flags : goal.returns-in_err-look-clause-flags
 returns-in_err-look-clause-flags c = subst (λ (queue : QueueState). GrowsByFlags queue.port c.args.pair.now c.look.new.pair) c.self.view_is c.look.ensures.flags
+
+pub returns-then-not-is_joined-clause-answer : goal.returns-then-not-is_joined-clause-answer
+returns-then-not-is_joined-clause-answer c = sym (answers_unjoined c.args.self.now c.args.pair.now (sym c.is_joined.ensures ∙ c.if-not-is_joined.true))
+
+pub returns-then-not-is_joined-clause-after : goal.returns-then-not-is_joined-clause-after
+returns-then-not-is_joined-clause-after c = sym (unchanged_unjoined c.args.self.now c.args.pair.now (sym c.is_joined.ensures ∙ c.if-not-is_joined.true))
+
+pub returns-then-self-clause-answer : goal.returns-then-self-clause-answer
+returns-then-self-clause-answer c =
+    let closed = ap (λ (queue : QueueState). queue.closed) c.self.view_is in
+    sym (answers_closed c.args.self.now c.args.pair.now (sym c.is_joined.ensures ∙ c.if-not-is_joined.false) (sym closed ∙ c.if-self.true))
+
+pub returns-then-self-clause-after : goal.returns-then-self-clause-after
+returns-then-self-clause-after c =
+    let closed = ap (λ (queue : QueueState). queue.closed) c.self.view_is in
+    sym (unchanged_closed c.args.self.now c.args.pair.now (sym c.is_joined.ensures ∙ c.if-not-is_joined.false) (sym closed ∙ c.if-self.true))
