@@ -1,6 +1,6 @@
 //! Groups of states by their answers, and the branches to which the next step leads from them.
 
-ghost use Rattle.std.specs.Prelude.{◌≡◌, ◌+◌, ◌<◌, ◌≤◌, IfOk, IfSome, OnOk, length, map};
+ghost use Rattle.std.specs.Prelude.{◌≡◌, ◌+◌, ◌<◌, ◌≤◌, ◌++◌, ◌∷◌, [], IfOk, IfSome, OnOk, length, map};
 ghost use Rattle.std.specs.List.{All};
 ghost use Rattle.explore_search.specs.Layers.{AreKept, HasPlaced, HasStepped, HaveBranched, IsPlaceOf, with_answers};
 ghost use Rattle.explore_search.specs.Paths.{IsExplorable, IsLandingBy, path, script_of};
@@ -169,27 +169,41 @@ pub fn named<M: Machine>(
     let Some(last) = branches.pop() else {
         return Ok(groups);
     };
-    for branch in branches {
-        let answers = copy_of(alloc, answers.as_slice())?;
-        groups.push(group_of(answers, branch)?)?;
-    }
-    groups.push(group_of(answers, last)?)?;
+    push_each(alloc, &mut groups, answers.as_slice(), branches)?;
+    push_group(&mut groups, answers, last)?;
     Ok(groups)
 }
 
-// The group of a branch, after these answers.
-fn group_of<M: Machine>(
+// Adds the group of each branch, after copies of these answers.
+fn push_each<M: Machine>(
+    alloc: Global,
+    groups: &mut Vec<Group<M>>,
+    answers: &[Items<u8>],
+    branches: Vec<Branch<M>>,
+) -> Result<(), AllocError>
+    ensures { OnOk result (groups.new.items ≡ groups.old.items ++ map (with_answers answers.now) branches.items) }
+{
+    for branch in branches {
+        push_group(groups, copy_of(alloc, answers)?, branch)?;
+    }
+    Ok(())
+}
+
+// Adds the group of a branch, after these answers.
+fn push_group<M: Machine>(
+    groups: &mut Vec<Group<M>>,
     answers: Items<Items<u8>>,
     branch: Branch<M>,
-) -> Result<Group<M>, AllocError>
-    ensures { IfOk result (λ group. group ≡ with_answers answers branch) }
+) -> Result<(), AllocError>
+    ensures { OnOk result (groups.new.items ≡ groups.old.items ++ with_answers answers branch ∷ []) }
 {
     let mut answers = answers;
     answers.push(branch.text)?;
-    Ok(Group {
+    groups.push(Group {
         answers,
         states: branch.states,
-    })
+    })?;
+    Ok(())
 }
 
 /// A copy of texts. The only error is out of memory.

@@ -1,3 +1,4 @@
 pub mod Begins
 pub mod LookAnswers
+pub mod PairsLeft
 pub mod Refusals

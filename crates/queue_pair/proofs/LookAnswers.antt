@@ -7,7 +7,7 @@ use Rattle.frame_ring.specs.Calls.{entry_found, look_found, found_seen, look_ans
 use Rattle.frame_ring.specs.declared.RingLook.{RingLook}
 use Rattle.frame_ring.specs.declared.RingLook.TheVariants.{Ready as RingReady, Empty as RingEmpty, PeerDown as RingPeerDown, VerDiffers as RingVerDiffers, Long as RingLong, OutOfTurn as RingOutOfTurn}
 use Rattle.lane_model.specs.Tests.{is_idle}
-use Rattle.queue_pair.specs.Gates.{after_look, after_look_answer, answer_of_look, is_joined}
+use Rattle.queue_pair.specs.Gates.{after_look, after_look_answer, answer_of_look, is_joined, look_answer}
 use Rattle.queue_pair.specs.Queue.{QueueState, with_port}
 use Rattle.queue_pair.specs.declared.LookAnswer.{LookAnswer}
 use Rattle.queue_pair.specs.declared.LookAnswer.TheVariants.{NotReady as NotJoined, Closed as QueueClosed}
@@ -38,12 +38,41 @@ open_answer false closed answer is_joined is_open = absurd (cc is_joined)
 open_answer true true answer is_joined is_open = absurd (cc is_open)
 open_answer true false answer is_joined is_open = refl
 
+unjoined_answer : (joined closed : Bool) (answer : LookAnswer) → joined ≡ false → (if not joined then NotJoined else if closed then QueueClosed else answer) ≡ NotJoined
+unjoined_answer true closed answer unjoined = absurd (cc unjoined)
+unjoined_answer false closed answer unjoined = refl
+
+closed_answer : (joined closed : Bool) (answer : LookAnswer) → joined ≡ true → closed ≡ true → (if not joined then NotJoined else if closed then QueueClosed else answer) ≡ QueueClosed
+closed_answer false closed answer is_joined is_closed = absurd (cc is_joined)
+closed_answer true false answer is_joined is_closed = absurd (cc is_closed)
+closed_answer true true answer is_joined is_closed = refl
+
+-- what a look answers where the queue isn't joined
+pub answers_unjoined : (queue : QueueState) (bridge : Bridge) → is_joined queue bridge ≡ false → look_answer queue bridge ≡ NotJoined
+answers_unjoined queue bridge unjoined = unjoined_answer (is_joined queue bridge) queue.closed (answer_of_look (port_look_answer queue.port bridge)) unjoined
+
+-- where it is joined and closed
+pub answers_closed : (queue : QueueState) (bridge : Bridge) → is_joined queue bridge ≡ true → queue.closed ≡ true → look_answer queue bridge ≡ QueueClosed
+answers_closed queue bridge joined closed = closed_answer (is_joined queue bridge) queue.closed (answer_of_look (port_look_answer queue.port bridge)) joined closed
+
+-- where it is joined and open
+pub answers_by_port : (queue : QueueState) (bridge : Bridge) → is_joined queue bridge ≡ true → queue.closed ≡ false → look_answer queue bridge ≡ answer_of_look (port_look_answer queue.port bridge)
+answers_by_port queue bridge joined opened = open_answer (is_joined queue bridge) queue.closed (answer_of_look (port_look_answer queue.port bridge)) joined opened
+
+-- a look leaves a queue as it is where it isn't joined
+pub unchanged_unjoined : (queue : QueueState) (bridge : Bridge) → is_joined queue bridge ≡ false → after_look queue bridge ≡ queue
+unchanged_unjoined queue bridge unjoined = ap (λ answer. after_look_answer answer queue (port_after_look queue.port bridge)) (answers_unjoined queue bridge unjoined)
+
+-- and where it is closed
+pub unchanged_closed : (queue : QueueState) (bridge : Bridge) → is_joined queue bridge ≡ true → queue.closed ≡ true → after_look queue bridge ≡ queue
+unchanged_closed queue bridge joined closed = ap (λ answer. after_look_answer answer queue (port_after_look queue.port bridge)) (answers_closed queue bridge joined closed)
+
 -- what a look leaves of a queue that is joined and open
 pub looked_is : (queue : QueueState) (bridge : Bridge) (look : RingLook) (port : PortState) → is_joined queue bridge ≡ true → queue.closed ≡ false
     → look ≡ port_look_answer queue.port bridge → port ≡ port_after_look queue.port bridge → after_look queue bridge ≡ looked look queue port
 looked_is queue bridge look port joined opened look_is port_is =
     rw look_is (rw port_is (
-    ap (λ answer. after_look_answer answer queue (port_after_look queue.port bridge)) (open_answer (is_joined queue bridge) queue.closed (answer_of_look (port_look_answer queue.port bridge)) joined opened)
+    ap (λ answer. after_look_answer answer queue (port_after_look queue.port bridge)) (answers_by_port queue bridge joined opened)
     ∙ idle_looked queue (found_seen queue.port bridge) (is_idle queue.port.receiving.phase)))
 
 -- where no link-down entry was found
