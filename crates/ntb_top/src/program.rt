@@ -30,7 +30,7 @@ use std::thread::Threads;
 ///
 /// | status | cause | text |
 /// |---|---|---|
-/// | 0 | none of the others | `replay`: the report; `trace`: the trace; `check`: how much the script declares; `explore`: all outcomes of its schedules; `run` and `stream`: the text of the record; `load`: the summary of a load; `reads`: the answers |
+/// | 0 | none of the others | what the command writes, as [`Command`] says |
 /// | 2 | the words are no command | `usage` |
 /// | 3 | a line of the script has a fault | `refused line L CAUSE`; of `reads`, whose cause is always `badline`; of `check` with the word and the range |
 /// | 4 | the source failed | nothing |
@@ -56,15 +56,7 @@ pub fn run_program<R: Threads + Wait + Sync, S: Source, K: Sink, G: Gate>(
     match command_of(words) {
         Some(Command::Run) => run_traffic(rt, alloc, source, sink, gate),
         Some(Command::Stream) => stream_traffic(rt, alloc, source, sink, gate),
-        Some(
-            Command::Replay
-            | Command::Load { .. }
-            | Command::Reads
-            | Command::Trace
-            | Command::Check
-            | Command::Explore,
-        )
-        | None => { Ended::alone(alloc, plain_program(alloc, words, source, sink)) }
+        Some(_) | None => Ended::alone(alloc, plain_program(alloc, words, source, sink)),
     }
 }
 
