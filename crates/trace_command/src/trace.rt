@@ -1,10 +1,13 @@
 //! The trace of a script.
 
-ghost use Rattle.std.specs.Prelude.{◌≡◌, ◌++◌, IfOk, OnOk, false, replicate};
+ghost use Rattle.std.specs.Prelude.{◌≡◌, ◌++◌, [], IfOk, OnOk, false, replicate};
 ghost use Rattle.std.specs.List.{fold};
 ghost use Rattle.plan_model.specs.DeclaredPlans.{IsDeclared};
 ghost use Rattle.plan_model.specs.TrafficPlans.{IsWhole};
 ghost use Rattle.script_plan.specs.Scripts.{plan_in};
+ghost use Rattle.replay_command.specs.ReplaySteps.{HasReplayed, filled};
+ghost use Rattle.replay_command.specs.Replays.{device_counts as counts_of_devices, lane_counts as counts_of_lanes, log_of_plan};
+ghost use Rattle.trace_text.specs.Lines.{ending};
 ghost use Rattle.trace_command.specs.Trace.{trace_start, trace_text as text_of_plan, with_line};
 
 use crate::head::push_head;
@@ -80,11 +83,36 @@ pub fn trace_text(alloc: Global, script: &Script) -> Result<Vec<u8>, AllocError>
     ensures { IfOk result (λ text. text.items ≡ text_of_plan (plan_in script.now)) }
 {
     let mut cluster = Cluster::new(alloc, &script.declared)?;
+    text_by(alloc, script, &mut cluster)
+}
+
+// The trace of a script, whose steps a cluster makes that has made none.
+fn text_by(alloc: Global, script: &Script, cluster: &mut Cluster) -> Result<Vec<u8>, AllocError>
+    requires whole { IsWhole (plan_in script.now) }
+    requires made { HasReplayed (plan_in script.now) [] cluster.old }
+    ensures { IfOk result (λ text. text.items ≡ text_of_plan (plan_in script.now)) }
+{
     let mut lines = TraceLines::new(alloc, &script.declared)?;
-    make_steps(&script.steps, &mut cluster, &mut lines)?;
-    let lanes = lane_counts(alloc, script, &cluster)?;
-    let devs = device_counts(alloc, script, &cluster)?;
-    let mut text = lines.text;
-    push_ending(&mut text, &script.declared, &lanes, &devs)?;
-    Ok(text)
+    make_steps(&script.steps, cluster, &mut lines)?;
+    push_counts(alloc, &mut lines.text, script, cluster)?;
+    Ok(lines.text)
+}
+
+// Adds what stands after a trace's steps: its lanes and devices, as the cluster that has made the steps counts them, and
+// the end.
+fn push_counts(
+    alloc: Global,
+    text: &mut Vec<u8>,
+    script: &Script,
+    cluster: &Cluster,
+) -> Result<(), AllocError>
+    requires whole { IsWhole (plan_in script.now) }
+    requires made { HasReplayed (plan_in script.now) script.now.steps cluster.now }
+    ensures { OnOk result (text.new.items ≡ text.old.items ++ ending script.now.declared
+        (filled (counts_of_lanes (plan_in script.now) (log_of_plan (plan_in script.now))))
+        (counts_of_devices (plan_in script.now) (log_of_plan (plan_in script.now)))) }
+{
+    let lanes = lane_counts(alloc, script, cluster)?;
+    let devs = device_counts(alloc, script, cluster)?;
+    push_ending(text, &script.declared, &lanes, &devs)
 }

@@ -1,51 +1,6 @@
-use Rattle.std.proofs.Common.{◌≡◌, ◌∙◌, ◌++◌, [], List, refl, ap, sym}
-use Rattle.std.proofs.lemmas.Result.{err_from_is_err_and}
-use Rattle.ledger_model.specs.Log.{Answered}
-use Rattle.report_text.specs.Report.{AnsweredStep}
-use Rattle.replay_command.specs.Replays.{answered_steps, log_of_plan}
-use Rattle.trace_text.specs.Lines.{step_lines}
-use Rattle.trace_text.specs.Writes.{writes_start}
-use Rattle.trace_command.specs.Head.{head}
-use Rattle.trace_command.specs.Trace.{Traced}
-use Rattle.trace_command.proofs.Traces.{lines_kept}
-use Rattle.trace_command.proofs.WholeTraces.{trace_is}
+use Rattle.std.proofs.Common.{refl}
 use Rattle.script_plan.specs.Scripts.{plan_in}
-use Rattle.replay_command.proofs.PermittedSteps.{steps_permitted}
 use Rattle.trace_command.proofs.trace.trace_text.Goals as goal
 
-pub make_steps-requires : goal.make_steps-requires
-make_steps-requires c =
-    let script = c.args.script.now in
-    steps_permitted (plan_in script) _ script.steps c.in_ok-cluster.ensures.plan c.requires.steps
-
-pub lane_counts-requires-clause-made : goal.lane_counts-requires-clause-made
-lane_counts-requires-clause-made c =
-    let script = c.args.script.now in
-    (c.in_ok-make_steps.ensures.kept (plan_in script) []
-    (record { made = c.in_ok-cluster.ensures.made (plan_in script) refl; kept = c.in_ok-cluster.ensures.plan })).replayed
-
-pub device_counts-requires-clause-made : goal.device_counts-requires-clause-made
-device_counts-requires-clause-made c =
-    let script = c.args.script.now in
-    (c.in_ok-make_steps.ensures.kept (plan_in script) []
-    (record { made = c.in_ok-cluster.ensures.made (plan_in script) refl; kept = c.in_ok-cluster.ensures.plan })).replayed
-
-pub returns : goal.returns
-returns c =
-    let script = c.args.script.now in
-    let plan = plan_in script in
-    let made =
-    c.in_ok-make_steps.ensures.kept plan []
-    (record { made = c.in_ok-cluster.ensures.made plan refl; kept = c.in_ok-cluster.ensures.plan }) in
-    let answered : List Answered → List AnsweredStep = answered_steps script.steps in
-    let text : c.lines.inside.text.items ≡ head script.declared.pairs ++ step_lines script.declared (writes_start script.declared.pairs) (answered (log_of_plan plan)) =
-    ap (λ (traced : Traced). traced.text) (c.lines.view_is ∙ made.kept) ∙ lines_kept (answered made.answers) c.in_ok-lines.lines
-    ∙ ap (λ (start : Traced). start.text ++ step_lines start.plan start.writes (answered made.answers)) c.in_ok-lines.ensures
-    ∙ ap (λ (log : List Answered). head script.declared.pairs ++ step_lines script.declared (writes_start script.declared.pairs) (answered log)) (sym made.log) in
-    trace_is script.declared script.steps c.deref.result.now c.deref-2.result.now _ _ text (c.deref.ensures.value ∙ c.in_ok-lanes.ensures)
-    (c.deref-2.ensures.value ∙ c.in_ok-devs.ensures) c.in_ok-push_ending.ensures
-
-pub returns-in_err-push_ending : goal.returns-in_err-push_ending
-returns-in_err-push_ending c =
-    let p = err_from_is_err_and c.from_residual-in_err-push_ending.result c.from_residual-in_err-push_ending.ensures.1 in
-    rw p.1 tt
+pub text_by-requires-clause-made : goal.text_by-requires-clause-made
+text_by-requires-clause-made c = record { made = c.in_ok-cluster.ensures.made (plan_in c.args.script.now) refl; kept = c.in_ok-cluster.ensures.plan }
