@@ -3,7 +3,7 @@ use Rattle.std.proofs.Common.{◌≡◌, ℕ, zero, suc, ◌+◌, ◌-◌, ◌%�
 use Rattle.std.proofs.lemmas.List.{set-get_or, map-append}
 use Rattle.std.proofs.lemmas.Bool.{cases_Bool, cond-true, cond-false, le-ltb}
 use Rattle.table_rule.specs.LaneNames.{Entry, Write, Data, Flag, Bell, Field, Chunk, Length, Version, Slot, blank_slot, slot_of, ring_with, with_field, data_of, version_of, bytes_of, Lane, entry_of, HoldsRingLaw, Copying, Copied, count_from, after_post, after_landing, after_copy, after_index}
-use Rattle.lane_model.specs.LaneSteps.{LaneStep, Begin, Post, Land, Look, Copy, Clear, Acknowledge, GiveBack, Cut, Drop, Leads, Runs}
+use Rattle.table_rule.specs.LaneNames.{LaneStep, Begin, Post, Land, Look, Copy, Clear, Acknowledge, GiveBack, Cut, Drop, Leads, Runs}
 use Rattle.table_rule.specs.LaneSteps.{flag_steps, index_steps}
 use Rattle.table_rule.proofs.LaneLaws.{chunks_in, more_to_copy, begin_keeps, post_keeps, land_data_keeps, land_flag_keeps, land_bell_keeps, look_keeps, copy_keeps, clear_keeps, ack_keeps, index_keeps, cut_keeps, drop_keeps}
 

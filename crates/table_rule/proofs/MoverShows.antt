@@ -10,7 +10,7 @@ use Rattle.table_rule.specs.Words.{header_of}
 use Rattle.table_rule.specs.Views.{Bytes}
 use Rattle.table_rule.specs.Borders.{Borders, out, full}
 use Rattle.table_rule.specs.ShownLane.{in_flight, PostedStand, RingStands, HeldStand}
-use Rattle.lane_model.specs.LaneSteps.{Land, Runs}
+use Rattle.table_rule.specs.LaneNames.{Land, Runs}
 use Rattle.table_rule.specs.LaneSteps.{header_steps, flag_steps}
 use Rattle.table_rule.specs.Kinds.{Takes, StoresHeader, StoresFlag}
 use Rattle.table_rule.proofs.LaneLaws.{same_number}

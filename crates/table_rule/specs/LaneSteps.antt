@@ -1,6 +1,6 @@
 -- The steps of a lane that a step of its table is.
 use Rattle.std.specs.Prelude.{ℕ, List, [], ◌∷◌, map}
-use Rattle.lane_model.specs.LaneSteps.{LaneStep, Begin, Post, Land, GiveBack}
+use Rattle.table_rule.specs.LaneNames.{LaneStep, Begin, Post, Land, GiveBack}
 use Rattle.table_rule.specs.LaneNames.{Entry, entry_of_frame, Flag, Bell, data_of, writes_of, count_from}
 
 -- a posted header is stored: the entry is begun, and all its writes are posted
