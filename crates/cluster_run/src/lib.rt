@@ -10,6 +10,7 @@ mod in_turn;
 mod lanes;
 pub mod laws;
 mod parts;
+mod pause;
 mod progress;
 mod rounds;
 mod run;

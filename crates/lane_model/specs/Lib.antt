@@ -1,5 +1,6 @@
 pub mod Examples
 pub mod Lane
+pub mod LaneSteps
 pub mod Law
 pub mod Ring
 pub mod Steps

@@ -32,8 +32,8 @@ fn move_turn(mover: &mut MoveEnd, back: &mut BackEnd, choice: u64) -> Turn
 
 /// Makes at least 1 and at most `turns` turns of the worker that moves frames and brings indices back, and answers how
 /// many. Before each it passes the gate with the turn's number, counted from `first`. A turn is one [`MoveEnd::step`]
-/// and one [`BackEnd::step`]. The choices of the turns are words of the generator SplitMix64, seeded by `choices` and
-/// `first`, so that headers overtake one another.
+/// and one [`BackEnd::step`]. The choices of the turns are the upper halves of words of the generator SplitMix64, seeded
+/// by `choices` and `first`, so that headers overtake one another.
 ///
 /// The pass may end early, where its turns did nothing for a while. It takes no memory and never waits for another
 /// worker.
@@ -64,7 +64,9 @@ pub fn move_pass<G: Gate>(
     let mut made = 0;
     while made < turns {
         gate.at(worker, first + u64::from(made));
-        let turn = move_turn(mover, back, words.next_word());
+        // 32 bits are enough to choose by, and quicker to divide.
+        let choice = words.next_word() >> 32;
+        let turn = move_turn(mover, back, choice);
         made += 1;
         if idling.ends_with(turn) {
             break;

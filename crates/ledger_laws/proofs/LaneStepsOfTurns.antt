@@ -30,7 +30,8 @@ use Rattle.plan_model.specs.Link.{is_up}
 use Rattle.plan_model.specs.Pads.{links_pad}
 use Rattle.plan_model.specs.Sizes.{Sizes}
 use Rattle.ledger_laws.specs.LaneChanges.{LaneChange, Unchanged, change_by_write}
-use Rattle.ledger_laws.specs.LaneSteps.{LaneStep, Begin, Post, Land, Look, Copy, Clear, Acknowledge, GiveBack, Cut, Drop, AreStepsFor, Leads, MovesByLaneSteps}
+use Rattle.lane_model.specs.LaneSteps.{LaneStep, Begin, Post, Land, Look, Copy, Clear, Acknowledge, GiveBack, Cut, Drop, Leads}
+use Rattle.ledger_laws.specs.LaneSteps.{AreStepsFor, MovesByLaneSteps}
 use Rattle.ledger_laws.proofs.AtStart.{up-not_down, closing-not_up}
 use Rattle.ledger_laws.proofs.EntriesFit.{AreOpen, IsPieceWithin, FitsOf, IsUnderWay, LeavesOf, cut_within}
 use Rattle.ledger_laws.proofs.FreshLanes.{SidesKnown, own_index}

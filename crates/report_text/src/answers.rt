@@ -43,7 +43,54 @@ pub fn push_bytes(text: &mut Vec<u8>, answer: &Answer) -> Result<(), AllocError>
     match answer {
         Answer::Delivered { frame, .. } => push_frame(text, frame.bytes()),
         Answer::Mem { bytes } => push_hex(text, bytes.bytes()),
-        _ => Ok(()),
+        Answer::Ok
+        | Answer::OkSession { .. }
+        | Answer::OkNumber { .. }
+        | Answer::NotDown
+        | Answer::Dirty
+        | Answer::NotEnabled
+        | Answer::Spent
+        | Answer::NotUp
+        | Answer::NotClosing
+        | Answer::LinkDown
+        | Answer::Already
+        | Answer::Offered { .. }
+        | Answer::NotYet
+        | Answer::Version { .. }
+        | Answer::Queues { .. }
+        | Answer::Windows { .. }
+        | Answer::Size { .. }
+        | Answer::Up
+        | Answer::NotChecked
+        | Answer::NotReady
+        | Answer::Joined
+        | Answer::Closed
+        | Answer::TooLong { .. }
+        | Answer::Busy
+        | Answer::Stopped
+        | Answer::Again { .. }
+        | Answer::Idle
+        | Answer::Posted { .. }
+        | Answer::Nothing
+        | Answer::Blocked
+        | Answer::Landed { .. }
+        | Answer::OutOfTurn
+        | Answer::Empty
+        | Answer::PeerDown
+        | Answer::VerDiffers { .. }
+        | Answer::Long { .. }
+        | Answer::ReadyFrame { .. }
+        | Answer::Copied { .. }
+        | Answer::Cleared { .. }
+        | Answer::Acked { .. }
+        | Answer::Awake
+        | Answer::Irq { .. }
+        | Answer::PadValue { .. }
+        | Answer::QueueShown { .. }
+        | Answer::Short { .. }
+        | Answer::Filtered
+        | Answer::To { .. }
+        | Answer::Flood { .. } => Ok(()),
     }
 }
 
@@ -155,7 +202,31 @@ fn put_one_word(line: &mut LineText, answer: &Answer)
         Answer::PeerDown => line.put_word(b"peerdown"),
         Answer::Awake => line.put_word(b"awake"),
         Answer::Filtered => line.put_word(b"filtered"),
-        _ => unreachable!(),
+        Answer::OkSession { .. }
+        | Answer::OkNumber { .. }
+        | Answer::Offered { .. }
+        | Answer::Version { .. }
+        | Answer::Queues { .. }
+        | Answer::Windows { .. }
+        | Answer::Size { .. }
+        | Answer::TooLong { .. }
+        | Answer::Again { .. }
+        | Answer::Posted { .. }
+        | Answer::Landed { .. }
+        | Answer::VerDiffers { .. }
+        | Answer::Long { .. }
+        | Answer::ReadyFrame { .. }
+        | Answer::Copied { .. }
+        | Answer::Delivered { .. }
+        | Answer::Cleared { .. }
+        | Answer::Acked { .. }
+        | Answer::Irq { .. }
+        | Answer::Mem { .. }
+        | Answer::PadValue { .. }
+        | Answer::QueueShown { .. }
+        | Answer::Short { .. }
+        | Answer::To { .. }
+        | Answer::Flood { .. } => unreachable!(),
     }
 }
 

@@ -3,8 +3,9 @@ use Rattle.std.proofs.Common.{◌≡◌, ℕ, zero, suc, ◌+◌, ◌-◌, ◌%�
 use Rattle.std.proofs.lemmas.List.{set-get_or, map-append}
 use Rattle.std.proofs.lemmas.Bool.{cases_Bool, cond-true, cond-false, le-ltb}
 use Rattle.table_rule.specs.LaneNames.{Entry, Write, Data, Flag, Bell, Field, Chunk, Length, Version, Slot, blank_slot, slot_of, ring_with, with_field, data_of, version_of, bytes_of, Lane, entry_of, HoldsRingLaw, Copying, Copied, count_from, after_post, after_landing, after_copy, after_index}
-use Rattle.table_rule.specs.LaneSteps.{LaneStep, Begin, Post, Land, Look, Copy, Clear, Acknowledge, GiveBack, Leads, Runs, flag_steps, index_steps}
-use Rattle.table_rule.proofs.LaneLaws.{chunks_in, more_to_copy, begin_keeps, post_keeps, land_data_keeps, land_flag_keeps, land_bell_keeps, look_keeps, copy_keeps, clear_keeps, ack_keeps, index_keeps}
+use Rattle.table_rule.specs.LaneNames.{LaneStep, Begin, Post, Land, Look, Copy, Clear, Acknowledge, GiveBack, Cut, Drop, Leads, Runs}
+use Rattle.table_rule.specs.LaneSteps.{flag_steps, index_steps}
+use Rattle.table_rule.proofs.LaneLaws.{chunks_in, more_to_copy, begin_keeps, post_keeps, land_data_keeps, land_flag_keeps, land_bell_keeps, look_keeps, copy_keeps, clear_keeps, ack_keeps, index_keeps, cut_keeps, drop_keeps}
 
 -- one step keeps the law of the ring
 leads_keep : (step : LaneStep) (before after : Lane) → Leads step before after → HoldsRingLaw before → HoldsRingLaw after
@@ -18,6 +19,8 @@ leads_keep Copy before after h law = subst (λ (l : Lane). HoldsRingLaw l) (sym 
 leads_keep Clear before after h law = subst (λ (l : Lane). HoldsRingLaw l) (sym h.1) (clear_keeps before h.0 law)
 leads_keep Acknowledge before after h law = subst (λ (l : Lane). HoldsRingLaw l) (sym h.1) (ack_keeps before h.0 law)
 leads_keep (GiveBack n) before after h law = subst (λ (l : Lane). HoldsRingLaw l) (sym h.2) (index_keeps before n h.0 h.1 law)
+leads_keep Cut before after h law = subst (λ (l : Lane). HoldsRingLaw l) (sym h.1) (cut_keeps before law)
+leads_keep Drop before after h law = subst (λ (l : Lane). HoldsRingLaw l) (sym h.1) (drop_keeps before h.0 law)
 
 -- and so do steps, one after another
 pub runs_keep : (steps : List LaneStep) (before after : Lane) → Runs steps before after → HoldsRingLaw before → HoldsRingLaw after

@@ -10,7 +10,8 @@ use Rattle.table_rule.specs.Words.{header_of}
 use Rattle.table_rule.specs.Views.{Bytes}
 use Rattle.table_rule.specs.Borders.{Borders, out, full}
 use Rattle.table_rule.specs.ShownLane.{in_flight, PostedStand, RingStands, HeldStand}
-use Rattle.table_rule.specs.LaneSteps.{Land, Runs, header_steps, flag_steps}
+use Rattle.table_rule.specs.LaneNames.{Land, Runs}
+use Rattle.table_rule.specs.LaneSteps.{header_steps, flag_steps}
 use Rattle.table_rule.specs.Kinds.{Takes, StoresHeader, StoresFlag}
 use Rattle.table_rule.proofs.LaneLaws.{same_number}
 use Rattle.table_rule.proofs.LaneRuns.{runs_keep, fields_of, data_is_fields, with_fields, fields_keep_flags, fields_give_version, land_fields, land_flag_and_bell}

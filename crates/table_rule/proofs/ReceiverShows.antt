@@ -9,7 +9,7 @@ use Rattle.table_rule.specs.LaneNames.{Lane, Slot, blank_slot, slot_of, with_fla
 use Rattle.table_rule.specs.Views.{Bytes}
 use Rattle.table_rule.specs.Borders.{Borders, Slots, SlotsStand, empty, out, full, slot_at}
 use Rattle.table_rule.specs.ShownLane.{RingStands, IndexStands, hand_in}
-use Rattle.table_rule.specs.LaneSteps.{Look, Copy, Clear, Acknowledge, Runs}
+use Rattle.table_rule.specs.LaneNames.{Look, Copy, Clear, Acknowledge, Runs}
 use Rattle.table_rule.specs.Kinds.{Looks, Copies, Clears, Acknowledges}
 use Rattle.table_rule.specs.Moment.{Moment, ShowsLane}
 use Rattle.table_rule.proofs.LaneLaws.{chunks_in, look_sees, copy_sees, tail_after}

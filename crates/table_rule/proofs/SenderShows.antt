@@ -8,7 +8,8 @@ use Rattle.table_rule.specs.Words.{header_of}
 use Rattle.table_rule.specs.Views.{Bytes}
 use Rattle.table_rule.specs.Borders.{Borders, Slots, out, full, slot_at}
 use Rattle.table_rule.specs.ShownLane.{borders_of, claimed_by, in_flight, PostedStand}
-use Rattle.table_rule.specs.LaneSteps.{Runs, send_steps}
+use Rattle.table_rule.specs.LaneNames.{Runs}
+use Rattle.table_rule.specs.LaneSteps.{send_steps}
 use Rattle.table_rule.specs.Kinds.{Claims, Sends}
 use Rattle.table_rule.specs.Moment.{Moment, ShowsLane}
 use Rattle.table_rule.proofs.LaneLaws.{free_is_room, other_number}

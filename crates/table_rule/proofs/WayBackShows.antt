@@ -9,7 +9,8 @@ use Rattle.table_rule.specs.Words.{cut_word}
 use Rattle.table_rule.specs.Views.{Bytes}
 use Rattle.table_rule.specs.Borders.{Borders, Slots, SlotsStand}
 use Rattle.table_rule.specs.ShownLane.{number_at}
-use Rattle.table_rule.specs.LaneSteps.{Runs, index_steps}
+use Rattle.table_rule.specs.LaneNames.{Runs}
+use Rattle.table_rule.specs.LaneSteps.{index_steps}
 use Rattle.table_rule.specs.Kinds.{LoadsIndex, StoresIndex, Cuts}
 use Rattle.table_rule.proofs.LaneLaws.{number_is, number_from, tail_after}
 use Rattle.table_rule.proofs.LaneRuns.{runs_keep, index_all}

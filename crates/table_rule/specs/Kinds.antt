@@ -10,7 +10,8 @@ use Rattle.table_rule.specs.Views.{Bytes}
 use Rattle.table_rule.specs.Borders.{Slots, empty, out, full}
 use Rattle.table_rule.specs.ShownLane.{number_at}
 use Rattle.table_rule.specs.Moment.{Moment, ShowsLane}
-use Rattle.table_rule.specs.LaneSteps.{Look, Copy, Clear, Acknowledge, Runs, send_steps, header_steps, flag_steps, index_steps}
+use Rattle.table_rule.specs.LaneNames.{Look, Copy, Clear, Acknowledge, Runs}
+use Rattle.table_rule.specs.LaneSteps.{send_steps, header_steps, flag_steps, index_steps}
 
 -- the sender takes the slot of the next entry, where the index word shows room
 abbrev pub Claims : Type 0

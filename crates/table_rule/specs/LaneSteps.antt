@@ -1,41 +1,7 @@
 -- The steps of a lane that a step of its table is.
-use Rattle.std.specs.Prelude.{◌≡◌, ◌≢◌, ℕ, ◌<◌, ◌≤◌, List, [], ◌∷◌, ◌++◌, length, map}
-use Rattle.table_rule.specs.LaneNames.{Entry, entry_of_frame, GoesDown, Write, Data, Flag, Bell, Lane, bytes_of, data_of, writes_of, free_in, entry_of, Idle, Copying, Copied, Cleared, count_from, after_begin, after_post, after_landing, after_look, after_copy, after_clear, after_ack, after_index}
-
-pub data LaneStep : Type 0 where
-  -- the sender begins an entry, and posts the next write
-  Begin : (entry : Entry) → LaneStep
-  Post : LaneStep
-  -- a write lands
-  Land : (write : Write) → LaneStep
-  -- the receiver finds an entry, copies the next part, clears the flags, posts the index write
-  Look : LaneStep
-  Copy : LaneStep
-  Clear : LaneStep
-  Acknowledge : LaneStep
-  -- the index write of an entry lands
-  GiveBack : (n : ℕ) → LaneStep
-
--- the step may be made, and leads from one lane to the other
-abbrev pub Leads : LaneStep → Lane → Lane → Type 0
-Leads (Begin entry) before after =
-    (before.todo ≡ []) × (0 < free_in before) × (length (bytes_of entry) ≤ before.largest) × ((n : ℕ) → n < length before.sent → entry_of before n ≢ GoesDown) × (after ≡ after_begin before entry)
-Leads Post before after = (write : Write) × (rest : List Write) × (before.todo ≡ write ∷ rest) × (after ≡ after_post before write rest)
--- a field may pass any write before it, flags and doorbells pass none
-Leads (Land (Data n field)) before after =
-    (ahead : List Write) × (behind : List Write) × (before.flight ≡ ahead ++ Data n field ∷ behind) × (after ≡ after_landing before (Data n field) (ahead ++ behind))
-Leads (Land (Flag n)) before after = (rest : List Write) × (before.flight ≡ Flag n ∷ rest) × (after ≡ after_landing before (Flag n) rest)
-Leads (Land Bell) before after = (rest : List Write) × (before.flight ≡ Bell ∷ rest) × (after ≡ after_landing before Bell rest)
-Leads Look before after = (before.phase ≡ Idle) × (before.got < before.flagged) × (after ≡ after_look before)
-Leads Copy before after = (before.phase ≡ Copying) × (after ≡ after_copy before)
-Leads Clear before after = (before.phase ≡ Copied) × (after ≡ after_clear before)
-Leads Acknowledge before after = (before.phase ≡ Cleared) × (after ≡ after_ack before)
-Leads (GiveBack n) before after = (rest : List ℕ) × (before.returning ≡ n ∷ rest) × (after ≡ after_index before n rest)
-
--- steps, one after another
-abbrev pub Runs : List LaneStep → Lane → Lane → Type 0
-Runs [] before after = after ≡ before
-Runs (step ∷ steps) before after = (between : Lane) × Leads step before between × Runs steps between after
+use Rattle.std.specs.Prelude.{ℕ, List, [], ◌∷◌, map}
+use Rattle.table_rule.specs.LaneNames.{LaneStep, Begin, Post, Land, GiveBack}
+use Rattle.table_rule.specs.LaneNames.{Entry, entry_of_frame, Flag, Bell, data_of, writes_of, count_from}
 
 -- a posted header is stored: the entry is begun, and all its writes are posted
 abbrev pub send_steps : ℕ → List ℕ → List LaneStep
