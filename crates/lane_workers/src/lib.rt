@@ -6,6 +6,7 @@
 //! other threads run now and then.
 #![tactic(auto)]
 
+mod choices;
 mod cut;
 mod idling;
 mod moving;

@@ -2,16 +2,14 @@
 ghost use Rattle.std.specs.Prelude.{◌≡◌, ◌+◌, ◌≤◌, ◌<◌, ◌^◌};
 ghost use Rattle.table_lane.specs.Tries.{tries};
 
+use crate::choices::Choices;
 use crate::idling::{Idling, Turn};
 use io_edges::Gate;
-use rand_xoshiro::SplitMix64;
-use rand_xoshiro::rand_core::SeedableRng;
-use rand_xoshiro::rand_core::utils::NextWord;
 use table_lane::laws::{each_move_is_a_try, each_step_back_is_a_load};
 use table_lane::{BackAnswer, BackEnd, MoveAnswer, MoveEnd};
 
-/// One turn: one step of the mover, by this choice, and one of the way back.
-fn move_turn(mover: &mut MoveEnd, back: &mut BackEnd, choice: u64) -> Turn
+/// One turn: one step of the mover, by the next choice, and one of the way back.
+fn move_turn(mover: &mut MoveEnd, back: &mut BackEnd, choices: &mut Choices) -> Turn
     ensures lane { mover.new.lane ≡ mover.old.lane }
     ensures back_lane { back.new.lane ≡ back.old.lane }
     ensures entries { mover.new.part.entries ≡ mover.old.part.entries }
@@ -22,7 +20,8 @@ fn move_turn(mover: &mut MoveEnd, back: &mut BackEnd, choice: u64) -> Turn
     // Each of both steps is a try.
     each_move_is_a_try();
     each_step_back_is_a_load();
-    let moved = mover.step(choice);
+    let moved = mover.step(choices.choice());
+    choices.note(moved);
     let returned = back.step();
     if moved == MoveAnswer::Idle && returned == BackAnswer::Idle {
         return Turn::Idle;
@@ -32,8 +31,9 @@ fn move_turn(mover: &mut MoveEnd, back: &mut BackEnd, choice: u64) -> Turn
 
 /// Makes at least 1 and at most `turns` turns of the worker that moves frames and brings indices back, and answers how
 /// many. Before each it passes the gate with the turn's number, counted from `first`. A turn is one [`MoveEnd::step`]
-/// and one [`BackEnd::step`]. The choices of the turns are the upper halves of words of the generator SplitMix64, seeded
-/// by `choices` and `first`, so that headers overtake one another.
+/// and one [`BackEnd::step`]. The mover takes up to eight entries, stores their headers, and then their flags. In which
+/// order it stores headers is chosen by words of the generator SplitMix64, seeded by `choices` and `first`, so that they
+/// overtake one another.
 ///
 /// The pass may end early, where its turns did nothing for a while. It takes no memory and never waits for another
 /// worker.
@@ -59,14 +59,12 @@ pub fn move_pass<G: Gate>(
     ensures tries { tries mover.old.part + result ≤ tries mover.new.part }
     ensures back_tries { back.new.part.loads ≡ back.old.part.loads + result }
 {
-    let mut words = SplitMix64::seed_from_u64(choices.wrapping_add(first));
+    let mut choices = Choices::new(choices.wrapping_add(first));
     let mut idling = Idling::new();
     let mut made = 0;
     while made < turns {
         gate.at(worker, first + u64::from(made));
-        // 32 bits are enough to choose by, and quicker to divide.
-        let choice = words.next_word() >> 32;
-        let turn = move_turn(mover, back, choice);
+        let turn = move_turn(mover, back, &mut choices);
         made += 1;
         if idling.ends_with(turn) {
             break;

@@ -1,0 +1,88 @@
+//! Which moves the mover makes, so that headers overtake one another.
+
+use rand_xoshiro::SplitMix64;
+use rand_xoshiro::rand_core::SeedableRng;
+use rand_xoshiro::rand_core::utils::NextWord;
+use table_lane::MoveAnswer;
+
+/// At most so many entries the mover holds before it stores their headers.
+const MOST_HELD: u32 = 8;
+
+/// What the mover does with the entries that it holds.
+#[derive(Clone, Copy, Debug, Drop)]
+enum Stage {
+    /// It takes more of them.
+    Taking,
+    /// It stores their headers, in an order that the words choose.
+    StoringHeaders,
+    /// It stores their flags, in order. Entries that an earlier pass left get their headers before.
+    StoringFlags,
+}
+
+/// The choices of a pass: some entries are taken, then their headers are stored in any order, then their flags.
+#[derive(Drop)]
+pub(crate) struct Choices {
+    words: SplitMix64,
+    stage: Stage,
+    held: u32,
+    waiting: u32,
+}
+
+impl Choices {
+    /// The choices by the words of the generator SplitMix64 with this seed.
+    pub(crate) fn new(seed: u64) -> Choices {
+        Choices {
+            words: SplitMix64::seed_from_u64(seed),
+            stage: Stage::StoringFlags,
+            held: 0,
+            waiting: 0,
+        }
+    }
+
+    /// The choice of the next turn. While entries are taken, each that is held is an open move, and the number after
+    /// these is the look for the next entry.
+    pub(crate) fn choice(&mut self) -> u64 {
+        match self.stage {
+            Stage::Taking => u64::from(self.held),
+            Stage::StoringHeaders => (self.words.next_word() >> 32)
+                % u64::from(self.waiting.max(1)),
+            Stage::StoringFlags => 0,
+        }
+    }
+
+    /// Goes on by what came of the turn.
+    pub(crate) fn note(&mut self, answer: MoveAnswer) {
+        match answer {
+            MoveAnswer::Took { .. } => {
+                self.held = self.held.saturating_add(1);
+                self.waiting = self.waiting.saturating_add(1);
+                self.stage = if self.held < MOST_HELD {
+                    Stage::Taking
+                } else {
+                    Stage::StoringHeaders
+                };
+            }
+            MoveAnswer::Header { .. } => {
+                self.waiting = self.waiting.saturating_sub(1);
+                self.stage = if self.waiting > 0 {
+                    Stage::StoringHeaders
+                } else {
+                    Stage::StoringFlags
+                };
+            }
+            MoveAnswer::Flag { .. } => {
+                self.held = self.held.saturating_sub(1);
+                self.stage = if self.held > 0 {
+                    Stage::StoringFlags
+                } else {
+                    Stage::Taking
+                };
+            }
+            MoveAnswer::Idle => {
+                self.held = 0;
+                self.waiting = 0;
+                self.stage = Stage::Taking;
+            }
+        }
+    }
+}
