@@ -1,6 +1,5 @@
 -- What a cluster has made after one step more.
 use Rattle.std.proofs.Common.{◌≡◌, ◌∙◌, ℕ, false, List, [], ◌∷◌, ◌++◌, Option, Some, Result, Ok, Err, IfOk, OnOk, OnErr, ◌<◌, length, slice_get, refl, sym, ap, subst, arith, inl, inr}
-use Rattle.std.proofs.lemmas.Bool.{true≢false}
 use Rattle.step_kinds.specs.declared.names.LaneName.{LaneName}
 use Rattle.step_kinds.specs.declared.names.Side.{Side}
 use Rattle.step_kinds.specs.declared.plan.DevPlan.{DevPlan}
@@ -156,15 +155,6 @@ goes_resting old own dev rests = record {
   rests = λ plan net is pair side place landing. cc landing;
 }
 
--- a step is out of memory before anything is made
-pub goes_unmade : {E : Type 0} (old : ClusterState) (step : Step) (error : E) → Goes old old step (Err error)
-goes_unmade old step error = record {
-  answered = λ plan net is. tt;
-  made = λ plan net is. tt;
-  still_made = λ plan net is stays. is;
-  rests = λ plan net is pair side place landing. tt;
-}
-
 -- one waits, and is begun
 pub goes_sending : {E : Type 0} (old : ClusterState) (fabric : FabricState) (own : LaneName) (dev : ℕ) (next : NextFrame) (answer : Answer) → sends_next own (Some next) ≡ sending_in old own →
     HasSteppedOnBridges {E = E} old.fabric fabric (begin_on own next.frame) (Ok answer) →
@@ -251,15 +241,6 @@ goes_copied old fabric own answer stepped = record {
   rests = λ plan net is pair side place landing. cc landing;
 }
 
--- a copy that is out of memory promises nothing
-pub goes_lost : {E : Type 0} (old new : ClusterState) (own : LaneName) (error : E) → Goes old new (Copy own.pair own.from own.queue) (Err error)
-goes_lost old new own error = record {
-  answered = λ plan net is. tt;
-  made = λ plan net is. tt;
-  still_made = λ plan net is stays. absurd (true≢false stays);
-  rests = λ plan net is pair side place landing. tt;
-}
-
 -- The contract
 
 -- pairs, devices and switches stay
@@ -289,10 +270,6 @@ on_bridges kept old fabric step result seen own stepped =
 -- An xnext where no frame is to be sent meets a cluster's contract by the answer `nothing`, which changes nothing.
 pub rests : {E : Type 0} (old : ClusterState) (own : LaneName) (dev : ℕ) → Rests ≡ sending_in old own → HasStepped {E = E} old old (Xnext own.pair own.from own.queue dev) (Ok Nothing)
 rests old own dev none = has_stepped old old (Xnext own.pair own.from own.queue dev) (Ok Nothing) (goes_resting old own dev none) refl
-
--- A step that ends with an error meets a cluster's contract if the cluster stays as it was.
-pub unmade : {E : Type 0} (old : ClusterState) (step : Step) (error : E) → HasStepped old old step (Err error)
-unmade old step error = has_stepped old old step (Err error) (goes_unmade old step error) refl
 
 -- An xnext meets a cluster's contract if the fabric begins the first waiting frame, taken from its port if accepted.
 pub sends : {E : Type 0} (kept old new : ClusterState) (fabric : FabricState) (own : LaneName) (dev : ℕ) (next : NextFrame) (answer : Answer) → kept ≡ old → sends_next own (Some next) ≡ sending_in old own →
@@ -327,11 +304,6 @@ copied {E = E} kept old new fabric own answer seen stepped after =
     (subst (λ (old : ClusterState). HasStepped {E = E} old (brought_in mid own answer) step (Ok answer)) seen
     (has_stepped kept (brought_in mid own answer) step (Ok answer) (goes_copied kept fabric own answer stepped) (brought_plan mid own answer ∙ plan_after kept fabric stepped.plan)))
 
--- A copy that ends with an error meets a cluster's contract if pairs, devices and switches are declared as before.
-pub lost : {E : Type 0} (kept old new : ClusterState) (own : LaneName) (error : E) → kept ≡ old → plan_held new ≡ plan_held kept → HasStepped old new (Copy own.pair own.from own.queue) (Err error)
-lost kept old new own error seen same =
-    has_stepped old new (Copy own.pair own.from own.queue) (Err error) (goes_lost old new own error) (same ∙ ap plan_held seen)
-
 -- The first frame that waits
 
 -- A list of frames that has a first one isn't empty.
@@ -361,33 +333,44 @@ sending_device plan (Relay pair side queue s p) own e may = cc e
 sending_device plan (Copy pair side queue) own e may = cc e
 sending_device plan step own e may = cc e
 
+-- what is so of each step that a part makes at a port, or on a side and a queue, is so of the step that it makes there
+module _ (P : Step → Type 0) where
+  so_of_relay : (step : Step) (switch port : ℕ) → part_of step ≡ Relays switch port → ((pair : ℕ) (side : Side) (queue : ℕ) → P (Relay pair side queue switch port)) → P step
+  so_of_relay (Relay pair side queue s p) switch port e all =
+      let one : switch ≡ s = cc e in
+      let other : port ≡ p = cc e in
+      subst (λ (s : ℕ). P (Relay pair side queue s p)) one (subst (λ (p : ℕ). P (Relay pair side queue switch p)) other (all pair side queue))
+  so_of_relay (Xnext pair side queue dev) switch port e all = cc e
+  so_of_relay (Copy pair side queue) switch port e all = cc e
+  so_of_relay step switch port e all = cc e
+
+  so_of_sending : (step : Step) (own : LaneName) → part_of step ≡ SendsNext own → ((dev : ℕ) → P (Xnext own.pair own.from own.queue dev)) → P step
+  so_of_sending (Xnext pair side queue dev) own e all =
+      let same : own ≡ record { pair = pair; from = side; queue = queue } = cc e in
+      subst (λ (own : LaneName). P (Xnext own.pair own.from own.queue dev)) same (all dev)
+  so_of_sending (Relay pair side queue s p) own e all = cc e
+  so_of_sending (Copy pair side queue) own e all = cc e
+  so_of_sending step own e all = cc e
+
+  so_of_copying : (step : Step) (own : LaneName) → part_of step ≡ Copies own → P (Copy own.pair own.from own.queue) → P step
+  so_of_copying (Copy pair side queue) own e is =
+      let same : own ≡ record { pair = pair; from = side; queue = queue } = cc e in
+      subst (λ (own : LaneName). P (Copy own.pair own.from own.queue)) same is
+  so_of_copying (Relay pair side queue s p) own e is = cc e
+  so_of_copying (Xnext pair side queue dev) own e is = cc e
+  so_of_copying step own e is = cc e
+
 -- A step that relays from a port meets its contract if all relays from that port do, whatever queue they name.
 pub by_relay : {E : Type 0} (old new : ClusterState) (step : Step) (switch port : ℕ) (result : Result Answer E) → part_of step ≡ Relays switch port →
     ((pair : ℕ) (side : Side) (queue : ℕ) → HasStepped old new (Relay pair side queue switch port) result) → HasStepped old new step result
-by_relay old new (Relay pair side queue s p) switch port result e all =
-    let one : switch ≡ s = cc e in
-    let other : port ≡ p = cc e in
-    subst (λ (s : ℕ). HasStepped old new (Relay pair side queue s p) result) one (subst (λ (p : ℕ). HasStepped old new (Relay pair side queue switch p) result) other (all pair side queue))
-by_relay old new (Xnext pair side queue dev) switch port result e all = cc e
-by_relay old new (Copy pair side queue) switch port result e all = cc e
-by_relay old new step switch port result e all = cc e
+by_relay old new step switch port result e all = so_of_relay (λ (step : Step). HasStepped old new step result) step switch port e all
 
 -- A step that sends on a side and a queue meets its contract if an xnext there does, whatever device it names.
 pub by_sending : {E : Type 0} (old new : ClusterState) (step : Step) (own : LaneName) (result : Result Answer E) → part_of step ≡ SendsNext own →
     ((dev : ℕ) → HasStepped old new (Xnext own.pair own.from own.queue dev) result) → HasStepped old new step result
-by_sending old new (Xnext pair side queue dev) own result e all =
-    let same : own ≡ record { pair = pair; from = side; queue = queue } = cc e in
-    subst (λ (own : LaneName). HasStepped old new (Xnext own.pair own.from own.queue dev) result) same (all dev)
-by_sending old new (Relay pair side queue s p) own result e all = cc e
-by_sending old new (Copy pair side queue) own result e all = cc e
-by_sending old new step own result e all = cc e
+by_sending old new step own result e all = so_of_sending (λ (step : Step). HasStepped old new step result) step own e all
 
 -- A step that copies on a side and a queue meets its contract if the copy there does.
 pub by_copying : {E : Type 0} (old new : ClusterState) (step : Step) (own : LaneName) (result : Result Answer E) → part_of step ≡ Copies own →
     HasStepped old new (Copy own.pair own.from own.queue) result → HasStepped old new step result
-by_copying old new (Copy pair side queue) own result e stepped =
-    let same : own ≡ record { pair = pair; from = side; queue = queue } = cc e in
-    subst (λ (own : LaneName). HasStepped old new (Copy own.pair own.from own.queue) result) same stepped
-by_copying old new (Relay pair side queue s p) own result e stepped = cc e
-by_copying old new (Xnext pair side queue dev) own result e stepped = cc e
-by_copying old new step own result e stepped = cc e
+by_copying old new step own result e stepped = so_of_copying (λ (step : Step). HasStepped old new step result) step own e stepped

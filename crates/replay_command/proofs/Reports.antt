@@ -1,5 +1,5 @@
 -- The report of a plan, made of what its functions give.
-use Rattle.std.proofs.Common.{◌≡◌, ◌∙◌, ℕ, zero, suc, ◌<◌, List, [], ◌∷◌, ◌++◌, append-nil, append_assoc, Result, Ok, Err, IfOk, length, replicate, sym, ap, subst, arith, Global, Vec}
+use Rattle.std.proofs.Common.{◌≡◌, ◌∙◌, ℕ, zero, suc, ◌<◌, List, [], ◌∷◌, ◌++◌, append-nil, append_assoc, Result, Ok, Err, IfOk, OnOk, length, replicate, sym, ap, subst, arith, Global, Vec}
 use Rattle.std.specs.List.{All, flat_map, fold}
 use Rattle.std.proofs.lemmas.List.{length-map}
 use Rattle.step_kinds.specs.declared.plan.Counters.{Counters}
@@ -8,32 +8,38 @@ use Rattle.step_kinds.specs.declared.names.Side.{Side}
 use Rattle.step_kinds.specs.declared.names.Side.TheVariants.{A, B}
 use Rattle.plan_model.specs.DeclaredPlans.{IsQueueOf}
 use Rattle.traffic_plan.specs.Load.{load_of}
-use Rattle.cluster_core.specs.Cluster.{declared_part}
+use Rattle.cluster_core.specs.Cluster.{ClusterState, declared_part, plan_held}
+use Rattle.cluster_core.specs.LogClauses.{HasMade}
 use Rattle.ledger_model.specs.Log.{Answered, accepted, counters_in, delivered, lane_of_device}
 use Rattle.step_kinds.specs.declared.plan.Line.{Line}
 use Rattle.report_text.specs.Report.{AnsweredStep, answer_line, device_lines, end_line, ending}
 use Rattle.report_text.specs.declared.whole.LaneCount.{LaneCount}
-use Rattle.replay_command.specs.ReplaySteps.{filled}
+use Rattle.replay_command.specs.ReplaySteps.{HasReplayed, filled}
 use Rattle.replay_command.specs.Replays.{answered_steps, answers_text, device_counts, lane_counts, load_lane, load_text, log_of_plan, replay_text, summary_text}
 use Rattle.replay_command.proofs.LaneCounts.{all_known, lines_of_filled}
 use Rattle.replay_command.proofs.BlockedAnswers.{blocked_in}
 
-report_same : (plan : Plan) (lanes : List LaneCount) (devs : List Counters) → lanes ≡ filled (lane_counts plan (log_of_plan plan)) → devs ≡ device_counts plan (log_of_plan plan) →
+ending_same : (plan : Plan) (lanes : List LaneCount) (devs : List Counters) → lanes ≡ filled (lane_counts plan (log_of_plan plan)) → devs ≡ device_counts plan (log_of_plan plan) →
     ending plan lanes devs ≡ ending plan (lane_counts plan (log_of_plan plan)) (device_counts plan (log_of_plan plan))
-report_same plan lanes devs same_lanes same_devs =
+ending_same plan lanes devs same_lanes same_devs =
     let log : List Answered = log_of_plan plan in
     let counts : List LaneCount = lane_counts plan log in
     ap (λ (given : List LaneCount). ending plan given devs) same_lanes
     ∙ ap (λ (given : List Counters). ending plan (filled counts) given) same_devs
     ∙ ap (λ (lines : List ℕ). lines ++ device_lines plan.devs (device_counts plan log) ++ end_line) (lines_of_filled plan.pairs counts)
 
+-- A text that ends with counts of which those of no frame are left out ends as the definition says.
+pub ending_added : {T E : Type 0} (plan : Plan) (lanes : List LaneCount) (devs : List Counters) (old new : List ℕ) (result : Result T E) → lanes ≡ filled (lane_counts plan (log_of_plan plan)) →
+    devs ≡ device_counts plan (log_of_plan plan) → OnOk result (new ≡ old ++ ending plan lanes devs) →
+    OnOk result (new ≡ old ++ ending plan (lane_counts plan (log_of_plan plan)) (device_counts plan (log_of_plan plan)))
+ending_added plan lanes devs old new (Err error) same_lanes same_devs is = tt
+ending_added plan lanes devs old new (Ok done) same_lanes same_devs is = is ∙ ap (λ (more : List ℕ). old ++ more) (ending_same plan lanes devs same_lanes same_devs)
+
 -- the text of the report is the definition's
-pub replay_text_is : (plan : Plan) (lanes : List LaneCount) (devs : List Counters) (answers text : List ℕ) → answers ≡ answers_text plan.steps (log_of_plan plan) →
-    lanes ≡ filled (lane_counts plan (log_of_plan plan)) → devs ≡ device_counts plan (log_of_plan plan) → text ≡ answers ++ ending plan lanes devs → text ≡ replay_text plan
-replay_text_is plan lanes devs answers text same_answers same_lanes same_devs h =
-    h
-    ∙ ap (λ (lines : List ℕ). lines ++ ending plan lanes devs) same_answers
-    ∙ ap (λ (lines : List ℕ). answers_text plan.steps (log_of_plan plan) ++ lines) (report_same plan lanes devs same_lanes same_devs)
+pub replay_text_is : (plan : Plan) (answers text : List ℕ) → answers ≡ answers_text plan.steps (log_of_plan plan) →
+    text ≡ answers ++ ending plan (lane_counts plan (log_of_plan plan)) (device_counts plan (log_of_plan plan)) → text ≡ replay_text plan
+replay_text_is plan answers text same_answers h =
+    h ∙ ap (λ (lines : List ℕ). lines ++ ending plan (lane_counts plan (log_of_plan plan)) (device_counts plan (log_of_plan plan))) same_answers
 
 -- the text of the answers, kept one after another, is that of all
 pub answers_kept : (lines : List Line) (log : List Answered) (text : List ℕ) →
@@ -63,6 +69,13 @@ pub devices_known : (plan : Plan) (devs : List Counters) → devs ≡ device_cou
 devices_known plan devs same = ap length same ∙ length-map plan.devs (λ dev. counters_in plan (log_of_plan plan) (lane_of_device dev))
 
 -- The summary of a load
+
+-- A new cluster of a plan has made no step of a plan that declares the same.
+pub new_replayed : {E : Type 0} (plan kept : Plan) (result : Result ClusterState E) → declared_part plan ≡ declared_part kept →
+    IfOk result (λ cluster. (other : Plan) → declared_part other ≡ declared_part kept → HasMade other [] cluster) → IfOk result (λ cluster. plan_held cluster ≡ declared_part kept) →
+    IfOk result (λ cluster. HasReplayed plan [] cluster)
+new_replayed plan kept (Err error) same made held = tt
+new_replayed plan kept (Ok cluster) same made held = record { made = made plan same; kept = held ∙ sym same }
 
 -- both sides of a load's pair have its one queue
 one_queue : (seed frames : ℕ) (side : Side) → IsQueueOf (declared_part (load_of seed frames)) 0 side 0

@@ -1,13 +1,18 @@
 //! The replies of `replay` and `load`.
 
-ghost use Rattle.std.specs.Prelude.{◌≤◌, IfOk, length};
+ghost use Rattle.std.specs.Prelude.{◌≡◌, ◌≤◌, IfOk, length};
+ghost use Rattle.command_reply.specs.Output.{done};
+ghost use Rattle.plan_model.specs.TrafficPlans.{IsWhole};
+ghost use Rattle.script_plan.specs.Scripts.{plan_in};
 ghost use Rattle.step_kinds.specs.Limits.{most_script_bytes};
 ghost use Rattle.traffic_plan.specs.Load.{most_load_frames};
 ghost use Rattle.replay_command.specs.Answers.{IsLoadOf, IsReplayOf};
+ghost use Rattle.replay_command.specs.Replays.{replay_text as text_of_plan};
 
 use crate::load::load_text;
 use crate::replay::replay_text;
 use command_reply::Reply;
+use script_plan::Script;
 use script_text::{ParseError, read_script};
 use std::alloc::{AllocError, Global};
 
@@ -18,10 +23,18 @@ pub fn replay_reply(alloc: Global, bytes: &[u8]) -> Result<Reply, AllocError>
     ensures { IfOk result (λ reply. IsReplayOf bytes.now reply) }
 {
     match read_script(alloc, bytes) {
-        Ok(script) => Ok(Reply::done(replay_text(alloc, &script)?)),
+        Ok(script) => report(alloc, &script),
         Err(ParseError::Fault(fault)) => Ok(Reply::refused(fault)),
         Err(ParseError::OutOfMemory) => Err(AllocError),
     }
+}
+
+// The reply to a script without a fault.
+fn report(alloc: Global, script: &Script) -> Result<Reply, AllocError>
+    requires { IsWhole (plan_in script.now) }
+    ensures { IfOk result (λ reply. reply ≡ done (text_of_plan (plan_in script.now))) }
+{
+    Ok(Reply::done(replay_text(alloc, script)?))
 }
 
 /// The reply of `load`: the summary of a generated load of 1 to 30,000 frames, with status 0. The only error is out of

@@ -1,6 +1,6 @@
 //! The summary of a generated load.
 
-ghost use Rattle.std.specs.Prelude.{◌≡◌, ◌≤◌, [], IfOk, count_by};
+ghost use Rattle.std.specs.Prelude.{◌≡◌, ◌≤◌, ℕ, [], IfOk, count_by};
 ghost use Rattle.traffic_plan.specs.Load.{load_of, most_load_frames};
 ghost use Rattle.replay_command.specs.ReplaySteps.{HasReplayed, with_blocked};
 ghost use Rattle.replay_command.specs.Replays.{is_blocked as is_blocked_answer, load_text as text_of_load, log_of_plan, summary_text};
@@ -67,11 +67,18 @@ pub fn load_text(alloc: Global, seed: u64, frames: u32) -> Result<Vec<u8>, Alloc
     requires few { frames ≤ most_load_frames }
     ensures { IfOk result (λ text. text.items ≡ text_of_load seed frames) }
 {
-    let plan = load_without_steps(alloc)?;
-    let mut cluster = Cluster::new(alloc, &plan)?;
+    let mut cluster = new_cluster(alloc)?;
     let blocked = count_blocked(alloc, seed, frames, &mut cluster)?;
     let (accepted, delivered) = cluster.ledger(LANE, SESSION);
     summary(alloc, seed, frames, accepted, delivered, blocked)
+}
+
+// The cluster of a load before any step.
+fn new_cluster(alloc: Global) -> Result<Cluster, AllocError>
+    ensures { (seed frames : ℕ) → IfOk result (λ cluster. HasReplayed (load_of seed frames) [] cluster) }
+{
+    let plan = load_without_steps(alloc)?;
+    Cluster::new(alloc, &plan)
 }
 
 // The line that sums a load up.

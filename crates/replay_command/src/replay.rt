@@ -5,7 +5,7 @@ ghost use Rattle.std.specs.List.{flat_map};
 ghost use Rattle.plan_model.specs.TrafficPlans.{IsWhole};
 ghost use Rattle.script_plan.specs.Scripts.{plan_in};
 ghost use Rattle.cluster_core.specs.Cluster.{plan_held};
-ghost use Rattle.report_text.specs.Report.{answer_line};
+ghost use Rattle.report_text.specs.Report.{answer_line, ending};
 ghost use Rattle.replay_command.specs.ReplaySteps.{AddsCounts, HasQueues, HasReplayed, IsLaneOf, filled, lanes_from};
 ghost use Rattle.replay_command.specs.Replays.{
   device_counts as counts_of_devices,
@@ -47,13 +47,39 @@ pub fn replay_text(alloc: Global, script: &Script) -> Result<Vec<u8>, AllocError
     ensures { IfOk result (λ text. text.items ≡ text_of_plan (plan_in script.now)) }
 {
     let mut cluster = Cluster::new(alloc, &script.declared)?;
+    text_by(alloc, script, &mut cluster)
+}
+
+// The report of a script, whose steps a cluster makes that has made none.
+fn text_by(alloc: Global, script: &Script, cluster: &mut Cluster) -> Result<Vec<u8>, AllocError>
+    requires whole { IsWhole (plan_in script.now) }
+    requires made { HasReplayed (plan_in script.now) [] cluster.old }
+    ensures { IfOk result (λ text. text.items ≡ text_of_plan (plan_in script.now)) }
+{
     let mut lines = AnswerLines::new(alloc);
-    make_steps(&script.steps, &mut cluster, &mut lines)?;
-    let lanes = lane_counts(alloc, script, &cluster)?;
-    let devs = device_counts(alloc, script, &cluster)?;
+    make_steps(&script.steps, cluster, &mut lines)?;
     let mut text = lines.into_text()?;
-    push_ending(&mut text, &script.declared, &lanes, &devs)?;
+    push_counts(alloc, &mut text, script, cluster)?;
     Ok(text)
+}
+
+// Adds what stands after a report's answers: its lanes and devices, as the cluster that has made the steps counts them, and
+// the end.
+fn push_counts(
+    alloc: Global,
+    text: &mut Vec<u8>,
+    script: &Script,
+    cluster: &Cluster,
+) -> Result<(), AllocError>
+    requires whole { IsWhole (plan_in script.now) }
+    requires made { HasReplayed (plan_in script.now) script.now.steps cluster.now }
+    ensures { OnOk result (text.new.items ≡ text.old.items ++ ending (plan_in script.now)
+        (counts_of_lanes (plan_in script.now) (log_of_plan (plan_in script.now)))
+        (counts_of_devices (plan_in script.now) (log_of_plan (plan_in script.now)))) }
+{
+    let lanes = lane_counts(alloc, script, cluster)?;
+    let devs = device_counts(alloc, script, cluster)?;
+    push_ending(text, &script.declared, &lanes, &devs)
 }
 
 /// What the lanes of all pairs accepted and delivered, in each session where either isn't 0. The cluster has made the
