@@ -24,19 +24,41 @@ fn post_and_land(lane: &mut Lane, writes: u32) {
     }
 }
 
-/// Whether a frame of one byte, which has five writes, comes whole, and its entry is given back.
-pub fn frame_comes_whole(alloc: Global) -> Result<bool, AllocError> {
-    let frame = one_byte(alloc)?;
-    let mut lane = Lane::new(alloc, 0, 2, 1011, true)?;
-    goes_round(&mut lane, frame)
+/// What a lane shows.
+#[derive(Clone, Copy)]
+pub enum LaneRow {
+    /// A frame of one byte, which has five writes, comes whole, and its entry is given back.
+    FrameComesWhole,
+    /// A link-down entry, which has four writes, is seen at each look.
+    LinkDownEntryStays,
+    /// A write that is posted on a lost link has its label and never lands.
+    LostWriteNeverLands,
 }
 
-// Whether the first frame of a lane is begun, comes whole, and its entry is given back.
-fn goes_round(lane: &mut Lane, frame: Frame) -> Result<bool, AllocError>
-    requires bytes { 0 < length frame }
+/// Whether a strict lane with a ring of two entries shows it.
+pub fn is_shown(alloc: Global, row: LaneRow) -> Result<bool, AllocError> {
+    let mut lane = Lane::new(alloc, 0, 2, 1011, true)?;
+    shows(alloc, &mut lane, row)
+}
+
+// Whether a lane on which nothing was begun shows it.
+fn shows(alloc: Global, lane: &mut Lane, row: LaneRow) -> Result<bool, AllocError>
     requires open { IsOpen lane.old.lane }
     requires few { length lane.old.lane.sent < 2 ^ 46 }
 {
+    match row {
+        LaneRow::FrameComesWhole => goes_round(alloc, lane),
+        LaneRow::LinkDownEntryStays => goes_down(lane),
+        LaneRow::LostWriteNeverLands => posts_in_vain(alloc, lane),
+    }
+}
+
+// Whether the first frame of a lane is begun, comes whole, and its entry is given back.
+fn goes_round(alloc: Global, lane: &mut Lane) -> Result<bool, AllocError>
+    requires open { IsOpen lane.old.lane }
+    requires few { length lane.old.lane.sent < 2 ^ 46 }
+{
+    let frame = one_byte(alloc)?;
     let begun = lane.begin(frame)?;
     post_and_land(lane, 5);
     let is_received = receives_it(lane)?;
@@ -67,12 +89,6 @@ fn is_whole(copied: &LaneCopy) -> bool {
     }
 }
 
-/// Whether a link-down entry, which has four writes, is seen at each look.
-pub fn link_down_entry_stays(alloc: Global) -> Result<bool, AllocError> {
-    let mut lane = Lane::new(alloc, 0, 4, 1011, true)?;
-    goes_down(&mut lane)
-}
-
 // Whether the first entry of a lane is a link-down entry, which is seen twice.
 fn goes_down(lane: &mut Lane) -> Result<bool, AllocError>
     requires open { IsOpen lane.old.lane }
@@ -87,19 +103,12 @@ fn goes_down(lane: &mut Lane) -> Result<bool, AllocError>
     )
 }
 
-/// Whether a write that is posted on a lost link has its label and never lands.
-pub fn lost_write_never_lands(alloc: Global) -> Result<bool, AllocError> {
-    let frame = one_byte(alloc)?;
-    let mut lane = Lane::new(alloc, 0, 4, 1011, true)?;
-    posts_in_vain(&mut lane, frame)
-}
-
 // Whether the second write of a lane's first frame is lost with the link.
-fn posts_in_vain(lane: &mut Lane, frame: Frame) -> Result<bool, AllocError>
-    requires bytes { 0 < length frame }
+fn posts_in_vain(alloc: Global, lane: &mut Lane) -> Result<bool, AllocError>
     requires open { IsOpen lane.old.lane }
     requires few { length lane.old.lane.sent < 2 ^ 46 }
 {
+    let frame = one_byte(alloc)?;
     lane.begin(frame)?;
     lane.post();
     lane.cut();

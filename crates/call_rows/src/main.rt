@@ -7,39 +7,59 @@ mod of_loads;
 mod of_passes;
 mod of_worlds;
 
-use in_one_ring::{frame_comes_whole, link_down_entry_stays, lost_write_never_lands};
+use in_one_ring::{LaneRow, is_shown};
 use of_loads::load_has_its_steps;
 use of_passes::one_of_two_frames_goes_round;
 use of_worlds::all_items_come;
+use std::alloc::{AllocError, Global};
 use std::test::Fail;
 
+/// What a row shows.
+#[derive(Clone, Copy)]
+enum Row {
+    OfLane(LaneRow),
+    LoadHasItsSteps,
+    AllItemsCome,
+    OneOfTwoFramesGoesRound,
+}
+
+const ROWS: [Row; 6] = [
+    Row::OfLane(LaneRow::FrameComesWhole),
+    Row::OfLane(LaneRow::LinkDownEntryStays),
+    Row::OfLane(LaneRow::LostWriteNeverLands),
+    Row::LoadHasItsSteps,
+    Row::AllItemsCome,
+    Row::OneOfTwoFramesGoesRound,
+];
+
 fn main(rt: HostRuntime) -> Result<(), Fail> {
-    let alloc = rt.alloc();
-    println!(rt;
-        "{}: A frame comes whole, and its entry is given back.",
-        word_of(frame_comes_whole(alloc)?)
-    )?;
-    println!(rt;
-        "{}: A link-down entry is seen again.",
-        word_of(link_down_entry_stays(alloc)?)
-    )?;
-    println!(rt;
-        "{}: What is posted on a lost link never lands.",
-        word_of(lost_write_never_lands(alloc)?)
-    )?;
-    println!(rt;
-        "{}: A load of one frame has its steps.",
-        word_of(load_has_its_steps(alloc)?)
-    )?;
-    println!(rt;
-        "{}: Both items come, although a session is lost.",
-        word_of(all_items_come(alloc)?)
-    )?;
-    println!(rt;
-        "{}: Of two frames one goes round before the link is cut.",
-        word_of(one_of_two_frames_goes_round(alloc)?)
-    )?;
+    for row in ROWS.as_slice() {
+        let word = word_of(has_passed(rt.alloc(), *row)?);
+        println!(rt; "{word}: {}", text_of(*row))?;
+    }
     Ok(())
+}
+
+fn has_passed(alloc: Global, row: Row) -> Result<bool, AllocError> {
+    match row {
+        Row::OfLane(row) => is_shown(alloc, row),
+        Row::LoadHasItsSteps => load_has_its_steps(alloc),
+        Row::AllItemsCome => all_items_come(alloc),
+        Row::OneOfTwoFramesGoesRound => one_of_two_frames_goes_round(alloc),
+    }
+}
+
+fn text_of(row: Row) -> &'static str {
+    match row {
+        Row::OfLane(LaneRow::FrameComesWhole) => {
+            "A frame comes whole, and its entry is given back."
+        }
+        Row::OfLane(LaneRow::LinkDownEntryStays) => "A link-down entry is seen again.",
+        Row::OfLane(LaneRow::LostWriteNeverLands) => "What is posted on a lost link never lands.",
+        Row::LoadHasItsSteps => "A load of one frame has its steps.",
+        Row::AllItemsCome => "Both items come, although a session is lost.",
+        Row::OneOfTwoFramesGoesRound => "Of two frames one goes round before the link is cut.",
+    }
 }
 
 fn word_of(passed: bool) -> &'static str {

@@ -48,10 +48,10 @@ fn new_lane(alloc: Global) -> Result<Lane, AllocError>
     ensures few { IfOk result (λ lane. length lane.send.part.sent + length lane.todo.frames ≡ 2) }
     ensures room { IfOk result (λ lane. lane.got.spare ≡ 5) }
 {
-    let (send, mover, recv, back, cut) = make(alloc, 2)?;
     let todo = two_frames(alloc)?;
     let mut got = FrameList::new(alloc);
     got.promise(5)?;
+    let (send, mover, recv, back, cut) = make(alloc, 2)?;
     Ok(Lane {
         send,
         mover,

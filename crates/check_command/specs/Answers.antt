@@ -24,14 +24,17 @@ frames_of plan = sum (map frames_in plan.traffic)
 abbrev pub breaks_of : Plan → ℕ
 breaks_of plan = length plan.traffic - frames_of plan
 
--- how much a script declares, as one line
-abbrev pub counts_text : Before → List ℕ
-counts_text declared =
-    let plan = declared.plan in
+-- how much a plan with so many hosts has, as one line
+abbrev pub plan_counts_text : Plan → ℕ → List ℕ
+plan_counts_text plan hosts =
     line_of
     (count_text (codes "ok pairs") (length plan.pairs) ++ count_text (codes " devices") (length plan.devs) ++ count_text (codes " switches") (length plan.switches)
     ++ count_text (codes " steps") (length plan.steps) ++ count_text (codes " frames") (frames_of plan) ++ count_text (codes " breaks") (breaks_of plan)
-    ++ count_text (codes " hosts") (length declared.hosts))
+    ++ count_text (codes " hosts") hosts)
+
+-- how much a script declares, as one line
+abbrev pub counts_text : Before → List ℕ
+counts_text declared = plan_counts_text declared.plan (length declared.hosts)
 
 -- the least and the largest number that the word may spell, where it has a range
 abbrev pub range_text : Option Range → List ℕ

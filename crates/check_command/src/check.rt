@@ -5,13 +5,13 @@ ghost use Rattle.step_kinds.specs.Limits.{most_script_bytes, most_steps};
 ghost use Rattle.plan_model.specs.TrafficPlans.{IsWhole, frames_in as frames_of_item};
 ghost use Rattle.script_plan.specs.Scripts.{plan_in};
 ghost use Rattle.step_list.specs.StepLists.{all_lines};
-ghost use Rattle.check_command.specs.Answers.{IsCheckOf, count_text, counts_text, place_text};
+ghost use Rattle.check_command.specs.Answers.{IsCheckOf, count_text, counts_text, place_text, plan_counts_text};
 
 use arrayvec::ArrayString;
 use command_reply::Reply;
 use itoa::Buffer;
 use report_text::append::{push_numbers, push_word};
-use script_text::{ParseError, Reader, read_declared};
+use script_text::{ParseError, Reader, Script, read_declared};
 use script_words::LineFault;
 use std::alloc::{AllocError, Global};
 use step_kinds::Traffic;
@@ -43,6 +43,14 @@ fn counts_of(alloc: Global, declared: Reader) -> Result<Vec<u8>, AllocError>
 {
     let hosts = declared.hosts().len();
     let script = declared.into_script(alloc);
+    counts_line(alloc, &script, hosts)
+}
+
+// How much a script declares that has so many hosts, as one line.
+fn counts_line(alloc: Global, script: &Script, hosts: usize) -> Result<Vec<u8>, AllocError>
+    requires { IsWhole (plan_in script.now) }
+    ensures { IfOk result (λ text. text.items ≡ plan_counts_text (plan_in script.now) hosts) }
+{
     let plan = &script.declared;
     let frames = frames_in(plan.traffic.as_slice());
     let mut text = Vec::new(alloc);
