@@ -9,7 +9,7 @@ use Rattle.script_text.specs.Script.{declared_by}
 use Rattle.script_words.specs.Before.{Before}
 use Rattle.script_words.specs.Causes.{cause_text}
 use Rattle.script_words.specs.declared.fault.LineFault.{LineFault}
-use Rattle.script_words.specs.declared.fault.Range.{Range}
+use Rattle.pair_settings.specs.declared.settings.Range.{Range}
 use Rattle.script_words.specs.declared.fault.ScriptFault.{ScriptFault}
 use Rattle.step_kinds.specs.declared.plan.Plan.{Plan}
 

@@ -5,15 +5,16 @@ use Rattle.std.specs.List.{AllPairs, list_any, list_all}
 use Rattle.std.specs.Str.{bytes_eq}
 use Rattle.step_kinds.specs.Limits.{most_hosts, most_pairs, most_devices, most_switches, least_ports, most_ports, IsPorts}
 use Rattle.plan_model.specs.Plans.{ports_in}
+use Rattle.pair_settings.specs.Settings.{same_setting, range_of, in_range, goes_together, pair_with}
+use Rattle.pair_settings.specs.declared.settings.Setting.{Setting}
 use Rattle.script_words.specs.Before.{Before, Given, Host, APair, ADevice, AClass, ASwitch, StepsBegin, TrafficBegins, pair_names, dev_names, switch_names}
 use Rattle.script_words.specs.Declarations.{host_line, pair_line, dev_line, class_line, switch_line, host_words, pair_words, dev_words, class_words, switch_words, is_ports, lone_word, declaration_line, host_word, most_threshold, threshold_of, threshold_word, sits_on, is_queue}
 use Rattle.script_words.specs.Ports.{on_one_host}
-use Rattle.script_words.specs.Settings.{settings_from, with_setting, setting_word, same_setting, range_of, in_range, option_place, goes_together, pair_with}
+use Rattle.script_words.specs.Settings.{settings_from, with_setting, setting_word, option_place}
 use Rattle.script_words.specs.Tests.{found_or, fault_at, unknown_line, whole, at}
 use Rattle.script_words.specs.Words.{number_word, behind}
 use Rattle.script_words.specs.declared.fault.Cause.TheVariants.{UnknownWord, Repeated, BadGeometry, BadSwitch, TooMany}
 use Rattle.script_words.specs.declared.parts.Part.TheVariants.{Declarations}
-use Rattle.script_words.specs.declared.settings.Setting.{Setting}
 use Rattle.script_text.proofs.Fits.{Fits}
 use Rattle.script_text.proofs.Gives.{Gives, gives_ok, gives_fault, gives_then, gives_passed, gives_any, gives_at, gives_within, gives_if}
 use Rattle.script_text.proofs.PairFits.{pair_fits}

@@ -9,12 +9,12 @@ use Rattle.step_kinds.specs.declared.names.Side.{Side}
 use Rattle.step_kinds.specs.declared.names.Side.TheVariants.{A, B}
 use Rattle.step_kinds.specs.declared.plan.PairPlan.{PairPlan}
 use Rattle.plan_model.specs.DeclaredPlans.{IsSide, IsPair, Agree, SizesFit}
-use Rattle.script_words.specs.Settings.{same_key, same_scope, is_within, is_stepped, mtu_range, key_range, in_range, number_at, side_number, size_of, side_with, mtu_in, sizes_fit, agrees, has_room_for_header, goes_together, pair_with}
-use Rattle.script_words.specs.declared.fault.Range.{Range}
-use Rattle.script_words.specs.declared.settings.SideKey.{SideKey}
-use Rattle.script_words.specs.declared.settings.SideKey.TheVariants.{Size, Cap, Windows, Queues, Version}
-use Rattle.script_words.specs.declared.settings.Setting.{Setting}
-use Rattle.script_words.specs.declared.settings.Setting.TheVariants.{Up, Strict, Raw, Mtu, OfSide}
+use Rattle.pair_settings.specs.Settings.{same_key, same_scope, is_within, is_stepped, mtu_range, key_range, in_range, number_at, side_number, default_version, default_queues, default_windows, default_size, size_of, side_with, mtu_in, sizes_fit, agrees, has_room_for_header, goes_together, pair_with}
+use Rattle.pair_settings.specs.declared.settings.Range.{Range}
+use Rattle.pair_settings.specs.declared.settings.SideKey.{SideKey}
+use Rattle.pair_settings.specs.declared.settings.SideKey.TheVariants.{Size, Cap, Windows, Queues, Version}
+use Rattle.pair_settings.specs.declared.settings.Setting.{Setting}
+use Rattle.pair_settings.specs.declared.settings.Setting.TheVariants.{Up, Strict, Raw, Mtu, OfSide}
 
 -- keys with one text are one key
 same_key_is : (one other : SideKey) → same_key one other ≡ true → one ≡ other
@@ -92,13 +92,13 @@ sized n h =
 
 -- each side
 size_in_range : (settings : List Setting) (side : Side) → list_all in_range settings ≡ true → in_range (OfSide Size None (size_of settings side)) ≡ true
-size_in_range settings side all = side_in_range settings Size side 65536 all refl
+size_in_range settings side all = side_in_range settings Size side default_size all refl
 
 side_fits : (settings : List Setting) (side : Side) → list_all in_range settings ≡ true → IsSide (side_with settings side)
 side_fits settings side all = record {
-  known_version = within_key Version (side_number settings Version side 4) (side_in_range settings Version side 4 all refl);
-  queues = within_key Queues (side_number settings Queues side 1) (side_in_range settings Queues side 1 all refl);
-  windows = within_key Windows (side_number settings Windows side 1) (side_in_range settings Windows side 1 all refl);
+  known_version = within_key Version (side_number settings Version side default_version) (side_in_range settings Version side default_version all refl);
+  queues = within_key Queues (side_number settings Queues side default_queues) (side_in_range settings Queues side default_queues all refl);
+  windows = within_key Windows (side_number settings Windows side default_windows) (side_in_range settings Windows side default_windows all refl);
   size = sized (size_of settings side) (size_in_range settings side all);
   cap = sized (side_number settings Cap side (size_of settings (other_side side)))
       (side_in_range settings Cap side (size_of settings (other_side side)) all (size_in_range settings (other_side side) all));

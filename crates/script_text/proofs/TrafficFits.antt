@@ -17,8 +17,8 @@ use Rattle.plan_model.specs.DeclaredPlans.{Agree}
 use Rattle.plan_model.specs.Plans.{side_plan, pair_plan}
 use Rattle.plan_model.specs.Sizes.{sizes_of}
 use Rattle.plan_model.specs.TrafficPlans.{frames_in, bytes_in, is_break_of, MayHaveTraffic, IsTrafficLane, IsTraffic}
+use Rattle.pair_settings.specs.Settings.{agrees}
 use Rattle.script_words.specs.Before.{Before, MoreTraffic}
-use Rattle.script_words.specs.Settings.{agrees}
 use Rattle.script_words.specs.Tests.{unknown_line, whole}
 use Rattle.script_words.specs.TrafficLines.{may_have_traffic, is_little, traffic_within, lane_of, traffic_frame_line, flood_frame, flood_line, break_line, traffic_line}
 use Rattle.script_words.specs.declared.fault.Cause.TheVariants.{BadGeometry, BadPair, TooMany}

@@ -10,8 +10,9 @@ ghost use Rattle.script_words.specs.Words.{hex_of};
 use crate::lines::{LineResult, or_fault};
 use crate::lookups::{QueueWords, new_device, new_host, new_pair, read_host, read_queue_name};
 use crate::switch_lines::switch_words;
+use pair_settings::{goes_together, pair_with};
 use script_plan::Reader;
-use script_words::options::{goes_together, pair_with, read_settings};
+use script_words::options::read_settings;
 use script_words::settings::behind_key;
 use script_words::words::{read_array, read_number, read_number_in};
 use script_words::{

@@ -12,9 +12,9 @@ ghost use Rattle.script_words.specs.TrafficLines as rules;
 
 use crate::lines::{LineResult, or_fault};
 use crate::lookups::{QueueWords, read_pair, read_queue_name};
+use pair_settings::agrees;
 use plan_numbers::sending_ring;
 use script_plan::Reader;
-use script_words::options::agrees;
 use script_words::words::{read_bytes_at, read_number_in};
 use script_words::{Cause, Given, LineError, LineFault, QueueName, at, unknown_line};
 use std::alloc::Global;

@@ -8,11 +8,11 @@ use Rattle.std.proofs.lemmas.Map.Steps.{length-le_from_distinct_below}
 use Rattle.std.specs.List.{IsDistinct, list_any}
 use Rattle.step_kinds.specs.declared.names.Side.{Side}
 use Rattle.step_kinds.specs.declared.names.Side.TheVariants.{A, B}
-use Rattle.script_words.specs.Settings.{same_key, same_scope, same_setting, has_setting}
-use Rattle.script_words.specs.declared.settings.SideKey.{SideKey}
-use Rattle.script_words.specs.declared.settings.SideKey.TheVariants.{Size, Cap, Windows, Queues, Version}
-use Rattle.script_words.specs.declared.settings.Setting.{Setting}
-use Rattle.script_words.specs.declared.settings.Setting.TheVariants.{Up, Strict, Raw, Mtu, OfSide}
+use Rattle.pair_settings.specs.Settings.{same_key, same_scope, same_setting, has_setting}
+use Rattle.pair_settings.specs.declared.settings.SideKey.{SideKey}
+use Rattle.pair_settings.specs.declared.settings.SideKey.TheVariants.{Size, Cap, Windows, Queues, Version}
+use Rattle.pair_settings.specs.declared.settings.Setting.{Setting}
+use Rattle.pair_settings.specs.declared.settings.Setting.TheVariants.{Up, Strict, Raw, Mtu, OfSide}
 
 -- Options by numbers
 

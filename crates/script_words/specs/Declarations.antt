@@ -9,7 +9,8 @@ use Rattle.step_kinds.specs.declared.names.Side.TheVariants.{A, B}
 use Rattle.step_kinds.specs.declared.plan.DevPlan.{DevPlan}
 use Rattle.script_words.specs.Before.{Before, Given, Host, APair, ADevice, AClass, ASwitch, StepsBegin, TrafficBegins, has_name, pair_names, dev_names, switch_names, named_queue}
 use Rattle.script_words.specs.Ports.{on_one_host, ports_from}
-use Rattle.script_words.specs.Settings.{settings_from, pair_with, goes_together}
+use Rattle.pair_settings.specs.Settings.{pair_with, goes_together}
+use Rattle.script_words.specs.Settings.{settings_from}
 use Rattle.script_words.specs.Tests.{◌>>=◌, fault_if, found_or, unknown_line, whole, at, within}
 use Rattle.script_words.specs.Words.{name_word, number_word, number_in, hex_of, behind}
 use Rattle.script_words.specs.declared.parts.QueueName.{QueueName}

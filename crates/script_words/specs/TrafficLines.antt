@@ -11,7 +11,7 @@ use Rattle.plan_model.specs.Plans.{pair_plan}
 use Rattle.plan_model.specs.Sizes.{sizes_of}
 use Rattle.plan_model.specs.TrafficPlans.{frames_in, bytes_in, is_break_of}
 use Rattle.script_words.specs.Before.{Before, Given, MoreTraffic, pair_word, named_queue}
-use Rattle.script_words.specs.Settings.{agrees}
+use Rattle.pair_settings.specs.Settings.{agrees}
 use Rattle.script_words.specs.Tests.{◌>>=◌, fault_if, unknown_line, whole, at}
 use Rattle.script_words.specs.Words.{number_in, hex_word}
 use Rattle.script_words.specs.declared.parts.QueueName.{QueueName}

@@ -4,6 +4,7 @@ ghost use Rattle.std.specs.Prelude.{◌≡◌};
 ghost use Rattle.script_words.specs.Causes.{cause_text};
 ghost use Rattle.script_words.specs.Tests as tests;
 
+use pair_settings::Range;
 use std::alloc::AllocError;
 
 /// Why a line of a script is refused. Within a line the first cause in the order of the tests is the one that is named:
@@ -93,15 +94,6 @@ impl Cause {
             range: Some(range),
         }
     }
-}
-
-/// The numbers that a word may spell, both ends included.
-#[derive(Clone, Copy, Debug, PartialEq, Eq)]
-pub struct Range {
-    /// The least of them.
-    pub least: u32,
-    /// The largest of them.
-    pub most: u32,
 }
 
 /// Why a line is refused, and where.

@@ -19,8 +19,7 @@ pub mod settings;
 pub mod step_words;
 pub mod words;
 
-pub use fault::{
-    Cause, LineError, LineFault, Range, ReadError, ScriptFault, at, unknown_line, within,
-};
+pub use fault::{Cause, LineError, LineFault, ReadError, ScriptFault, at, unknown_line, within};
 pub use line_gives::Given;
+pub use pair_settings::Range;
 pub use parts::{PairHosts, Part, QueueName, SideName};

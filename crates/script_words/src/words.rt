@@ -8,8 +8,9 @@ ghost use Rattle.script_words.specs.Declarations.{same_side};
 ghost use Rattle.script_words.specs.Tests as tests;
 ghost use Rattle.script_words.specs.Words as spelled;
 
-use crate::fault::{Cause, LineError, LineFault, Range, ReadError, within};
+use crate::fault::{Cause, LineError, LineFault, ReadError, within};
 use hex::FromHexError;
+use pair_settings::Range;
 use std::alloc::Global;
 use step_kinds::{Items, Name, Side};
 

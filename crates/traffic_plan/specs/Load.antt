@@ -10,10 +10,10 @@ use Rattle.step_kinds.specs.declared.steps.Step.{Step}
 use Rattle.step_kinds.specs.declared.steps.Step.TheVariants.{Land}
 use Rattle.lane_model.specs.Lane.{chunks_in}
 use Rattle.plan_model.specs.Macros.{send, land_all, receive}
-use Rattle.script_words.specs.declared.settings.SideKey.TheVariants.{Size}
-use Rattle.script_words.specs.declared.settings.Setting.TheVariants.{Up, Mtu, OfSide}
 use Rattle.step_list.specs.Compact.{lines_with}
-use Rattle.script_words.specs.Settings.{pair_with}
+use Rattle.pair_settings.specs.Settings.{pair_with}
+use Rattle.pair_settings.specs.declared.settings.SideKey.TheVariants.{Size}
+use Rattle.pair_settings.specs.declared.settings.Setting.TheVariants.{Up, Mtu, OfSide}
 
 -- the word that SplitMix64 gives at a state, and the state after it
 unfoldable pub word_at : ℕ → ℕ

@@ -6,12 +6,11 @@ ghost use Rattle.lane_model.specs.Lane.{chunks_in};
 ghost use Rattle.traffic_plan.specs.Load.{eight_of, word_at, state_past, load_pair, most_load_frames, length_of, payload_of, frame_lines, frames_given, lines_of_frame, load_of, plan_of};
 
 use crate::steps::{land, land_all, push_landings, receive, send};
+use pair_settings::{Setting, SideKey, pair_with};
 use plan_numbers::chunks_in;
 use rand_xoshiro::SplitMix64;
 use rand_xoshiro::rand_core::SeedableRng;
 use rand_xoshiro::rand_core::utils::NextWord;
-use script_words::options::pair_with;
-use script_words::settings::{Setting, SideKey};
 use std::alloc::{AllocError, Global};
 use std::marker::Model;
 use step_kinds::{Frame, Items, Line, Name, PairPlan, Plan, Side};
