@@ -23,84 +23,96 @@ static _Atomic uint64_t *posted, *header, *flag, *index_out, *index_word, *link_
 static uint64_t *slot, sum;
 static atomic_bool over;
 
-/* A pass of few turns is over: where less than half of them came to something, others run. */
-static void pause_after(uint32_t frames)
+/* What a worker counts: idle turns in a row, and of a pass of few turns how many it made and how many came to something. */
+struct worker {
+	uint32_t idle, turns, came;
+};
+
+/* A turn came to something or not: others run after each 64th idle turn. */
+static void end_turn(struct worker *worker, int did)
 {
-	if (frames >= FEW_TURNS / 2)
-		return;
-	for (uint32_t yields = entries / 16 < 64 ? entries / 16 : 64; yields > 0; yields--)
+	worker->idle = did ? 0 : worker->idle + 1;
+	if (worker->idle != 0 && worker->idle % 64 == 0)
 		sched_yield();
+}
+
+/* The same of sender and receiver, which pause after a pass in which less than half of the turns came to something. */
+static void end_turn_or_pass(struct worker *worker, int did)
+{
+	uint32_t yields = entries / 16 < 64 ? entries / 16 : 64;
+
+	end_turn(worker, did);
+	worker->came += (uint32_t)did;
+	if (++worker->turns < FEW_TURNS)
+		return;
+	while (worker->came < FEW_TURNS / 2 && yields-- > 0)
+		sched_yield();
+	worker->turns = worker->came = 0;
 }
 
 static void *send_all(void *unused)
 {
-	uint32_t turns = 0, came = 0, idle = 0;
+	struct worker worker = { 0 };
 
 	for (uint32_t sent = 0; sent < FRAMES && !atomic_load(link_word);) {
-		uint32_t head = sent % entries, tail = (uint32_t)atomic_load(index_word);
+		uint32_t head = sent % entries;
+		int did = head != atomic_load(index_word);
 
-		if (head != tail) {
-			slot[head] = sent;
-			atomic_store(&posted[head], sent + 1);
-			sent++, came++, idle = 0;
-		} else if (++idle % 64 == 0) {
-			sched_yield();
+		if (did) {
+			slot[head] = sent++;
+			atomic_store(&posted[head], sent);
 		}
-		if (++turns == FEW_TURNS) {
-			pause_after(came);
-			turns = came = 0;
-		}
+		end_turn_or_pass(&worker, did);
 	}
 	return unused;
 }
 
 static void *move_all(void *unused)
 {
-	uint32_t flagged = 0, stored = 0, taken = 0, back = entries - 1, idle = 0;
+	uint32_t flagged = 0, stored = 0, taken = 0;
+	uint64_t back = entries - 1;
+	struct worker worker = { 0 };
 
 	while (!atomic_load_explicit(&over, memory_order_relaxed)) {
 		int did = 1;
 
-		if (stored == flagged && taken - flagged < HELD && atomic_load(&posted[taken % entries]) == (uint64_t)taken + 1)
+		if (stored == flagged && taken - flagged < HELD && atomic_load(&posted[taken % entries]) == (uint64_t)taken + 1) {
 			taken++;
-		else if (stored < taken)
-			atomic_store(&header[stored % entries], stored + 1), stored++;
-		else if (flagged < stored)
-			atomic_store(&flag[flagged % entries], 1), flagged++;
-		else
+		} else if (stored < taken) {
+			atomic_store(&header[stored % entries], (uint64_t)stored + 1);
+			stored++;
+		} else if (flagged < stored) {
+			atomic_store(&flag[flagged % entries], 1);
+			flagged++;
+		} else {
 			did = 0;
-		uint32_t last = (uint32_t)atomic_load(index_out);
+		}
+		uint64_t last = atomic_load(index_out);
 		if (last != back) {
 			atomic_store(index_word, last);
 			back = last;
 			did = 1;
 		}
-		idle = did ? 0 : idle + 1;
-		if (idle != 0 && idle % 64 == 0)
-			sched_yield();
+		end_turn(&worker, did);
 	}
 	return unused;
 }
 
 static void *receive_all(void *unused)
 {
-	uint32_t turns = 0, came = 0, idle = 0;
+	struct worker worker = { 0 };
 
 	for (uint32_t got = 0; got < FRAMES;) {
 		uint32_t at = got % entries;
+		int did = atomic_load(&flag[at]) == 1;
 
-		if (atomic_load(&flag[at]) == 1) {
+		if (did) {
 			sum += atomic_load(&header[at]) - 1 == slot[at];
 			atomic_store(&flag[at], 0);
 			atomic_store(index_out, at);
-			got++, came++, idle = 0;
-		} else if (++idle % 64 == 0) {
-			sched_yield();
+			got++;
 		}
-		if (++turns == FEW_TURNS) {
-			pause_after(came);
-			turns = came = 0;
-		}
+		end_turn_or_pass(&worker, did);
 	}
 	atomic_store(&over, 1);
 	return unused;
