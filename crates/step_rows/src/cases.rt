@@ -46,10 +46,7 @@ impl Case {
     // to the script.
     fn take_line(&mut self, alloc: Global, last: char, line: &str) -> Result<char, AllocError> {
         if let Some(answer) = line.strip_prefix("> ") {
-            let number = self.last_line;
-            let text = format!(in alloc; "{number} {answer}")?;
-            self.lines.push(number)?;
-            add_line(&mut self.answers, text.as_str())?;
+            self.take_answer(alloc, answer)?;
             return Ok('>');
         }
         if let Some(ending) = line.strip_prefix("= ") {
@@ -57,11 +54,7 @@ impl Case {
             return Ok('=');
         }
         if let Some(more) = line.strip_prefix("+ ") {
-            match last {
-                '>' => add_text(&mut self.answers, more)?,
-                '=' => add_text(&mut self.ending, more)?,
-                _ => add_text(&mut self.script, more)?,
-            }
+            self.take_more(last, more)?;
             return Ok(last);
         }
         if let Some(words) = line.strip_prefix("@load ") {
@@ -71,6 +64,23 @@ impl Case {
         self.last_line = self.last_line.saturating_add(1);
         add_line(&mut self.script, line)?;
         Ok(' ')
+    }
+
+    // Adds an answer to the script's last line.
+    fn take_answer(&mut self, alloc: Global, answer: &str) -> Result<(), AllocError> {
+        let number = self.last_line;
+        self.lines.push(number)?;
+        let text = format!(in alloc; "{number} {answer}")?;
+        add_line(&mut self.answers, text.as_str())
+    }
+
+    // Adds a text so many times to an answer, to a line of the ending or to the script.
+    fn take_more(&mut self, last: char, more: &str) -> Result<(), AllocError> {
+        match last {
+            '>' => add_text(&mut self.answers, more),
+            '=' => add_text(&mut self.ending, more),
+            _ => add_text(&mut self.script, more),
+        }
     }
 }
 
@@ -97,31 +107,60 @@ fn add_text(text: &mut Vec<u8>, more: &str) -> Result<(), AllocError> {
     Ok(())
 }
 
+// The lines of a report that a case may want.
+#[derive(Drop)]
+struct Came {
+    answers: Vec<u8>,
+    ending: Vec<u8>,
+}
+
 /// The first line in which the report of a case's script isn't what is wanted, beside the wanted one. Something is wanted in each row.
 pub fn difference_of(alloc: Global, case: &Case) -> Result<Option<String>, AllocError> {
-    let mut answers = Vec::new(alloc);
-    let mut ending = Vec::new(alloc);
     let Some(reply) = reply_to(alloc, case)? else {
-        return Ok(Some(String::from_str(alloc, "it is no script and no load")?));
+        return said(alloc, "it is no script and no load");
     };
-    for line in std::str::from_utf8(reply.text()).unwrap_or("").lines() {
-        match number_of(line) {
-            Some(number) if case.lines.contains(&number) => add_line(&mut answers, line)?,
-            Some(_) => {}
-            None if line == "end" => {}
-            None => add_line(&mut ending, line)?,
-        }
-    }
+    let mut came = Came {
+        answers: Vec::new(alloc),
+        ending: Vec::new(alloc),
+    };
+    difference_in(alloc, case, reply.text(), &mut came)
+}
+
+fn said(alloc: Global, text: &str) -> Result<Option<String>, AllocError> {
+    Ok(Some(String::from_str(alloc, text)?))
+}
+
+// The first line in which a report isn't what is wanted, once its lines came.
+fn difference_in(
+    alloc: Global,
+    case: &Case,
+    report: &[u8],
+    came: &mut Came,
+) -> Result<Option<String>, AllocError> {
+    take_report(came, &case.lines, report)?;
     if case.answers.is_empty() && case.ending.is_empty() {
-        return Ok(Some(String::from_str(alloc, "nothing is wanted")?));
+        return said(alloc, "nothing is wanted");
     }
-    if answers != case.answers {
-        return first_difference(alloc, &answers, &case.answers);
+    if came.answers != case.answers {
+        return first_difference(alloc, &came.answers, &case.answers);
     }
-    if !case.ending.is_empty() && ending != case.ending {
-        return first_difference(alloc, &ending, &case.ending);
+    if !case.ending.is_empty() && came.ending != case.ending {
+        return first_difference(alloc, &came.ending, &case.ending);
     }
     Ok(None)
+}
+
+// Adds the lines of a report: the answers to some lines of the script, and all lines but the last one that are no answers.
+fn take_report(came: &mut Came, lines: &[u32], report: &[u8]) -> Result<(), AllocError> {
+    for line in std::str::from_utf8(report).unwrap_or("").lines() {
+        match number_of(line) {
+            Some(number) if lines.contains(&number) => add_line(&mut came.answers, line)?,
+            Some(_) => {}
+            None if line == "end" => {}
+            None => add_line(&mut came.ending, line)?,
+        }
+    }
+    Ok(())
 }
 
 // What the program answers to a case, unless it is too long for a script, or a load of too many frames.

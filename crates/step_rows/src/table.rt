@@ -12,31 +12,52 @@ pub struct Block {
     pub lines: Vec<String>,
 }
 
-/// The rows that standard input has. A row that takes in lines which no block before it has keeps its `@use`, which no script has.
-pub fn read_rows<R: Input + AllocGlobal>(rt: &R) -> io::Result<Vec<Block>> {
-    let mut named = Vec::new(rt.alloc());
-    let mut rows = Vec::new(rt.alloc());
-    let mut open = block_of(rt.alloc(), "")?;
-    let mut is_row = false;
-    for line in rt.lines(rt.alloc()) {
-        let line = line?;
-        let begun = begun_block(rt.alloc(), line.as_str())?;
-        if let Some(begun) = begun {
-            let whole = std::mem::replace(&mut open, begun);
-            if is_row {
-                rows.push(whole)?;
-            } else {
-                named.push(whole)?;
-            }
-            is_row = line.as_str().starts_with("@row ");
-        } else {
-            take_line(rt.alloc(), &mut open, &named, line.as_str())?;
+// The blocks so far, and the last one, to which lines are added.
+#[derive(Drop)]
+struct Table {
+    named: Vec<Block>,
+    rows: Vec<Block>,
+    open: Block,
+    is_row: bool,
+}
+
+impl Table {
+    // Begins a block, or adds a line to the last one.
+    fn take(&mut self, alloc: Global, line: &str) -> Result<(), AllocError> {
+        match begun_block(alloc, line)? {
+            Some(begun) => self.begin(begun, line.starts_with("@row ")),
+            None => take_line(alloc, &mut self.open, &self.named, line),
         }
     }
-    if is_row {
-        rows.push(open)?;
+
+    // Ends the last block, and begins another one.
+    fn begin(&mut self, begun: Block, is_row: bool) -> Result<(), AllocError> {
+        let whole = std::mem::replace(&mut self.open, begun);
+        let was_row = std::mem::replace(&mut self.is_row, is_row);
+        if was_row {
+            self.rows.push(whole)?;
+        } else {
+            self.named.push(whole)?;
+        }
+        Ok(())
     }
-    Ok(rows)
+}
+
+/// The rows that standard input has. A row that takes in lines which no block before it has keeps its `@use`, which no script has.
+pub fn read_rows<R: Input + AllocGlobal>(rt: &R) -> io::Result<Vec<Block>> {
+    let mut table = Table {
+        open: block_of(rt.alloc(), "")?,
+        named: Vec::new(rt.alloc()),
+        rows: Vec::new(rt.alloc()),
+        is_row: false,
+    };
+    for line in rt.lines(rt.alloc()) {
+        let line = line?;
+        table.take(rt.alloc(), line.as_str())?;
+    }
+    let nothing = block_of(rt.alloc(), "")?;
+    table.begin(nothing, false)?;
+    Ok(table.rows)
 }
 
 // The block that a line begins, if it begins one.
