@@ -21,6 +21,10 @@ pub record CanRun (plan : Plan) : Type 0 where
   pub few_bytes : sum (map bytes_in plan.traffic) ≤ most_traffic_bytes
   pub few_breaks : (pair : ℕ) → count_by (is_break_of pair) plan.traffic ≤ most_breaks
 
+-- the lanes with traffic, which are numbered from 0: a plan has fewer
+abbrev pub most_lanes : ℕ
+most_lanes = 65535
+
 -- the lanes of a pair: by queue those from side A, then those from side B
 abbrev pub lanes_of : ℕ → List LaneName
 lanes_of pair =

@@ -1,5 +1,6 @@
 -- The fields of a session: what it shows, and what is true of it between two rounds.
 use Rattle.std.specs.Prelude.{◌≡◌, ◌≤◌, length}
+use Rattle.step_kinds.specs.Limits.{most_traffic_entries}
 use Rattle.cluster_run.specs.Workers.{SessionState}
 use Rattle.cluster_run.specs.declared.session.Session.TheInside.{Inside}
 
@@ -11,5 +12,5 @@ pub record IsSession (s : Inside) : Type 0 where
   pub moves_there : s.moving.lane ≡ s.sending.lane
   pub receives_there : s.receiving.lane ≡ s.sending.lane
   pub cuts_there : s.cutting.lane ≡ s.sending.lane
-  pub ring : (s.entries ≡ s.sending.entries) × (2 ≤ s.entries) × (s.entries ≤ 65535)
+  pub ring : (s.entries ≡ s.sending.entries) × (2 ≤ s.entries) × (s.entries ≤ most_traffic_entries)
   pub counted : s.total ≡ length s.sending.frames

@@ -1,13 +1,14 @@
 -- What a lane's traffic has to be, so that the lane can be run.
-use Rattle.std.specs.Prelude.{◌≡◌, ℕ, ◌≤◌, ◌<◌, ◌^◌, List, length, map, count_by}
+use Rattle.std.specs.Prelude.{◌≡◌, ℕ, ◌≤◌, ◌<◌, List, length, map, count_by}
 use Rattle.std.specs.List.{range_with_len}
 use Rattle.step_kinds.specs.declared.plan.Plan.{Plan}
 use Rattle.plan_model.specs.TrafficPlans.{IsTrafficLane, is_break_of}
-use Rattle.step_kinds.specs.Limits.{most_breaks, most_traffic_frames}
+use Rattle.step_kinds.specs.Limits.{most_breaks, most_traffic_frames, most_traffic_entries}
 use Rattle.lane_workers.specs.Passes.{HaveBytes}
 use Rattle.cluster_run.specs.LaneKeys.{LaneKey}
 use Rattle.cluster_run.specs.declared.by_lane.LaneTraffic.{LaneTraffic}
 use Rattle.cluster_run.specs.declared.tasks.TaskParts.{TaskParts}
+use Rattle.cluster_run.specs.Lanes.{most_lanes}
 
 -- the losses of each pair's link, by pair
 abbrev pub losses_by_pair : Plan → List ℕ
@@ -25,8 +26,8 @@ pub record AreParts (key : LaneKey) (parts : TaskParts) : Type 0 where
   pub entries : parts.entries ≡ key.entries
   pub losses : parts.losses ≡ key.losses
   pub traffic : parts.frames.frames ≡ key.traffic
-  pub number : parts.number ≤ 65535
-  pub ring : (2 ≤ parts.entries) × (parts.entries ≤ 65535)
+  pub number : parts.number ≤ most_lanes
+  pub ring : (2 ≤ parts.entries) × (parts.entries ≤ most_traffic_entries)
   pub bytes : HaveBytes parts.frames.frames
   pub few : length parts.frames.frames ≤ most_traffic_frames
   pub breaks : parts.losses ≤ most_breaks

@@ -1,5 +1,6 @@
 -- The fields of a lane's workers: what each shows, and what is true of it between two passes.
-use Rattle.std.specs.Prelude.{◌≡◌, ◌<◌, ◌+◌, ◌^◌, ◌++◌, length}
+use Rattle.std.specs.Prelude.{◌≡◌, ◌<◌, ◌+◌, ◌++◌, length}
+use Rattle.table_rule.specs.ShownLane.{most_lane_frames}
 use Rattle.lane_workers.specs.Passes.{HaveBytes}
 use Rattle.cluster_run.specs.Workers.{SendingShown, MovingShown, ReceivingShown, CuttingShown}
 use Rattle.cluster_run.specs.declared.workers.Sending.TheInside as sending
@@ -13,7 +14,7 @@ sending_of w = record { lane = w.end.lane; entries = w.end.part.entries; frames 
 -- each frame that is to be sent has a byte, and the frames are so few that they can be numbered
 pub record IsSending (w : sending.Inside) : Type 0 where
   pub bytes : HaveBytes w.todo.frames
-  pub counted : length w.end.part.sent + length w.todo.frames < 2 ^ 62
+  pub counted : length w.end.part.sent + length w.todo.frames < most_lane_frames
 
 abbrev pub moving_of : moving.Inside → MovingShown
 moving_of w = record { lane = w.mover.lane }

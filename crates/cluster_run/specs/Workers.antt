@@ -2,6 +2,10 @@
 use Rattle.std.specs.Prelude.{ℕ, Bool, List}
 use Rattle.atomic_table.specs.Seated.{TableId}
 
+-- the turns of a pass where one thread makes the passes of all workers
+abbrev pub most_pass_turns : ℕ
+most_pass_turns = 65535
+
 -- the sending worker: the table of its lane, the entries of the ring, and the frames of the session, those that were
 -- sent before those that are to be sent
 pub record SendingShown : Type 0 where

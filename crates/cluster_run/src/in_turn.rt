@@ -1,6 +1,7 @@
 //! A round of a session in which one thread makes the passes of all its workers in turn.
 
 ghost use Rattle.std.specs.Prelude.{◌≡◌, ◌≤◌};
+ghost use Rattle.cluster_run.specs.Workers.{most_pass_turns};
 
 use crate::aim::Aim;
 use crate::workers::{Cutting, Moving, Receiving, Sending};
@@ -18,7 +19,7 @@ fn carry_in_turn<G: Gate>(
     receiving: &mut Receiving,
     turns: u32,
 )
-    requires { (1 ≤ turns) × (turns ≤ 65535) }
+    requires { (1 ≤ turns) × (turns ≤ most_pass_turns) }
     ensures sending { sending.new ≡ sending.old }
     ensures moving { moving.new ≡ moving.old }
     ensures receiving { receiving.new.lane ≡ receiving.old.lane }
@@ -38,7 +39,7 @@ fn cut_in_turn<G: Gate>(
     cutting: &mut Cutting,
     turns: u32,
 )
-    requires { (1 ≤ turns) × (turns ≤ 65535) }
+    requires { (1 ≤ turns) × (turns ≤ most_pass_turns) }
     ensures sending { sending.new ≡ sending.old }
     ensures moving { moving.new ≡ moving.old }
     ensures receiving { receiving.new.lane ≡ receiving.old.lane }
@@ -62,7 +63,7 @@ pub(crate) fn pass_in_turn<G: Gate>(
     aim: Aim,
     turns: u32,
 )
-    requires { (1 ≤ turns) × (turns ≤ 65535) }
+    requires { (1 ≤ turns) × (turns ≤ most_pass_turns) }
     ensures sending { sending.new ≡ sending.old }
     ensures moving { moving.new ≡ moving.old }
     ensures receiving { receiving.new.lane ≡ receiving.old.lane }

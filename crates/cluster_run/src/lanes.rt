@@ -1,9 +1,12 @@
 //! A lane at work: its sessions, one after another.
 
-ghost use Rattle.std.specs.Prelude.{◌≡◌, ◌≤◌, ◌<◌, ◌^◌, true, length, IfOk};
+ghost use Rattle.std.specs.Prelude.{◌≡◌, ◌≤◌, ◌<◌, true, length, IfOk};
 ghost use Rattle.step_kinds.specs.Runs.{lane_shown};
+ghost use Rattle.step_kinds.specs.Limits.{most_traffic_entries};
+ghost use Rattle.table_rule.specs.ShownLane.{most_lane_frames};
 ghost use Rattle.lane_workers.specs.Passes.{HaveBytes};
 ghost use Rattle.cluster_run.specs.LaneKeys.{ComesTo};
+ghost use Rattle.cluster_run.specs.Lanes.{most_lanes};
 
 use crate::session::{Session, SessionEnd};
 use io_edges::Gate;
@@ -39,10 +42,10 @@ impl LaneWork {
         losses: u32,
         frames: FrameList,
     ) -> Result<LaneWork, AllocError>
-        requires number { number ≤ 65535 }
-        requires ring { (2 ≤ entries) × (entries ≤ 65535) }
+        requires number { number ≤ most_lanes }
+        requires ring { (2 ≤ entries) × (entries ≤ most_traffic_entries) }
         requires bytes { HaveBytes frames.frames }
-        requires few { length frames.frames < 2 ^ 62 }
+        requires few { length frames.frames < most_lane_frames }
         ensures { IfOk result (λ work. work.key ≡ record { name = name; entries = entries; losses = losses; traffic = frames.frames }) }
     {
         Ok(LaneWork {

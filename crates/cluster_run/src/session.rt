@@ -1,8 +1,11 @@
 //! A session of a lane: the life of one table lane, from `make` to `finish`.
 
-ghost use Rattle.std.specs.Prelude.{◌≡◌, ◌≤◌, ◌<◌, ◌^◌, ◌++◌, ◌==◌, [], length, IfOk};
+ghost use Rattle.std.specs.Prelude.{◌≡◌, ◌≤◌, ◌<◌, ◌++◌, ◌==◌, [], length, IfOk};
+ghost use Rattle.step_kinds.specs.Limits.{most_traffic_entries};
+ghost use Rattle.table_rule.specs.ShownLane.{most_lane_frames};
 ghost use Rattle.lane_workers.specs.Passes.{HaveBytes};
 ghost use Rattle.cluster_run.specs.Sessions.{new_session, EndsWith};
+ghost use Rattle.cluster_run.specs.Lanes.{most_lanes};
 
 use crate::aim::Aim;
 use crate::clock::Clock;
@@ -66,10 +69,10 @@ impl Session {
         entries: u32,
         todo: FrameList,
     ) -> Result<Session, AllocError>
-        requires number { number ≤ 65535 }
-        requires ring { (2 ≤ entries) × (entries ≤ 65535) }
+        requires number { number ≤ most_lanes }
+        requires ring { (2 ≤ entries) × (entries ≤ most_traffic_entries) }
         requires bytes { HaveBytes todo.frames }
-        requires few { length todo.frames < 2 ^ 62 }
+        requires few { length todo.frames < most_lane_frames }
         ensures { IfOk result (λ s. s ≡ new_session entries todo.frames) }
     {
         let total = todo.len();

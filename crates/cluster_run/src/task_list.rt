@@ -5,7 +5,7 @@ ghost use Rattle.step_kinds.specs.Limits.{most_breaks};
 ghost use Rattle.plan_model.specs.Plans.{pair_plan};
 ghost use Rattle.plan_model.specs.TrafficPlans.{is_break_of};
 ghost use Rattle.cluster_run.specs.LaneKeys.{key_of};
-ghost use Rattle.cluster_run.specs.Lanes.{CanRun, traffic_lanes};
+ghost use Rattle.cluster_run.specs.Lanes.{CanRun, traffic_lanes, most_lanes};
 ghost use Rattle.cluster_run.specs.ByLane.{AreOfTraffic, key_with, keys_with_frames, lane_frames};
 ghost use Rattle.cluster_run.specs.Tasks.{CanBeRun, losses_by_pair};
 ghost use Rattle.traffic_plan.specs.Lanes.{frames_on};
@@ -54,7 +54,7 @@ fn losses_of(plan: &Plan, losses: &[u32], pair: u32) -> u32
 fn task_of(plan: &Plan, losses: &[u32], number: u32, lane: LaneTraffic) -> LaneTask
     requires plan { CanRun plan.now }
     requires losses { losses.now ≡ losses_by_pair plan.now }
-    requires number { number ≤ 65535 }
+    requires number { number ≤ most_lanes }
     requires lane { CanBeRun plan.now lane }
     ensures { result ≡ key_with plan.now (lane_frames lane) }
 {
@@ -79,7 +79,7 @@ fn push_task(
 ) -> Result<(), AllocError>
     requires plan { CanRun plan.now }
     requires losses { losses.now ≡ losses_by_pair plan.now }
-    requires few { length tasks.old.items ≤ 65535 }
+    requires few { length tasks.old.items ≤ most_lanes }
     requires lane { lane.frames.frames ≡ frames_on lane.name plan.now.traffic }
     ensures { OnOk result (tasks.new.items ≡ tasks.old.items ++ keys_with_frames plan.now (lane_frames lane ∷ [])) }
 {
@@ -98,7 +98,7 @@ fn waiting_lanes(
     lanes: Vec<LaneTraffic>,
 ) -> Result<VecDeque<LaneTask>, AllocError>
     requires plan { CanRun plan.now }
-    requires few { length lanes.items ≤ 65535 }
+    requires few { length lanes.items ≤ most_lanes }
     requires traffic { AreOfTraffic plan.now lanes.items }
     ensures { IfOk result (λ tasks. tasks.items ≡ keys_with_frames plan.now (map lane_frames lanes.items)) }
 {
@@ -117,7 +117,7 @@ fn waiting_lanes(
 pub fn lanes_to_run(alloc: Global, plan: &Plan) -> Result<VecDeque<LaneTask>, AllocError>
     requires { CanRun plan.now }
     ensures keys { IfOk result (λ tasks. tasks.items ≡ map (key_of plan.now) (traffic_lanes plan.now)) }
-    ensures few { IfOk result (λ tasks. length tasks.items ≤ 65535) }
+    ensures few { IfOk result (λ tasks. length tasks.items ≤ most_lanes) }
 {
     let lanes = traffic_by_lane(alloc, plan)?;
     waiting_lanes(alloc, plan, lanes)

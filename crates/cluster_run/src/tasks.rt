@@ -1,6 +1,7 @@
 //! Lanes that wait to be run.
 
 ghost use Rattle.std.specs.Prelude.{◌≡◌, ◌≤◌, IfOk};
+ghost use Rattle.step_kinds.specs.Limits.{most_traffic_entries};
 ghost use Rattle.cluster_run.specs.Tasks.{AreParts};
 
 use crate::lanes::LaneWork;
@@ -44,7 +45,7 @@ impl LaneTask {
     /// The entries of its ring.
     pub fn entries(&self) -> u32
         ensures value { result ≡ self.now.entries }
-        ensures fits { result ≤ 65535 }
+        ensures fits { result ≤ most_traffic_entries }
     {
         self.entries
     }

@@ -1,10 +1,12 @@
 -- The fields of a stream at work: what it shows, and what is true of it between two rounds.
 use Rattle.std.specs.Prelude.{◌≡◌, ℕ, ◌+◌, ◌≤◌, ◌<◌, ◌^◌, ◌==◌, ◌&&◌, not, true, List, length, fold}
 use Rattle.std.specs.List.{All, flat_map}
+use Rattle.step_kinds.specs.Limits.{most_traffic_entries}
 use Rattle.stream_model.specs.Receiver.{new_receiver}
 use Rattle.stream_model.specs.Resumed.{AreSessionsOf, Exchange, IsInOrder, acked_by, after_session}
 use Rattle.stream_model.specs.declared.Session.TheVariants.{Fresh}
 use Rattle.table_lane.specs.EndOfLane.{Shown}
+use Rattle.cluster_run.specs.Lanes.{most_lanes}
 use Rattle.cluster_stream.specs.Keys.{StreamState}
 use Rattle.cluster_stream.specs.Streams.{exchange_proofs}
 use Rattle.cluster_stream.specs.Workers.{SessionKey}
@@ -31,8 +33,8 @@ pub record GoesFrom (sessions : List Exchange) (key : SessionKey) (given : ℕ) 
 -- there are two proofs for each session that ended, each of which was cut
 pub record IsWork (w : work.Inside) : Type 0 where
   pub sessions : List Exchange
-  pub numbers : (w.numbers.items ≤ 65535) × (w.numbers.acks ≤ 131071)
-  pub ring : (w.entries ≡ w.session.key.entries) × (2 ≤ w.entries) × (w.entries ≤ 65535)
+  pub numbers : (w.numbers.items ≤ most_lanes) × (w.numbers.acks ≤ 131071)
+  pub ring : (w.entries ≡ w.session.key.entries) × (2 ≤ w.entries) × (w.entries ≤ most_traffic_entries)
   pub losses : length sessions + w.ahead ≡ w.losses
   pub few : w.losses + 1 < 2 ^ 32
   pub shown : w.proofs.items ≡ cut_proofs w.entries sessions

@@ -1,5 +1,6 @@
 -- The fields of a session: what it shows, and what is true of it between two rounds.
 use Rattle.std.specs.Prelude.{◌≡◌, ◌≤◌, length}
+use Rattle.step_kinds.specs.Limits.{most_traffic_entries}
 use Rattle.cluster_stream.specs.Workers.{SessionState}
 use Rattle.cluster_stream.specs.declared.session.Session.TheInside.{Inside}
 
@@ -19,5 +20,5 @@ pub record IsSession (s : Inside) : Type 0 where
   pub moves_acks : s.moving.ack_lane ≡ s.sink.key.ack_lane
   pub gets_acks : s.source.key.ack_lane ≡ s.sink.key.ack_lane
   pub cuts_acks : s.cutting.key.ack_lane ≡ s.sink.key.ack_lane
-  pub ring : (s.entries ≡ s.source.key.entries) × (s.entries ≡ s.sink.key.entries) × (2 ≤ s.entries) × (s.entries ≤ 65535)
+  pub ring : (s.entries ≡ s.source.key.entries) × (s.entries ≡ s.sink.key.entries) × (2 ≤ s.entries) × (s.entries ≤ most_traffic_entries)
   pub counted : s.total ≡ length s.source.key.items

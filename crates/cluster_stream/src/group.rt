@@ -1,6 +1,7 @@
 //! Streams whose rings are open together.
 
 ghost use Rattle.std.specs.Prelude.{◌≡◌, ◌≤◌, ◌++◌, ◌∷◌, length, IfOk};
+ghost use Rattle.cluster_run.specs.Lanes.{most_lanes};
 ghost use Rattle.cluster_stream.specs.Keys.{keys_of};
 
 use crate::lanes::StreamWork;
@@ -22,7 +23,7 @@ pub(crate) fn next_group(
     first: LaneTask,
     waiting: &mut VecDeque<LaneTask>,
 ) -> Result<Vec<StreamWork>, AllocError>
-    requires { lanes ≤ 65535 }
+    requires { lanes ≤ most_lanes }
     ensures keys { IfOk result (λ works. keys_of works.items ++ waiting.new.items ≡ first ∷ waiting.old.items) }
     ensures fewer { length waiting.new.items ≤ length waiting.old.items }
 {

@@ -1,6 +1,7 @@
 //! A round of a stream's session in which one thread makes the passes of all its workers in turn.
 
 ghost use Rattle.std.specs.Prelude.{◌≡◌, ◌≤◌};
+ghost use Rattle.cluster_run.specs.Workers.{most_pass_turns};
 
 use crate::in_threads::Aim;
 use crate::pair::{PairCutting, PairMoving};
@@ -32,7 +33,7 @@ fn carry_in_turn<G: Gate>(
     sink: &mut Sink,
     turns: u32,
 )
-    requires { (1 ≤ turns) × (turns ≤ 65535) }
+    requires { (1 ≤ turns) × (turns ≤ most_pass_turns) }
     ensures source { source.new.key ≡ source.old.key }
     ensures ever { source.old.ever ≤ source.new.ever }
     ensures moving { moving.new ≡ moving.old }
@@ -53,7 +54,7 @@ fn cut_in_turn<G: Gate>(
     cutting: &mut PairCutting,
     turns: u32,
 )
-    requires { (1 ≤ turns) × (turns ≤ 65535) }
+    requires { (1 ≤ turns) × (turns ≤ most_pass_turns) }
     ensures source { source.new.key ≡ source.old.key }
     ensures ever { source.old.ever ≤ source.new.ever }
     ensures moving { moving.new ≡ moving.old }
@@ -78,7 +79,7 @@ pub(crate) fn pass_in_turn<G: Gate>(
     aim: Aim,
     turns: u32,
 )
-    requires { (1 ≤ turns) × (turns ≤ 65535) }
+    requires { (1 ≤ turns) × (turns ≤ most_pass_turns) }
     ensures source { source.new.key ≡ source.old.key }
     ensures ever { source.old.ever ≤ source.new.ever }
     ensures moving { moving.new ≡ moving.old }

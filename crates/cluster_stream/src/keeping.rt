@@ -2,6 +2,7 @@
 
 ghost use Rattle.std.specs.Prelude.{◌≡◌, ◌+◌, ◌-◌, ◌≤◌, ◌<◌, ◌^◌, ◌++◌, ◌∷◌, [], if◌then◌else◌, length, fold, IfOk, OnOk, OnErr};
 ghost use Rattle.stream_model.specs.Receiver.{Receiver, ack_frame, taken};
+ghost use Rattle.table_rule.specs.ShownLane.{most_lane_frames};
 ghost use Rattle.cluster_stream.specs.Ends.{Grows};
 
 use io_edges::Gate;
@@ -74,7 +75,7 @@ pub(crate) fn keep_pass<G: Gate>(
 /// Sends how many items the stream keeps, and answers whether the lane took it. The only error is running out of
 /// memory.
 pub(crate) fn acknowledge(receiver: &StreamReceiver, end: &mut SendEnd) -> Result<bool, AllocError>
-    requires { length end.old.part.sent < 2 ^ 62 }
+    requires { length end.old.part.sent < most_lane_frames }
     ensures sent { IfOk result (λ told. end.new.part.sent ≡ (if told then end.old.part.sent ++ ack_frame receiver.now ∷ [] else end.old.part.sent)) }
     ensures err { OnErr result (end.new ≡ end.old) }
     ensures lane { end.new.lane ≡ end.old.lane }

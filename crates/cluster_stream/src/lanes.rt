@@ -1,6 +1,7 @@
 //! A stream at work: its sessions, one after another.
 
 ghost use Rattle.std.specs.Prelude.{◌≡◌, ◌≤◌, true, IfOk};
+ghost use Rattle.cluster_run.specs.Lanes.{most_lanes};
 ghost use Rattle.cluster_stream.specs.Keys.{ComesTo};
 ghost use Rattle.cluster_stream.specs.Streams.{stream_shown};
 
@@ -35,7 +36,7 @@ pub(crate) struct StreamWork {
 impl StreamWork {
     /// A stream in its first session, where so many lanes have traffic. The only error is running out of memory.
     pub(crate) fn new(alloc: Global, lanes: u32, task: LaneTask) -> Result<StreamWork, AllocError>
-        requires { lanes ≤ 65535 }
+        requires { lanes ≤ most_lanes }
         ensures { IfOk result (λ work. work.key ≡ task) }
     {
         let TaskParts {

@@ -1,7 +1,9 @@
 //! A session of a stream: the life of two table lanes, one for its items and one for its acknowledgements.
 
-ghost use Rattle.std.specs.Prelude.{◌≡◌, ◌≤◌, ◌<◌, ◌^◌, ◌==◌, length, IfOk};
+ghost use Rattle.std.specs.Prelude.{◌≡◌, ◌≤◌, ◌<◌, ◌==◌, length, IfOk};
+ghost use Rattle.step_kinds.specs.Limits.{most_traffic_entries};
 ghost use Rattle.lane_workers.specs.Passes.{HaveBytes};
+ghost use Rattle.cluster_run.specs.Lanes.{most_lanes};
 ghost use Rattle.cluster_stream.specs.Sessions.{CanBegin, EndsWith, new_session};
 
 use crate::in_threads::{Aim, pass_in_threads};
@@ -57,8 +59,8 @@ impl Session {
         receiver: StreamReceiver,
         total: usize,
     ) -> Result<Session, AllocError>
-        requires numbers { (numbers.items ≤ 65535) × (numbers.acks ≤ 131071) }
-        requires ring { (2 ≤ entries) × (entries ≤ 65535) }
+        requires numbers { (numbers.items ≤ most_lanes) × (numbers.acks ≤ 131071) }
+        requires ring { (2 ≤ entries) × (entries ≤ most_traffic_entries) }
         requires ends { CanBegin sender receiver }
         requires total { total ≡ length sender.items }
         ensures { IfOk result (λ s. s ≡ new_session entries sender receiver) }

@@ -2,6 +2,7 @@
 
 ghost use Rattle.std.specs.Prelude.{◌≡◌, ◌+◌, ◌≤◌, ◌<◌, ◌^◌, [], length, IfOk};
 ghost use Rattle.stream_model.specs.declared.Session.TheVariants.{Fresh};
+ghost use Rattle.cluster_run.specs.Lanes.{most_lanes};
 ghost use Rattle.cluster_stream.specs.Leaving.{LeavesSink};
 
 use crate::keeping::{acknowledge, keep_pass};
@@ -64,7 +65,7 @@ impl Sink {
         numbers: LaneNumbers,
         total: usize,
     ) -> Sink
-        requires numbers { (numbers.items ≤ 65535) × (numbers.acks ≤ 131071) }
+        requires numbers { (numbers.items ≤ most_lanes) × (numbers.acks ≤ 131071) }
         requires fresh { receiver.session ≡ Fresh }
         requires few { length receiver.items < 2 ^ 32 }
         requires got { recv.part.got ≡ [] }

@@ -1,6 +1,7 @@
 //! The worker that gives the items of a stream, and receives their acknowledgements.
 
 ghost use Rattle.std.specs.Prelude.{◌≡◌, ◌≤◌, []};
+ghost use Rattle.cluster_run.specs.Lanes.{most_lanes};
 ghost use Rattle.cluster_stream.specs.Ends.{HasOffered};
 ghost use Rattle.cluster_stream.specs.Leaving.{LeavesSource};
 
@@ -55,7 +56,7 @@ impl Source {
         got: FrameList,
         numbers: LaneNumbers,
     ) -> Source
-        requires numbers { (numbers.items ≤ 65535) × (numbers.acks ≤ 131071) }
+        requires numbers { (numbers.items ≤ most_lanes) × (numbers.acks ≤ 131071) }
         requires offered { HasOffered sender send.part.sent }
         requires acked { sender.acked ≡ sender.start }
         requires received { recv.part.got ≡ [] }

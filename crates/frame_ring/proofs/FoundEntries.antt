@@ -7,8 +7,8 @@ use Rattle.lane_model.specs.Tests.{is_copying, is_idle}
 use Rattle.bridge_pair.specs.Bridge.{Bridge, pages_of, with_pages}
 use Rattle.frame_ring.specs.Port.{PortState, Receiving, unused_of, with_receiving, writes_left}
 use Rattle.frame_ring.specs.PortView.{with_room}
-use Rattle.frame_ring.proofs.Beginning.{no_room}
-use Rattle.frame_ring.proofs.Finding.{peer_pages, side_pages}
+use Rattle.frame_ring.proofs.PromisesOfBegin.{no_room}
+use Rattle.frame_ring.proofs.PromisesOfLook.{peer_pages, side_pages}
 
 -- What is known where a result is an error may be replaced by anything that follows from it.
 pub err_map : {X E : Type 0} (P Q : Type 0) (result : Result X E) → (P → Q) → OnErr result P → OnErr result Q

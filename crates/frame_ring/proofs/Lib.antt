@@ -1,7 +1,5 @@
-pub mod Beginning
 pub mod Entries
 pub mod EntryPages
-pub mod Finding
 pub mod FoundEntries
 pub mod HeaderWords
 pub mod LookAnswers
@@ -9,6 +7,8 @@ pub mod NextLabel
 pub mod NextNumber
 pub mod PostedBytes
 pub mod Progress
+pub mod PromisesOfBegin
+pub mod PromisesOfLook
 pub mod Ready
 pub mod SameEntries
 pub mod SameSenders

@@ -17,7 +17,7 @@ use Rattle.frame_ring.specs.Port.{PortState, Receiving, with_receiving}
 use Rattle.frame_ring.specs.PortView.{bytes_seen, with_room}
 use Rattle.frame_ring.specs.declared.RingLook.{RingLook}
 use Rattle.frame_ring.specs.declared.RingLook.TheVariants.{OutOfTurn, Ready}
-use Rattle.frame_ring.proofs.Beginning.{no_room}
+use Rattle.frame_ring.proofs.PromisesOfBegin.{no_room}
 
 -- A phase other than idle isn't idle by the test.
 pub not_idle : (phase : Phase) → ¬ (phase ≡ Idle) → is_idle phase ≡ false

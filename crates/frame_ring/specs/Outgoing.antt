@@ -2,6 +2,7 @@
 use Rattle.std.specs.Prelude.{◌≡◌, ℕ, ◌+◌, ◌-◌, ◌^◌, ◌<◌, ◌≤◌, ◌==◌, Bool, true, false, Option, Some, None, List, [], ◌∷◌, ◌++◌, length, nat_lt, drop, slice_index_or, if◌then◌else◌}
 use Rattle.step_kinds.specs.declared.steps.Label.{Label}
 use Rattle.step_kinds.specs.declared.steps.Label.TheVariants.{Chunk, Len, Ver, Flag, Down, Bell}
+use Rattle.step_kinds.specs.Limits.{most_frame_bytes}
 use Rattle.lane_model.specs.Lane.{Entry, Carries, GoesDown, bytes_of, chunks_in}
 use Rattle.plan_model.specs.Labels.{labels_of}
 use Rattle.plan_model.specs.Pieces.{pieces_of}
@@ -59,22 +60,26 @@ sender_seen sender =
 abbrev pub most_numbers : ℕ
 most_numbers = 2 ^ 62
 
+-- the most writes of a frame that are left to post
+abbrev pub most_writes_left : ℕ
+most_writes_left = 2 ^ 30
+
 -- the most bytes of an entry's payload
 pub record IsMostPayload (largest : ℕ) : Type 0 where
   pub some : 4 ≤ largest
-  pub few : largest ≤ 65536
+  pub few : largest ≤ most_frame_bytes
 
 pub record IsSender (sender : SenderInside) : Type 0 where
   pub payload : IsMostPayload sender.largest
   pub open payload use *
   pub pieces : sender.pieces ≡ length (entries_under sender.largest sender.frame)
   pub piece : sender.piece < sender.pieces
-  pub few_pieces : sender.pieces ≤ 65536
+  pub few_pieces : sender.pieces ≤ most_frame_bytes
   pub next : sender.next ≤ writes_in (entry_at (entries_under sender.largest sender.frame) sender.piece)
   pub left : sender.left + sender.next ≡ all_writes_in (drop sender.piece (entries_under sender.largest sender.frame))
   pub begun : sender.begun + sender.pieces ≤ most_numbers + sender.piece + 1
   pub told : sender.told ≤ most_numbers
-  pub few_left : sender.left ≤ 2 ^ 30
+  pub few_left : sender.left ≤ most_writes_left
   -- what is posted whole is let go
   pub gone : sender.left ≡ 0 → sender.frame ≡ None
 

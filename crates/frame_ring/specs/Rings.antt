@@ -1,5 +1,5 @@
 -- The rings of one queue of one side, and the words that are read of them.
-use Rattle.std.specs.Prelude.{◌≡◌, ℕ, ◌<◌}
+use Rattle.std.specs.Prelude.{◌≡◌, ℕ, ◌^◌, ◌<◌}
 use Rattle.step_kinds.specs.declared.names.Side.{Side}
 use Rattle.step_kinds.specs.declared.plan.PairPlan.{PairPlan}
 use Rattle.plan_model.specs.DeclaredPlans.{IsPair}
@@ -9,6 +9,10 @@ use Rattle.ring_geometry.specs.Geometry.{window_of}
 use Rattle.byte_model.specs.Headers.{Header}
 use Rattle.frame_ring.specs.declared.reading.HeaderWords.{HeaderWords}
 use Rattle.frame_ring.specs.declared.rings.QueueRings.TheInside.{Inside as RingsInside}
+
+-- each address and each offset is below it, so that two of them can be added
+abbrev pub address_limit : ℕ
+address_limit = 2 ^ 62
 
 pub record QueueOf : Type 0 where
   pub plan : PairPlan

@@ -1,6 +1,7 @@
 //! Posting the writes of a ring.
 
 ghost use Rattle.std.specs.Prelude.{◌≡◌, ◌+◌, ◌*◌, ◌%◌, ◌<◌, ◌≤◌, ◌++◌, length};
+ghost use Rattle.step_kinds.specs.Limits.{most_frame_bytes};
 ghost use Rattle.bridge_pair.specs.Bridge.{flight_of, pages_of};
 ghost use Rattle.bridge_pair.specs.Writes.{most_write_bytes};
 ghost use Rattle.byte_model.specs.Addresses.{own_header};
@@ -9,7 +10,7 @@ ghost use Rattle.byte_model.specs.RingWrites.{header_offset, index_write, queue_
 ghost use Rattle.frame_ring.specs.Outgoing.{IsLabelOf};
 ghost use Rattle.frame_ring.specs.PortView.{IsLeftReady, flags_cleared, IsReadyToLand, index_posted, reaches as reaches_by, ring_posted, window_posted};
 ghost use Rattle.host_memory.specs.Memory.{ArePromised};
-ghost use Rattle.lane_model.specs.Lane.{bytes_of, chunk_of, chunks_in};
+ghost use Rattle.lane_model.specs.Lane.{bytes_of, chunk_of, chunks_in, chunk_size};
 ghost use Rattle.plan_model.specs.DeclaredPlans.{SizesFit};
 ghost use Rattle.plan_model.specs.Plans.{side_plan as side_plan_of};
 ghost use Rattle.plan_model.specs.Sizes.{header_bytes as bytes_of_header, layout_of, layout_to, sizes_of};
@@ -100,11 +101,11 @@ fn len_offset(rings: &QueueRings) -> u64
 // A chunk of a payload.
 fn chunk_at(payload: &[u8], part: u32) -> &[u8]
     requires among { part < chunks_in (length payload.now) }
-    requires fits { length payload.now ≤ 65536 }
+    requires fits { length payload.now ≤ most_frame_bytes }
     ensures value { result.now ≡ chunk_of payload.now part }
     ensures some { 1 ≤ length result.now }
     ensures few { length result.now ≤ most_write_bytes }
-    ensures within { 128 * part + length result.now ≤ length payload.now }
+    ensures within { chunk_size * part + length result.now ≤ length payload.now }
 {
     let start = (CHUNK_SIZE * part) as usize;
     let rest = &payload[start..];

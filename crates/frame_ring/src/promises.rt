@@ -1,11 +1,12 @@
 //! The promises that a begin needs.
 
-ghost use Rattle.std.specs.Prelude.{◌≡◌, ◌+◌, ◌^◌, ◌<◌, ◌≤◌, OnOk, length};
+ghost use Rattle.std.specs.Prelude.{◌≡◌, ◌+◌, ◌<◌, ◌≤◌, OnOk, length};
+ghost use Rattle.step_kinds.specs.Limits.{most_frame_bytes};
 ghost use Rattle.bridge_pair.specs.Bridge.{pages_of, with_pages};
 ghost use Rattle.bridge_pair.specs.Pages.{PagesGrow};
 ghost use Rattle.byte_model.specs.Addresses.{own_header};
 ghost use Rattle.byte_model.specs.Headers.{flags_offset as offset_of_flags};
-ghost use Rattle.frame_ring.specs.Outgoing.{all_writes_in, most_numbers};
+ghost use Rattle.frame_ring.specs.Outgoing.{all_writes_in, most_numbers, most_writes_left};
 ghost use Rattle.frame_ring.specs.Promises.{AreEntriesPromised, IsEntryPromised, IsRangePromised, TouchesEntries, TouchesEntry, TouchesRange};
 ghost use Rattle.host_memory.specs.Memory.{ArePromised, Touches};
 ghost use Rattle.plan_model.specs.DeclaredPlans.{SizesFit};
@@ -103,9 +104,9 @@ impl QueueRings {
 /// How many writes the entries of a frame take.
 pub fn count_writes(frame: &Frame, largest: u32) -> usize
     requires some { 4 ≤ largest }
-    requires few { largest ≤ 65536 }
+    requires few { largest ≤ most_frame_bytes }
     ensures value { result ≡ all_writes_in (pieces_of largest frame.now) }
-    ensures small { result ≤ 2 ^ 30 }
+    ensures small { result ≤ most_writes_left }
 {
     let mut count = 0;
     for k in 0..pieces_in(largest, frame.len()) {

@@ -1,10 +1,10 @@
 //! What a side reads of its rings in its own memory.
 
-ghost use Rattle.std.specs.Prelude.{◌≡◌, ℕ, ◌+◌, ◌%◌, ◌*◌, ◌^◌, ◌<◌, ◌≤◌, nat_le};
+ghost use Rattle.std.specs.Prelude.{◌≡◌, ℕ, ◌+◌, ◌%◌, ◌*◌, ◌<◌, ◌≤◌, nat_le};
 ghost use Rattle.plan_numbers.specs.Memories.{memory_size};
 ghost use Rattle.byte_model.specs.Addresses.{own_address as address_in_window, own_header, own_index_word, own_slot};
 ghost use Rattle.byte_model.specs.Headers.{flags_offset as offset_of_flags, free_in_memory, header_in, index_word_in, word_at};
-ghost use Rattle.frame_ring.specs.Rings.{header_of};
+ghost use Rattle.frame_ring.specs.Rings.{header_of, address_limit};
 ghost use Rattle.frame_ring.specs.PortView.{bytes_seen};
 ghost use Rattle.plan_model.specs.DeclaredPlans.{SizesFit};
 ghost use Rattle.plan_model.specs.Plans.{side_plan as side_plan_of};
@@ -30,7 +30,7 @@ fn received_at(rings: &QueueRings, offset: u64) -> u64
     requires offset { offset ≤ (side_plan_of rings.now.plan rings.now.side).cap }
     ensures value { result ≡ address_in_window rings.now.plan rings.now.side rings.now.queue offset }
     ensures within { (len : ℕ) → offset + len ≤ (side_plan_of rings.now.plan rings.now.side).cap → result + len ≤ memory_size rings.now.plan rings.now.side }
-    ensures small { result < 2 ^ 62 }
+    ensures small { result < address_limit }
 {
     own_address(rings.plan(), rings.side(), rings.into_window(), offset)
 }
@@ -40,7 +40,7 @@ pub fn header_at(rings: &QueueRings, n: u64) -> u64
     requires { SizesFit rings.now.plan }
     ensures value { result ≡ own_header rings.now.plan rings.now.side rings.now.queue n }
     ensures within { result + bytes_of_header rings.now.plan ≤ memory_size rings.now.plan rings.now.side }
-    ensures small { result < 2 ^ 62 }
+    ensures small { result < address_limit }
 {
     let into = rings.into();
     received_at(rings, into.header_at(slot_in(into, n)))
@@ -51,7 +51,7 @@ pub fn slot_at(rings: &QueueRings, n: u64) -> u64
     requires { SizesFit rings.now.plan }
     ensures value { result ≡ own_slot rings.now.plan rings.now.side rings.now.queue n }
     ensures within { result + max_payload_of (layout_to rings.now.plan rings.now.side rings.now.queue) ≤ memory_size rings.now.plan rings.now.side }
-    ensures small { result < 2 ^ 62 }
+    ensures small { result < address_limit }
 {
     let into = rings.into();
     received_at(rings, into.slot_at(slot_in(into, n)))
@@ -115,7 +115,7 @@ pub fn followers(rings: &QueueRings, pair: &Pair, n: u64) -> u32
 /// The address of the index word of the lane that the side sends, which needn't lie in the side's memory.
 pub fn index_word_at(rings: &QueueRings) -> u64
     ensures value { result ≡ own_index_word rings.now.plan rings.now.side rings.now.queue }
-    ensures small { result < 2 ^ 62 }
+    ensures small { result < address_limit }
 {
     let into = rings.into();
     let cap = side_plan(rings.plan(), rings.side()).cap;

@@ -1,12 +1,13 @@
 //! The receiver's end: where it stands with the entry at hand.
 
-ghost use Rattle.std.specs.Prelude.{◌≡◌, ◌↔◌, ℕ, ◌+◌, ◌-◌, ◌*◌, ◌^◌, ◌<◌, ◌≤◌, ◌++◌, IfOk, IsTrue, OnErr, OnOk, length, min, true};
+ghost use Rattle.std.specs.Prelude.{◌≡◌, ◌↔◌, ℕ, ◌+◌, ◌-◌, ◌*◌, ◌<◌, ◌≤◌, ◌++◌, IfOk, IsTrue, OnErr, OnOk, length, min, true};
+ghost use Rattle.lane_model.specs.Lane.{chunk_size};
 ghost use Rattle.bridge_pair.specs.Bridge.{bytes_of};
 ghost use Rattle.byte_model.specs.Headers.{found_with};
 ghost use Rattle.frame_ring.specs.Calls.{last_got, look_found, part_answer, part_copied};
 ghost use Rattle.frame_ring.specs.Incoming.{next_part};
 ghost use Rattle.frame_ring.specs.Outgoing.{most_numbers};
-ghost use Rattle.frame_ring.specs.Rings.{header_of};
+ghost use Rattle.frame_ring.specs.Rings.{header_of, address_limit};
 ghost use Rattle.frame_ring.specs.Port.{nothing_received};
 ghost use Rattle.frame_ring.specs.PortView.{with_room};
 ghost use Rattle.frame_ring.specs.declared.RingLook.TheVariants.{Ready};
@@ -112,9 +113,9 @@ impl Receiver {
 
     /// Where the next part of the entry at hand begins in it, in bytes.
     pub fn part_offset(&self) -> u64
-        ensures value { result ≡ 128 * self.now.part }
+        ensures value { result ≡ chunk_size * self.now.part }
         ensures within { is_copying self.now.phase ≡ true → result + next_part self.now ≤ self.now.len }
-        ensures few { result < 2 ^ 62 }
+        ensures few { result < address_limit }
     {
         u64::from(CHUNK_SIZE) * u64::from(self.part)
     }

@@ -1,6 +1,7 @@
 //! The rings of one queue of one side.
 
-ghost use Rattle.std.specs.Prelude.{◌≡◌, ◌==◌, ◌+◌, ◌*◌, ◌%◌, ◌^◌, ◌<◌, ◌≤◌, IfOk};
+ghost use Rattle.std.specs.Prelude.{◌≡◌, ◌==◌, ◌+◌, ◌*◌, ◌%◌, ◌<◌, ◌≤◌, IfOk};
+ghost use Rattle.step_kinds.specs.Limits.{most_frame_bytes};
 ghost use Rattle.plan_numbers.specs.Memories.{memory_size};
 ghost use Rattle.byte_model.specs.Addresses.{own_address as own_address_of, own_header, own_index_word, own_slot};
 ghost use Rattle.byte_model.specs.Headers.{flags_offset as offset_of_flags};
@@ -153,7 +154,7 @@ impl QueueRings {
     /// The most bytes of a frame that is sent.
     pub fn most_sent(&self) -> u32
         ensures value { result ≡ (sizes_of self.now.plan self.now.side self.now.queue).most }
-        ensures few { result ≤ 65536 }
+        ensures few { result ≤ most_frame_bytes }
     {
         if self.speaks_five() {
             self.out.longest()
@@ -165,7 +166,7 @@ impl QueueRings {
     /// The most bytes of a frame that is received.
     pub fn most_received(&self) -> u32
         ensures value { result ≡ (sizes_in self.now.plan (layout_to self.now.plan self.now.side self.now.queue)).most }
-        ensures few { result ≤ 65536 }
+        ensures few { result ≤ most_frame_bytes }
     {
         if self.speaks_five() {
             self.into.longest()

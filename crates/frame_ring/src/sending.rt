@@ -1,8 +1,9 @@
 //! The sender's end: the frame under way, and which of its writes is next.
 
-ghost use Rattle.std.specs.Prelude.{◌≡◌, ◌↔◌, IfOk, IsTrue, ◌+◌, ◌-◌, ◌*◌, ◌^◌, ◌<◌, ◌≤◌, ◌∷◌, [], MatchOption, drop, length, not, take, true};
+ghost use Rattle.std.specs.Prelude.{◌≡◌, ◌↔◌, IfOk, IsTrue, ◌+◌, ◌-◌, ◌*◌, ◌<◌, ◌≤◌, ◌∷◌, [], MatchOption, drop, length, not, take, true};
+ghost use Rattle.step_kinds.specs.Limits.{most_frame_bytes};
 ghost use Rattle.frame_ring.specs.Calls.{entries_begun, first_label, let_go, next_begun, rest_of};
-ghost use Rattle.frame_ring.specs.Outgoing.{IsLabelOf, all_writes_in, count_left, entries_under, entry_at, label_by, most_numbers, with_progress, writes_in};
+ghost use Rattle.frame_ring.specs.Outgoing.{IsLabelOf, all_writes_in, count_left, entries_under, entry_at, label_by, most_numbers, with_progress, writes_in, most_writes_left};
 ghost use Rattle.frame_ring.specs.Port.{is_busy as is_busy_by, nothing_sent};
 ghost use Rattle.frame_ring.specs.Same.{IsSameSending};
 ghost use Rattle.lane_model.specs.Lane.{GoesDown, bytes_of, chunk_of, chunks_in, left_of};
@@ -36,7 +37,7 @@ impl Sender {
     /// A sender that has sent nothing.
     pub fn new(queue: u32, largest: u32) -> Sender
         requires some { 4 ≤ largest }
-        requires few { largest ≤ 65536 }
+        requires few { largest ≤ most_frame_bytes }
         ensures { result ≡ record { queue = queue; largest = largest; sending = nothing_sent } }
     {
         Sender {
@@ -121,7 +122,7 @@ impl Sender {
     /// How many.
     pub fn left(&self) -> usize
         ensures value { result ≡ count_left self.now }
-        ensures few { result ≤ 2 ^ 30 }
+        ensures few { result ≤ most_writes_left }
     {
         self.left
     }
@@ -152,7 +153,7 @@ impl Sender {
     pub fn payload(&self) -> &[u8]
         ensures value { result.now ≡ bytes_of self.now.sending.entry }
         ensures fits { length result.now ≤ self.now.largest }
-        ensures few { self.now.largest ≤ 65536 }
+        ensures few { self.now.largest ≤ most_frame_bytes }
     {
         payload_of(&self.frame, self.largest, self.piece)
     }
@@ -186,7 +187,7 @@ impl Sender {
     pub fn begin(&mut self, frame: Frame, left: usize)
         requires free { not (is_busy_by self.old.sending) ≡ true }
         requires writes { left ≡ all_writes_in (pieces_of self.old.largest frame) }
-        requires few { left ≤ 2 ^ 30 }
+        requires few { left ≤ most_writes_left }
         requires numbers { self.old.sending.begun + pieces_by self.old.largest (length frame) ≤ most_numbers }
         requires frames { self.old.sending.told < most_numbers }
         ensures { self.new ≡ with_progress self.old (record (entries_begun self.old.queue self.old.sending (pieces_of self.old.largest frame)) { told = self.old.sending.told + 1 }) }
@@ -238,8 +239,8 @@ pub fn has_numbers(begun: u64, more: u32, told: u64) -> bool
 pub fn piece_bytes(bytes: &[u8], largest: u32, piece: u32) -> &[u8]
     requires among { piece < pieces_by largest (length bytes.now) }
     requires some { 4 ≤ largest }
-    requires most { largest ≤ 65536 }
-    requires fits { length bytes.now ≤ 65536 }
+    requires most { largest ≤ most_frame_bytes }
+    requires fits { length bytes.now ≤ most_frame_bytes }
     ensures value { result.now ≡ take largest (drop (largest * piece) bytes.now) }
     ensures short { length result.now ≤ largest }
 {
@@ -253,8 +254,8 @@ pub fn piece_bytes(bytes: &[u8], largest: u32, piece: u32) -> &[u8]
 fn bytes_from(bytes: &[u8], largest: u32, piece: u32) -> &[u8]
     requires among { piece < pieces_by largest (length bytes.now) }
     requires some { 4 ≤ largest }
-    requires most { largest ≤ 65536 }
-    requires fits { length bytes.now ≤ 65536 }
+    requires most { largest ≤ most_frame_bytes }
+    requires fits { length bytes.now ≤ most_frame_bytes }
     ensures { result.now ≡ drop (largest * piece) bytes.now }
 {
     &bytes[largest as usize * piece as usize..]
@@ -271,7 +272,7 @@ fn have_same_entries(
     requires here { piece < length (entries_under largest one.now) }
     requires there { place < length (entries_under largest other.now) }
     requires some { 4 ≤ largest }
-    requires most { largest ≤ 65536 }
+    requires most { largest ≤ most_frame_bytes }
     ensures { IsTrue result ↔ (drop piece (entries_under largest one.now) ≡ drop place (entries_under largest other.now)) }
 {
     match (one, other) {
@@ -287,7 +288,7 @@ fn have_same_entries(
 fn payload_of(frame: &Option<Frame>, largest: u32, piece: u32) -> &[u8]
     requires among { piece < length (entries_under largest frame.now) }
     requires some { 4 ≤ largest }
-    requires most { largest ≤ 65536 }
+    requires most { largest ≤ most_frame_bytes }
     ensures value { result.now ≡ bytes_of (entry_at (entries_under largest frame.now) piece) }
     ensures fits { length result.now ≤ largest }
 {
@@ -301,7 +302,7 @@ fn payload_of(frame: &Option<Frame>, largest: u32, piece: u32) -> &[u8]
 fn writes_of(frame: &Option<Frame>, largest: u32, piece: u32) -> u32
     requires among { piece < length (entries_under largest frame.now) }
     requires some { 4 ≤ largest }
-    requires most { largest ≤ 65536 }
+    requires most { largest ≤ most_frame_bytes }
     ensures value { result ≡ writes_in (entry_at (entries_under largest frame.now) piece) }
     ensures few { result ≤ 516 }
 {

@@ -1,5 +1,6 @@
 -- What contracts see of a lane, and what its fields keep beside that.
 use Rattle.std.specs.Prelude.{◌≡◌, ℕ, ◌*◌, ◌^◌, ◌≤◌, Bool, List, length, map, take, vec_capacity, All}
+use Rattle.step_kinds.specs.Limits.{most_frame_bytes}
 use Rattle.lane_model.specs.Lane.{Lane, bytes_of, entry_of, chunk_size}
 use Rattle.lane_model.specs.Law.{HoldsRingLaw}
 use Rattle.lane_model.specs.declared.Phase.{Phase}
@@ -50,7 +51,7 @@ pub record Buffers (phase : Phase) (part : ℕ) (bytes copied : List ℕ) (capac
 -- room in flight for what is left to post
 pub record SendingStands (begun largest : ℕ) (strict : Bool) (left : ℕ) (flight : Flight PostedWrite) : Type 0 where
   pub few : begun ≤ 2 ^ 46
-  pub small : largest ≤ 65536
+  pub small : largest ≤ most_frame_bytes
   pub orders : All (λ (write : PostedWrite). write.strict ≡ strict) flight.writes
   pub room : left ≤ flight.spare
 

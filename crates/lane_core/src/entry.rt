@@ -1,6 +1,7 @@
 //! Entries of a lane.
 
 ghost use Rattle.std.specs.Prelude.{◌≡◌, ◌≤◌, length};
+ghost use Rattle.step_kinds.specs.Limits.{most_frame_bytes};
 ghost use Rattle.lane_model.specs.Lane.{bytes_of, chunks_in, flags_of};
 
 use crate::slot::{CHUNK, DONE, LINK_DOWN};
@@ -19,7 +20,7 @@ impl Entry {
     /// The bytes that it carries.
     pub fn bytes(&self) -> &[u8]
         ensures value { result.now ≡ bytes_of (entry_seen self.now) }
-        ensures fits { length result.now ≤ 65536 }
+        ensures fits { length result.now ≤ most_frame_bytes }
     {
         match self {
             Entry::Carries(frame) => frame.bytes(),

@@ -2,6 +2,7 @@
 
 ghost use Rattle.std.specs.Prelude.{◌≡◌, ◌+◌, ◌<◌, ◌≤◌, ◌^◌, length, vec_len, vec_capacity, false, IfOk, OnOk, OnErr};
 ghost use Rattle.std.specs.VecDeque.{deque_len, deque_capacity};
+ghost use Rattle.step_kinds.specs.Limits.{most_frame_bytes};
 ghost use Rattle.lane_laws.specs.Laws.{IsOpen};
 ghost use Rattle.lane_model.specs.Lane.{Carries, GoesDown, bytes_of, entry_of};
 ghost use Rattle.lane_model.specs.Law.{HoldsRingLaw};
@@ -73,7 +74,7 @@ impl Lane {
     ) -> Result<Lane, AllocError>
         requires two_entries { 2 ≤ entries }
         requires a_byte { 1 ≤ max }
-        requires fits { max ≤ 65536 }
+        requires fits { max ≤ most_frame_bytes }
         ensures fresh { IfOk result (λ lane. lane ≡ fresh_value queue strict entries max) }
         ensures law { IfOk result (λ lane. HoldsRingLaw lane.lane) }
     {

@@ -1,5 +1,6 @@
 //! The passes of the worker that sends.
 ghost use Rattle.std.specs.Prelude.{◌≡◌, ◌≢◌, ◌+◌, ◌≤◌, ◌<◌, ◌^◌, ◌++◌, [], length};
+ghost use Rattle.table_rule.specs.ShownLane.{most_lane_frames};
 ghost use Rattle.lane_workers.specs.Passes.{HaveBytes};
 
 use crate::idling::{Idling, Turn};
@@ -10,7 +11,7 @@ use table_lane::{SendAnswer, SendEnd};
 /// One turn: the first frame of `todo`, where there is one, is sent, or put back before the others where it is refused.
 fn send_turn(end: &mut SendEnd, todo: &mut FrameList) -> Turn
     requires bytes { HaveBytes todo.old.frames }
-    requires counted { length end.old.part.sent + length todo.old.frames < 2 ^ 62 }
+    requires counted { length end.old.part.sent + length todo.old.frames < most_lane_frames }
     ensures lane { end.new.lane ≡ end.old.lane }
     ensures entries { end.new.part.entries ≡ end.old.part.entries }
     ensures order { end.new.part.sent ++ todo.new.frames ≡ end.old.part.sent ++ todo.old.frames }
@@ -56,7 +57,7 @@ pub fn send_pass<G: Gate>(
     turns: u32,
 ) -> u32
     requires bytes { HaveBytes todo.old.frames }
-    requires counted { length end.old.part.sent + length todo.old.frames < 2 ^ 62 }
+    requires counted { length end.old.part.sent + length todo.old.frames < most_lane_frames }
     requires some { 1 ≤ turns }
     requires fits { first + turns < 2 ^ 64 }
     ensures lane { end.new.lane ≡ end.old.lane }

@@ -1,4 +1,4 @@
-mod Answered
 mod Headers
 mod LongFrames
 mod SameStations
+mod TestAnswers

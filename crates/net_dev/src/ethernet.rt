@@ -2,6 +2,7 @@
 //! device that it comes from, the kind of the payload, and the payload.
 
 ghost use Rattle.std.specs.Prelude.{IfErr, IfOk, IsErr, drop, length, ◌<◌, ◌↔◌, ◌≡◌, ◌≤◌};
+ghost use Rattle.step_kinds.specs.Limits.{most_frame_bytes};
 ghost use Rattle.plan_model.specs.Ethernet.{ethernet_frame, ethernet_header};
 
 use std::alloc::{AllocError, Global};
@@ -62,7 +63,7 @@ pub fn encode(
 ///
 /// [`Short`], with the number of bytes, exactly where these are fewer than 14.
 pub fn decode(bytes: &[u8]) -> Result<Header, Short>
-    requires { length bytes.now ≤ 65536 }
+    requires { length bytes.now ≤ most_frame_bytes }
     ensures exact { IsErr result ↔ (length bytes.now < ethernet_header) }
     ensures short { IfErr result (λ short. short.len ≡ length bytes.now) }
     ensures parts { IfOk result (λ header.

@@ -1,6 +1,6 @@
 -- What a script can declare, and the steps that such a plan permits.
 use Rattle.std.specs.Prelude.{◌≡◌, ℕ, ◌+◌, ◌*◌, ◌^◌, ◌<◌, ◌≤◌, ◌⊎◌, true, List, length, min, slice_index}
-use Rattle.step_kinds.specs.Limits.{most_pairs, most_devices, most_frame_bytes, IsQueues, IsWindows, IsSize, IsMtu, IsClass}
+use Rattle.step_kinds.specs.Limits.{most_pairs, most_devices, most_frame_bytes, IsQueues, IsWindows, IsSize, IsMtu, IsClass, most_poke_bytes}
 use Rattle.step_kinds.specs.Sides.{other_side}
 use Rattle.step_kinds.specs.declared.names.Side.{Side}
 use Rattle.step_kinds.specs.declared.plan.SidePlan.{SidePlan}
@@ -108,7 +108,7 @@ pub record IsPoke (pair : PairPlan) (side : Side) (window offset : ℕ) (bytes :
   pub raw : pair.raw ≡ true
   pub windows : (window < pair.a.windows) × (window < pair.b.windows)
   pub some : 0 < length bytes
-  pub few : length bytes ≤ 128
+  pub few : length bytes ≤ most_poke_bytes
   pub within : offset + length bytes ≤ min (side_plan pair side).size (side_plan pair (other_side side)).cap
 
 -- up to 64 bytes of a side's memory, which has its windows one after the other

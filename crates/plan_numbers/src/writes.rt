@@ -1,6 +1,7 @@
 //! The chunks, writes and entries of a frame.
 
 ghost use Rattle.std.specs.Prelude.{◌≡◌, ◌<◌, ◌≤◌, ◌+◌, ◌^◌};
+ghost use Rattle.step_kinds.specs.Limits.{most_frame_bytes};
 ghost use Rattle.lane_model.specs.Lane.{chunks_in};
 ghost use Rattle.plan_model.specs.DeclaredPlans.{IsPair};
 ghost use Rattle.plan_model.specs.Macros.{posts_in};
@@ -16,7 +17,7 @@ pub const CHUNK_SIZE: u32 = 128;
 
 /// How many chunks so many bytes are, at most 65,536.
 pub fn chunks_in(len: u32) -> u32
-    requires { len ≤ 65536 }
+    requires { len ≤ most_frame_bytes }
     ensures value { result ≡ chunks_in len }
     ensures few { result ≤ 512 }
 {
@@ -25,7 +26,7 @@ pub fn chunks_in(len: u32) -> u32
 
 /// How many writes the chunks, length, version, flags and doorbell of an entry of so many bytes are.
 pub fn writes_in(len: u32) -> u32
-    requires { len ≤ 65536 }
+    requires { len ≤ most_frame_bytes }
     ensures value { result ≡ chunks_in len + 4 }
     ensures few { result ≤ 516 }
 {
@@ -35,10 +36,10 @@ pub fn writes_in(len: u32) -> u32
 /// How many entries of so many bytes a frame takes: one at least.
 pub fn pieces_in(largest: u32, len: u32) -> u32
     requires some { 0 < largest }
-    requires small { largest ≤ 65536 }
-    requires len { len ≤ 65536 }
+    requires small { largest ≤ most_frame_bytes }
+    requires len { len ≤ most_frame_bytes }
     ensures value { result ≡ pieces_in largest len }
-    ensures few { result ≤ 65536 }
+    ensures few { result ≤ most_frame_bytes }
 {
     ((len + largest - 1) / largest).max(1)
 }
@@ -47,7 +48,7 @@ pub fn pieces_in(largest: u32, len: u32) -> u32
 pub fn posts_in(pair: &PairPlan, side: Side, queue: u32, len: u32) -> u32
     requires declared { IsPair pair.now }
     requires among { queue < (side_plan pair.now side).queues }
-    requires len { len ≤ 65536 }
+    requires len { len ≤ most_frame_bytes }
     ensures value { result ≡ posts_in pair.now side queue len }
     ensures few { result ≤ 2 ^ 28 }
 {

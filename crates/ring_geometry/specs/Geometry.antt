@@ -1,5 +1,6 @@
 -- The places of one queue's ring in a translation window. All divisions drop the rest.
 use Rattle.std.specs.Prelude.{ℕ, ◌+◌, ◌-◌, ◌*◌, ◌/◌, ◌%◌, ◌<◌, ◌≤◌, min, nat_lt, if◌then◌else◌}
+use Rattle.step_kinds.specs.Limits.{most_frame_bytes, most_mtu, most_queues, most_size, most_windows}
 
 -- the six numbers that all places of a ring follow from
 pub record Layout : Type 0 where
@@ -55,7 +56,7 @@ max_payload_of l = frame_size l - l.header
 
 -- the most bytes of a frame that may take several entries: those that are free in an empty ring, and 65,536 at most
 abbrev pub longest_of : Layout → ℕ
-longest_of l = min 65536 ((entries_of l - 1) * max_payload_of l)
+longest_of l = min most_frame_bytes ((entries_of l - 1) * max_payload_of l)
 
 -- where an entry begins in the window
 abbrev pub slot_of : Layout → ℕ → ℕ
@@ -78,10 +79,10 @@ pub record HasRing (l : Layout) : Type 0 where
 
 -- the limits of the numbers that a `Geometry` takes
 pub record FitsLimits (l : Layout) : Type 0 where
-  pub window_fits : l.window ≤ 268435456
-  pub windows_fit : l.windows ≤ 4
-  pub queues_fit : l.queues ≤ 16
-  pub mtu_fits : l.mtu ≤ 65536
+  pub window_fits : l.window ≤ most_size
+  pub windows_fit : l.windows ≤ most_windows
+  pub queues_fit : l.queues ≤ most_queues
+  pub mtu_fits : l.mtu ≤ most_mtu
   pub header_fits : l.header ≤ 16
 
 -- what every `Geometry` keeps

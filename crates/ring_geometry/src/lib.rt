@@ -8,6 +8,7 @@
 #![tactic(auto)]
 
 ghost use Rattle.std.specs.Prelude.{IsOk, IfOk, ◌%◌, ◌*◌, ◌+◌, ◌-◌, ◌/◌, ◌<◌, ◌^◌, ◌↔◌, ◌≡◌, ◌≤◌};
+ghost use Rattle.step_kinds.specs.Limits.{most_mtu, most_queues, most_size, most_windows};
 ghost use Rattle.lane_model.specs.Ring.{free_entries};
 ghost use Rattle.ring_geometry.specs.Geometry.{
   HasRing,
@@ -24,6 +25,7 @@ ghost use Rattle.ring_geometry.specs.Geometry.{
 };
 
 use std::marker::Model;
+use step_kinds::limits::MOST_FRAME_BYTES;
 use thiserror::Error;
 
 pub mod laws;
@@ -69,10 +71,10 @@ impl Geometry {
         mtu: u32,
         header: u32,
     ) -> Result<Geometry, BadGeometry>
-        requires window { window ≤ 268435456 }
-        requires windows { windows ≤ 4 }
-        requires queues { queues ≤ 16 }
-        requires mtu { mtu ≤ 65536 }
+        requires window { window ≤ most_size }
+        requires windows { windows ≤ most_windows }
+        requires queues { queues ≤ most_queues }
+        requires mtu { mtu ≤ most_mtu }
         requires header { header ≤ 16 }
         ensures made { IfOk result (λ g. g ≡ layout_with window windows queues queue mtu header) }
         ensures exact { IsOk result ↔ HasRing (layout_with window windows queues queue mtu header) }
@@ -138,7 +140,7 @@ impl Geometry {
     {
         (self.entries - 1)
             .saturating_mul(self.max_payload())
-            .min(65_536)
+            .min(MOST_FRAME_BYTES)
     }
 
     /// The number of the translation window that the ring lies in, from 0.

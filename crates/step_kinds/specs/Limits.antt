@@ -57,6 +57,10 @@ most_steps = 1000000
 abbrev pub most_frame_bytes : ℕ
 most_frame_bytes = 65536
 
+-- the bytes that a step writes past the transport
+abbrev pub most_poke_bytes : ℕ
+most_poke_bytes = 128
+
 -- the link sessions of a pair
 abbrev pub most_sessions : ℕ
 most_sessions = 65535

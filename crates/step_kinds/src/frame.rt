@@ -1,6 +1,7 @@
 //! Frames: what a lane carries.
 
 ghost use Rattle.std.specs.Prelude.{◌≡◌, ◌≤◌, ◌↔◌, [], length, vec_len, IfOk, IsTrue};
+ghost use Rattle.step_kinds.specs.Limits.{most_frame_bytes};
 
 use std::alloc::{AllocError, Global};
 use std::marker::Model;
@@ -14,7 +15,7 @@ pub struct Frame {
 impl Frame {
     /// The frame of these bytes, of which there are at most 65,536. It takes no memory.
     pub fn of_vec(bytes: Vec<u8>) -> Frame
-        requires { vec_len bytes ≤ 65536 }
+        requires { vec_len bytes ≤ most_frame_bytes }
         ensures { result ≡ bytes.items }
     {
         Frame { bytes }
@@ -23,7 +24,7 @@ impl Frame {
     /// The number of its bytes.
     pub fn len(&self) -> u32
         ensures value { result ≡ length self.now }
-        ensures fits { result ≤ 65536 }
+        ensures fits { result ≤ most_frame_bytes }
     {
         self.bytes.len() as u32
     }
@@ -38,7 +39,7 @@ impl Frame {
     /// Its bytes.
     pub fn bytes(&self) -> &[u8]
         ensures value { result.now ≡ self.now }
-        ensures fits { length result.now ≤ 65536 }
+        ensures fits { length result.now ≤ most_frame_bytes }
     {
         &self.bytes
     }
@@ -55,10 +56,11 @@ impl Frame {
 
 impl Model for Frame {
     ghost use Rattle.std.specs.Prelude.{ℕ, List, ◌≤◌, length};
+    ghost use Rattle.step_kinds.specs.Limits.{most_frame_bytes};
 
     ghost Value = { List ℕ };
 
     ghost view = { λ frame. frame.bytes.items };
 
-    ghost invariant = { λ frame. length frame.bytes.items ≤ 65536 };
+    ghost invariant = { λ frame. length frame.bytes.items ≤ most_frame_bytes };
 }

@@ -19,6 +19,7 @@ ghost use Rattle.step_kinds.specs.Limits.{
   most_hosts,
   most_mtu,
   most_pairs,
+  most_poke_bytes,
   most_ports,
   most_queues,
   most_script_bytes,
@@ -66,6 +67,8 @@ pub const MOST_SCRIPT_BYTES: usize = 16_777_216;
 pub const MOST_STEPS: usize = 1_000_000;
 /// The most bytes of a frame.
 pub const MOST_FRAME_BYTES: u32 = 65_536;
+/// The most bytes that a step writes past the transport.
+pub const MOST_POKE_BYTES: usize = 128;
 /// The most link sessions of a pair.
 pub const MOST_SESSIONS: u32 = 65_535;
 /// The most frames of the traffic of a script.
@@ -132,6 +135,7 @@ pub fn constants_are_limits()
     ensures script { MOST_SCRIPT_BYTES ≡ most_script_bytes }
     ensures steps { MOST_STEPS ≡ most_steps }
     ensures frame { MOST_FRAME_BYTES ≡ most_frame_bytes }
+    ensures poke { MOST_POKE_BYTES ≡ most_poke_bytes }
     ensures sessions { MOST_SESSIONS ≡ most_sessions }
     ensures traffic_frames { MOST_TRAFFIC_FRAMES ≡ most_traffic_frames }
     ensures traffic_bytes { MOST_TRAFFIC_BYTES ≡ most_traffic_bytes }

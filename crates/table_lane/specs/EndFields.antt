@@ -1,9 +1,10 @@
 -- The fields of the ends: what each end shows of its seat, and what is true of it between two calls.
-use Rattle.std.specs.Prelude.{◌≡◌, ◌≤◌, ◌+◌, ◌%◌, ◌^◌, ℕ, suc, false, List, [], ◌∷◌, length, Some}
+use Rattle.std.specs.Prelude.{◌≡◌, ◌≤◌, ◌+◌, ◌%◌, ℕ, suc, false, List, [], ◌∷◌, length, Some}
 use Rattle.std.specs.VecDeque.{deque_capacity}
 use Rattle.std.specs.Arc.{arc_value}
 use Rattle.table_rule.specs.declared.parts.LaneView.{LaneView}
 use Rattle.table_rule.specs.Views.{the_send, the_move, the_recv, the_back, the_cut}
+use Rattle.table_rule.specs.ShownLane.{most_lane_frames}
 use Rattle.table_lane.specs.Table.{IsTableOf}
 use Rattle.table_lane.specs.Ends.{Sender, send_only, Mover, move_only, Receiver, recv_only, WayBack, back_only, Cutter, cut_only}
 use Rattle.table_lane.specs.declared.board.Standing.{Standing}
@@ -32,7 +33,7 @@ pub record IsSendEnd (end : send.Inside) : Type 0 where
   pub alone : HasAlone (send_only (the_send end.at.seat.me.0)) (the_send end.at.seat.me.0).entries end.at
   pub claims : (the_send end.at.seat.me.0).claims ≡ false
   pub sent : length (the_send end.at.seat.me.0).sent ≡ end.sent
-  pub counted : end.sent ≤ 2 ^ 62
+  pub counted : end.sent ≤ most_lane_frames
 
 -- the slots that the mover has, with their frames, from entry n on
 abbrev pub slots_of : ℕ → ℕ → List (List ℕ) → List (ℕ × Content)
@@ -59,7 +60,7 @@ pub record IsMoveEnd (end : mover.Inside) : Type 0 where
   pub table : IsTableOf end.at.entries (arc_value end.at.table).shared.table_id (arc_value end.at.table).shared.key
   pub me : MovesWith end.at.entries end.flagged end.taken end.waiting.items end.at.seat.me
   pub room : end.at.entries ≤ deque_capacity end.waiting
-  pub counted : end.taken ≤ 2 ^ 62
+  pub counted : end.taken ≤ most_lane_frames
 
 abbrev pub receiver_of : recv.Inside → Receiver
 receiver_of end = record { lane = end.at.seat.table_id; part = the_recv end.at.seat.me.0 }
@@ -70,7 +71,7 @@ pub record IsRecvEnd (end : recv.Inside) : Type 0 where
   pub phase : (the_recv end.at.seat.me.0).phase ≡ Idle
   pub hand : (the_recv end.at.seat.me.0).hand ≡ []
   pub got : length (the_recv end.at.seat.me.0).got ≡ end.got
-  pub counted : end.got ≤ 2 ^ 62
+  pub counted : end.got ≤ most_lane_frames
   pub nothing_left : end.left.frames ≡ []
   pub room : end.at.entries ≤ end.left.spare + 1
 

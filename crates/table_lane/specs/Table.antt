@@ -2,6 +2,7 @@
 use Rattle.std.specs.Prelude.{◌≡◌, ◌≤◌, ℕ}
 use Rattle.atomic_table.specs.Seated.{TableId}
 use Rattle.atomic_table.specs.declared.shared.Seat.{Seat}
+use Rattle.step_kinds.specs.Limits.{most_traffic_entries}
 use Rattle.table_rule.specs.declared.parts.LaneView.{LaneView}
 use Rattle.table_rule.specs.Plays.{Tells}
 use Rattle.table_rule.specs.Rule.{Content}
@@ -13,7 +14,7 @@ pub record IsTableOf (N : ℕ) (id : TableId) (about : ℕ) : Type 0 where
   pub slots : id.slots ≡ N
   pub key : about ≡ N
   pub two : 2 ≤ N
-  pub small : N ≤ 65535
+  pub small : N ≤ most_traffic_entries
 
 -- after a step that loads or stores this word a seat is at its table still, and is as the step tells
 pub record StepTells (told : Tells) (before : Seat Content LaneView) (word : ℕ) (after : Seat Content LaneView) : Type 0 where

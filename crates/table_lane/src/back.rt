@@ -1,6 +1,7 @@
 //! The way back, and the cut.
 ghost use Rattle.std.specs.Prelude.{◌≡◌, ◌+◌, ◌-◌, ◌%◌, ◌≤◌, ◌<◌, ◌^◌};
-ghost use Rattle.table_rule.specs.ShownLane.{number_at};
+ghost use Rattle.step_kinds.specs.Limits.{most_traffic_entries};
+ghost use Rattle.table_rule.specs.ShownLane.{number_at, most_lane_frames};
 ghost use Rattle.table_rule.specs.LaneNames.{tail_of};
 ghost use Rattle.table_rule.specs.Knowledge.{link_cut};
 ghost use Rattle.table_lane.specs.RecvAnswers.{GivesBack};
@@ -37,7 +38,7 @@ pub enum BackAnswer {
 
 // The position of the last entry that was given back.
 fn tail_of(entries: u64, freed: u64) -> u64
-    requires { (2 ≤ entries) × (entries ≤ 65535) × (freed ≤ 2 ^ 62) }
+    requires { (2 ≤ entries) × (entries ≤ most_traffic_entries) × (freed ≤ most_lane_frames) }
     ensures { result ≡ tail_of entries freed }
 {
     (freed + entries - 1) % entries
@@ -45,7 +46,7 @@ fn tail_of(entries: u64, freed: u64) -> u64
 
 // The number of the entry from `freed` on at this position.
 fn number_at(entries: u64, freed: u64, position: u64) -> u64
-    requires { (2 ≤ entries) × (entries ≤ 65535) × (freed ≤ 2 ^ 62) × (position < entries) }
+    requires { (2 ≤ entries) × (entries ≤ most_traffic_entries) × (freed ≤ most_lane_frames) × (position < entries) }
     ensures value { result ≡ number_at entries freed position }
     ensures small { result < 2 ^ 63 }
 {

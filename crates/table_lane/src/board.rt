@@ -1,6 +1,7 @@
 //! The table of a lane, and the numbers of its words.
 ghost use Rattle.std.specs.Prelude.{◌≡◌, ◌≤◌, ◌<◌, IfOk};
 ghost use Rattle.std.specs.Arc.{arc_value};
+ghost use Rattle.step_kinds.specs.Limits.{most_traffic_entries};
 ghost use Rattle.table_rule.specs.Words.{posted_word, header_word, flag_word, index_out_word, index_word, link_word, header_of};
 
 use atomic_table::{Seat, Shared, Table};
@@ -55,7 +56,7 @@ pub(crate) fn header_of(n: u64) -> u64
 
 /// The word that the sender stores for entry `n`.
 pub(crate) fn posted_word(entries: u64, n: u64) -> usize
-    requires { (2 ≤ entries) × (entries ≤ 65535) }
+    requires { (2 ≤ entries) × (entries ≤ most_traffic_entries) }
     ensures { result ≡ posted_word entries n }
 {
     (n % entries) as usize
@@ -63,7 +64,7 @@ pub(crate) fn posted_word(entries: u64, n: u64) -> usize
 
 /// The word that the mover stores for entry `n`.
 pub(crate) fn header_word(entries: u64, n: u64) -> usize
-    requires { (2 ≤ entries) × (entries ≤ 65535) }
+    requires { (2 ≤ entries) × (entries ≤ most_traffic_entries) }
     ensures { result ≡ header_word entries n }
 {
     (entries + n % entries) as usize
@@ -71,7 +72,7 @@ pub(crate) fn header_word(entries: u64, n: u64) -> usize
 
 /// The word of the flag of entry `n`.
 pub(crate) fn flag_word(entries: u64, n: u64) -> usize
-    requires { (2 ≤ entries) × (entries ≤ 65535) }
+    requires { (2 ≤ entries) × (entries ≤ most_traffic_entries) }
     ensures { result ≡ flag_word entries n }
 {
     (2 * entries + n % entries) as usize
@@ -79,7 +80,7 @@ pub(crate) fn flag_word(entries: u64, n: u64) -> usize
 
 /// The word in which the receiver says how far it has given back.
 pub(crate) fn index_out_word(entries: u64) -> usize
-    requires { entries ≤ 65535 }
+    requires { entries ≤ most_traffic_entries }
     ensures { result ≡ index_out_word entries }
 {
     (3 * entries) as usize
@@ -87,7 +88,7 @@ pub(crate) fn index_out_word(entries: u64) -> usize
 
 /// The word in which the sender reads it.
 pub(crate) fn index_word(entries: u64) -> usize
-    requires { entries ≤ 65535 }
+    requires { entries ≤ most_traffic_entries }
     ensures { result ≡ index_word entries }
 {
     (3 * entries + 1) as usize
@@ -95,7 +96,7 @@ pub(crate) fn index_word(entries: u64) -> usize
 
 /// The word that says whether the link is cut.
 pub(crate) fn link_word(entries: u64) -> usize
-    requires { entries ≤ 65535 }
+    requires { entries ≤ most_traffic_entries }
     ensures { result ≡ link_word entries }
 {
     (3 * entries + 2) as usize

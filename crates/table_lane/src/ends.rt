@@ -1,6 +1,7 @@
 //! A lane is made: one table, and an end for each part.
 ghost use Rattle.std.specs.Prelude.{◌≡◌, ◌≤◌, ◌<◌, [], IfOk};
 ghost use Rattle.std.specs.Arc.{arc_value};
+ghost use Rattle.step_kinds.specs.Limits.{most_traffic_entries};
 ghost use Rattle.table_rule.specs.Views.{all_parts, OfMover, OfReceiver, OfWayBack, OfCut, without, alone};
 ghost use Rattle.table_rule.specs.Words.{first_words, words_of};
 ghost use Rattle.table_lane.specs.NewEnds.{AreNew};
@@ -28,7 +29,7 @@ type FourTables = (
 
 // The words of a new table: all 0, but both indices name the last position.
 fn start_words(alloc: Global, entries: u64) -> Result<Vec<u64>, AllocError>
-    requires { (2 ≤ entries) × (entries ≤ 65535) }
+    requires { (2 ≤ entries) × (entries ≤ most_traffic_entries) }
     ensures { IfOk result (λ words. words.items ≡ words_of (first_words entries)) }
 {
     let mut words = vec![in alloc; 0; (3 * entries) as usize]?;
@@ -40,7 +41,7 @@ fn start_words(alloc: Global, entries: u64) -> Result<Vec<u64>, AllocError>
 
 // A table that shows a new lane, and the seat with all its parts.
 fn new_table(alloc: Global, entries: u64) -> Result<(LaneTable, LaneSeat), AllocError>
-    requires { (2 ≤ entries) × (entries ≤ 65535) }
+    requires { (2 ≤ entries) × (entries ≤ most_traffic_entries) }
     ensures { IfOk result (λ t. IsTableOf entries t.0.shared.table_id t.0.shared.key × (t.1.table_id ≡ t.0.shared.table_id) × (t.1.me ≡ (all_parts entries, []))) }
 {
     let words = start_words(alloc, entries)?;
@@ -49,7 +50,7 @@ fn new_table(alloc: Global, entries: u64) -> Result<(LaneTable, LaneSeat), Alloc
 
 // An empty list with room for so many frames.
 fn room_for(alloc: Global, entries: u64) -> Result<FrameList, AllocError>
-    requires { entries ≤ 65535 }
+    requires { entries ≤ most_traffic_entries }
     ensures { IfOk result (λ list. (list.frames ≡ []) × (list.spare ≡ entries)) }
 {
     let mut list = FrameList::new(alloc);
@@ -91,7 +92,7 @@ pub fn make(
     alloc: Global,
     entries: u32,
 ) -> Result<(SendEnd, MoveEnd, RecvEnd, BackEnd, CutEnd), AllocError>
-    requires { (2 ≤ entries) × (entries ≤ 65535) }
+    requires { (2 ≤ entries) × (entries ≤ most_traffic_entries) }
     ensures { IfOk result (λ ends. AreNew entries ends.0 ends.1 ends.2 ends.3 ends.4) }
 {
     let entries = u64::from(entries);

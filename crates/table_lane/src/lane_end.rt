@@ -1,6 +1,7 @@
 //! The end of a lane: its five ends become one, and what is left in the ring comes out.
-ghost use Rattle.std.specs.Prelude.{◌≡◌, ◌≤◌, ◌<◌, ◌+◌, ◌++◌, ◌^◌, [], length, IfSome, MatchBool};
+ghost use Rattle.std.specs.Prelude.{◌≡◌, ◌≤◌, ◌<◌, ◌+◌, ◌++◌, [], length, IfSome, MatchBool};
 ghost use Rattle.table_rule.specs.Views.{joined, the_send, the_move, the_recv, the_cut};
+ghost use Rattle.table_rule.specs.ShownLane.{most_lane_frames};
 ghost use Rattle.table_lane.specs.Table.{IsTableOf};
 ghost use Rattle.table_lane.specs.NewEnds.{AreOfOneLane};
 ghost use Rattle.table_lane.specs.RecvAnswers.{IsReady};
@@ -56,7 +57,7 @@ fn move_next(board: &Board, seat: &mut LaneSeat, entries: u64, number: u64) -> b
     ensures table { seat.new.table_id ≡ seat.old.table_id }
     ensures parts { HasAll seat.new.me × OthersStay seat.old.me.0 seat.new.me.0 × (the_recv seat.new.me.0 ≡ the_recv seat.old.me.0) }
     ensures moved { MatchBool result
-        ((number < length (the_send seat.old.me.0).sent) × (number < 2 ^ 62) × MovesNext entries (number + 1) (the_move seat.new.me.0))
+        ((number < length (the_send seat.old.me.0).sent) × (number < most_lane_frames) × MovesNext entries (number + 1) (the_move seat.new.me.0))
         ((length (the_send seat.old.me.0).sent ≤ number) × (length (the_send seat.old.me.0).sent + 1 ≤ length (the_recv seat.old.me.0).got + entries) × MovesNext entries number (the_move seat.new.me.0)) }
 {
     if load_posted(board, seat, entries, number) != header_of(number) {

@@ -1,7 +1,8 @@
 //! The receiver's end.
-ghost use Rattle.std.specs.Prelude.{◌≡◌, ◌≤◌, ◌<◌, ◌^◌, ℕ, length, take, MatchOption, IfSome, IfNone};
+ghost use Rattle.std.specs.Prelude.{◌≡◌, ◌≤◌, ◌<◌, ℕ, length, take, MatchOption, IfSome, IfNone};
 ghost use Rattle.table_rule.specs.Views.{HasRecv, the_recv};
 ghost use Rattle.table_rule.specs.LaneNames.{Idle};
+ghost use Rattle.table_rule.specs.ShownLane.{most_lane_frames};
 ghost use Rattle.table_lane.specs.Table.{IsTableOf};
 ghost use Rattle.table_lane.specs.RecvAnswers.{Receives, IsReady, NothingCame, FrameCame};
 
@@ -41,7 +42,7 @@ pub(crate) fn receive(
     requires table { (seat.old.table_id ≡ board.now.table_id) × IsTableOf entries board.now.table_id board.now.key }
     requires part { HasRecv seat.old.me.0 × IsReady entries number (the_recv seat.old.me.0) }
     ensures table { seat.new.table_id ≡ seat.old.table_id }
-    ensures knows { MatchOption result ((found : ℕ) × NothingCame seat.old.me found seat.new.me) (λ frame. (number < 2 ^ 62) × FrameCame seat.old.me frame seat.new.me) }
+    ensures knows { MatchOption result ((found : ℕ) × NothingCame seat.old.me found seat.new.me) (λ frame. (number < most_lane_frames) × FrameCame seat.old.me frame seat.new.me) }
     ensures begins { IfSome seat.old.me.0.send (λ send. (the_recv seat.new.me.0).got ≡ take (length (the_recv seat.new.me.0).got) send.sent) }
     ensures comes { IfNone result (IfSome seat.old.me.0.mover (λ mover. mover.flagged ≤ number)) }
 {

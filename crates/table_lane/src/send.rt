@@ -1,6 +1,8 @@
 //! The sender's end.
-ghost use Rattle.std.specs.Prelude.{◌≡◌, ◌≢◌, ◌<◌, ◌^◌, ◌≤◌, [], length};
+ghost use Rattle.std.specs.Prelude.{◌≡◌, ◌≢◌, ◌<◌, ◌≤◌, [], length};
+ghost use Rattle.step_kinds.specs.Limits.{most_traffic_entries};
 ghost use Rattle.table_rule.specs.LaneNames.{free_entries};
+ghost use Rattle.table_rule.specs.ShownLane.{most_lane_frames};
 ghost use Rattle.table_lane.specs.SendAnswers.{Sends};
 
 use crate::board::{CUT, Standing};
@@ -31,7 +33,7 @@ pub enum SendAnswer {
 
 // The free entries, as head and index word show them.
 fn free_entries(entries: u64, head: u64, tail: u64) -> u64
-    requires { (head < entries) × (tail < entries) × (entries ≤ 65535) }
+    requires { (head < entries) × (tail < entries) × (entries ≤ most_traffic_entries) }
     ensures { result ≡ free_entries entries head tail }
 {
     if head <= tail {
@@ -47,7 +49,7 @@ impl SendEnd {
     /// once where the link isn't cut; which answer comes is decided by these loads.
     pub fn send(&mut self, frame: Frame) -> SendAnswer
         requires byte { frame ≢ [] }
-        requires counted { length self.old.part.sent < 2 ^ 62 }
+        requires counted { length self.old.part.sent < most_lane_frames }
         ensures lane { self.new.lane ≡ self.old.lane }
         ensures sends { Sends self.old.part frame result self.new.part }
     {

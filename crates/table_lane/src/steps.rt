@@ -1,13 +1,15 @@
 //! The atomic steps, each over the shared table and a seat that has the part which the step needs, whatever other
 //! parts it has.
-ghost use Rattle.std.specs.Prelude.{◌≡◌, ◌≢◌, ℕ, ◌+◌, ◌-◌, ◌%◌, ◌^◌, ◌≤◌, ◌<◌, List, [], ◌∷◌, false, true, length, slice_index_or, Some, None, drop};
+ghost use Rattle.std.specs.Prelude.{◌≡◌, ◌≢◌, ℕ, ◌+◌, ◌-◌, ◌%◌, ◌≤◌, ◌<◌, List, [], ◌∷◌, false, true, length, slice_index_or, Some, None, drop};
 ghost use Rattle.atomic_table.specs.Table.{rest};
+ghost use Rattle.step_kinds.specs.Limits.{most_frame_bytes};
 ghost use Rattle.table_rule.specs.LaneNames.{Idle, Copying, Copied, Cleared, tail_of};
 ghost use Rattle.table_rule.specs.Views.{Bytes, HasSend, HasMove, HasRecv, HasBack, HasCut, the_send, the_move, the_recv, the_back, the_cut, with_send, with_move};
 ghost use Rattle.table_rule.specs.Knowledge.{frame_sent, header_stored, taken};
 ghost use Rattle.table_rule.specs.Rule.{Content};
 ghost use Rattle.table_rule.specs.Plays.{sees_link, sees_index, stores_posted, sees_posted, stores_flag, sees_flag, copies_frame, clears_flag, stores_index_out, sees_index_out, stores_index, cuts_link};
 ghost use Rattle.table_rule.specs.Words.{cut_word};
+ghost use Rattle.table_rule.specs.ShownLane.{most_lane_frames};
 ghost use Rattle.table_lane.specs.Table.{IsTableOf, StepTells};
 
 use crate::board::{
@@ -41,9 +43,9 @@ pub(crate) fn load_index(table: &Board, seat: &mut LaneSeat, entries: u64) -> u6
 // The sender puts a frame into the slot that it has, and stores the posted header of entry `n`.
 pub(crate) fn post_frame(table: &Board, seat: &mut LaneSeat, entries: u64, n: u64, frame: Frame)
     requires table { (seat.old.table_id ≡ table.now.table_id) × IsTableOf entries table.now.table_id table.now.key }
-    requires part { HasSend seat.old.me.0 × ((the_send seat.old.me.0).claims ≡ true) × (n ≡ length (the_send seat.old.me.0).sent) × (n < 2 ^ 62) }
+    requires part { HasSend seat.old.me.0 × ((the_send seat.old.me.0).claims ≡ true) × (n ≡ length (the_send seat.old.me.0).sent) × (n < most_lane_frames) }
     requires slot { seat.old.me.1 ≡ (n % entries, None) ∷ rest seat.old.me.1 }
-    requires frame { length frame ≤ 65536 }
+    requires frame { length frame ≤ most_frame_bytes }
     ensures table { seat.new.table_id ≡ seat.old.table_id }
     ensures knows { seat.new.me ≡ (with_send seat.old.me.0 (frame_sent (the_send seat.old.me.0) frame), rest seat.old.me.1) }
 {

@@ -1,14 +1,15 @@
 -- Each kind of step on the table: where it may be made, which steps of the lane it is, and that the table then shows
 -- the lane after them. Loads alone change neither words nor slots nor the lane, but that a slot may go to the seat
 -- that loads.
-use Rattle.std.specs.Prelude.{◌≡◌, ◌≢◌, ℕ, ◌+◌, ◌-◌, ◌%◌, ◌^◌, ◌<◌, ◌≤◌, Bool, true, false, List, [], ◌∷◌, ◌++◌, length, slice_index, slice_index_or, slice_set, replicate, Some}
+use Rattle.std.specs.Prelude.{◌≡◌, ◌≢◌, ℕ, ◌+◌, ◌-◌, ◌%◌, ◌<◌, ◌≤◌, Bool, true, false, List, [], ◌∷◌, ◌++◌, length, slice_index, slice_index_or, slice_set, replicate, Some}
 use mathlib.Core.Option.{some}
 use lib.ListN.{get_elem?}
+use Rattle.step_kinds.specs.Limits.{most_frame_bytes}
 use Rattle.table_rule.specs.LaneNames.{Lane, entry_of, done, free_entries, head_of, tail_of, Idle, Copying, Copied, Cleared}
 use Rattle.table_rule.specs.Words.{AreSized, header_of, cut_word}
 use Rattle.table_rule.specs.Views.{Bytes}
 use Rattle.table_rule.specs.Borders.{Slots, empty, out, full}
-use Rattle.table_rule.specs.ShownLane.{number_at}
+use Rattle.table_rule.specs.ShownLane.{number_at, most_lane_frames}
 use Rattle.table_rule.specs.Moment.{Moment, ShowsLane}
 use Rattle.table_rule.specs.LaneNames.{Look, Copy, Clear, Acknowledge, Runs}
 use Rattle.table_rule.specs.LaneSteps.{send_steps, header_steps, flag_steps, index_steps}
@@ -20,7 +21,7 @@ Claims = (N : ℕ) (m : Moment) (slots : Slots) → m.send.claims ≡ false → 
 
 -- it stores the posted header, and the slot is home with the frame
 abbrev pub Sends : Type 0
-Sends = (N : ℕ) (m : Moment) (slots : Slots) (frame : Bytes) → m.send.claims ≡ true → length frame ≤ 65536 → length m.send.sent < 2 ^ 62 → AreSized N m.words → ShowsLane N m slots
+Sends = (N : ℕ) (m : Moment) (slots : Slots) (frame : Bytes) → m.send.claims ≡ true → length frame ≤ most_frame_bytes → length m.send.sent < most_lane_frames → AreSized N m.words → ShowsLane N m slots
     → (lane : Lane) × Runs (send_steps (length m.lane.sent) frame) m.lane lane
     × ShowsLane N
     (record m { words = record m.words { posted = slice_set m.words.posted (length m.send.sent % N) (header_of (length m.send.sent)) }; lane = lane; send = record m.send { sent = m.send.sent ++ frame ∷ []; claims = false } })

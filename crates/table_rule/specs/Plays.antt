@@ -4,7 +4,7 @@ use Rattle.atomic_table.specs.Table.{rest}
 use Rattle.table_rule.specs.LaneNames.{done, version_of}
 use Rattle.table_rule.specs.Words.{header_of}
 use Rattle.table_rule.specs.Views.{Bytes, SendPart, MovePart, RecvPart, the_send, the_move, the_recv, the_back, the_cut, with_send, with_move, with_recv, with_back, with_cut}
-use Rattle.table_rule.specs.ShownLane.{number_at}
+use Rattle.table_rule.specs.ShownLane.{number_at, most_lane_frames}
 use Rattle.table_rule.specs.Rule.{Content, Sitter}
 use Rattle.table_rule.specs.Knowledge.{link_loaded, index_loaded, head, free_by, slot_claimed, frame_sent, taken, posted_loaded, frame_taken, header_stored, flag_stored, flag_loaded, frame_found, frame_copied, flag_cleared, acknowledged, index_out_loaded, index_stored, link_cut}
 
@@ -47,7 +47,7 @@ sees_posted before found after =
     MatchBool (found == header_of (taken part))
     ((frame : Bytes)
     × (after ≡ (with_move before.0 (frame_taken (posted_loaded part found) frame), (taken part % part.entries, Some frame) ∷ before.1))
-    × (taken part < 2 ^ 62) × (length part.held + 2 ≤ part.entries))
+    × (taken part < most_lane_frames) × (length part.held + 2 ≤ part.entries))
     (after ≡ (with_move before.0 (posted_loaded part found), before.1))
     × IfSome before.0.send (KnowsSent part found before.0.recv)
 
@@ -68,7 +68,7 @@ sees_flag before found after =
     MatchBool (found == done)
     ((frame : Bytes)
     × (after ≡ (with_recv before.0 (frame_found (flag_loaded part found) frame), (length part.got % part.entries, Some frame) ∷ before.1))
-    × (length part.got < 2 ^ 62))
+    × (length part.got < most_lane_frames))
     (after ≡ (with_recv before.0 (flag_loaded part found), before.1))
     × IfSome before.0.mover (λ mover. length part.got < mover.flagged → found ≡ done)
     × IfSome before.0.send (λ send. part.got ≡ take (length part.got) send.sent)
@@ -89,7 +89,7 @@ stores_index_out before found after = after ≡ (with_recv before.0 (acknowledge
 abbrev pub sees_index_out : Tells
 sees_index_out before found after =
     let part = the_back before.0 in
-    (after ≡ (with_back before.0 (index_out_loaded part found), before.1)) × (found < part.entries) × (part.freed ≤ 2 ^ 62)
+    (after ≡ (with_back before.0 (index_out_loaded part found), before.1)) × (found < part.entries) × (part.freed ≤ most_lane_frames)
 
 abbrev pub stores_index : Tells
 stores_index before found after = after ≡ (with_back before.0 (index_stored (the_back before.0)), before.1)

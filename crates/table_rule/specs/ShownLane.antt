@@ -1,5 +1,6 @@
 -- The lane that a table shows: words, slots and parts on one side, a lane of the model on the other.
 use Rattle.std.specs.Prelude.{◌≡◌, ℕ, suc, ◌+◌, ◌-◌, ◌%◌, ◌^◌, ◌<◌, ◌≤◌, Bool, true, false, List, [], ◌∷◌, ◌++◌, length, map, take, drop, slice_index, slice_index_or, if◌then◌else◌, ◌⊎◌}
+use Rattle.step_kinds.specs.Limits.{most_frame_bytes, most_traffic_entries}
 use Rattle.table_rule.specs.LaneNames.{tail_of, Entry, entry_of_frame, Write, Flag, Bell, data_of, Slot, Lane, HoldsRingLaw, Phase, Idle, Copying, Copied, Cleared}
 use Rattle.table_rule.specs.Words.{Words, header_of, cut_word}
 use Rattle.table_rule.specs.Views.{Bytes}
@@ -14,10 +15,10 @@ in_flight n stored (entry ∷ entries) = (if slice_index_or stored 0 false then 
 -- a ring of N entries that is never cut: a cut word refuses frames, and all else goes on
 pub record IsLaneOf (N : ℕ) (lane : Lane) : Type 0 where
   pub entries : lane.entries ≡ N
-  pub largest : lane.largest ≡ 65536
+  pub largest : lane.largest ≡ most_frame_bytes
   pub up : lane.up ≡ true
   pub todo : lane.todo ≡ []
-  pub small : N ≤ 65535
+  pub small : N ≤ most_traffic_entries
 
 -- the counts, the frames and the list in flight of the lane are those of the parts
 pub record PartsSay (lane : Lane) (sent : List Bytes) (flagged : ℕ) (stored : List Bool) (got : ℕ) (phase : Phase) (freed : ℕ) : Type 0 where
@@ -72,10 +73,14 @@ pub record GotStands (sent got hand : List Bytes) (phase : Phase) : Type 0 where
 abbrev pub claimed_by : ℕ → Bool → ℕ
 claimed_by sent claims = sent + (if claims then 1 else 0)
 
+-- no count of the frames of a lane is more than this
+abbrev pub most_lane_frames : ℕ
+most_lane_frames = 2 ^ 62
+
 -- one entry stays free
 pub record RoomStands (N : ℕ) (sent : ℕ) (claims : Bool) (freed : ℕ) : Type 0 where
   pub one_free : claimed_by sent claims + 1 ≤ freed + N
-  pub counted : sent ≤ 2 ^ 62
+  pub counted : sent ≤ most_lane_frames
 
 abbrev pub borders_of : ℕ → ℕ → ℕ → ℕ → ℕ → ℕ → Bool → Borders
 borders_of freed cleared looked flagged taken sent claims =

@@ -1,4 +1,4 @@
-use Rattle.frame_ring.proofs.Finding.{on_err}
+use Rattle.frame_ring.proofs.PromisesOfLook.{on_err}
 use Rattle.frame_ring.proofs.NextNumber.{begin_told}
 use Rattle.frame_ring.proofs.port.Port.begin.Goals as goal
 

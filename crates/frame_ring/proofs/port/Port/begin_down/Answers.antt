@@ -12,7 +12,7 @@ use Rattle.frame_ring.specs.Port.{PortState, Sending, is_busy, unused_of, with_s
 use Rattle.frame_ring.specs.Ports.{port_seen}
 use Rattle.frame_ring.specs.PortView.{HasPagesIn, TouchesLeft, with_room}
 use Rattle.lane_model.specs.Lane.{GoesDown}
-use Rattle.frame_ring.proofs.Beginning.{Begins, begins_pages, begins_ready, begins_rest, down_begins, down_grows, down_sent, rest_kept}
+use Rattle.frame_ring.proofs.PromisesOfBegin.{Begins, begins_pages, begins_ready, begins_rest, down_begins, down_grows, down_sent, rest_kept}
 use Rattle.frame_ring.proofs.FoundEntries.{pages_same}
 use Rattle.frame_ring.proofs.port.Port.begin_down.Goals as goal
 use Rattle.frame_ring.proofs.port.Port.begin_down.Goals.{After-down}

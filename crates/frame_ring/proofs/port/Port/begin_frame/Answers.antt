@@ -14,7 +14,7 @@ use Rattle.frame_ring.specs.Outgoing.{Outgoing, all_writes_in, most_numbers}
 use Rattle.frame_ring.specs.Port.{PortState, Sending, is_busy, unused_of, with_sending, writes_left}
 use Rattle.frame_ring.specs.Ports.{port_seen}
 use Rattle.frame_ring.specs.PortView.{HasPagesIn, TouchesLeft, with_room}
-use Rattle.frame_ring.proofs.Beginning.{Begins, begins_pages, begins_ready, begins_rest, frame_begins, frame_grows, frame_sent, pieces_seen, rest_kept}
+use Rattle.frame_ring.proofs.PromisesOfBegin.{Begins, begins_pages, begins_ready, begins_rest, frame_begins, frame_grows, frame_sent, pieces_seen, rest_kept}
 use Rattle.frame_ring.proofs.FoundEntries.{pages_same}
 use Rattle.frame_ring.proofs.port.Port.begin_frame.Goals as goal
 use Rattle.frame_ring.proofs.port.Port.begin_frame.Goals.{After-begin}

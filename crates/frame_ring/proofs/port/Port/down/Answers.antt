@@ -1,4 +1,4 @@
-use Rattle.frame_ring.proofs.Finding.{on_err}
+use Rattle.frame_ring.proofs.PromisesOfLook.{on_err}
 use Rattle.frame_ring.proofs.NextNumber.{down_told, down_touches}
 use Rattle.frame_ring.proofs.port.Port.down.Goals as goal
 

@@ -4,7 +4,7 @@ use Rattle.frame_ring.specs.Calls.{look_answer}
 use Rattle.frame_ring.specs.Port.{PortState}
 use Rattle.frame_ring.specs.Ports.{port_seen}
 use Rattle.frame_ring.specs.declared.RingLook.TheVariants.{Ready}
-use Rattle.frame_ring.proofs.Finding.{entry_fits, flags_touch, look_touches}
+use Rattle.frame_ring.proofs.PromisesOfLook.{entry_fits, flags_touch, look_touches}
 use Rattle.frame_ring.proofs.port.Port.find.Goals as goal
 
 pub stand_at-requires-clause-fits : goal.stand_at-requires-clause-fits

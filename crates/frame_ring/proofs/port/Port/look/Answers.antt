@@ -14,7 +14,7 @@ use Rattle.frame_ring.specs.Ports.{port_seen}
 use Rattle.frame_ring.specs.Rings.{header_of}
 use Rattle.frame_ring.specs.PortView.{bytes_seen}
 use Rattle.frame_ring.specs.declared.RingLook.TheVariants.{Ready}
-use Rattle.frame_ring.proofs.Finding.{finds, flags_touch, look_touches, on_err}
+use Rattle.frame_ring.proofs.PromisesOfLook.{finds, flags_touch, look_touches, on_err}
 use Rattle.frame_ring.proofs.LookAnswers.{entry_short, look_is, not_idle, nothing_more, out_of_turn, stands_at, stays_at}
 use Rattle.frame_ring.proofs.port.Port.look.Goals as goal
 use Rattle.frame_ring.proofs.port.Port.look.Goals.{After-sight}

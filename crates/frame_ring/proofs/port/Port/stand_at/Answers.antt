@@ -20,7 +20,7 @@ use Rattle.frame_ring.specs.Ports.{port_seen}
 use Rattle.frame_ring.specs.Promises.{TouchesRange}
 use Rattle.frame_ring.specs.PortView.{HasPagesIn, TouchesWrite, with_room}
 use Rattle.frame_ring.proofs.EntryPages.{ok_map}
-use Rattle.frame_ring.proofs.Finding.{either_pages, found_ready, peer_pages}
+use Rattle.frame_ring.proofs.PromisesOfLook.{either_pages, found_ready, peer_pages}
 use Rattle.frame_ring.proofs.FoundEntries.{err_map, fits_found, found_grown, own_still, pages_grown, pages_same}
 use Rattle.frame_ring.proofs.LookAnswers.{nothing_more}
 use Rattle.frame_ring.proofs.port.Port.stand_at.Goals as goal
