@@ -1,7 +1,8 @@
 -- Reading and writing one word of a table.
-use Rattle.std.proofs.Common.{◌≡◌, ℕ, ◌+◌, ◌*◌, ◌-◌, ◌%◌, ◌<◌, ◌≤◌, List, [], ◌∷◌, ◌++◌, length, set, get_or, refl, ap, ◌∙◌, arith, mod-lt, sym, length-set, length-append, replicate}
-use Rattle.std.proofs.lemmas.List.{get_or_append_left, get_or-append_right, set-append_left, set-append_right, replicate-append-replicate}
-use Rattle.table_rule.specs.Words.{Words, spacing, spaced, words_of, words_in, AreSized, posted_word, header_word, flag_word, index_out_word, index_word, link_word}
+use Rattle.std.proofs.Common.{◌≡◌, ℕ, ◌+◌, ◌*◌, ◌-◌, ◌%◌, ◌<◌, ◌≤◌, List, [], ◌∷◌, ◌++◌, length, set, get_or, refl, ap, ◌∙◌, arith, mod-lt, mod-eq_of_lt, sym, length-set, length-append, replicate}
+use Rattle.std.proofs.lemmas.List.{get_or_append_left, get_or-append_right, set-append_left, set-append_right, replicate-append-replicate, length-replicate}
+use Rattle.table_rule.specs.LaneNames.{tail_of}
+use Rattle.table_rule.specs.Words.{Words, first_words, spacing, spaced, words_of, words_in, AreSized, posted_word, header_word, flag_word, index_out_word, index_word, link_word}
 
 right_at : {A : Type 0} (xs ys : List A) (n i k : ℕ) (d : A) → length xs ≡ n → i ≡ n + k → get_or (xs ++ ys) i d ≡ get_or ys k d
 right_at xs ys n i k d long is = get_or-append_right xs ys n i d long (omega arith) ∙ ap (λ j. get_or ys j d) (let e : i - n ≡ k = omega arith in e)
@@ -105,8 +106,12 @@ module _ (N : ℕ) (w : Words) (sized : AreSized N w) (two : 2 ≤ N) where
 zeros_spaced : (n : ℕ) → spaced (replicate n 0) ≡ replicate (n + spacing) 0
 zeros_spaced n = replicate-append-replicate n spacing 0
 
--- A table of zeros: as many as a table has words, however they lie.
-pub zeros_lie : (N : ℕ) → replicate (words_in N) 0 ≡ words_of (record { posted = replicate N 0; headers = replicate N 0; flags = replicate N 0; index_out = 0; index = 0; link = 0 })
+-- words that are all 0
+abbrev pub zero_words : ℕ → Words
+zero_words N = record { posted = replicate N 0; headers = replicate N 0; flags = replicate N 0; index_out = 0; index = 0; link = 0 }
+
+-- So many zeros as a table has words are words of a table, all 0.
+pub zeros_lie : (N : ℕ) → replicate (words_in N) 0 ≡ words_of (zero_words N)
 zeros_lie N =
     let area : ℕ = N + spacing in
     let rest : ℕ = 3 * (1 + spacing) in
@@ -114,3 +119,14 @@ zeros_lie N =
     let split : words_in N ≡ area + (area + (area + rest)) = omega arith in
     let join : (xs : List ℕ) (n : ℕ) → xs ≡ zeros n → spaced (zeros N) ++ xs ≡ zeros (area + n) = λ xs n is. (λ i. zeros_spaced N i ++ is i) ∙ replicate-append-replicate area n 0 in
     ap zeros split ∙ sym (join _ (area + (area + rest)) (join _ (area + rest) (join _ rest refl)))
+
+-- with both indices at the last position they are those of a new table
+pub first_lie : (N last : ℕ) → 2 ≤ N → last ≡ N - 1 → set (set (replicate (words_in N) 0) (index_out_word N) last) (index_word N) last ≡ words_of (first_words N)
+first_lie N last two is =
+    let zeros : AreSized N (zero_words N) = record { posted = length-replicate N 0; headers = length-replicate N 0; flags = length-replicate N 0 } in
+    let outward = set_index_out N (zero_words N) zeros two last in
+    let homeward = set_index N (record (zero_words N) { index_out = last }) outward.sized two last in
+    let same : 0 + N - 1 ≡ last = omega arith in
+    let tail : last ≡ tail_of N 0 = sym (ap (λ n. n % N) same ∙ mod-eq_of_lt (omega arith)) in
+    ap (λ ws. set (set ws (index_out_word N) last) (index_word N) last) (zeros_lie N) ∙ ap (λ ws. set ws (index_word N) last) outward.words ∙ homeward.words
+    ∙ (λ i. words_of (record (zero_words N) { index_out = tail i; index = tail i }))

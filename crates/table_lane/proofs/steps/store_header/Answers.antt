@@ -1,6 +1,7 @@
 use Rattle.std.proofs.Common.{arith, ◌≡◌, ℕ, ◌+◌, ◌-◌, ◌%◌, ◌<◌, refl, sym, ap, ◌∙◌}
 use Rattle.table_rule.specs.declared.parts.MovePart.{MovePart}
 use Rattle.table_rule.specs.ShownLane.{number_at}
+use Rattle.table_rule.specs.Words.{spacing}
 use Rattle.table_rule.specs.Rule.{Sitter}
 use Rattle.table_rule.specs.Views.{the_move, with_move}
 use Rattle.table_rule.specs.Knowledge.{header_stored}
@@ -26,6 +27,6 @@ returns-clause-knows c =
     let known : part.entries ≡ N = c.requires.part.1 in
     let near : c.args.n < part.flagged + N = omega (arith, held.1, held.2) in
     let word = c.header_word.ensures in
-    let position : c.header_word.result - part.entries ≡ c.args.n % N = omega arith in
+    let position : c.header_word.result - (part.entries + spacing) ≡ c.args.n % N = omega arith in
     c.store.ensures.2
     ∙ ap (λ (n : ℕ). (let me : Sitter = (with_move c.args.seat.now.me.0 (header_stored part n), c.args.seat.now.me.1) in me)) ((λ i. number_at (known i) part.flagged (position i)) ∙ number_is N part.flagged c.args.n held.0 near)
