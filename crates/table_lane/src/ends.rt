@@ -105,21 +105,29 @@ pub fn make(
         at: Standing::new(of_mover, mover, entries),
         flagged: 0,
         taken: 0,
+        first_position: 0,
+        next_position: 0,
         waiting,
     };
     let recv = RecvEnd {
         at: Standing::new(of_recv, recv, entries),
         got: 0,
+        position: 0,
         left,
     };
     let back = BackEnd {
         at: Standing::new(of_back, back, entries),
         freed: 0,
+        last: entries - 1,
     };
     let cut = CutEnd {
         at: Standing::new(of_cut, cut, entries),
     };
     let at = Standing::new(table, seat, entries);
-    let send = SendEnd { at, sent: 0 };
+    let send = SendEnd {
+        at,
+        sent: 0,
+        head: 0,
+    };
     Ok((send, mover, recv, back, cut))
 }

@@ -12,7 +12,7 @@ use Rattle.table_lane.proofs.steps.store_header.Goals as goal
 
 pub store-requires : goal.store-requires
 store-requires c =
-    let word = header_stands {n = c.args.n} c.requires.table.1 c.header_word.ensures refl in
+    let word = header_stands _ c.requires.table.1 c.requires.part.2 c.header_word.ensures in
     let held = c.requires.held in (
       c.requires.table.0,
       word.0,
@@ -27,6 +27,7 @@ returns-clause-knows c =
     let known : part.entries ≡ N = c.requires.part.1 in
     let near : c.args.n < part.flagged + N = omega (arith, held.1, held.2) in
     let word = c.header_word.ensures in
+    let at = c.requires.part.2 in
     let position : c.header_word.result - (part.entries + spacing) ≡ c.args.n % N = omega arith in
     c.store.ensures.2
     ∙ ap (λ (n : ℕ). (let me : Sitter = (with_move c.args.seat.now.me.0 (header_stored part n), c.args.seat.now.me.1) in me)) ((λ i. number_at (known i) part.flagged (position i)) ∙ number_is N part.flagged c.args.n held.0 near)
