@@ -1,4 +1,4 @@
-use Rattle.std.proofs.Common.{arith, ◌≡◌, ℕ, ◌+◌, ◌-◌, ◌%◌, ◌<◌, refl, sym, ap, ◌∙◌}
+use Rattle.std.proofs.Common.{arith, ◌≡◌, ℕ, ◌+◌, ◌-◌, ◌%◌, ◌<◌, sym, ap, ◌∙◌}
 use Rattle.table_rule.specs.declared.parts.MovePart.{MovePart}
 use Rattle.table_rule.specs.ShownLane.{number_at}
 use Rattle.table_rule.specs.Words.{spacing}
