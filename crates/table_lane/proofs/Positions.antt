@@ -9,10 +9,11 @@ use Rattle.table_rule.proofs.LaneLaws.{number_is}
 pub position_below : (N n position : ℕ) → 2 ≤ N → position ≡ n % N → position < N
 position_below N n position two at = let small : n % N < N = mod-lt n (omega (arith, two)) in omega arith
 
--- the position of a later entry, where it doesn't come round and where it does
+-- the position of a later entry, where it is before the end of the ring
 pub position_further : (N n position more further : ℕ) → position ≡ n % N → further ≡ position + more → further < N → further ≡ (n + more) % N
 position_further N n position more further at is below = sym (mod-eq_of_lt below) ∙ ap (λ k. k % N) is ∙ ap (λ k. (k + more) % N) at ∙ mod-add-mod n N more
 
+-- and where it is past the end
 pub position_round : (N n position more further : ℕ) → position ≡ n % N → further + N ≡ position + more → further < N → further ≡ (n + more) % N
 position_round N n position more further at is below = sym (mod-eq_of_lt below) ∙ sym (add-mod_right further N) ∙ ap (λ k. k % N) is ∙ ap (λ k. (k + more) % N) at ∙ mod-add-mod n N more
 
