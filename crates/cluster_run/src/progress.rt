@@ -1,8 +1,7 @@
 //! What the workers of one session tell one another during a round in threads of their own.
 
-use std::hint;
 use std::sync::atomic::{AtomicBool, AtomicU64, Ordering};
-use std::thread;
+use std::{hint, thread};
 
 /// A worker that carries frames.
 #[derive(Clone, Copy, Debug, PartialEq, Eq, Drop)]
@@ -81,8 +80,11 @@ impl Progress {
         }
     }
 
-    /// Tells that a pass of this worker came to something, or that it leaves.
+    /// Tells that a pass of this worker came to something, or that it leaves. In a small ring nobody is told.
     pub(crate) fn tell(&self, role: Role) {
+        if self.is_small {
+            return;
+        }
         let news = match role {
             Role::Sender => &self.sent,
             Role::Mover => &self.moved,
@@ -93,6 +95,9 @@ impl Progress {
 
     /// How much this worker was told so far: the mover hears the two others, and they hear the mover.
     pub(crate) fn told(&self, role: Role) -> u64 {
+        if self.is_small {
+            return 0;
+        }
         match role {
             Role::Sender | Role::Receiver => self.moved.count(),
             Role::Mover => self.sent.count().wrapping_add(self.received.count()),
