@@ -1,16 +1,14 @@
 //! What a round of a session is to come to.
 
-use crate::pause::Pause;
-
-/// How far a round goes, and how long its workers pause.
+/// How far a round goes, and at which ring.
 #[derive(Clone, Copy, Debug, Drop)]
 pub(crate) struct Aim {
     /// How many frames the session may accept: with as many received the round is over.
     pub(crate) total: usize,
     /// With how many frames received the link is cut, if it is.
     pub(crate) cut_after: Option<usize>,
-    /// How long the sender and the receiver pause in threads of their own.
-    pub(crate) pause: Pause,
+    /// How many entries the ring has.
+    pub(crate) entries: u32,
 }
 
 impl Aim {

@@ -3,62 +3,74 @@
 ghost use Rattle.std.specs.Prelude.{◌≡◌};
 
 use crate::aim::Aim;
-use crate::pause::Pause;
-use crate::progress::Progress;
+use crate::progress::{Progress, Role};
 use crate::workers::{Cutting, Moving, Receiving, Sending};
 use io_edges::Gate;
+use lane_workers::IDLE_TURNS;
 use std::thread::{Threads, join_mut};
 
 /// At most so many passes a worker makes in a round.
-const PASSES: u32 = 65_536;
+const PASSES: u32 = 16_777_216;
 
-/// So many turns has a pass of the sender, and at most so many one of the receiver. After it the worker may pause.
-const FEW_TURNS: u32 = 64;
+/// So many turns has a pass, at most.
+const TURNS: u32 = 4_096;
 
-/// So many turns has a pass of the mover, and the receiver's last one.
-const MANY_TURNS: u32 = 4_096;
-
-/// After so many passes in a row in which it sent nothing the sender leaves the round.
-const IDLE_PASSES: u32 = 256;
+/// So many turns has a pass of the receiver, at most, where a cut waits for frames.
+const FEW_TURNS: usize = 64;
 
 // The sender's part of a round. It leaves once nothing is left to send, or where it sent nothing for a while.
-fn send_in_thread<G: Gate>(sending: &mut Sending, gate: &G, progress: &Progress, pause: Pause)
+fn send_in_thread<G: Gate>(sending: &mut Sending, gate: &G, progress: &Progress)
     ensures { sending.new ≡ sending.old }
 {
     let mut idle: u32 = 0;
     for _ in 0..PASSES {
+        let told = progress.told(Role::Sender);
         let before = sending.left();
-        sending.pass(gate, FEW_TURNS);
+        let made = sending.pass(gate, TURNS);
         let left = sending.left();
-        idle = if left < before {
-            0
+        if left < before {
+            progress.tell(Role::Sender);
+            idle = 0;
         } else {
-            idle.saturating_add(1)
-        };
-        if left == 0 || idle >= IDLE_PASSES || progress.is_over() {
+            idle = idle.saturating_add(1);
+        }
+        if left == 0 || progress.is_stuck(idle) || progress.is_over() {
             break;
         }
-        pause.after(before.saturating_sub(left), FEW_TURNS);
+        if made < TURNS {
+            progress.pause(Role::Sender, told, idle);
+        }
     }
     progress.sender_leaves();
 }
 
-// The mover's part of a round. It leaves with the pass after the one in which the sender left.
+// The mover's part of a round. Once the sender has left it makes passes until one ends with idle turns, and leaves too.
 fn move_in_thread<G: Gate>(moving: &mut Moving, gate: &G, progress: &Progress)
     ensures { moving.new ≡ moving.old }
 {
+    let mut idle: u32 = 0;
     for _ in 0..PASSES {
+        let told = progress.told(Role::Mover);
         let is_last = progress.has_sender_left();
-        moving.pass(gate, MANY_TURNS);
-        if is_last || progress.is_over() {
+        let made = moving.pass(gate, TURNS);
+        if made > IDLE_TURNS {
+            progress.tell(Role::Mover);
+            idle = 0;
+        } else {
+            idle = idle.saturating_add(1);
+        }
+        if progress.is_over() || (is_last && made < TURNS) {
             break;
+        }
+        if made < TURNS {
+            progress.pause(Role::Mover, told, idle);
         }
     }
     progress.mover_leaves();
 }
 
-// The receiver's part of a round. It is over once all frames of the aim were received; else the receiver leaves with the
-// pass after the one in which the mover left.
+// The receiver's part of a round. It is over once all frames of the aim were received; else, once the mover has left, the
+// receiver makes passes until one ends with idle turns, and leaves too.
 fn receive_in_thread<G: Gate>(
     receiving: &mut Receiving,
     gate: &G,
@@ -68,19 +80,29 @@ fn receive_in_thread<G: Gate>(
 )
     ensures { receiving.new.lane ≡ receiving.old.lane }
 {
+    let mut idle: u32 = 0;
     for _ in 0..PASSES {
+        let told = progress.told(Role::Receiver);
         let is_last = progress.has_mover_left();
         let before = receiving.count();
-        receiving.pass(gate, if is_last { MANY_TURNS } else { turns });
+        let made = receiving.pass(gate, turns);
         let received = receiving.count();
-        progress.tell(received);
+        if received > before {
+            progress.count(received);
+            progress.tell(Role::Receiver);
+            idle = 0;
+        } else {
+            idle = idle.saturating_add(1);
+        }
         if received >= aim.total {
             progress.end();
         }
-        if is_last || progress.is_over() {
-            return;
+        if progress.is_over() || (is_last && made < turns) {
+            break;
         }
-        aim.pause.after(received.saturating_sub(before), turns);
+        if made < turns {
+            progress.pause(Role::Receiver, told, idle);
+        }
     }
 }
 
@@ -116,7 +138,7 @@ fn carry_in_threads<R: Threads + Sync, G: Gate>(
             join_mut(
                 rt,
                 &mut || move_in_thread(moving, gate, progress),
-                &mut || send_in_thread(sending, gate, progress, aim.pause),
+                &mut || send_in_thread(sending, gate, progress),
             );
         },
     );
@@ -139,13 +161,13 @@ pub(crate) fn pass_in_threads<R: Threads + Sync, G: Gate>(
     ensures receiving { receiving.new.lane ≡ receiving.old.lane }
     ensures cutting { cutting.new.lane ≡ cutting.old.lane }
 {
-    let progress = Progress::new();
+    let progress = Progress::new(aim.entries);
     let told = &progress;
     let Some(share) = aim.cut_after else {
-        carry_in_threads(rt, gate, sending, moving, receiving, told, FEW_TURNS, aim);
+        carry_in_threads(rt, gate, sending, moving, receiving, told, TURNS, aim);
         return;
     };
-    let turns = share.clamp(1, FEW_TURNS as usize) as u32;
+    let turns = share.clamp(1, FEW_TURNS) as u32;
     join_mut(
         rt,
         &mut || cut_in_thread(cutting, gate, told, share),

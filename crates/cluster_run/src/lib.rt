@@ -10,7 +10,6 @@ mod in_turn;
 mod lanes;
 pub mod laws;
 mod parts;
-mod pause;
 mod progress;
 mod rounds;
 mod run;

@@ -1,34 +1,145 @@
 //! What the workers of one session tell one another during a round in threads of their own.
 
 use std::sync::atomic::{AtomicBool, AtomicU64, Ordering};
-use std::thread;
+use std::{hint, thread};
 
-/// How many frames were received so far, whether the round is over, and who has left it.
+/// A worker that carries frames.
+#[derive(Clone, Copy, Debug, PartialEq, Eq, Drop)]
+pub(crate) enum Role {
+    Sender,
+    Mover,
+    Receiver,
+}
+
+/// How often a worker told that a pass of it came to something. The words beside the count are read by nobody: they keep
+/// it on cache lines of its own.
+#[derive(Drop)]
+struct News {
+    count: AtomicU64,
+    apart: [u64; 15],
+}
+
+impl News {
+    fn new() -> News {
+        News {
+            count: AtomicU64::new(0),
+            apart: [0; 15],
+        }
+    }
+
+    fn count(&self) -> u64 {
+        self.count.load(Ordering::SeqCst)
+    }
+}
+
+/// What each worker told, how many frames were received so far, whether the round is over, and who has left it.
 #[derive(Drop)]
 pub(crate) struct Progress {
-    received: AtomicU64,
+    sent: News,
+    moved: News,
+    received: News,
+    frames: AtomicU64,
     over: AtomicBool,
     sender_left: AtomicBool,
     mover_left: AtomicBool,
+    is_small: bool,
 }
 
 /// So often the cutting worker looks how far the receiver is, and lets other threads run, before it cuts anyway.
-const LOOKS: u32 = 20_000;
+const CUT_LOOKS: u32 = 20_000;
+
+/// In a ring of fewer entries a worker looks at the ring itself, since what the others do in between is few entries.
+const SMALL_RING: u32 = 16;
+
+/// There it lets other threads run after so many idle passes in a row.
+const PASSES_TO_YIELD: u32 = 4;
+
+/// In a larger ring a worker looks at most so often for news before its next pass.
+const LOOKS: u32 = 1_024;
+
+/// After so many of them it lets other threads run at each.
+const QUICK_LOOKS: u32 = 64;
+
+/// After so many idle passes in a row a sender leaves the round, in a large ring and in a small one.
+const IDLE_PASSES: u32 = 16;
+
+const SMALL_IDLE_PASSES: u32 = 4_096;
 
 impl Progress {
-    /// At the start of a round, where nothing is known and nobody has left.
-    pub(crate) fn new() -> Progress {
+    /// At the start of a round at a ring of so many entries, where nothing is known and nobody has left.
+    pub(crate) fn new(entries: u32) -> Progress {
         Progress {
-            received: AtomicU64::new(0),
+            sent: News::new(),
+            moved: News::new(),
+            received: News::new(),
+            frames: AtomicU64::new(0),
             over: AtomicBool::new(false),
             sender_left: AtomicBool::new(false),
             mover_left: AtomicBool::new(false),
+            is_small: entries < SMALL_RING,
+        }
+    }
+
+    /// Tells that a pass of this worker came to something, or that it leaves. In a small ring nobody is told.
+    pub(crate) fn tell(&self, role: Role) {
+        if self.is_small {
+            return;
+        }
+        let news = match role {
+            Role::Sender => &self.sent,
+            Role::Mover => &self.moved,
+            Role::Receiver => &self.received,
+        };
+        news.count.fetch_add(1, Ordering::SeqCst);
+    }
+
+    /// How much this worker was told so far: the mover hears the two others, and they hear the mover.
+    pub(crate) fn told(&self, role: Role) -> u64 {
+        if self.is_small {
+            return 0;
+        }
+        match role {
+            Role::Sender | Role::Receiver => self.moved.count(),
+            Role::Mover => self.sent.count().wrapping_add(self.received.count()),
+        }
+    }
+
+    /// A pause after a pass, of which so many in a row were idle.
+    pub(crate) fn pause(&self, role: Role, told: u64, idle: u32) {
+        if !self.is_small {
+            self.await_news(role, told);
+        } else if idle % PASSES_TO_YIELD == PASSES_TO_YIELD - 1 {
+            thread::yield_now();
+        }
+    }
+
+    // Looks until this worker was told more, the round is over, or it has looked often. So it leaves the words of the ring
+    // to the others until many frames may have come.
+    fn await_news(&self, role: Role, told: u64) {
+        for look in 0..LOOKS {
+            if self.told(role) != told || self.is_over() {
+                return;
+            }
+            if look < QUICK_LOOKS {
+                hint::spin_loop();
+            } else {
+                thread::yield_now();
+            }
+        }
+    }
+
+    /// Whether a worker whose last passes were idle, so many in a row, has to leave the round.
+    pub(crate) fn is_stuck(&self, idle: u32) -> bool {
+        idle >= if self.is_small {
+            SMALL_IDLE_PASSES
+        } else {
+            IDLE_PASSES
         }
     }
 
     /// Tells that so many frames were received in the session.
-    pub(crate) fn tell(&self, received: usize) {
-        self.received.store(received as u64, Ordering::SeqCst);
+    pub(crate) fn count(&self, received: usize) {
+        self.frames.store(received as u64, Ordering::SeqCst);
     }
 
     /// Ends the round: each worker makes no pass more than the one that it is in.
@@ -41,9 +152,10 @@ impl Progress {
         self.over.load(Ordering::SeqCst)
     }
 
-    /// The sender leaves the round: the mover makes one pass more.
+    /// The sender leaves the round: the mover makes passes until one is idle, and leaves too.
     pub(crate) fn sender_leaves(&self) {
         self.sender_left.store(true, Ordering::SeqCst);
+        self.tell(Role::Sender);
     }
 
     /// Whether the sender has left the round.
@@ -51,9 +163,10 @@ impl Progress {
         self.sender_left.load(Ordering::SeqCst)
     }
 
-    /// The mover leaves the round: the receiver makes one pass more.
+    /// The mover leaves the round: the receiver makes passes until one is idle, and leaves too.
     pub(crate) fn mover_leaves(&self) {
         self.mover_left.store(true, Ordering::SeqCst);
+        self.tell(Role::Mover);
     }
 
     /// Whether the mover has left the round.
@@ -64,8 +177,8 @@ impl Progress {
     /// Lets other threads run until so many frames were received, the round is over, the mover has left it, or it has
     /// looked often.
     pub(crate) fn await_received(&self, count: usize) {
-        for _ in 0..LOOKS {
-            if self.received.load(Ordering::SeqCst) >= count as u64
+        for _ in 0..CUT_LOOKS {
+            if self.frames.load(Ordering::SeqCst) >= count as u64
                 || self.is_over()
                 || self.has_mover_left()
             {

@@ -11,7 +11,6 @@ use crate::aim::Aim;
 use crate::clock::Clock;
 use crate::in_threads::pass_in_threads;
 use crate::in_turn::pass_in_turn;
-use crate::pause::Pause;
 use crate::workers::{Cutting, Moving, Receiving, Sending, room_for};
 use io_edges::Gate;
 use std::alloc::{AllocError, Global};
@@ -139,7 +138,7 @@ impl Session {
         Aim {
             total: self.total,
             cut_after,
-            pause: Pause::at_ring(self.entries),
+            entries: self.entries,
         }
     }
 

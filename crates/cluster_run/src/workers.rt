@@ -19,8 +19,8 @@ pub(crate) struct Sending {
 }
 
 impl Sending {
-    /// Makes at most so many turns. What it was given to send stays, sent or not.
-    pub(crate) fn pass<G: Gate>(&mut self, gate: &G, turns: u32)
+    /// Makes at least 1 and at most so many turns, and answers how many. What it was given to send stays, sent or not.
+    pub(crate) fn pass<G: Gate>(&mut self, gate: &G, turns: u32) -> u32
         requires { 1 ≤ turns }
         ensures { self.new ≡ self.old }
     {
@@ -28,6 +28,7 @@ impl Sending {
         let worker = self.clock.worker();
         let made = send_pass(&mut self.end, &mut self.todo, gate, worker, first, turns);
         self.clock = self.clock.after(first, made);
+        made
     }
 
     /// How many frames are left to send.
@@ -69,10 +70,12 @@ impl Moving {
         }
     }
 
-    /// Makes at least 1 and at most so many turns. The worker's number is the seed of its choices.
-    pub fn pass<G: Gate>(&mut self, gate: &G, turns: u32)
+    /// Makes at least 1 and at most so many turns, and answers how many. The worker's number is the seed of its choices.
+    pub fn pass<G: Gate>(&mut self, gate: &G, turns: u32) -> u32
         requires { 1 ≤ turns }
-        ensures { self.new ≡ self.old }
+        ensures kept { self.new ≡ self.old }
+        ensures some { 1 ≤ result }
+        ensures at_most { result ≤ turns }
     {
         let first = self.clock.first(turns);
         let worker = self.clock.worker();
@@ -86,6 +89,7 @@ impl Moving {
             turns,
         );
         self.clock = self.clock.after(first, made);
+        made
     }
 
     /// Its two ends, at the end of a session.
@@ -145,19 +149,21 @@ impl Receiving {
         }
     }
 
-    /// Makes at most so many turns, and no more than the list has room for.
-    pub fn pass<G: Gate>(&mut self, gate: &G, turns: u32)
-        ensures { self.new.lane ≡ self.old.lane }
+    /// Makes at most so many turns, and no more than the list has room for. It answers how many.
+    pub fn pass<G: Gate>(&mut self, gate: &G, turns: u32) -> u32
+        ensures lane { self.new.lane ≡ self.old.lane }
+        ensures at_most { result ≤ turns }
     {
         let spare = self.room - self.got.len();
         let turns = turns.min(u32::try_from(spare).unwrap_or(u32::MAX));
         if turns == 0 {
-            return;
+            return 0;
         }
         let first = self.clock.first(turns);
         let worker = self.clock.worker();
         let made = recv_pass(&mut self.end, &mut self.got, gate, worker, first, turns);
         self.clock = self.clock.after(first, made);
+        made
     }
 
     /// How many frames were received.

@@ -8,6 +8,7 @@ use crate::round::Round;
 use crate::sink::Sink;
 use crate::source::Source;
 use io_edges::Gate;
+use std::thread;
 use std::thread::{Threads, join_mut};
 
 /// How far a round goes.
@@ -23,6 +24,9 @@ pub(crate) struct Aim {
 const PASSES: u32 = 256;
 
 const TURNS: u32 = 4_096;
+
+/// At most so many passes the movers make, which are short where nothing is to be moved.
+const MOVER_PASSES: u32 = 65_536;
 
 /// After so many passes in a row in which it sent nothing the source leaves the round.
 const IDLE_PASSES: u32 = 16;
@@ -51,11 +55,14 @@ fn give_in_thread<G: Gate>(source: &mut Source, gate: &G, round: &Round)
 fn move_in_thread<G: Gate>(moving: &mut PairMoving, gate: &G, round: &Round)
     ensures { moving.new ≡ moving.old }
 {
-    for _ in 0..PASSES {
+    for _ in 0..MOVER_PASSES {
         let is_last = round.has_source_left();
-        moving.pass(gate, TURNS);
+        let made = moving.pass(gate, TURNS);
         if is_last || round.is_over() {
             break;
+        }
+        if made < TURNS {
+            thread::yield_now();
         }
     }
     round.movers_leave();

@@ -25,13 +25,14 @@ impl PairMoving {
         PairMoving { items, acks }
     }
 
-    /// Makes at most so many turns on the lane of items, and a few on the other.
-    pub(crate) fn pass<G: Gate>(&mut self, gate: &G, turns: u32)
+    /// Makes at most so many turns on the lane of items, and answers how many, and makes a few on the other.
+    pub(crate) fn pass<G: Gate>(&mut self, gate: &G, turns: u32) -> u32
         requires { 1 ≤ turns }
         ensures { self.new ≡ self.old }
     {
-        self.items.pass(gate, turns);
+        let made = self.items.pass(gate, turns);
         self.acks.pass(gate, ACK_TURNS);
+        made
     }
 }
 

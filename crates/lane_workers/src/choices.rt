@@ -44,8 +44,11 @@ impl Choices {
     pub(crate) fn choice(&mut self) -> u64 {
         match self.stage {
             Stage::Taking => u64::from(self.held),
-            Stage::StoringHeaders => (self.words.next_word() >> 32)
-                % u64::from(self.waiting.max(1)),
+            Stage::StoringHeaders => {
+                // a number below the count of those that wait
+                let word = self.words.next_word() >> 32;
+                (word * u64::from(self.waiting)) >> 32
+            }
             Stage::StoringFlags => 0,
         }
     }

@@ -1,6 +1,4 @@
-//! When a pass lets other threads run, and when it ends before its last turn.
-
-use std::thread;
+//! When a pass ends before its last turn.
 
 /// What came of a turn.
 #[derive(Clone, Copy, Debug, PartialEq, Eq, Drop)]
@@ -13,11 +11,8 @@ pub(crate) enum Turn {
     Over,
 }
 
-/// After so many idle turns in a row a pass lets other threads run.
-const TURNS_TO_YIELD: u32 = 64;
-
-/// After so many idle turns in a row a pass ends.
-const TURNS_TO_END: u32 = 65_536;
+/// After so many idle turns in a row a pass ends. So a pass with more turns than these came to something.
+pub const IDLE_TURNS: u32 = 16;
 
 /// How many turns in a row were idle.
 #[derive(Clone, Copy, Debug, Drop)]
@@ -31,7 +26,7 @@ impl Idling {
         Idling { turns: 0 }
     }
 
-    /// Whether the pass ends with the turn that this came of. It lets other threads run after each 64th idle turn.
+    /// Whether the pass ends with the turn that this came of.
     pub(crate) fn ends_with(&mut self, turn: Turn) -> bool {
         match turn {
             Turn::Useful => {
@@ -40,10 +35,7 @@ impl Idling {
             }
             Turn::Idle => {
                 self.turns = self.turns.saturating_add(1);
-                if self.turns % TURNS_TO_YIELD == 0 {
-                    thread::yield_now();
-                }
-                self.turns >= TURNS_TO_END
+                self.turns >= IDLE_TURNS
             }
             Turn::Over => true,
         }

@@ -1,9 +1,9 @@
 //! The passes of a lane's workers: each makes turns of one end, or of the mover and the way back together.
 //!
 //! A pass makes at least one turn and at most as many as it is given, and answers how many. Before each turn it passes
-//! a [`Gate`](io_edges::Gate). It may end before its last turn: where nothing is left to do, or where its turns did
-//! nothing for a while. It takes no memory and never waits for another worker; while its turns do nothing it lets
-//! other threads run now and then.
+//! a [`Gate`](io_edges::Gate). It may end before its last turn: where nothing is left to do, or after [`IDLE_TURNS`]
+//! turns in a row that did nothing, so that its caller can let other threads run. It takes no memory and never waits for
+//! another worker.
 #![tactic(auto)]
 
 mod choices;
@@ -14,6 +14,7 @@ mod receiving;
 mod sending;
 
 pub use cut::cut_pass;
+pub use idling::IDLE_TURNS;
 pub use moving::move_pass;
 pub use receiving::recv_pass;
 pub use sending::send_pass;

@@ -1,4 +1,5 @@
 pub mod FirstMove
+pub mod Positions
 pub mod Tries
 pub mod WaitingEntries
 pub mod WordsInTable

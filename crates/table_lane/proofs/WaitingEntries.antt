@@ -85,6 +85,12 @@ module _ (N first next : ℕ) (waits : List ℕ) (me : Sitter) (h : MovesWith N 
         at,
       )
 
+  -- such an entry is fewer than N after the first that is held
+  pub waits_near : (k number : ℕ) → k < length (waiting part.flagged part.stored) → number ≡ get_or waits k number → (first ≤ number) × (number - first < N)
+  waits_near k number below is =
+      let at = waits_at k number below is in
+      (omega (arith, at.0, h.flagged), omega (arith, at.1, at.0, h.flagged, h.few))
+
   -- a header is stored
   pub with_header : (k number : ℕ) → k < length (waiting part.flagged part.stored) → number ≡ get_or waits k number → MovesWith N first next (remove waits k) (with_move me.0 (header_stored part number), me.1)
   with_header k number below is =

@@ -15,7 +15,7 @@ use Rattle.table_lane.specs.MoveChoice.{waiting}
 use Rattle.table_lane.specs.declared.recv.RecvEnd.TheInside as recv
 use Rattle.table_lane.specs.declared.back.BackEnd.TheInside as back
 use Rattle.table_lane.specs.declared.back.CutEnd.TheInside as cut
-use Rattle.table_rule.specs.LaneNames.{Idle}
+use Rattle.table_rule.specs.LaneNames.{Idle, tail_of}
 
 -- an end stands at the table of its lane, its seat has one part alone and no slot, and the part knows how many entries
 -- there are
@@ -34,6 +34,7 @@ pub record IsSendEnd (end : send.Inside) : Type 0 where
   pub claims : (the_send end.at.seat.me.0).claims ≡ false
   pub sent : length (the_send end.at.seat.me.0).sent ≡ end.sent
   pub counted : end.sent ≤ most_lane_frames
+  pub position : end.head ≡ end.sent % end.at.entries
 
 -- the slots that the mover has, with their frames, from entry n on
 abbrev pub slots_of : ℕ → ℕ → List (List ℕ) → List (ℕ × Content)
@@ -61,6 +62,8 @@ pub record IsMoveEnd (end : mover.Inside) : Type 0 where
   pub me : MovesWith end.at.entries end.flagged end.taken end.waiting.items end.at.seat.me
   pub room : end.at.entries ≤ deque_capacity end.waiting
   pub counted : end.taken ≤ most_lane_frames
+  pub first : end.first_position ≡ end.flagged % end.at.entries
+  pub next : end.next_position ≡ end.taken % end.at.entries
 
 abbrev pub receiver_of : recv.Inside → Receiver
 receiver_of end = record { lane = end.at.seat.table_id; part = the_recv end.at.seat.me.0 }
@@ -72,6 +75,7 @@ pub record IsRecvEnd (end : recv.Inside) : Type 0 where
   pub hand : (the_recv end.at.seat.me.0).hand ≡ []
   pub got : length (the_recv end.at.seat.me.0).got ≡ end.got
   pub counted : end.got ≤ most_lane_frames
+  pub position : end.position ≡ end.got % end.at.entries
   pub nothing_left : end.left.frames ≡ []
   pub room : end.at.entries ≤ end.left.spare + 1
 
@@ -81,6 +85,7 @@ way_back_of end = record { lane = end.at.seat.table_id; part = the_back end.at.s
 pub record IsBackEnd (end : back.Inside) : Type 0 where
   pub alone : HasAlone (back_only (the_back end.at.seat.me.0)) (the_back end.at.seat.me.0).entries end.at
   pub freed : (the_back end.at.seat.me.0).freed ≡ end.freed
+  pub last : end.last ≡ tail_of end.at.entries end.freed
 
 abbrev pub cutter_of : cut.Inside → Cutter
 cutter_of end = record { lane = end.at.seat.table_id; part = the_cut end.at.seat.me.0 }

@@ -1,5 +1,5 @@
 //! The way back, and the cut.
-ghost use Rattle.std.specs.Prelude.{◌≡◌, ◌+◌, ◌-◌, ◌%◌, ◌≤◌, ◌<◌, ◌^◌};
+ghost use Rattle.std.specs.Prelude.{◌≡◌, ◌≢◌, ◌+◌, ◌≤◌, ◌<◌, ◌^◌};
 ghost use Rattle.step_kinds.specs.Limits.{most_traffic_entries};
 ghost use Rattle.table_rule.specs.ShownLane.{number_at, most_lane_frames};
 ghost use Rattle.table_rule.specs.LaneNames.{tail_of};
@@ -17,6 +17,8 @@ use std::marker::Model;
 pub struct BackEnd {
     pub(crate) at: Standing,
     pub(crate) freed: u64,
+    /// The position of the last entry that was given back.
+    pub(crate) last: u64,
 }
 
 /// The end that cuts the link.
@@ -36,21 +38,19 @@ pub enum BackAnswer {
     Idle,
 }
 
-// The position of the last entry that was given back.
-fn tail_of(entries: u64, freed: u64) -> u64
-    requires { (2 ≤ entries) × (entries ≤ most_traffic_entries) × (freed ≤ most_lane_frames) }
-    ensures { result ≡ tail_of entries freed }
-{
-    (freed + entries - 1) % entries
-}
-
-// The number of the entry from `freed` on at this position.
-fn number_at(entries: u64, freed: u64, position: u64) -> u64
-    requires { (2 ≤ entries) × (entries ≤ most_traffic_entries) × (freed ≤ most_lane_frames) × (position < entries) }
+// The number of the entry from `freed` on at this position, which isn't that of the last entry that was given back.
+fn number_at(entries: u64, freed: u64, last: u64, position: u64) -> u64
+    requires ring { (2 ≤ entries) × (entries ≤ most_traffic_entries) × (freed ≤ most_lane_frames) }
+    requires new { (position < entries) × (position ≢ last) × (last ≡ tail_of entries freed) }
     ensures value { result ≡ number_at entries freed position }
     ensures small { result < 2 ^ 63 }
+    ensures newest { position ≡ tail_of entries (result + 1) }
 {
-    freed + (position + entries - freed % entries) % entries
+    if position > last {
+        freed + (position - last) - 1
+    } else {
+        freed + (position + entries - last) - 1
+    }
 }
 
 impl BackEnd {
@@ -62,12 +62,13 @@ impl BackEnd {
     {
         let board = &self.at.table.shared;
         let index = load_index_out(board, &mut self.at.seat, self.at.entries);
-        if index == tail_of(self.at.entries, self.freed) {
+        if index == self.last {
             return BackAnswer::Idle;
         }
-        let number = number_at(self.at.entries, self.freed, index);
+        let number = number_at(self.at.entries, self.freed, self.last, index);
         store_index(board, &mut self.at.seat, self.at.entries, index);
         self.freed = number + 1;
+        self.last = index;
         BackAnswer::Index { number }
     }
 }

@@ -1,8 +1,8 @@
 //! The table of a lane, and the numbers of its words.
-ghost use Rattle.std.specs.Prelude.{◌≡◌, ◌≤◌, ◌<◌, IfOk};
+ghost use Rattle.std.specs.Prelude.{◌≡◌, ◌+◌, ◌*◌, ◌%◌, ◌≤◌, ◌<◌, ℕ, IfOk};
 ghost use Rattle.std.specs.Arc.{arc_value};
 ghost use Rattle.step_kinds.specs.Limits.{most_traffic_entries};
-ghost use Rattle.table_rule.specs.Words.{posted_word, header_word, flag_word, index_out_word, index_word, link_word, header_of};
+ghost use Rattle.table_rule.specs.Words.{spacing, index_out_word, index_word, link_word, words_in, header_of};
 
 use atomic_table::{Seat, Shared, Table};
 use std::alloc::{AllocError, Global};
@@ -47,6 +47,9 @@ pub(crate) const DONE: u64 = 1;
 /// The link word once the link is cut.
 pub(crate) const CUT: u64 = 1;
 
+/// How many words that nobody reads follow each list of words, and each single word.
+const SPACING: u64 = 15;
+
 /// The header of entry `n`.
 pub(crate) fn header_of(n: u64) -> u64
     ensures { result ≡ header_of n }
@@ -54,28 +57,49 @@ pub(crate) fn header_of(n: u64) -> u64
     (1 << 32) + n % (1 << 32)
 }
 
-/// The word that the sender stores for entry `n`.
-pub(crate) fn posted_word(entries: u64, n: u64) -> usize
-    requires { (2 ≤ entries) × (entries ≤ most_traffic_entries) }
-    ensures { result ≡ posted_word entries n }
+/// The position of entry `n`.
+pub(crate) fn position_of(entries: u64, n: u64) -> u64
+    requires { 2 ≤ entries }
+    ensures { result ≡ n % entries }
 {
-    (n % entries) as usize
+    n % entries
 }
 
-/// The word that the mover stores for entry `n`.
-pub(crate) fn header_word(entries: u64, n: u64) -> usize
-    requires { (2 ≤ entries) × (entries ≤ most_traffic_entries) }
-    ensures { result ≡ header_word entries n }
+/// The position of the entry that comes so many entries after one at this position.
+pub(crate) fn position_after(entries: u64, position: u64, more: u64) -> u64
+    requires { (position < entries) × (more < entries) × (entries ≤ most_traffic_entries) }
+    ensures { (n : ℕ) → position ≡ n % entries → result ≡ (n + more) % entries }
 {
-    (entries + n % entries) as usize
+    let further = position + more;
+    if further < entries {
+        further
+    } else {
+        further - entries
+    }
 }
 
-/// The word of the flag of entry `n`.
-pub(crate) fn flag_word(entries: u64, n: u64) -> usize
-    requires { (2 ≤ entries) × (entries ≤ most_traffic_entries) }
-    ensures { result ≡ flag_word entries n }
+/// The word that the sender stores for the entry at this position.
+pub(crate) fn posted_word(entries: u64, position: u64) -> usize
+    requires { position < entries }
+    ensures { result ≡ position }
 {
-    (2 * entries + n % entries) as usize
+    position as usize
+}
+
+/// The word that the mover stores for the entry at this position.
+pub(crate) fn header_word(entries: u64, position: u64) -> usize
+    requires { (position < entries) × (entries ≤ most_traffic_entries) }
+    ensures { result ≡ entries + spacing + position }
+{
+    (entries + SPACING + position) as usize
+}
+
+/// The word of the flag of the entry at this position.
+pub(crate) fn flag_word(entries: u64, position: u64) -> usize
+    requires { (position < entries) × (entries ≤ most_traffic_entries) }
+    ensures { result ≡ 2 * (entries + spacing) + position }
+{
+    (2 * (entries + SPACING) + position) as usize
 }
 
 /// The word in which the receiver says how far it has given back.
@@ -83,7 +107,7 @@ pub(crate) fn index_out_word(entries: u64) -> usize
     requires { entries ≤ most_traffic_entries }
     ensures { result ≡ index_out_word entries }
 {
-    (3 * entries) as usize
+    (3 * (entries + SPACING)) as usize
 }
 
 /// The word in which the sender reads it.
@@ -91,7 +115,7 @@ pub(crate) fn index_word(entries: u64) -> usize
     requires { entries ≤ most_traffic_entries }
     ensures { result ≡ index_word entries }
 {
-    (3 * entries + 1) as usize
+    index_out_word(entries) + (1 + SPACING) as usize
 }
 
 /// The word that says whether the link is cut.
@@ -99,5 +123,13 @@ pub(crate) fn link_word(entries: u64) -> usize
     requires { entries ≤ most_traffic_entries }
     ensures { result ≡ link_word entries }
 {
-    (3 * entries + 2) as usize
+    index_word(entries) + (1 + SPACING) as usize
+}
+
+/// How many words there are.
+pub(crate) fn words_in(entries: u64) -> usize
+    requires { entries ≤ most_traffic_entries }
+    ensures { result ≡ words_in entries }
+{
+    link_word(entries) + (1 + SPACING) as usize
 }

@@ -8,7 +8,7 @@ ghost use Rattle.table_lane.specs.NewEnds.{AreNew};
 ghost use Rattle.table_lane.specs.Table.{IsTableOf};
 
 use crate::back::{BackEnd, CutEnd};
-use crate::board::{Board, LaneSeat, LaneTable, Standing};
+use crate::board::{Board, LaneSeat, LaneTable, Standing, index_out_word, index_word, words_in};
 use crate::mover::MoveEnd;
 use crate::recv::RecvEnd;
 use crate::send::SendEnd;
@@ -32,10 +32,9 @@ fn start_words(alloc: Global, entries: u64) -> Result<Vec<u64>, AllocError>
     requires { (2 ≤ entries) × (entries ≤ most_traffic_entries) }
     ensures { IfOk result (λ words. words.items ≡ words_of (first_words entries)) }
 {
-    let mut words = vec![in alloc; 0; (3 * entries) as usize]?;
-    words.push(entries - 1)?;
-    words.push(entries - 1)?;
-    words.push(0)?;
+    let mut words = vec![in alloc; 0; words_in(entries)]?;
+    words[index_out_word(entries)] = entries - 1;
+    words[index_word(entries)] = entries - 1;
     Ok(words)
 }
 
@@ -106,21 +105,29 @@ pub fn make(
         at: Standing::new(of_mover, mover, entries),
         flagged: 0,
         taken: 0,
+        first_position: 0,
+        next_position: 0,
         waiting,
     };
     let recv = RecvEnd {
         at: Standing::new(of_recv, recv, entries),
         got: 0,
+        position: 0,
         left,
     };
     let back = BackEnd {
         at: Standing::new(of_back, back, entries),
         freed: 0,
+        last: entries - 1,
     };
     let cut = CutEnd {
         at: Standing::new(of_cut, cut, entries),
     };
     let at = Standing::new(table, seat, entries);
-    let send = SendEnd { at, sent: 0 };
+    let send = SendEnd {
+        at,
+        sent: 0,
+        head: 0,
+    };
     Ok((send, mover, recv, back, cut))
 }

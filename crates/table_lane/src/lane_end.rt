@@ -8,7 +8,7 @@ ghost use Rattle.table_lane.specs.RecvAnswers.{IsReady};
 ghost use Rattle.table_lane.specs.EndOfLane.{HasAll, MovesNext, OthersStay, shown_by};
 
 use crate::back::{BackEnd, CutEnd};
-use crate::board::{Board, LaneSeat, Standing, header_of};
+use crate::board::{Board, LaneSeat, Standing, header_of, position_of};
 use crate::mover::MoveEnd;
 use crate::recv::{RecvEnd, receive};
 use crate::send::SendEnd;
@@ -60,11 +60,12 @@ fn move_next(board: &Board, seat: &mut LaneSeat, entries: u64, number: u64) -> b
         ((number < length (the_send seat.old.me.0).sent) × (number < most_lane_frames) × MovesNext entries (number + 1) (the_move seat.new.me.0))
         ((length (the_send seat.old.me.0).sent ≤ number) × (length (the_send seat.old.me.0).sent + 1 ≤ length (the_recv seat.old.me.0).got + entries) × MovesNext entries number (the_move seat.new.me.0)) }
 {
-    if load_posted(board, seat, entries, number) != header_of(number) {
+    let position = position_of(entries, number);
+    if load_posted(board, seat, entries, position) != header_of(number) {
         return false;
     }
-    store_header(board, seat, entries, number);
-    store_flag(board, seat, entries, number);
+    store_header(board, seat, entries, number, position);
+    store_flag(board, seat, entries, position);
     true
 }
 
@@ -93,7 +94,7 @@ fn drain(board: &Board, seat: &mut LaneSeat, entries: u64, got: u64, left: &mut 
     ensures all { (the_recv seat.new.me.0).got ≡ (the_send seat.old.me.0).sent }
 {
     let mut number = got;
-    while let Some(frame) = receive(board, seat, entries, number) {
+    while let Some(frame) = receive(board, seat, entries, position_of(entries, number)) {
         left.push(frame);
         number += 1;
     }
@@ -138,7 +139,12 @@ pub fn finish(
     mover.settle();
     let next = mover.flagged;
     let (send, mover, back, cut) = (send.at, mover.at, back.at, cut.at);
-    let RecvEnd { at, got, mut left } = recv;
+    let RecvEnd {
+        at,
+        got,
+        mut left,
+        ..
+    } = recv;
     let Standing {
         table,
         seat,

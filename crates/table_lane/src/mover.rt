@@ -1,11 +1,11 @@
 //! The mover's end.
-ghost use Rattle.std.specs.Prelude.{◌≡◌, ◌+◌, ◌<◌, ◌==◌, true, false, List, [], ℕ, length, slice_get, slice_index, slice_index_or, MatchBool, Some};
+ghost use Rattle.std.specs.Prelude.{◌≡◌, ◌+◌, ◌%◌, ◌<◌, ◌==◌, true, false, List, [], ℕ, length, slice_get, slice_index, slice_index_or, MatchBool, Some};
 ghost use Rattle.table_rule.specs.Words.{header_of};
 ghost use Rattle.table_rule.specs.Knowledge.{taken, posted_loaded, frame_taken, header_stored, flag_stored};
 ghost use Rattle.table_lane.specs.MoveChoice.{waiting, open_moves, Makes, Moves};
 ghost use Rattle.table_lane.specs.declared.mover.MoveAnswer.{MoveAnswer};
 
-use crate::board::{Standing, header_of};
+use crate::board::{Standing, header_of, position_after};
 use crate::steps::{load_posted, store_flag, store_header};
 use std::collections::VecDeque;
 use std::marker::Model;
@@ -20,6 +20,9 @@ pub struct MoveEnd {
     /// The first entry that it holds, and the next one that it takes.
     pub(crate) flagged: u64,
     pub(crate) taken: u64,
+    /// Their positions.
+    pub(crate) first_position: u64,
+    pub(crate) next_position: u64,
     /// The entries that wait for their header, by rising number.
     pub(crate) waiting: VecDeque<u64>,
 }
@@ -35,6 +38,17 @@ pub enum MoveAnswer {
     Flag { number: u64 },
     /// Nothing is held, and the posted header that this call loaded was not new.
     Idle,
+}
+
+// The choice modulo a count, which it mostly is below.
+fn reduced(choice: u64, count: u64) -> u64
+    requires { 0 < count }
+    ensures { result ≡ choice % count }
+{
+    if choice < count {
+        return choice;
+    }
+    choice % count
 }
 
 impl MoveEnd {
@@ -63,8 +77,9 @@ impl MoveEnd {
         ensures knows { self.new.part ≡ header_stored self.old.part result }
     {
         let number = self.waiting.remove(k).unwrap();
+        let position = position_after(self.at.entries, self.first_position, number - self.flagged);
         let board = &self.at.table.shared;
-        store_header(board, &mut self.at.seat, self.at.entries, number);
+        store_header(board, &mut self.at.seat, self.at.entries, number, position);
         number
     }
 
@@ -76,9 +91,11 @@ impl MoveEnd {
         ensures knows { self.new.part ≡ flag_stored self.old.part }
     {
         let number = self.flagged;
+        let position = self.first_position;
         let board = &self.at.table.shared;
-        store_flag(board, &mut self.at.seat, self.at.entries, number);
+        store_flag(board, &mut self.at.seat, self.at.entries, position);
         self.flagged = number + 1;
+        self.first_position = position_after(self.at.entries, position, 1);
         number
     }
 
@@ -89,13 +106,15 @@ impl MoveEnd {
         ensures knows { let seen = posted_loaded self.old.part self.new.part.posted in MatchBool result ((frame : List ℕ) × (self.new.part ≡ frame_taken seen frame)) (self.new.part ≡ seen) }
     {
         let number = self.taken;
+        let position = self.next_position;
         let board = &self.at.table.shared;
-        if load_posted(board, &mut self.at.seat, self.at.entries, number) != header_of(number) {
+        if load_posted(board, &mut self.at.seat, self.at.entries, position) != header_of(number) {
             return false;
         }
         self.at.seat.turn();
         self.waiting.push_back_reserved(number);
         self.taken = number + 1;
+        self.next_position = position_after(self.at.entries, position, 1);
         true
     }
 
@@ -146,7 +165,7 @@ impl MoveEnd {
         ensures moves { Moves self.old.part choice result self.new.part }
     {
         let open = self.waiting_count() + usize::from(self.is_flag_open());
-        let chosen = (choice % (open as u64 + 1)) as usize;
+        let chosen = reduced(choice, open as u64 + 1) as usize;
         if chosen < open {
             return self.make(chosen);
         }

@@ -1,12 +1,12 @@
 //! The receiver's end.
-ghost use Rattle.std.specs.Prelude.{◌≡◌, ◌≤◌, ◌<◌, ℕ, length, take, MatchOption, IfSome, IfNone};
+ghost use Rattle.std.specs.Prelude.{◌≡◌, ◌%◌, ◌≤◌, ◌<◌, ℕ, length, take, MatchOption, IfSome, IfNone};
 ghost use Rattle.table_rule.specs.Views.{HasRecv, the_recv};
 ghost use Rattle.table_rule.specs.LaneNames.{Idle};
 ghost use Rattle.table_rule.specs.ShownLane.{most_lane_frames};
 ghost use Rattle.table_lane.specs.Table.{IsTableOf};
 ghost use Rattle.table_lane.specs.RecvAnswers.{Receives, IsReady, NothingCame, FrameCame};
 
-use crate::board::{Board, DONE, LaneSeat, Standing};
+use crate::board::{Board, DONE, LaneSeat, Standing, position_after};
 use crate::steps::{acknowledge, clear_flag, load_flag, load_header};
 use std::marker::Model;
 use step_kinds::{Frame, FrameList};
@@ -18,6 +18,8 @@ use step_kinds::{Frame, FrameList};
 pub struct RecvEnd {
     pub(crate) at: Standing,
     pub(crate) got: u64,
+    /// The position of the next entry.
+    pub(crate) position: u64,
     /// Room for all frames that a ring can have, for what `finish` takes out.
     pub(crate) left: FrameList,
 }
@@ -31,27 +33,28 @@ pub enum RecvAnswer {
     Empty,
 }
 
-// Receives the next frame, entry `number`, where its flag is up: takes it out of its slot, clears the flag and
-// acknowledges it.
+// Receives the next frame where the flag of its entry, at this position, is up: takes it out of its slot, clears the
+// flag and acknowledges the entry.
 pub(crate) fn receive(
     board: &Board,
     seat: &mut LaneSeat,
     entries: u64,
-    number: u64,
+    position: u64,
 ) -> Option<Frame>
     requires table { (seat.old.table_id ≡ board.now.table_id) × IsTableOf entries board.now.table_id board.now.key }
-    requires part { HasRecv seat.old.me.0 × IsReady entries number (the_recv seat.old.me.0) }
+    requires part { HasRecv seat.old.me.0 × IsReady entries (length (the_recv seat.old.me.0).got) (the_recv seat.old.me.0) }
+    requires position { position ≡ length (the_recv seat.old.me.0).got % entries }
     ensures table { seat.new.table_id ≡ seat.old.table_id }
-    ensures knows { MatchOption result ((found : ℕ) × NothingCame seat.old.me found seat.new.me) (λ frame. (number < most_lane_frames) × FrameCame seat.old.me frame seat.new.me) }
+    ensures knows { MatchOption result ((found : ℕ) × NothingCame seat.old.me found seat.new.me) (λ frame. (length (the_recv seat.old.me.0).got < most_lane_frames) × FrameCame seat.old.me frame seat.new.me) }
     ensures begins { IfSome seat.old.me.0.send (λ send. (the_recv seat.new.me.0).got ≡ take (length (the_recv seat.new.me.0).got) send.sent) }
-    ensures comes { IfNone result (IfSome seat.old.me.0.mover (λ mover. mover.flagged ≤ number)) }
+    ensures comes { IfNone result (IfSome seat.old.me.0.mover (λ mover. mover.flagged ≤ length (the_recv seat.old.me.0).got)) }
 {
-    if load_flag(board, seat, entries, number) != DONE {
+    if load_flag(board, seat, entries, position) != DONE {
         return None;
     }
-    let _header = load_header(board, seat, entries, number);
-    let frame = clear_flag(board, seat, entries, number).unwrap();
-    acknowledge(board, seat, entries, number);
+    let _header = load_header(board, seat, entries, position);
+    let frame = clear_flag(board, seat, entries, position).unwrap();
+    acknowledge(board, seat, entries, position);
     Some(frame)
 }
 
@@ -65,10 +68,11 @@ impl RecvEnd {
     {
         let number = self.got;
         let board = &self.at.table.shared;
-        match receive(board, &mut self.at.seat, self.at.entries, number) {
+        match receive(board, &mut self.at.seat, self.at.entries, self.position) {
             None => RecvAnswer::Empty,
             Some(frame) => {
                 self.got = number + 1;
+                self.position = position_after(self.at.entries, self.position, 1);
                 RecvAnswer::Got { number, frame }
             }
         }

@@ -5,7 +5,7 @@ ghost use Rattle.table_rule.specs.LaneNames.{free_entries};
 ghost use Rattle.table_rule.specs.ShownLane.{most_lane_frames};
 ghost use Rattle.table_lane.specs.SendAnswers.{Sends};
 
-use crate::board::{CUT, Standing};
+use crate::board::{CUT, Standing, position_after};
 use crate::steps::{load_index, load_link, post_frame};
 use std::marker::Model;
 use step_kinds::Frame;
@@ -17,6 +17,8 @@ use step_kinds::Frame;
 pub struct SendEnd {
     pub(crate) at: Standing,
     pub(crate) sent: u64,
+    /// The position of the next entry.
+    pub(crate) head: u64,
 }
 
 /// What came of an attempt to send a frame.
@@ -54,12 +56,13 @@ impl SendEnd {
         ensures sends { Sends self.old.part frame result self.new.part }
     {
         let board = &self.at.table.shared;
-        if load_link(board, &mut self.at.seat, self.at.entries) == CUT {
+        let entries = self.at.entries;
+        if load_link(board, &mut self.at.seat, entries) == CUT {
             return SendAnswer::Cut { frame };
         }
-        let head = self.sent % self.at.entries;
-        let tail = load_index(board, &mut self.at.seat, self.at.entries);
-        if free_entries(self.at.entries, head, tail) == 0 {
+        let head = self.head;
+        let tail = load_index(board, &mut self.at.seat, entries);
+        if free_entries(entries, head, tail) == 0 {
             return SendAnswer::NoRoom {
                 frame,
                 head: head as u32,
@@ -69,7 +72,8 @@ impl SendEnd {
         let number = self.sent;
         let _at_most = frame.len();
         self.sent = number + 1;
-        post_frame(board, &mut self.at.seat, self.at.entries, number, frame);
+        self.head = position_after(entries, head, 1);
+        post_frame(board, &mut self.at.seat, entries, number, head, frame);
         SendAnswer::Sent { number }
     }
 }

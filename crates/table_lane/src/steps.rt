@@ -41,88 +41,102 @@ pub(crate) fn load_index(table: &Board, seat: &mut LaneSeat, entries: u64) -> u6
 }
 
 // The sender puts a frame into the slot that it has, and stores the posted header of entry `n`.
-pub(crate) fn post_frame(table: &Board, seat: &mut LaneSeat, entries: u64, n: u64, frame: Frame)
+pub(crate) fn post_frame(
+    table: &Board,
+    seat: &mut LaneSeat,
+    entries: u64,
+    n: u64,
+    position: u64,
+    frame: Frame,
+)
     requires table { (seat.old.table_id ≡ table.now.table_id) × IsTableOf entries table.now.table_id table.now.key }
     requires part { HasSend seat.old.me.0 × ((the_send seat.old.me.0).claims ≡ true) × (n ≡ length (the_send seat.old.me.0).sent) × (n < most_lane_frames) }
-    requires slot { seat.old.me.1 ≡ (n % entries, None) ∷ rest seat.old.me.1 }
+    requires slot { (position ≡ n % entries) × (seat.old.me.1 ≡ (position, None) ∷ rest seat.old.me.1) }
     requires frame { length frame ≤ most_frame_bytes }
     ensures table { seat.new.table_id ≡ seat.old.table_id }
     ensures knows { seat.new.me ≡ (with_send seat.old.me.0 (frame_sent (the_send seat.old.me.0) frame), rest seat.old.me.1) }
 {
-    let slot = posted_word(entries, n);
+    let slot = posted_word(entries, position);
     let _empty = table.exchange(seat, slot, Some(frame));
     table.store::<StoresPosted>(seat, slot, header_of(n));
 }
 
-// The mover loads the posted header of entry `n`, and takes its slot where it is new.
-pub(crate) fn load_posted(table: &Board, seat: &mut LaneSeat, entries: u64, n: u64) -> u64
+// The mover loads the posted header of the next entry, and takes its slot where it is new.
+pub(crate) fn load_posted(table: &Board, seat: &mut LaneSeat, entries: u64, position: u64) -> u64
     requires table { (seat.old.table_id ≡ table.now.table_id) × IsTableOf entries table.now.table_id table.now.key }
-    requires part { HasMove seat.old.me.0 × (n ≡ taken (the_move seat.old.me.0)) }
+    requires part { HasMove seat.old.me.0 × (position ≡ taken (the_move seat.old.me.0) % entries) }
     ensures { StepTells sees_posted seat.old result seat.new }
 {
-    table.load::<SeesPosted>(seat, posted_word(entries, n))
+    table.load::<SeesPosted>(seat, posted_word(entries, position))
 }
 
 // The mover stores the header of entry `n`, which it holds.
-pub(crate) fn store_header(table: &Board, seat: &mut LaneSeat, entries: u64, n: u64)
+pub(crate) fn store_header(table: &Board, seat: &mut LaneSeat, entries: u64, n: u64, position: u64)
     requires table { (seat.old.table_id ≡ table.now.table_id) × IsTableOf entries table.now.table_id table.now.key }
-    requires part { HasMove seat.old.me.0 × ((the_move seat.old.me.0).entries ≡ entries) }
+    requires part { HasMove seat.old.me.0 × ((the_move seat.old.me.0).entries ≡ entries) × (position ≡ n % entries) }
     requires held { ((the_move seat.old.me.0).flagged ≤ n) × (n < taken (the_move seat.old.me.0)) × (length (the_move seat.old.me.0).held ≤ entries) × (slice_index_or (the_move seat.old.me.0).stored (n - (the_move seat.old.me.0).flagged) false ≡ false) }
     ensures table { seat.new.table_id ≡ seat.old.table_id }
     ensures knows { seat.new.me ≡ (with_move seat.old.me.0 (header_stored (the_move seat.old.me.0) n), seat.old.me.1) }
 {
-    table.store::<StoresHeader>(seat, header_word(entries, n), header_of(n));
+    table.store::<StoresHeader>(seat, header_word(entries, position), header_of(n));
 }
 
 // The mover stores the flag of the first entry that it holds, whose header is stored; its slot is then at home.
-pub(crate) fn store_flag(table: &Board, seat: &mut LaneSeat, entries: u64, n: u64)
+pub(crate) fn store_flag(table: &Board, seat: &mut LaneSeat, entries: u64, position: u64)
     requires table { (seat.old.table_id ≡ table.now.table_id) × IsTableOf entries table.now.table_id table.now.key }
-    requires part { HasMove seat.old.me.0 × (n ≡ (the_move seat.old.me.0).flagged) }
-    requires held { (frame : Bytes) × (seat.old.me.1 ≡ (n % entries, Some frame) ∷ rest seat.old.me.1) × ((the_move seat.old.me.0).held ≡ frame ∷ drop 1 (the_move seat.old.me.0).held) × ((the_move seat.old.me.0).stored ≡ true ∷ drop 1 (the_move seat.old.me.0).stored) }
+    requires part { HasMove seat.old.me.0 × (position ≡ (the_move seat.old.me.0).flagged % entries) }
+    requires held { (frame : Bytes) × (seat.old.me.1 ≡ (position, Some frame) ∷ rest seat.old.me.1) × ((the_move seat.old.me.0).held ≡ frame ∷ drop 1 (the_move seat.old.me.0).held) × ((the_move seat.old.me.0).stored ≡ true ∷ drop 1 (the_move seat.old.me.0).stored) }
     ensures { StepTells stores_flag seat.old 1 seat.new }
 {
-    table.store::<StoresFlag>(seat, flag_word(entries, n), DONE);
+    table.store::<StoresFlag>(seat, flag_word(entries, position), DONE);
 }
 
 // The receiver loads the flag of the next entry, and takes its slot where the flag is up.
-pub(crate) fn load_flag(table: &Board, seat: &mut LaneSeat, entries: u64, n: u64) -> u64
+pub(crate) fn load_flag(table: &Board, seat: &mut LaneSeat, entries: u64, position: u64) -> u64
     requires table { (seat.old.table_id ≡ table.now.table_id) × IsTableOf entries table.now.table_id table.now.key }
-    requires part { HasRecv seat.old.me.0 × ((the_recv seat.old.me.0).phase ≡ Idle) × (n ≡ length (the_recv seat.old.me.0).got) }
+    requires part { HasRecv seat.old.me.0 × ((the_recv seat.old.me.0).phase ≡ Idle) × (position ≡ length (the_recv seat.old.me.0).got % entries) }
     ensures { StepTells sees_flag seat.old result seat.new }
 {
-    table.load::<SeesFlag>(seat, flag_word(entries, n))
+    table.load::<SeesFlag>(seat, flag_word(entries, position))
 }
 
 // The receiver loads the header of the entry that it looks at, and has its frame.
-pub(crate) fn load_header(table: &Board, seat: &mut LaneSeat, entries: u64, n: u64) -> u64
+pub(crate) fn load_header(table: &Board, seat: &mut LaneSeat, entries: u64, position: u64) -> u64
     requires table { (seat.old.table_id ≡ table.now.table_id) × IsTableOf entries table.now.table_id table.now.key }
-    requires part { HasRecv seat.old.me.0 × ((the_recv seat.old.me.0).phase ≡ Copying) × (n ≡ length (the_recv seat.old.me.0).got) }
+    requires part { HasRecv seat.old.me.0 × ((the_recv seat.old.me.0).phase ≡ Copying) × (position ≡ length (the_recv seat.old.me.0).got % entries) }
     ensures { StepTells copies_frame seat.old result seat.new }
 {
-    table.load::<CopiesFrame>(seat, header_word(entries, n))
+    table.load::<CopiesFrame>(seat, header_word(entries, position))
 }
 
 // The receiver takes the frame out of its slot, and clears the flag; the slot is then at home and empty.
-pub(crate) fn clear_flag(table: &Board, seat: &mut LaneSeat, entries: u64, n: u64) -> Option<Frame>
+pub(crate) fn clear_flag(
+    table: &Board,
+    seat: &mut LaneSeat,
+    entries: u64,
+    position: u64,
+) -> Option<Frame>
     requires table { (seat.old.table_id ≡ table.now.table_id) × IsTableOf entries table.now.table_id table.now.key }
-    requires part { HasRecv seat.old.me.0 × ((the_recv seat.old.me.0).phase ≡ Copied) × (n + 1 ≡ length (the_recv seat.old.me.0).got) }
-    requires slot { (content : Content) × (seat.old.me.1 ≡ (n % entries, content) ∷ rest seat.old.me.1) }
+    requires part { HasRecv seat.old.me.0 × ((the_recv seat.old.me.0).phase ≡ Copied) }
+    requires position { (n : ℕ) × (n + 1 ≡ length (the_recv seat.old.me.0).got) × (position ≡ n % entries) }
+    requires slot { (content : Content) × (seat.old.me.1 ≡ (position, content) ∷ rest seat.old.me.1) }
     ensures table { seat.new.table_id ≡ seat.old.table_id }
-    ensures frame { seat.old.me.1 ≡ (n % entries, result) ∷ rest seat.old.me.1 }
+    ensures frame { seat.old.me.1 ≡ (position, result) ∷ rest seat.old.me.1 }
     ensures tells { clears_flag seat.old.me 0 seat.new.me }
 {
-    let frame = table.exchange(seat, posted_word(entries, n), None);
-    table.store::<ClearsFlag>(seat, flag_word(entries, n), 0);
+    let frame = table.exchange(seat, posted_word(entries, position), None);
+    table.store::<ClearsFlag>(seat, flag_word(entries, position), 0);
     frame
 }
 
-// The receiver stores in index out that entry `n` is given back.
-pub(crate) fn acknowledge(table: &Board, seat: &mut LaneSeat, entries: u64, n: u64)
+// The receiver stores in index out that the entry is given back whose flag it cleared.
+pub(crate) fn acknowledge(table: &Board, seat: &mut LaneSeat, entries: u64, position: u64)
     requires table { (seat.old.table_id ≡ table.now.table_id) × IsTableOf entries table.now.table_id table.now.key }
-    requires part { HasRecv seat.old.me.0 × ((the_recv seat.old.me.0).phase ≡ Cleared) × (n + 1 ≡ length (the_recv seat.old.me.0).got) }
+    requires part { HasRecv seat.old.me.0 × ((the_recv seat.old.me.0).phase ≡ Cleared) }
+    requires position { (n : ℕ) × (n + 1 ≡ length (the_recv seat.old.me.0).got) × (position ≡ n % entries) }
     ensures { StepTells stores_index_out seat.old 0 seat.new }
 {
-    table.store::<StoresIndexOut>(seat, index_out_word(entries), n % entries);
+    table.store::<StoresIndexOut>(seat, index_out_word(entries), position);
 }
 
 // The way back loads index out.

@@ -6,7 +6,7 @@ use mathlib.Core.Option.{none}
 use lib.ListN.{get_elem?}
 use Rattle.atomic_table.specs.Table.{Allows, keeps, takes}
 use Rattle.table_rule.specs.LaneNames.{done}
-use Rattle.table_rule.specs.Words.{posted_word, header_word, flag_word, header_of}
+use Rattle.table_rule.specs.Words.{posted_word, header_word, flag_word, header_of, spacing}
 use Rattle.table_rule.specs.Views.{Bytes, MovePart, the_move, HasMove, with_move}
 use Rattle.table_rule.specs.ShownLane.{number_at}
 use Rattle.table_rule.specs.Moment.{Moment, ShowsLane}
@@ -71,8 +71,8 @@ stores_header_allowed N slots id me i new n is header has entries low high left 
     let landed = moving.stores_header N m board.homes j n (omega arith) (omega arith) left seat.now.shows in
     let after : MovePart = header_stored part n in
     let near : n < part.flagged + N = omega (arith, o.taken, o.sent, o.claimed) in
-    let position : i - part.entries ≡ n % N = omega arith in
-    let named : number_at part.entries part.flagged (i - part.entries) ≡ n = (λ q. number_at (entries q) part.flagged (position q)) ∙ number_is N part.flagged n low near in (
+    let position : i - (part.entries + spacing) ≡ n % N = omega arith in
+    let named : number_at part.entries part.flagged (i - (part.entries + spacing)) ≡ n = (λ q. number_at (entries q) part.flagged (position q)) ∙ number_is N part.flagged n low near in (
       with_move me.0 after,
       keeps,
       tt,

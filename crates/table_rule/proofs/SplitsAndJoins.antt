@@ -14,6 +14,7 @@ use Rattle.table_rule.specs.Moment.{Moment, EachHasOneSeat, ShowsLane}
 use Rattle.table_rule.specs.Rule.{Content, Board, IsMoment, ShowsALane}
 use Rattle.table_rule.specs.Loads.{SplitsAreNoSteps, JoinsAreNoSteps}
 use Rattle.table_rule.proofs.LaneLaws.{new_holds}
+pub use Rattle.table_rule.proofs.WordLists.{first_lie}
 use Rattle.table_rule.proofs.Seats.{GoesToOne, part_splits, part_joins}
 use Rattle.table_rule.proofs.Slots.{slot_is}
 

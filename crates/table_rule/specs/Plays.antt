@@ -2,7 +2,7 @@
 use Rattle.std.specs.Prelude.{◌≡◌, ℕ, ◌+◌, ◌-◌, ◌%◌, ◌^◌, ◌<◌, ◌≤◌, ◌==◌, nat_lt, List, [], ◌∷◌, length, take, Option, Some, None, IfSome, MatchBool}
 use Rattle.atomic_table.specs.Table.{rest}
 use Rattle.table_rule.specs.LaneNames.{done, version_of}
-use Rattle.table_rule.specs.Words.{header_of}
+use Rattle.table_rule.specs.Words.{header_of, spacing}
 use Rattle.table_rule.specs.Views.{Bytes, SendPart, MovePart, RecvPart, the_send, the_move, the_recv, the_back, the_cut, with_send, with_move, with_recv, with_back, with_cut}
 use Rattle.table_rule.specs.ShownLane.{number_at, most_lane_frames}
 use Rattle.table_rule.specs.Rule.{Content, Sitter}
@@ -55,7 +55,7 @@ sees_posted before found after =
 abbrev pub stores_header : ℕ → Tells
 stores_header word before found after =
     let part = the_move before.0 in
-    after ≡ (with_move before.0 (header_stored part (number_at part.entries part.flagged (word - part.entries))), before.1)
+    after ≡ (with_move before.0 (header_stored part (number_at part.entries part.flagged (word - (part.entries + spacing)))), before.1)
 
 abbrev pub stores_flag : Tells
 stores_flag before found after = after ≡ (with_move before.0 (flag_stored (the_move before.0)), rest before.1)

@@ -1,4 +1,4 @@
--- The words of a table with N positions: three for each position, and three for the lane.
+-- The words of a table with N positions: three for each position, three for the lane, and others between them.
 use Rattle.std.specs.Prelude.{◌≡◌, ℕ, ◌+◌, ◌*◌, ◌%◌, ◌^◌, List, [], ◌∷◌, ◌++◌, length, replicate}
 use Rattle.table_rule.specs.LaneNames.{tail_of, version_of}
 
@@ -15,31 +15,39 @@ pub record Words : Type 0 where
   -- 1 once the link is cut
   pub link : ℕ
 
+-- how many words that nobody reads follow each list of words and each single word: what different workers store and
+-- load then lies on cache lines of its own
+abbrev pub spacing : ℕ
+spacing = 15
+
+abbrev pub spaced : List ℕ → List ℕ
+spaced words = words ++ replicate spacing 0
+
 -- how they lie in the table
 abbrev pub words_of : Words → List ℕ
-words_of words = words.posted ++ (words.headers ++ (words.flags ++ words.index_out ∷ words.index ∷ words.link ∷ []))
+words_of words = spaced words.posted ++ (spaced words.headers ++ (spaced words.flags ++ (spaced (words.index_out ∷ []) ++ (spaced (words.index ∷ []) ++ spaced (words.link ∷ [])))))
 
 -- the numbers of the words
 abbrev pub posted_word : ℕ → ℕ → ℕ
 posted_word N n = n % N
 
 abbrev pub header_word : ℕ → ℕ → ℕ
-header_word N n = N + n % N
+header_word N n = N + spacing + n % N
 
 abbrev pub flag_word : ℕ → ℕ → ℕ
-flag_word N n = N + (N + n % N)
+flag_word N n = 2 * (N + spacing) + n % N
 
 abbrev pub index_out_word : ℕ → ℕ
-index_out_word N = 3 * N
+index_out_word N = 3 * (N + spacing)
 
 abbrev pub index_word : ℕ → ℕ
-index_word N = 3 * N + 1
+index_word N = index_out_word N + (1 + spacing)
 
 abbrev pub link_word : ℕ → ℕ
-link_word N = 3 * N + 2
+link_word N = index_word N + (1 + spacing)
 
 abbrev pub words_in : ℕ → ℕ
-words_in N = 3 * N + 3
+words_in N = link_word N + (1 + spacing)
 
 -- the header of entry n: its version, with a bit above that tells it from a word that was never stored
 abbrev pub header_of : ℕ → ℕ

@@ -1,6 +1,7 @@
-use Rattle.std.proofs.Common.{◌≡◌, ℕ, ◌%◌, List, ◌∷◌, eqb, eq-eqb, true, sym, ap, ◌∙◌, Some}
+use Rattle.std.proofs.Common.{◌≡◌, ℕ, ◌%◌, List, ◌∷◌, length, eqb, eq-eqb, true, sym, ap, ◌∙◌, Some}
 use Rattle.atomic_table.specs.Table.{rest}
 use Rattle.table_rule.specs.Rule.{Sitter, Content}
+use Rattle.table_rule.specs.Views.{the_recv}
 use Rattle.table_lane.proofs.recv.receive.Goals as goal
 
 pub clear_flag-requires-clause-slot : goal.clear_flag-requires-clause-slot
@@ -9,6 +10,6 @@ clear_flag-requires-clause-slot c =
     let found = rw hit at c.load_flag.ensures.tells.0 in
     let ready = c.requires.part.1 in
     let others : List (ℕ × Content) = c.args.seat.now.me.1 in
-    let hand : c.load_header-header.new.seat.me.1 ≡ (c.args.number % c.args.entries, Some found.0) ∷ others =
-    ap (λ (m : Sitter). m.1) c.load_header-header.ensures.tells.0 ∙ ap (λ (m : Sitter). m.1) found.1 ∙ (λ i. (sym ready.next i % ready.of i, Some found.0) ∷ others) in
-    (Some found.0, hand ∙ ap (λ (slots : List (ℕ × Content)). (c.args.number % c.args.entries, Some found.0) ∷ slots) (sym (ap rest hand)))
+    let hand : c.load_header-header.new.seat.me.1 ≡ (c.args.position, Some found.0) ∷ others =
+    ap (λ (m : Sitter). m.1) c.load_header-header.ensures.tells.0 ∙ ap (λ (m : Sitter). m.1) found.1 ∙ ap (λ (k : ℕ). (let slots : List (ℕ × Content) = (k, Some found.0) ∷ others in slots)) (ap (λ (N : ℕ). length (the_recv c.args.seat.now.me.0).got % N) ready.of ∙ sym c.requires.position) in
+    (Some found.0, hand ∙ ap (λ (slots : List (ℕ × Content)). (c.args.position, Some found.0) ∷ slots) (sym (ap rest hand)))

@@ -4,5 +4,5 @@ use Rattle.table_lane.proofs.steps.load_posted.Goals as goal
 
 pub load-requires : goal.load-requires
 load-requires c =
-    let word = posted_stands c.requires.table.1 c.posted_word.ensures c.requires.part.1 in
+    let word = posted_stands _ c.requires.table.1 c.requires.part.1 c.posted_word.ensures in
     (c.requires.table.0, word.0, sees_posted_allowed _ _ _ _ _ word.1 c.requires.part.0)

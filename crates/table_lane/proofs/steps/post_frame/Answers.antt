@@ -1,5 +1,5 @@
 use Rattle.std.proofs.Common.{length, ◌^◌, ◌≡◌, ℕ, ◌<◌, sym, ap, ◌∙◌, subst}
-use Rattle.table_rule.specs.Words.{header_of}
+use Rattle.table_rule.specs.Words.{posted_word, header_of}
 use Rattle.table_rule.specs.Rule.{Sitter}
 use Rattle.table_rule.specs.declared.parts.LaneView.{LaneView}
 use Rattle.table_rule.specs.Views.{HasSend, the_send}
@@ -14,10 +14,11 @@ store-requires c =
     let swapped = c.exchange-empty.ensures in
     let view : c.exchange-empty.new.seat.me.0 ≡ c.args.seat.now.me.0 = ap (λ (m : Sitter). m.0) swapped.3 in
     let n : c.args.n ≡ length (the_send c.exchange-empty.new.seat.me.0).sent = c.requires.part.2 ∙ ap (λ (v : LaneView). length (the_send v).sent) (sym view) in
-    let word = posted_stands t c.posted_word-slot.ensures n in (
+    let word = posted_stands _ t c.requires.slot.0 c.posted_word-slot.ensures in
+    let at = word.1 ∙ ap (posted_word c.args.table.now.key) n in (
       swapped.0 ∙ c.requires.table.0,
       word.0,
-      stores_posted_allowed _ _ _ _ _ _ c.args.frame _ (rest c.args.seat.now.me.1) word.1 (c.header_of.ensures ∙ ap header_of n) (ap (λ (m : Sitter). m.1) swapped.3)
-          word.1 c.requires.frame (subst (λ (k : ℕ). k < 2 ^ 62) n c.requires.part.3)
+      stores_posted_allowed _ _ _ _ _ _ c.args.frame _ (rest c.args.seat.now.me.1) at (c.header_of.ensures ∙ ap header_of n) (ap (λ (m : Sitter). m.1) swapped.3)
+          at c.requires.frame (subst (λ (k : ℕ). k < 2 ^ 62) n c.requires.part.3)
           (subst (λ (v : LaneView). HasSend v) (sym view) c.requires.part.0) (ap (λ (v : LaneView). (the_send v).claims) view ∙ c.requires.part.1),
     )

@@ -1,13 +1,16 @@
-use Rattle.std.proofs.Common.{◌%◌, sym}
+use Rattle.std.proofs.Common.{ℕ, ◌%◌, sym, ap, ◌∙◌}
+use Rattle.table_rule.specs.Views.{the_move}
 use Rattle.table_rule.proofs.MoveSteps.{stores_flag_allowed}
 use Rattle.table_lane.proofs.WordsInTable.{flag_stands}
 use Rattle.table_lane.proofs.steps.store_flag.Goals as goal
 
 pub store-requires : goal.store-requires
 store-requires c =
-    let word = flag_stands c.requires.table.1 c.flag_word.ensures c.requires.part.1 in
+    let t = c.requires.table.1 in
+    let at = c.requires.part.1 in
+    let word = flag_stands _ t at c.flag_word.ensures in
     let held = c.requires.held in (
       c.requires.table.0,
       word.0,
-      stores_flag_allowed _ _ _ _ _ _ held.0 _ word.1 held.1 (λ i. c.requires.part.1 i % sym c.requires.table.1.key i) c.requires.part.0 held.2 held.3,
+      stores_flag_allowed _ _ _ _ _ _ held.0 _ word.1 held.1 (at ∙ ap (λ (N : ℕ). (the_move c.args.seat.now.me.0).flagged % N) (sym t.key)) c.requires.part.0 held.2 held.3,
     )

@@ -1,6 +1,7 @@
-use Rattle.std.proofs.Common.{arith, ◌≡◌, ℕ, ◌+◌, ◌-◌, ◌%◌, ◌<◌, refl, sym, ap, ◌∙◌}
+use Rattle.std.proofs.Common.{arith, ◌≡◌, ℕ, ◌+◌, ◌-◌, ◌%◌, ◌<◌, sym, ap, ◌∙◌}
 use Rattle.table_rule.specs.declared.parts.MovePart.{MovePart}
 use Rattle.table_rule.specs.ShownLane.{number_at}
+use Rattle.table_rule.specs.Words.{spacing}
 use Rattle.table_rule.specs.Rule.{Sitter}
 use Rattle.table_rule.specs.Views.{the_move, with_move}
 use Rattle.table_rule.specs.Knowledge.{header_stored}
@@ -11,7 +12,7 @@ use Rattle.table_lane.proofs.steps.store_header.Goals as goal
 
 pub store-requires : goal.store-requires
 store-requires c =
-    let word = header_stands {n = c.args.n} c.requires.table.1 c.header_word.ensures refl in
+    let word = header_stands _ c.requires.table.1 c.requires.part.2 c.header_word.ensures in
     let held = c.requires.held in (
       c.requires.table.0,
       word.0,
@@ -26,6 +27,7 @@ returns-clause-knows c =
     let known : part.entries ≡ N = c.requires.part.1 in
     let near : c.args.n < part.flagged + N = omega (arith, held.1, held.2) in
     let word = c.header_word.ensures in
-    let position : c.header_word.result - part.entries ≡ c.args.n % N = omega arith in
+    let at = c.requires.part.2 in
+    let position : c.header_word.result - (part.entries + spacing) ≡ c.args.n % N = omega arith in
     c.store.ensures.2
     ∙ ap (λ (n : ℕ). (let me : Sitter = (with_move c.args.seat.now.me.0 (header_stored part n), c.args.seat.now.me.1) in me)) ((λ i. number_at (known i) part.flagged (position i)) ∙ number_is N part.flagged c.args.n held.0 near)

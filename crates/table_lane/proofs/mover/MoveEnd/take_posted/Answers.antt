@@ -38,4 +38,6 @@ invariant_of-self-2 c =
       me = subst (λ (ws : List ℕ). P ws c.turn.new.self.me) (sym c.push_back_reserved.ensures.items) (subst (λ (m : Sitter). P (c.self.inside.waiting.items ++ c.self.inside.taken ∷ []) m) (sym me) after);
       room = subst (λ (n : ℕ). c.self.inside.at.entries ≤ n) (sym c.push_back_reserved.ensures.capacity) inv.room;
       counted = omega (arith, told.2);
+      first = inv.first;
+      next = c.position_after-self-inside.ensures c.self.inside.taken inv.next;
     }
