@@ -14,7 +14,7 @@ use Rattle.step_kinds.specs.declared.steps.Answer.TheVariants.{Ok as Done, OkSes
 use Rattle.step_kinds.specs.declared.steps.Label.{Label}
 use Rattle.step_kinds.specs.declared.steps.Label.TheVariants.{Flag, Down, Bell, Index, Pad}
 use Rattle.step_kinds.specs.declared.steps.Step.{Step}
-use Rattle.step_kinds.specs.declared.steps.Step.TheVariants.{Enable, Train, Break, DropDone, Clean, Offer, Check, Ready, Join, Begin, QpDown, Xbegin, Post, Land, Look, Copy, Clear, Ack, Wake, Irq, Mask, Unmask, Spad, Poke, ShowMem, ShowPad, ShowQueue, Relay, Xnext}
+use Rattle.step_kinds.specs.declared.steps.Step.TheVariants.{Enable, Train, Break, DropDone, Clean, Offer, Check, Ready, Join, Begin, QpDown, Xbegin, Post, Land, Look, Copy, Clear, Ack, Wake, Spad, Poke}
 use Rattle.lane_model.specs.Lane.{Entry, GoesDown, chunks_in}
 use Rattle.lane_model.specs.declared.Phase.{Phase}
 use Rattle.lane_model.specs.declared.Phase.TheVariants.{Idle, Copying, Copied, Cleared}
@@ -296,16 +296,9 @@ module _ (plan : Plan) (own : LaneName) (reading : Reading) (bytes : Bytes) (pai
   stands_next (Clear p side queue) e = clear_stands p side queue
   stands_next (Ack p side queue) e = ack_stands p side queue
   stands_next (Wake p side queue dev) e = wake_cases (StandsSo (Wake p side queue dev)) reading (dev_plan plan.devs dev) pair side queue (λ r no. quiet (λ looked. refl) refl) (quiet (λ looked. refl) refl)
-  stands_next (Irq p side) e = quiet (λ looked. refl) refl
-  stands_next (Mask p side bits) e = quiet (λ looked. refl) refl
-  stands_next (Unmask p side bits) e = quiet (λ looked. refl) refl
   stands_next (Spad p side i value) e = quiet (λ looked. refl) (same-posts (λ (q : PairPart). q.lanes) pair side _ (λ _. refl))
   stands_next (Poke p side window offset poked) e = quiet (λ looked. refl) (same-posts_raw (λ (q : PairPart). q.lanes) pair side _ poked (λ _. refl))
-  stands_next (ShowMem p side at len) e = quiet (λ looked. refl) refl
-  stands_next (ShowPad p side i) e = quiet (λ looked. refl) refl
-  stands_next (ShowQueue p side place) e = quiet (λ looked. refl) refl
-  stands_next (Relay p side queue switch port) e = quiet (λ looked. refl) refl
-  stands_next (Xnext p side queue dev) e = quiet (λ looked. refl) refl
+  stands_next step e = quiet (λ looked. refl) refl
 
 abbrev KnowsParts : LaneName → List Answered → PairPart → Type 0
 KnowsParts own log pair = Knows (looked_in log own.pair own.from own.queue) (stand (lane_to pair own.from own.queue))

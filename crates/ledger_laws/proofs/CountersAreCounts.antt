@@ -18,7 +18,7 @@ use Rattle.step_kinds.specs.declared.steps.Answer.TheVariants.{OkNumber, Deliver
 use Rattle.step_kinds.specs.declared.steps.Label.{Label}
 use Rattle.step_kinds.specs.declared.steps.Label.TheVariants.{Flag, Down, Bell, Index, Pad}
 use Rattle.step_kinds.specs.declared.steps.Step.{Step}
-use Rattle.step_kinds.specs.declared.steps.Step.TheVariants.{Enable, Train, Break, DropDone, Clean, Offer, Check, Ready, Join, Begin, QpDown, Xbegin, Post, Land, Look, Copy, Clear, Ack, Wake, Irq, Mask, Unmask, Spad, Poke, ShowMem, ShowPad, ShowQueue, Relay, Xnext}
+use Rattle.step_kinds.specs.declared.steps.Step.TheVariants.{Enable, Train, Break, DropDone, Clean, Offer, Check, Ready, Join, Begin, QpDown, Xbegin, Post, Land, Look, Copy, Clear, Ack, Wake, Spad, Poke}
 use Rattle.plan_model.specs.Both.{Both, at_side, with_side}
 use Rattle.plan_model.specs.Device.{count_accepted, count_refused, count_delivered, no_counts}
 use Rattle.plan_model.specs.Ethernet.{ethernet_frame}
@@ -296,16 +296,9 @@ module _ (plan : Plan) (own : LaneName) (reading : Reading) (bytes : Bytes) (pai
   counts_next (Ack p side queue) e = ack_cases reading (CountsSo (Ack p side queue)) pair side queue (λ r no. same (nothing refl refl refl) refl) (λ _. same (nothing refl refl refl) (devs-through reading (acking pair side queue) side (Index queue (lane_to pair side queue).acked)))
   counts_next (Wake p side queue dev) e =
       wake_cases (CountsSo (Wake p side queue dev)) reading (dev_plan plan.devs dev) pair side queue (λ r no. same (nothing refl refl refl) refl) (none (nothing refl refl refl) (counters-kept own.from own.queue pair.devs side queue _ refl))
-  counts_next (Irq p side) e = same (nothing refl refl refl) refl
-  counts_next (Mask p side bits) e = same (nothing refl refl refl) refl
-  counts_next (Unmask p side bits) e = same (nothing refl refl refl) refl
   counts_next (Spad p side i value) e = same (nothing refl refl refl) (devs-posts pair side _)
   counts_next (Poke p side window offset poked) e = same (nothing refl refl refl) (devs-posts_raw pair side _ poked)
-  counts_next (ShowMem p side at len) e = same (nothing refl refl refl) refl
-  counts_next (ShowPad p side i) e = same (nothing refl refl refl) refl
-  counts_next (ShowQueue p side place) e = same (nothing refl refl refl) refl
-  counts_next (Relay p side queue switch port) e = same (nothing refl refl refl) refl
-  counts_next (Xnext p side queue dev) e = same (nothing refl refl refl) refl
+  counts_next step e = same (nothing refl refl refl) refl
 
 abbrev IsCounted : Plan → LaneName → List Answered → PairPart → Type 0
 IsCounted plan own log pair = (dev_of pair own.from own.queue).counters ≡ counters_in plan log own

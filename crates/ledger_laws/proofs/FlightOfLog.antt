@@ -16,7 +16,7 @@ use Rattle.step_kinds.specs.declared.steps.Answer.TheVariants.{Ok as Done, OkSes
 use Rattle.step_kinds.specs.declared.steps.Label.{Label}
 use Rattle.step_kinds.specs.declared.steps.Label.TheVariants.{Flag, Down, Bell, Index, Pad, Raw}
 use Rattle.step_kinds.specs.declared.steps.Step.{Step}
-use Rattle.step_kinds.specs.declared.steps.Step.TheVariants.{Enable, Train, Break, DropDone, Clean, Offer, Check, Ready, Join, Begin, QpDown, Xbegin, Post, Land, Look, Copy, Clear, Ack, Wake, Irq, Mask, Unmask, Spad, Poke, ShowMem, ShowPad, ShowQueue, Relay, Xnext}
+use Rattle.step_kinds.specs.declared.steps.Step.TheVariants.{Enable, Train, Break, DropDone, Clean, Offer, Check, Ready, Join, Begin, QpDown, Xbegin, Post, Land, Look, Copy, Clear, Ack, Wake, Irq, Mask, Unmask, Spad, Poke}
 use Rattle.plan_model.specs.Pads.{offers}
 use Rattle.plan_model.specs.Plans.{dev_plan, pair_plan, side_plan}
 use Rattle.plan_model.specs.Sizes.{sizes_of}
@@ -286,11 +286,7 @@ module _ (plan : Plan) (k : ℕ) (side : Side) (reading : Reading) (bytes : Byte
   tells_next (Poke p s window offset poked) e =
       own_pair p e s (goes_out Now (Raw window offset (length poked))) ∙ same_there s (λ t. goes_out (outbox_in pair t) (Raw window offset (length poked)))
       ∙ sym (posts_raw_seen side pair s (Raw window offset (length poked)) poked)
-  tells_next (ShowMem p s at len) e = refl
-  tells_next (ShowPad p s i) e = refl
-  tells_next (ShowQueue p s place) e = refl
-  tells_next (Relay p s queue switch port) e = refl
-  tells_next (Xnext p s queue dev) e = refl
+  tells_next step e = refl
 
 -- After every log
 

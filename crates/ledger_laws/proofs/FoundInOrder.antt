@@ -15,7 +15,7 @@ use Rattle.step_kinds.specs.declared.plan.Plan.{Plan}
 use Rattle.step_kinds.specs.declared.steps.Answer.{Answer}
 use Rattle.step_kinds.specs.declared.steps.Answer.TheVariants.{OkSession, NotReady, Closed, OutOfTurn, Landed, Posted}
 use Rattle.step_kinds.specs.declared.steps.Step.{Step}
-use Rattle.step_kinds.specs.declared.steps.Step.TheVariants.{Enable, Train, Break, DropDone, Clean, Offer, Check, Ready, Join, Begin, QpDown, Xbegin, Post, Land, Look, Copy, Clear, Ack, Wake, Irq, Mask, Unmask, Spad, Poke, ShowMem, ShowPad, ShowQueue, Relay, Xnext}
+use Rattle.step_kinds.specs.declared.steps.Step.TheVariants.{Enable, Train, Break, DropDone, Clean, Offer, Check, Ready, Join, Begin, QpDown, Xbegin, Post, Land, Look, Copy, Clear, Ack, Wake, Spad, Poke}
 use Rattle.step_kinds.specs.declared.steps.Label.{Label}
 use Rattle.step_kinds.specs.declared.steps.Label.TheVariants.{Chunk, Len, Ver, Flag, Down, Bell, Index, Pad, Raw}
 use Rattle.lane_model.specs.Lane.{Entry, Carries, GoesDown}
@@ -313,17 +313,10 @@ module _ (plan : Plan) (own : LaneName) (reading : Reading) (bytes : Bytes) (pai
       (λ turn. quiet (posts_through reading (acking pair side queue) side (Index queue lane.acked))
       (through_same (acking pair side queue) side (Index queue lane.acked) ∙ received_same side queue (record lane { acked = lane.acked + 1; phase = Idle }) refl refl))
   flags_next_is (Wake p side queue dev) e next = wake_cases (Flags (Wake p side queue dev)) reading (dev_plan plan.devs dev) pair side queue (λ r no. still) still
-  flags_next_is (Irq p side) e next = still
-  flags_next_is (Mask p side bits) e next = still
-  flags_next_is (Unmask p side bits) e next = still
   flags_next_is (Spad p side i value) e next = quiet (posts pair side (Pad i value)) (posts_same pair side (Pad i value))
   flags_next_is (Poke p side window offset poked) e next =
       quiet (posts_raw pair side (Raw window offset (length poked)) poked) (same-posts_raw (Had own) pair side (Raw window offset (length poked)) poked (λ _. refl))
-  flags_next_is (ShowMem p side at len) e next = still
-  flags_next_is (ShowPad p side i) e next = still
-  flags_next_is (ShowQueue p side place) e next = still
-  flags_next_is (Relay p side queue switch port) e next = still
-  flags_next_is (Xnext p side queue dev) e next = still
+  flags_next_is step e next = still
 
 -- After every log
 

@@ -18,7 +18,7 @@ use Rattle.step_kinds.specs.declared.steps.Answer.TheVariants.{Ok as Done, OkSes
 use Rattle.step_kinds.specs.declared.steps.Label.{Label}
 use Rattle.step_kinds.specs.declared.steps.Label.TheVariants.{Flag, Down, Bell, Index, Pad, Raw}
 use Rattle.step_kinds.specs.declared.steps.Step.{Step}
-use Rattle.step_kinds.specs.declared.steps.Step.TheVariants.{Enable, Train, Break, DropDone, Clean, Offer, Check, Ready, Join, Begin, QpDown, Xbegin, Post, Land, Look, Copy, Clear, Ack, Wake, Irq, Mask, Unmask, Spad, Poke, ShowMem, ShowPad, ShowQueue, Relay, Xnext}
+use Rattle.step_kinds.specs.declared.steps.Step.TheVariants.{Enable, Train, Break, DropDone, Clean, Offer, Check, Ready, Join, Begin, QpDown, Xbegin, Post, Land, Look, Copy, Clear, Ack, Wake, Irq, Mask, Unmask, Spad, Poke}
 use Rattle.lane_laws.proofs.Facade.{length-count_from}
 use Rattle.lane_model.specs.Lane.{Entry, GoesDown, bytes_of, chunks_in, count_from, data_of, writes_of}
 use Rattle.lane_model.specs.declared.Field.TheVariants.{Chunk, Length, Version}
@@ -628,11 +628,7 @@ module _ (plan : Plan) (own : LaneName) (reading : Reading) (bytes : Bytes) (pai
   tells_next (Unmask p side bits) e = sym (part_kept side (record (side_of pair side) { masked = without_bits (side_of pair side).masked bits }) refl refl refl)
   tells_next (Spad p side i value) e = sym (posted_kept pair side (Pad i value))
   tells_next (Poke p side window offset poked) e = sym (raw_kept side (Raw window offset (length poked)) poked)
-  tells_next (ShowMem p side at len) e = refl
-  tells_next (ShowPad p side i) e = refl
-  tells_next (ShowQueue p side place) e = refl
-  tells_next (Relay p side queue switch port) e = refl
-  tells_next (Xnext p side queue dev) e = refl
+  tells_next step e = refl
 
 -- Before any step
 

@@ -15,7 +15,7 @@ use Rattle.step_kinds.specs.declared.steps.Answer.TheVariants.{Ok as Done, OkSes
 use Rattle.step_kinds.specs.declared.steps.Label.{Label}
 use Rattle.step_kinds.specs.declared.steps.Label.TheVariants.{Flag, Down, Bell, Index, Pad}
 use Rattle.step_kinds.specs.declared.steps.Step.{Step}
-use Rattle.step_kinds.specs.declared.steps.Step.TheVariants.{Enable, Train, Break, DropDone, Clean, Offer, Check, Ready, Join, Begin, QpDown, Xbegin, Post, Land, Look, Copy, Clear, Ack, Wake, Irq, Mask, Unmask, Spad, Poke, ShowMem, ShowPad, ShowQueue, Relay, Xnext}
+use Rattle.step_kinds.specs.declared.steps.Step.TheVariants.{Enable, Train, Break, DropDone, Clean, Offer, Check, Ready, Join, Begin, QpDown, Xbegin, Post, Land, Look, Copy, Clear, Ack, Wake, Spad, Poke}
 use Rattle.lane_model.specs.Lane.{Entry, GoesDown}
 use Rattle.lane_model.specs.declared.Phase.TheVariants.{Idle, Copying, Copied, Cleared}
 use Rattle.plan_model.specs.Both.{Both, at_side}
@@ -369,17 +369,10 @@ module _ (plan : Plan) (lane : LaneName) (reading : Reading) (bytes : Bytes) (pa
       (same-through (λ (q : PairPart). q.link) reading (acking pair side queue) side (Index queue (lane_to pair side queue).acked) (λ _. refl))
       (same-through (λ (q : PairPart). q.lanes) reading (acking pair side queue) side (Index queue (lane_to pair side queue).acked) (λ _. refl)))
   writes_next (Wake p side queue dev) e = wake_cases (WritesSo (Wake p side queue dev)) reading (dev_plan plan.devs dev) pair side queue (λ r no. quiet (nothing refl refl) refl refl) (quiet (nothing refl refl) refl refl)
-  writes_next (Irq p side) e = quiet (nothing refl refl) refl refl
-  writes_next (Mask p side bits) e = quiet (nothing refl refl) refl refl
-  writes_next (Unmask p side bits) e = quiet (nothing refl refl) refl refl
   writes_next (Spad p side i value) e = quiet (nothing refl refl) (same-posts (λ (q : PairPart). q.link) pair side _ (λ _. refl)) (same-posts (λ (q : PairPart). q.lanes) pair side _ (λ _. refl))
   writes_next (Poke p side window offset poked) e =
       quiet (nothing refl refl) (same-posts_raw (λ (q : PairPart). q.link) pair side _ poked (λ _. refl)) (same-posts_raw (λ (q : PairPart). q.lanes) pair side _ poked (λ _. refl))
-  writes_next (ShowMem p side at len) e = quiet (nothing refl refl) refl refl
-  writes_next (ShowPad p side i) e = quiet (nothing refl refl) refl refl
-  writes_next (ShowQueue p side place) e = quiet (nothing refl refl) refl refl
-  writes_next (Relay p side queue switch port) e = quiet (nothing refl refl) refl refl
-  writes_next (Xnext p side queue dev) e = quiet (nothing refl refl) refl refl
+  writes_next step e = quiet (nothing refl refl) refl refl
 
 abbrev HasPosted : LaneName → List Answered → PairPart → Type 0
 HasPosted lane log pair = has_forgotten pair lane.from ≡ false → AreWrites lane.queue (posted_in log lane) (lane_of pair lane.from lane.queue).todo (lane_of pair lane.from lane.queue).sent

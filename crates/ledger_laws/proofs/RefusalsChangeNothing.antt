@@ -6,7 +6,7 @@ use Rattle.step_kinds.specs.Subject.{subject_of}
 use Rattle.step_kinds.specs.declared.plan.DevPlan.{DevPlan}
 use Rattle.step_kinds.specs.declared.plan.PairPlan.{PairPlan}
 use Rattle.step_kinds.specs.declared.steps.Step.{Step}
-use Rattle.step_kinds.specs.declared.steps.Step.TheVariants.{Enable, Train, Break, DropDone, Clean, Offer, Check, Ready, Join, Begin, QpDown, Xbegin, Post, Land, Look, Copy, Clear, Ack, Wake, Irq, Mask, Unmask, Spad, Poke, ShowMem, ShowPad, ShowQueue, Relay, Xnext}
+use Rattle.step_kinds.specs.declared.steps.Step.TheVariants.{Enable, Train, Break, DropDone, Clean, Offer, Check, Ready, Join, Begin, QpDown, Xbegin, Post, Land, Look, Copy, Clear, Ack, Wake, Irq, Mask, Unmask, Spad, Poke}
 use Rattle.plan_model.specs.Plans.{dev_plan, pair_plan}
 use Rattle.plan_model.specs.Sizes.{sizes_of}
 use Rattle.byte_model.specs.Headers.{Bytes}
@@ -56,11 +56,7 @@ module _ (devs : List DevPlan) (plan : PairPlan) (reading : Reading) (bytes : By
   refused_next (Unmask p side bits) = λ h. absurd (true≢false h)
   refused_next (Spad p side i value) = λ h. absurd (true≢false h)
   refused_next (Poke p side window offset poked) = λ h. absurd (true≢false h)
-  refused_next (ShowMem p side at len) = λ h. refl
-  refused_next (ShowPad p side i) = λ h. refl
-  refused_next (ShowQueue p side place) = λ h. refl
-  refused_next (Relay p side queue switch port) = λ h. refl
-  refused_next (Xnext p side queue dev) = λ h. refl
+  refused_next step = λ h. refl
 
 -- A step that is refused leaves every pair as it was, but for a device's count of refusals.
 pub refusals_change_nothing : RefusalsChangeNothing

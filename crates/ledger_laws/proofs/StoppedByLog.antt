@@ -14,7 +14,7 @@ use Rattle.step_kinds.specs.declared.steps.Answer.{Answer}
 use Rattle.step_kinds.specs.declared.steps.Answer.TheVariants.{Ok as Done, OkNumber, Awake}
 use Rattle.step_kinds.specs.declared.steps.Label.TheVariants.{Index, Pad, Raw}
 use Rattle.step_kinds.specs.declared.steps.Step.{Step}
-use Rattle.step_kinds.specs.declared.steps.Step.TheVariants.{Enable, Train, Break, DropDone, Clean, Offer, Check, Ready, Join, Begin, QpDown, Xbegin, Post, Land, Look, Copy, Clear, Ack, Wake, Irq, Mask, Unmask, Spad, Poke, ShowMem, ShowPad, ShowQueue, Relay, Xnext}
+use Rattle.step_kinds.specs.declared.steps.Step.TheVariants.{Enable, Train, Break, DropDone, Clean, Offer, Check, Ready, Join, Begin, QpDown, Xbegin, Post, Land, Look, Copy, Clear, Ack, Wake, Spad, Poke}
 use Rattle.plan_model.specs.Both.{at_side, with_side}
 use Rattle.plan_model.specs.Ethernet.{ethernet_frame}
 use Rattle.plan_model.specs.Plans.{dev_plan, pair_plan}
@@ -211,16 +211,9 @@ module _ (plan : Plan) (own : LaneName) (reading : Reading) (bytes : Bytes) (pai
   stops_next (Ack p side queue) e =
       ack_cases reading (StopsSo (Ack p side queue)) pair side queue (λ r no. refl) (λ _. same (devs-through reading (acking pair side queue) side (Index queue (lane_to pair side queue).acked)))
   stops_next (Wake p side queue dev) e = device_wakes p dev e side queue
-  stops_next (Irq p side) e = refl
-  stops_next (Mask p side bits) e = refl
-  stops_next (Unmask p side bits) e = refl
   stops_next (Spad p side i value) e = same (devs-posts pair side (Pad i value))
   stops_next (Poke p side window offset poked) e = same (devs-posts_raw pair side (Raw window offset (length poked)) poked)
-  stops_next (ShowMem p side at len) e = refl
-  stops_next (ShowPad p side i) e = refl
-  stops_next (ShowQueue p side place) e = refl
-  stops_next (Relay p side queue switch port) e = refl
-  stops_next (Xnext p side queue dev) e = refl
+  stops_next step e = refl
 
 -- After every log
 

@@ -7,7 +7,7 @@ use Rattle.step_kinds.specs.declared.plan.Plan.{Plan}
 use Rattle.step_kinds.specs.declared.plan.SwitchPlan.{SwitchPlan}
 use Rattle.step_kinds.specs.declared.plan.Traffic.{Traffic}
 use Rattle.step_kinds.specs.declared.steps.Step.{Step}
-use Rattle.step_kinds.specs.declared.steps.Step.TheVariants.{Enable, Train, Break, DropDone, Clean, Offer, Check, Ready, Join, Begin, QpDown, Xbegin, Post, Land, Look, Copy, Clear, Ack, Wake, Irq, Mask, Unmask, Spad, Poke, ShowMem, ShowPad, ShowQueue, Relay, Xnext}
+use Rattle.step_kinds.specs.declared.steps.Step.TheVariants.{Ready, Join, Begin, QpDown, Xbegin, Post, Look, Copy, Clear, Ack, Wake, Relay, Xnext}
 use Rattle.plan_model.specs.DeclaredPlans.{IsDeviceOn, IsPermitted, IsQueueOf}
 use Rattle.plan_model.specs.Plans.{port_device}
 use Rattle.plan_model.specs.Switches.{AreSwitches, IsMakeable, IsSwitch, IsSwitchStep}
@@ -24,35 +24,18 @@ module _ (plan : Plan) (switches : List SwitchPlan) (steps : List Line) (traffic
   device_of_other pair side queue dev may = record { declared = may.declared; its_pair = may.its_pair; its_side = may.its_side; its_queue = may.its_queue }
 
   pub permitted_by_other : (step : Step) → IsPermitted plan step → IsPermitted (with_lists plan switches steps traffic) step
-  permitted_by_other (Enable pair side) may = may
-  permitted_by_other (Train pair) may = may
-  permitted_by_other (Break pair) may = may
-  permitted_by_other (DropDone pair) may = may
-  permitted_by_other (Clean pair side) may = may
-  permitted_by_other (Offer pair side) may = may
-  permitted_by_other (Check pair side) may = may
   permitted_by_other (Ready pair side queue) may = queue_of_other pair side queue may
   permitted_by_other (Join pair side queue) may = queue_of_other pair side queue may
   permitted_by_other (Begin pair side queue frame) may = (queue_of_other pair side queue may.0, may.1)
   permitted_by_other (QpDown pair side queue) may = queue_of_other pair side queue may
   permitted_by_other (Xbegin pair side queue dev dst kind payload) may = (queue_of_other pair side queue may.0, device_of_other pair side queue dev may.1, may.2)
   permitted_by_other (Post pair side queue) may = queue_of_other pair side queue may
-  permitted_by_other (Land pair side place) may = may
   permitted_by_other (Look pair side queue) may = queue_of_other pair side queue may
   permitted_by_other (Copy pair side queue) may = queue_of_other pair side queue may
   permitted_by_other (Clear pair side queue) may = queue_of_other pair side queue may
   permitted_by_other (Ack pair side queue) may = queue_of_other pair side queue may
   permitted_by_other (Wake pair side queue dev) may = (queue_of_other pair side queue may.0, device_of_other pair side queue dev may.1)
-  permitted_by_other (Irq pair side) may = may
-  permitted_by_other (Mask pair side bits) may = may
-  permitted_by_other (Unmask pair side bits) may = may
-  permitted_by_other (Spad pair side i value) may = may
-  permitted_by_other (Poke pair side window offset bytes) may = may
-  permitted_by_other (ShowMem pair side at len) may = may
-  permitted_by_other (ShowPad pair side i) may = may
-  permitted_by_other (ShowQueue pair side place) may = may
-  permitted_by_other (Relay pair side queue switch port) may = may
-  permitted_by_other (Xnext pair side queue dev) may = may
+  permitted_by_other step may = may
 
 -- The steps of switches depend on pairs, devices and switches alone.
 module _ (plan : Plan) (steps : List Line) (traffic : List Traffic) where

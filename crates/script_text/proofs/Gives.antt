@@ -58,11 +58,15 @@ pub gives_known : {X : Type 0} (P : Given → Type 0) (option : Option X) (line 
 gives_known P (Some x) line h = h x refl
 gives_known P None line h = record { holds = λ y e. cc e }
 
--- what a word means, where it is one of these
-pub if_some : {X : Type 0} (P : X → Type 0) (test : Bool) (x : X) (rest : Option X) → P x → ((y : X) → rest ≡ Some y → P y) → (y : X) → cond test (Some x) rest ≡ Some y → P y
-if_some P true x rest p k y e = let same : x ≡ y = cc in subst P same p
-if_some P false x rest p k y e = k y e
+-- What holds of the value that a word means, where it means one.
+pub record Means {X : Type 0} (P : X → Type 0) (option : Option X) : Type 0 where
+  pub holds : (x : X) → option ≡ Some x → P x
 
--- Where None is taken to equal Some of a value, any property of that value follows.
-pub none_some : {X : Type 0} (P : X → Type 0) (y : X) → None ≡ Some y → P y
-none_some P y e = cc e
+-- a word and those after it
+pub means_one : {X : Type 0} (P : X → Type 0) (test : Bool) (x : X) (rest : Option X) → P x → Means P rest → Means P (cond test (Some x) rest)
+means_one P true x rest p others = record { holds = λ y e. let same : x ≡ y = cc in subst P same p }
+means_one P false x rest p others = others
+
+-- Any other word means nothing, so any property holds of what it means.
+pub means_none : {X : Type 0} (P : X → Type 0) → Means P None
+means_none P = record { holds = λ y e. cc e }

@@ -10,23 +10,23 @@ use Rattle.step_kinds.specs.declared.plan.PairPlan.{PairPlan}
 use Rattle.step_kinds.specs.declared.plan.DevPlan.{DevPlan}
 use Rattle.step_kinds.specs.declared.plan.Plan.{Plan}
 use Rattle.step_kinds.specs.declared.steps.Step.{Step}
-use Rattle.step_kinds.specs.declared.steps.Step.TheVariants.{Enable, Clean, Offer, Check, Ready, Join, Begin, QpDown, Xbegin, Post, Land, Look, Copy, Clear, Ack, Wake, Irq, Mask, Unmask, Spad, Poke, ShowMem, ShowPad, ShowQueue, Xnext}
+use Rattle.step_kinds.specs.declared.steps.Step.TheVariants.{Begin, Xbegin, Post, Look, Copy, Clear, Ack, Wake, Spad, Poke, ShowMem, ShowPad, Xnext}
 use Rattle.plan_model.specs.DeclaredPlans.{IsQueueOf, IsDevice, IsPermitted, IsFrame, IsPayload}
 use Rattle.plan_model.specs.Ethernet.{ethernet_header}
-use Rattle.plan_model.specs.Macros.{receive, posts_in}
+use Rattle.plan_model.specs.Macros.{receive, send, posts_in}
 use Rattle.plan_model.specs.Plans.{side_plan, pair_plan, dev_plan, switch_plan, port_device, no_dev, no_switch}
 use Rattle.plan_model.specs.Switches.{IsMakeable, IsPortOn, IsSwitch}
 use Rattle.script_words.specs.Before.{Before, MoreSteps, TrafficBegins}
 use Rattle.script_words.specs.StepLines as rules
 use Rattle.script_words.specs.Ports.{is_port}
-use Rattle.script_words.specs.StepLines.{NumberedSteps, largest_number, reach, relay_step, ethernet_steps}
+use Rattle.script_words.specs.StepLines.{NumberedSteps, reach, relay_step, ethernet_steps}
 use Rattle.script_words.specs.Tests.{fault_at, unknown_line, whole, at}
 use Rattle.script_words.specs.Words.{number_word}
 use Rattle.script_words.specs.declared.fault.Cause.TheVariants.{BadNumber, UnknownName, BadPair, TooMany}
 use Rattle.script_words.specs.declared.parts.Part.TheVariants.{Declarations}
 use Rattle.script_text.specs.SoundLines.{Filled}
 use Rattle.script_text.proofs.Fits.{Fits}
-use Rattle.script_text.proofs.Gives.{Gives, gives_ok, gives_fault, gives_then, gives_passed, gives_any, gives_at, gives_if, gives_known, if_some, none_some}
+use Rattle.script_text.proofs.Gives.{Gives, gives_ok, gives_fault, gives_then, gives_passed, gives_any, gives_at, gives_if, gives_known, Means, means_none, means_one}
 use Rattle.script_text.proofs.PortFacts.{port_is_there}
 use Rattle.script_text.proofs.WordFacts.{below, pair_declared, dev_declared, switch_declared, side_declared, queue_declared, number_ranged, bytes_spelled, bytes_counted, kind_is_small}
 
@@ -41,73 +41,47 @@ received plan pair side queue copies h =
     (All-append (IsPermitted plan) (replicate copies (Copy pair side queue)) (Clear pair side queue ∷ Ack pair side queue ∷ []) (All-replicate (IsPermitted plan) copies (Copy pair side queue) h)
     (All-cons (IsPermitted plan) (Clear pair side queue) (Ack pair side queue ∷ []) h (one plan (Ack pair side queue) h)))
 
--- The steps of a first word
+pad_shown : (plan : Plan) (pair : ℕ) (side : Side) (i : ℕ) → pair < length plan.pairs → (0 ≤ i) × (i ≤ 15) → All (IsPermitted plan) (ShowPad pair side i ∷ [])
+pad_shown plan pair side i lt range = one plan (ShowPad pair side i) (lt, let most : i ≤ 15 = range.1 in omega arith)
+
+sent : (plan : Plan) (pair : ℕ) (side : Side) (queue : ℕ) (frame : List ℕ) → IsQueueOf plan pair side queue → IsFrame frame
+    → All (IsPermitted plan) (send (pair_plan plan pair) pair side queue frame)
+sent plan pair side queue frame h f =
+    All-cons (IsPermitted plan) (Begin pair side queue frame) (replicate (posts_in (pair_plan plan pair) side queue (length frame)) (Post pair side queue)) (h, f)
+    (All-replicate (IsPermitted plan) (posts_in (pair_plan plan pair) side queue (length frame)) (Post pair side queue) h)
+
+-- The steps of a first word: what they ask for is what a line of such words gives.
 
 module _ (plan : Plan) where
-  PairSteps : (ℕ → Step) → Type 0
+  abbrev PairSteps : (ℕ → Step) → Type 0
   PairSteps step = (pair : ℕ) → pair < length plan.pairs → IsPermitted plan (step pair)
 
-  pair_steps : (word : List ℕ) (step : ℕ → Step) → rules.pair_step word ≡ Some step → PairSteps step
-  unfolding PairSteps
-  pair_steps word =
-      if_some PairSteps (bytes_eq word (codes "train")) _ _ (λ pair lt. lt)
-      (if_some PairSteps (bytes_eq word (codes "break")) _ _ (λ pair lt. lt)
-      (if_some PairSteps (bytes_eq word (codes "drop")) _ _ (λ pair lt. lt) (none_some PairSteps)))
+  pair_steps : (word : List ℕ) → Means PairSteps (rules.pair_step word)
+  pair_steps word = search (means_one, means_none) depth 20
 
-  SideSteps : (PairPlan → ℕ → Side → List Step) → Type 0
+  abbrev SideSteps : (PairPlan → ℕ → Side → List Step) → Type 0
   SideSteps steps = (pair : ℕ) (side : Side) → pair < length plan.pairs → All (IsPermitted plan) (steps (pair_plan plan pair) pair side)
 
-  side_steps : (word : List ℕ) (steps : PairPlan → ℕ → Side → List Step) → rules.side_steps word ≡ Some steps → SideSteps steps
-  unfolding SideSteps
-  side_steps word =
-      if_some SideSteps (bytes_eq word (codes "enable")) _ _ (λ pair side lt. one plan (Enable pair side) lt)
-      (if_some SideSteps (bytes_eq word (codes "clean")) _ _ (λ pair side lt. one plan (Clean pair side) lt)
-      (if_some SideSteps (bytes_eq word (codes "offer")) _ _ (λ pair side lt. one plan (Offer pair side) lt)
-      (if_some SideSteps (bytes_eq word (codes "check")) _ _ (λ pair side lt. one plan (Check pair side) lt)
-      (if_some SideSteps (bytes_eq word (codes "irq")) _ _ (λ pair side lt. one plan (Irq pair side) lt)
-      (if_some SideSteps (bytes_eq word (codes "offerall")) _ _
-      (λ pair side lt. All-replicate (IsPermitted plan) (2 * (side_plan (pair_plan plan pair) side).windows + 3) (Offer pair side) lt) (none_some SideSteps))))))
+  side_steps : (word : List ℕ) → Means SideSteps (rules.side_steps word)
+  side_steps word = search (means_one, means_none, one, All-replicate) depth 40
 
-  QueueSteps : (ℕ → Side → ℕ → List Step) → Type 0
+  abbrev QueueSteps : (ℕ → Side → ℕ → List Step) → Type 0
   QueueSteps steps = (pair : ℕ) (side : Side) (queue : ℕ) → IsQueueOf plan pair side queue → All (IsPermitted plan) (steps pair side queue)
 
-  queue_steps : (word : List ℕ) (steps : ℕ → Side → ℕ → List Step) → rules.queue_steps word ≡ Some steps → QueueSteps steps
-  unfolding QueueSteps
-  queue_steps word =
-      if_some QueueSteps (bytes_eq word (codes "ready")) _ _ (λ pair side queue h. one plan (Ready pair side queue) h)
-      (if_some QueueSteps (bytes_eq word (codes "join")) _ _ (λ pair side queue h. one plan (Join pair side queue) h)
-      (if_some QueueSteps (bytes_eq word (codes "qpdown")) _ _ (λ pair side queue h. one plan (QpDown pair side queue) h)
-      (if_some QueueSteps (bytes_eq word (codes "post")) _ _ (λ pair side queue h. one plan (Post pair side queue) h)
-      (if_some QueueSteps (bytes_eq word (codes "look")) _ _ (λ pair side queue h. one plan (Look pair side queue) h)
-      (if_some QueueSteps (bytes_eq word (codes "copy")) _ _ (λ pair side queue h. one plan (Copy pair side queue) h)
-      (if_some QueueSteps (bytes_eq word (codes "clear")) _ _ (λ pair side queue h. one plan (Clear pair side queue) h)
-      (if_some QueueSteps (bytes_eq word (codes "ack")) _ _ (λ pair side queue h. one plan (Ack pair side queue) h)
-      (if_some QueueSteps (bytes_eq word (codes "recv")) _ _ (λ pair side queue h. received plan pair side queue 1 h) (none_some QueueSteps)))))))))
+  queue_steps : (word : List ℕ) → Means QueueSteps (rules.queue_steps word)
+  queue_steps word = search (means_one, means_none, one, received) depth 40
 
-  FrameSteps : (PairPlan → ℕ → Side → ℕ → List ℕ → List Step) → Type 0
+  abbrev FrameSteps : (PairPlan → ℕ → Side → ℕ → List ℕ → List Step) → Type 0
   FrameSteps steps = (pair : ℕ) (side : Side) (queue : ℕ) (frame : List ℕ) → IsQueueOf plan pair side queue → IsFrame frame → All (IsPermitted plan) (steps (pair_plan plan pair) pair side queue frame)
 
-  frame_steps : (word : List ℕ) (steps : PairPlan → ℕ → Side → ℕ → List ℕ → List Step) → rules.frame_steps word ≡ Some steps → FrameSteps steps
-  unfolding FrameSteps
-  frame_steps word =
-      if_some FrameSteps (bytes_eq word (codes "begin")) _ _ (λ pair side queue frame h f. one plan (Begin pair side queue frame) (h, f))
-      (if_some FrameSteps (bytes_eq word (codes "send")) _ _
-      (λ pair side queue frame h f.
-      All-cons (IsPermitted plan) (Begin pair side queue frame) (replicate (posts_in (pair_plan plan pair) side queue (length frame)) (Post pair side queue)) (h, f)
-      (All-replicate (IsPermitted plan) (posts_in (pair_plan plan pair) side queue (length frame)) (Post pair side queue) h)) (none_some FrameSteps))
+  frame_steps : (word : List ℕ) → Means FrameSteps (rules.frame_steps word)
+  frame_steps word = search (means_one, means_none, one, sent) depth 20
 
-  PlacedSteps : NumberedSteps → Type 0
+  abbrev PlacedSteps : NumberedSteps → Type 0
   PlacedSteps numbered = (pair : ℕ) (side : Side) (n : ℕ) → pair < length plan.pairs → (numbered.least ≤ n) × (n ≤ numbered.most) → All (IsPermitted plan) (numbered.steps pair side n)
 
-  placed_steps : (word : List ℕ) (numbered : NumberedSteps) → rules.numbered_steps word ≡ Some numbered → PlacedSteps numbered
-  unfolding PlacedSteps
-  placed_steps word =
-      if_some PlacedSteps (bytes_eq word (codes "land")) _ _ (λ pair side n lt range. one plan (Land pair side n) lt)
-      (if_some PlacedSteps (bytes_eq word (codes "landall")) _ _ (λ pair side n lt range. All-replicate (IsPermitted plan) n (Land pair side 0) lt)
-      (if_some PlacedSteps (bytes_eq word (codes "mask")) _ _ (λ pair side n lt range. one plan (Mask pair side n) lt)
-      (if_some PlacedSteps (bytes_eq word (codes "unmask")) _ _ (λ pair side n lt range. one plan (Unmask pair side n) lt)
-      (if_some PlacedSteps (bytes_eq word (codes "showq")) _ _ (λ pair side n lt range. one plan (ShowQueue pair side n) lt)
-      (if_some PlacedSteps (bytes_eq word (codes "showspad")) _ _ (λ pair side n lt range. one plan (ShowPad pair side n) (lt, let most : n ≤ 15 = range.1 in omega arith)) (none_some PlacedSteps))))))
+  placed_steps : (word : List ℕ) → Means PlacedSteps (rules.numbered_steps word)
+  placed_steps word = search (means_one, means_none, one, pad_shown, All-replicate) depth 40
 
 -- Each line
 
@@ -274,33 +248,29 @@ module _ (before : Before) (part : before.part ≡ Declarations → ⊥) (device
   -- By the number of words
 
   one_word_fits : (word a : List ℕ) → Gives (Fits before) (rules.line_of_one before word a)
-  unfolding PairSteps
   one_word_fits word a =
       gives_if _ (bytes_eq word (codes "wake")) _ _ (wake_line_fits a)
-      (gives_if _ (bytes_eq word (codes "xnext")) _ _ (xnext_line_fits a) (gives_known _ (rules.pair_step word) _ (λ step e. pair_step_fits step (pair_steps before.plan word step e) a)))
+      (gives_if _ (bytes_eq word (codes "xnext")) _ _ (xnext_line_fits a) (gives_known _ (rules.pair_step word) _ (λ step e. pair_step_fits step ((pair_steps before.plan word).holds step e) a)))
 
   two_words_fit : (word a b : List ℕ) → Gives (Fits before) (rules.line_of_two before word a b)
-  unfolding SideSteps
   two_words_fit word a b =
-      gives_if _ (bytes_eq word (codes "relay")) _ _ (relay_line_fits a b) (gives_known _ (rules.side_steps word) _ (λ steps e. side_line_fits steps (side_steps before.plan word steps e) a b))
+      gives_if _ (bytes_eq word (codes "relay")) _ _ (relay_line_fits a b) (gives_known _ (rules.side_steps word) _ (λ steps e. side_line_fits steps ((side_steps before.plan word).holds steps e) a b))
 
   three_words_fit : (word a b c : List ℕ) → Gives (Fits before) (rules.line_of_three before word a b c)
-  unfolding PlacedSteps QueueSteps
   three_words_fit word a b c = by (rules.numbered_steps word) refl
     where
       by : (found : Option NumberedSteps) → rules.numbered_steps word ≡ found → Gives (Fits before) (rules.line_of_three before word a b c)
-      by (Some numbered) is = rw is (numbered_line_fits numbered (placed_steps before.plan word numbered is) a b c)
-      by None is = rw is (gives_known _ (rules.queue_steps word) _ (λ steps e. queue_line_fits steps (queue_steps before.plan word steps e) a b c))
+      by (Some numbered) is = rw is (numbered_line_fits numbered ((placed_steps before.plan word).holds numbered is) a b c)
+      by None is = rw is (gives_known _ (rules.queue_steps word) _ (λ steps e. queue_line_fits steps ((queue_steps before.plan word).holds steps e) a b c))
 
   four_words_fit : (word a b c d : List ℕ) → 0 < length d → Gives (Fits before) (rules.line_of_four before word a b c d)
-  unfolding FrameSteps
   four_words_fit word a b c d some =
       gives_if _ (bytes_eq word (codes "recv")) _ _ (receive_line_fits a b c d)
       (gives_if _ (bytes_eq word (codes "spad")) _ _ (spad_line_fits a b c d)
       (gives_if _ (bytes_eq word (codes "showmem")) _ _ (show_memory_fits a b c d)
       (gives_if _ (bytes_eq word (codes "xbegin")) _ _ (ethernet_line_fits false a b c d some)
       (gives_if _ (bytes_eq word (codes "xmit")) _ _ (ethernet_line_fits true a b c d some)
-      (gives_known _ (rules.frame_steps word) _ (λ steps e. frame_line_fits steps (frame_steps before.plan word steps e) a b c d some))))))
+      (gives_known _ (rules.frame_steps word) _ (λ steps e. frame_line_fits steps ((frame_steps before.plan word).holds steps e) a b c d some))))))
 
   five_words_fit : (word a b c d e : List ℕ) → 0 < length e → Gives (Fits before) (rules.line_of_five before word a b c d e)
   five_words_fit word a b c d e some = gives_if _ (bytes_eq word (codes "poke")) _ _ (poke_line_fits a b c d e some) (gives_fault (Fits before) unknown_line)

@@ -150,7 +150,7 @@ impl SideWord {
         let step = match self {
             SideWord::Enable => Step::Enable { pair, side },
             SideWord::Clean => Step::Clean { pair, side },
-            SideWord::Offer => Step::Offer { pair, side },
+            SideWord::Offer => return once(Repeated::Offer { pair, side }),
             SideWord::Check => Step::Check { pair, side },
             SideWord::Irq => Step::Irq { pair, side },
             SideWord::OfferAll => {

@@ -1,6 +1,6 @@
 //! The steps of a line, kept short until their number is tested.
 
-ghost use Rattle.std.specs.Prelude.{◌≡◌, ◌≢◌, ◌^◌, ◌≤◌, length, IfNone, IfSome};
+ghost use Rattle.std.specs.Prelude.{◌≡◌, ◌^◌, ◌≤◌, length};
 ghost use Rattle.step_list.specs.Compact.{step_again, steps_of};
 
 use step_kinds::{Side, Step};
@@ -64,44 +64,6 @@ impl Repeated {
             Repeated::Clear { pair, side, queue } => Step::Clear { pair, side, queue },
             Repeated::Ack { pair, side, queue } => Step::Ack { pair, side, queue },
             Repeated::Offer { pair, side } => Step::Offer { pair, side },
-        }
-    }
-
-    /// The step of few numbers that this step is; `None` exactly where it is none.
-    pub fn of_step(step: &Step) -> Option<Repeated>
-        ensures some { IfSome result (λ repeated. step_again repeated ≡ step.now) }
-        ensures none { IfNone result ((repeated : Repeated) → step_again repeated ≢ step.now) }
-    {
-        match *step {
-            Step::Post { pair, side, queue } => Some(Repeated::Post { pair, side, queue }),
-            Step::Land { pair, side, place } => Some(Repeated::Land { pair, side, place }),
-            Step::Look { pair, side, queue } => Some(Repeated::Look { pair, side, queue }),
-            Step::Copy { pair, side, queue } => Some(Repeated::Copy { pair, side, queue }),
-            Step::Clear { pair, side, queue } => Some(Repeated::Clear { pair, side, queue }),
-            Step::Ack { pair, side, queue } => Some(Repeated::Ack { pair, side, queue }),
-            Step::Offer { pair, side } => Some(Repeated::Offer { pair, side }),
-            Step::Enable { .. }
-            | Step::Train { .. }
-            | Step::Break { .. }
-            | Step::DropDone { .. }
-            | Step::Clean { .. }
-            | Step::Check { .. }
-            | Step::Ready { .. }
-            | Step::Join { .. }
-            | Step::Begin { .. }
-            | Step::QpDown { .. }
-            | Step::Xbegin { .. }
-            | Step::Wake { .. }
-            | Step::Irq { .. }
-            | Step::Mask { .. }
-            | Step::Unmask { .. }
-            | Step::Spad { .. }
-            | Step::Poke { .. }
-            | Step::ShowMem { .. }
-            | Step::ShowPad { .. }
-            | Step::ShowQueue { .. }
-            | Step::Relay { .. }
-            | Step::Xnext { .. } => None,
         }
     }
 }

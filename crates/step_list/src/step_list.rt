@@ -69,18 +69,14 @@ impl StepList {
         &self.stretches
     }
 
-    /// Adds a step of line `line`. The only error is running out of memory, and then nothing is added.
+    /// Adds a step of line `line`, in a box: one that a line may repeat is better pushed as a [`Macro`]. The only error is
+    /// running out of memory, and then nothing is added.
     pub fn push_step(&mut self, line: u32, step: Step) -> Result<(), AllocError>
         ensures ok { OnOk result (self.new ≡ self.old ++ lines_with line (step ∷ [])) }
         ensures err { OnErr result (self.new ≡ self.old) }
     {
-        match Repeated::of_step(&step) {
-            Some(repeated) => self.push_stretch(again(line, repeated, 1)),
-            None => {
-                let one = self.one(line, step)?;
-                self.push_stretch(one)
-            }
-        }
+        let one = self.one(line, step)?;
+        self.push_stretch(one)
     }
 
     /// Adds the steps of line `line`. The only error is running out of memory, and then nothing is added.

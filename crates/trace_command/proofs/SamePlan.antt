@@ -7,7 +7,7 @@ use Rattle.step_kinds.specs.declared.plan.Line.{Line}
 use Rattle.step_kinds.specs.declared.plan.LineAnswer.{LineAnswer}
 use Rattle.step_kinds.specs.declared.plan.Plan.{Plan}
 use Rattle.step_kinds.specs.declared.steps.Step.{Step}
-use Rattle.step_kinds.specs.declared.steps.Step.TheVariants.{Enable, Train, Break, DropDone, Clean, Offer, Check, Ready, Join, Begin, QpDown, Xbegin, Post, Land, Look, Copy, Clear, Ack, Wake, Irq, Mask, Unmask, Spad, Poke, ShowMem, ShowPad, ShowQueue, Relay, Xnext}
+use Rattle.step_kinds.specs.declared.steps.Step.TheVariants.{Xbegin}
 use Rattle.report_text.specs.Report.{AnsweredStep, line_of}
 use Rattle.trace_text.specs.Lines.{change_members, step_line, step_lines}
 use Rattle.trace_text.specs.Steps.{answer_object, step_members, step_name}
@@ -15,35 +15,8 @@ use Rattle.trace_text.specs.Words.{named_object}
 use Rattle.trace_text.specs.Writes.{PairWrites, change_in, pair_in, writes_after}
 
 members_same : (plan : Plan) (steps : List Line) (step : Step) → step_members plan step ≡ step_members (record plan { steps = steps }) step
-members_same plan steps (Enable pair side) = refl
-members_same plan steps (Train pair) = refl
-members_same plan steps (Break pair) = refl
-members_same plan steps (DropDone pair) = refl
-members_same plan steps (Clean pair side) = refl
-members_same plan steps (Offer pair side) = refl
-members_same plan steps (Check pair side) = refl
-members_same plan steps (Ready pair side queue) = refl
-members_same plan steps (Join pair side queue) = refl
-members_same plan steps (Begin pair side queue frame) = refl
-members_same plan steps (QpDown pair side queue) = refl
 members_same plan steps (Xbegin pair side queue dev dst kind payload) = refl
-members_same plan steps (Post pair side queue) = refl
-members_same plan steps (Land pair side place) = refl
-members_same plan steps (Look pair side queue) = refl
-members_same plan steps (Copy pair side queue) = refl
-members_same plan steps (Clear pair side queue) = refl
-members_same plan steps (Ack pair side queue) = refl
-members_same plan steps (Wake pair side queue dev) = refl
-members_same plan steps (Irq pair side) = refl
-members_same plan steps (Mask pair side bits) = refl
-members_same plan steps (Unmask pair side bits) = refl
-members_same plan steps (Spad pair side index value) = refl
-members_same plan steps (Poke pair side window offset bytes) = refl
-members_same plan steps (ShowMem pair side at len) = refl
-members_same plan steps (ShowPad pair side index) = refl
-members_same plan steps (ShowQueue pair side place) = refl
-members_same plan steps (Relay pair side queue switch port) = refl
-members_same plan steps (Xnext pair side queue dev) = refl
+members_same plan steps step = refl
 
 line_same : (plan : Plan) (steps : List Line) (writes : List PairWrites) (step : Step) (made : LineAnswer) →
     step_line plan writes step made ≡ step_line (record plan { steps = steps }) writes step made

@@ -1,12 +1,12 @@
-//! What a step changes of a pair's link and of its writes in flight.
+//! Changes of a pair's link and of its writes in flight, by what a step says of them.
 
 ghost use Rattle.std.specs.Prelude.{◌≡◌, if◌then◌else◌, slice_index_or};
 ghost use Rattle.plan_model.specs.Plans.{no_pair};
 ghost use Rattle.step_kinds.specs.declared.steps.Step.TheVariants.{Land, Train};
-ghost use Rattle.trace_text.specs.Writes.{change_by, change_in as change_of_pairs, class_on as class_of_pair};
+ghost use Rattle.trace_text.specs.Writes.{change_by, class_on as class_of_pair};
 ghost use Rattle.trace_text.specs.declared.changes.Change.TheVariants.{Nothing, Posts};
 
-use step_kinds::{Answer, PairPlan, Side, Step};
+use step_kinds::{Answer, PairPlan, Side};
 
 /// What a step, as it was answered, changes of its pair's link and of the writes in flight there.
 #[derive(Clone, Copy, Debug, PartialEq, Eq)]
@@ -45,66 +45,22 @@ pub enum Change {
     Nothing,
 }
 
-/// What a step on one of these pairs changes, where it was answered so.
-pub fn change_in(pairs: &[PairPlan], step: &Step, answer: &Answer) -> Change
-    ensures { result ≡ change_of_pairs pairs.now step.now answer.now }
-{
-    let done = matches!(answer, Answer::Ok);
-    match step {
-        Step::Train { .. } => trained(answer),
-        Step::Break { .. } => only_if(done, Change::Breaks),
-        Step::DropDone { .. } => only_if(done, Change::Drops),
-        Step::Ready { side, .. } | Step::Spad { side, .. } | Step::Poke { side, .. } => {
-            posts_if(done, *side, 0)
-        }
-        Step::Offer { side, .. } => posts_if(matches!(answer, Answer::Offered { .. }), *side, 0),
-        Step::Post { pair, side, queue } => {
-            let class = class_on(pairs, *pair, *side, *queue);
-            posts_if(matches!(answer, Answer::Posted { .. }), *side, class)
-        }
-        Step::Ack { pair, side, queue } => {
-            let class = class_on(pairs, *pair, *side, *queue);
-            posts_if(matches!(answer, Answer::Acked { .. }), *side, class)
-        }
-        Step::Land { side, place, .. } => landing(*side, *place, answer),
-        Step::Enable { .. }
-        | Step::Clean { .. }
-        | Step::Check { .. }
-        | Step::Join { .. }
-        | Step::Begin { .. }
-        | Step::QpDown { .. }
-        | Step::Xbegin { .. }
-        | Step::Look { .. }
-        | Step::Copy { .. }
-        | Step::Clear { .. }
-        | Step::Wake { .. }
-        | Step::Irq { .. }
-        | Step::Mask { .. }
-        | Step::Unmask { .. }
-        | Step::ShowMem { .. }
-        | Step::ShowPad { .. }
-        | Step::ShowQueue { .. }
-        | Step::Relay { .. }
-        | Step::Xnext { .. } => Change::Nothing,
-    }
-}
-
-// The change by a step that was made, and nothing where it wasn't.
-fn only_if(made: bool, change: Change) -> Change
+/// The change by a step that was made, and nothing where it wasn't.
+pub fn only_if(made: bool, change: Change) -> Change
     ensures { result ≡ (if made then change else Nothing) }
 {
     if made { change } else { Change::Nothing }
 }
 
-// The change by a step that posts a write of this class where it is made.
-fn posts_if(made: bool, side: Side, class: u32) -> Change
+/// The change by a step that posts a write of this class where it is made.
+pub fn posts_if(made: bool, side: Side, class: u32) -> Change
     ensures { result ≡ (if made then Posts side class else Nothing) }
 {
     only_if(made, Change::Posts { side, class })
 }
 
-// The change by the training of a link.
-fn trained(answer: &Answer) -> Change
+/// The change by the training of a link.
+pub fn trained(answer: &Answer) -> Change
     ensures { result ≡ change_by no_pair (Train 0) answer.now }
 {
     if let Answer::OkSession { session } = answer {
@@ -114,8 +70,8 @@ fn trained(answer: &Answer) -> Change
     }
 }
 
-// The change by a landing at a place.
-fn landing(side: Side, place: u32, answer: &Answer) -> Change
+/// The change by a landing at a place.
+pub fn landing(side: Side, place: u32, answer: &Answer) -> Change
     ensures { result ≡ change_by no_pair (Land 0 side place) answer.now }
 {
     if let Answer::Landed { .. } = answer {
@@ -127,8 +83,8 @@ fn landing(side: Side, place: u32, answer: &Answer) -> Change
     }
 }
 
-// The traffic class of a side's writes on a queue. It is 0 past the queues and past the pairs.
-fn class_on(pairs: &[PairPlan], pair: u32, side: Side, queue: u32) -> u32
+/// The traffic class of a side's writes on a queue. It is 0 past the queues and past the pairs.
+pub fn class_on(pairs: &[PairPlan], pair: u32, side: Side, queue: u32) -> u32
     ensures { result ≡ class_of_pair (slice_index_or pairs.now pair no_pair) side queue }
 {
     let Some(plan) = pairs.get(pair as usize) else {

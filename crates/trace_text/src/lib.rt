@@ -12,8 +12,9 @@ mod steps;
 mod words;
 mod writes;
 
-pub use changes::{Change, change_in};
+pub use changes::Change;
 pub use ending::{push_ending, push_first_line};
 pub use lines::push_step_line;
 pub use members::{push_number_member, push_text_member};
+pub use steps::change_in;
 pub use writes::{FlyingWrite, WriteNumbers};

@@ -7,9 +7,9 @@ ghost use Rattle.trace_text.specs.Lines.{change_members, dropped_members, link_m
 ghost use Rattle.trace_text.specs.declared.changes.Change.TheVariants.{Posts};
 
 use crate::answers::push_answer;
-use crate::changes::{Change, change_in};
+use crate::changes::Change;
 use crate::members::{push_number, push_number_member, push_numbers_in, push_text_member};
-use crate::steps::push_step;
+use crate::steps::{change_in, push_step};
 use crate::writes::{PairNumbers, SideNumbers, WriteNumbers};
 use report_text::append::push_word;
 use std::alloc::AllocError;

@@ -1,16 +1,18 @@
-//! Steps as JSON objects.
+//! What a trace says of a step: its word, its object in JSON, and what it changes of the writes in flight.
 
 ghost use Rattle.std.specs.Prelude.{◌≡◌, ◌++◌, OnOk, codes};
 ghost use Rattle.plan_model.specs.Plans.{switch_plan};
 ghost use Rattle.report_text.specs.Report.{pair_name};
-ghost use Rattle.trace_text.specs.Steps.{ethernet_members, of_device, on_pair, on_queue, on_side, step_members, step_object};
+ghost use Rattle.trace_text.specs.Steps.{ethernet_members, of_device, on_pair, on_queue, on_side, step_members, step_name as name_of_step, step_object};
 ghost use Rattle.trace_text.specs.Words.{text_member};
+ghost use Rattle.trace_text.specs.Writes.{change_in as change_of_pairs};
 
+use crate::changes::{Change, class_on, landing, only_if, posts_if, trained};
 use crate::members::{push_bytes_member, push_number_member, push_text_member};
-use crate::words::{side_name, step_name};
+use crate::words::side_name;
 use report_text::append::push_word;
 use std::alloc::AllocError;
-use step_kinds::{Frame, PairPlan, Plan, Side, Step};
+use step_kinds::{Answer, Frame, PairPlan, Plan, Side, Step};
 
 /// Adds a step as an object. Nothing is added for the name of a pair, a device or a switch that the plan hasn't.
 pub fn push_step(text: &mut Vec<u8>, plan: &Plan, step: &Step) -> Result<(), AllocError>
@@ -21,6 +23,43 @@ pub fn push_step(text: &mut Vec<u8>, plan: &Plan, step: &Step) -> Result<(), All
     push_word(text, "\"")?;
     push_step_members(text, plan, step)?;
     push_word(text, "}")
+}
+
+// The word of a step in a script.
+fn step_name(step: &Step) -> &'static str
+    ensures { result.now ≡ name_of_step step.now }
+{
+    match step {
+        Step::Enable { .. } => "enable",
+        Step::Train { .. } => "train",
+        Step::Break { .. } => "break",
+        Step::DropDone { .. } => "drop",
+        Step::Clean { .. } => "clean",
+        Step::Offer { .. } => "offer",
+        Step::Check { .. } => "check",
+        Step::Ready { .. } => "ready",
+        Step::Join { .. } => "join",
+        Step::Begin { .. } => "begin",
+        Step::QpDown { .. } => "qpdown",
+        Step::Xbegin { .. } => "xbegin",
+        Step::Post { .. } => "post",
+        Step::Land { .. } => "land",
+        Step::Look { .. } => "look",
+        Step::Copy { .. } => "copy",
+        Step::Clear { .. } => "clear",
+        Step::Ack { .. } => "ack",
+        Step::Wake { .. } => "wake",
+        Step::Irq { .. } => "irq",
+        Step::Mask { .. } => "mask",
+        Step::Unmask { .. } => "unmask",
+        Step::Spad { .. } => "spad",
+        Step::Poke { .. } => "poke",
+        Step::ShowMem { .. } => "showmem",
+        Step::ShowPad { .. } => "showspad",
+        Step::ShowQueue { .. } => "showq",
+        Step::Relay { .. } => "relay",
+        Step::Xnext { .. } => "xnext",
+    }
 }
 
 // Adds what a step has but for its name.
@@ -136,6 +175,50 @@ fn push_step_members(text: &mut Vec<u8>, plan: &Plan, step: &Step) -> Result<(),
             push_switch(text, plan, *switch)?;
             push_number_member(text, ",\"port\":", u64::from(*port))
         }
+    }
+}
+
+/// What a step on one of these pairs changes, where it was answered so.
+pub fn change_in(pairs: &[PairPlan], step: &Step, answer: &Answer) -> Change
+    ensures { result ≡ change_of_pairs pairs.now step.now answer.now }
+{
+    let done = matches!(answer, Answer::Ok);
+    match step {
+        Step::Train { .. } => trained(answer),
+        Step::Break { .. } => only_if(done, Change::Breaks),
+        Step::DropDone { .. } => only_if(done, Change::Drops),
+        Step::Ready { side, .. } | Step::Spad { side, .. } | Step::Poke { side, .. } => {
+            posts_if(done, *side, 0)
+        }
+        Step::Offer { side, .. } => posts_if(matches!(answer, Answer::Offered { .. }), *side, 0),
+        Step::Post { pair, side, queue } => {
+            let class = class_on(pairs, *pair, *side, *queue);
+            posts_if(matches!(answer, Answer::Posted { .. }), *side, class)
+        }
+        Step::Ack { pair, side, queue } => {
+            let class = class_on(pairs, *pair, *side, *queue);
+            posts_if(matches!(answer, Answer::Acked { .. }), *side, class)
+        }
+        Step::Land { side, place, .. } => landing(*side, *place, answer),
+        Step::Enable { .. }
+        | Step::Clean { .. }
+        | Step::Check { .. }
+        | Step::Join { .. }
+        | Step::Begin { .. }
+        | Step::QpDown { .. }
+        | Step::Xbegin { .. }
+        | Step::Look { .. }
+        | Step::Copy { .. }
+        | Step::Clear { .. }
+        | Step::Wake { .. }
+        | Step::Irq { .. }
+        | Step::Mask { .. }
+        | Step::Unmask { .. }
+        | Step::ShowMem { .. }
+        | Step::ShowPad { .. }
+        | Step::ShowQueue { .. }
+        | Step::Relay { .. }
+        | Step::Xnext { .. } => Change::Nothing,
     }
 }
 

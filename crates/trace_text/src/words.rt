@@ -1,48 +1,11 @@
-//! The words of steps, answers, labels and sides.
+//! The words of answers, labels and sides.
 
 ghost use Rattle.std.specs.Prelude.{◌≡◌};
 ghost use Rattle.report_text.specs.Report.{side_text};
-ghost use Rattle.trace_text.specs.Steps.{answer_name as name_of_answer, step_name as name_of_step};
+ghost use Rattle.trace_text.specs.Steps.{answer_name as name_of_answer};
 ghost use Rattle.trace_text.specs.Words.{label_name as name_of_label};
 
-use step_kinds::{Answer, Label, Side, Step};
-
-/// The word of a step in a script.
-pub fn step_name(step: &Step) -> &'static str
-    ensures { result.now ≡ name_of_step step.now }
-{
-    match step {
-        Step::Enable { .. } => "enable",
-        Step::Train { .. } => "train",
-        Step::Break { .. } => "break",
-        Step::DropDone { .. } => "drop",
-        Step::Clean { .. } => "clean",
-        Step::Offer { .. } => "offer",
-        Step::Check { .. } => "check",
-        Step::Ready { .. } => "ready",
-        Step::Join { .. } => "join",
-        Step::Begin { .. } => "begin",
-        Step::QpDown { .. } => "qpdown",
-        Step::Xbegin { .. } => "xbegin",
-        Step::Post { .. } => "post",
-        Step::Land { .. } => "land",
-        Step::Look { .. } => "look",
-        Step::Copy { .. } => "copy",
-        Step::Clear { .. } => "clear",
-        Step::Ack { .. } => "ack",
-        Step::Wake { .. } => "wake",
-        Step::Irq { .. } => "irq",
-        Step::Mask { .. } => "mask",
-        Step::Unmask { .. } => "unmask",
-        Step::Spad { .. } => "spad",
-        Step::Poke { .. } => "poke",
-        Step::ShowMem { .. } => "showmem",
-        Step::ShowPad { .. } => "showspad",
-        Step::ShowQueue { .. } => "showq",
-        Step::Relay { .. } => "relay",
-        Step::Xnext { .. } => "xnext",
-    }
-}
+use step_kinds::{Answer, Label, Side};
 
 /// The word of an answer in a report.
 pub fn answer_name(answer: &Answer) -> &'static str

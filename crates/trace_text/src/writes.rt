@@ -17,7 +17,8 @@ ghost use Rattle.trace_text.specs.Writes.{
   writes_start,
 };
 
-use crate::changes::{Change, change_in};
+use crate::changes::Change;
+use crate::steps::change_in;
 use order_rules::RELAXED;
 use posted_queue::{Ordered, Queue};
 use std::alloc::{AllocError, Global};

@@ -11,7 +11,7 @@ use Rattle.step_kinds.specs.declared.plan.Plan.{Plan}
 use Rattle.step_kinds.specs.declared.steps.Answer.TheVariants.{PeerDown, Awake}
 use Rattle.step_kinds.specs.declared.steps.Label.TheVariants.{Pad, Raw}
 use Rattle.step_kinds.specs.declared.steps.Step.{Step}
-use Rattle.step_kinds.specs.declared.steps.Step.TheVariants.{Enable, Train, Break, DropDone, Clean, Offer, Check, Ready, Join, Begin, QpDown, Xbegin, Post, Land, Look, Copy, Clear, Ack, Wake, Irq, Mask, Unmask, Spad, Poke, ShowMem, ShowPad, ShowQueue, Relay, Xnext}
+use Rattle.step_kinds.specs.declared.steps.Step.TheVariants.{Enable, Train, Break, DropDone, Clean, Offer, Check, Ready, Join, Begin, QpDown, Xbegin, Post, Land, Look, Copy, Clear, Ack, Wake, Irq, Mask, Unmask, Spad, Poke}
 use Rattle.ledger_model.specs.Ledger.{PairPart, side_of, lane_of, posts, posts_raw}
 use Rattle.ledger_model.specs.Log.{Answered}
 use Rattle.ledger_model.specs.Sending.{begun, with_next}
@@ -115,11 +115,7 @@ module _ (plan : Plan) (lane : LaneName) (bytes : Bytes) (pair : PairPart)
       foreign : (e : Role) → IsForeign lane.queue e (Raw window offset (length poked))
       foreign Sender = refl
       foreign Receiver = refl
-  turn_of (ShowMem p side at len) e = rests plan lane pair (ShowMem p side at len) _ refl
-  turn_of (ShowPad p side i) e = rests plan lane pair (ShowPad p side i) _ refl
-  turn_of (ShowQueue p side place) e = rests plan lane pair (ShowQueue p side place) _ refl
-  turn_of (Relay p side queue switch port) e = rests plan lane pair (Relay p side queue switch port) _ refl
-  turn_of (Xnext p side queue dev) e = rests plan lane pair (Xnext p side queue dev) _ refl
+  turn_of step e = rests plan lane pair step _ refl
 
 -- a step on another pair is no turn at all
 pub turn_elsewhere : (plan : Plan) (lane : LaneName) (s : Sight) (made : Answered) → (subject_of made.step ≡ lane.pair → ⊥) → Turned plan lane s made s
