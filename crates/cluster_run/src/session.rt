@@ -84,6 +84,7 @@ impl Session {
                 end: send,
                 todo,
                 clock: Clock::new(first),
+                apart: [0; 16],
             },
             moving: Moving::new(mover, back, first + 1),
             receiving: Receiving::new(recv, got, room, first + 2),

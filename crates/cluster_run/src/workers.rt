@@ -10,12 +10,17 @@ use std::marker::Model;
 use step_kinds::FrameList;
 use table_lane::{BackEnd, CutEnd, MoveEnd, RecvEnd, SendEnd};
 
+/// Numbers that nobody reads, between what one worker changes and what the next one does: so each has cache lines of its
+/// own.
+pub(crate) type Apart = [u64; 16];
+
 /// The worker that sends the frames of a session.
 #[derive(Drop)]
 pub(crate) struct Sending {
     pub(crate) end: SendEnd,
     pub(crate) todo: FrameList,
     pub(crate) clock: Clock,
+    pub(crate) apart: Apart,
 }
 
 impl Sending {
@@ -55,6 +60,7 @@ pub struct Moving {
     mover: MoveEnd,
     back: BackEnd,
     clock: Clock,
+    apart: Apart,
 }
 
 impl Moving {
@@ -67,6 +73,7 @@ impl Moving {
             mover,
             back,
             clock: Clock::new(worker),
+            apart: [0; 16],
         }
     }
 
@@ -130,6 +137,7 @@ pub struct Receiving {
     got: FrameList,
     room: usize,
     clock: Clock,
+    apart: Apart,
 }
 
 impl Receiving {
@@ -146,6 +154,7 @@ impl Receiving {
             got,
             room,
             clock: Clock::new(worker),
+            apart: [0; 16],
         }
     }
 
