@@ -1,6 +1,6 @@
 -- The bytes of a write in flight as they are kept.
 use Rattle.std.specs.Prelude.{ℕ, ◌≤◌, List, take}
-use Rattle.bridge_pair.specs.Writes.{most_write_bytes}
+use Rattle.step_kinds.specs.Limits.{most_write_bytes}
 use Rattle.bridge_pair.specs.declared.flying_bytes.FlyingBytes.TheInside.{Inside}
 use Rattle.bridge_pair.specs.declared.flying_bytes.Kept.{Kept}
 use Rattle.bridge_pair.specs.declared.flying_bytes.Kept.TheVariants.{Few, Many}

@@ -1,5 +1,6 @@
 -- Posted writes as a side makes them: what they are called, and where they go.
 use Rattle.std.specs.Prelude.{ℕ, ◌<◌, ◌≤◌, List, length}
+use Rattle.step_kinds.specs.Limits.{most_write_bytes}
 use Rattle.step_kinds.specs.declared.steps.Label.{Label}
 use Rattle.step_kinds.specs.declared.steps.Label.TheVariants.{Bell, Pad}
 use Rattle.bridge_pair.specs.declared.write.Target.{Target}
@@ -8,10 +9,6 @@ use Rattle.bridge_pair.specs.declared.write.Target.TheVariants.{ThroughWindow, T
 pub record PostedWrite : Type 0 where
   pub label : Label
   pub target : Target
-
--- the most bytes of one write to memory
-abbrev pub most_write_bytes : ℕ
-most_write_bytes = 128
 
 -- bytes through a window, from an offset on
 abbrev pub memory_write : Label → ℕ → ℕ → List ℕ → PostedWrite

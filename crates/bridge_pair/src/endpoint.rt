@@ -1,8 +1,8 @@
 //! One end of a bridge.
 
 ghost use Rattle.std.specs.Prelude.{◌≡◌, ◌↔◌, ◌+◌, ◌<◌, ◌≤◌, IsTrue, Contains, IfOk, IsOk, OnOk, OnErr, length, option_map, replicate, slice_get, slice_index, slice_set, vec_len};
+ghost use Rattle.step_kinds.specs.Limits.{most_write_bytes};
 ghost use Rattle.bridge_pair.specs.Ends.{HasPlace, IsEnd, after_answer, after_arrival, fresh_end, label_landed, stored_at};
-ghost use Rattle.bridge_pair.specs.Writes.{most_write_bytes};
 ghost use Rattle.plan_model.specs.DeclaredPlans.{IsPair};
 ghost use Rattle.plan_model.specs.Orders.{order_of};
 ghost use Rattle.bridge_pair.specs.Flights.{Flying, flying_order};

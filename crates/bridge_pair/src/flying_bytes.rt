@@ -1,8 +1,8 @@
 //! The bytes of posted writes in flight.
 
 ghost use Rattle.std.specs.Prelude.{◌≡◌, ◌≤◌, length, take, IfOk};
+ghost use Rattle.step_kinds.specs.Limits.{most_write_bytes};
 ghost use Rattle.bridge_pair.specs.FlyingBytes.{most_few_bytes};
-ghost use Rattle.bridge_pair.specs.Writes.{most_write_bytes};
 
 use std::alloc::{AllocError, Global};
 use std::marker::Model;

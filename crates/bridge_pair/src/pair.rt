@@ -15,7 +15,7 @@ ghost use Rattle.plan_model.specs.Link.{clean_refusal, cut_refusal, drop_refusal
 ghost use Rattle.plan_model.specs.DeclaredPlans.{IsPair};
 ghost use Rattle.plan_model.specs.Orders.{class_of as order_class, classes_of as plan_classes, order_of};
 ghost use Rattle.plan_model.specs.Plans.{side_plan as side_plan_of};
-ghost use Rattle.step_kinds.specs.Limits.{most_queues};
+ghost use Rattle.step_kinds.specs.Limits.{most_queues, most_write_bytes};
 ghost use Rattle.posted_queue.specs.Flight.{given_back, promised};
 ghost use Rattle.step_kinds.specs.Sides.{other_side};
 
@@ -51,7 +51,7 @@ impl Pair {
     ghost use Rattle.bridge_pair.specs.Bridge.{Bridge, IsBook, IsBridge, bells_of, book_of, bytes_of, flight_of, pads_of, pages_of, with_book, with_bytes, with_flight, with_memory, with_pages};
     ghost use Rattle.bridge_pair.specs.Calls.{HasPages, after_land, after_post, landing};
     ghost use Rattle.bridge_pair.specs.Ends.{IsRegister, after_posting, bytes_after, label_landed};
-    ghost use Rattle.bridge_pair.specs.Writes.{memory_write, most_write_bytes};
+    ghost use Rattle.bridge_pair.specs.Writes.{memory_write};
     ghost use Rattle.bridge_pair.specs.declared.write.Target.TheVariants.{ThroughWindow};
     ghost use Rattle.bridge_pair.specs.Fresh.{fresh_bridge, fresh_bridge_with, started_memory, zero_memory};
     ghost use Rattle.bridge_pair.specs.Lending.{LendsBellsOf};

@@ -1,8 +1,8 @@
 //! Whether memories have the same bytes, and queues the same writes in flight: as they are, or once one write has landed.
 
 ghost use Rattle.std.specs.Prelude.{◌≡◌, ◌↔◌, ℕ, ◌+◌, ◌<◌, ◌≤◌, ◌^◌, IsTrue, length, map, remove, slice_get};
+ghost use Rattle.step_kinds.specs.Limits.{most_write_bytes};
 ghost use Rattle.bridge_pair.specs.Flights.{flying_order};
-ghost use Rattle.bridge_pair.specs.Writes.{most_write_bytes};
 ghost use Rattle.host_memory.specs.Memory.{bytes_at, written};
 ghost use Rattle.order_rules.specs.Order.{may_land as may_land_at, passes as order_passes};
 

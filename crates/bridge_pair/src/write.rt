@@ -1,7 +1,8 @@
 //! Posted writes.
 
 ghost use Rattle.std.specs.Prelude.{◌≡◌, ◌<◌, ◌≤◌, length};
-ghost use Rattle.bridge_pair.specs.Writes.{bell_write, memory_write, most_write_bytes, pad_write};
+ghost use Rattle.step_kinds.specs.Limits.{most_write_bytes};
+ghost use Rattle.bridge_pair.specs.Writes.{bell_write, memory_write, pad_write};
 
 use std::marker::Model;
 use step_kinds::{InPlace, Label};

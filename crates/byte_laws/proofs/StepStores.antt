@@ -2,7 +2,7 @@
 use Rattle.std.proofs.Common.{◌≡◌, ℕ, ◌-◌, ◌<◌, ◌==◌, Bool, true, false, ◌&&◌, List, [], ◌∷◌, ◌++◌, map, refl, sym, ap, ◌∙◌, subst, inl, inr}
 use Rattle.std.specs.Prelude.{◌≢◌, ◌%◌, if◌then◌else◌, slice_index_or, slice_set}
 use Rattle.std.proofs.lemmas.Bool.{cases_eq, cond-true, cond-false, eq-eqb, ne_eqb}
-use Rattle.step_kinds.specs.Sides.{other_side}
+use Rattle.step_kinds.specs.Sides.{other_side, same_side}
 use Rattle.step_kinds.specs.Subject.{subject_of}
 use Rattle.step_kinds.specs.declared.names.LaneName.{LaneName}
 use Rattle.step_kinds.specs.declared.names.Side.{Side}
@@ -23,7 +23,6 @@ use Rattle.byte_model.specs.FreshRings.{zeroed_flags}
 use Rattle.byte_model.specs.Stores.{Store}
 use Rattle.ledger_model.specs.Labels.{write_of, index_of}
 use Rattle.ledger_model.specs.Ledger.{LanePart, PairPart, side_of, lane_of}
-use Rattle.ledger_model.specs.Log.{same_side}
 use Rattle.ledger_model.specs.Receiving.{raws_before}
 use Rattle.ledger_model.specs.Rings.{RingPart, ring_next, with_write, with_index, without_header}
 use Rattle.memory_model.specs.Memory.{stored, stores_by}

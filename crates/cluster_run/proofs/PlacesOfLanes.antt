@@ -3,10 +3,11 @@ use Rattle.std.proofs.Common.{◌≡◌, ◌≢◌, ℕ, zero, suc, ◌+◌, ◌
 use Rattle.std.proofs.lemmas.Bool.{and_left, and_right, and_from}
 use Rattle.std.proofs.lemmas.Bool.Decides.{eqb_tells}
 use Rattle.std.specs.List.{flat_map, range_with_len}
+use Rattle.step_kinds.specs.Sides.{same_side}
 use Rattle.step_kinds.specs.declared.names.Side.{Side}
 use Rattle.step_kinds.specs.declared.names.Side.TheVariants.{A, B}
 use Rattle.step_kinds.specs.declared.names.LaneName.{LaneName}
-use Rattle.traffic_plan.specs.Lanes.{same_side, same_lane}
+use Rattle.traffic_plan.specs.Lanes.{same_lane}
 use Rattle.cluster_run.specs.Lanes.{lanes_of, lanes_in}
 use Rattle.cluster_run.specs.ByLane.{side_place, place_of}
 

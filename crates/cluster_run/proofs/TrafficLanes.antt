@@ -5,6 +5,7 @@ use Rattle.std.proofs.lemmas.List.Elements.{All-cons, All-nil}
 use Rattle.std.proofs.lemmas.List.FromFn.{get_or-map-range_with_len, length-map-range_with_len}
 use Rattle.std.proofs.lemmas.List.Sums.{sum_by-cons}
 use Rattle.std.specs.List.{All, cons_option}
+use Rattle.step_kinds.specs.Sides.{same_side}
 use Rattle.step_kinds.specs.declared.names.Side.{Side}
 use Rattle.step_kinds.specs.declared.names.Side.TheVariants.{A, B}
 use Rattle.step_kinds.specs.declared.names.LaneName.{LaneName}
@@ -17,7 +18,7 @@ use Rattle.plan_model.specs.Plans.{pair_plan, side_plan}
 use Rattle.plan_model.specs.Sizes.{layout_of}
 use Rattle.plan_model.specs.TrafficPlans.{IsTraffic, IsTrafficLane, frames_in, is_break_of}
 use Rattle.lane_workers.specs.Passes.{HaveBytes}
-use Rattle.traffic_plan.specs.Lanes.{same_side, same_lane, frames_on}
+use Rattle.traffic_plan.specs.Lanes.{same_lane, frames_on}
 use Rattle.cluster_run.specs.Lanes.{CanRun, entries_on, losses_on}
 use Rattle.cluster_run.specs.ByLane.{LaneFrames, lane_frames, key_with, keys_with_frames}
 use Rattle.cluster_run.specs.Tasks.{CanBeRun, losses_by_pair}

@@ -2,6 +2,7 @@
 -- neither end of a lane sees.
 use Rattle.std.proofs.Common.{◌≡◌, ℕ, refl, List, [], ◌∷◌, ◌++◌, sym, ap, ◌∙◌}
 use Rattle.std.specs.Prelude.{if◌then◌else◌, slice_set}
+use Rattle.step_kinds.specs.Sides.{same_side}
 use Rattle.step_kinds.specs.Bits.{with_bit}
 use Rattle.step_kinds.specs.declared.names.Side.{Side}
 use Rattle.step_kinds.specs.declared.names.Side.TheVariants.{A, B}
@@ -11,7 +12,6 @@ use Rattle.lane_model.specs.Lane.{Entry}
 use Rattle.plan_model.specs.Both.{Both, at_side}
 use Rattle.byte_model.specs.Stores.{Store, bytes_in}
 use Rattle.ledger_model.specs.Ledger.{LanePart, lane_of, side_of, with_lane, with_side_part}
-use Rattle.ledger_model.specs.Log.{same_side}
 use Rattle.memory_model.specs.Memory.{Site}
 use Rattle.plan_numbers.specs.Memories.{memory_size}
 use Rattle.bridge_pair.specs.Bridge.{Bridge, bells_of, bytes_of, pads_of, with_bells, with_bytes, with_memory, with_pads}

@@ -1,9 +1,8 @@
 //! Posting the writes of a ring.
 
 ghost use Rattle.std.specs.Prelude.{◌≡◌, ◌+◌, ◌*◌, ◌%◌, ◌<◌, ◌≤◌, ◌++◌, length};
-ghost use Rattle.step_kinds.specs.Limits.{most_frame_bytes};
+ghost use Rattle.step_kinds.specs.Limits.{most_frame_bytes, most_write_bytes};
 ghost use Rattle.bridge_pair.specs.Bridge.{flight_of, pages_of};
-ghost use Rattle.bridge_pair.specs.Writes.{most_write_bytes};
 ghost use Rattle.byte_model.specs.Addresses.{own_header};
 ghost use Rattle.byte_model.specs.Headers.{flags_offset as offset_of_flags, len_offset as offset_of_len, version_bytes, word_bytes};
 ghost use Rattle.byte_model.specs.RingWrites.{header_offset, index_write, queue_write, slot_offset};

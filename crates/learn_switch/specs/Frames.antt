@@ -26,12 +26,12 @@ abbrev pub HasHeader : List ℕ → Type 0
 HasHeader bytes = header_bytes ≤ length bytes
 
 -- all frames of all lists have one
-abbrev pub HaveHeaders : List (List (List ℕ)) → Type 0
-HaveHeaders lists = AllByRecursion (AllByRecursion HasHeader) lists
+abbrev pub AllHaveHeaders : List (List (List ℕ)) → Type 0
+AllHaveHeaders lists = AllByRecursion (AllByRecursion HasHeader) lists
 
 -- what always holds of a switch: as many inboxes as lists of waiting frames, stations on its ports, no short frame that waits
 pub record IsSwitch (inboxes waiting : List (List (List ℕ))) (fdb : List Station) : Type 0 where
   pub same_ports : length inboxes ≡ length waiting
   pub few_ports : length waiting ≤ 16
   pub stations : AreBelow (length waiting) fdb
-  pub headers : HaveHeaders waiting
+  pub headers : AllHaveHeaders waiting

@@ -3,7 +3,7 @@
 ghost use Rattle.std.specs.Prelude.{◌≡◌, ◌↔◌, ◌<◌, ◌≤◌, [], length, IfErr, IfOk, IfSome, IsTrue, OnErr, OnOk, option_copied};
 ghost use Rattle.switch_model.specs.Switch.{arrived, first, forward_answer, forwarded, header_bytes, list_of, new_switch, sent};
 ghost use Rattle.switch_model.specs.Fdb.{AreBelow, destination, learned_source, lookup, source};
-ghost use Rattle.learn_switch.specs.Frames.{GoesBelow, HasHeader, HaveHeaders, bytes_after_relay, bytes_relay_answer};
+ghost use Rattle.learn_switch.specs.Frames.{GoesBelow, HasHeader, AllHaveHeaders, bytes_after_relay, bytes_relay_answer};
 
 use crate::fdb::{Fdb, is_multicast};
 use crate::frame_queue::{FrameQueue, copies, empty_queues, push_to_others};

@@ -6,6 +6,7 @@ use Rattle.std.proofs.lemmas.Bool.{false≢true, eq-eqb, ne_eqb, cond-true, cond
 use Rattle.std.proofs.lemmas.Grind.{flat_map-append}
 use Rattle.std.proofs.lemmas.List.{append-nil, length-append}
 use Rattle.std.proofs.lemmas.List.Sums.{sum_by-append}
+use Rattle.step_kinds.specs.Sides.{same_side}
 use Rattle.step_kinds.specs.Subject.{subject_of}
 use Rattle.step_kinds.specs.declared.names.LaneName.{LaneName}
 use Rattle.step_kinds.specs.declared.names.Side.{Side}
@@ -27,7 +28,7 @@ use Rattle.plan_model.specs.Sizes.{sizes_of}
 use Rattle.byte_model.specs.Headers.{Bytes}
 use Rattle.ledger_model.specs.Ledger.{DevPart, PairPart, dev_of, lane_of, lane_to, with_lane, posts, posts_raw, updated}
 use Rattle.ledger_model.specs.LinkSteps.{started_dev}
-use Rattle.ledger_model.specs.Log.{Answered, same_side, is_on, device_accepts, device_refuses, device_delivers, is_short, counters_in}
+use Rattle.ledger_model.specs.Log.{Answered, is_on, device_accepts, device_refuses, device_delivers, is_short, counters_in}
 use Rattle.ledger_model.specs.Next.{fresh_pair, read_next}
 use Rattle.ledger_model.specs.Outcome.{Outcome}
 use Rattle.ledger_model.specs.Reading.{Reading, reading_of}

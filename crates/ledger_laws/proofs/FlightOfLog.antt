@@ -5,7 +5,7 @@ use Rattle.std.specs.List.{fold}
 use Rattle.std.proofs.lemmas.Bool.{false≢true, cond-true, cond-false, eq-eqb, ne_eqb}
 use Rattle.std.proofs.lemmas.List.Sums.{fold-append}
 use Rattle.step_kinds.specs.Bits.{all_below, with_bit, without_bits}
-use Rattle.step_kinds.specs.Sides.{other_side}
+use Rattle.step_kinds.specs.Sides.{other_side, same_side}
 use Rattle.step_kinds.specs.Subject.{subject_of}
 use Rattle.step_kinds.specs.declared.names.Side.{Side}
 use Rattle.step_kinds.specs.declared.names.Side.TheVariants.{A, B}
@@ -22,7 +22,7 @@ use Rattle.plan_model.specs.Plans.{dev_plan, pair_plan, side_plan}
 use Rattle.plan_model.specs.Sizes.{sizes_of}
 use Rattle.byte_model.specs.Headers.{Bytes}
 use Rattle.ledger_model.specs.Ledger.{PairPart, SidePart, lane_of, lane_to, link_up, posts, posts_raw, side_of, with_lane, with_side_part}
-use Rattle.ledger_model.specs.Log.{Answered, same_side}
+use Rattle.ledger_model.specs.Log.{Answered}
 use Rattle.ledger_model.specs.Next.{fresh_pair, read_next}
 use Rattle.ledger_model.specs.Outcome.{Outcome}
 use Rattle.ledger_model.specs.Reading.{Reading, by_bytes, by_ledger, reading_of}

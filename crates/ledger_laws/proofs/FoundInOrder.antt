@@ -5,7 +5,7 @@ use Rattle.std.specs.List.{flat_map}
 use Rattle.std.proofs.lemmas.Bool.{cases_Bool, cases_eq, cond-false, cond-true, eq-eqb, eqb-false, false≢true, ne_eqb}
 use Rattle.std.proofs.lemmas.Grind.{flat_map-append}
 use Rattle.std.proofs.lemmas.List.{append-nil, length-map}
-use Rattle.step_kinds.specs.Sides.{other_side}
+use Rattle.step_kinds.specs.Sides.{other_side, same_side}
 use Rattle.step_kinds.specs.Subject.{subject_of}
 use Rattle.step_kinds.specs.declared.names.LaneName.{LaneName}
 use Rattle.step_kinds.specs.declared.names.Side.{Side}
@@ -26,7 +26,7 @@ use Rattle.ledger_model.specs.Pieces.{pieces_of}
 use Rattle.plan_model.specs.Ethernet.{ethernet_frame}
 use Rattle.plan_model.specs.Sizes.{sizes_of}
 use Rattle.ledger_model.specs.Ledger.{LanePart, PairPart, lane_of, entry_in, lane_to, posts, posts_raw, side_of, with_lane}
-use Rattle.ledger_model.specs.Log.{Answered, Memories, is_on, log_of, same_side, ledger_of, made_since, trains}
+use Rattle.ledger_model.specs.Log.{Answered, Memories, is_on, log_of, ledger_of, made_since, trains}
 use Rattle.byte_model.specs.Headers.{Bytes}
 use Rattle.order_rules.specs.Order.{may_land}
 use Rattle.plan_model.specs.Orders.{order_of}

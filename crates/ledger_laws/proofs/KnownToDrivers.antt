@@ -6,7 +6,7 @@ use Rattle.std.proofs.lemmas.List.{length-append, length-map}
 use Rattle.std.proofs.lemmas.List.Sums.{fold-append, sum_by-cons}
 use Rattle.std.proofs.lemmas.Nat.Bits.{bit_at-zero, bit_at_ones, bit_at_ones_above, bit_at_or, bit_at-pow_other}
 use Rattle.step_kinds.specs.Bits.{all_below, has_bit, with_bit, without_bits}
-use Rattle.step_kinds.specs.Sides.{other_side}
+use Rattle.step_kinds.specs.Sides.{other_side, same_side}
 use Rattle.step_kinds.specs.Subject.{subject_of}
 use Rattle.step_kinds.specs.declared.names.LaneName.{LaneName}
 use Rattle.step_kinds.specs.declared.names.Side.{Side}
@@ -30,7 +30,7 @@ use Rattle.plan_model.specs.Sizes.{sizes_of}
 use Rattle.byte_model.specs.Headers.{Bytes}
 use Rattle.ledger_model.specs.Labels.{label_of, labels_of}
 use Rattle.ledger_model.specs.Ledger.{LanePart, SidePart, PairPart, side_of, lane_of, lane_to, link_up, posts, posts_raw, with_lane, with_side_part}
-use Rattle.ledger_model.specs.Log.{Answered, is_on, same_side, log_of, ledger_of, Memories}
+use Rattle.ledger_model.specs.Log.{Answered, is_on, log_of, ledger_of, Memories}
 use Rattle.ledger_model.specs.Next.{read_next, fresh_pair, agreed_side, idle_side}
 use Rattle.ledger_model.specs.Outcome.{Outcome}
 use Rattle.ledger_model.specs.Pieces.{pieces_of}

@@ -3,7 +3,7 @@ use Rattle.std.proofs.Common.{◌≡◌, ℕ, ◌+◌, ◌==◌, ◌&&◌, Bool,
 use Rattle.std.specs.Prelude.{if◌then◌else◌}
 use Rattle.std.proofs.lemmas.Bool.{false≢true, both_ways, eq-eqb, ne_eqb, cond-true, cond-false, not-false}
 use Rattle.std.proofs.lemmas.List.{append-nil}
-use Rattle.step_kinds.specs.Sides.{other_side}
+use Rattle.step_kinds.specs.Sides.{other_side, same_side}
 use Rattle.step_kinds.specs.Subject.{subject_of}
 use Rattle.step_kinds.specs.declared.names.LaneName.{LaneName}
 use Rattle.step_kinds.specs.declared.names.Side.{Side}
@@ -28,7 +28,7 @@ use Rattle.plan_model.specs.declared.LinkState.TheVariants.{Down as LinkIsDown, 
 use Rattle.byte_model.specs.Headers.{Bytes}
 use Rattle.ledger_model.specs.Labels.{labels_of}
 use Rattle.ledger_model.specs.Ledger.{LanePart, PairPart, lane_of, lane_to, with_lane}
-use Rattle.ledger_model.specs.Log.{Answered, same_side, is_on, trains, posts_write, posted_in}
+use Rattle.ledger_model.specs.Log.{Answered, is_on, trains, posts_write, posted_in}
 use Rattle.ledger_model.specs.Next.{read_next}
 use Rattle.ledger_model.specs.Outcome.{Outcome}
 use Rattle.ledger_model.specs.Pieces.{pieces_of}

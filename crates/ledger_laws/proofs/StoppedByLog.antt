@@ -4,6 +4,7 @@ use Rattle.std.proofs.Common.{◌≡◌, ℕ, ◌-◌, ◌==◌, ◌&&◌, ◌||
 use Rattle.std.specs.Prelude.{if◌then◌else◌, nat_lt}
 use Rattle.std.proofs.lemmas.Bool.{false≢true, eq-eqb, ne_eqb, cond-true, cond-false}
 use Rattle.std.proofs.lemmas.List.{append-nil}
+use Rattle.step_kinds.specs.Sides.{same_side}
 use Rattle.step_kinds.specs.Subject.{subject_of}
 use Rattle.step_kinds.specs.declared.names.LaneName.{LaneName}
 use Rattle.step_kinds.specs.declared.names.Side.{Side}
@@ -22,7 +23,7 @@ use Rattle.plan_model.specs.Sizes.{sizes_of}
 use Rattle.byte_model.specs.Headers.{Bytes}
 use Rattle.ledger_model.specs.Ledger.{DevPart, PairPart, dev_of, free_of, lane_of, lane_to, link_up, with_lane}
 use Rattle.ledger_model.specs.LinkSteps.{started_dev}
-use Rattle.ledger_model.specs.Log.{Answered, Memories, is_on, ledger_of, log_of, room_in, same_side}
+use Rattle.ledger_model.specs.Log.{Answered, Memories, is_on, ledger_of, log_of, room_in}
 use Rattle.ledger_model.specs.Next.{fresh_pair, read_next}
 use Rattle.ledger_model.specs.Outcome.{Outcome}
 use Rattle.ledger_model.specs.Reading.{Reading, by_bytes, by_ledger, reading_of}

@@ -1,13 +1,14 @@
 -- When a device on a queue is stopped, as a log says it, and where a ring has no room. A device stands on a side and a queue of a
 -- pair, and is named as the lane on which it sends.
 use Rattle.std.specs.Prelude.{◌==◌, Bool, true, false, ◌&&◌, not, List, [], ◌∷◌, ◌++◌, nat_lt, if◌then◌else◌}
+use Rattle.step_kinds.specs.Sides.{same_side}
 use Rattle.step_kinds.specs.declared.names.LaneName.{LaneName}
 use Rattle.step_kinds.specs.declared.plan.Plan.{Plan}
 use Rattle.step_kinds.specs.declared.steps.Answer.{Answer}
 use Rattle.step_kinds.specs.declared.steps.Answer.TheVariants.{Ok as Done, OkNumber, Stopped, Awake}
 use Rattle.step_kinds.specs.declared.steps.Step.{Step}
 use Rattle.step_kinds.specs.declared.steps.Step.TheVariants.{Clean, Begin, QpDown, Xbegin, Wake}
-use Rattle.ledger_model.specs.Log.{Answered, is_on, room_in, same_side}
+use Rattle.ledger_model.specs.Log.{Answered, is_on, room_in}
 use Rattle.plan_model.specs.Ethernet.{ethernet_frame}
 use Rattle.plan_model.specs.Plans.{dev_plan}
 use Rattle.ledger_laws.specs.Drivers.{FoundAs, fits_queue, has_left, may_begin, queue_named}

@@ -2,7 +2,7 @@
 -- whether a step will be refused as not ready, closed or busy.
 use Rattle.std.specs.Prelude.{◌≡◌, ℕ, ◌+◌, ◌-◌, ◌==◌, Bool, true, false, ◌&&◌, not, List, [], ◌∷◌, length, nat_lt, slice_index_or, sum_by, if◌then◌else◌}
 use Rattle.std.specs.List.{flat_map, fold}
-use Rattle.step_kinds.specs.Sides.{other_side}
+use Rattle.step_kinds.specs.Sides.{other_side, same_side}
 use Rattle.step_kinds.specs.Subject.{subject_of}
 use Rattle.step_kinds.specs.declared.names.LaneName.{LaneName}
 use Rattle.step_kinds.specs.declared.names.Side.{Side}
@@ -13,7 +13,7 @@ use Rattle.step_kinds.specs.declared.steps.Label.TheVariants.{Flag, Down}
 use Rattle.step_kinds.specs.declared.steps.Step.{Step}
 use Rattle.step_kinds.specs.declared.steps.Step.TheVariants.{Train, Clean, Ready, Join, Begin, QpDown, Xbegin, Post, Land, Look, Clear, Ack}
 use Rattle.lane_model.specs.Lane.{Entry, GoesDown, writes_of}
-use Rattle.ledger_model.specs.Log.{Answered, Memories, in_this_session, is_on, log_of, same_side, up_at}
+use Rattle.ledger_model.specs.Log.{Answered, Memories, in_this_session, is_on, log_of, up_at}
 use Rattle.ledger_model.specs.Pieces.{pieces_of}
 use Rattle.plan_model.specs.Ethernet.{ethernet_frame}
 use Rattle.plan_model.specs.Plans.{dev_plan, pair_plan, side_plan}

@@ -2,6 +2,7 @@
 -- dropped, in the order of posting.
 use Rattle.std.specs.Prelude.{◌≡◌, ℕ, ◌+◌, ◌==◌, Bool, true, false, ◌&&◌, List, [], ◌∷◌, ◌++◌, length, remove, slice_index_or, if◌then◌else◌}
 use Rattle.std.specs.List.{fold}
+use Rattle.step_kinds.specs.Sides.{same_side}
 use Rattle.step_kinds.specs.Bits.{all_below, with_bit}
 use Rattle.step_kinds.specs.declared.names.Side.{Side}
 use Rattle.step_kinds.specs.declared.plan.Plan.{Plan}
@@ -12,7 +13,7 @@ use Rattle.step_kinds.specs.declared.steps.Label.TheVariants.{Index, Pad, Raw}
 use Rattle.step_kinds.specs.declared.steps.Step.{Step}
 use Rattle.step_kinds.specs.declared.steps.Step.TheVariants.{Train, Break, DropDone, Clean, Offer, Ready, Post, Land, Ack, Spad, Poke}
 use Rattle.ledger_model.specs.Ledger.{side_of}
-use Rattle.ledger_model.specs.Log.{Answered, Memories, ledger_of, log_of, same_side}
+use Rattle.ledger_model.specs.Log.{Answered, Memories, ledger_of, log_of}
 use Rattle.plan_model.specs.Pads.{links_pad, offers}
 use Rattle.plan_model.specs.Plans.{pair_plan, side_plan}
 use Rattle.ledger_laws.specs.Laws.{IsOrdinaryPair}

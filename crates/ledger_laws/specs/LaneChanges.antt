@@ -1,6 +1,6 @@
 -- What a step of a pair does to one lane of the pair, by its answer alone.
 use Rattle.std.specs.Prelude.{ℕ, ◌==◌, Option, Some, None, if◌then◌else◌}
-use Rattle.step_kinds.specs.Sides.{other_side}
+use Rattle.step_kinds.specs.Sides.{other_side, same_side}
 use Rattle.step_kinds.specs.declared.names.LaneName.{LaneName}
 use Rattle.step_kinds.specs.declared.steps.Answer.{Answer}
 use Rattle.step_kinds.specs.declared.steps.Answer.TheVariants.{Ok as Done, OkNumber, Posted, Landed, ReadyFrame, Copied, Delivered, Cleared, Acked}
@@ -8,7 +8,7 @@ use Rattle.step_kinds.specs.declared.steps.Step.{Step}
 use Rattle.step_kinds.specs.declared.steps.Step.TheVariants.{Break, DropDone, Begin, QpDown, Xbegin, Post, Land, Look, Copy, Clear, Ack}
 use Rattle.lane_model.specs.declared.Write.{Write}
 use Rattle.ledger_model.specs.Labels.{write_of, index_of}
-use Rattle.ledger_model.specs.Log.{Answered, is_on, same_side}
+use Rattle.ledger_model.specs.Log.{Answered, is_on}
 
 pub data LaneChange : Type 0 where
   Unchanged : LaneChange

@@ -2,10 +2,9 @@
 use Rattle.std.specs.Prelude.{ℕ, ◌+◌, ◌-◌, ◌==◌, Bool, true, false, ◌&&◌, Option, Some, None, List, [], ◌∷◌, ◌++◌, count_by, length, map, nat_lt, not, sum, sum_by, if◌then◌else◌}
 use Rattle.std.specs.List.{flat_map}
 use Rattle.step_kinds.specs.Bits.{has_bit}
-use Rattle.step_kinds.specs.Sides.{other_side}
+use Rattle.step_kinds.specs.Sides.{other_side, same_side}
 use Rattle.step_kinds.specs.declared.names.LaneName.{LaneName}
 use Rattle.step_kinds.specs.declared.names.Side.{Side}
-use Rattle.step_kinds.specs.declared.names.Side.TheVariants.{A, B}
 use Rattle.step_kinds.specs.declared.plan.Counters.{Counters}
 use Rattle.step_kinds.specs.declared.plan.DevPlan.{DevPlan}
 use Rattle.step_kinds.specs.declared.plan.Plan.{Plan}
@@ -53,12 +52,6 @@ abbrev pub ledger_of : Plan → Memories → List Step → Ledger
 ledger_of plan memories steps = ledger_from plan memories [] (start plan) steps
 
 -- Sessions
-
-abbrev pub same_side : Side → Side → Bool
-same_side A A = true
-same_side A B = false
-same_side B A = false
-same_side B B = true
 
 -- whether this begins a session of the pair
 abbrev pub trains : ℕ → Answered → Bool

@@ -1,7 +1,7 @@
 -- The ring of a lane as the log leaves it: what the landed writes, the checks and the clears of a run put into its slots and its
 -- index word. With it the ledger shows a whole lane, of which the law of the ring speaks.
 use Rattle.std.specs.Prelude.{ℕ, ◌-◌, ◌%◌, ◌==◌, Bool, Option, Some, None, List, [], ◌∷◌, ◌++◌, map, replicate, slice_index_or, slice_set, if◌then◌else◌}
-use Rattle.step_kinds.specs.Sides.{other_side}
+use Rattle.step_kinds.specs.Sides.{other_side, same_side}
 use Rattle.step_kinds.specs.declared.names.LaneName.{LaneName}
 use Rattle.step_kinds.specs.declared.names.Side.{Side}
 use Rattle.step_kinds.specs.declared.plan.Plan.{Plan}
@@ -16,7 +16,7 @@ use Rattle.lane_model.specs.Lane.{Slot, Lane, flags_of, with_field, with_flags, 
 pub use Rattle.lane_model.specs.Lane.{zeroed_slot}
 use Rattle.ledger_model.specs.Labels.{write_of, index_of, writes_among, indexes_among}
 use Rattle.ledger_model.specs.Ledger.{LanePart, PairPart, side_of, lane_of, link_up, entry_in}
-use Rattle.ledger_model.specs.Log.{Answered, Memories, answered, is_on, same_side}
+use Rattle.ledger_model.specs.Log.{Answered, Memories, answered, is_on}
 use Rattle.ledger_model.specs.Next.{Ledger, start, ledger_after}
 use Rattle.plan_model.specs.Plans.{pair_plan}
 use Rattle.plan_model.specs.Sizes.{Sizes, sizes_of}

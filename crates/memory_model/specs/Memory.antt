@@ -1,6 +1,6 @@
 -- What the memories of a pair show after a list of steps: each byte is the last one stored there, else 0.
 use Rattle.std.specs.Prelude.{ℕ, ◌==◌, Option, Some, None, List, [], ◌∷◌, ◌++◌, map, slice_index_or, if◌then◌else◌}
-use Rattle.step_kinds.specs.Sides.{other_side}
+use Rattle.step_kinds.specs.Sides.{other_side, same_side}
 use Rattle.step_kinds.specs.Subject.{subject_of}
 use Rattle.step_kinds.specs.declared.names.Side.{Side}
 use Rattle.step_kinds.specs.declared.names.Side.TheVariants.{A, B}
@@ -13,7 +13,7 @@ use Rattle.step_kinds.specs.declared.steps.Step.{Step}
 use Rattle.step_kinds.specs.declared.steps.Step.TheVariants.{Land, Check, Clear}
 use Rattle.plan_model.specs.Both.{Both, at_side}
 use Rattle.ledger_model.specs.Ledger.{PairPart, side_of}
-use Rattle.ledger_model.specs.Log.{Memories, same_side}
+use Rattle.ledger_model.specs.Log.{Memories}
 use Rattle.ledger_model.specs.Next.{fresh_pair, pair_next}
 use Rattle.byte_model.specs.Headers.{Bytes}
 use Rattle.ledger_model.specs.Receiving.{raws_before}

@@ -3,6 +3,7 @@ use Rattle.std.proofs.Common.{◌≡◌, ◌≢◌, ℕ, zero, suc, ◌+◌, ◌
 use Rattle.std.specs.List.{count_by, sum_by}
 use Rattle.std.proofs.lemmas.Bool.{cases_eq, eq-eqb, ne_eqb, false≢true}
 use Rattle.std.proofs.lemmas.List.Sums.{sum_by-append}
+use Rattle.step_kinds.specs.Sides.{same_side}
 use Rattle.host_memory.specs.Memory.{bytes_at}
 use Rattle.step_kinds.specs.declared.names.Side.{Side}
 use Rattle.step_kinds.specs.declared.names.Side.TheVariants.{A, B}
@@ -13,7 +14,7 @@ use Rattle.plan_model.specs.declared.LinkState.TheVariants.{Down, Up, Closing}
 use Rattle.plan_model.specs.declared.LinkRefusal.{LinkRefusal}
 use Rattle.plan_model.specs.declared.LinkRefusal.TheVariants.{SessionsSpent}
 use Rattle.read_model.specs.InFlight.{Flying, Write, Request, Part, Last, lands_after, may_pass_all, parts_from, completions}
-use Rattle.read_model.specs.Numbers.{same_side, is_read_of, lands_read_of, reads_in, landings_in}
+use Rattle.read_model.specs.Numbers.{is_read_of, lands_read_of, reads_in, landings_in}
 use Rattle.read_model.specs.Path.{PathState, SideState, answer_for, landing_of, taken, land_answer, after_land, unless}
 use Rattle.read_model.specs.PathLog.{Entry, answer_to, after_step}
 use Rattle.read_model.specs.Pushed.{read_entry, request_entry}

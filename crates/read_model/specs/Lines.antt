@@ -1,12 +1,12 @@
 -- How a text of reads is written: its first line is `reads 1`, and each further one is a step, a comment, or has no words.
 use Rattle.std.specs.Prelude.{ℕ, ◌+◌, ◌==◌, Bool, true, false, not, ◌&&◌, ◌||◌, Option, Some, None, Result, Ok, Err, List, [], ◌∷◌, codes, length, nat_lt, if◌then◌else◌}
 use Rattle.std.specs.Str.{bytes_eq}
-use Rattle.step_kinds.specs.Limits.{most_steps}
+use Rattle.step_kinds.specs.Limits.{most_steps, most_write_bytes}
 use Rattle.script_words.specs.Tests.{◌>>=◌, fault_if, found_or}
 use Rattle.script_words.specs.Words.{lines_of, words_of, is_skipped, is_text, side_word, number_word, number_between, hex_word}
 use Rattle.script_words.specs.declared.fault.Cause.{Cause}
 use Rattle.script_words.specs.declared.fault.Cause.TheVariants.{NotText, BadHeader, UnknownWord, BadNumber, TooMany}
-use Rattle.read_model.specs.Path.{memory_bytes, most_write_bytes, most_read_bytes}
+use Rattle.read_model.specs.Path.{memory_bytes, most_read_bytes}
 use Rattle.read_model.specs.declared.PathStep.{PathStep}
 use Rattle.read_model.specs.declared.PathStep.TheVariants.{Write, Read, Land, Show, Break, DropDone, Relink}
 

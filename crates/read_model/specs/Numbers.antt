@@ -1,7 +1,7 @@
 -- The numbers of reads in a log.
 use Rattle.std.specs.Prelude.{ℕ, ◌==◌, Bool, true, false, List, count_by, if◌then◌else◌}
+use Rattle.step_kinds.specs.Sides.{same_side}
 use Rattle.step_kinds.specs.declared.names.Side.{Side}
-use Rattle.step_kinds.specs.declared.names.Side.TheVariants.{A, B}
 use Rattle.read_model.specs.PathLog.{Entry}
 use Rattle.read_model.specs.declared.PathAnswer.{PathAnswer}
 use Rattle.read_model.specs.declared.PathAnswer.TheVariants.{Asked, Landed}
@@ -9,11 +9,6 @@ use Rattle.read_model.specs.declared.PathLand.TheVariants.{Request}
 use Rattle.read_model.specs.declared.PathStep.{PathStep}
 use Rattle.read_model.specs.declared.PathStep.TheVariants.{Read, Land}
 use Rattle.read_model.specs.declared.ReadAnswer.TheVariants.{Posted}
-
-abbrev pub same_side : Side → Side → Bool
-same_side A A = true
-same_side B B = true
-same_side side other = false
 
 -- whether it is `read N` of this side, for some N
 abbrev pub is_read_of : Side → PathStep → PathAnswer → Bool

@@ -29,12 +29,9 @@ pub record PathState : Type 0 where
   pub session : ℕ
   pub sides : Both SideState
 
--- the bytes of a side's memory, and of the largest write and read
+-- the bytes of a side's memory, and of the largest read
 abbrev pub memory_bytes : ℕ
 memory_bytes = 4096
-
-abbrev pub most_write_bytes : ℕ
-most_write_bytes = 128
 
 abbrev pub most_read_bytes : ℕ
 most_read_bytes = 512

@@ -1,9 +1,10 @@
 //! One side of a path: its memory, what it has in flight to its peer, and how many reads it made.
 
 ghost use Rattle.std.specs.Prelude.{◌≡◌, ◌+◌, ◌≤◌, length, IfOk, OnOk, OnErr, slice_get};
+ghost use Rattle.step_kinds.specs.Limits.{most_write_bytes};
 ghost use Rattle.host_memory.specs.Memory.{bytes_at};
 ghost use Rattle.read_model.specs.InFlight.{may_land};
-ghost use Rattle.read_model.specs.Path.{answer_for, landing_of, memory_bytes, most_read_bytes, most_write_bytes};
+ghost use Rattle.read_model.specs.Path.{answer_for, landing_of, memory_bytes, most_read_bytes};
 ghost use Rattle.read_path.specs.Flights.{flying_of};
 ghost use Rattle.read_path.specs.Ends.{AreEnds, IsEnd, IsInRange, asks, brings, completions_due, completions_of, end_seen, fresh_end, from_after, posts, promises, reached, stores, to_after};
 

@@ -1,7 +1,8 @@
 -- Which steps a path takes.
 use Rattle.std.specs.Prelude.{ℕ, ◌+◌, ◌≤◌, Option, Some, None, length}
+use Rattle.step_kinds.specs.Limits.{most_write_bytes}
 use Rattle.read_model.specs.Lines.{most_show_bytes}
-use Rattle.read_model.specs.Path.{memory_bytes, most_write_bytes, most_read_bytes}
+use Rattle.read_model.specs.Path.{memory_bytes, most_read_bytes}
 use Rattle.read_model.specs.declared.PathStep.{PathStep}
 use Rattle.read_model.specs.declared.PathStep.TheVariants.{Write, Read, Land, Show, Break, DropDone, Relink}
 

@@ -7,6 +7,7 @@ use Rattle.std.proofs.lemmas.List.Concat.{flat_map-append}
 use Rattle.std.proofs.lemmas.List.Elements.{All-push, All-set, All-weaker, All-nil, All-map, All-append, All-from_get_or}
 use Rattle.std.proofs.lemmas.List.Sums.{sum_by-append}
 use Rattle.std.specs.List.{All, AllPairs, list_any, slice_split}
+use Rattle.step_kinds.specs.Sides.{same_side}
 use Rattle.step_kinds.specs.declared.names.Side.{Side}
 use Rattle.step_kinds.specs.declared.names.Side.TheVariants.{A, B}
 use Rattle.step_kinds.specs.declared.plan.PairPlan.{PairPlan}
@@ -23,7 +24,7 @@ use Rattle.plan_model.specs.Plans.{pair_plan, dev_plan, ports_in, no_pair, no_de
 use Rattle.plan_model.specs.Switches.{AreSwitches, IsMakeable, IsSwitch}
 use Rattle.plan_model.specs.TrafficPlans.{frames_in, bytes_in, is_break_of, IsTraffic, IsWhole}
 use Rattle.script_words.specs.Before.{Before, nothing_before, with_given, with_class, Given, Nothing, Host, APair, ADevice, AClass, ASwitch, StepsBegin, TrafficBegins, MoreSteps, MoreTraffic}
-use Rattle.script_words.specs.Declarations.{sits_on, same_side}
+use Rattle.script_words.specs.Declarations.{sits_on}
 use Rattle.script_words.specs.Tests.{whole}
 use Rattle.script_words.specs.Words.{lines_of, words_of, is_skipped, is_text}
 use Rattle.script_words.specs.declared.fault.LineFault.{LineFault}

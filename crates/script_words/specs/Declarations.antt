@@ -3,6 +3,7 @@
 use Rattle.std.specs.Prelude.{ℕ, ◌==◌, Bool, true, false, if◌then◌else◌, not, ◌&&◌, Result, Ok, Err, List, [], ◌∷◌, length, codes, nat_le, nat_lt}
 use Rattle.std.specs.List.{list_any}
 use Rattle.std.specs.Str.{bytes_eq}
+use Rattle.step_kinds.specs.Sides.{same_side}
 use Rattle.step_kinds.specs.Limits.{most_hosts, most_pairs, most_devices, most_switches, least_ports, most_ports}
 use Rattle.step_kinds.specs.declared.names.Side.{Side}
 use Rattle.step_kinds.specs.declared.names.Side.TheVariants.{A, B}
@@ -66,11 +67,6 @@ abbrev pub threshold_word : ℕ → List ℕ → List ℕ → Result ℕ LineFau
 threshold_word n key word = do
   digits ← at n (found_or (behind key word) UnknownWord)
   within n 0 most_threshold (threshold_of digits)
-
-abbrev pub same_side : Side → Side → Bool
-same_side A A = true
-same_side B B = true
-same_side one other = false
 
 -- whether a device sits on this queue
 abbrev pub sits_on : ℕ → Side → ℕ → DevPlan → Bool

@@ -3,8 +3,8 @@
 
 ghost use Rattle.std.specs.Prelude.{◌≡◌, ◌||◌};
 ghost use Rattle.std.specs.List.{list_all};
+ghost use Rattle.step_kinds.specs.Sides.{same_side};
 ghost use Rattle.script_words.specs.Reads.{Reads, ReadsLine};
-ghost use Rattle.script_words.specs.Declarations.{same_side};
 ghost use Rattle.script_words.specs.Tests as tests;
 ghost use Rattle.script_words.specs.Words as spelled;
 

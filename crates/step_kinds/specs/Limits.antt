@@ -57,6 +57,10 @@ most_steps = 1000000
 abbrev pub most_frame_bytes : ℕ
 most_frame_bytes = 65536
 
+-- the bytes of one write in flight
+abbrev pub most_write_bytes : ℕ
+most_write_bytes = 128
+
 -- the bytes that a step writes past the transport
 abbrev pub most_poke_bytes : ℕ
 most_poke_bytes = 128

@@ -4,6 +4,7 @@ use Rattle.std.proofs.Common.{◌≡◌, ℕ, ◌==◌, Bool, true, false, not, 
 use Rattle.std.specs.Prelude.{slice_get, slice_index_or}
 use Rattle.std.specs.List.{list_all}
 use Rattle.std.proofs.lemmas.Bool.{and_parts, eqb-true, false≢true}
+use Rattle.step_kinds.specs.Sides.{same_side}
 use Rattle.step_kinds.specs.declared.names.Side.{Side}
 use Rattle.step_kinds.specs.declared.names.Side.TheVariants.{A, B}
 use Rattle.step_kinds.specs.declared.plan.PairPlan.{PairPlan}
@@ -23,7 +24,7 @@ use Rattle.plan_model.specs.declared.LinkState.TheVariants.{Closing, Down as IsD
 use Rattle.byte_model.specs.Headers.{Bytes}
 use Rattle.ledger_model.specs.Labels.{labels_of}
 use Rattle.ledger_model.specs.Ledger.{PairPart, lane_of, link_up, side_of}
-use Rattle.ledger_model.specs.Log.{Answered, same_side}
+use Rattle.ledger_model.specs.Log.{Answered}
 use Rattle.ledger_model.specs.Next.{pair_next}
 use Rattle.ledger_model.specs.Outcome.{Outcome, decided, refuse_if}
 use Rattle.ledger_model.specs.Reading.{reading_of}

@@ -6,6 +6,7 @@ use Rattle.std.proofs.lemmas.Bool.{cond_both, eqb-true}
 use Rattle.std.proofs.lemmas.List.{append-nil}
 use Rattle.std.proofs.lemmas.List.Elements.{filter-append}
 use Rattle.std.proofs.lemmas.List.Sums.{fold-append}
+use Rattle.step_kinds.specs.Sides.{same_side}
 use Rattle.step_kinds.specs.Subject.{subject_of}
 use Rattle.step_kinds.specs.declared.names.Side.{Side}
 use Rattle.step_kinds.specs.declared.names.Side.TheVariants.{A, B}
@@ -16,7 +17,7 @@ use Rattle.step_kinds.specs.declared.steps.Step.{Step}
 use Rattle.step_kinds.specs.declared.steps.Step.TheVariants.{Train, Break, DropDone, Clean, Offer, Ready, Post, Land, Ack, Spad, Poke}
 use Rattle.plan_model.specs.Plans.{pair_plan}
 use Rattle.ledger_model.specs.Ledger.{link_up, side_of}
-use Rattle.ledger_model.specs.Log.{Answered, Memories, answered, ledger_of, log_of, same_side, up_at}
+use Rattle.ledger_model.specs.Log.{Answered, Memories, answered, ledger_of, log_of, up_at}
 use Rattle.ledger_laws.specs.Flights.{Outbox, outbox_next, outbox_start}
 use Rattle.ledger_laws.specs.Laws.{IsOrdinaryPair}
 use Rattle.ledger_laws.proofs.Facade.{in_flight_is_posted, log_of-last, own_todos, up_after-last, up_known, up_step}

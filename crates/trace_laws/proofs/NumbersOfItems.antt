@@ -2,6 +2,7 @@
 use Rattle.std.proofs.Common.{◌≡◌, ℕ, ◌+◌, ◌==◌, ◌&&◌, Bool, true, false, not, List, [], length, refl, sym, ap, subst}
 use Rattle.std.specs.Prelude.{if◌then◌else◌, remove, slice_index_or}
 use Rattle.std.proofs.lemmas.Bool.{false≢true}
+use Rattle.step_kinds.specs.Sides.{same_side}
 use Rattle.step_kinds.specs.Bits.{with_bit}
 use Rattle.step_kinds.specs.declared.names.Side.{Side}
 use Rattle.step_kinds.specs.declared.names.Side.TheVariants.{A, B}
@@ -17,7 +18,7 @@ use Rattle.plan_model.specs.Both.{Both, at_side}
 use Rattle.plan_model.specs.Orders.{class_of, classes_of}
 use Rattle.plan_model.specs.Pads.{links_pad, offers}
 use Rattle.plan_model.specs.Plans.{pair_plan, side_plan}
-use Rattle.ledger_model.specs.Log.{Answered, same_side}
+use Rattle.ledger_model.specs.Log.{Answered}
 use Rattle.ledger_laws.specs.Flights.{Outbox, goes_out, outbox_next}
 use Rattle.ledger_laws.proofs.Facade.{is_pad, offer-is_pad}
 use Rattle.trace_text.specs.Writes.{PairWrites, SideWrites, class_on, pair_after}

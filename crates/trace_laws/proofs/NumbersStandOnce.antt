@@ -6,6 +6,7 @@ use Rattle.std.proofs.lemmas.Bool.Decides.{nat_tests}
 use Rattle.std.proofs.lemmas.List.{append-nil, length-map, map-append}
 use Rattle.std.proofs.lemmas.List.Sums.{sum_by-append}
 use Rattle.std.proofs.lemmas.Option.{slice_get-get_or, slice_get_within}
+use Rattle.step_kinds.specs.Sides.{same_side}
 use Rattle.step_kinds.specs.Subject.{subject_of}
 use Rattle.step_kinds.specs.declared.names.Side.{Side}
 use Rattle.step_kinds.specs.declared.names.Side.TheVariants.{A, B}
@@ -18,7 +19,7 @@ use Rattle.step_kinds.specs.declared.steps.Step.TheVariants.{Train, Break, DropD
 use Rattle.plan_model.specs.Both.{Both, at_side}
 use Rattle.plan_model.specs.Plans.{pair_plan}
 use Rattle.posted_queue.proofs.CountLemmas.{count_by-remove}
-use Rattle.ledger_model.specs.Log.{Answered, Memories, log_of, same_side}
+use Rattle.ledger_model.specs.Log.{Answered, Memories, log_of}
 use Rattle.ledger_laws.specs.Laws.{IsOrdinaryPair}
 use Rattle.ledger_laws.proofs.Facade.{count_by-last, get-map, log_of-last}
 use Rattle.trace_text.specs.Writes.{PairWrites, SideWrites, change_by, number_at, numbers_in, pair_after, pair_start, with_posted}

@@ -2,6 +2,7 @@
 -- landed, and lands once; and a landing that is blocked names a write that it may not pass. A trace follows these numbers.
 use Rattle.std.specs.Prelude.{◌≡◌, ℕ, ◌<◌, ◌==◌, Bool, true, false, not, List, [], ◌∷◌, ◌++◌, Some, count_by, filter, length, map, nat_lt, slice_get, slice_index_or, if◌then◌else◌}
 use Rattle.std.specs.List.{fold}
+use Rattle.step_kinds.specs.Sides.{same_side}
 use Rattle.step_kinds.specs.Subject.{subject_of}
 use Rattle.step_kinds.specs.declared.names.Side.{Side}
 use Rattle.step_kinds.specs.declared.plan.Plan.{Plan}
@@ -14,7 +15,7 @@ use Rattle.order_rules.specs.Order.{Order, passes}
 use Rattle.plan_model.specs.Both.{at_side}
 use Rattle.plan_model.specs.Orders.{order_of}
 use Rattle.plan_model.specs.Plans.{pair_plan}
-use Rattle.ledger_model.specs.Log.{Answered, Memories, log_of, same_side}
+use Rattle.ledger_model.specs.Log.{Answered, Memories, log_of}
 use Rattle.ledger_laws.specs.Flights.{in_flight}
 use Rattle.ledger_laws.specs.Laws.{GoesOn, IsOrdinaryPair}
 use Rattle.switch_log.specs.Log.{on_bridges, switch_log}

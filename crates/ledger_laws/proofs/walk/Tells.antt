@@ -2,7 +2,7 @@
 use Rattle.std.proofs.Common.{◌≡◌, ℕ, ◌==◌, Bool, true, false, ◌&&◌, Option, Some, None, List, [], ◌∷◌, refl, ap, ◌∙◌}
 use Rattle.std.specs.Prelude.{if◌then◌else◌, length}
 use Rattle.std.proofs.lemmas.Bool.{both_ways, false≢true, true≢false, eq-eqb, ne_eqb, and_right, cond_both}
-use Rattle.step_kinds.specs.Sides.{other_side}
+use Rattle.step_kinds.specs.Sides.{other_side, same_side}
 use Rattle.step_kinds.specs.Subject.{subject_of}
 use Rattle.step_kinds.specs.declared.names.LaneName.{LaneName}
 use Rattle.step_kinds.specs.declared.names.Side.{Side}
@@ -17,7 +17,7 @@ use Rattle.step_kinds.specs.declared.steps.Step.TheVariants.{Train, Break, DropD
 use Rattle.lane_model.specs.declared.Write.TheVariants.{Bell as QueueBell}
 use Rattle.ledger_model.specs.Labels.{write_of, index_of}
 use Rattle.ledger_model.specs.Ledger.{LanePart}
-use Rattle.ledger_model.specs.Log.{Answered, takes_room, gives_room, trains, breaks, accepts, delivers, is_on, same_side}
+use Rattle.ledger_model.specs.Log.{Answered, takes_room, gives_room, trains, breaks, accepts, delivers, is_on}
 use Rattle.ledger_model.specs.Rings.{RingPart, ring_next, with_write, with_index}
 use Rattle.plan_model.specs.Plans.{dev_plan, pair_plan}
 use Rattle.plan_model.specs.Sizes.{Sizes, sizes_of, pieces_in}

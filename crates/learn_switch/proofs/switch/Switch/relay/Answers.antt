@@ -2,7 +2,7 @@ use Rattle.std.proofs.Common.{◌≡◌, ◌<◌, length, rules, subst, sym, ◌
 use Rattle.std.proofs.lemmas.List.{length-set}
 use Rattle.switch_model.specs.Fdb.{AreBelow, learned_source}
 use Rattle.switch_model.proofs.Lookups.{learned_source-below}
-use Rattle.learn_switch.specs.Frames.{HaveHeaders}
+use Rattle.learn_switch.specs.Frames.{AllHaveHeaders}
 use Rattle.learn_switch.proofs.LongFrames.{headers-forwarded}
 use Rattle.learn_switch.proofs.switch.Switch.relay.Goals as goal
 
@@ -19,5 +19,5 @@ invariant_of-self-2 c =
       same_ports = length-set inboxes c.args.port c.drop_first-2.new.self ∙ (c.self.invariant.same_ports ∙ sym same);
       few_ports = omega (arith, same, c.self.invariant.few_ports);
       stations = subst (λ n. AreBelow n c.learn_source.new.self) (sym same) known;
-      headers = subst HaveHeaders (sym c.in_ok-forward.ensures.ok) (headers-forwarded _ c.args.port c.in-Some.frame.now c.route-answer.result c.self.invariant.headers c.in-Ok.ensures.header.0);
+      headers = subst AllHaveHeaders (sym c.in_ok-forward.ensures.ok) (headers-forwarded _ c.args.port c.in-Some.frame.now c.route-answer.result c.self.invariant.headers c.in-Ok.ensures.header.0);
     }
