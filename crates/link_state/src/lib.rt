@@ -1,7 +1,7 @@
 //! The link of a pair: its state, the number of its session, and which sides have enabled it and are clean.
 //!
 //! The calls that enable and disable a link, and the event that tells of its loss, are those of Linux
-//! `Documentation/driver-api/ntb.rst`. Sessions and the clean bit of a side are this project's own: a link that was
+//! `include/linux/ntb.h`. Sessions and the clean bit of a side are this project's own: a link that was
 //! lost comes up again only after both sides have forgotten the session, and then in the next session. No call takes
 //! memory, and a refused call changes nothing.
 #![tactic(auto)]

@@ -8,7 +8,7 @@ pub mod examples;
 pub mod laws;
 
 /// Where the link of a pair stands. That a link is enabled by both sides and may be lost is Linux
-/// `Documentation/driver-api/ntb.rst`; the state between a loss and the drop of what was in flight is this project's
+/// `include/linux/ntb.h`; the state between a loss and the drop of what was in flight is this project's
 /// own.
 #[derive(Clone, Copy, Debug, PartialEq, Eq)]
 pub enum LinkState {

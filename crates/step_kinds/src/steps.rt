@@ -38,7 +38,7 @@ pub enum Label {
 /// A step of a script. `pair` is the number of the pair in order of declaration, from 0, `side` the side that makes the
 /// step, and `queue` a queue of that side, from 0.
 ///
-/// The link's steps are those of Linux `Documentation/driver-api/ntb.rst`; the handshake by scratchpads, the queues and
+/// The link's steps are those of Linux `include/linux/ntb.h`; the handshake by scratchpads, the queues and
 /// the devices work as `ntb_transport` and `ntb_netdev` do.
 #[derive(Drop)]
 pub enum Step {
