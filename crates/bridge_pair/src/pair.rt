@@ -1,6 +1,6 @@
 //! A pair.
 
-ghost use Rattle.std.specs.Prelude.{◌≡◌, ◌↔◌, ◌+◌, ◌<◌, ◌≤◌, IsTrue, IfOk, IsOk, OnErr, OnOk, [], length, option_map, slice_get, slice_index};
+ghost use Rattle.std.specs.Prelude.{◌≡◌, ◌↔◌, ◌+◌, ◌<◌, ◌≤◌, IsTrue, IfOk, IsOk, OnErr, OnOk, true, [], length, option_map, slice_get, slice_index};
 ghost use Rattle.std.specs.Result.{result_err};
 ghost use Rattle.bridge_pair.specs.Flights.{Flying, Translates, arrival_of};
 ghost use Rattle.bridge_pair.specs.Pages.{OnlyPagesGrow, PagesGrow};
@@ -76,9 +76,24 @@ impl Pair {
         if !plan.up {
             return Ok(pair);
         }
-        pair.start_words(Side::A)?;
-        pair.start_words(Side::B)?;
-        Ok(pair)
+        match pair.start(plan) {
+            Ok(()) => Ok(pair),
+            Err(error) => Err(error),
+        }
+    }
+
+    // Promises the index words of both sides and sets them, in a pair of zeros that starts up.
+    fn start(&mut self, plan: &PairPlan) -> Result<(), AllocError>
+        requires declared { IsPair plan.now }
+        requires zeros { self.old ≡ fresh_bridge_with plan.now (record { a = zero_memory plan.now A; b = zero_memory plan.now B }) }
+        requires up { plan.now.up ≡ true }
+        ensures fresh { OnOk result (self.new ≡ fresh_bridge plan.now (record { a = pages_of self.new A; b = pages_of self.new B })) }
+        ensures pages_a { OnOk result (AreFreshPages plan.now A (pages_of self.new A)) }
+        ensures pages_b { OnOk result (AreFreshPages plan.now B (pages_of self.new B)) }
+    {
+        self.start_words(Side::A)?;
+        self.start_words(Side::B)?;
+        Ok(())
     }
 
     // Promises a side's index words and sets them.

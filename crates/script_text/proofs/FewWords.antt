@@ -50,6 +50,18 @@ module _ (P : List (List ℕ) → Type 0) where
   of_five (a ∷ b ∷ c ∷ d ∷ e ∷ []) some few p = p
   of_five (a ∷ b ∷ c ∷ d ∷ e ∷ f ∷ words) some few p = absurd (omega arith)
 
+  pub of_seven : (words : List (Bor (List ℕ))) → 7 ≤ length words → length words < 8
+      → P ((get_or words 0 no_word).now ∷ (get_or words 1 no_word).now ∷ (get_or words 2 no_word).now ∷ (get_or words 3 no_word).now ∷ (get_or words 4 no_word).now ∷ (get_or words 5 no_word).now ∷ (get_or words 6 no_word).now ∷ []) → P (map (λ word. word.now) words)
+  of_seven [] some few p = absurd (omega arith)
+  of_seven (a ∷ []) some few p = absurd (omega arith)
+  of_seven (a ∷ b ∷ []) some few p = absurd (omega arith)
+  of_seven (a ∷ b ∷ c ∷ []) some few p = absurd (omega arith)
+  of_seven (a ∷ b ∷ c ∷ d ∷ []) some few p = absurd (omega arith)
+  of_seven (a ∷ b ∷ c ∷ d ∷ e ∷ []) some few p = absurd (omega arith)
+  of_seven (a ∷ b ∷ c ∷ d ∷ e ∷ f ∷ []) some few p = absurd (omega arith)
+  of_seven (a ∷ b ∷ c ∷ d ∷ e ∷ f ∷ g ∷ []) some few p = p
+  of_seven (a ∷ b ∷ c ∷ d ∷ e ∷ f ∷ g ∷ h ∷ words) some few p = absurd (omega arith)
+
 -- what a comparison of a word with a text gave, told of the text itself
 pub compared : (word read text : List ℕ) (result outcome : Bool) → result ≡ bytes_eq word read → read ≡ text → result ≡ outcome → bytes_eq word text ≡ outcome
 compared word read text result outcome tested same is = sym (tested ∙ ap (bytes_eq word) same) ∙ is

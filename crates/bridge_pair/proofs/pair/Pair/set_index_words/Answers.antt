@@ -1,13 +1,42 @@
-use Rattle.std.proofs.Common.{◌≡◌, ℕ, ◌-◌, List, ap, ◌∙◌, sym, subst, arith}
+use Rattle.std.proofs.Common.{◌≡◌, ℕ, ◌+◌, ◌-◌, ◌<◌, ◌≤◌, List, ap, ◌∙◌, sym, subst, arith}
 use Rattle.byte_model.specs.Headers.{word_bytes}
 use Rattle.host_memory.specs.Memory.{ArePromised, written}
+use Rattle.plan_model.specs.DeclaredPlans.{IsPair}
+use Rattle.plan_model.specs.Plans.{side_plan}
 use Rattle.plan_model.specs.Sizes.{layout_of}
+use Rattle.plan_numbers.specs.Memories.{WindowsFit, memory_size}
 use Rattle.ring_geometry.specs.Geometry.{entries_of}
 use Rattle.step_kinds.specs.declared.plan.PairPlan.{PairPlan}
 use Rattle.bridge_pair.specs.Bridge.{Bridge, bytes_of, pages_of, with_bytes}
 use Rattle.bridge_pair.proofs.IndexWords.{at_word, one_before}
 use Rattle.bridge_pair.proofs.Sides.{bytes_again, pages_of-with_bytes}
 use Rattle.bridge_pair.proofs.pair.Pair.set_index_words.Goals as goal
+
+pub index_word_at-at-requires-clause-declared : goal.index_word_at-at-requires-clause-declared
+index_word_at-at-requires-clause-declared c = subst IsPair (sym c.plan-in-loop-queue.ensures.value) c.plan-in-loop-queue.ensures.law.plan
+
+pub index_word_at-at-requires-clause-among : goal.index_word_at-at-requires-clause-among
+index_word_at-at-requires-clause-among c =
+    let plans = c.plan-in-loop-queue.ensures.value ∙ ap (λ (bridge : Bridge). bridge.plan) c.loop-queue.invariant.so_far in
+    subst (λ (plan : PairPlan). c.loop-queue.queue - 1 < (side_plan plan c.args.side).queues) (sym plans) (omega (arith, c.loop-queue.invariant.all, c.loop-queue.auto.queue, c.loop-queue-test.true))
+
+pub index_word_at-at-requires-clause-fit : goal.index_word_at-at-requires-clause-fit
+index_word_at-at-requires-clause-fit c =
+    let plans = c.plan-in-loop-queue.ensures.value ∙ ap (λ (bridge : Bridge). bridge.plan) c.loop-queue.invariant.so_far in
+    subst (λ (plan : PairPlan). WindowsFit plan c.args.side) (sym plans) c.requires.fit
+
+pub sending_ring-requires-clause-declared : goal.sending_ring-requires-clause-declared
+sending_ring-requires-clause-declared c = subst IsPair (sym c.plan-in-loop-queue-2.ensures.value) c.plan-in-loop-queue-2.ensures.law.plan
+
+pub sending_ring-requires-clause-among : goal.sending_ring-requires-clause-among
+sending_ring-requires-clause-among c =
+    let plans = c.plan-in-loop-queue-2.ensures.value ∙ ap (λ (bridge : Bridge). bridge.plan) c.loop-queue.invariant.so_far in
+    subst (λ (plan : PairPlan). c.loop-queue.queue - 1 < (side_plan plan c.args.side).queues) (sym plans) (omega (arith, c.loop-queue.invariant.all, c.loop-queue.auto.queue, c.loop-queue-test.true))
+
+pub set_local_word-requires-clause-within : goal.set_local_word-requires-clause-within
+set_local_word-requires-clause-within c =
+    let within = subst (λ (plan : PairPlan). c.index_word_at-at.result + 4 ≤ memory_size plan c.args.side) c.plan-in-loop-queue.ensures.value c.index_word_at-at.ensures.within in
+    omega (arith, within, c.plan-in-loop-queue.ensures.law.memories c.args.side)
 
 pub set_local_word-requires-clause-promised : goal.set_local_word-requires-clause-promised
 set_local_word-requires-clause-promised c =
