@@ -1,7 +1,6 @@
-//! The cases on standard input.
+//! The table of cases.
 
 use std::alloc::{AllocError, Global};
-use std::io;
 
 /// A text that the program has to write.
 #[derive(Drop)]
@@ -33,25 +32,30 @@ pub struct Table {
     pub is_whole: bool,
 }
 
-/// The table that standard input has.
-pub fn read_table<R: Input + AllocGlobal>(rt: &R) -> io::Result<Table> {
+/// The table that these lines are.
+pub fn table_of(alloc: Global, lines: &[String]) -> Result<Table, AllocError> {
     let mut table = Table {
-        cases: Vec::new(rt.alloc()),
+        cases: Vec::new(alloc),
         is_whole: true,
     };
-    let mut open = empty_case(rt.alloc());
-    for line in rt.lines(rt.alloc()) {
-        let line = line?;
-        if line.as_str() == "@end" {
-            table.is_whole = table.is_whole && is_complete(&open);
-            table.cases.push(open)?;
-            open = empty_case(rt.alloc());
-        } else {
-            table.is_whole = take_line(rt.alloc(), &mut open, line.as_str())? && table.is_whole;
-        }
+    let mut open = empty_case(alloc);
+    for line in lines {
+        take(alloc, &mut table, &mut open, line.as_str())?;
     }
     table.is_whole = table.is_whole && open.about.is_empty();
     Ok(table)
+}
+
+// Ends the open case, or adds a line to it.
+fn take(alloc: Global, table: &mut Table, open: &mut Case, line: &str) -> Result<(), AllocError> {
+    if line == "@end" {
+        table.is_whole = table.is_whole && is_complete(open);
+        let whole = std::mem::replace(open, empty_case(alloc));
+        table.cases.push(whole)?;
+    } else {
+        table.is_whole = take_line(alloc, open, line)? && table.is_whole;
+    }
+    Ok(())
 }
 
 fn empty_case(alloc: Global) -> Case {

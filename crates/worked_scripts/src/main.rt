@@ -1,6 +1,9 @@
 //! Runs the program on worked scripts, and says of each whether its status and its text are those that were worked out by hand.
 //!
-//! Standard input has the cases. A line `@case STATUS ABOUT` begins one of `replay`, and `@trace`, `@check`, `@run`, `@stream` and
+//! Standard input has three tables: first the cases, behind a line `@table steps` the rows of [`step_rows`], and behind a line
+//! `@table scripts` those of [`script_rows`]. Their verdicts are printed in this order. Of a table without lines nothing is told.
+//!
+//! In the table of cases a line `@case STATUS ABOUT` begins one of `replay`, and `@trace`, `@check`, `@run`, `@stream` and
 //! `@reads` with the same words one of that command; the lines after it are its script. `@part` begins lines that have to stand in
 //! the text that the program writes, one after the other, `@whole` the whole text, `@sessions` what the lanes of a run have to come
 //! to, and `@end` ends the case. Each case is run over sources and sinks of several piece sizes. A table that hasn't this form fails.
@@ -9,26 +12,48 @@
 mod cases;
 mod faults;
 mod runs;
+mod script_answers;
+mod script_rows;
 mod sessions;
+mod step_rows;
+mod step_table;
+mod tables;
 
-use cases::{Case, Table, read_table};
+use cases::{Case, Table, table_of};
 use faults::{
     cuts_are_told, long_input_is_told, other_words_are_told, read_faults_are_told,
     write_faults_are_told,
 };
 use runs::gives_what_is_expected;
+use script_rows::tell_scripts;
 use std::alloc::Global;
 use std::io;
 use std::sync::Wait;
 use std::thread::Threads;
+use step_rows::tell_steps;
+use tables::{Tables, read_tables};
 
 fn main(rt: HostRuntime) -> io::Result<()> {
-    let table = read_table(&rt)?;
-    tell_table(&rt, rt.alloc(), &table)
+    let tables = read_tables(&rt)?;
+    tell_tables(&rt, rt.alloc(), &tables)
+}
+
+// What comes of each table.
+fn tell_tables<R: Print + Threads + Wait + Sync>(
+    rt: &R,
+    alloc: Global,
+    tables: &Tables,
+) -> io::Result<()> {
+    if !tables.cases.is_empty() {
+        let cases = table_of(alloc, &tables.cases)?;
+        tell_cases(rt, alloc, &cases)?;
+    }
+    tell_steps(rt, alloc, &tables.steps)?;
+    tell_scripts(rt, alloc, &tables.scripts)
 }
 
 // What comes of each case, whether the table has its form, and what else is told.
-fn tell_table<R: Print + Threads + Wait + Sync>(
+fn tell_cases<R: Print + Threads + Wait + Sync>(
     rt: &R,
     alloc: Global,
     table: &Table,

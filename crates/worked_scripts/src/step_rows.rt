@@ -1,16 +1,49 @@
-//! A row's script, and what its report has to say.
+//! Replays scripts, and says of each whether the answers to its steps are those that were worked out by hand from the rules.
+//!
+//! A line `@row ABOUT` begins a row, and the lines after it are its script, each with the answers that it has to give under it:
+//! a line `> ANSWER` for each. `= LINE` is a line of the report's end. A script line without such lines may be answered by
+//! whatever it is. `@let NAME` begins lines that `@use NAME` puts into a row.
 
+use crate::step_table::{Block, rows_of};
 use command_reply::Reply;
 use replay_command::{load_reply, replay_reply};
 use std::alloc::{AllocError, Global};
+use std::io;
 use step_kinds::limits::MOST_SCRIPT_BYTES;
+
+/// Says of each row of the table whether it passed, or the first line that isn't what is wanted.
+pub fn tell_steps<R: Print>(rt: &R, alloc: Global, lines: &[String]) -> io::Result<()> {
+    let blocks = rows_of(alloc, lines)?;
+    tell_blocks(rt, alloc, &blocks)
+}
+
+fn tell_blocks<R: Print>(rt: &R, alloc: Global, blocks: &[Block]) -> io::Result<()> {
+    for block in blocks {
+        tell_block(rt, alloc, block)?;
+    }
+    Ok(())
+}
+
+fn tell_block<R: Print>(rt: &R, alloc: Global, block: &Block) -> io::Result<()> {
+    let row = StepRow::of_lines(alloc, &block.lines)?;
+    let difference = difference_of(alloc, &row)?;
+    drop(row);
+    let about = block.name.as_str();
+    match difference {
+        None => println!(rt; "passed: {about}"),
+        Some(difference) => {
+            let difference = difference.as_str();
+            println!(rt; "FAILED: {about} {difference}")
+        }
+    }
+}
 
 /// The most frames of a load.
 const MOST_FRAMES: u32 = 30_000;
 
 /// A script, and the lines of its report that are wanted.
 #[derive(Drop)]
-pub struct Case {
+struct StepRow {
     script: Vec<u8>,
     /// The seed and the number of frames of a load, in the place of a script.
     load: Option<(u64, u32)>,
@@ -24,10 +57,10 @@ pub struct Case {
     ending: Vec<u8>,
 }
 
-impl Case {
-    /// The case that a row's lines give.
-    pub fn of_lines(alloc: Global, lines: &[String]) -> Result<Case, AllocError> {
-        let mut case = Case {
+impl StepRow {
+    // The row that a block's lines give.
+    fn of_lines(alloc: Global, lines: &[String]) -> Result<StepRow, AllocError> {
+        let mut row = StepRow {
             script: Vec::new(alloc),
             load: None,
             last_line: 0,
@@ -35,11 +68,16 @@ impl Case {
             answers: Vec::new(alloc),
             ending: Vec::new(alloc),
         };
+        row.take_lines(alloc, lines)?;
+        Ok(row)
+    }
+
+    fn take_lines(&mut self, alloc: Global, lines: &[String]) -> Result<(), AllocError> {
         let mut last = ' ';
         for line in lines {
-            last = case.take_line(alloc, last, line.as_str())?;
+            last = self.take_line(alloc, last, line.as_str())?;
         }
-        Ok(case)
+        Ok(())
     }
 
     // Adds a line, and says to what a line `+ COUNT TEXT` after it adds its text: to an answer (`>`), to a line of the ending (`=`) or
@@ -107,23 +145,23 @@ fn add_text(text: &mut Vec<u8>, more: &str) -> Result<(), AllocError> {
     Ok(())
 }
 
-// The lines of a report that a case may want.
+// The lines of a report that a row may want.
 #[derive(Drop)]
 struct Came {
     answers: Vec<u8>,
     ending: Vec<u8>,
 }
 
-/// The first line in which the report of a case's script isn't what is wanted, beside the wanted one. Something is wanted in each row.
-pub fn difference_of(alloc: Global, case: &Case) -> Result<Option<String>, AllocError> {
-    let Some(reply) = reply_to(alloc, case)? else {
+// The first line in which the report of a row's script isn't what is wanted, beside the wanted one. Something is wanted in each row.
+fn difference_of(alloc: Global, row: &StepRow) -> Result<Option<String>, AllocError> {
+    let Some(reply) = reply_to(alloc, row)? else {
         return said(alloc, "it is no script and no load");
     };
     let mut came = Came {
         answers: Vec::new(alloc),
         ending: Vec::new(alloc),
     };
-    difference_in(alloc, case, reply.text(), &mut came)
+    difference_in(alloc, row, reply.text(), &mut came)
 }
 
 fn said(alloc: Global, text: &str) -> Result<Option<String>, AllocError> {
@@ -133,19 +171,19 @@ fn said(alloc: Global, text: &str) -> Result<Option<String>, AllocError> {
 // The first line in which a report isn't what is wanted, once its lines came.
 fn difference_in(
     alloc: Global,
-    case: &Case,
+    row: &StepRow,
     report: &[u8],
     came: &mut Came,
 ) -> Result<Option<String>, AllocError> {
-    take_report(came, &case.lines, report)?;
-    if case.answers.is_empty() && case.ending.is_empty() {
+    take_report(came, &row.lines, report)?;
+    if row.answers.is_empty() && row.ending.is_empty() {
         return said(alloc, "nothing is wanted");
     }
-    if came.answers != case.answers {
-        return first_difference(alloc, &came.answers, &case.answers);
+    if came.answers != row.answers {
+        return first_difference(alloc, &came.answers, &row.answers);
     }
-    if !case.ending.is_empty() && came.ending != case.ending {
-        return first_difference(alloc, &came.ending, &case.ending);
+    if !row.ending.is_empty() && came.ending != row.ending {
+        return first_difference(alloc, &came.ending, &row.ending);
     }
     Ok(None)
 }
@@ -163,18 +201,18 @@ fn take_report(came: &mut Came, lines: &[u32], report: &[u8]) -> Result<(), Allo
     Ok(())
 }
 
-// What the program answers to a case, unless it is too long for a script, or a load of too many frames.
-fn reply_to(alloc: Global, case: &Case) -> Result<Option<Reply>, AllocError> {
-    if let Some((seed, frames)) = case.load {
+// What the program answers to a row, unless it is too long for a script, or a load of too many frames.
+fn reply_to(alloc: Global, row: &StepRow) -> Result<Option<Reply>, AllocError> {
+    if let Some((seed, frames)) = row.load {
         if frames == 0 || frames > MOST_FRAMES {
             return Ok(None);
         }
         return Ok(Some(load_reply(alloc, seed, frames)?));
     }
-    if case.script.len() > MOST_SCRIPT_BYTES {
+    if row.script.len() > MOST_SCRIPT_BYTES {
         return Ok(None);
     }
-    Ok(Some(replay_reply(alloc, &case.script)?))
+    Ok(Some(replay_reply(alloc, &row.script)?))
 }
 
 // The number of the script's line that a line of a report answers, if it is an answer.

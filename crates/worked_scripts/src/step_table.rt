@@ -1,7 +1,6 @@
-//! The rows on standard input.
+//! The blocks of lines in the table of steps.
 
 use std::alloc::{AllocError, Global};
-use std::io;
 
 /// Lines of the table: those of a row, or lines with a name, which rows take in.
 #[derive(Drop)]
@@ -22,6 +21,15 @@ struct Table {
 }
 
 impl Table {
+    // Takes each line, and ends the last block.
+    fn take_all(&mut self, alloc: Global, lines: &[String]) -> Result<(), AllocError> {
+        for line in lines {
+            self.take(alloc, line.as_str())?;
+        }
+        let nothing = block_of(alloc, "")?;
+        self.begin(nothing, false)
+    }
+
     // Begins a block, or adds a line to the last one.
     fn take(&mut self, alloc: Global, line: &str) -> Result<(), AllocError> {
         match begun_block(alloc, line)? {
@@ -43,20 +51,15 @@ impl Table {
     }
 }
 
-/// The rows that standard input has. A row that takes in lines which no block before it has keeps its `@use`, which no script has.
-pub fn read_rows<R: Input + AllocGlobal>(rt: &R) -> io::Result<Vec<Block>> {
+/// The rows that these lines are. A row that takes in lines which no block before it has keeps its `@use`, which no script has.
+pub fn rows_of(alloc: Global, lines: &[String]) -> Result<Vec<Block>, AllocError> {
     let mut table = Table {
-        open: block_of(rt.alloc(), "")?,
-        named: Vec::new(rt.alloc()),
-        rows: Vec::new(rt.alloc()),
+        open: block_of(alloc, "")?,
+        named: Vec::new(alloc),
+        rows: Vec::new(alloc),
         is_row: false,
     };
-    for line in rt.lines(rt.alloc()) {
-        let line = line?;
-        table.take(rt.alloc(), line.as_str())?;
-    }
-    let nothing = block_of(rt.alloc(), "")?;
-    table.begin(nothing, false)?;
+    table.take_all(alloc, lines)?;
     Ok(table.rows)
 }
 

@@ -1,27 +1,54 @@
-//! The rows on standard input.
+//! Reads scripts, and says of each whether its plan or its fault is the one that was worked out by hand from the rules.
+//!
+//! A line `@ ANSWER: ABOUT` begins a row, and the lines after it are its script. ANSWER is `line NUMBER word WORD CAUSE` of a
+//! fault, with `LEAST to MOST` after it where the word should spell a number of a range, or `plan PAIRS DEVICES STEPS TRAFFIC`
+//! with how many of each a plan has.
 
+use crate::script_answers::answer_of;
 use std::alloc::{AllocError, Global};
 use std::io;
 
 /// A script, and the answer that is due.
 #[derive(Drop)]
-pub struct Row {
+struct Row {
     /// What the row shows.
-    pub about: String,
+    about: String,
     /// The plan's numbers or the fault, as a text.
-    pub answer: String,
+    answer: String,
     /// The script's bytes: each of its lines with a line feed.
-    pub script: Vec<u8>,
+    script: Vec<u8>,
 }
 
-/// The rows that standard input has.
-pub fn read_rows<R: Input + AllocGlobal>(rt: &R) -> io::Result<Vec<Row>> {
-    let mut rows = Vec::new(rt.alloc());
-    for line in rt.lines(rt.alloc()) {
-        let line = line?;
-        take_line(rt.alloc(), &mut rows, line.as_str())?;
+/// Says of each row of the table whether it passed, or what the script's answer is.
+pub fn tell_scripts<R: Print>(rt: &R, alloc: Global, lines: &[String]) -> io::Result<()> {
+    let mut rows = Vec::new(alloc);
+    take_lines(alloc, &mut rows, lines)?;
+    tell_rows(rt, alloc, &rows)
+}
+
+fn tell_rows<R: Print>(rt: &R, alloc: Global, rows: &[Row]) -> io::Result<()> {
+    for row in rows {
+        tell_row(rt, alloc, row)?;
     }
-    Ok(rows)
+    Ok(())
+}
+
+fn tell_row<R: Print>(rt: &R, alloc: Global, row: &Row) -> io::Result<()> {
+    let answer = answer_of(alloc, &row.script)?;
+    let about = row.about.as_str();
+    let answer = answer.as_str();
+    if answer == row.answer.as_str() {
+        println!(rt; "passed: {about}")
+    } else {
+        println!(rt; "FAILED: {about} {answer}")
+    }
+}
+
+fn take_lines(alloc: Global, rows: &mut Vec<Row>, lines: &[String]) -> Result<(), AllocError> {
+    for line in lines {
+        take_line(alloc, rows, line.as_str())?;
+    }
+    Ok(())
 }
 
 // Begins a row, or adds to the script of the last one.
