@@ -11,7 +11,7 @@ use Rattle.ledger_model.specs.Log.{Answered, Memories}
 use Rattle.ledger_laws.proofs.Facade.{log_of-last}
 use Rattle.ledger_laws.specs.Laws.{is_made}
 use Rattle.memory_model.specs.Memory.{memory_of}
-use Rattle.fabric_core.specs.LogClauses.{HasMade as HasMadeOnBridges, IsAnswered as IsAnsweredOnBridges}
+use Rattle.fabric_core.specs.LogClauses.{IsAnswered as IsAnsweredOnBridges}
 use Rattle.fabric_core.specs.Refusals.{counts_refusals}
 use Rattle.fabric_core.proofs.Facade.{refused_again as refused_on_bridges}
 use Rattle.switch_model.specs.Switch.{Switch}
@@ -46,17 +46,17 @@ plain_uncounted : (step : Step) → is_plain step ≡ true → counts_refusals s
 plain_uncounted (Xbegin pair side queue dev dst kind payload) e = absurd (true≢false (sym e))
 plain_uncounted step e = refl
 
-refused_copy : (plan : Plan) (memories : Memories) (switches : List (Switch (List ℕ))) (session : ℕ → ℕ) (pair : ℕ) → (side : Rattle.step_kinds.specs.declared.names.Side.Side) (queue : ℕ) (answer : Answer) → is_made (Copy pair side queue) answer ≡ false →
+refused_copy : (plan : Plan) (memories : Memories) (switches : List (Switch (List ℕ))) (session : ℕ → ℕ) (pair : ℕ) → (side : Rattle.step_kinds.specs.declared.names.Side.Side) (queue : ℕ) (answer : Answer) → is_made answer ≡ false →
     switches_reached bytes_kept plan memories switches session (Copy pair side queue) answer ≡ switches
 refused_copy plan memories switches session pair side queue (Delivered number frame) e = absurd (true≢false e)
 refused_copy plan memories switches session pair side queue answer e = refl
 
-brings_none : (plan : Plan) (memories : Memories) (switches : List (Switch (List ℕ))) (session : ℕ → ℕ) (step : Step) (answer : Answer) → is_made step answer ≡ false →
+brings_none : (plan : Plan) (memories : Memories) (switches : List (Switch (List ℕ))) (session : ℕ → ℕ) (step : Step) (answer : Answer) → is_made answer ≡ false →
     switches_reached bytes_kept plan memories switches session step answer ≡ switches
 brings_none plan memories switches session (Copy pair side queue) answer e = refused_copy plan memories switches session pair side queue answer e
 brings_none plan memories switches session step answer e = refl
 
-module _ (plan : Plan) (step : Step) (answer : Answer) (refused : is_made step answer ≡ false) (plain : is_plain step ≡ true) where
+module _ (plan : Plan) (step : Step) (answer : Answer) (refused : is_made answer ≡ false) (plain : is_plain step ≡ true) where
   -- the network after such a step has one step more on its bridges
   abbrev one_more : Network (List ℕ) → Network (List ℕ)
   one_more net = record net { steps = net.steps ++ step ∷ [] }

@@ -1,4 +1,5 @@
 -- What a cluster has made after one step more.
+use Rattle.std.specs.Prelude.{◌≢◌}
 use Rattle.std.proofs.Common.{◌≡◌, ◌∙◌, ℕ, false, List, [], ◌∷◌, ◌++◌, Option, Some, Result, Ok, Err, IfOk, OnOk, OnErr, ◌<◌, length, slice_get, refl, sym, ap, subst, arith, inl, inr}
 use Rattle.step_kinds.specs.declared.names.LaneName.{LaneName}
 use Rattle.step_kinds.specs.declared.names.Side.{Side}
@@ -6,13 +7,13 @@ use Rattle.step_kinds.specs.declared.plan.DevPlan.{DevPlan}
 use Rattle.step_kinds.specs.declared.plan.Plan.{Plan}
 use Rattle.step_kinds.specs.declared.plan.SwitchPlan.{SwitchPlan}
 use Rattle.step_kinds.specs.declared.steps.Answer.{Answer}
-use Rattle.step_kinds.specs.declared.steps.Answer.TheVariants.{Delivered, Nothing}
+use Rattle.step_kinds.specs.declared.steps.Answer.TheVariants.{Delivered, Landed, Nothing}
+use Rattle.step_kinds.specs.declared.steps.Label.{Label}
 use Rattle.step_kinds.specs.declared.steps.Step.{Step}
 use Rattle.step_kinds.specs.declared.steps.Step.TheVariants.{Copy, Land, Relay, Xnext}
 use Rattle.plan_model.specs.Switches.{IsMakeable}
 use Rattle.ledger_model.specs.Log.{Answered}
-use Rattle.ledger_laws.proofs.Facade.{answer_of}
-use Rattle.ledger_laws.specs.Laws.{is_made}
+use Rattle.ledger_laws.proofs.Facade.{answer_of, landing_refused}
 use Rattle.memory_model.specs.Memory.{memory_of}
 use Rattle.fabric_core.specs.Fabric.{FabricState, plain, plan_kept}
 use Rattle.fabric_core.specs.FabricStep.{HasStepped as HasSteppedOnBridges}
@@ -40,7 +41,7 @@ pub record Goes {E : Type 0} (old new : ClusterState) (step : Step) (result : Re
   pub made : (plan : Plan) (net : Network (List ℕ)) → IsNetwork plan net old → OnOk result (IsNetwork plan (next_by plan net step) new)
   pub still_made : (plan : Plan) (net : Network (List ℕ)) → IsNetwork plan net old → may_arrive step ≡ false → OnErr result (IsNetwork plan net new)
   pub rests : (plan : Plan) (net : Network (List ℕ)) → IsNetwork plan net old → (pair : ℕ) (side : Side) (place : ℕ) → step ≡ Land pair side place →
-      IfOk result (λ answer. is_made step answer ≡ false → IsNetwork plan net new)
+      IfOk result (λ answer. ((label : Label) → answer ≢ Landed label) → IsNetwork plan net new)
 
 -- An answer that is the one of the network's item for a step is one with which the cluster's log goes on.
 pub answered_so : {E : Type 0} (plan : Plan) (steps : List Step) (step : Step) (result : Result Answer E) →
@@ -95,12 +96,12 @@ goes_relayed old new pair side queue switch port (Ok given) answer after err = r
 
 -- Steps on bridges alone
 
--- a landing that lands nothing leaves the fabric as it was, promises aside
-plain_after_landing : {E : Type 0} (old new : FabricState) (pair : ℕ) (side : Side) (place : ℕ) (step : Step) (answer : Answer) → step ≡ Land pair side place → is_made step answer ≡ false →
-    HasSteppedOnBridges {E = E} old new step (Ok answer) → plain new ≡ plain old
-plain_after_landing {E = E} old new pair side place step answer landing idle stepped =
+-- a landing that lands nothing is refused, and so leaves the fabric as it was, promises aside
+plain_after_landing : {E : Type 0} (plan : Plan) (steps : List Step) (old new : FabricState) (pair : ℕ) (side : Side) (place : ℕ) (step : Step) (answer : Answer) → step ≡ Land pair side place →
+    ((label : Label) → answer ≢ Landed label) → HasMadeOnBridges plan steps old → HasSteppedOnBridges {E = E} old new step (Ok answer) → plain new ≡ plain old
+plain_after_landing {E = E} plan steps old new pair side place step answer landing other made stepped =
     let own : HasSteppedOnBridges {E = E} old new (Land pair side place) (Ok answer) = subst (λ (step : Step). HasSteppedOnBridges {E = E} old new step (Ok answer)) landing stepped in
-    own.refused (subst (λ (step : Step). is_made step answer ≡ false) landing idle)
+    own.refused (landing_refused plan (memory_of plan) steps pair side place answer (own.answered plan steps made).0 other)
 
 -- A step on bridges alone goes right in each network the cluster may be if the fabric steps and the switches stay.
 pub goes_on_bridges : {E : Type 0} (old new : ClusterState) (step : Step) (result : Result Answer E) → part_of step ≡ OnBridges → HasSteppedOnBridges old.fabric new.fabric step result →
@@ -126,8 +127,8 @@ goes_on_bridges old new step (Ok answer) own stepped plans switches = record {
             ∙ sym (reached_on_bridges plan memories net.switches (session_after plan memories net.steps) step (made_after plan memories net.steps step).answer own);
       });
   still_made = λ plan net is stays. tt;
-  rests = λ plan net is pair side place landing idle. record {
-    bridges = plain_has_made old.fabric new.fabric (plain_after_landing old.fabric new.fabric pair side place step answer landing idle stepped) plan net.steps is.bridges;
+  rests = λ plan net is pair side place landing other. record {
+    bridges = plain_has_made old.fabric new.fabric (plain_after_landing plan net.steps old.fabric new.fabric pair side place step answer landing other is.bridges stepped) plan net.steps is.bridges;
     plans = plans ∙ is.plans;
     switches = switches ∙ is.switches;
   };

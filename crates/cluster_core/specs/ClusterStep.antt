@@ -1,11 +1,12 @@
 -- What a step of a cluster comes to: its contract, over the cluster before and after it.
-use Rattle.std.specs.Prelude.{◌≡◌, ℕ, false, List, [], ◌∷◌, ◌++◌, IfOk, OnErr, OnOk, Result}
+use Rattle.std.specs.Prelude.{◌≡◌, ◌≢◌, ℕ, false, List, [], ◌∷◌, ◌++◌, IfOk, OnErr, OnOk, Result}
 use Rattle.step_kinds.specs.declared.names.Side.{Side}
 use Rattle.step_kinds.specs.declared.plan.Plan.{Plan}
 use Rattle.step_kinds.specs.declared.steps.Answer.{Answer}
+use Rattle.step_kinds.specs.declared.steps.Answer.TheVariants.{Landed}
+use Rattle.step_kinds.specs.declared.steps.Label.{Label}
 use Rattle.step_kinds.specs.declared.steps.Step.{Step}
 use Rattle.step_kinds.specs.declared.steps.Step.TheVariants.{Land}
-use Rattle.ledger_laws.specs.Laws.{is_made}
 use Rattle.cluster_core.specs.Cluster.{ClusterState, plan_held}
 use Rattle.cluster_core.specs.LogClauses.{HasMade, IsAnswered}
 use Rattle.cluster_core.specs.Parts.{may_arrive}
@@ -20,6 +21,6 @@ pub record HasStepped {E : Type 0} (old new : ClusterState) (step : Step) (resul
   pub still_made : (plan : Plan) (steps : List Step) → HasMade plan steps old → may_arrive step ≡ false → OnErr result (HasMade plan steps new)
   -- a landing that lands nothing leaves it as it was, so that it has made the same steps
   pub rests : (plan : Plan) (steps : List Step) → HasMade plan steps old → (pair : ℕ) (side : Side) (place : ℕ) → step ≡ Land pair side place →
-      IfOk result (λ answer. is_made step answer ≡ false → HasMade plan steps new)
+      IfOk result (λ answer. ((label : Label) → answer ≢ Landed label) → HasMade plan steps new)
   -- its pairs, devices and switches stay
   pub plan : plan_held new ≡ plan_held old

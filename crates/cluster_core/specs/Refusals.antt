@@ -19,5 +19,5 @@ is_plain step = true
 -- the last of them, has made it once more as it is.
 abbrev pub RefusedAgain : Type 0
 RefusedAgain = (plan : Plan) (steps : List Step) (step : Step) (answer : Answer) (cluster : ClusterState) →
-    IsAnswered plan steps step answer → is_made step answer ≡ false → is_plain step ≡ true → HasMade plan (steps ++ step ∷ []) cluster →
+    IsAnswered plan steps step answer → is_made answer ≡ false → is_plain step ≡ true → HasMade plan (steps ++ step ∷ []) cluster →
     IsAnswered plan (steps ++ step ∷ []) step answer × HasMade plan ((steps ++ step ∷ []) ++ step ∷ []) cluster

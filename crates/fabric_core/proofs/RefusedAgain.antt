@@ -38,13 +38,13 @@ same_part part (Xbegin p side queue dev dst kind payload) counts = absurd (true�
 same_part part step counts = refl
 
 -- and what was stored
-no_stores : (plan : PairPlan) (part : PairPart) (side : Side) (step : Step) (answer : Answer) → is_made step answer ≡ false → stores_by plan part side step answer ≡ []
+no_stores : (plan : PairPlan) (part : PairPart) (side : Side) (step : Step) (answer : Answer) → is_made answer ≡ false → stores_by plan part side step answer ≡ []
 no_stores plan part side (Land p from place) (Landed label) refused = absurd (true≢false refused)
 no_stores plan part side (Check p on) Up refused = absurd (true≢false refused)
 no_stores plan part side (Clear p on queue) (Cleared n) refused = absurd (true≢false refused)
 no_stores plan part side step answer refused = refl
 
-module _ (plan : Plan) (steps : List Step) (step : Step) (answer : Answer) (goes : IsAnswered plan steps step answer) (refused : is_made step answer ≡ false) (counts : counts_refusals step ≡ false) where
+module _ (plan : Plan) (steps : List Step) (step : Step) (answer : Answer) (goes : IsAnswered plan steps step answer) (refused : is_made answer ≡ false) (counts : counts_refusals step ≡ false) where
   -- the answer by what is stored
   answer_there : answer ≡ (site_outcome plan (subject_of step) steps step).answer
   answer_there =

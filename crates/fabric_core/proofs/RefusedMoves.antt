@@ -16,7 +16,7 @@ use Rattle.step_kinds.specs.declared.steps.Answer.{Answer}
 use Rattle.step_kinds.specs.declared.steps.Answer.TheVariants.{Ok as Done, OkSession, OkNumber, Stopped, Awake}
 use Rattle.step_kinds.specs.declared.steps.Label.{Label}
 use Rattle.step_kinds.specs.declared.steps.Step.{Step}
-use Rattle.step_kinds.specs.declared.steps.Step.TheVariants.{Enable, Train, Break, DropDone, Clean, Offer, Check, Ready, Join, Begin, QpDown, Xbegin, Post, Land, Look, Copy, Clear, Ack, Wake, Irq, Mask, Unmask, Spad, Poke, ShowMem, ShowPad, ShowQueue, Relay, Xnext}
+use Rattle.step_kinds.specs.declared.steps.Step.TheVariants.{Enable, Train, Break, DropDone, Clean, Offer, Check, Ready, Join, Begin, QpDown, Xbegin, Post, Land, Look, Copy, Clear, Ack, Wake, Relay, Xnext}
 use Rattle.lane_model.specs.Lane.{Entry, data_of}
 use Rattle.lane_model.specs.Tests.{is_cleared, is_copied, is_copying}
 use Rattle.lane_model.specs.declared.Phase.TheVariants.{Cleared, Idle}
@@ -64,47 +64,47 @@ use Rattle.fabric_core.specs.Refusals.{entry_let_go, queue_changed, refusal_coun
 
 -- The link
 
-link_kept : (made : Answer → Bool) (done : Answer) → made done ≡ true → (pair : PairState) (new : Bridge) (refusal : Option LinkRefusal) → made (of_link refusal done) ≡ false
+link_kept : (done : Answer) → is_made done ≡ true → (pair : PairState) (new : Bridge) (refusal : Option LinkRefusal) → is_made (of_link refusal done) ≡ false
     → with_bridge pair (after_step refusal pair.bridge new) ≡ pair
-link_kept made done makes pair new None e = absurd (both_ways (made done) e makes)
-link_kept made done makes pair new (Some refusal) e = refl
+link_kept done makes pair new None e = absurd (both_ways (is_made done) e makes)
+link_kept done makes pair new (Some refusal) e = refl
 
-clean_kept : (pair : PairState) (p : ℕ) (side : Side) (new : Bridge) (refusal : Option LinkRefusal) → is_made (Clean p side) (of_link refusal Done) ≡ false
+clean_kept : (pair : PairState) (side : Side) (new : Bridge) (refusal : Option LinkRefusal) → is_made (of_link refusal Done) ≡ false
     → with_bridge (forgotten refusal pair side) (after_step refusal pair.bridge new) ≡ pair
-clean_kept pair p side new None e = absurd (true≢false e)
-clean_kept pair p side new (Some refusal) e = refl
+clean_kept pair side new None e = absurd (true≢false e)
+clean_kept pair side new (Some refusal) e = refl
 
 -- The handshake
 
-offer_kept : (pair : PairState) (p : ℕ) (side : Side) (answer : OfferAnswer) → is_made (Offer p side) (of_offer answer) ≡ false → with_bridge pair (after_offer_answer pair.bridge side answer) ≡ pair
-offer_kept pair p side offer.LinkDown e = refl
-offer_kept pair p side offer.Already e = refl
-offer_kept pair p side (offer.Offered index) e = absurd (true≢false e)
+offer_kept : (pair : PairState) (side : Side) (answer : OfferAnswer) → is_made (of_offer answer) ≡ false → with_bridge pair (after_offer_answer pair.bridge side answer) ≡ pair
+offer_kept pair side offer.LinkDown e = refl
+offer_kept pair side offer.Already e = refl
+offer_kept pair side (offer.Offered index) e = absurd (true≢false e)
 
-check_kept : (pair : PairState) (p : ℕ) (side : Side) (answer : CheckAnswer) → is_made (Check p side) (of_check answer) ≡ false → with_bridge pair (after_check_answer pair.bridge side answer) ≡ pair
-check_kept pair p side check.LinkDown e = refl
-check_kept pair p side check.Already e = refl
-check_kept pair p side check.NotYet e = refl
-check_kept pair p side (check.Version seen own) e = refl
-check_kept pair p side (check.Queues seen own) e = refl
-check_kept pair p side (check.Windows seen own) e = refl
-check_kept pair p side (check.Size seen cap) e = refl
-check_kept pair p side check.Up e = absurd (true≢false e)
+check_kept : (pair : PairState) (side : Side) (answer : CheckAnswer) → is_made (of_check answer) ≡ false → with_bridge pair (after_check_answer pair.bridge side answer) ≡ pair
+check_kept pair side check.LinkDown e = refl
+check_kept pair side check.Already e = refl
+check_kept pair side check.NotYet e = refl
+check_kept pair side (check.Version seen own) e = refl
+check_kept pair side (check.Queues seen own) e = refl
+check_kept pair side (check.Windows seen own) e = refl
+check_kept pair side (check.Size seen cap) e = refl
+check_kept pair side check.Up e = absurd (true≢false e)
 
-ready_kept : (pair : PairState) (p : ℕ) (side : Side) (queue : ℕ) (answer : ReadyAnswer) → is_made (Ready p side queue) (of_ready answer) ≡ false
+ready_kept : (pair : PairState) (side : Side) (queue : ℕ) (answer : ReadyAnswer) → is_made (of_ready answer) ≡ false
     → with_bridge pair (after_ready_answer pair.bridge side queue answer) ≡ pair
-ready_kept pair p side queue ready.LinkDown e = refl
-ready_kept pair p side queue ready.NotChecked e = refl
-ready_kept pair p side queue ready.Already e = refl
-ready_kept pair p side queue ready.Ok e = absurd (true≢false e)
+ready_kept pair side queue ready.LinkDown e = refl
+ready_kept pair side queue ready.NotChecked e = refl
+ready_kept pair side queue ready.Already e = refl
+ready_kept pair side queue ready.Ok e = absurd (true≢false e)
 
-join_kept : (pair : PairState) (p : ℕ) (side : Side) (queue : ℕ) (answer : JoinAnswer) → is_made (Join p side queue) (of_join answer) ≡ false
+join_kept : (pair : PairState) (side : Side) (queue : ℕ) (answer : JoinAnswer) → is_made (of_join answer) ≡ false
     → with_bridge pair (after_join_answer pair.bridge side queue answer) ≡ pair
-join_kept pair p side queue join.LinkDown e = refl
-join_kept pair p side queue join.NotReady e = refl
-join_kept pair p side queue join.Already e = refl
-join_kept pair p side queue join.NotYet e = refl
-join_kept pair p side queue join.Joined e = absurd (true≢false e)
+join_kept pair side queue join.LinkDown e = refl
+join_kept pair side queue join.NotReady e = refl
+join_kept pair side queue join.Already e = refl
+join_kept pair side queue join.NotYet e = refl
+join_kept pair side queue join.Joined e = absurd (true≢false e)
 
 -- A queue
 
@@ -116,74 +116,74 @@ set_again pair B queue = ap (λ parts. record pair { queues = record { a = pair.
 queue_kept : (pair : PairState) (side : Side) (queue : ℕ) (part : QueuePart) → part ≡ queue_of pair side queue → with_queue pair side queue part ≡ pair
 queue_kept pair side queue part same = ap (with_queue pair side queue) same ∙ set_again pair side queue
 
-begin_kept : (p : ℕ) (side : Side) (queue session : ℕ) (frame : List ℕ) (part : QueuePart) (new : PortState) (refusal : Option BeginAnswer) (begun : Begun)
-    → is_made (Begin p side queue frame) (of_begin (answer_unless refusal begun)) ≡ false
+begin_kept : (session : ℕ) (part : QueuePart) (new : PortState) (refusal : Option BeginAnswer) (begun : Begun)
+    → is_made (of_begin (answer_unless refusal begun)) ≡ false
     → accepted_where_begun (of_begin (answer_unless refusal begun)) session (record part { queue = port_unless refusal part.queue (where_begun part.queue.port new begun) }) ≡ part
-begin_kept p side queue session frame part new None (BegunOk number) e = absurd (true≢false e)
-begin_kept p side queue session frame part new None (FrameTooLong len most) e = refl
-begin_kept p side queue session frame part new None PortBusy e = refl
-begin_kept p side queue session frame part new None (RingFull head tail) e = refl
-begin_kept p side queue session frame part new (Some (begin.Ok number)) begun e = absurd (true≢false e)
-begin_kept p side queue session frame part new (Some begin.LinkDown) begun e = refl
-begin_kept p side queue session frame part new (Some begin.NotReady) begun e = refl
-begin_kept p side queue session frame part new (Some begin.Closed) begun e = refl
-begin_kept p side queue session frame part new (Some (begin.TooLong len most)) begun e = refl
-begin_kept p side queue session frame part new (Some begin.Busy) begun e = refl
-begin_kept p side queue session frame part new (Some (begin.NoRoom head tail)) begun e = refl
+begin_kept session part new None (BegunOk number) e = absurd (true≢false e)
+begin_kept session part new None (FrameTooLong len most) e = refl
+begin_kept session part new None PortBusy e = refl
+begin_kept session part new None (RingFull head tail) e = refl
+begin_kept session part new (Some (begin.Ok number)) begun e = absurd (true≢false e)
+begin_kept session part new (Some begin.LinkDown) begun e = refl
+begin_kept session part new (Some begin.NotReady) begun e = refl
+begin_kept session part new (Some begin.Closed) begun e = refl
+begin_kept session part new (Some (begin.TooLong len most)) begun e = refl
+begin_kept session part new (Some begin.Busy) begun e = refl
+begin_kept session part new (Some (begin.NoRoom head tail)) begun e = refl
 
-down_kept : (p : ℕ) (side : Side) (queue : ℕ) (own : QueueState) (new : PortState) (refusal : Option BeginAnswer) (begun : Begun)
-    → is_made (QpDown p side queue) (of_begin (answer_unless refusal begun)) ≡ false
+down_kept : (own : QueueState) (new : PortState) (refusal : Option BeginAnswer) (begun : Begun)
+    → is_made (of_begin (answer_unless refusal begun)) ≡ false
     → closed_where_begun (answer_unless refusal begun) (port_unless refusal own (where_begun own.port new begun)) ≡ own
-down_kept p side queue own new None (BegunOk number) e = absurd (true≢false e)
-down_kept p side queue own new None (FrameTooLong len most) e = refl
-down_kept p side queue own new None PortBusy e = refl
-down_kept p side queue own new None (RingFull head tail) e = refl
-down_kept p side queue own new (Some (begin.Ok number)) begun e = absurd (true≢false e)
-down_kept p side queue own new (Some begin.LinkDown) begun e = refl
-down_kept p side queue own new (Some begin.NotReady) begun e = refl
-down_kept p side queue own new (Some begin.Closed) begun e = refl
-down_kept p side queue own new (Some (begin.TooLong len most)) begun e = refl
-down_kept p side queue own new (Some begin.Busy) begun e = refl
-down_kept p side queue own new (Some (begin.NoRoom head tail)) begun e = refl
+down_kept own new None (BegunOk number) e = absurd (true≢false e)
+down_kept own new None (FrameTooLong len most) e = refl
+down_kept own new None PortBusy e = refl
+down_kept own new None (RingFull head tail) e = refl
+down_kept own new (Some (begin.Ok number)) begun e = absurd (true≢false e)
+down_kept own new (Some begin.LinkDown) begun e = refl
+down_kept own new (Some begin.NotReady) begun e = refl
+down_kept own new (Some begin.Closed) begun e = refl
+down_kept own new (Some (begin.TooLong len most)) begun e = refl
+down_kept own new (Some begin.Busy) begun e = refl
+down_kept own new (Some (begin.NoRoom head tail)) begun e = refl
 
-xbegin_kept : (p : ℕ) (side : Side) (queue dev : ℕ) (dst : List ℕ) (kind : ℕ) (payload : List ℕ) (pair : PairState) (part : QueuePart) (frame : List ℕ) (answer : Answer)
-    → is_made (Xbegin p side queue dev dst kind payload) answer ≡ false → xbegun answer pair part frame ≡ refusal_counted part
-xbegin_kept p side queue dev dst kind payload pair part frame (OkNumber number) e = absurd (true≢false e)
-xbegin_kept p side queue dev dst kind payload pair part frame answer e = refl
+xbegin_kept : (pair : PairState) (part : QueuePart) (frame : List ℕ) (answer : Answer)
+    → is_made answer ≡ false → xbegun answer pair part frame ≡ refusal_counted part
+xbegin_kept pair part frame (OkNumber number) e = absurd (true≢false e)
+xbegin_kept pair part frame answer e = refl
 
-look_kept : (p : ℕ) (side : Side) (queue : ℕ) (own : QueueState) (new : PortState) (answer : LookAnswer) → is_made (Look p side queue) (of_look answer) ≡ false → after_look_answer answer own new ≡ own
-look_kept p side queue own new (look.Ready number len) e = absurd (true≢false e)
-look_kept p side queue own new look.Empty e = refl
-look_kept p side queue own new look.PeerDown e = absurd (true≢false e)
-look_kept p side queue own new (look.VerDiffers seen mine) e = refl
-look_kept p side queue own new (look.Long len most) e = refl
-look_kept p side queue own new look.OutOfTurn e = refl
-look_kept p side queue own new look.NotReady e = refl
-look_kept p side queue own new look.Closed e = refl
+look_kept : (own : QueueState) (new : PortState) (answer : LookAnswer) → is_made (of_look answer) ≡ false → after_look_answer answer own new ≡ own
+look_kept own new (look.Ready number len) e = absurd (true≢false e)
+look_kept own new look.Empty e = refl
+look_kept own new look.PeerDown e = absurd (true≢false e)
+look_kept own new (look.VerDiffers seen mine) e = refl
+look_kept own new (look.Long len most) e = refl
+look_kept own new look.OutOfTurn e = refl
+look_kept own new look.NotReady e = refl
+look_kept own new look.Closed e = refl
 
 -- a copy is refused where nothing is copied; more parts and more entries say which answer it has else
-copy_kept : (p : ℕ) (side : Side) (queue session : ℕ) (part : QueuePart) (new : PortState) (copying parts entries : Bool) (number place done : ℕ) (frame : List ℕ)
-    → is_made (Copy p side queue) (of_copy (if copying then (if parts then Part number place else if entries then Part number place else Whole done frame) else NotCopying)) ≡ false
+copy_kept : (session : ℕ) (part : QueuePart) (new : PortState) (copying parts entries : Bool) (number place done : ℕ) (frame : List ℕ)
+    → is_made (of_copy (if copying then (if parts then Part number place else if entries then Part number place else Whole done frame) else NotCopying)) ≡ false
     → delivered_where_whole (if copying then (if parts then Part number place else if entries then Part number place else Whole done frame) else NotCopying) session
     (record part { queue = with_port part.queue (if copying then new else part.queue.port) }) ≡ part
-copy_kept p side queue session part new true true entries number place done frame e = absurd (true≢false e)
-copy_kept p side queue session part new true false true number place done frame e = absurd (true≢false e)
-copy_kept p side queue session part new true false false number place done frame e = absurd (true≢false e)
-copy_kept p side queue session part new false parts entries number place done frame e = refl
+copy_kept session part new true true entries number place done frame e = absurd (true≢false e)
+copy_kept session part new true false true number place done frame e = absurd (true≢false e)
+copy_kept session part new true false false number place done frame e = absurd (true≢false e)
+copy_kept session part new false parts entries number place done frame e = refl
 
 -- a wake is refused where the device stays stopped
-stays : (p : ℕ) (side : Side) (queue dev : ℕ) (b : Bool) → is_made (Wake p side queue dev) (if b then Stopped else Awake) ≡ false → b ≡ true
-stays p side queue dev true e = refl
-stays p side queue dev false e = absurd (true≢false e)
+stays : (b : Bool) → is_made (if b then Stopped else Awake) ≡ false → b ≡ true
+stays true e = refl
+stays false e = absurd (true≢false e)
 
 wake_kept : (part : QueuePart) (low : Bool) → (part.flow.stopped && low) ≡ true → record part { flow = record part.flow { stopped = part.flow.stopped && low } } ≡ part
 wake_kept part low both = ap (λ stopped. record part { flow = record part.flow { stopped = stopped } }) (both ∙ sym (and_parts part.flow.stopped low both).0)
 
 -- Posting
 
-not_posted : (p : ℕ) (side : Side) (queue : ℕ) (found : Option Label) → is_made (Post p side queue) (of_post found) ≡ false → found ≡ None
-not_posted p side queue None e = refl
-not_posted p side queue (Some label) e = absurd (true≢false e)
+not_posted : (found : Option Label) → is_made (of_post found) ≡ false → found ≡ None
+not_posted None e = refl
+not_posted (Some label) e = absurd (true≢false e)
 
 -- an entry has writes
 some_write : (f : Write → Label) (writes : List Write) (write : Write) (others : List Write) → first_label (map f (writes ++ write ∷ others)) ≡ None → ⊥
@@ -224,10 +224,10 @@ module _ (pair : PairState) (side : Side) (queue : ℕ) where
 
 -- Landing
 
-no_landing : (p : ℕ) (side : Side) (place : ℕ) (found : Option Flying) (may : Bool) → is_made (Land p side place) (of_land (label_landed (answer_for found may))) ≡ false → (found ≡ None → may ≡ false) → may ≡ false
-no_landing p side place None may e none = none refl
-no_landing p side place (Some flying) true e none = absurd (true≢false e)
-no_landing p side place (Some flying) false e none = refl
+no_landing : (found : Option Flying) (may : Bool) → is_made (of_land (label_landed (answer_for found may))) ≡ false → (found ≡ None → may ≡ false) → may ≡ false
+no_landing None may e none = none refl
+no_landing (Some flying) true e none = absurd (true≢false e)
+no_landing (Some flying) false e none = refl
 
 flight_again : (bridge : Bridge) (side : Side) → with_flight bridge side (flight_of bridge side) ≡ bridge
 flight_again bridge A = refl
@@ -237,10 +237,10 @@ not_landed : (bridge : Bridge) (side : Side) (found : Option Flying) → after_l
 not_landed bridge side None = refl
 not_landed bridge side (Some flying) = refl
 
-land_kept : (p : ℕ) (pair : PairState) (side : Side) (place : ℕ) → is_made (Land p side place) (of_land (label_landed (landing pair.bridge side place))) ≡ false → with_bridge pair (after_land pair.bridge side place) ≡ pair
-land_kept p pair side place e =
+land_kept : (pair : PairState) (side : Side) (place : ℕ) → is_made (of_land (label_landed (landing pair.bridge side place))) ≡ false → with_bridge pair (after_land pair.bridge side place) ≡ pair
+land_kept pair side place e =
     ap (with_bridge pair)
-    (ap Lands (no_landing p side place (slice_get Writes place) (may_land (map flying_order Writes) place) e none_may)
+    (ap Lands (no_landing (slice_get Writes place) (may_land (map flying_order Writes) place) e none_may)
     ∙ not_landed (with_flight pair.bridge side (flight_of pair.bridge side)) (other_side side) (slice_get Writes place)
     ∙ flight_again pair.bridge side)
   where
@@ -259,13 +259,13 @@ land_kept p pair side place e =
 
 -- Giving back
 
-not_cleared : (p : ℕ) (side : Side) (queue : ℕ) (turn : Bool) (number : ℕ) → is_made (Clear p side queue) (of_clear (if turn then Some number else None)) ≡ false → turn ≡ false
-not_cleared p side queue true number e = absurd (true≢false e)
-not_cleared p side queue false number e = refl
+not_cleared : (turn : Bool) (number : ℕ) → is_made (of_clear (if turn then Some number else None)) ≡ false → turn ≡ false
+not_cleared true number e = absurd (true≢false e)
+not_cleared false number e = refl
 
-not_acked : (p : ℕ) (side : Side) (queue : ℕ) (turn : Bool) (number : ℕ) → is_made (Ack p side queue) (of_ack (if turn then Some number else None)) ≡ false → turn ≡ false
-not_acked p side queue true number e = absurd (true≢false e)
-not_acked p side queue false number e = refl
+not_acked : (turn : Bool) (number : ℕ) → is_made (of_ack (if turn then Some number else None)) ≡ false → turn ≡ false
+not_acked true number e = absurd (true≢false e)
+not_acked false number e = refl
 
 turn_kept : (pair : PairState) (side : Side) (queue : ℕ) (new : PortState) (bridge : Bridge) (turn : Bool) → turn ≡ false
     → with_bridge (with_queue pair side queue (record (queue_of pair side queue) { queue = with_port (queue_of pair side queue).queue (if turn then new else (queue_of pair side queue).queue.port) }))
@@ -281,69 +281,62 @@ refused_pair pair (Xbegin p side queue dev dst kind payload) = queue_changed pai
 refused_pair pair (Post p side queue) = queue_changed pair side queue entry_let_go
 refused_pair pair step = pair
 
-refused_move : (devs : List DevPlan) (pair : PairState) (step : Step) → is_made step (move_of devs pair step).answer ≡ false → (move_of devs pair step).after ≡ refused_pair pair step
-refused_move devs pair (Enable p side) e = link_kept (is_made (Enable p side)) Done refl pair (with_link pair.bridge (enabled_link pair.bridge.link side)) (enable_refusal pair.bridge.link side) e
-refused_move devs pair (Train p) e = link_kept (is_made (Train p)) (OkSession (pair.bridge.link.session + 1)) refl pair (with_link pair.bridge (trained_link pair.bridge.link)) (train_refusal pair.bridge.link) e
-refused_move devs pair (Break p) e = link_kept (is_made (Break p)) Done refl pair (with_link pair.bridge (cut_link pair.bridge.link)) (cut_refusal pair.bridge.link) e
-refused_move devs pair (DropDone p) e = link_kept (is_made (DropDone p)) Done refl pair (dropped pair.bridge) (drop_refusal pair.bridge.link) e
-refused_move devs pair (Clean p side) e = clean_kept pair p side (cleaned pair.bridge side) (clean_refusal pair.bridge.link) e
-refused_move devs pair (Offer p side) e = offer_kept pair p side (offer_answer pair.bridge side) e
-refused_move devs pair (Check p side) e = check_kept pair p side (check_answer pair.bridge side) e
-refused_move devs pair (Ready p side queue) e = ready_kept pair p side queue (ready_answer pair.bridge side queue) e
-refused_move devs pair (Join p side queue) e = join_kept pair p side queue (join_answer pair.bridge side queue) e
+refused_move : (devs : List DevPlan) (pair : PairState) (step : Step) → is_made (move_of devs pair step).answer ≡ false → (move_of devs pair step).after ≡ refused_pair pair step
+refused_move devs pair (Enable p side) e = link_kept Done refl pair (with_link pair.bridge (enabled_link pair.bridge.link side)) (enable_refusal pair.bridge.link side) e
+refused_move devs pair (Train p) e = link_kept (OkSession (pair.bridge.link.session + 1)) refl pair (with_link pair.bridge (trained_link pair.bridge.link)) (train_refusal pair.bridge.link) e
+refused_move devs pair (Break p) e = link_kept Done refl pair (with_link pair.bridge (cut_link pair.bridge.link)) (cut_refusal pair.bridge.link) e
+refused_move devs pair (DropDone p) e = link_kept Done refl pair (dropped pair.bridge) (drop_refusal pair.bridge.link) e
+refused_move devs pair (Clean p side) e = clean_kept pair side (cleaned pair.bridge side) (clean_refusal pair.bridge.link) e
+refused_move devs pair (Offer p side) e = offer_kept pair side (offer_answer pair.bridge side) e
+refused_move devs pair (Check p side) e = check_kept pair side (check_answer pair.bridge side) e
+refused_move devs pair (Ready p side queue) e = ready_kept pair side queue (ready_answer pair.bridge side queue) e
+refused_move devs pair (Join p side queue) e = join_kept pair side queue (join_answer pair.bridge side queue) e
 refused_move devs pair (Begin p side queue frame) e =
     let part = queue_of pair side queue in
     queue_kept pair side queue _
-    (begin_kept p side queue pair.bridge.link.session frame part (frame_begun part.queue.port frame) (sender_refusal part.queue pair.bridge) (port_begin_answer part.queue.port pair.bridge (length frame)) e)
+    (begin_kept pair.bridge.link.session part (frame_begun part.queue.port frame) (sender_refusal part.queue pair.bridge) (port_begin_answer part.queue.port pair.bridge (length frame)) e)
 refused_move devs pair (QpDown p side queue) e =
     let part = queue_of pair side queue in
     queue_kept pair side queue _
     (ap (λ (own : QueueState). record part { queue = own })
-    (down_kept p side queue part.queue (down_begun part.queue.port) (sender_refusal part.queue pair.bridge) (down_answer part.queue.port pair.bridge) e))
+    (down_kept part.queue (down_begun part.queue.port) (sender_refusal part.queue pair.bridge) (down_answer part.queue.port pair.bridge) e))
 refused_move devs pair (Xbegin p side queue dev dst kind payload) e =
     let part = queue_of pair side queue in
     let frame = ethernet_frame dst (dev_plan devs dev).address kind payload in
     ap (with_queue pair side queue)
-    (xbegin_kept p side queue dev dst kind payload pair part frame (of_xbegin part.flow.stopped (begin_answer part.queue pair.bridge (length frame))) e)
+    (xbegin_kept pair part frame (of_xbegin part.flow.stopped (begin_answer part.queue pair.bridge (length frame))) e)
 refused_move devs pair (Post p side queue) e =
     let sending = (queue_of pair side queue).queue.port.sending in
     post_kept pair side queue
     (is_idle (queue_of pair side queue).queue.port.queue sending.begun sending.told sending.entry sending.todo sending.waiting
-    (not_posted p side queue (first_label (next_begun (queue_of pair side queue).queue.port.queue sending).todo) e))
-refused_move devs pair (Land p side place) e = land_kept p pair side place e
+    (not_posted (first_label (next_begun (queue_of pair side queue).queue.port.queue sending).todo) e))
+refused_move devs pair (Land p side place) e = land_kept pair side place e
 refused_move devs pair (Look p side queue) e =
     let part = queue_of pair side queue in
     queue_kept pair side queue _
-    (ap (λ (own : QueueState). record part { queue = own }) (look_kept p side queue part.queue (after_look part.queue.port pair.bridge) (look_answer part.queue pair.bridge) e))
+    (ap (λ (own : QueueState). record part { queue = own }) (look_kept part.queue (after_look part.queue.port pair.bridge) (look_answer part.queue pair.bridge) e))
 refused_move devs pair (Copy p side queue) e =
     let part = queue_of pair side queue in
     let receiving = part.queue.port.receiving in
     let gathered = gathered_next part.queue.port pair.bridge in
     queue_kept pair side queue _
-    (copy_kept p side queue pair.bridge.link.session part (with_receiving part.queue.port (part_copied receiving gathered)) (is_copying receiving.phase) (more_parts receiving) (more_entries receiving) receiving.got
+    (copy_kept pair.bridge.link.session part (with_receiving part.queue.port (part_copied receiving gathered)) (is_copying receiving.phase) (more_parts receiving) (more_entries receiving) receiving.got
     receiving.part receiving.done gathered e)
 refused_move devs pair (Clear p side queue) e =
     let port = (queue_of pair side queue).queue.port in
     turn_kept pair side queue (with_receiving port (record port.receiving { phase = Cleared })) (flags_cleared pair.bridge port.side port.queue (last_got port.receiving)) (is_copied port.receiving.phase)
-    (not_cleared p side queue (is_copied port.receiving.phase) (last_got port.receiving) e)
+    (not_cleared (is_copied port.receiving.phase) (last_got port.receiving) e)
 refused_move devs pair (Ack p side queue) e =
     let port = (queue_of pair side queue).queue.port in
     turn_kept pair side queue (with_receiving port (record port.receiving { phase = Idle })) (index_posted pair.bridge port.side port.queue (last_got port.receiving)) (is_cleared port.receiving.phase)
-    (not_acked p side queue (is_cleared port.receiving.phase) (last_got port.receiving) e)
+    (not_acked (is_cleared port.receiving.phase) (last_got port.receiving) e)
 refused_move devs pair (Wake p side queue dev) e =
     let part = queue_of pair side queue in
     let low = nat_lt (free_answer part.queue.port pair.bridge) part.flow.start in
-    queue_kept pair side queue _ (wake_kept part low (stays p side queue dev (part.flow.stopped && low) e))
-refused_move devs pair (Irq p side) e = absurd (true≢false e)
-refused_move devs pair (Mask p side bits) e = absurd (true≢false e)
-refused_move devs pair (Unmask p side bits) e = absurd (true≢false e)
-refused_move devs pair (Spad p side i value) e = absurd (true≢false e)
-refused_move devs pair (Poke p side window offset bytes) e = absurd (true≢false e)
-refused_move devs pair (ShowMem p side at len) e = absurd (true≢false e)
-refused_move devs pair (ShowPad p side i) e = absurd (true≢false e)
-refused_move devs pair (ShowQueue p side place) e = absurd (true≢false e)
+    queue_kept pair side queue _ (wake_kept part low (stays (part.flow.stopped && low) e))
 refused_move devs pair (Relay p side queue switch port) e = refl
 refused_move devs pair (Xnext p side queue dev) e = refl
+refused_move devs pair step e = absurd (true≢false e)
 
 -- The fabric
 
@@ -361,7 +354,7 @@ refused_there fabric (Post p side queue) = refl
 refused_there fabric step = ap (λ pairs. record fabric { pairs = pairs }) (set-get_or fabric.pairs (subject_of step) no_state)
 
 -- Setting a pair to what a refused step leaves of it gives what the step leaves of the fabric, promises aside.
-pub refused_left : (fabric : FabricState) (step : Step) (pair : PairState) → is_made step (move_of fabric.devs (pair_of fabric (subject_of step)) step).answer ≡ false
+pub refused_left : (fabric : FabricState) (step : Step) (pair : PairState) → is_made (move_of fabric.devs (pair_of fabric (subject_of step)) step).answer ≡ false
     → plain_pair pair ≡ plain_pair (move_of fabric.devs (pair_of fabric (subject_of step)) step).after
     → plain (record fabric { pairs = set fabric.pairs (subject_of step) pair }) ≡ plain (refused_in fabric step)
 refused_left fabric step pair refused moved =

@@ -399,7 +399,7 @@ module _ (old : FabricState) (step : Step) (pair : PairState) (may : IsPermitted
             answers_are_right plan (memory_of plan) steps step answer made.declared (all_last (IsPermitted plan) steps step made.permitted may) (step_answered plan steps step old new made may answer moves);
         stands = λ plan steps made. step_made plan steps step old new made (permitted_by plan steps made) answer moves;
         lawful = λ plan steps made. always_lawful plan (steps ++ step ∷ []) new (step_made plan steps step old new made (permitted_by plan steps made) answer moves);
-        refused = λ refused. refused_left old step pair (ap (is_made step) (sym moved.answer) ∙ refused) moved.after;
+        refused = λ refused. refused_left old step pair (ap is_made (sym moved.answer) ∙ refused) moved.after;
         still_stands = λ plan steps made. tt;
         err = tt;
         wants = wants;

@@ -3,7 +3,7 @@ use Rattle.std.proofs.Common.{◌≡◌, ℕ, true, List, Result, Ok, Err, OnErr
 use Rattle.step_kinds.specs.declared.names.Side.{Side}
 use Rattle.step_kinds.specs.declared.steps.Answer.{Answer}
 use Rattle.step_kinds.specs.declared.steps.Step.{Step}
-use Rattle.step_kinds.specs.declared.steps.Step.TheVariants.{Begin, Xbegin, QpDown, Look}
+use Rattle.step_kinds.specs.declared.steps.Step.TheVariants.{Xbegin}
 use Rattle.step_kinds.specs.declared.steps.Answer.TheVariants.{OkNumber, ReadyFrame}
 use Rattle.step_kinds.specs.declared.plan.DevPlan.{DevPlan}
 use Rattle.ledger_laws.specs.Laws.{is_made}
@@ -32,7 +32,7 @@ wants_on_queue pair (Xbegin k own number dev dst kind payload) side queue answer
 wants_on_queue pair step side queue answer there wants = wants
 
 -- a step on the bridge alone is no device's begin
-pub wants_aside : (pair : PairState) (step : Step) (answer : Answer) → OnBridge ≡ place_of step → is_made step answer ≡ true → MayWant (counters_at pair step) step answer
+pub wants_aside : (pair : PairState) (step : Step) (answer : Answer) → OnBridge ≡ place_of step → is_made answer ≡ true → MayWant (counters_at pair step) step answer
 wants_aside pair (Xbegin k own number dev dst kind payload) answer there made = absurd (cc there)
 wants_aside pair step answer there made = made
 
@@ -45,21 +45,16 @@ queue_wants result devs pair step side queue there =
 
 -- and so may a step on the bridge
 pub bridge_wants : {E : Type 0} (result : Result Answer E) (devs : List DevPlan) (pair : PairState) (step : Step) → OnBridge ≡ place_of step
-    → OnErr result (is_made step (bridge_turn pair.bridge step).answer ≡ true) → OnErr result (MayWant (counters_at pair step) step (move_of devs pair step).answer)
+    → OnErr result (is_made (bridge_turn pair.bridge step).answer ≡ true) → OnErr result (MayWant (counters_at pair step) step (move_of devs pair step).answer)
 bridge_wants result devs pair step there =
     err_map result (λ made. subst (λ (move : Move). MayWant (counters_at pair step) step move.answer) (sym (made_there devs pair step OnBridge there)) (wants_aside pair step _ there made))
 
--- a begin that is answered with a number was made
-pub begin_made : (k : ℕ) (side : Side) (queue : ℕ) (frame : List ℕ) (answer : Answer) → IsBegun answer → is_made (Begin k side queue frame) answer ≡ true
-begin_made k side queue frame (OkNumber number) begun = refl
-begin_made k side queue frame answer begun = absurd (cc begun)
-
--- so was a link-down entry
-pub qpdown_made : (k : ℕ) (side : Side) (queue : ℕ) (answer : Answer) → IsBegun answer → is_made (QpDown k side queue) answer ≡ true
-qpdown_made k side queue (OkNumber number) begun = refl
-qpdown_made k side queue answer begun = absurd (cc begun)
+-- a begin that is answered with a number was made, and so was a link-down entry
+pub begin_made : (answer : Answer) → IsBegun answer → is_made answer ≡ true
+begin_made (OkNumber number) begun = refl
+begin_made answer begun = absurd (cc begun)
 
 -- and a look that found an entry
-pub look_made : (k : ℕ) (side : Side) (queue : ℕ) (answer : Answer) → IsFound answer → is_made (Look k side queue) answer ≡ true
-look_made k side queue (ReadyFrame number len) found = refl
-look_made k side queue answer found = absurd (cc found)
+pub look_made : (answer : Answer) → IsFound answer → is_made answer ≡ true
+look_made (ReadyFrame number len) found = refl
+look_made answer found = absurd (cc found)

@@ -20,7 +20,7 @@ pub record HasStepped {E : Type 0} (old new : FabricState) (step : Step) (result
   pub stands : (plan : Plan) (steps : List Step) → HasMade plan steps old → OnOk result (HasMade plan (steps ++ step ∷ []) new)
   pub lawful : (plan : Plan) (steps : List Step) → HasMade plan steps old → OnOk result (IsLawful plan (steps ++ step ∷ []))
   -- a step that is refused leaves all as it was, promises aside, but for a device's count of refusals and what an idle port lets go
-  pub refused : IfOk result (λ answer. is_made step answer ≡ false → plain new ≡ plain (refused_in old step))
+  pub refused : IfOk result (λ answer. is_made answer ≡ false → plain new ≡ plain (refused_in old step))
   -- where it is out of memory it stands for the same steps, and nothing but promises of room and pages changed
   pub still_stands : (plan : Plan) (steps : List Step) → HasMade plan steps old → OnErr result (HasMade plan steps new)
   pub err : OnErr result (plain new ≡ plain old)

@@ -48,5 +48,5 @@ counts_refusals step = false
 -- made, it the last of them, stands for it once more as it is.
 abbrev pub RefusedAgain : Type 0
 RefusedAgain = (plan : Plan) (steps : List Step) (step : Step) (answer : Answer) (fabric : FabricState) →
-    IsAnswered plan steps step answer → is_made step answer ≡ false → counts_refusals step ≡ false → HasMade plan (steps ++ step ∷ []) fabric →
+    IsAnswered plan steps step answer → is_made answer ≡ false → counts_refusals step ≡ false → HasMade plan (steps ++ step ∷ []) fabric →
     IsAnswered plan (steps ++ step ∷ []) step answer × HasMade plan ((steps ++ step ∷ []) ++ step ∷ []) fabric

@@ -16,7 +16,7 @@ use Rattle.fabric_core.specs.QueueCalls.{IsBegunOrUncounted}
 -- at an answer that is no refusal; a device counts the refusals of its frames, so also where it can't count one more
 abbrev pub MayWant : Counters → Step → Answer → Type 0
 MayWant counters (Xbegin pair side queue dev dst kind payload) answer = IsBegunOrUncounted counters answer
-MayWant counters step answer = is_made step answer ≡ true
+MayWant counters step answer = is_made answer ≡ true
 
 -- the counters of the device whose frame a step begins
 abbrev pub counters_at : PairState → Step → Counters

@@ -46,7 +46,7 @@ pub fn bridge_step(pair: &mut Pair, alloc: Global, step: &Step) -> Result<Answer
     ensures after { OnOk result (HasMorePages (bridge_turn pair.old step.now).bridge pair.new) }
     ensures err { OnErr result (HasMorePages pair.old pair.new) }
     ensures wants { IsErr result → may_want_memory step.now ≡ true }
-    ensures border { OnErr result (is_made step.now (bridge_turn pair.old step.now).answer ≡ true) }
+    ensures border { OnErr result (is_made (bridge_turn pair.old step.now).answer ≡ true) }
 {
     match step {
         Step::Enable { side, .. } => Ok(link_answer(pair.enable(*side))),

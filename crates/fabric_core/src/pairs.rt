@@ -94,7 +94,7 @@ impl PairBox {
         ensures after { OnOk result (plain_pair self.new ≡ plain_pair (bridge_move self.old (bridge_turn self.old.bridge step.now).answer (bridge_turn self.old.bridge step.now).bridge).after) }
         ensures err { OnErr result (plain_pair self.new ≡ plain_pair self.old) }
         ensures wants { IsErr result → may_want_memory step.now ≡ true }
-        ensures border { OnErr result (is_made step.now (bridge_turn self.old.bridge step.now).answer ≡ true) }
+        ensures border { OnErr result (is_made (bridge_turn self.old.bridge step.now).answer ≡ true) }
     {
         let alloc = self.alloc;
         bridge_step(&mut self.pair, alloc, step)

@@ -1,45 +1,67 @@
 //! Steps that are refused.
 
 ghost use Rattle.std.specs.Prelude.{◌≡◌};
-ghost use Rattle.ledger_laws.specs.Laws.{is_made as is_made_step};
+ghost use Rattle.ledger_laws.specs.Laws.{is_made as is_made_by};
 ghost use Rattle.fabric_core.specs.Refusals.{RefusedAgain};
 
-use step_kinds::{Answer, Step};
+use step_kinds::Answer;
 
 /// Whether a step that got this answer was made: any other answer refuses it.
 #[inline]
-pub fn is_made(step: &Step, answer: &Answer) -> bool
-    ensures { result ≡ is_made_step step.now answer.now }
+pub fn is_made(answer: &Answer) -> bool
+    ensures { result ≡ is_made_by answer.now }
 {
-    match step {
-        Step::Enable { .. }
-        | Step::Break { .. }
-        | Step::DropDone { .. }
-        | Step::Clean { .. }
-        | Step::Ready { .. }
-        | Step::Mask { .. }
-        | Step::Unmask { .. }
-        | Step::Spad { .. }
-        | Step::Poke { .. } => matches!(answer, Answer::Ok),
-        Step::Train { .. } => matches!(answer, Answer::OkSession { .. }),
-        Step::Offer { .. } => matches!(answer, Answer::Offered { .. }),
-        Step::Check { .. } => matches!(answer, Answer::Up),
-        Step::Join { .. } => matches!(answer, Answer::Joined),
-        Step::Begin { .. } | Step::QpDown { .. } | Step::Xbegin { .. } => {
-            matches!(answer, Answer::OkNumber { .. })
-        }
-        Step::Post { .. } => matches!(answer, Answer::Posted { .. }),
-        Step::Land { .. } => matches!(answer, Answer::Landed { .. }),
-        Step::Look { .. } => matches!(answer, Answer::ReadyFrame { .. } | Answer::PeerDown),
-        Step::Copy { .. } => matches!(answer, Answer::Copied { .. } | Answer::Delivered { .. }),
-        Step::Clear { .. } => matches!(answer, Answer::Cleared { .. }),
-        Step::Ack { .. } => matches!(answer, Answer::Acked { .. }),
-        Step::Wake { .. } => matches!(answer, Answer::Awake),
-        Step::Irq { .. } => matches!(answer, Answer::Irq { .. }),
-        Step::ShowMem { .. } => matches!(answer, Answer::Mem { .. }),
-        Step::ShowPad { .. } => matches!(answer, Answer::PadValue { .. }),
-        Step::ShowQueue { .. } => matches!(answer, Answer::QueueShown { .. }),
-        Step::Relay { .. } | Step::Xnext { .. } => false,
+    match answer {
+        Answer::Ok
+        | Answer::OkSession { .. }
+        | Answer::OkNumber { .. }
+        | Answer::Offered { .. }
+        | Answer::Up
+        | Answer::Joined
+        | Answer::Posted { .. }
+        | Answer::Landed { .. }
+        | Answer::PeerDown
+        | Answer::ReadyFrame { .. }
+        | Answer::Copied { .. }
+        | Answer::Delivered { .. }
+        | Answer::Cleared { .. }
+        | Answer::Acked { .. }
+        | Answer::Awake
+        | Answer::Irq { .. }
+        | Answer::Mem { .. }
+        | Answer::PadValue { .. }
+        | Answer::QueueShown { .. }
+        | Answer::Short { .. }
+        | Answer::Filtered
+        | Answer::To { .. }
+        | Answer::Flood { .. } => true,
+        Answer::NotDown
+        | Answer::Dirty
+        | Answer::NotEnabled
+        | Answer::Spent
+        | Answer::NotUp
+        | Answer::NotClosing
+        | Answer::LinkDown
+        | Answer::Already
+        | Answer::NotYet
+        | Answer::Version { .. }
+        | Answer::Queues { .. }
+        | Answer::Windows { .. }
+        | Answer::Size { .. }
+        | Answer::NotChecked
+        | Answer::NotReady
+        | Answer::Closed
+        | Answer::TooLong { .. }
+        | Answer::Busy
+        | Answer::Stopped
+        | Answer::Again { .. }
+        | Answer::Idle
+        | Answer::Nothing
+        | Answer::Blocked
+        | Answer::OutOfTurn
+        | Answer::Empty
+        | Answer::VerDiffers { .. }
+        | Answer::Long { .. } => false,
     }
 }
 

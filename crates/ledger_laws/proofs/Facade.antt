@@ -6,6 +6,7 @@ pub use Rattle.ledger_laws.proofs.CopiedInParts.{copied_in_parts}
 pub use Rattle.ledger_laws.proofs.CountersAreCounts.{counters_are_counts}
 pub use Rattle.ledger_laws.proofs.FramesInOrder.{every_log_is_in_order, every_frame_comes_once}
 pub use Rattle.ledger_laws.proofs.Tallies.{tallies_are_counts, sessions_are_counts}
+pub use Rattle.ledger_laws.proofs.LandingsRefused.{landing_refused}
 pub use Rattle.ledger_laws.proofs.LanePart.{lane_part_lands}
 pub use Rattle.ledger_laws.proofs.LinkDownWhereNotUp.{link_down_where_not_up, up_known}
 pub use Rattle.ledger_laws.proofs.PairsAreSeparate.{pairs_are_separate}

@@ -24,6 +24,7 @@ pub mod LabelsOfEntries
 pub mod LabelsPostable
 pub mod LanePart
 pub mod LaneStepsOfTurns
+pub mod LandingsRefused
 pub mod LanesBegin
 pub mod StepsOfLane
 pub mod LinkDownWhereNotUp

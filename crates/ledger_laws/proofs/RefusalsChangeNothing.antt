@@ -22,7 +22,7 @@ use Rattle.ledger_laws.proofs.walk.Cases.{enable_cases, train_cases, break_cases
 module _ (devs : List DevPlan) (plan : PairPlan) (reading : Reading) (bytes : Bytes) (pair : PairPart) where
   -- where a step is refused, its pair is as it was
   abbrev Keeps : Step → Outcome → Type 0
-  Keeps step o = is_made step o.answer ≡ false → o.after ≡ after_refusal pair step
+  Keeps step o = is_made o.answer ≡ false → o.after ≡ after_refusal pair step
 
   refused_next : (step : Step) → Keeps step (read_next devs plan reading bytes pair step)
   refused_next (Enable p side) = enable_cases (Keeps (Enable p side)) pair side (λ r no h. refl) (λ _ h. absurd (true≢false h))
@@ -80,4 +80,4 @@ refusals_change_nothing plan memories steps step answer pair goes refused =
     same =
         let k = subject_of step in
         refused_next plan.devs (pair_plan plan k) (reading_of (pair_plan plan k) (bytes k) (ledger_of plan memories steps k)) (bytes k) (ledger_of plan memories steps k) step
-        (ap (is_made step) (sym (answer_of plan memories steps step answer goes)) ∙ refused)
+        (ap is_made (sym (answer_of plan memories steps step answer goes)) ∙ refused)

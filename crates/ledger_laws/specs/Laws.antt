@@ -9,10 +9,10 @@ use Rattle.step_kinds.specs.declared.names.Side.{Side}
 use Rattle.step_kinds.specs.declared.plan.SidePlan.{SidePlan}
 use Rattle.step_kinds.specs.declared.plan.Plan.{Plan}
 use Rattle.step_kinds.specs.declared.steps.Answer.{Answer}
-use Rattle.step_kinds.specs.declared.steps.Answer.TheVariants.{Ok as Done, OkSession, OkNumber, LinkDown, Offered, Up, Joined, Again, Posted, Landed, PeerDown, ReadyFrame, Copied, Delivered, Cleared, Acked, Awake, Irq as IrqBits, Mem, PadValue, QueueShown, VerDiffers, Long}
+use Rattle.step_kinds.specs.declared.steps.Answer.TheVariants.{Ok as Done, OkSession, OkNumber, LinkDown, Offered, Up, Joined, Again, Posted, Landed, PeerDown, ReadyFrame, Copied, Delivered, Cleared, Acked, Awake, Irq as IrqBits, Mem, PadValue, QueueShown, VerDiffers, Long, Short, Filtered, To, Flood}
 use Rattle.step_kinds.specs.declared.steps.Label.{Label}
 use Rattle.step_kinds.specs.declared.steps.Step.{Step}
-use Rattle.step_kinds.specs.declared.steps.Step.TheVariants.{Enable, Train, Break, DropDone, Clean, Offer, Check, Ready, Join, Begin, QpDown, Xbegin, Post, Land, Look, Copy, Clear, Ack, Wake, Irq, Mask, Unmask, Spad, Poke, ShowMem, ShowPad, ShowQueue}
+use Rattle.step_kinds.specs.declared.steps.Step.TheVariants.{Offer, Check, Ready, Join, Begin, QpDown, Xbegin, Copy, Clear, Spad, Poke}
 use Rattle.plan_model.specs.Pads.{word}
 use Rattle.lane_model.specs.Lane.{Entry, chunks_in}
 use Rattle.plan_model.specs.Both.{at_side}
@@ -179,38 +179,32 @@ UpMeansAgreement = (plan : Plan) (memories : Memories) (steps : List Step) (pair
 
 -- Refusals
 
--- whether a step was made, by its answer: any other answer to it is a refusal
-abbrev pub is_made : Step → Answer → Bool
-is_made (Enable pair side) Done = true
-is_made (Train pair) (OkSession session) = true
-is_made (Break pair) Done = true
-is_made (DropDone pair) Done = true
-is_made (Clean pair side) Done = true
-is_made (Offer pair side) (Offered index) = true
-is_made (Check pair side) Up = true
-is_made (Ready pair side queue) Done = true
-is_made (Join pair side queue) Joined = true
-is_made (Begin pair side queue frame) (OkNumber number) = true
-is_made (QpDown pair side queue) (OkNumber number) = true
-is_made (Xbegin pair side queue dev dst kind payload) (OkNumber number) = true
-is_made (Post pair side queue) (Posted label) = true
-is_made (Land pair side place) (Landed label) = true
-is_made (Look pair side queue) (ReadyFrame number len) = true
-is_made (Look pair side queue) PeerDown = true
-is_made (Copy pair side queue) (Copied number part) = true
-is_made (Copy pair side queue) (Delivered number frame) = true
-is_made (Clear pair side queue) (Cleared number) = true
-is_made (Ack pair side queue) (Acked number) = true
-is_made (Wake pair side queue dev) Awake = true
-is_made (Irq pair side) (IrqBits bits) = true
-is_made (Mask pair side bits) Done = true
-is_made (Unmask pair side bits) Done = true
-is_made (Spad pair side index value) Done = true
-is_made (Poke pair side window offset bytes) Done = true
-is_made (ShowMem pair side at len) (Mem bytes) = true
-is_made (ShowPad pair side index) (PadValue value) = true
-is_made (ShowQueue pair side place) (QueueShown count label) = true
-is_made step answer = false
+-- whether a step was made, by its answer: any other answer is a refusal
+abbrev pub is_made : Answer → Bool
+is_made Done = true
+is_made (OkSession session) = true
+is_made (OkNumber number) = true
+is_made (Offered index) = true
+is_made Up = true
+is_made Joined = true
+is_made (Posted label) = true
+is_made (Landed label) = true
+is_made PeerDown = true
+is_made (ReadyFrame number len) = true
+is_made (Copied number part) = true
+is_made (Delivered number frame) = true
+is_made (Cleared number) = true
+is_made (Acked number) = true
+is_made Awake = true
+is_made (IrqBits bits) = true
+is_made (Mem bytes) = true
+is_made (PadValue value) = true
+is_made (QueueShown count label) = true
+is_made (Short len) = true
+is_made Filtered = true
+is_made (To port) = true
+is_made (Flood count) = true
+is_made answer = false
 
 -- a pair once a step on it was refused: a device counts the refusal of its frame, and nothing else changes
 abbrev pub after_refusal : PairPart → Step → PairPart
@@ -222,7 +216,7 @@ after_refusal now step = now
 -- a step that was refused leaves every pair as it was, but for that count
 abbrev pub RefusalsChangeNothing : Type 0
 RefusalsChangeNothing = (plan : Plan) (memories : Memories) (steps : List Step) (step : Step) (answer : Answer) (pair : ℕ) →
-    GoesOn plan memories steps step answer → is_made step answer ≡ false →
+    GoesOn plan memories steps step answer → is_made answer ≡ false →
     ledger_of plan memories (steps ++ step ∷ []) pair
     ≡ (if pair == subject_of step then after_refusal (ledger_of plan memories steps pair) step else ledger_of plan memories steps pair)
 

@@ -101,7 +101,7 @@ pub record IsRightAnswer (plan : Plan) (memories : Memories) (steps : List Step)
   pub up : (pair : ℕ) (side : Side) → IsOrdinaryPair plan pair → step ≡ Check pair side → answer ≡ Up →
       Agrees (log_of plan memories steps) pair side (side_plan (pair_plan plan pair) side) (side_plan (pair_plan plan pair) (other_side side))
   -- a refusal changes nothing, but for a device's count of them
-  pub refused : (pair : ℕ) → is_made step answer ≡ false →
+  pub refused : (pair : ℕ) → is_made answer ≡ false →
       ledger_of plan memories (steps ++ step ∷ []) pair
       ≡ (if pair == subject_of step then after_refusal (ledger_of plan memories steps pair) step else ledger_of plan memories steps pair)
 

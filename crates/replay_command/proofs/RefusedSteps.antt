@@ -27,7 +27,7 @@ repeated_counts (Clear pair side queue) = refl
 repeated_counts (Ack pair side queue) = refl
 repeated_counts (Offer pair side) = refl
 
-module _ (again : RefusedAgain) {K : Type 0} (with_answer : K → AnsweredStep → K) (plan : Plan) (line : ℕ) (step : Step) (answer : Answer) (cluster : ClusterState) (refused : is_made step answer ≡ false)
+module _ (again : RefusedAgain) {K : Type 0} (with_answer : K → AnsweredStep → K) (plan : Plan) (line : ℕ) (step : Step) (answer : Answer) (cluster : ClusterState) (refused : is_made answer ≡ false)
     (counts : is_plain step ≡ true) (kept : plan_held cluster ≡ declared_part plan) where
   abbrev last : Line
   last = record { line = line; step = step }
@@ -48,7 +48,7 @@ module _ (again : RefusedAgain) {K : Type 0} (with_answer : K → AnsweredStep �
       (kept_refused count (steps ++ step ∷ []) (before ++ last ∷ []) new (map-append step_in before (last ∷ []) ∙ ap (λ (steps : List Step). steps ++ step ∷ []) same) next.0 next.1)
 
 -- what a line's steps so far keep, the next one refused, and the rest kept as that one
-module _ (again : RefusedAgain) {K : Type 0} (with_answer : K → AnsweredStep → K) (plan : Plan) (line : ℕ) (step : Step) (answer : Answer) (refused : is_made step answer ≡ false)
+module _ (again : RefusedAgain) {K : Type 0} (with_answer : K → AnsweredStep → K) (plan : Plan) (line : ℕ) (step : Step) (answer : Answer) (refused : is_made answer ≡ false)
     (counts : is_plain step ≡ true) (before : List Line) where
   abbrev made_by : ℕ → List Line
   made_by count = lines_with line (replicate count step)

@@ -28,7 +28,7 @@ pub trait KeepsAnswers {
 
     /// Keeps the same answer to a step that is refused so many times. The only error is out of memory.
     fn keep_times(&mut self, step: &Step, made: &LineAnswer, count: u32) -> Result<(), AllocError>
-        requires { is_made_by step.now made.now.answer ≡ false }
+        requires { is_made_by made.now.answer ≡ false }
         ensures { OnOk result (self.new ≡ fold with_answer self.old (replicate count (record { step = step.now; made = made.now }))) };
 }
 
@@ -155,7 +155,7 @@ fn make_again<K: KeepsAnswers>(
         let step = repeated.step();
         let answer = cluster.step(&step)?;
         let answered = LineAnswer { line, answer };
-        if made + 1 < count && !is_made(&step, &answered.answer) {
+        if made + 1 < count && !is_made(&answered.answer) {
             refused_again();
             return kept.keep_times(&step, &answered, count - made);
         }

@@ -18,7 +18,7 @@ use Rattle.step_kinds.specs.declared.plan.Plan.{Plan}
 use Rattle.replay_command.proofs.StepsMade.{fold_more}
 use Rattle.trace_command.specs.Trace.{Traced, with_line}
 
-unchanged_pair : (plan : PairPlan) (now : PairWrites) (step : Step) (answer : Answer) → is_made step answer ≡ false → pair_after now (change_by plan step answer) ≡ now
+unchanged_pair : (plan : PairPlan) (now : PairWrites) (step : Step) (answer : Answer) → is_made answer ≡ false → pair_after now (change_by plan step answer) ≡ now
 unchanged_pair plan now (Train pair) (OkSession session) refused = absurd (cc refused)
 unchanged_pair plan now (Break pair) Done refused = absurd (cc refused)
 unchanged_pair plan now (DropDone pair) Done refused = absurd (cc refused)
@@ -38,13 +38,13 @@ set_same (x ∷ xs) zero d = refl
 set_same (x ∷ xs) (suc k) d = ap (λ rest. x ∷ rest) (set_same xs k d)
 
 -- A step that isn't made leaves all writes of all pairs, with their numbers, as they were.
-pub unchanged_writes : (pairs : List PairPlan) (writes : List PairWrites) (step : Step) (answer : Answer) → is_made step answer ≡ false → writes_after pairs writes step answer ≡ writes
+pub unchanged_writes : (pairs : List PairPlan) (writes : List PairWrites) (step : Step) (answer : Answer) → is_made answer ≡ false → writes_after pairs writes step answer ≡ writes
 unchanged_writes pairs writes step answer refused =
     let k = subject_of step in
     ap (slice_set writes k) (unchanged_pair (slice_index_or pairs k no_pair) (pair_in writes k) step answer refused) ∙ set_same writes k (pair_start no_pair)
 
 -- so many lines of it leave the numbers as they were
-pub unchanged_by_lines : (traced : Traced) (answered : AnsweredStep) (count : ℕ) → is_made answered.step answered.made.answer ≡ false →
+pub unchanged_by_lines : (traced : Traced) (answered : AnsweredStep) (count : ℕ) → is_made answered.made.answer ≡ false →
     (fold with_line traced (replicate count answered)).writes ≡ traced.writes
 unchanged_by_lines traced answered zero refused = refl
 unchanged_by_lines traced answered (suc count) refused =
@@ -64,7 +64,7 @@ same_plan traced answered zero = refl
 same_plan traced answered (suc count) = same_plan (with_line traced answered) answered count
 
 -- one line more is the line of the first
-pub line_more : (traced : Traced) (answered : AnsweredStep) (count : ℕ) (text : List ℕ) → is_made answered.step answered.made.answer ≡ false →
+pub line_more : (traced : Traced) (answered : AnsweredStep) (count : ℕ) (text : List ℕ) → is_made answered.made.answer ≡ false →
     text ≡ (fold with_line traced (replicate count answered)).text →
     text ++ step_line traced.plan traced.writes answered.step answered.made ≡ (fold with_line traced (replicate (count + 1) answered)).text
 line_more traced answered count text refused is =
@@ -76,7 +76,7 @@ line_more traced answered count text refused is =
 
 -- what is kept after so many lines, by its parts
 pub traced_is : (traced : Traced) (answered : AnsweredStep) (count : ℕ) (plan : Plan) (writes : List PairWrites) (text : List ℕ) →
-    is_made answered.step answered.made.answer ≡ false → plan ≡ traced.plan → writes ≡ traced.writes → text ≡ (fold with_line traced (replicate count answered)).text →
+    is_made answered.made.answer ≡ false → plan ≡ traced.plan → writes ≡ traced.writes → text ≡ (fold with_line traced (replicate count answered)).text →
     record { plan = plan; writes = writes; text = text } ≡ fold with_line traced (replicate count answered)
 traced_is traced answered count plan writes text refused of_plan of_writes of_text =
     let all : Traced = fold with_line traced (replicate count answered) in

@@ -22,4 +22,4 @@ returns-clause-after c =
 
 pub returns-clause-border : goal.returns-clause-border
 returns-clause-border c =
-    subst (λ (state : PairState). OnErr c.bridge_step.result (is_made c.args.step.now (bridge_turn state.bridge c.args.step.now).answer ≡ true)) c.self.view_is c.bridge_step.ensures.border
+    subst (λ (state : PairState). OnErr c.bridge_step.result (is_made (bridge_turn state.bridge c.args.step.now).answer ≡ true)) c.self.view_is c.bridge_step.ensures.border

@@ -8,7 +8,7 @@ use Rattle.fabric_core.specs.Parts.{CanTurnQueue}
 use Rattle.fabric_core.specs.QueueCalls.{HasTurnedUnlessWanting, IsBegunOrUncounted}
 use Rattle.fabric_core.specs.Turns.{begin_turn, frame_turn, look_turn, qpdown_turn, queue_turn}
 use Rattle.fabric_core.specs.Wants.{MayWant}
-use Rattle.fabric_core.proofs.Wants.{begin_made, err_map, look_made, qpdown_made}
+use Rattle.fabric_core.proofs.Wants.{begin_made, err_map, look_made}
 use Rattle.fabric_core.proofs.queues.QueueBox.make.Goals as goal
 use Rattle.fabric_core.proofs.queues.QueueBox.make.Goals.{After-xbegin}
 
@@ -50,14 +50,14 @@ returns-in-Xbegin-clause-border c = (turned c).wants
 pub returns-in-Begin-clause-border : goal.returns-in-Begin-clause-border
 returns-in-Begin-clause-border c =
     subst (λ (step : Step). OnErr c.begin.result (MayWant c.args.self.now.counters step (queue_turn c.args.devs.now c.args.self.now c.args.pair.now step).answer)) (sym c.in-Begin.is)
-    (err_map c.begin.result (begin_made c.in-Begin.pair c.in-Begin.side c.in-Begin.queue c.in-Begin.frame (begin_turn c.args.self.now c.args.pair.now c.in-Begin.frame).answer) c.begin.ensures.wants)
+    (err_map c.begin.result (begin_made (begin_turn c.args.self.now c.args.pair.now c.in-Begin.frame).answer) c.begin.ensures.wants)
 
 pub returns-in-QpDown-clause-border : goal.returns-in-QpDown-clause-border
 returns-in-QpDown-clause-border c =
     subst (λ (step : Step). OnErr c.qpdown.result (MayWant c.args.self.now.counters step (queue_turn c.args.devs.now c.args.self.now c.args.pair.now step).answer)) (sym c.in-QpDown.is)
-    (err_map c.qpdown.result (qpdown_made c.in-QpDown.pair c.in-QpDown.side c.in-QpDown.queue (qpdown_turn c.args.self.now c.args.pair.now).answer) c.qpdown.ensures.wants)
+    (err_map c.qpdown.result (begin_made (qpdown_turn c.args.self.now c.args.pair.now).answer) c.qpdown.ensures.wants)
 
 pub returns-in-Look-clause-border : goal.returns-in-Look-clause-border
 returns-in-Look-clause-border c =
     subst (λ (step : Step). OnErr c.look.result (MayWant c.args.self.now.counters step (queue_turn c.args.devs.now c.args.self.now c.args.pair.now step).answer)) (sym c.in-Look.is)
-    (err_map c.look.result (look_made c.in-Look.pair c.in-Look.side c.in-Look.queue (look_turn c.args.self.now c.args.pair.now).answer) c.look.ensures.wants)
+    (err_map c.look.result (look_made (look_turn c.args.self.now c.args.pair.now).answer) c.look.ensures.wants)
