@@ -13,7 +13,3 @@ pub record ClusterState : Type 0 where
 -- the plan of its pairs, devices and switches
 abbrev pub plan_held : ClusterState → Plan
 plan_held cluster = record (plan_kept cluster.fabric) { switches = cluster.plans }
-
--- what a plan declares: its pairs, devices and switches alone
-abbrev pub declared_part : Plan → Plan
-declared_part plan = record plan { steps = []; traffic = [] }

@@ -1,6 +1,7 @@
 //! The cluster.
 
 ghost use Rattle.std.specs.Prelude.{◌≡◌, ◌++◌, ◌↔◌, ◌<◌, ◌∷◌, ℕ, [], IfOk, IfSome, IsTrue, List, OnErr, OnOk, Some, length, true};
+ghost use Rattle.plan_model.specs.PlanParts.{declared_part};
 ghost use Rattle.step_kinds.specs.Sides.{other_side};
 ghost use Rattle.step_kinds.specs.declared.plan.Plan.{Plan as PlanValue};
 ghost use Rattle.step_kinds.specs.declared.steps.Answer.TheVariants.{Landed};
@@ -9,7 +10,7 @@ ghost use Rattle.step_kinds.specs.declared.steps.Step.{Step as MadeStep};
 ghost use Rattle.step_kinds.specs.declared.steps.Step.TheVariants.{Copy, Land, Xnext};
 ghost use Rattle.plan_model.specs.DeclaredPlans.{IsDeclared, IsPairOf, IsQueueOf};
 ghost use Rattle.plan_model.specs.Switches.{AreSwitches, IsMakeable};
-ghost use Rattle.cluster_core.specs.Cluster.{declared_part, plan_held};
+ghost use Rattle.cluster_core.specs.Cluster.{plan_held};
 ghost use Rattle.cluster_core.specs.ClusterStep.{HasStepped};
 ghost use Rattle.cluster_core.specs.InFlight.{LandsNoneFrom, key_of, key_without};
 ghost use Rattle.cluster_core.specs.LogClauses.{AreCounters, HasMade, IsAccepted, IsDelivered, IsSession, answer_after};

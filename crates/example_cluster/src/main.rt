@@ -4,10 +4,11 @@
 #![tactic(auto)]
 
 ghost use Rattle.std.specs.Prelude.{◌≡◌, ◌≤◌, OnOk, length};
+ghost use Rattle.plan_model.specs.PlanParts.{declared_part};
 ghost use Rattle.step_kinds.specs.Limits.{most_script_bytes};
 ghost use Rattle.plan_model.specs.Switches.{IsMakeable};
 ghost use Rattle.plan_model.specs.TrafficPlans.{IsWhole};
-ghost use Rattle.cluster_core.specs.Cluster.{declared_part, plan_held};
+ghost use Rattle.cluster_core.specs.Cluster.{plan_held};
 
 use cluster_core::Cluster;
 use report_text::push_answer_line;

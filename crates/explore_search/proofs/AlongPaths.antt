@@ -5,12 +5,13 @@ use Rattle.std.proofs.lemmas.List.{get_or-drop, get_or-map, length-map, take_all
 use Rattle.std.proofs.lemmas.List.Elements.{All-head, All-tail}
 use Rattle.std.proofs.lemmas.List.Sums.{fold_more, fold_push}
 use Rattle.std.proofs.lemmas.Bool.{cases_lt}
+use Rattle.plan_model.specs.PlanParts.{steps_in}
 use Rattle.step_kinds.specs.declared.plan.Line.{Line}
 use Rattle.step_kinds.specs.declared.plan.Plan.{Plan}
 use Rattle.step_kinds.specs.declared.steps.Step.{Step}
 use Rattle.explore_model.specs.Schedules.{landing_step}
 use Rattle.explore_model.specs.declared.outcome.Landing.{Landing}
-use Rattle.explore_search.specs.Paths.{IsLandingBy, Walked, between, landed_then, path, steps_in, walked}
+use Rattle.explore_search.specs.Paths.{IsLandingBy, Walked, between, landed_then, path, walked}
 
 -- from a place up to it or to an earlier one are no steps
 pub between_none : (script : List Step) (from to : ℕ) → to ≤ from → between script from to ≡ []

@@ -2,13 +2,13 @@
 use Rattle.std.proofs.Common.{◌≡◌, List, [], inl, subst, sym}
 use Rattle.std.specs.List.{All}
 use Rattle.std.proofs.lemmas.List.Elements.{All-weaker}
+use Rattle.plan_model.specs.PlanParts.{declared_part}
 use Rattle.step_kinds.specs.declared.plan.Line.{Line}
 use Rattle.step_kinds.specs.declared.plan.Plan.{Plan}
 use Rattle.plan_model.specs.Switches.{IsMakeable}
 use Rattle.plan_model.proofs.PermittedSteps.{makeable_by_other}
 use Rattle.explore_model.specs.Schedules.{IsLanding, landing_step}
 use Rattle.explore_model.specs.declared.outcome.Landing.{Landing}
-use Rattle.explore_search.specs.Machines.{declared_part}
 
 -- the steps of the plan
 pub lines_makeable : (plan kept : Plan) (lines : List Line) → kept ≡ declared_part plan → lines ≡ plan.steps → All (λ line. IsMakeable plan line.step) plan.steps →

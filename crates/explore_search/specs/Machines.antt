@@ -3,10 +3,6 @@ use Rattle.std.specs.Prelude.{◌≡◌, ℕ, List, []}
 use Rattle.step_kinds.specs.declared.plan.Plan.{Plan}
 use Rattle.step_kinds.specs.declared.steps.Step.{Step}
 
--- what a plan declares, without its steps
-abbrev pub declared_part : Plan → Plan
-declared_part plan = record plan { steps = []; traffic = [] }
-
 -- machines that have made one list of steps have made the same lists
 abbrev pub HaveSameSteps : {M : Type 0} → (M → Plan → List Step → Type 0) → Type 0
 HaveSameSteps {M} has_made =

@@ -4,14 +4,11 @@ use Rattle.std.specs.List.{All, fold}
 use Rattle.step_kinds.specs.declared.plan.Line.{Line}
 use Rattle.step_kinds.specs.declared.plan.Plan.{Plan}
 use Rattle.step_kinds.specs.declared.steps.Step.{Step}
+use Rattle.plan_model.specs.PlanParts.{steps_in}
 use Rattle.plan_model.specs.DeclaredPlans.{IsDeclared}
 use Rattle.plan_model.specs.Switches.{AreSwitches, IsMakeable}
 use Rattle.explore_model.specs.Schedules.{IsLanding, landing_step}
 use Rattle.explore_model.specs.declared.outcome.Landing.{Landing}
-
--- the steps of lines
-abbrev pub steps_in : List Line → List Step
-steps_in lines = map (λ line. line.step) lines
 
 -- the steps of a plan
 abbrev pub script_of : Plan → List Step

@@ -1,12 +1,12 @@
 -- The states of a search, all after the same number of a script's steps.
 use Rattle.std.specs.Prelude.{◌≡◌, ℕ, IfSome, List, Option, [], ◌∷◌, ◌++◌, take}
 use Rattle.std.specs.List.{All, AllPairs, Any}
+use Rattle.plan_model.specs.PlanParts.{declared_part}
 use Rattle.step_kinds.specs.declared.plan.Plan.{Plan}
 use Rattle.step_kinds.specs.declared.steps.Step.{Step}
 use Rattle.explore_model.specs.Schedules.{Runs}
 use Rattle.explore_model.specs.States.{CanHaveMade}
 use Rattle.explore_model.specs.declared.outcome.Landing.{Landing}
-use Rattle.explore_search.specs.Machines.{declared_part}
 use Rattle.explore_search.specs.Paths.{IsLandingBy, path, script_of}
 use Rattle.explore_search.specs.declared.states.State.{State}
 

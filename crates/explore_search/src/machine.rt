@@ -1,6 +1,7 @@
 //! What a search needs of a machine.
 
 ghost use Rattle.std.specs.Prelude.{◌≡◌, ◌≤◌, ◌∷◌, ◌++◌, ℕ, [], false, true, IfOk, IsTrue, List, OnOk};
+ghost use Rattle.plan_model.specs.PlanParts.{declared_part};
 ghost use Rattle.step_kinds.specs.declared.plan.Plan.{Plan as PlanValue};
 ghost use Rattle.step_kinds.specs.declared.steps.Answer.TheVariants.{Nothing};
 ghost use Rattle.step_kinds.specs.declared.steps.Step.{Step as StepValue};
@@ -9,7 +10,7 @@ ghost use Rattle.plan_model.specs.DeclaredPlans.{IsDeclared, IsPairOf};
 ghost use Rattle.plan_model.specs.Switches.{AreSwitches, IsMakeable};
 ghost use Rattle.explore_model.specs.declared.outcome.Landing.{Landing as LandingValue};
 ghost use Rattle.explore_model.specs.Schedules.{answer_after, is_landed, landing_step};
-ghost use Rattle.explore_search.specs.Machines.{HaveSameKeys, HaveSameSteps, declared_part};
+ghost use Rattle.explore_search.specs.Machines.{HaveSameKeys, HaveSameSteps};
 
 use explore_model::Landing;
 use std::alloc::{AllocError, Global};

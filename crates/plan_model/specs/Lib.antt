@@ -10,6 +10,7 @@ pub mod Macros
 pub mod Orders
 pub mod Pads
 pub mod Pieces
+pub mod PlanParts
 pub mod Plans
 pub mod Sizes
 pub mod Switches

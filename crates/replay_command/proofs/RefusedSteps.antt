@@ -2,6 +2,7 @@
 use Rattle.std.proofs.Common.{◌≡◌, ◌∙◌, ℕ, zero, suc, ◌+◌, ◌-◌, ◌<◌, arith, false, true, List, [], ◌∷◌, ◌++◌, refl, sym, ap, subst, replicate}
 use Rattle.std.specs.List.{fold}
 use Rattle.std.proofs.lemmas.List.{map-append, replicate-append-replicate}
+use Rattle.plan_model.specs.PlanParts.{declared_part, steps_in}
 use Rattle.step_kinds.specs.declared.plan.Line.{Line}
 use Rattle.step_kinds.specs.declared.plan.Plan.{Plan}
 use Rattle.step_kinds.specs.declared.steps.Answer.{Answer}
@@ -10,10 +11,10 @@ use Rattle.ledger_laws.specs.Laws.{is_made}
 use Rattle.step_list.specs.Compact.{lines_with, step_again}
 use Rattle.step_list.specs.declared.macros.Repeated.{Repeated}
 use Rattle.step_list.specs.declared.macros.Repeated.TheVariants.{Post, Land, Look, Copy, Clear, Ack, Offer}
-use Rattle.cluster_core.specs.Cluster.{ClusterState, declared_part, plan_held}
+use Rattle.cluster_core.specs.Cluster.{ClusterState, plan_held}
 use Rattle.cluster_core.specs.LogClauses.{HasMade, IsAnswered}
 use Rattle.cluster_core.specs.Refusals.{RefusedAgain, is_plain}
-use Rattle.replay_command.specs.ReplaySteps.{HasKept, steps_in}
+use Rattle.replay_command.specs.ReplaySteps.{HasKept}
 use Rattle.report_text.specs.Report.{AnsweredStep}
 use Rattle.replay_command.proofs.StepsMade.{kept_both, kept_none, kept_one, step_in}
 

@@ -5,6 +5,7 @@ use Rattle.std.proofs.lemmas.List.{length-append, length-map, map-append, replic
 use Rattle.std.proofs.lemmas.List.Concat.{flat_map-append, get_or-flat_map}
 use Rattle.std.proofs.lemmas.List.Folds.{length-flat_map-take}
 use Rattle.std.proofs.lemmas.List.Sums.{fold-append}
+use Rattle.plan_model.specs.PlanParts.{steps_in}
 use Rattle.step_kinds.specs.declared.plan.Line.{Line}
 use Rattle.step_kinds.specs.declared.plan.Plan.{Plan}
 use Rattle.step_kinds.specs.declared.steps.Answer.{Answer}
@@ -18,7 +19,7 @@ use Rattle.cluster_core.specs.LogClauses.{HasMade, IsAnswered, log_after}
 use Rattle.step_list.specs.StepLists.{all_lines, lines_in}
 use Rattle.step_list.specs.declared.step_list.Stretch.{Stretch}
 use Rattle.report_text.specs.Report.{AnsweredStep}
-use Rattle.replay_command.specs.ReplaySteps.{HasKept, HasReplayed, steps_in}
+use Rattle.replay_command.specs.ReplaySteps.{HasKept, HasReplayed}
 use Rattle.replay_command.specs.Replays.{answered_steps}
 
 abbrev pub step_in : Line → Step

@@ -1,6 +1,7 @@
 -- What the steps of a replay say of a cluster, and of the counts that they gather from it.
 use Rattle.std.specs.Prelude.{◌≡◌, ℕ, ◌+◌, ◌-◌, ◌^◌, ◌≤◌, ◌==◌, Bool, not, ◌&&◌, List, ◌++◌, if◌then◌else◌, map, min}
 use Rattle.std.specs.List.{filter, fold, range_with_len}
+use Rattle.plan_model.specs.PlanParts.{declared_part, steps_in}
 use Rattle.step_kinds.specs.Sides.{other_side}
 use Rattle.step_kinds.specs.declared.names.LaneName.{LaneName}
 use Rattle.step_kinds.specs.declared.names.Side.{Side}
@@ -10,15 +11,11 @@ use Rattle.step_kinds.specs.declared.steps.Step.{Step}
 use Rattle.plan_model.specs.DeclaredPlans.{IsPairOf, IsQueueOf}
 use Rattle.plan_model.specs.Plans.{pair_plan}
 use Rattle.ledger_model.specs.Log.{Answered}
-use Rattle.cluster_core.specs.Cluster.{ClusterState, declared_part, plan_held}
+use Rattle.cluster_core.specs.Cluster.{ClusterState, plan_held}
 use Rattle.cluster_core.specs.LogClauses.{HasMade, log_after}
 use Rattle.report_text.specs.Report.{AnsweredStep}
 use Rattle.report_text.specs.declared.whole.LaneCount.{LaneCount}
 use Rattle.replay_command.specs.Replays.{answered_steps, is_blocked}
-
--- the steps of lines
-abbrev pub steps_in : List Line → List Step
-steps_in lines = map (λ line. line.step) lines
 
 -- the cluster has made the steps of these lines of a plan, and keeps what the plan declares
 pub record HasReplayed (plan : Plan) (lines : List Line) (cluster : ClusterState) : Type 0 where

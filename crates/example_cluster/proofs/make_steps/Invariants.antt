@@ -1,5 +1,6 @@
 use Rattle.std.proofs.Common.{◌≡◌}
-use Rattle.cluster_core.specs.Cluster.{declared_part, plan_held}
+use Rattle.plan_model.specs.PlanParts.{declared_part}
+use Rattle.cluster_core.specs.Cluster.{plan_held}
 use Rattle.example_cluster.proofs.make_steps.Given as goal
 
 abbrev pub invariant-loop-line : goal.invariant-loop-line

@@ -1,7 +1,8 @@
 use Rattle.std.proofs.Common.{◌≡◌, ◌≤◌, ◌++◌, List}
+use Rattle.plan_model.specs.PlanParts.{steps_in}
 use Rattle.step_kinds.specs.declared.plan.Plan.{Plan}
 use Rattle.step_kinds.specs.declared.steps.Step.{Step}
-use Rattle.explore_search.specs.Paths.{between, steps_in}
+use Rattle.explore_search.specs.Paths.{between}
 use Rattle.explore_search.proofs.paths.make_lines.Given as goal
 
 abbrev pub invariant-loop-place : goal.invariant-loop-place

@@ -1,5 +1,6 @@
 use Rattle.std.proofs.Common.{◌≡◌, ◌∙◌, ◌+◌, ℕ, [], ◌∷◌, ◌++◌, List, replicate, sym, ap, subst, arith}
 use Rattle.std.proofs.lemmas.Result.{on_ok_weaker}
+use Rattle.plan_model.specs.PlanParts.{steps_in}
 use Rattle.step_kinds.specs.declared.plan.Line.{Line}
 use Rattle.step_kinds.specs.declared.plan.Plan.{Plan}
 use Rattle.step_kinds.specs.declared.steps.Step.{Step}
@@ -8,7 +9,7 @@ use Rattle.step_list.specs.Compact.{lines_with, step_again}
 use Rattle.step_list.proofs.Facade.{repeats_more}
 use Rattle.cluster_core.specs.Cluster.{plan_held}
 use Rattle.cluster_core.specs.Refusals.{is_plain}
-use Rattle.replay_command.specs.ReplaySteps.{HasKept, steps_in}
+use Rattle.replay_command.specs.ReplaySteps.{HasKept}
 use Rattle.replay_command.proofs.PermittedSteps.{again_permitted}
 use Rattle.replay_command.proofs.StepsMade.{kept_both, kept_one}
 use Rattle.replay_command.proofs.RefusedSteps.{kept_rest, repeated_counts}
