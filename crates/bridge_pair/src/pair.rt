@@ -76,10 +76,8 @@ impl Pair {
         if !plan.up {
             return Ok(pair);
         }
-        match pair.start(plan) {
-            Ok(()) => Ok(pair),
-            Err(error) => Err(error),
-        }
+        pair.start(plan)?;
+        Ok(pair)
     }
 
     // Promises the index words of both sides and sets them, in a pair of zeros that starts up.
