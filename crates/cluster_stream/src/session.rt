@@ -1,8 +1,9 @@
 //! A session of a stream: the life of two table lanes, one for its items and one for its acknowledgements.
 
-ghost use Rattle.std.specs.Prelude.{◌≡◌, ◌≤◌, ◌<◌, ◌==◌, length, IfOk};
+ghost use Rattle.std.specs.Prelude.{◌≡◌, ◌≤◌, ◌<◌, ◌==◌, [], length, IfOk};
 ghost use Rattle.step_kinds.specs.Limits.{most_traffic_entries};
 ghost use Rattle.lane_workers.specs.Passes.{HaveBytes};
+ghost use Rattle.table_lane.specs.NewEnds.{AreNew};
 ghost use Rattle.cluster_run.specs.Lanes.{most_lanes};
 ghost use Rattle.cluster_stream.specs.Sessions.{CanBegin, EndsWith, new_session};
 
@@ -19,7 +20,7 @@ use std::alloc::{AllocError, Global};
 use std::marker::Model;
 use std::thread::Threads;
 use step_kinds::FrameList;
-use table_lane::{LaneProof, finish, make};
+use table_lane::{BackEnd, CutEnd, LaneProof, MoveEnd, RecvEnd, SendEnd, finish, make};
 
 /// A session of a stream: its workers, at two tables.
 #[derive(Drop)]
@@ -48,6 +49,23 @@ pub(crate) struct SessionEnd {
 /// At most so many turns a pass has where one thread makes those of all workers in turn.
 const MOST_TURNS: usize = 1_024;
 
+// The ends of a lane.
+type LaneEnds = (SendEnd, MoveEnd, RecvEnd, BackEnd, CutEnd);
+
+// What a session takes memory for: a list with room for its acknowledgements, and two lanes. The only error is running
+// out of memory.
+fn new_lanes(alloc: Global, entries: u32) -> Result<(FrameList, LaneEnds, LaneEnds), AllocError>
+    requires { (2 ≤ entries) × (entries ≤ most_traffic_entries) }
+    ensures got { IfOk result (λ made. (made.0.frames ≡ []) × (made.0.spare ≡ ACK_ROOM)) }
+    ensures items { IfOk result (λ made. AreNew entries made.1.0 made.1.1 made.1.2 made.1.3 made.1.4) }
+    ensures acks { IfOk result (λ made. AreNew entries made.2.0 made.2.1 made.2.2 made.2.3 made.2.4) }
+{
+    let got = room_for(alloc, ACK_ROOM)?;
+    let items = make(alloc, entries)?;
+    let acks = make(alloc, entries)?;
+    Ok((got, items, acks))
+}
+
 impl Session {
     /// A session of a stream in rings of so many entries: its lanes have these numbers. The only error is out of
     /// memory.
@@ -65,9 +83,7 @@ impl Session {
         requires total { total ≡ length sender.items }
         ensures { IfOk result (λ s. s ≡ new_session entries sender receiver) }
     {
-        let got = room_for(alloc, ACK_ROOM)?;
-        let items = make(alloc, entries)?;
-        let acks = make(alloc, entries)?;
+        let (got, items, acks) = new_lanes(alloc, entries)?;
         let (item_send, item_mover, item_recv, item_back, item_cut) = items;
         let (ack_send, ack_mover, ack_recv, ack_back, ack_cut) = acks;
         let item_worker = 4 * numbers.items;
@@ -176,6 +192,8 @@ impl Session {
         ensures { IfOk result (λ end. EndsWith self end) }
     {
         if self.source.is_wanting {
+            // One call drops all its fields: dropped at the return, each would be a step of this function's proof.
+            drop(self);
             return Err(AllocError);
         }
         self.into_end()
@@ -185,19 +203,34 @@ impl Session {
     fn into_end(self) -> Result<SessionEnd, AllocError>
         ensures { IfOk result (λ end. EndsWith self end) }
     {
+        let Session {
+            source,
+            moving,
+            sink,
+            cutting,
+            ..
+        } = self;
         let SinkEnd {
             receiver,
             recv: item_recv,
             send: ack_send,
-        } = self.sink.ended()?;
+        } = match sink.ended() {
+            Ok(end) => end,
+            Err(error) => {
+                drop(source);
+                drop(moving);
+                drop(cutting);
+                return Err(error);
+            }
+        };
         let SourceEnd {
             sender,
             send: item_send,
             recv: ack_recv,
             acks,
-        } = self.source.ended();
-        let (item_mover, item_back, ack_mover, ack_back) = self.moving.into_ends();
-        let (item_cut, ack_cut) = self.cutting.into_ends();
+        } = source.ended();
+        let (item_mover, item_back, ack_mover, ack_back) = moving.into_ends();
+        let (item_cut, ack_cut) = cutting.into_ends();
         let items = finish(item_send, item_mover, item_recv, item_back, item_cut);
         let acknowledged = finish(ack_send, ack_mover, ack_recv, ack_back, ack_cut);
         Ok(SessionEnd {
