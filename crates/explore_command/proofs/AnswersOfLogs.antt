@@ -1,5 +1,6 @@
 -- What a cluster answers is the answer of the log of which a search speaks, and from a place on it lands nothing.
-use Rattle.std.proofs.Common.{◌≡◌, ◌∙◌, ℕ, ◌≤◌, false, true, List, refl, sym}
+use Rattle.std.proofs.Common.{◌≡◌, ◌∙◌, ℕ, ◌≤◌, false, true, List, refl, sym, ap}
+use Rattle.std.specs.Prelude.{◌≢◌}
 use Rattle.std.proofs.lemmas.Bool.{false≢true}
 use Rattle.step_kinds.specs.declared.names.Side.{Side}
 use Rattle.step_kinds.specs.declared.plan.Plan.{Plan}
@@ -8,7 +9,6 @@ use Rattle.step_kinds.specs.declared.steps.Answer.TheVariants.{Landed, Nothing}
 use Rattle.step_kinds.specs.declared.steps.Label.{Label}
 use Rattle.step_kinds.specs.declared.steps.Step.{Step}
 use Rattle.step_kinds.specs.declared.steps.Step.TheVariants.{Land}
-use Rattle.ledger_laws.specs.Laws.{is_made}
 use Rattle.cluster_core.proofs.Facade as clusters
 use Rattle.cluster_core.specs.Cluster.{ClusterState}
 use Rattle.cluster_core.specs.InFlight.{LandsNoneFrom}
@@ -30,10 +30,9 @@ pub lands_nothing : (cluster : ClusterState) (pair : ℕ) (side : Side) (count :
 lands_nothing cluster pair side count none plan steps place made beyond =
     sym (one_definition plan steps (Land pair side place)) ∙ none plan steps made place beyond
 
--- a landing that isn't answered `landed` is refused
-pub unmade_landing : (pair : ℕ) (side : Side) (place : ℕ) (answer : Answer) → is_landed answer ≡ false → is_made (Land pair side place) answer ≡ false
-unmade_landing pair side place (Landed label) idle = idle
-unmade_landing pair side place answer idle = refl
+-- an answer that doesn't say `landed` is that of no landed label
+pub not_landed : (answer : Answer) → is_landed answer ≡ false → (label : Label) → answer ≢ Landed label
+not_landed answer idle label same = false≢true (sym idle ∙ ap is_landed same)
 
 -- an answer that says `landed` has a label
 label_of : (answer : Answer) → is_landed answer ≡ true → (label : Label) × (answer ≡ Landed label)

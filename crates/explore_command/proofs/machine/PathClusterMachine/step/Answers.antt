@@ -1,13 +1,15 @@
 use Rattle.std.proofs.Common.{◌≡◌, List, false, sym, subst}
+use Rattle.std.specs.Prelude.{◌≢◌}
 use Rattle.std.proofs.lemmas.Result.{IfOk-weaker}
 use Rattle.step_kinds.specs.declared.plan.Plan.{Plan}
 use Rattle.step_kinds.specs.declared.steps.Answer.{Answer}
+use Rattle.step_kinds.specs.declared.steps.Answer.TheVariants.{Landed}
+use Rattle.step_kinds.specs.declared.steps.Label.{Label}
 use Rattle.step_kinds.specs.declared.steps.Step.{Step}
-use Rattle.ledger_laws.specs.Laws.{is_made}
 use Rattle.cluster_core.specs.Cluster.{ClusterState}
 use Rattle.cluster_core.specs.LogClauses.{HasMade, IsAnswered}
 use Rattle.explore_model.specs.Schedules.{answer_after, is_landed}
-use Rattle.explore_command.proofs.AnswersOfLogs.{answered, unmade_landing}
+use Rattle.explore_command.proofs.AnswersOfLogs.{answered, not_landed}
 use Rattle.explore_command.proofs.machine.PathClusterMachine.step.Goals as goal
 
 pub returns-clause-answer : goal.returns-clause-answer
@@ -19,6 +21,5 @@ returns-clause-answer c = λ (plan : Plan) (steps : List Step) made.
 pub returns-clause-rests : goal.returns-clause-rests
 returns-clause-rests c = λ (plan : Plan) (steps : List Step) made landing is.
     let at = subst (λ (cluster : ClusterState). HasMade plan steps cluster) (sym c.self.view_is) made in
-    IfOk-weaker c.step.result (λ (answer : Answer). is_made c.args.step.now answer ≡ false → HasMade plan steps c.step.new.self) (λ (answer : Answer). is_landed answer ≡ false → HasMade plan steps c.step.new.self)
-    (λ (answer : Answer) rests idle.
-    rests (subst (λ (step : Step). is_made step answer ≡ false) (sym is) (unmade_landing landing.pair landing.side landing.place answer idle))) (c.step.ensures.rests plan steps at landing.pair landing.side landing.place is)
+    IfOk-weaker c.step.result (λ (answer : Answer). ((label : Label) → answer ≢ Landed label) → HasMade plan steps c.step.new.self) (λ (answer : Answer). is_landed answer ≡ false → HasMade plan steps c.step.new.self)
+    (λ (answer : Answer) rests idle. rests (not_landed answer idle)) (c.step.ensures.rests plan steps at landing.pair landing.side landing.place is)
