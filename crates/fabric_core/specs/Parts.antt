@@ -22,7 +22,7 @@ use Rattle.fabric_rule.specs.Parts.{PairState, QueuePart, no_queue, queue_of, qu
 use Rattle.fabric_rule.specs.Laws.{IsFreshQueue}
 use Rattle.fabric_rule.specs.StandsFor.{IsOn}
 use Rattle.fabric_core.specs.Promises.{CanTurn}
-use Rattle.fabric_core.specs.Places.{IsOfPair, step_at}
+use Rattle.fabric_core.specs.Places.{IsOfPair, step_of_place}
 use Rattle.fabric_core.specs.declared.places.QueueStep.{QueueStep}
 use Rattle.fabric_core.specs.declared.places.QueueStep.TheVariants.{Begin, Xbegin}
 use Rattle.fabric_core.specs.declared.places.StepPlace.{StepPlace}
@@ -88,7 +88,7 @@ CanMakeAt devs before (OnBridge step) = CanTurn before step
 -- what a step needs, wherever it is made
 pub record CanMake (devs : List DevPlan) (before : Bridge) (step : Step) : Type 0 where
   pub of_pair : IsOfPair step
-  pub there : (place : StepPlace) → step ≡ step_at (subject_of step) place → CanMakeAt devs before place
+  pub there : (place : StepPlace) → step ≡ step_of_place (subject_of step) place → CanMakeAt devs before place
 
 -- no two devices of the pair are on one queue
 abbrev pub AreAlone : List DevPlan → ℕ → Type 0

@@ -49,7 +49,7 @@ step_on_bridge pair (on_bridge.ShowPad side index) = ShowPad pair side index
 step_on_bridge pair (on_bridge.ShowQueue side place) = ShowQueue pair side place
 
 -- the step that is made at a place of the pair of this number
-abbrev pub step_at : ℕ → StepPlace → Step
-step_at pair (OnQueue side queue step) = step_on_queue pair side queue step
-step_at pair (OnSide side) = Clean pair side
-step_at pair (OnBridge step) = step_on_bridge pair step
+abbrev pub step_of_place : ℕ → StepPlace → Step
+step_of_place pair (OnQueue side queue step) = step_on_queue pair side queue step
+step_of_place pair (OnSide side) = Clean pair side
+step_of_place pair (OnBridge step) = step_on_bridge pair step

@@ -60,15 +60,22 @@ pub fn bridge_step(pair: &mut Pair, alloc: Global, step: BridgeStep) -> Result<A
         BridgeStep::Ready { side, queue } => Ok(ready_answer(ready(pair, side, queue)?)),
         BridgeStep::Join { side, queue } => Ok(join_answer(join(pair, side, queue))),
         BridgeStep::Land { side, place } => Ok(land_answer(pair.land(side, place as usize))),
-        BridgeStep::Irq { side } => Ok(Answer::Irq { bits: irq(pair, side) }),
+        BridgeStep::Irq { side } => Ok(Answer::Irq {
+            bits: irq(pair, side),
+        }),
         BridgeStep::Mask { side, bits } => Ok(mask(pair, side, bits)),
         BridgeStep::Unmask { side, bits } => Ok(unmask(pair, side, bits)),
         BridgeStep::Spad { side, index, value } => spad(pair, side, index, value),
-        BridgeStep::Poke { side, window, offset, bytes } => {
-            poke(pair, side, window, offset, bytes)
-        }
+        BridgeStep::Poke {
+            side,
+            window,
+            offset,
+            bytes,
+        } => poke(pair, side, window, offset, bytes),
         BridgeStep::ShowMem { side, at, len } => shown_memory(pair, alloc, side, at, len),
-        BridgeStep::ShowPad { side, index } => Ok(Answer::PadValue { value: pair.pad(side, index) }),
+        BridgeStep::ShowPad { side, index } => Ok(Answer::PadValue {
+            value: pair.pad(side, index),
+        }),
         BridgeStep::ShowQueue { side, place } => Ok(shown_queue(pair, side, place)),
     }
 }

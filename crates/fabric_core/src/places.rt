@@ -1,7 +1,7 @@
 //! Where a step is made, and which one it is there.
 
 ghost use Rattle.std.specs.Prelude.{◌≡◌};
-ghost use Rattle.fabric_core.specs.Places.{IsOfPair, step_at};
+ghost use Rattle.fabric_core.specs.Places.{IsOfPair, step_of_place};
 ghost use Rattle.step_kinds.specs.Subject.{subject_of};
 
 use self::StepPlace::{OnBridge, OnQueue, OnSide};
@@ -109,20 +109,44 @@ pub enum StepPlace<'a> {
 #[inline(always)]
 pub fn place_of(step: &Step) -> StepPlace<'_>
     requires { IsOfPair step.now }
-    ensures { step.now ≡ step_at (subject_of step.now) result }
+    ensures { step.now ≡ step_of_place (subject_of step.now) result }
 {
     match *step {
-        Step::Begin { side, queue, ref frame, .. } => OnQueue(side, queue, QueueStep::Begin { frame }),
+        Step::Begin {
+            side,
+            queue,
+            ref frame,
+            ..
+        } => OnQueue(side, queue, QueueStep::Begin { frame }),
         Step::QpDown { side, queue, .. } => OnQueue(side, queue, QueueStep::QpDown),
-        Step::Xbegin { side, queue, dev, ref dst, kind, ref payload, .. } => {
-            OnQueue(side, queue, QueueStep::Xbegin { dev, dst, kind, payload })
+        Step::Xbegin {
+            side,
+            queue,
+            dev,
+            ref dst,
+            kind,
+            ref payload,
+            ..
+        } => {
+            let begin = QueueStep::Xbegin {
+                dev,
+                dst,
+                kind,
+                payload,
+            };
+            OnQueue(side, queue, begin)
         }
         Step::Post { side, queue, .. } => OnQueue(side, queue, QueueStep::Post),
         Step::Look { side, queue, .. } => OnQueue(side, queue, QueueStep::Look),
         Step::Copy { side, queue, .. } => OnQueue(side, queue, QueueStep::Copy),
         Step::Clear { side, queue, .. } => OnQueue(side, queue, QueueStep::Clear),
         Step::Ack { side, queue, .. } => OnQueue(side, queue, QueueStep::Ack),
-        Step::Wake { side, queue, dev, .. } => OnQueue(side, queue, QueueStep::Wake { dev }),
+        Step::Wake {
+            side,
+            queue,
+            dev,
+            ..
+        } => OnQueue(side, queue, QueueStep::Wake { dev }),
         Step::Clean { side, .. } => OnSide(side),
         Step::Enable { side, .. } => OnBridge(BridgeStep::Enable { side }),
         Step::Train { .. } => OnBridge(BridgeStep::Train),
@@ -136,10 +160,24 @@ pub fn place_of(step: &Step) -> StepPlace<'_>
         Step::Irq { side, .. } => OnBridge(BridgeStep::Irq { side }),
         Step::Mask { side, bits, .. } => OnBridge(BridgeStep::Mask { side, bits }),
         Step::Unmask { side, bits, .. } => OnBridge(BridgeStep::Unmask { side, bits }),
-        Step::Spad { side, index, value, .. } => OnBridge(BridgeStep::Spad { side, index, value }),
-        Step::Poke { side, window, offset, ref bytes, .. } => {
-            OnBridge(BridgeStep::Poke { side, window, offset, bytes })
-        }
+        Step::Spad {
+            side,
+            index,
+            value,
+            ..
+        } => OnBridge(BridgeStep::Spad { side, index, value }),
+        Step::Poke {
+            side,
+            window,
+            offset,
+            ref bytes,
+            ..
+        } => OnBridge(BridgeStep::Poke {
+            side,
+            window,
+            offset,
+            bytes,
+        }),
         Step::ShowMem { side, at, len, .. } => OnBridge(BridgeStep::ShowMem { side, at, len }),
         Step::ShowPad { side, index, .. } => OnBridge(BridgeStep::ShowPad { side, index }),
         Step::ShowQueue { side, place, .. } => OnBridge(BridgeStep::ShowQueue { side, place }),
