@@ -86,14 +86,14 @@ memory_on_queue counters k side queue (Xbegin dev dst kind payload) answer wants
 memory_on_queue counters k side queue Look answer wants = refl
 memory_on_queue counters k side queue own answer wants = absurd wants
 
--- Out of memory is a step on a queue only if it begins or looks for an entry.
-pub queue_memory : {E : Type 0} (result : Result Answer E) (step : Step) (side : Side) (queue : ℕ) (own : QueueStep) (counters : Counters) (answer : Answer) → step ≡ step_of_place (subject_of step) (OnQueue side queue own)
-    → OnErr result (MayWantOnQueue counters own answer) → IsErr result → may_want_memory step ≡ true
-queue_memory (Ok x) step side queue own counters answer there wants no = absurd (false≢true no)
-queue_memory (Err e) step side queue own counters answer there wants failed = ap may_want_memory there ∙ memory_on_queue counters (subject_of step) side queue own answer wants
+-- A step on a queue is out of memory only if it may be so on its pair.
+pub queue_memory : {E : Type 0} (result : Result Answer E) (devs : List DevPlan) (pair : PairState) (step : Step) (side : Side) (queue : ℕ) (own : QueueStep) → step ≡ step_of_place (subject_of step) (OnQueue side queue own)
+    → OnErr result (MayWantOnQueue (queue_of pair side queue).counters own (queue_turn devs (queue_of pair side queue) pair.bridge own).answer) → IsErr result → may_want_memory step ≡ true
+queue_memory (Ok x) devs pair step side queue own there wants failed = absurd (false≢true failed)
+queue_memory (Err e) devs pair step side queue own there wants failed = ap may_want_memory there ∙ memory_on_queue (queue_of pair side queue).counters (subject_of step) side queue own _ wants
 
--- And a step on the bridge is so only if the step of its pair may be.
+-- So is a step on the bridge.
 pub bridge_memory : {E : Type 0} (result : Result Answer E) (step : Step) (own : BridgeStep) → step ≡ step_of_place (subject_of step) (OnBridge own)
     → OnErr result ((k : ℕ) → may_want_memory (step_on_bridge k own) ≡ true) → IsErr result → may_want_memory step ≡ true
-bridge_memory (Ok x) step own there wants no = absurd (false≢true no)
+bridge_memory (Ok x) step own there wants failed = absurd (false≢true failed)
 bridge_memory (Err e) step own there wants failed = ap may_want_memory there ∙ wants (subject_of step)
