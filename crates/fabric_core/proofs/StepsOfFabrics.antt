@@ -192,19 +192,19 @@ queue_there plan k side queue bridge is may = subst (λ (pair : PairPlan). queue
 
 -- what a permitted step needs at its place
 needs_at : (plan : Plan) (k : ℕ) (place : StepPlace) (bridge : Bridge) → IsDeclared plan → bridge.plan ≡ pair_plan plan k → Agrees bridge → IsPermitted plan (step_of_place k place) → CanMakeAt plan.devs bridge place
-needs_at plan k (OnQueue side queue (Begin frame)) bridge declared is agrees may = (queue_there plan k side queue bridge is may.0, may.1.0)
-needs_at plan k (OnQueue side queue (Xbegin dev dst kind payload)) bridge declared is agrees may = (queue_there plan k side queue bridge is may.0, (may.1.declared, (declared.devices dev may.1.declared).address, may.2))
-needs_at plan k (OnQueue side queue (Wake dev)) bridge declared is agrees may = (queue_there plan k side queue bridge is may.0, tt)
-needs_at plan k (OnQueue side queue own) bridge declared is agrees may = (queue_there plan k side queue bridge is may, tt)
-needs_at plan k (OnSide side) bridge declared is agrees may = tt
-needs_at plan k (OnBridge (Check side)) bridge declared is agrees may = agrees.up side
-needs_at plan k (OnBridge (Ready side queue)) bridge declared is agrees may = queue_there plan k side queue bridge is may
-needs_at plan k (OnBridge (Join side queue)) bridge declared is agrees may = queue_there plan k side queue bridge is may
-needs_at plan k (OnBridge (Spad side i value)) bridge declared is agrees may = may.1.among
-needs_at plan k (OnBridge (Poke side window offset bytes)) bridge declared is agrees may = subst (λ (pair : PairPlan). IsPoke pair side window offset bytes.now) (sym is) may.1
-needs_at plan k (OnBridge (ShowMem side at len)) bridge declared is agrees may = subst (λ (pair : PairPlan). IsShown (side_plan pair side) at len) (sym is) may.1
-needs_at plan k (OnBridge (ShowPad side i)) bridge declared is agrees may = may.1
-needs_at plan k (OnBridge own) bridge declared is agrees may = tt
+needs_at plan k (OnQueue side queue (Begin frame)) bridge declared is agree may = (queue_there plan k side queue bridge is may.0, may.1.0)
+needs_at plan k (OnQueue side queue (Xbegin dev dst kind payload)) bridge declared is agree may = (queue_there plan k side queue bridge is may.0, (may.1.declared, (declared.devices dev may.1.declared).address, may.2))
+needs_at plan k (OnQueue side queue (Wake dev)) bridge declared is agree may = (queue_there plan k side queue bridge is may.0, tt)
+needs_at plan k (OnQueue side queue made) bridge declared is agree may = (queue_there plan k side queue bridge is may, tt)
+needs_at plan k (OnSide side) bridge declared is agree may = tt
+needs_at plan k (OnBridge (Check side)) bridge declared is agree may = agree.up side
+needs_at plan k (OnBridge (Ready side queue)) bridge declared is agree may = queue_there plan k side queue bridge is may
+needs_at plan k (OnBridge (Join side queue)) bridge declared is agree may = queue_there plan k side queue bridge is may
+needs_at plan k (OnBridge (Spad side i value)) bridge declared is agree may = may.1.among
+needs_at plan k (OnBridge (Poke side window offset bytes)) bridge declared is agree may = subst (λ (pair : PairPlan). IsPoke pair side window offset bytes.now) (sym is) may.1
+needs_at plan k (OnBridge (ShowMem side at len)) bridge declared is agree may = subst (λ (pair : PairPlan). IsShown (side_plan pair side) at len) (sym is) may.1
+needs_at plan k (OnBridge (ShowPad side i)) bridge declared is agree may = may.1
+needs_at plan k (OnBridge made) bridge declared is agree may = tt
 
 -- no plan permits its bridges a step of a switch
 of_pair : (plan : Plan) (step : Step) → IsPermitted plan step → IsOfPair step
