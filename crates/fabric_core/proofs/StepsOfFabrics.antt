@@ -14,7 +14,7 @@ use Rattle.step_kinds.specs.declared.plan.Plan.{Plan}
 use Rattle.step_kinds.specs.declared.steps.Answer.{Answer}
 use Rattle.step_kinds.specs.declared.steps.Answer.TheVariants.{Up}
 use Rattle.step_kinds.specs.declared.steps.Step.{Step}
-use Rattle.step_kinds.specs.declared.steps.Step.TheVariants as whole
+use Rattle.step_kinds.specs.declared.steps.Step.TheVariants as on_pair
 use Rattle.step_kinds.specs.declared.steps.Step.TheVariants.{Relay, Xnext}
 use Rattle.plan_model.specs.Both.{Both, at_side}
 use Rattle.plan_model.specs.DeclaredPlans.{Agree, IsDeclared, IsPair, IsPairOf, IsPermitted, IsPoke, IsQueueOf, IsShown, SizesFit}
@@ -168,14 +168,14 @@ module _ (plan : Plan) (steps : List Step) (k : ℕ) (declared : IsDeclared plan
       let agree : Agree (pair_plan plan k) = joined_means_agreement plan (memory_of plan) steps k side queue own (are_ordinary plan k is steps permitted) (in_ledger side queue joined) in
       record { queues = λ no. agree.queues; windows = λ no. agree.windows; sizes = agree.sizes }
 
-  check_made : (side : Side) → check_answer state.bridge side ≡ ComesUp → IsAnswered plan steps (whole.Check k side) Up
-  check_made side up = goes_on plan steps (whole.Check k side) Up (ap of_check (sym up) ∙ (each_step_stands plan steps (whole.Check k side) state declared permitted among among stands).0)
+  check_made : (side : Side) → check_answer state.bridge side ≡ ComesUp → IsAnswered plan steps (on_pair.Check k side) Up
+  check_made side up = goes_on plan steps (on_pair.Check k side) Up (ap of_check (sym up) ∙ (each_step_stands plan steps (on_pair.Check k side) state declared permitted among among stands).0)
 
   fit_where_up : (side : Side) → check_answer state.bridge side ≡ ComesUp → (raw : Bool) → (pair_plan plan k).raw ≡ raw → WindowsFit (pair_plan plan k) side
   fit_where_up side up true is = half (pair_plan plan k) (own.raw is) side
   fit_where_up side up false is =
       (up_means_agreement plan (memory_of plan) steps k side (has_sides plan declared) among
-      (are_ordinary plan k is (steps ++ whole.Check k side ∷ []) (all_last (IsPermitted plan) steps (whole.Check k side) permitted among)) (check_made side up)).size_fits
+      (are_ordinary plan k is (steps ++ on_pair.Check k side ∷ []) (all_last (IsPermitted plan) steps (on_pair.Check k side) permitted among)) (check_made side up)).size_fits
 
   pub agrees : Agrees state.bridge
   agrees =
@@ -229,21 +229,21 @@ pub record HasMoved (old new : FabricState) (step : Step) (answer : Answer) : Ty
 
 -- A step that a plan permits is made on one of the plan's pairs.
 pub pair_among : (plan : Plan) (step : Step) → IsPermitted plan step → IsPairOf plan (subject_of step)
-pair_among plan (whole.Ready p side queue) may = may.declared
-pair_among plan (whole.Join p side queue) may = may.declared
-pair_among plan (whole.Begin p side queue frame) may = may.0.declared
-pair_among plan (whole.QpDown p side queue) may = may.declared
-pair_among plan (whole.Xbegin p side queue dev dst kind payload) may = may.0.declared
-pair_among plan (whole.Post p side queue) may = may.declared
-pair_among plan (whole.Look p side queue) may = may.declared
-pair_among plan (whole.Copy p side queue) may = may.declared
-pair_among plan (whole.Clear p side queue) may = may.declared
-pair_among plan (whole.Ack p side queue) may = may.declared
-pair_among plan (whole.Wake p side queue dev) may = may.0.declared
-pair_among plan (whole.Spad p side i value) may = may.0
-pair_among plan (whole.Poke p side window offset bytes) may = may.0
-pair_among plan (whole.ShowMem p side at len) may = may.0
-pair_among plan (whole.ShowPad p side i) may = may.0
+pair_among plan (on_pair.Ready p side queue) may = may.declared
+pair_among plan (on_pair.Join p side queue) may = may.declared
+pair_among plan (on_pair.Begin p side queue frame) may = may.0.declared
+pair_among plan (on_pair.QpDown p side queue) may = may.declared
+pair_among plan (on_pair.Xbegin p side queue dev dst kind payload) may = may.0.declared
+pair_among plan (on_pair.Post p side queue) may = may.declared
+pair_among plan (on_pair.Look p side queue) may = may.declared
+pair_among plan (on_pair.Copy p side queue) may = may.declared
+pair_among plan (on_pair.Clear p side queue) may = may.declared
+pair_among plan (on_pair.Ack p side queue) may = may.declared
+pair_among plan (on_pair.Wake p side queue dev) may = may.0.declared
+pair_among plan (on_pair.Spad p side i value) may = may.0
+pair_among plan (on_pair.Poke p side window offset bytes) may = may.0
+pair_among plan (on_pair.ShowMem p side at len) may = may.0
+pair_among plan (on_pair.ShowPad p side i) may = may.0
 pair_among plan (Relay p side queue switch port) may = absurd may
 pair_among plan (Xnext p side queue dev) may = absurd may
 pair_among plan step may = may

@@ -5,7 +5,7 @@ use Rattle.step_kinds.specs.Subject.{subject_of}
 use Rattle.step_kinds.specs.declared.names.Side.{Side}
 use Rattle.step_kinds.specs.declared.steps.Answer.{Answer}
 use Rattle.step_kinds.specs.declared.steps.Step.{Step}
-use Rattle.step_kinds.specs.declared.steps.Step.TheVariants as whole
+use Rattle.step_kinds.specs.declared.steps.Step.TheVariants as on_pair
 use Rattle.step_kinds.specs.declared.steps.Answer.TheVariants.{OkNumber, ReadyFrame}
 use Rattle.step_kinds.specs.declared.plan.Counters.{Counters}
 use Rattle.step_kinds.specs.declared.plan.DevPlan.{DevPlan}
@@ -31,17 +31,17 @@ err_map (Ok x) f p = tt
 err_map (Err e) f p = f p
 
 -- a begin that is answered with a number was made
-begin_made : (k : ℕ) (side : Side) (queue : ℕ) (frame : List ℕ) (answer : Answer) → IsBegun answer → is_made (whole.Begin k side queue frame) answer ≡ true
+begin_made : (k : ℕ) (side : Side) (queue : ℕ) (frame : List ℕ) (answer : Answer) → IsBegun answer → is_made (on_pair.Begin k side queue frame) answer ≡ true
 begin_made k side queue frame (OkNumber number) begun = refl
 begin_made k side queue frame answer begun = absurd (cc begun)
 
 -- so was a link-down entry
-qpdown_made : (k : ℕ) (side : Side) (queue : ℕ) (answer : Answer) → IsBegun answer → is_made (whole.QpDown k side queue) answer ≡ true
+qpdown_made : (k : ℕ) (side : Side) (queue : ℕ) (answer : Answer) → IsBegun answer → is_made (on_pair.QpDown k side queue) answer ≡ true
 qpdown_made k side queue (OkNumber number) begun = refl
 qpdown_made k side queue answer begun = absurd (cc begun)
 
 -- and a look that found an entry
-look_made : (k : ℕ) (side : Side) (queue : ℕ) (answer : Answer) → IsFound answer → is_made (whole.Look k side queue) answer ≡ true
+look_made : (k : ℕ) (side : Side) (queue : ℕ) (answer : Answer) → IsFound answer → is_made (on_pair.Look k side queue) answer ≡ true
 look_made k side queue (ReadyFrame number len) found = refl
 look_made k side queue answer found = absurd (cc found)
 
