@@ -7,7 +7,7 @@ ghost use Rattle.step_kinds.specs.Subject.{subject_of};
 use self::StepPlace::{OnBridge, OnQueue, OnSide};
 use step_kinds::{Frame, Side, Step};
 
-/// A step on one queue of a side.
+/// A step on one queue of a side: what a [`Step`] says beside its place.
 #[derive(Drop)]
 pub enum QueueStep<'a> {
     Begin {
@@ -30,7 +30,7 @@ pub enum QueueStep<'a> {
     },
 }
 
-/// A step on the bridge alone.
+/// A step on the bridge alone: what a [`Step`] says beside its pair.
 #[derive(Drop)]
 pub enum BridgeStep<'a> {
     Enable {
