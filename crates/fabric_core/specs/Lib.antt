@@ -8,6 +8,7 @@ pub mod LogClauses
 pub mod Numbers
 pub mod PairBoxes
 pub mod Parts
+pub mod Places
 pub mod Promises
 pub mod QueueBoxes
 pub mod QueueCalls
