@@ -7,9 +7,8 @@ use Rattle.plan_model.specs.Sizes.{layout_of}
 use Rattle.plan_numbers.specs.Memories.{WindowsFit, memory_size}
 use Rattle.ring_geometry.specs.Geometry.{entries_of}
 use Rattle.step_kinds.specs.declared.plan.PairPlan.{PairPlan}
-use Rattle.step_kinds.specs.declared.plan.SidePlan.{SidePlan}
 use Rattle.bridge_pair.specs.Bridge.{Bridge, bytes_of, pages_of, with_bytes}
-use Rattle.bridge_pair.proofs.IndexWords.{all_stored, at_word, none_stored, one_before}
+use Rattle.bridge_pair.proofs.IndexWords.{at_word, one_before}
 use Rattle.bridge_pair.proofs.Sides.{bytes_again, pages_of-with_bytes}
 use Rattle.bridge_pair.proofs.pair.Pair.set_index_words.Goals as goal
 
@@ -67,13 +66,3 @@ loop-queue-preserved c =
           bytes_again c.args.self.now c.loop-queue.self c.set_local_word.new.self c.args.side _ (written c.index_word_at-at.result (word_bytes (c.entries-last.result - 1))) c.loop-queue.invariant.so_far c.set_local_word.ensures
           ∙ ap (λ stored. with_bytes c.args.self.now c.args.side stored) stored;
     }
-
-pub loop-queue-init : goal.loop-queue-init
-loop-queue-init c = record {
-  all = ap (λ (plan : SidePlan). plan.queues) (c.side_plan-queues.ensures ∙ ap (λ (plan : PairPlan). side_plan plan c.args.side) c.plan.ensures.value);
-  so_far = none_stored c.args.self.now c.args.side c.side_plan-queues.result.queues;
-}
-
-pub returns : goal.returns
-returns c =
-    all_stored c.args.self.now c.loop-queue.self c.args.side c.loop-queue.queue c.side_plan-queues.result.queues c.loop-queue.invariant.all (omega (arith, c.loop-queue-test.false)) c.loop-queue.invariant.so_far
