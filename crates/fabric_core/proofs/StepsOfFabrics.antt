@@ -14,8 +14,7 @@ use Rattle.step_kinds.specs.declared.plan.Plan.{Plan}
 use Rattle.step_kinds.specs.declared.steps.Answer.{Answer}
 use Rattle.step_kinds.specs.declared.steps.Answer.TheVariants.{Up}
 use Rattle.step_kinds.specs.declared.steps.Step.{Step}
-use Rattle.step_kinds.specs.declared.steps.Step.TheVariants as on_pair
-use Rattle.step_kinds.specs.declared.steps.Step.TheVariants.{Relay, Xnext}
+use Rattle.step_kinds.specs.declared.steps.Step.TheVariants.{Enable, Train, Break, DropDone, Clean, Offer, Check, Ready, Join, Begin, QpDown, Xbegin, Post, Land, Look, Copy, Clear, Ack, Wake, Irq, Mask, Unmask, Spad, Poke, ShowMem, ShowPad, ShowQueue, Relay, Xnext}
 use Rattle.plan_model.specs.Both.{Both, at_side}
 use Rattle.plan_model.specs.DeclaredPlans.{Agree, IsDeclared, IsPair, IsPairOf, IsPermitted, IsPoke, IsQueueOf, IsShown, SizesFit}
 use Rattle.plan_model.specs.Plans.{no_pair, pair_plan, side_plan}
@@ -39,12 +38,7 @@ use Rattle.fabric_rule.specs.Steps.{move_of}
 use Rattle.fabric_rule.proofs.Facade.{each_step_stands}
 use Rattle.fabric_core.specs.Fabric.{FabricState, StandsFor, bare_plan, may_want_memory, no_state, pair_of, plain, plan_kept}
 use Rattle.fabric_core.specs.Fabrics.{IsFabric, fabric_seen}
-use Rattle.fabric_core.specs.Parts.{Agrees, CanMake, CanMakeAt}
-use Rattle.fabric_core.specs.Places.{IsOfPair, step_of_place}
-use Rattle.fabric_core.specs.declared.places.BridgeStep.TheVariants.{Check, Join, Poke, Ready, ShowMem, ShowPad, Spad}
-use Rattle.fabric_core.specs.declared.places.QueueStep.TheVariants.{Begin, Wake, Xbegin}
-use Rattle.fabric_core.specs.declared.places.StepPlace.{StepPlace}
-use Rattle.fabric_core.specs.declared.places.StepPlace.TheVariants.{OnBridge, OnQueue, OnSide}
+use Rattle.fabric_core.specs.Parts.{Agrees, CanMake}
 use Rattle.fabric_core.specs.declared.fabric.Fabric.TheInside.{Inside}
 use Rattle.fabric_core.proofs.RefusedMoves.{refused_left}
 use Rattle.fabric_core.specs.Lawful.{IsLawful}
@@ -168,14 +162,14 @@ module _ (plan : Plan) (steps : List Step) (k : ℕ) (declared : IsDeclared plan
       let agree : Agree (pair_plan plan k) = joined_means_agreement plan (memory_of plan) steps k side queue own (are_ordinary plan k is steps permitted) (in_ledger side queue joined) in
       record { queues = λ no. agree.queues; windows = λ no. agree.windows; sizes = agree.sizes }
 
-  check_made : (side : Side) → check_answer state.bridge side ≡ ComesUp → IsAnswered plan steps (on_pair.Check k side) Up
-  check_made side up = goes_on plan steps (on_pair.Check k side) Up (ap of_check (sym up) ∙ (each_step_stands plan steps (on_pair.Check k side) state declared permitted among among stands).0)
+  check_made : (side : Side) → check_answer state.bridge side ≡ ComesUp → IsAnswered plan steps (Check k side) Up
+  check_made side up = goes_on plan steps (Check k side) Up (ap of_check (sym up) ∙ (each_step_stands plan steps (Check k side) state declared permitted among among stands).0)
 
   fit_where_up : (side : Side) → check_answer state.bridge side ≡ ComesUp → (raw : Bool) → (pair_plan plan k).raw ≡ raw → WindowsFit (pair_plan plan k) side
   fit_where_up side up true is = half (pair_plan plan k) (own.raw is) side
   fit_where_up side up false is =
       (up_means_agreement plan (memory_of plan) steps k side (has_sides plan declared) among
-      (are_ordinary plan k is (steps ++ on_pair.Check k side ∷ []) (all_last (IsPermitted plan) steps (on_pair.Check k side) permitted among)) (check_made side up)).size_fits
+      (are_ordinary plan k is (steps ++ Check k side ∷ []) (all_last (IsPermitted plan) steps (Check k side) permitted among)) (check_made side up)).size_fits
 
   pub agrees : Agrees state.bridge
   agrees =
@@ -190,32 +184,37 @@ module _ (plan : Plan) (steps : List Step) (k : ℕ) (declared : IsDeclared plan
 queue_there : (plan : Plan) (k : ℕ) (side : Side) (queue : ℕ) (bridge : Bridge) → bridge.plan ≡ pair_plan plan k → IsQueueOf plan k side queue → queue < (side_plan bridge.plan side).queues
 queue_there plan k side queue bridge is may = subst (λ (pair : PairPlan). queue < (side_plan pair side).queues) (sym is) may.among
 
--- what a permitted step needs at its place
-needs_at : (plan : Plan) (k : ℕ) (place : StepPlace) (bridge : Bridge) → IsDeclared plan → bridge.plan ≡ pair_plan plan k → Agrees bridge → IsPermitted plan (step_of_place k place) → CanMakeAt plan.devs bridge place
-needs_at plan k (OnQueue side queue (Begin frame)) bridge declared is agree may = (queue_there plan k side queue bridge is may.0, may.1.0)
-needs_at plan k (OnQueue side queue (Xbegin dev dst kind payload)) bridge declared is agree may = (queue_there plan k side queue bridge is may.0, (may.1.declared, (declared.devices dev may.1.declared).address, may.2))
-needs_at plan k (OnQueue side queue (Wake dev)) bridge declared is agree may = (queue_there plan k side queue bridge is may.0, tt)
-needs_at plan k (OnQueue side queue made) bridge declared is agree may = (queue_there plan k side queue bridge is may, tt)
-needs_at plan k (OnSide side) bridge declared is agree may = tt
-needs_at plan k (OnBridge (Check side)) bridge declared is agree may = agree.up side
-needs_at plan k (OnBridge (Ready side queue)) bridge declared is agree may = queue_there plan k side queue bridge is may
-needs_at plan k (OnBridge (Join side queue)) bridge declared is agree may = queue_there plan k side queue bridge is may
-needs_at plan k (OnBridge (Spad side i value)) bridge declared is agree may = may.1.among
-needs_at plan k (OnBridge (Poke side window offset bytes)) bridge declared is agree may = subst (λ (pair : PairPlan). IsPoke pair side window offset bytes.now) (sym is) may.1
-needs_at plan k (OnBridge (ShowMem side at len)) bridge declared is agree may = subst (λ (pair : PairPlan). IsShown (side_plan pair side) at len) (sym is) may.1
-needs_at plan k (OnBridge (ShowPad side i)) bridge declared is agree may = may.1
-needs_at plan k (OnBridge made) bridge declared is agree may = tt
-
--- no plan permits its bridges a step of a switch
-of_pair : (plan : Plan) (step : Step) → IsPermitted plan step → IsOfPair step
-of_pair plan (Relay p side queue switch port) may = may
-of_pair plan (Xnext p side queue dev) may = may
-of_pair plan step may = tt
-
 -- A permitted step finds all that it needs of its bridge, where queues are joined and sides come up only if all fits.
 pub can_make : (plan : Plan) (step : Step) (bridge : Bridge) → IsDeclared plan → bridge.plan ≡ pair_plan plan (subject_of step) → Agrees bridge → IsPermitted plan step → CanMake plan.devs bridge step
-can_make plan step bridge declared is agrees may =
-    record { of_pair = of_pair plan step may; there = λ place there. needs_at plan (subject_of step) place bridge declared is agrees (subst (IsPermitted plan) there may) }
+can_make plan (Enable p side) bridge declared is agrees may = record { place = tt; queue = tt; bridge = tt }
+can_make plan (Train p) bridge declared is agrees may = record { place = tt; queue = tt; bridge = tt }
+can_make plan (Break p) bridge declared is agrees may = record { place = tt; queue = tt; bridge = tt }
+can_make plan (DropDone p) bridge declared is agrees may = record { place = tt; queue = tt; bridge = tt }
+can_make plan (Clean p side) bridge declared is agrees may = record { place = tt; queue = tt; bridge = tt }
+can_make plan (Offer p side) bridge declared is agrees may = record { place = tt; queue = tt; bridge = tt }
+can_make plan (Check p side) bridge declared is agrees may = record { place = tt; queue = tt; bridge = agrees.up side }
+can_make plan (Ready p side queue) bridge declared is agrees may = record { place = tt; queue = tt; bridge = queue_there plan p side queue bridge is may }
+can_make plan (Join p side queue) bridge declared is agrees may = record { place = tt; queue = tt; bridge = queue_there plan p side queue bridge is may }
+can_make plan (Begin p side queue frame) bridge declared is agrees may = record { place = queue_there plan p side queue bridge is may.0; queue = may.1.0; bridge = tt }
+can_make plan (QpDown p side queue) bridge declared is agrees may = record { place = queue_there plan p side queue bridge is may; queue = tt; bridge = tt }
+can_make plan (Xbegin p side queue dev dst kind payload) bridge declared is agrees may = record { place = queue_there plan p side queue bridge is may.0; queue = (may.1.declared, (declared.devices dev may.1.declared).address, may.2); bridge = tt }
+can_make plan (Post p side queue) bridge declared is agrees may = record { place = queue_there plan p side queue bridge is may; queue = tt; bridge = tt }
+can_make plan (Land p side place) bridge declared is agrees may = record { place = tt; queue = tt; bridge = tt }
+can_make plan (Look p side queue) bridge declared is agrees may = record { place = queue_there plan p side queue bridge is may; queue = tt; bridge = tt }
+can_make plan (Copy p side queue) bridge declared is agrees may = record { place = queue_there plan p side queue bridge is may; queue = tt; bridge = tt }
+can_make plan (Clear p side queue) bridge declared is agrees may = record { place = queue_there plan p side queue bridge is may; queue = tt; bridge = tt }
+can_make plan (Ack p side queue) bridge declared is agrees may = record { place = queue_there plan p side queue bridge is may; queue = tt; bridge = tt }
+can_make plan (Wake p side queue dev) bridge declared is agrees may = record { place = queue_there plan p side queue bridge is may.0; queue = tt; bridge = tt }
+can_make plan (Irq p side) bridge declared is agrees may = record { place = tt; queue = tt; bridge = tt }
+can_make plan (Mask p side bits) bridge declared is agrees may = record { place = tt; queue = tt; bridge = tt }
+can_make plan (Unmask p side bits) bridge declared is agrees may = record { place = tt; queue = tt; bridge = tt }
+can_make plan (Spad p side i value) bridge declared is agrees may = record { place = tt; queue = tt; bridge = may.1.among }
+can_make plan (Poke p side window offset bytes) bridge declared is agrees may = record { place = tt; queue = tt; bridge = subst (λ (pair : PairPlan). IsPoke pair side window offset bytes) (sym is) may.1 }
+can_make plan (ShowMem p side at len) bridge declared is agrees may = record { place = tt; queue = tt; bridge = subst (λ (pair : PairPlan). IsShown (side_plan pair side) at len) (sym is) may.1 }
+can_make plan (ShowPad p side i) bridge declared is agrees may = record { place = tt; queue = tt; bridge = may.1 }
+can_make plan (ShowQueue p side place) bridge declared is agrees may = record { place = tt; queue = tt; bridge = tt }
+can_make plan (Relay p side queue switch port) bridge declared is agrees may = absurd may
+can_make plan (Xnext p side queue dev) bridge declared is agrees may = absurd may
 
 -- One step more
 
@@ -229,24 +228,35 @@ pub record HasMoved (old new : FabricState) (step : Step) (answer : Answer) : Ty
 
 -- A step that a plan permits is made on one of the plan's pairs.
 pub pair_among : (plan : Plan) (step : Step) → IsPermitted plan step → IsPairOf plan (subject_of step)
-pair_among plan (on_pair.Ready p side queue) may = may.declared
-pair_among plan (on_pair.Join p side queue) may = may.declared
-pair_among plan (on_pair.Begin p side queue frame) may = may.0.declared
-pair_among plan (on_pair.QpDown p side queue) may = may.declared
-pair_among plan (on_pair.Xbegin p side queue dev dst kind payload) may = may.0.declared
-pair_among plan (on_pair.Post p side queue) may = may.declared
-pair_among plan (on_pair.Look p side queue) may = may.declared
-pair_among plan (on_pair.Copy p side queue) may = may.declared
-pair_among plan (on_pair.Clear p side queue) may = may.declared
-pair_among plan (on_pair.Ack p side queue) may = may.declared
-pair_among plan (on_pair.Wake p side queue dev) may = may.0.declared
-pair_among plan (on_pair.Spad p side i value) may = may.0
-pair_among plan (on_pair.Poke p side window offset bytes) may = may.0
-pair_among plan (on_pair.ShowMem p side at len) may = may.0
-pair_among plan (on_pair.ShowPad p side i) may = may.0
+pair_among plan (Enable p side) may = may
+pair_among plan (Train p) may = may
+pair_among plan (Break p) may = may
+pair_among plan (DropDone p) may = may
+pair_among plan (Clean p side) may = may
+pair_among plan (Offer p side) may = may
+pair_among plan (Check p side) may = may
+pair_among plan (Ready p side queue) may = may.declared
+pair_among plan (Join p side queue) may = may.declared
+pair_among plan (Begin p side queue frame) may = may.0.declared
+pair_among plan (QpDown p side queue) may = may.declared
+pair_among plan (Xbegin p side queue dev dst kind payload) may = may.0.declared
+pair_among plan (Post p side queue) may = may.declared
+pair_among plan (Land p side place) may = may
+pair_among plan (Look p side queue) may = may.declared
+pair_among plan (Copy p side queue) may = may.declared
+pair_among plan (Clear p side queue) may = may.declared
+pair_among plan (Ack p side queue) may = may.declared
+pair_among plan (Wake p side queue dev) may = may.0.declared
+pair_among plan (Irq p side) may = may
+pair_among plan (Mask p side bits) may = may
+pair_among plan (Unmask p side bits) may = may
+pair_among plan (Spad p side i value) may = may.0
+pair_among plan (Poke p side window offset bytes) may = may.0
+pair_among plan (ShowMem p side at len) may = may.0
+pair_among plan (ShowPad p side i) may = may.0
+pair_among plan (ShowQueue p side place) may = may
 pair_among plan (Relay p side queue switch port) may = absurd may
 pair_among plan (Xnext p side queue dev) may = absurd may
-pair_among plan step may = may
 
 module _ (plan : Plan) (steps : List Step) (step : Step) (old new : FabricState) (made : HasMade plan steps old) (may : IsPermitted plan step) (answer : Answer) (moves : HasMoved old new step answer) where
   k : ℕ

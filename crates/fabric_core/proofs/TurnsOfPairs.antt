@@ -1,7 +1,6 @@
 -- A step on a pair is a turn of the part that it touches, and a step on the bridge keeps all that was promised.
 use Rattle.std.proofs.Common.{◌≡◌, ◌∙◌, ℕ, Bool, true, false, Contains, IfOk, List, OnOk, Result, length, refl, sym, ap, subst, if◌then◌else◌}
 use Rattle.step_kinds.specs.Bits.{with_bit}
-use Rattle.step_kinds.specs.Subject.{subject_of}
 use Rattle.step_kinds.specs.declared.names.Side.{Side}
 use Rattle.step_kinds.specs.declared.names.Side.TheVariants.{A, B}
 use Rattle.step_kinds.specs.declared.plan.DevPlan.{DevPlan}
@@ -9,6 +8,7 @@ use Rattle.step_kinds.specs.declared.steps.Answer.{Answer}
 use Rattle.step_kinds.specs.declared.steps.Answer.TheVariants.{OkNumber}
 use Rattle.step_kinds.specs.declared.steps.Label.TheVariants.{Raw}
 use Rattle.step_kinds.specs.declared.steps.Step.{Step}
+use Rattle.step_kinds.specs.declared.steps.Step.TheVariants.{Enable, Train, Break, DropDone, Offer, Check, Ready, Join, Begin, Xbegin, Land, Irq, Mask, Unmask, Spad, Poke}
 use Rattle.plan_model.specs.Ethernet.{ethernet_frame}
 use Rattle.plan_model.specs.Link.{is_up}
 use Rattle.plan_model.specs.Pads.{links_pad, pad_index}
@@ -33,11 +33,7 @@ use Rattle.fabric_rule.specs.Moves.{Move, bridge_move, clean_move, posted_aside,
 use Rattle.fabric_rule.specs.Parts.{PairState, QueuePart, plain_bridge, plain_pair, queue_of}
 use Rattle.fabric_rule.specs.Steps.{move_of}
 use Rattle.fabric_core.specs.Promises.{HasMorePages, KeepsPromised, with_promised}
-use Rattle.fabric_core.specs.Places.{step_of_place}
-use Rattle.fabric_core.specs.Turns.{bare_pair, bridge_turn, queue_turn, turned}
-use Rattle.fabric_core.specs.declared.places.BridgeStep.{BridgeStep}
-use Rattle.fabric_core.specs.declared.places.BridgeStep.TheVariants.{Enable, Train, Break, DropDone, Offer, Check, Ready, Join, Land, Irq, Mask, Unmask, Spad, Poke}
-use Rattle.fabric_core.specs.declared.places.QueueStep.TheVariants.{Xbegin}
+use Rattle.fabric_core.specs.Turns.{bare_pair, bridge_turn, place_of, queue_turn, turned}
 use Rattle.fabric_core.specs.declared.places.StepPlace.{StepPlace}
 use Rattle.fabric_core.specs.declared.places.StepPlace.TheVariants.{OnQueue, OnSide, OnBridge}
 
@@ -45,9 +41,9 @@ use Rattle.fabric_core.specs.declared.places.StepPlace.TheVariants.{OnQueue, OnS
 
 -- what a step is that is made there
 abbrev pub IsMadeAt : List DevPlan → PairState → Step → StepPlace → Type 0
-IsMadeAt devs pair step (OnQueue side queue own) = move_of devs pair step ≡ turned pair side queue (queue_turn devs (queue_of pair side queue) pair.bridge own)
+IsMadeAt devs pair step (OnQueue side queue) = move_of devs pair step ≡ turned pair side queue (queue_turn devs (queue_of pair side queue) pair.bridge step)
 IsMadeAt devs pair step (OnSide side) = move_of devs pair step ≡ clean_move pair side
-IsMadeAt devs pair step (OnBridge own) = move_of devs pair step ≡ bridge_move pair (bridge_turn pair.bridge own).answer (bridge_turn pair.bridge own).bridge
+IsMadeAt devs pair step OnBridge = move_of devs pair step ≡ bridge_move pair (bridge_turn pair.bridge step).answer (bridge_turn pair.bridge step).bridge
 
 -- of a pair it is the bridge alone that a device's frame needs
 xbegun_bare : (answer : Answer) (pair : PairState) (part : QueuePart) (frame : List ℕ) → xbegun answer pair part frame ≡ xbegun answer (bare_pair pair.bridge) part frame
@@ -63,16 +59,14 @@ xbegin_made : (pair : PairState) (dev : DevPlan) (side : Side) (queue : ℕ) (fr
 unfolding with_part
 xbegin_made pair dev side queue frame answer = ap (with_part pair side queue answer) (xbegun_bare answer pair (queue_of pair side queue) frame)
 
-made_at : (devs : List DevPlan) (pair : PairState) (k : ℕ) (place : StepPlace) → IsMadeAt devs pair (step_of_place k place) place
-made_at devs pair k (OnQueue side queue (Xbegin dev dst kind payload)) = xbegin_made pair (dev_plan devs dev) side queue (ethernet_frame dst.now (dev_plan devs dev).address kind payload.now) _
-made_at devs pair k (OnQueue side queue own) = refl
-made_at devs pair k (OnSide side) = refl
-made_at devs pair k (OnBridge (Enable side)) = refl
-made_at devs pair k (OnBridge own) = refl
+made_at : (devs : List DevPlan) (pair : PairState) (step : Step) → IsMadeAt devs pair step (place_of step)
+made_at devs pair (Xbegin p side queue dev dst kind payload) = xbegin_made pair (dev_plan devs dev) side queue (ethernet_frame dst (dev_plan devs dev).address kind payload) _
+made_at devs pair (Begin p side queue frame) = refl
+made_at devs pair step = refl
 
 -- What a step makes of a pair is a turn at its place: of one queue, of a side that is cleaned, or of the bridge.
-pub made_there : (devs : List DevPlan) (pair : PairState) (step : Step) (place : StepPlace) → step ≡ step_of_place (subject_of step) place → IsMadeAt devs pair step place
-made_there devs pair step place there = subst (λ (step : Step). IsMadeAt devs pair step place) (sym there) (made_at devs pair (subject_of step) place)
+pub made_there : (devs : List DevPlan) (pair : PairState) (step : Step) (place : StepPlace) → place ≡ place_of step → IsMadeAt devs pair step place
+made_there devs pair step place is = subst (IsMadeAt devs pair step) (sym is) (made_at devs pair step)
 
 -- what a move answers and what it leaves, if it is another that was made
 pub answered : {E : Type 0} (result : Result Answer E) (move made : Move) → move ≡ made → IfOk result (λ answer. answer ≡ made.answer) → IfOk result (λ answer. answer ≡ move.answer)
@@ -132,21 +126,21 @@ aside_keeps bridge side write = at_test (is_up bridge.link.state) where
   at_test true = posted_keeps bridge side write
   at_test false = keeps_all bridge
 
-turn_keeps : (bridge : Bridge) (step : BridgeStep) → KeepsPromises bridge (bridge_turn bridge step).bridge
-turn_keeps bridge (Enable side) = link_steps_keep_promises.enable bridge side
-turn_keeps bridge Train = link_steps_keep_promises.train bridge
-turn_keeps bridge Break = link_steps_keep_promises.cut bridge
-turn_keeps bridge DropDone = link_steps_keep_promises.drop_done bridge
-turn_keeps bridge (Offer side) = offer_keeps bridge side (offer_answer bridge side)
-turn_keeps bridge (Check side) = check_keeps bridge side (check_answer bridge side)
-turn_keeps bridge (Ready side queue) = ready_keeps bridge side queue (ready_answer bridge side queue)
-turn_keeps bridge (Join side queue) = join_keeps bridge side queue (join_answer bridge side queue)
-turn_keeps bridge (Land side place) = landing_keeps_promises bridge side place
-turn_keeps bridge (Irq side) = own_writes_keep_promises.bells bridge side _
-turn_keeps bridge (Mask side bits) = own_writes_keep_promises.bells bridge side _
-turn_keeps bridge (Unmask side bits) = own_writes_keep_promises.bells bridge side _
-turn_keeps bridge (Spad side i value) = aside_keeps bridge side (pad_write i value)
-turn_keeps bridge (Poke side window offset bytes) = aside_keeps bridge side (memory_write (Raw window offset (length bytes.now)) window offset bytes.now)
+turn_keeps : (bridge : Bridge) (step : Step) → KeepsPromises bridge (bridge_turn bridge step).bridge
+turn_keeps bridge (Enable p side) = link_steps_keep_promises.enable bridge side
+turn_keeps bridge (Train p) = link_steps_keep_promises.train bridge
+turn_keeps bridge (Break p) = link_steps_keep_promises.cut bridge
+turn_keeps bridge (DropDone p) = link_steps_keep_promises.drop_done bridge
+turn_keeps bridge (Offer p side) = offer_keeps bridge side (offer_answer bridge side)
+turn_keeps bridge (Check p side) = check_keeps bridge side (check_answer bridge side)
+turn_keeps bridge (Ready p side queue) = ready_keeps bridge side queue (ready_answer bridge side queue)
+turn_keeps bridge (Join p side queue) = join_keeps bridge side queue (join_answer bridge side queue)
+turn_keeps bridge (Land p side place) = landing_keeps_promises bridge side place
+turn_keeps bridge (Irq p side) = own_writes_keep_promises.bells bridge side _
+turn_keeps bridge (Mask p side bits) = own_writes_keep_promises.bells bridge side _
+turn_keeps bridge (Unmask p side bits) = own_writes_keep_promises.bells bridge side _
+turn_keeps bridge (Spad p side i value) = aside_keeps bridge side (pad_write i value)
+turn_keeps bridge (Poke p side window offset bytes) = aside_keeps bridge side (memory_write (Raw window offset (length bytes)) window offset bytes)
 turn_keeps bridge step = keeps_all bridge
 
 -- and further pages may be promised
@@ -174,7 +168,7 @@ pub more_plain : (old new : Bridge) → HasMorePages old new → plain_bridge ne
 more_plain old new more = ap plain_bridge more.rest
 
 -- A step on the bridge, with further pages promised, keeps the plan, all promised pages and each side's room.
-pub turn_promised : (old new : Bridge) (step : BridgeStep) → HasMorePages (bridge_turn old step).bridge new → KeepsPromised old new
+pub turn_promised : (old new : Bridge) (step : Step) → HasMorePages (bridge_turn old step).bridge new → KeepsPromised old new
 turn_promised old new step more =
     kept_twice old (bridge_turn old step).bridge new (still old (bridge_turn old step).bridge (turn_keeps old step)) (more_keeps (bridge_turn old step).bridge new more)
 

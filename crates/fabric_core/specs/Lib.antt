@@ -8,7 +8,6 @@ pub mod LogClauses
 pub mod Numbers
 pub mod PairBoxes
 pub mod Parts
-pub mod Places
 pub mod Promises
 pub mod QueueBoxes
 pub mod QueueCalls

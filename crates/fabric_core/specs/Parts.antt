@@ -3,11 +3,11 @@ use Rattle.std.specs.Prelude.{◌≡◌, ℕ, ◌+◌, ◌<◌, true, false, Con
 use Rattle.std.specs.List.{sum_by}
 use Rattle.step_kinds.specs.Bits.{has_bit}
 use Rattle.step_kinds.specs.Sides.{other_side}
-use Rattle.step_kinds.specs.Subject.{subject_of}
 use Rattle.step_kinds.specs.declared.names.Side.{Side}
 use Rattle.step_kinds.specs.declared.plan.DevPlan.{DevPlan}
 use Rattle.step_kinds.specs.declared.plan.PairPlan.{PairPlan}
 use Rattle.step_kinds.specs.declared.steps.Step.{Step}
+use Rattle.step_kinds.specs.declared.steps.Step.TheVariants.{Begin, Xbegin}
 use Rattle.bridge_pair.specs.Bridge.{Bridge, book_of, flight_of, pages_of, with_flight}
 use Rattle.plan_numbers.specs.Memories.{WindowsFit}
 use Rattle.frame_ring.specs.Port.{PortState, unused_of}
@@ -22,11 +22,9 @@ use Rattle.fabric_rule.specs.Parts.{PairState, QueuePart, no_queue, queue_of, qu
 use Rattle.fabric_rule.specs.Laws.{IsFreshQueue}
 use Rattle.fabric_rule.specs.StandsFor.{IsOn}
 use Rattle.fabric_core.specs.Promises.{CanTurn}
-use Rattle.fabric_core.specs.Places.{IsOfPair, step_of_place}
-use Rattle.fabric_core.specs.declared.places.QueueStep.{QueueStep}
-use Rattle.fabric_core.specs.declared.places.QueueStep.TheVariants.{Begin, Xbegin}
+use Rattle.fabric_core.specs.Turns.{place_of}
 use Rattle.fabric_core.specs.declared.places.StepPlace.{StepPlace}
-use Rattle.fabric_core.specs.declared.places.StepPlace.TheVariants.{OnBridge, OnQueue, OnSide}
+use Rattle.fabric_core.specs.declared.places.StepPlace.TheVariants.{OnQueue}
 
 -- a queue before any step, whose device has these limits
 abbrev pub fresh_part : PairPlan → Side → ℕ → ℕ → ℕ → QueuePart
@@ -40,9 +38,9 @@ fresh_part plan side queue stop start =
     }
 
 -- what a step on a queue needs of what it carries
-abbrev pub CanTurnQueue : List DevPlan → QueueStep → Type 0
-CanTurnQueue devs (Begin frame) = 0 < length frame.now
-CanTurnQueue devs (Xbegin dev dst kind payload) = (dev < length devs) × (length (dev_plan devs dev).address ≡ 6) × IsPayload dst.now kind payload.now
+abbrev pub CanTurnQueue : List DevPlan → Step → Type 0
+CanTurnQueue devs (Begin p side queue frame) = 0 < length frame
+CanTurnQueue devs (Xbegin p side queue dev dst kind payload) = (dev < length devs) × (length (dev_plan devs dev).address ≡ 6) × IsPayload dst kind payload
 CanTurnQueue devs step = Unit {0}
 
 -- What a call of a port keeps: its own promises are there still, the room grows and shrinks with what it hasn't used, no page that
@@ -79,16 +77,15 @@ pub record Agrees (bridge : Bridge) : Type 0 where
   pub joined : (side : Side) (queue : ℕ) → has_bit (book_of bridge side).joined queue ≡ true → FitsRings bridge.plan
   pub up : (side : Side) → check_answer bridge side ≡ Up → WindowsFit bridge.plan side
 
--- what a step needs at its place
-abbrev pub CanMakeAt : List DevPlan → Bridge → StepPlace → Type 0
-CanMakeAt devs before (OnQueue side queue step) = (queue < (side_plan before.plan side).queues) × CanTurnQueue devs step
-CanMakeAt devs before (OnSide side) = Unit {0}
-CanMakeAt devs before (OnBridge step) = CanTurn before step
-
 -- what a step needs, wherever it is made
+abbrev pub HasPlace : Bridge → StepPlace → Type 0
+HasPlace bridge (OnQueue side queue) = queue < (side_plan bridge.plan side).queues
+HasPlace bridge place = Unit {0}
+
 pub record CanMake (devs : List DevPlan) (before : Bridge) (step : Step) : Type 0 where
-  pub of_pair : IsOfPair step
-  pub there : (place : StepPlace) → step ≡ step_of_place (subject_of step) place → CanMakeAt devs before place
+  pub place : HasPlace before (place_of step)
+  pub queue : CanTurnQueue devs step
+  pub bridge : CanTurn before step
 
 -- no two devices of the pair are on one queue
 abbrev pub AreAlone : List DevPlan → ℕ → Type 0

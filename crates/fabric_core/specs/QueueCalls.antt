@@ -12,8 +12,6 @@ use Rattle.fabric_rule.specs.Parts.{QueuePart, plain_bridge}
 use Rattle.fabric_core.specs.Numbers.{most_count}
 use Rattle.fabric_core.specs.Parts.{KeepsPort}
 use Rattle.fabric_core.specs.Turns.{QueueTurn}
-use Rattle.fabric_core.specs.declared.places.QueueStep.{QueueStep}
-use Rattle.fabric_core.specs.declared.places.QueueStep.TheVariants.{Begin, Look, QpDown, Xbegin}
 
 -- before an entry is begun or looked for: the queue is one of this pair, its rings fit where it is joined, and the pages that its
 -- port was promised are there
@@ -55,14 +53,6 @@ IsFound answer = is_found answer ≡ true
 -- where a device's frame is begun, or where its refusal is one more than can be counted
 abbrev pub IsBegunOrUncounted : Counters → Answer → Type 0
 IsBegunOrUncounted counters answer = IsBegun answer ⊎ (most_count ≤ counters.refused)
-
--- where a step on a queue may be out of memory
-abbrev pub MayWantOnQueue : Counters → QueueStep → Answer → Type 0
-MayWantOnQueue counters (Begin frame) answer = IsBegun answer
-MayWantOnQueue counters QpDown answer = IsBegun answer
-MayWantOnQueue counters (Xbegin dev dst kind payload) answer = IsBegunOrUncounted counters answer
-MayWantOnQueue counters Look answer = IsFound answer
-MayWantOnQueue counters step answer = ⊥
 
 -- the queue took this turn, or nothing changed of it where it is out of memory, which is at these answers alone; of the bridge only
 -- promises changed

@@ -1,6 +1,6 @@
 //! The steps that touch the bridge of a pair alone: the link, the handshake, registers, landings and what is shown.
 
-ghost use Rattle.std.specs.Prelude.{ℕ, IfOk, OnErr, OnOk, bit_or, false, length, option_map, slice_get, ◌+◌, ◌<◌, ◌≡◌, ◌≤◌, true};
+ghost use Rattle.std.specs.Prelude.{IfOk, IsErr, OnErr, OnOk, bit_or, false, length, option_map, slice_get, ◌+◌, ◌<◌, ◌≡◌, ◌≤◌, true};
 ghost use Rattle.plan_numbers.specs.Memories.{memory_size};
 ghost use Rattle.bridge_pair.specs.Bridge.{bells_of, bytes_of, flight_of, pages_of, with_bells};
 ghost use Rattle.bridge_pair.specs.Calls.{HasPages};
@@ -10,8 +10,7 @@ ghost use Rattle.bridge_pair.specs.Writes.{memory_write, pad_write};
 ghost use Rattle.bridge_regs.specs.Doorbell.{with_masked};
 ghost use Rattle.fabric_core.specs.Fabric.{may_want_memory};
 ghost use Rattle.fabric_core.specs.Promises.{CanTurn, HasMorePages};
-ghost use Rattle.fabric_core.specs.Places.{step_on_bridge};
-ghost use Rattle.fabric_core.specs.Turns.{bridge_turn};
+ghost use Rattle.fabric_core.specs.Turns.{bridge_turn, register_turn};
 ghost use Rattle.fabric_rule.specs.Answers.{of_link};
 ghost use Rattle.fabric_rule.specs.Moves.{posted_aside};
 ghost use Rattle.hand_shake.specs.Offers.{with_posted};
@@ -27,56 +26,74 @@ ghost use Rattle.step_kinds.specs.declared.steps.Label.TheVariants.{Raw as RawLa
 use crate::answers::{
     check_answer, join_answer, land_answer, link_answer, offer_answer, ready_answer, refusal_answer,
 };
-use crate::places::BridgeStep;
 use bridge_pair::{Pair, Write};
 use hand_shake::{check, join, offer, ready};
 use link_state::LinkState;
 use plan_numbers::own_address;
 use queue_pair::irq;
 use std::alloc::{AllocError, Global};
-use step_kinds::{Answer, Frame, Label, Side};
+use step_kinds::{Answer, Frame, Label, Side, Step};
 
-/// Makes a step on the bridge and answers it.
+/// Makes a step on the bridge and answers it. A step on queues changes nothing here.
 ///
 /// # Errors
 ///
 /// [`AllocError`] from out of memory alone. Further pages may then be promised, and nothing else changes.
 #[inline(always)]
-pub fn bridge_step(pair: &mut Pair, alloc: Global, step: BridgeStep) -> Result<Answer, AllocError>
-    requires { CanTurn pair.old step }
-    ensures answer { IfOk result (λ answer. answer ≡ (bridge_turn pair.old step.entry).answer) }
-    ensures after { OnOk result (HasMorePages (bridge_turn pair.old step.entry).bridge pair.new) }
+pub fn bridge_step(pair: &mut Pair, alloc: Global, step: &Step) -> Result<Answer, AllocError>
+    requires { CanTurn pair.old step.now }
+    ensures answer { IfOk result (λ answer. answer ≡ (bridge_turn pair.old step.now).answer) }
+    ensures after { OnOk result (HasMorePages (bridge_turn pair.old step.now).bridge pair.new) }
     ensures err { OnErr result (HasMorePages pair.old pair.new) }
-    ensures wants { OnErr result ((k : ℕ) → may_want_memory (step_on_bridge k step.entry) ≡ true) }
-    ensures border { OnErr result (is_made (bridge_turn pair.old step.entry).answer ≡ true) }
+    ensures wants { IsErr result → may_want_memory step.now ≡ true }
+    ensures border { OnErr result (is_made (bridge_turn pair.old step.now).answer ≡ true) }
 {
     match step {
-        BridgeStep::Enable { side } => Ok(link_answer(pair.enable(side))),
-        BridgeStep::Train => Ok(train(pair)),
-        BridgeStep::Break => Ok(link_answer(pair.cut())),
-        BridgeStep::DropDone => Ok(link_answer(pair.drop_done())),
-        BridgeStep::Offer { side } => Ok(offer_answer(offer(pair, side)?)),
-        BridgeStep::Check { side } => Ok(check_answer(check(pair, side)?)),
-        BridgeStep::Ready { side, queue } => Ok(ready_answer(ready(pair, side, queue)?)),
-        BridgeStep::Join { side, queue } => Ok(join_answer(join(pair, side, queue))),
-        BridgeStep::Land { side, place } => Ok(land_answer(pair.land(side, place as usize))),
-        BridgeStep::Irq { side } => Ok(Answer::Irq {
-            bits: irq(pair, side),
-        }),
-        BridgeStep::Mask { side, bits } => Ok(mask(pair, side, bits)),
-        BridgeStep::Unmask { side, bits } => Ok(unmask(pair, side, bits)),
-        BridgeStep::Spad { side, index, value } => spad(pair, side, index, value),
-        BridgeStep::Poke {
+        Step::Enable { side, .. } => Ok(link_answer(pair.enable(*side))),
+        Step::Train { .. } => Ok(train(pair)),
+        Step::Break { .. } => Ok(link_answer(pair.cut())),
+        Step::DropDone { .. } => Ok(link_answer(pair.drop_done())),
+        Step::Offer { side, .. } => Ok(offer_answer(offer(pair, *side)?)),
+        Step::Check { side, .. } => Ok(check_answer(check(pair, *side)?)),
+        Step::Ready { side, queue, .. } => Ok(ready_answer(ready(pair, *side, *queue)?)),
+        Step::Join { side, queue, .. } => Ok(join_answer(join(pair, *side, *queue))),
+        Step::Spad {
+            side,
+            index,
+            value,
+            ..
+        } => spad(pair, *side, *index, *value),
+        Step::Poke {
             side,
             window,
             offset,
             bytes,
-        } => poke(pair, side, window, offset, bytes),
-        BridgeStep::ShowMem { side, at, len } => shown_memory(pair, alloc, side, at, len),
-        BridgeStep::ShowPad { side, index } => Ok(Answer::PadValue {
-            value: pair.pad(side, index),
-        }),
-        BridgeStep::ShowQueue { side, place } => Ok(shown_queue(pair, side, place)),
+            ..
+        } => poke(pair, *side, *window, *offset, bytes),
+        Step::ShowMem { side, at, len, .. } => shown_memory(pair, alloc, *side, *at, *len),
+        _ => Ok(register_step(pair, step)),
+    }
+}
+
+// The steps that are never out of memory, but for those of the link.
+#[inline(always)]
+fn register_step(pair: &mut Pair, step: &Step) -> Answer
+    requires { CanTurn pair.old step.now }
+    ensures answer { result ≡ (register_turn pair.old step.now).answer }
+    ensures after { pair.new ≡ (register_turn pair.old step.now).bridge }
+{
+    match step {
+        Step::Land { side, place, .. } => land_answer(pair.land(*side, *place as usize)),
+        Step::Irq { side, .. } => Answer::Irq {
+            bits: irq(pair, *side),
+        },
+        Step::Mask { side, bits, .. } => mask(pair, *side, *bits),
+        Step::Unmask { side, bits, .. } => unmask(pair, *side, *bits),
+        Step::ShowPad { side, index, .. } => Answer::PadValue {
+            value: pair.pad(*side, *index),
+        },
+        Step::ShowQueue { side, place, .. } => shown_queue(pair, *side, *place),
+        _ => Answer::Ok,
     }
 }
 

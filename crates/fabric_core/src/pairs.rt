@@ -1,13 +1,11 @@
 //! A pair with its queues.
 
-ghost use Rattle.std.specs.Prelude.{ℕ, IfOk, IsErr, IsTrue, OnErr, OnOk, length, map, slice_index_or, slice_set, true, ◌++◌, ◌<◌, ◌↔◌, ◌≡◌};
+ghost use Rattle.std.specs.Prelude.{IfOk, IsErr, IsTrue, OnErr, OnOk, length, map, slice_index_or, slice_set, true, ◌++◌, ◌<◌, ◌↔◌, ◌≡◌};
 ghost use Rattle.bridge_pair.specs.Bridge.{flight_of, pages_of};
 ghost use Rattle.fabric_core.specs.Fabric.{may_want_memory};
 ghost use Rattle.fabric_core.specs.InFlight.{pair_key, pair_key_without};
 ghost use Rattle.fabric_core.specs.Parts.{Agrees, AreAlone, AreFreshQueues, AreLimitsOn, CanForget, CanMake, CanTurnQueue, HasOtherRoom, KeepsPort};
-ghost use Rattle.fabric_core.specs.Places.{step_on_bridge};
 ghost use Rattle.fabric_core.specs.Promises.{CanTurn};
-ghost use Rattle.fabric_core.specs.QueueCalls.{MayWantOnQueue};
 ghost use Rattle.fabric_core.specs.Same.{AreOfOneSide, AreSameParts, HasSameQueues, IsSamePair, LandsAsPair};
 ghost use Rattle.fabric_core.specs.Turns.{bridge_turn, queue_turn, turned};
 ghost use Rattle.fabric_core.specs.Wants.{MayWant, counters_at};
@@ -25,7 +23,7 @@ ghost use Rattle.step_kinds.specs.declared.names.Side.TheVariants.{A, B};
 use crate::answers::refusal_answer;
 use crate::bridge_steps::bridge_step;
 use crate::keys::{push_flight, push_flight_without};
-use crate::places::{BridgeStep, QueueStep, StepPlace, place_of};
+use crate::places::{StepPlace, place_of};
 use crate::queues::QueueBox;
 use bridge_pair::Pair;
 use plan_numbers::side_plan;
@@ -82,21 +80,21 @@ impl PairBox {
         ensures border { OnErr result (MayWant (counters_at self.old step.now) step.now (move_of devs.now self.old step.now).answer) }
     {
         match place_of(step) {
-            StepPlace::OnQueue(side, queue, step) => self.queue_step(side, queue, devs, step),
-            StepPlace::OnSide(side) => Ok(self.clean(side)),
-            StepPlace::OnBridge(step) => self.step_aside(step),
+            StepPlace::OnQueue { side, queue } => self.queue_step(side, queue, devs, step),
+            StepPlace::OnSide { side } => Ok(self.clean(side)),
+            StepPlace::OnBridge => self.step_aside(step),
         }
     }
 
     // Makes a step on the bridge alone.
     #[inline(always)]
-    fn step_aside(&mut self, step: BridgeStep) -> Result<Answer, AllocError>
-        requires { CanTurn self.old.bridge step }
-        ensures answer { IfOk result (λ answer. answer ≡ (bridge_turn self.old.bridge step.entry).answer) }
-        ensures after { OnOk result (plain_pair self.new ≡ plain_pair (bridge_move self.old (bridge_turn self.old.bridge step.entry).answer (bridge_turn self.old.bridge step.entry).bridge).after) }
+    fn step_aside(&mut self, step: &Step) -> Result<Answer, AllocError>
+        requires { CanTurn self.old.bridge step.now }
+        ensures answer { IfOk result (λ answer. answer ≡ (bridge_turn self.old.bridge step.now).answer) }
+        ensures after { OnOk result (plain_pair self.new ≡ plain_pair (bridge_move self.old (bridge_turn self.old.bridge step.now).answer (bridge_turn self.old.bridge step.now).bridge).after) }
         ensures err { OnErr result (plain_pair self.new ≡ plain_pair self.old) }
-        ensures wants { OnErr result ((k : ℕ) → may_want_memory (step_on_bridge k step.entry) ≡ true) }
-        ensures border { OnErr result (is_made (bridge_turn self.old.bridge step.entry).answer ≡ true) }
+        ensures wants { IsErr result → may_want_memory step.now ≡ true }
+        ensures border { OnErr result (is_made (bridge_turn self.old.bridge step.now).answer ≡ true) }
     {
         let alloc = self.alloc;
         bridge_step(&mut self.pair, alloc, step)
@@ -109,15 +107,16 @@ impl PairBox {
         side: Side,
         queue: u32,
         devs: &[DevPlan],
-        step: QueueStep,
+        step: &Step,
     ) -> Result<Answer, AllocError>
         requires agrees { Agrees self.old.bridge }
         requires among { queue < (side_plan_of self.old.bridge.plan side).queues }
-        requires can { CanTurnQueue devs.now step }
-        ensures answer { IfOk result (λ answer. answer ≡ (queue_turn devs.now (queue_of self.old side queue) self.old.bridge step.entry).answer) }
-        ensures after { OnOk result (plain_pair self.new ≡ plain_pair (turned self.old side queue (queue_turn devs.now (queue_of self.old side queue) self.old.bridge step.entry)).after) }
+        requires can { CanTurnQueue devs.now step.now }
+        ensures answer { IfOk result (λ answer. answer ≡ (queue_turn devs.now (queue_of self.old side queue) self.old.bridge step.now).answer) }
+        ensures after { OnOk result (plain_pair self.new ≡ plain_pair (turned self.old side queue (queue_turn devs.now (queue_of self.old side queue) self.old.bridge step.now)).after) }
         ensures err { OnErr result (plain_pair self.new ≡ plain_pair self.old) }
-        ensures wants { OnErr result (MayWantOnQueue (queue_of self.old side queue).counters step.entry (queue_turn devs.now (queue_of self.old side queue) self.old.bridge step.entry).answer) }
+        ensures wants { IsErr result → may_want_memory step.now ≡ true }
+        ensures border { OnErr result (MayWant (queue_of self.old side queue).counters step.now (queue_turn devs.now (queue_of self.old side queue) self.old.bridge step.now).answer) }
     {
         let alloc = self.alloc;
         match side {
@@ -270,22 +269,23 @@ fn make_at(
     alloc: Global,
     queue: u32,
     devs: &[DevPlan],
-    step: QueueStep,
+    step: &Step,
 ) -> Result<Answer, AllocError>
     requires among { queue < length queues.old.items }
     requires plan { pair.old.plan ≡ (slice_index_or queues.old.items queue no_queue).queue.port.plan }
     requires fits { is_joined (slice_index_or queues.old.items queue no_queue).queue pair.old ≡ true → FitsRings (slice_index_or queues.old.items queue no_queue).queue.port.plan }
     requires room { HasRoomIn (slice_index_or queues.old.items queue no_queue).queue.port pair.old }
     requires pages { HasPagesIn (slice_index_or queues.old.items queue no_queue).queue.port pair.old }
-    requires step { CanTurnQueue devs.now step }
-    ensures answer { IfOk result (λ answer. answer ≡ (queue_turn devs.now (slice_index_or queues.old.items queue no_queue) pair.old step.entry).answer) }
+    requires step { CanTurnQueue devs.now step.now }
+    ensures answer { IfOk result (λ answer. answer ≡ (queue_turn devs.now (slice_index_or queues.old.items queue no_queue) pair.old step.now).answer) }
     ensures queues { queues.new.items ≡ slice_set queues.old.items queue (slice_index_or queues.new.items queue no_queue) }
-    ensures after { OnOk result (slice_index_or queues.new.items queue no_queue ≡ (queue_turn devs.now (slice_index_or queues.old.items queue no_queue) pair.old step.entry).part) }
-    ensures bridge { OnOk result (plain_bridge pair.new ≡ plain_bridge (queue_turn devs.now (slice_index_or queues.old.items queue no_queue) pair.old step.entry).bridge) }
+    ensures after { OnOk result (slice_index_or queues.new.items queue no_queue ≡ (queue_turn devs.now (slice_index_or queues.old.items queue no_queue) pair.old step.now).part) }
+    ensures bridge { OnOk result (plain_bridge pair.new ≡ plain_bridge (queue_turn devs.now (slice_index_or queues.old.items queue no_queue) pair.old step.now).bridge) }
     ensures err { OnErr result (queues.new.items ≡ queues.old.items) }
     ensures err_bridge { OnErr result (plain_bridge pair.new ≡ plain_bridge pair.old) }
     ensures keeps { KeepsPort (slice_index_or queues.old.items queue no_queue).queue.port (slice_index_or queues.new.items queue no_queue).queue.port pair.old pair.new }
-    ensures wants { OnErr result (MayWantOnQueue (slice_index_or queues.old.items queue no_queue).counters step.entry (queue_turn devs.now (slice_index_or queues.old.items queue no_queue) pair.old step.entry).answer) }
+    ensures wants { IsErr result → may_want_memory step.now ≡ true }
+    ensures border { OnErr result (MayWant (slice_index_or queues.old.items queue no_queue).counters step.now (queue_turn devs.now (slice_index_or queues.old.items queue no_queue) pair.old step.now).answer) }
 {
     let part = &mut queues[queue as usize];
     part.make(pair, alloc, devs, step)

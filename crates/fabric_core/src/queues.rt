@@ -2,9 +2,11 @@
 
 ghost use Rattle.std.specs.Prelude.{IfOk, IsErr, IsTrue, OnErr, OnOk, length, true, ◌<◌, ◌↔◌, ◌≡◌, ◌≤◌};
 ghost use Rattle.fabric_core.specs.Numbers.{HasRoomToSend, most_count};
+ghost use Rattle.fabric_core.specs.Fabric.{may_want_memory};
 ghost use Rattle.fabric_core.specs.Parts.{CanTurnQueue, KeepsPort, fresh_part};
-ghost use Rattle.fabric_core.specs.QueueCalls.{CanBegin, CanPost, HasTurned, HasTurnedUnlessWanting, IsBegun, IsBegunOrUncounted, IsFound, MayWantOnQueue};
+ghost use Rattle.fabric_core.specs.QueueCalls.{CanBegin, CanPost, HasTurned, HasTurnedUnlessWanting, IsBegun, IsBegunOrUncounted, IsFound};
 ghost use Rattle.fabric_core.specs.Same.{AreOfOnePlace, IsSamePart};
+ghost use Rattle.fabric_core.specs.Wants.{MayWant};
 ghost use Rattle.plan_model.specs.Ethernet.{ethernet_frame};
 ghost use Rattle.fabric_core.specs.Turns.{ack_turn, begin_turn, clear_turn, copy_turn, counted_begun, frame_answer, frame_turn, look_turn, post_turn, qpdown_turn, queue_turn, refused_once, wake_turn};
 ghost use Rattle.fabric_rule.specs.Moves.{forgotten_queue};
@@ -24,13 +26,12 @@ use crate::counting::{
     HEADER_BYTES, accepted, can_deliver, can_refuse, can_send, delivered, no_counts, refused,
 };
 use crate::counts::SessionCounts;
-use crate::places::QueueStep;
 use bridge_pair::Pair;
 use net_dev::{Flow, Header, encode};
 use queue_pair::{BeginAnswer, LookAnswer, QueuePair};
 use std::alloc::{AllocError, Global};
 use std::marker::Model;
-use step_kinds::{Answer, Counters, DevPlan, Frame, LaneCopy, PairPlan, Side};
+use step_kinds::{Answer, Counters, DevPlan, Frame, LaneCopy, PairPlan, Side, Step};
 
 /// One queue of one side: its queue pair, the flow of the device on it, and what is counted. Contracts see them as a record.
 #[derive(Drop)]
@@ -69,7 +70,7 @@ impl QueueBox {
         })
     }
 
-    /// Makes a step on the queue and answers it.
+    /// Makes a step on the queue and answers it. A step that is made elsewhere changes nothing here.
     ///
     /// # Errors
     ///
@@ -81,44 +82,66 @@ impl QueueBox {
         pair: &mut Pair,
         alloc: Global,
         devs: &[DevPlan],
-        step: QueueStep,
+        step: &Step,
     ) -> Result<Answer, AllocError>
         requires plan { pair.old.plan ≡ self.old.queue.port.plan }
         requires fits { is_joined self.old.queue pair.old ≡ true → FitsRings self.old.queue.port.plan }
         requires room { HasRoomIn self.old.queue.port pair.old }
         requires pages { HasPagesIn self.old.queue.port pair.old }
-        requires step { CanTurnQueue devs.now step }
-        ensures answer { IfOk result (λ answer. answer ≡ (queue_turn devs.now self.old pair.old step.entry).answer) }
-        ensures after { OnOk result (self.new ≡ (queue_turn devs.now self.old pair.old step.entry).part) }
-        ensures bridge { OnOk result (plain_bridge pair.new ≡ plain_bridge (queue_turn devs.now self.old pair.old step.entry).bridge) }
+        requires step { CanTurnQueue devs.now step.now }
+        ensures answer { IfOk result (λ answer. answer ≡ (queue_turn devs.now self.old pair.old step.now).answer) }
+        ensures after { OnOk result (self.new ≡ (queue_turn devs.now self.old pair.old step.now).part) }
+        ensures bridge { OnOk result (plain_bridge pair.new ≡ plain_bridge (queue_turn devs.now self.old pair.old step.now).bridge) }
         ensures err { OnErr result (self.new ≡ self.old) }
         ensures err_bridge { OnErr result (plain_bridge pair.new ≡ plain_bridge pair.old) }
         ensures keeps { KeepsPort self.old.queue.port self.new.queue.port pair.old pair.new }
-        ensures wants { OnErr result (MayWantOnQueue self.old.counters step.entry (queue_turn devs.now self.old pair.old step.entry).answer) }
+        ensures wants { IsErr result → may_want_memory step.now ≡ true }
+        ensures border { OnErr result (MayWant self.old.counters step.now (queue_turn devs.now self.old pair.old step.now).answer) }
     {
         match step {
-            QueueStep::Begin { frame } => self.begin(pair, alloc, frame),
-            QueueStep::QpDown => self.qpdown(pair),
-            QueueStep::Xbegin {
+            Step::Begin { frame, .. } => self.begin(pair, alloc, frame),
+            Step::QpDown { .. } => self.qpdown(pair),
+            Step::Xbegin {
                 dev,
                 dst,
                 kind,
                 payload,
+                ..
             } => {
-                let src = devs[dev as usize].address;
+                let src = devs[*dev as usize].address;
                 let header = Header {
                     dst: *dst,
                     src,
-                    kind,
+                    kind: *kind,
                 };
                 self.xbegin(pair, alloc, header, payload)
             }
-            QueueStep::Post => Ok(self.post(pair)),
-            QueueStep::Look => self.look(pair),
-            QueueStep::Copy => Ok(self.copy(pair)),
-            QueueStep::Clear => Ok(self.clear(pair)),
-            QueueStep::Ack => Ok(self.ack(pair)),
-            QueueStep::Wake { .. } => Ok(self.wake(pair)),
+            Step::Post { .. } => Ok(self.post(pair)),
+            Step::Look { .. } => self.look(pair),
+            Step::Copy { .. } => Ok(self.copy(pair)),
+            Step::Clear { .. } => Ok(self.clear(pair)),
+            Step::Ack { .. } => Ok(self.ack(pair)),
+            Step::Wake { .. } => Ok(self.wake(pair)),
+            Step::Enable { .. }
+            | Step::Train { .. }
+            | Step::Break { .. }
+            | Step::DropDone { .. }
+            | Step::Clean { .. }
+            | Step::Offer { .. }
+            | Step::Check { .. }
+            | Step::Ready { .. }
+            | Step::Join { .. }
+            | Step::Land { .. }
+            | Step::Irq { .. }
+            | Step::Mask { .. }
+            | Step::Unmask { .. }
+            | Step::Spad { .. }
+            | Step::Poke { .. }
+            | Step::ShowMem { .. }
+            | Step::ShowPad { .. }
+            | Step::ShowQueue { .. }
+            | Step::Relay { .. }
+            | Step::Xnext { .. } => Ok(Answer::Ok),
         }
     }
 
