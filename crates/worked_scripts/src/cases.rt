@@ -2,6 +2,16 @@
 
 use std::alloc::{AllocError, Global};
 
+/// What begins a case, and its command.
+const HEADS: [(&str, &str); 6] = [
+    ("@case ", "replay"),
+    ("@trace ", "trace"),
+    ("@check ", "check"),
+    ("@run ", "run"),
+    ("@stream ", "stream"),
+    ("@reads ", "reads"),
+];
+
 /// A text that the program has to write.
 #[derive(Drop)]
 pub enum Wanted {
@@ -75,23 +85,8 @@ fn is_complete(case: &Case) -> bool {
 
 // Adds a line to a case, and says whether it may stand there.
 fn take_line(alloc: Global, case: &mut Case, line: &str) -> Result<bool, AllocError> {
-    if let Some(head) = line.strip_prefix("@case ") {
-        return take_head(alloc, case, "replay", head);
-    }
-    if let Some(head) = line.strip_prefix("@trace ") {
-        return take_head(alloc, case, "trace", head);
-    }
-    if let Some(head) = line.strip_prefix("@check ") {
-        return take_head(alloc, case, "check", head);
-    }
-    if let Some(head) = line.strip_prefix("@run ") {
-        return take_head(alloc, case, "run", head);
-    }
-    if let Some(head) = line.strip_prefix("@stream ") {
-        return take_head(alloc, case, "stream", head);
-    }
-    if let Some(head) = line.strip_prefix("@reads ") {
-        return take_head(alloc, case, "reads", head);
+    if let Some((command, head)) = head_of(line) {
+        return take_head(alloc, case, command, head);
     }
     if line == "@part" {
         let mut lines = Vec::new(alloc);
@@ -105,6 +100,16 @@ fn take_line(alloc: Global, case: &mut Case, line: &str) -> Result<bool, AllocEr
         add_line(text_of(case), line)?;
     }
     Ok(!case.about.is_empty() && (!line.starts_with("@") || is_heading(line)))
+}
+
+// The command of a case that a line begins, and the words behind it.
+fn head_of(line: &str) -> Option<(&'static str, &str)> {
+    for (word, command) in HEADS.as_slice() {
+        if let Some(head) = line.strip_prefix(*word) {
+            return Some((*command, head));
+        }
+    }
+    None
 }
 
 // Whether a line begins what is wanted.

@@ -116,14 +116,20 @@ fn write_fault<R: Threads + Wait + Sync>(
     let mut source = source_of(alloc, &case.script, PIECE, None)?;
     let mut sink = sink_of(alloc, PIECE, Some(call))?;
     let status = status_of(rt, alloc, "replay", &mut source, &mut sink)?;
+    drop(source);
+    Ok(seen_by(&sink, status, case, whole, kept))
+}
+
+// What a sink that should keep so many bytes has seen, where the program ended with this status.
+fn seen_by(sink: &MemorySink, status: u8, case: &Case, whole: &[u8], kept: usize) -> Seen {
     if status == case.status {
-        return Ok(Seen::Whole);
+        return Seen::Whole;
     }
     let held = sink.held();
     if status == 5 && held.len() == kept && whole.starts_with(held) {
-        return Ok(Seen::Fault);
+        return Seen::Fault;
     }
-    Ok(Seen::Other)
+    Seen::Other
 }
 
 /// Whether the case's script, cut after each of its line feeds, is a script, and gives the same text without its last

@@ -59,52 +59,54 @@ fn tell_cases<R: Print + Threads + Wait + Sync>(
     table: &Table,
 ) -> io::Result<()> {
     for case in &table.cases {
-        let verdict = verdict_of(rt, alloc, case)?;
-        let about = case.about.as_str();
-        println!(rt; "{verdict}: {about}")?;
+        tell(
+            rt,
+            gives_what_is_expected(rt, alloc, case)?,
+            case.about.as_str(),
+        )?;
     }
-    let form = word_of(table.is_whole);
-    println!(rt; "{form}: The table has its form.")?;
-    tell_faults(rt, alloc, table.cases.as_slice())
+    tell(rt, table.is_whole, "The table has its form.")?;
+    match table.cases.first() {
+        Some(first) => tell_faults(rt, alloc, first),
+        None => tell(rt, false, "There is a case."),
+    }
 }
 
 // What failing streams, other words, long inputs and cut scripts are answered, by the first case's script.
 fn tell_faults<R: Print + Threads + Wait + Sync>(
     rt: &R,
     alloc: Global,
-    cases: &[Case],
+    first: &Case,
 ) -> io::Result<()> {
-    let first = match cases.first() {
-        Some(first) => first,
-        None => return println!(rt; "FAILED: There is a case."),
-    };
-    let reads = word_of(read_faults_are_told(rt, alloc, first)?);
-    println!(rt;
-        "{reads}: A source that fails, at whichever call, is told, and nothing is written."
+    tell(
+        rt,
+        read_faults_are_told(rt, alloc, first)?,
+        "A source that fails, at whichever call, is told, and nothing is written.",
     )?;
-    let writes = word_of(write_faults_are_told(rt, alloc, first)?);
-    println!(rt;
-        "{writes}: A sink that fails, at whichever call, is told, and keeps a front of the text."
+    tell(
+        rt,
+        write_faults_are_told(rt, alloc, first)?,
+        "A sink that fails, at whichever call, is told, and keeps a front of the text.",
     )?;
-    let cuts = word_of(cuts_are_told(rt, alloc, first)?);
-    println!(rt;
-        "{cuts}: A script that is cut behind a line is a script, and one without its last line feed the same."
+    tell(
+        rt,
+        cuts_are_told(rt, alloc, first)?,
+        "A script that is cut behind a line is a script, and one without its last line feed the same.",
     )?;
-    let words = word_of(other_words_are_told(rt, alloc)?);
-    println!(rt; "{words}: Words that are no command are told.")?;
-    let long = word_of(long_input_is_told(rt, alloc)?);
-    println!(rt; "{long}: An input of a byte too many is told.")
+    tell(
+        rt,
+        other_words_are_told(rt, alloc)?,
+        "Words that are no command are told.",
+    )?;
+    tell(
+        rt,
+        long_input_is_told(rt, alloc)?,
+        "An input of a byte too many is told.",
+    )
 }
 
-// Whether a case passed, as a word.
-fn verdict_of<R: Threads + Wait + Sync>(
-    rt: &R,
-    alloc: Global,
-    case: &Case,
-) -> io::Result<&'static str> {
-    Ok(word_of(gives_what_is_expected(rt, alloc, case)?))
-}
-
-fn word_of(passed: bool) -> &'static str {
-    if passed { "passed" } else { "FAILED" }
+// Whether what these words say has passed.
+fn tell<R: Print>(rt: &R, passed: bool, about: &str) -> io::Result<()> {
+    let verdict = if passed { "passed" } else { "FAILED" };
+    println!(rt; "{verdict}: {about}")
 }

@@ -3,7 +3,7 @@
 use std::alloc::{AllocError, Global};
 
 /// What a lane has to come to: its sessions accept a flood of frames, and the last one leaves none.
-#[derive(Drop)]
+#[derive(Clone, Copy)]
 struct LaneFlood {
     sessions: u64,
     frames: u64,
@@ -11,7 +11,7 @@ struct LaneFlood {
 }
 
 /// What of a lane was read so far.
-#[derive(Drop)]
+#[derive(Clone, Copy)]
 struct LaneSeen {
     /// Whether the lines belong to the lane.
     is_open: bool,
@@ -60,8 +60,7 @@ fn lane_is_right(alloc: Global, text: &str, words: &[&str]) -> Result<bool, Allo
         is_right: true,
     };
     for line in text.lines() {
-        let line: Vec<&str> = line.split(' ').collect(alloc)?;
-        take_line(&mut seen, &flood, &[pair, side, queue], &line);
+        take_words(alloc, &mut seen, &flood, &[pair, side, queue], line)?;
     }
     Ok(
         seen.is_right
@@ -69,6 +68,19 @@ fn lane_is_right(alloc: Global, text: &str, words: &[&str]) -> Result<bool, Allo
             && seen.frames == flood.frames
             && seen.left == 0,
     )
+}
+
+// Takes a line of the text by its words.
+fn take_words(
+    alloc: Global,
+    seen: &mut LaneSeen,
+    flood: &LaneFlood,
+    lane: &[&str],
+    line: &str,
+) -> Result<(), AllocError> {
+    let words: Vec<&str> = line.split(' ').collect(alloc)?;
+    take_line(seen, flood, lane, &words);
+    Ok(())
 }
 
 // Takes a line of the text: one of eleven words begins a session, one of three is a frame's.
