@@ -2,9 +2,6 @@
 use Rattle.std.proofs.Common.{◌≡◌, ◌∙◌, ℕ, true, Contains, List, Result, Ok, Err, OnErr, refl, sym, ap, subst}
 use Rattle.step_kinds.specs.declared.names.Side.{Side}
 use Rattle.step_kinds.specs.declared.names.Side.TheVariants.{A, B}
-use Rattle.step_kinds.specs.declared.steps.Step.{Step}
-use Rattle.step_kinds.specs.declared.steps.Answer.TheVariants.{Ok as Done}
-use Rattle.step_kinds.specs.declared.steps.Step.TheVariants.{Enable, Train, Break, DropDone, Offer, Check, Ready, Join, Land, Irq, Mask, Unmask, Spad, Poke, ShowMem, ShowPad, ShowQueue}
 use Rattle.bridge_pair.specs.Bridge.{Bridge, pages_of, with_pages}
 use Rattle.bridge_pair.specs.Writes.{PostedWrite}
 use Rattle.fabric_rule.specs.Moves.{posted_aside}
@@ -14,7 +11,6 @@ use Rattle.hand_shake.specs.declared.CheckAnswer.{CheckAnswer}
 use Rattle.hand_shake.specs.declared.CheckAnswer.TheVariants.{Up}
 use Rattle.plan_model.specs.Link.{is_up}
 use Rattle.fabric_core.specs.Promises.{HasMorePages, with_promised}
-use Rattle.fabric_core.specs.Turns.{bridge_turn, register_turn}
 
 -- A fact that holds anyway holds where a result is an error.
 pub on_err : {X E : Type 0} {P : Type 0} (result : Result X E) → P → OnErr result P
@@ -78,33 +74,6 @@ pub checked_more : (old new : Bridge) (side : Side) → new ≡ with_pages (afte
     → ((page : ℕ) → Contains (pages_of old side) page → Contains (pages_of new side) page) → HasMorePages (after_check old side) new
 checked_more old new side is stay =
     more_pages (after_check old side) new side is (λ page had. stay page (subst (λ pages. Contains pages page) (checked-pages old side (check_answer old side)) had))
-
--- Any step but those of link and handshake, spad, poke and showmem turns the bridge as `register_turn` says.
-pub by_register : (bridge : Bridge) (step : Step) → ((p : ℕ) (side : Side) → step ≡ Enable p side → ⊥) → ((p : ℕ) → step ≡ Train p → ⊥) → ((p : ℕ) → step ≡ Break p → ⊥) → ((p : ℕ) → step ≡ DropDone p → ⊥) → ((p : ℕ) (side : Side) → step ≡ Offer p side → ⊥) → ((p : ℕ) (side : Side) → step ≡ Check p side → ⊥) → ((p : ℕ) (side : Side) (queue : ℕ) → step ≡ Ready p side queue → ⊥) → ((p : ℕ) (side : Side) (queue : ℕ) → step ≡ Join p side queue → ⊥) → ((p : ℕ) (side : Side) (i value : ℕ) → step ≡ Spad p side i value → ⊥) → ((p : ℕ) (side : Side) (window offset : ℕ) (bytes : List ℕ) → step ≡ Poke p side window offset bytes → ⊥) → ((p : ℕ) (side : Side) (at len : ℕ) → step ≡ ShowMem p side at len → ⊥)
-    → bridge_turn bridge step ≡ register_turn bridge step
-by_register bridge (Enable p side) enable train cut drop offer check ready join spad poke mem = absurd (enable p side refl)
-by_register bridge (Train p) enable train cut drop offer check ready join spad poke mem = absurd (train p refl)
-by_register bridge (Break p) enable train cut drop offer check ready join spad poke mem = absurd (cut p refl)
-by_register bridge (DropDone p) enable train cut drop offer check ready join spad poke mem = absurd (drop p refl)
-by_register bridge (Offer p side) enable train cut drop offer check ready join spad poke mem = absurd (offer p side refl)
-by_register bridge (Check p side) enable train cut drop offer check ready join spad poke mem = absurd (check p side refl)
-by_register bridge (Ready p side queue) enable train cut drop offer check ready join spad poke mem = absurd (ready p side queue refl)
-by_register bridge (Join p side queue) enable train cut drop offer check ready join spad poke mem = absurd (join p side queue refl)
-by_register bridge (Spad p side i value) enable train cut drop offer check ready join spad poke mem = absurd (spad p side i value refl)
-by_register bridge (Poke p side window offset bytes) enable train cut drop offer check ready join spad poke mem = absurd (poke p side window offset bytes refl)
-by_register bridge (ShowMem p side at len) enable train cut drop offer check ready join spad poke mem = absurd (mem p side at len refl)
-by_register bridge step enable train cut drop offer check ready join spad poke mem = refl
-
--- a step that is none of these does nothing here
-pub nothing_turned : (bridge : Bridge) (step : Step) → ((p : ℕ) (side : Side) (place : ℕ) → step ≡ Land p side place → ⊥) → ((p : ℕ) (side : Side) → step ≡ Irq p side → ⊥) → ((p : ℕ) (side : Side) (bits : ℕ) → step ≡ Mask p side bits → ⊥) → ((p : ℕ) (side : Side) (bits : ℕ) → step ≡ Unmask p side bits → ⊥) → ((p : ℕ) (side : Side) (i : ℕ) → step ≡ ShowPad p side i → ⊥) → ((p : ℕ) (side : Side) (place : ℕ) → step ≡ ShowQueue p side place → ⊥)
-    → register_turn bridge step ≡ record { answer = Done; bridge = bridge }
-nothing_turned bridge (Land p side place) land irq mask unmask pad queue = absurd (land p side place refl)
-nothing_turned bridge (Irq p side) land irq mask unmask pad queue = absurd (irq p side refl)
-nothing_turned bridge (Mask p side bits) land irq mask unmask pad queue = absurd (mask p side bits refl)
-nothing_turned bridge (Unmask p side bits) land irq mask unmask pad queue = absurd (unmask p side bits refl)
-nothing_turned bridge (ShowPad p side i) land irq mask unmask pad queue = absurd (pad p side i refl)
-nothing_turned bridge (ShowQueue p side place) land irq mask unmask pad queue = absurd (queue p side place refl)
-nothing_turned bridge step land irq mask unmask pad queue = refl
 
 -- a bridge has its own pages
 pub same_pages : (bridge : Bridge) → HasMorePages bridge bridge

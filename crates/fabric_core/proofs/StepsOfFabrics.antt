@@ -14,7 +14,7 @@ use Rattle.step_kinds.specs.declared.plan.Plan.{Plan}
 use Rattle.step_kinds.specs.declared.steps.Answer.{Answer}
 use Rattle.step_kinds.specs.declared.steps.Answer.TheVariants.{Up}
 use Rattle.step_kinds.specs.declared.steps.Step.{Step}
-use Rattle.step_kinds.specs.declared.steps.Step.TheVariants.{Enable, Train, Break, DropDone, Clean, Offer, Check, Ready, Join, Begin, QpDown, Xbegin, Post, Land, Look, Copy, Clear, Ack, Wake, Irq, Mask, Unmask, Spad, Poke, ShowMem, ShowPad, ShowQueue, Relay, Xnext}
+use Rattle.step_kinds.specs.declared.steps.Step.TheVariants.{Check, Ready, Join, Begin, QpDown, Xbegin, Post, Look, Copy, Clear, Ack, Wake, Spad, Poke, ShowMem, ShowPad, Relay, Xnext}
 use Rattle.plan_model.specs.Both.{Both, at_side}
 use Rattle.plan_model.specs.DeclaredPlans.{Agree, IsDeclared, IsPair, IsPairOf, IsPermitted, IsPoke, IsQueueOf, IsShown, SizesFit}
 use Rattle.plan_model.specs.Plans.{no_pair, pair_plan, side_plan}
@@ -186,35 +186,23 @@ queue_there plan k side queue bridge is may = subst (λ (pair : PairPlan). queue
 
 -- A permitted step finds all that it needs of its bridge, where queues are joined and sides come up only if all fits.
 pub can_make : (plan : Plan) (step : Step) (bridge : Bridge) → IsDeclared plan → bridge.plan ≡ pair_plan plan (subject_of step) → Agrees bridge → IsPermitted plan step → CanMake plan.devs bridge step
-can_make plan (Enable p side) bridge declared is agrees may = record { place = tt; queue = tt; bridge = tt }
-can_make plan (Train p) bridge declared is agrees may = record { place = tt; queue = tt; bridge = tt }
-can_make plan (Break p) bridge declared is agrees may = record { place = tt; queue = tt; bridge = tt }
-can_make plan (DropDone p) bridge declared is agrees may = record { place = tt; queue = tt; bridge = tt }
-can_make plan (Clean p side) bridge declared is agrees may = record { place = tt; queue = tt; bridge = tt }
-can_make plan (Offer p side) bridge declared is agrees may = record { place = tt; queue = tt; bridge = tt }
-can_make plan (Check p side) bridge declared is agrees may = record { place = tt; queue = tt; bridge = agrees.up side }
-can_make plan (Ready p side queue) bridge declared is agrees may = record { place = tt; queue = tt; bridge = queue_there plan p side queue bridge is may }
-can_make plan (Join p side queue) bridge declared is agrees may = record { place = tt; queue = tt; bridge = queue_there plan p side queue bridge is may }
-can_make plan (Begin p side queue frame) bridge declared is agrees may = record { place = queue_there plan p side queue bridge is may.0; queue = may.1.0; bridge = tt }
-can_make plan (QpDown p side queue) bridge declared is agrees may = record { place = queue_there plan p side queue bridge is may; queue = tt; bridge = tt }
-can_make plan (Xbegin p side queue dev dst kind payload) bridge declared is agrees may = record { place = queue_there plan p side queue bridge is may.0; queue = (may.1.declared, (declared.devices dev may.1.declared).address, may.2); bridge = tt }
-can_make plan (Post p side queue) bridge declared is agrees may = record { place = queue_there plan p side queue bridge is may; queue = tt; bridge = tt }
-can_make plan (Land p side place) bridge declared is agrees may = record { place = tt; queue = tt; bridge = tt }
-can_make plan (Look p side queue) bridge declared is agrees may = record { place = queue_there plan p side queue bridge is may; queue = tt; bridge = tt }
-can_make plan (Copy p side queue) bridge declared is agrees may = record { place = queue_there plan p side queue bridge is may; queue = tt; bridge = tt }
-can_make plan (Clear p side queue) bridge declared is agrees may = record { place = queue_there plan p side queue bridge is may; queue = tt; bridge = tt }
-can_make plan (Ack p side queue) bridge declared is agrees may = record { place = queue_there plan p side queue bridge is may; queue = tt; bridge = tt }
-can_make plan (Wake p side queue dev) bridge declared is agrees may = record { place = queue_there plan p side queue bridge is may.0; queue = tt; bridge = tt }
-can_make plan (Irq p side) bridge declared is agrees may = record { place = tt; queue = tt; bridge = tt }
-can_make plan (Mask p side bits) bridge declared is agrees may = record { place = tt; queue = tt; bridge = tt }
-can_make plan (Unmask p side bits) bridge declared is agrees may = record { place = tt; queue = tt; bridge = tt }
-can_make plan (Spad p side i value) bridge declared is agrees may = record { place = tt; queue = tt; bridge = may.1.among }
-can_make plan (Poke p side window offset bytes) bridge declared is agrees may = record { place = tt; queue = tt; bridge = subst (λ (pair : PairPlan). IsPoke pair side window offset bytes) (sym is) may.1 }
-can_make plan (ShowMem p side at len) bridge declared is agrees may = record { place = tt; queue = tt; bridge = subst (λ (pair : PairPlan). IsShown (side_plan pair side) at len) (sym is) may.1 }
-can_make plan (ShowPad p side i) bridge declared is agrees may = record { place = tt; queue = tt; bridge = may.1 }
-can_make plan (ShowQueue p side place) bridge declared is agrees may = record { place = tt; queue = tt; bridge = tt }
-can_make plan (Relay p side queue switch port) bridge declared is agrees may = absurd may
-can_make plan (Xnext p side queue dev) bridge declared is agrees may = absurd may
+can_make plan (Check p side) bridge declared is agree may = record { place = tt; queue = tt; bridge = agree.up side }
+can_make plan (Ready p side queue) bridge declared is agree may = record { place = tt; queue = tt; bridge = queue_there plan p side queue bridge is may }
+can_make plan (Join p side queue) bridge declared is agree may = record { place = tt; queue = tt; bridge = queue_there plan p side queue bridge is may }
+can_make plan (Begin p side queue frame) bridge declared is agree may = record { place = queue_there plan p side queue bridge is may.0; queue = may.1.0; bridge = tt }
+can_make plan (QpDown p side queue) bridge declared is agree may = record { place = queue_there plan p side queue bridge is may; queue = tt; bridge = tt }
+can_make plan (Xbegin p side queue dev dst kind payload) bridge declared is agree may = record { place = queue_there plan p side queue bridge is may.0; queue = (may.1.declared, (declared.devices dev may.1.declared).address, may.2); bridge = tt }
+can_make plan (Post p side queue) bridge declared is agree may = record { place = queue_there plan p side queue bridge is may; queue = tt; bridge = tt }
+can_make plan (Look p side queue) bridge declared is agree may = record { place = queue_there plan p side queue bridge is may; queue = tt; bridge = tt }
+can_make plan (Copy p side queue) bridge declared is agree may = record { place = queue_there plan p side queue bridge is may; queue = tt; bridge = tt }
+can_make plan (Clear p side queue) bridge declared is agree may = record { place = queue_there plan p side queue bridge is may; queue = tt; bridge = tt }
+can_make plan (Ack p side queue) bridge declared is agree may = record { place = queue_there plan p side queue bridge is may; queue = tt; bridge = tt }
+can_make plan (Wake p side queue dev) bridge declared is agree may = record { place = queue_there plan p side queue bridge is may.0; queue = tt; bridge = tt }
+can_make plan (Spad p side i value) bridge declared is agree may = record { place = tt; queue = tt; bridge = may.1.among }
+can_make plan (Poke p side window offset bytes) bridge declared is agree may = record { place = tt; queue = tt; bridge = subst (λ (pair : PairPlan). IsPoke pair side window offset bytes) (sym is) may.1 }
+can_make plan (ShowMem p side at len) bridge declared is agree may = record { place = tt; queue = tt; bridge = subst (λ (pair : PairPlan). IsShown (side_plan pair side) at len) (sym is) may.1 }
+can_make plan (ShowPad p side i) bridge declared is agree may = record { place = tt; queue = tt; bridge = may.1 }
+can_make plan step bridge declared is agree may = record { place = tt; queue = tt; bridge = tt }
 
 -- One step more
 
@@ -228,35 +216,24 @@ pub record HasMoved (old new : FabricState) (step : Step) (answer : Answer) : Ty
 
 -- A step that a plan permits is made on one of the plan's pairs.
 pub pair_among : (plan : Plan) (step : Step) → IsPermitted plan step → IsPairOf plan (subject_of step)
-pair_among plan (Enable p side) may = may
-pair_among plan (Train p) may = may
-pair_among plan (Break p) may = may
-pair_among plan (DropDone p) may = may
-pair_among plan (Clean p side) may = may
-pair_among plan (Offer p side) may = may
-pair_among plan (Check p side) may = may
 pair_among plan (Ready p side queue) may = may.declared
 pair_among plan (Join p side queue) may = may.declared
 pair_among plan (Begin p side queue frame) may = may.0.declared
 pair_among plan (QpDown p side queue) may = may.declared
 pair_among plan (Xbegin p side queue dev dst kind payload) may = may.0.declared
 pair_among plan (Post p side queue) may = may.declared
-pair_among plan (Land p side place) may = may
 pair_among plan (Look p side queue) may = may.declared
 pair_among plan (Copy p side queue) may = may.declared
 pair_among plan (Clear p side queue) may = may.declared
 pair_among plan (Ack p side queue) may = may.declared
 pair_among plan (Wake p side queue dev) may = may.0.declared
-pair_among plan (Irq p side) may = may
-pair_among plan (Mask p side bits) may = may
-pair_among plan (Unmask p side bits) may = may
 pair_among plan (Spad p side i value) may = may.0
 pair_among plan (Poke p side window offset bytes) may = may.0
 pair_among plan (ShowMem p side at len) may = may.0
 pair_among plan (ShowPad p side i) may = may.0
-pair_among plan (ShowQueue p side place) may = may
 pair_among plan (Relay p side queue switch port) may = absurd may
 pair_among plan (Xnext p side queue dev) may = absurd may
+pair_among plan step may = may
 
 module _ (plan : Plan) (steps : List Step) (step : Step) (old new : FabricState) (made : HasMade plan steps old) (may : IsPermitted plan step) (answer : Answer) (moves : HasMoved old new step answer) where
   k : ℕ

@@ -5,10 +5,10 @@ use Rattle.step_kinds.specs.declared.names.Side.{Side}
 use Rattle.step_kinds.specs.declared.names.Side.TheVariants.{A, B}
 use Rattle.step_kinds.specs.declared.plan.DevPlan.{DevPlan}
 use Rattle.step_kinds.specs.declared.steps.Answer.{Answer}
-use Rattle.step_kinds.specs.declared.steps.Answer.TheVariants.{OkNumber}
+use Rattle.step_kinds.specs.declared.steps.Answer.TheVariants.{Ok as Done, OkNumber}
 use Rattle.step_kinds.specs.declared.steps.Label.TheVariants.{Raw}
 use Rattle.step_kinds.specs.declared.steps.Step.{Step}
-use Rattle.step_kinds.specs.declared.steps.Step.TheVariants.{Enable, Train, Break, DropDone, Offer, Check, Ready, Join, Begin, Xbegin, Land, Irq, Mask, Unmask, Spad, Poke}
+use Rattle.step_kinds.specs.declared.steps.Step.TheVariants.{Enable, Train, Break, DropDone, Clean, Offer, Check, Ready, Join, Begin, Xbegin, Post, Land, Clear, Ack, Irq, Mask, Unmask, Spad, Poke}
 use Rattle.plan_model.specs.Ethernet.{ethernet_frame}
 use Rattle.plan_model.specs.Link.{is_up}
 use Rattle.plan_model.specs.Pads.{links_pad, pad_index}
@@ -29,13 +29,13 @@ use Rattle.hand_shake.specs.declared.OfferAnswer.{OfferAnswer}
 use Rattle.hand_shake.specs.declared.OfferAnswer.TheVariants.{Offered}
 use Rattle.hand_shake.specs.declared.ReadyAnswer.{ReadyAnswer}
 use Rattle.hand_shake.specs.declared.ReadyAnswer.TheVariants.{Ok as IsReady}
-use Rattle.fabric_rule.specs.Moves.{Move, bridge_move, clean_move, posted_aside, xbegun}
+use Rattle.fabric_rule.specs.Moves.{Move, bridge_move, clean_move, posted_aside, shows, xbegun}
 use Rattle.fabric_rule.specs.Parts.{PairState, QueuePart, plain_bridge, plain_pair, queue_of}
 use Rattle.fabric_rule.specs.Steps.{move_of}
 use Rattle.fabric_core.specs.Promises.{HasMorePages, KeepsPromised, with_promised}
 use Rattle.fabric_core.specs.Turns.{bare_pair, bridge_turn, place_of, queue_turn, turned}
 use Rattle.fabric_core.specs.declared.places.StepPlace.{StepPlace}
-use Rattle.fabric_core.specs.declared.places.StepPlace.TheVariants.{OnQueue, OnSide, OnBridge}
+use Rattle.fabric_core.specs.declared.places.StepPlace.TheVariants.{OnQueue, OnSide, OnBridge, OnSwitch}
 
 -- Where a step is made
 
@@ -44,6 +44,7 @@ abbrev pub IsMadeAt : List DevPlan → PairState → Step → StepPlace → Type
 IsMadeAt devs pair step (OnQueue side queue) = move_of devs pair step ≡ turned pair side queue (queue_turn devs (queue_of pair side queue) pair.bridge step)
 IsMadeAt devs pair step (OnSide side) = move_of devs pair step ≡ clean_move pair side
 IsMadeAt devs pair step OnBridge = move_of devs pair step ≡ bridge_move pair (bridge_turn pair.bridge step).answer (bridge_turn pair.bridge step).bridge
+IsMadeAt devs pair step OnSwitch = move_of devs pair step ≡ shows pair Done
 
 -- of a pair it is the bridge alone that a device's frame needs
 xbegun_bare : (answer : Answer) (pair : PairState) (part : QueuePart) (frame : List ℕ) → xbegun answer pair part frame ≡ xbegun answer (bare_pair pair.bridge) part frame
@@ -126,22 +127,26 @@ aside_keeps bridge side write = at_test (is_up bridge.link.state) where
   at_test true = posted_keeps bridge side write
   at_test false = keeps_all bridge
 
-turn_keeps : (bridge : Bridge) (step : Step) → KeepsPromises bridge (bridge_turn bridge step).bridge
-turn_keeps bridge (Enable p side) = link_steps_keep_promises.enable bridge side
-turn_keeps bridge (Train p) = link_steps_keep_promises.train bridge
-turn_keeps bridge (Break p) = link_steps_keep_promises.cut bridge
-turn_keeps bridge (DropDone p) = link_steps_keep_promises.drop_done bridge
-turn_keeps bridge (Offer p side) = offer_keeps bridge side (offer_answer bridge side)
-turn_keeps bridge (Check p side) = check_keeps bridge side (check_answer bridge side)
-turn_keeps bridge (Ready p side queue) = ready_keeps bridge side queue (ready_answer bridge side queue)
-turn_keeps bridge (Join p side queue) = join_keeps bridge side queue (join_answer bridge side queue)
-turn_keeps bridge (Land p side place) = landing_keeps_promises bridge side place
-turn_keeps bridge (Irq p side) = own_writes_keep_promises.bells bridge side _
-turn_keeps bridge (Mask p side bits) = own_writes_keep_promises.bells bridge side _
-turn_keeps bridge (Unmask p side bits) = own_writes_keep_promises.bells bridge side _
-turn_keeps bridge (Spad p side i value) = aside_keeps bridge side (pad_write i value)
-turn_keeps bridge (Poke p side window offset bytes) = aside_keeps bridge side (memory_write (Raw window offset (length bytes)) window offset bytes)
-turn_keeps bridge step = keeps_all bridge
+turn_keeps : (bridge : Bridge) (step : Step) → place_of step ≡ OnBridge → KeepsPromises bridge (bridge_turn bridge step).bridge
+turn_keeps bridge (Enable p side) there = link_steps_keep_promises.enable bridge side
+turn_keeps bridge (Train p) there = link_steps_keep_promises.train bridge
+turn_keeps bridge (Break p) there = link_steps_keep_promises.cut bridge
+turn_keeps bridge (DropDone p) there = link_steps_keep_promises.drop_done bridge
+turn_keeps bridge (Offer p side) there = offer_keeps bridge side (offer_answer bridge side)
+turn_keeps bridge (Check p side) there = check_keeps bridge side (check_answer bridge side)
+turn_keeps bridge (Ready p side queue) there = ready_keeps bridge side queue (ready_answer bridge side queue)
+turn_keeps bridge (Join p side queue) there = join_keeps bridge side queue (join_answer bridge side queue)
+turn_keeps bridge (Land p side place) there = landing_keeps_promises bridge side place
+turn_keeps bridge (Irq p side) there = own_writes_keep_promises.bells bridge side _
+turn_keeps bridge (Mask p side bits) there = own_writes_keep_promises.bells bridge side _
+turn_keeps bridge (Unmask p side bits) there = own_writes_keep_promises.bells bridge side _
+turn_keeps bridge (Spad p side i value) there = aside_keeps bridge side (pad_write i value)
+turn_keeps bridge (Poke p side window offset bytes) there = aside_keeps bridge side (memory_write (Raw window offset (length bytes)) window offset bytes)
+turn_keeps bridge (Clean p side) there = absurd (cc there)
+turn_keeps bridge (Post p side queue) there = absurd (cc there)
+turn_keeps bridge (Clear p side queue) there = absurd (cc there)
+turn_keeps bridge (Ack p side queue) there = absurd (cc there)
+turn_keeps bridge step there = keeps_all bridge
 
 -- and further pages may be promised
 
@@ -168,9 +173,9 @@ pub more_plain : (old new : Bridge) → HasMorePages old new → plain_bridge ne
 more_plain old new more = ap plain_bridge more.rest
 
 -- A step on the bridge, with further pages promised, keeps the plan, all promised pages and each side's room.
-pub turn_promised : (old new : Bridge) (step : Step) → HasMorePages (bridge_turn old step).bridge new → KeepsPromised old new
-turn_promised old new step more =
-    kept_twice old (bridge_turn old step).bridge new (still old (bridge_turn old step).bridge (turn_keeps old step)) (more_keeps (bridge_turn old step).bridge new more)
+pub turn_promised : (old new : Bridge) (step : Step) → place_of step ≡ OnBridge → HasMorePages (bridge_turn old step).bridge new → KeepsPromised old new
+turn_promised old new step there more =
+    kept_twice old (bridge_turn old step).bridge new (still old (bridge_turn old step).bridge (turn_keeps old step there)) (more_keeps (bridge_turn old step).bridge new more)
 
 -- A bridge that has further pages promised keeps its plan, all promised pages and each side's room.
 pub more_promised : (old new : Bridge) → HasMorePages old new → KeepsPromised old new

@@ -5,7 +5,7 @@ use Rattle.step_kinds.specs.declared.plan.DevPlan.{DevPlan}
 use Rattle.step_kinds.specs.declared.steps.Answer.{Answer}
 use Rattle.step_kinds.specs.declared.steps.Answer.TheVariants.{Ok as Done, Stopped, Awake}
 use Rattle.step_kinds.specs.declared.steps.Step.{Step}
-use Rattle.step_kinds.specs.declared.steps.Step.TheVariants.{Enable, Train, Break, DropDone, Clean, Offer, Check, Ready, Join, Begin, QpDown, Xbegin, Post, Land, Look, Copy, Clear, Ack, Wake, Irq, Mask, Unmask, Spad, Poke, ShowMem, ShowPad, ShowQueue}
+use Rattle.step_kinds.specs.declared.steps.Step.TheVariants.{Clean, Begin, QpDown, Xbegin, Post, Look, Copy, Clear, Ack, Wake, Relay, Xnext}
 use Rattle.plan_model.specs.Both.{both_of}
 use Rattle.plan_model.specs.Device.{count_accepted, count_refused, stays_stopped, stopped_after_send}
 use Rattle.plan_model.specs.Ethernet.{ethernet_frame}
@@ -16,12 +16,13 @@ use Rattle.frame_ring.specs.Port.{PortState}
 use Rattle.queue_pair.specs.Gates.{begin_answer, after_begin, qpdown_answer, after_qpdown, look_answer, after_look}
 use Rattle.queue_pair.specs.Queue.{with_port}
 use Rattle.fabric_rule.specs.Answers.{of_begin, of_xbegin, of_post, of_look, of_copy, of_clear, of_ack}
-use Rattle.fabric_rule.specs.Moves.{Move, accepted_where_begun, break_move, check_move, delivered_where_whole, drop_move, enable_move, irq_move, join_move, land_move, mask_move, offer_move, poke_move, ready_move, show_mem_move, show_pad_move, show_queue_move, spad_move, train_move, unmask_move, xbegun}
+use Rattle.fabric_rule.specs.Moves.{Move, accepted_where_begun, delivered_where_whole, xbegun}
 use Rattle.fabric_rule.specs.Parts.{PairState, QueuePart, with_bridge, with_queue}
+use Rattle.fabric_rule.specs.Steps.{move_of}
 use Rattle.fabric_core.specs.declared.places.StepPlace.{StepPlace}
-use Rattle.fabric_core.specs.declared.places.StepPlace.TheVariants.{OnQueue, OnSide, OnBridge}
+use Rattle.fabric_core.specs.declared.places.StepPlace.TheVariants.{OnQueue, OnSide, OnBridge, OnSwitch}
 
--- Where a step is made: on a queue of a side, on all queues of a side, or on the bridge alone.
+-- Where a step is made: on a queue of a side, on all queues of a side, on a switch above all pairs, or on the bridge alone.
 abbrev pub place_of : Step → StepPlace
 place_of (Begin p side queue frame) = OnQueue side queue
 place_of (QpDown p side queue) = OnQueue side queue
@@ -33,6 +34,8 @@ place_of (Clear p side queue) = OnQueue side queue
 place_of (Ack p side queue) = OnQueue side queue
 place_of (Wake p side queue dev) = OnQueue side queue
 place_of (Clean p side) = OnSide side
+place_of (Relay p side queue switch port) = OnSwitch
+place_of (Xnext p side queue dev) = OnSwitch
 place_of step = OnBridge
 
 -- The bridge alone
@@ -48,30 +51,9 @@ bare_pair bridge = record { bridge = bridge; queues = both_of [] }
 abbrev pub of_move : Move → BridgeTurn
 of_move move = record { answer = move.answer; bridge = move.after.bridge }
 
--- landings, doorbells, and what is shown of scratchpads and lists in flight; other steps do nothing here
-abbrev pub register_turn : Bridge → Step → BridgeTurn
-register_turn bridge (Land p side place) = of_move (land_move (bare_pair bridge) side place)
-register_turn bridge (Irq p side) = of_move (irq_move (bare_pair bridge) side)
-register_turn bridge (Mask p side bits) = of_move (mask_move (bare_pair bridge) side bits)
-register_turn bridge (Unmask p side bits) = of_move (unmask_move (bare_pair bridge) side bits)
-register_turn bridge (ShowPad p side i) = of_move (show_pad_move (bare_pair bridge) side i)
-register_turn bridge (ShowQueue p side place) = of_move (show_queue_move (bare_pair bridge) side place)
-register_turn bridge step = record { answer = Done; bridge = bridge }
-
--- the link and the handshake, writes past the transport, what is shown of memories, and the others
+-- what a step that is made on the bridge does to it
 abbrev pub bridge_turn : Bridge → Step → BridgeTurn
-bridge_turn bridge (Enable p side) = of_move (enable_move (bare_pair bridge) side)
-bridge_turn bridge (Train p) = of_move (train_move (bare_pair bridge))
-bridge_turn bridge (Break p) = of_move (break_move (bare_pair bridge))
-bridge_turn bridge (DropDone p) = of_move (drop_move (bare_pair bridge))
-bridge_turn bridge (Offer p side) = of_move (offer_move (bare_pair bridge) side)
-bridge_turn bridge (Check p side) = of_move (check_move (bare_pair bridge) side)
-bridge_turn bridge (Ready p side queue) = of_move (ready_move (bare_pair bridge) side queue)
-bridge_turn bridge (Join p side queue) = of_move (join_move (bare_pair bridge) side queue)
-bridge_turn bridge (Spad p side i value) = of_move (spad_move (bare_pair bridge) side i value)
-bridge_turn bridge (Poke p side window offset bytes) = of_move (poke_move (bare_pair bridge) side window offset bytes)
-bridge_turn bridge (ShowMem p side at len) = of_move (show_mem_move (bare_pair bridge) side at len)
-bridge_turn bridge step = register_turn bridge step
+bridge_turn bridge step = of_move (move_of [] (bare_pair bridge) step)
 
 -- One queue
 

@@ -10,7 +10,8 @@ ghost use Rattle.bridge_pair.specs.Writes.{memory_write, pad_write};
 ghost use Rattle.bridge_regs.specs.Doorbell.{with_masked};
 ghost use Rattle.fabric_core.specs.Fabric.{may_want_memory};
 ghost use Rattle.fabric_core.specs.Promises.{CanTurn, HasMorePages};
-ghost use Rattle.fabric_core.specs.Turns.{bridge_turn, register_turn};
+ghost use Rattle.fabric_core.specs.Turns.{bridge_turn, place_of};
+ghost use Rattle.fabric_core.specs.declared.places.StepPlace.TheVariants.{OnBridge};
 ghost use Rattle.fabric_rule.specs.Answers.{of_link};
 ghost use Rattle.fabric_rule.specs.Moves.{posted_aside};
 ghost use Rattle.hand_shake.specs.Offers.{with_posted};
@@ -34,14 +35,15 @@ use queue_pair::irq;
 use std::alloc::{AllocError, Global};
 use step_kinds::{Answer, Frame, Label, Side, Step};
 
-/// Makes a step on the bridge and answers it. A step on queues changes nothing here.
+/// Makes a step on the bridge and answers it.
 ///
 /// # Errors
 ///
 /// [`AllocError`] from out of memory alone. Further pages may then be promised, and nothing else changes.
 #[inline(always)]
 pub fn bridge_step(pair: &mut Pair, alloc: Global, step: &Step) -> Result<Answer, AllocError>
-    requires { CanTurn pair.old step.now }
+    requires place { place_of step.now ≡ OnBridge }
+    requires can { CanTurn pair.old step.now }
     ensures answer { IfOk result (λ answer. answer ≡ (bridge_turn pair.old step.now).answer) }
     ensures after { OnOk result (HasMorePages (bridge_turn pair.old step.now).bridge pair.new) }
     ensures err { OnErr result (HasMorePages pair.old pair.new) }
@@ -57,6 +59,12 @@ pub fn bridge_step(pair: &mut Pair, alloc: Global, step: &Step) -> Result<Answer
         Step::Check { side, .. } => Ok(check_answer(check(pair, *side)?)),
         Step::Ready { side, queue, .. } => Ok(ready_answer(ready(pair, *side, *queue)?)),
         Step::Join { side, queue, .. } => Ok(join_answer(join(pair, *side, *queue))),
+        Step::Land { side, place, .. } => Ok(land_answer(pair.land(*side, *place as usize))),
+        Step::Irq { side, .. } => Ok(Answer::Irq {
+            bits: irq(pair, *side),
+        }),
+        Step::Mask { side, bits, .. } => Ok(mask(pair, *side, *bits)),
+        Step::Unmask { side, bits, .. } => Ok(unmask(pair, *side, *bits)),
         Step::Spad {
             side,
             index,
@@ -71,29 +79,22 @@ pub fn bridge_step(pair: &mut Pair, alloc: Global, step: &Step) -> Result<Answer
             ..
         } => poke(pair, *side, *window, *offset, bytes),
         Step::ShowMem { side, at, len, .. } => shown_memory(pair, alloc, *side, *at, *len),
-        _ => Ok(register_step(pair, step)),
-    }
-}
-
-// The steps that are never out of memory, but for those of the link.
-#[inline(always)]
-fn register_step(pair: &mut Pair, step: &Step) -> Answer
-    requires { CanTurn pair.old step.now }
-    ensures answer { result ≡ (register_turn pair.old step.now).answer }
-    ensures after { pair.new ≡ (register_turn pair.old step.now).bridge }
-{
-    match step {
-        Step::Land { side, place, .. } => land_answer(pair.land(*side, *place as usize)),
-        Step::Irq { side, .. } => Answer::Irq {
-            bits: irq(pair, *side),
-        },
-        Step::Mask { side, bits, .. } => mask(pair, *side, *bits),
-        Step::Unmask { side, bits, .. } => unmask(pair, *side, *bits),
-        Step::ShowPad { side, index, .. } => Answer::PadValue {
+        Step::ShowPad { side, index, .. } => Ok(Answer::PadValue {
             value: pair.pad(*side, *index),
-        },
-        Step::ShowQueue { side, place, .. } => shown_queue(pair, *side, *place),
-        _ => Answer::Ok,
+        }),
+        Step::ShowQueue { side, place, .. } => Ok(shown_queue(pair, *side, *place)),
+        Step::Clean { .. }
+        | Step::Begin { .. }
+        | Step::QpDown { .. }
+        | Step::Xbegin { .. }
+        | Step::Post { .. }
+        | Step::Look { .. }
+        | Step::Copy { .. }
+        | Step::Clear { .. }
+        | Step::Ack { .. }
+        | Step::Wake { .. }
+        | Step::Relay { .. }
+        | Step::Xnext { .. } => unreachable!(),
     }
 }
 

@@ -7,8 +7,9 @@ ghost use Rattle.fabric_core.specs.InFlight.{pair_key, pair_key_without};
 ghost use Rattle.fabric_core.specs.Parts.{Agrees, AreAlone, AreFreshQueues, AreLimitsOn, CanForget, CanMake, CanTurnQueue, HasOtherRoom, KeepsPort};
 ghost use Rattle.fabric_core.specs.Promises.{CanTurn};
 ghost use Rattle.fabric_core.specs.Same.{AreOfOneSide, AreSameParts, HasSameQueues, IsSamePair, LandsAsPair};
-ghost use Rattle.fabric_core.specs.Turns.{bridge_turn, queue_turn, turned};
+ghost use Rattle.fabric_core.specs.Turns.{bridge_turn, place_of as place_of_step, queue_turn, turned};
 ghost use Rattle.fabric_core.specs.Wants.{MayWant, counters_at};
+ghost use Rattle.fabric_core.specs.declared.places.StepPlace.TheVariants.{OnBridge};
 ghost use Rattle.ledger_laws.specs.Laws.{is_made};
 ghost use Rattle.fabric_rule.specs.Laws.{IsFreshPair};
 ghost use Rattle.fabric_rule.specs.Moves.{bridge_move, clean_move, forgotten_queue};
@@ -83,13 +84,15 @@ impl PairBox {
             StepPlace::OnQueue { side, queue } => self.queue_step(side, queue, devs, step),
             StepPlace::OnSide { side } => Ok(self.clean(side)),
             StepPlace::OnBridge => self.step_aside(step),
+            StepPlace::OnSwitch => Ok(Answer::Ok),
         }
     }
 
     // Makes a step on the bridge alone.
     #[inline(always)]
     fn step_aside(&mut self, step: &Step) -> Result<Answer, AllocError>
-        requires { CanTurn self.old.bridge step.now }
+        requires place { place_of_step step.now ≡ OnBridge }
+        requires can { CanTurn self.old.bridge step.now }
         ensures answer { IfOk result (λ answer. answer ≡ (bridge_turn self.old.bridge step.now).answer) }
         ensures after { OnOk result (plain_pair self.new ≡ plain_pair (bridge_move self.old (bridge_turn self.old.bridge step.now).answer (bridge_turn self.old.bridge step.now).bridge).after) }
         ensures err { OnErr result (plain_pair self.new ≡ plain_pair self.old) }

@@ -14,6 +14,8 @@ pub enum StepPlace {
     OnSide { side: Side },
     /// The bridge alone.
     OnBridge,
+    /// No part of a pair: a switch makes the step, above all pairs.
+    OnSwitch,
 }
 
 /// Where a step is made.
@@ -50,8 +52,7 @@ pub fn place_of(step: &Step) -> StepPlace
         | Step::Poke { .. }
         | Step::ShowMem { .. }
         | Step::ShowPad { .. }
-        | Step::ShowQueue { .. }
-        | Step::Relay { .. }
-        | Step::Xnext { .. } => StepPlace::OnBridge,
+        | Step::ShowQueue { .. } => StepPlace::OnBridge,
+        Step::Relay { .. } | Step::Xnext { .. } => StepPlace::OnSwitch,
     }
 }

@@ -8,7 +8,7 @@ use Rattle.fabric_core.proofs.pairs.PairBox.step_aside.Goals as goal
 
 pub invariant_of-self : goal.invariant_of-self
 invariant_of-self c =
-    stepped_whole (pair_seen c.self.inside) c.bridge_step.new.pair c.args.step.now c.bridge_step.result c.self.invariant c.bridge_step.ensures.after c.bridge_step.ensures.err
+    stepped_whole (pair_seen c.self.inside) c.bridge_step.new.pair c.args.step.now c.bridge_step.result c.requires.place c.self.invariant c.bridge_step.ensures.after c.bridge_step.ensures.err
 
 pub returns-clause-answer : goal.returns-clause-answer
 returns-clause-answer c =
