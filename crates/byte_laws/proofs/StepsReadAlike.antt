@@ -81,7 +81,7 @@ module _ (plan : PairPlan) (bytes : Bytes) (now : PairPart) where
   Alike side queue = ReadAlike plan bytes now side queue
 
   full_alike : (side : Side) (queue needed : ℕ) → Alike side queue → has_bit (side_of now side).joined queue ≡ true
-      → refuse_full (sizes_of plan side queue) InMemory (lane_of now side queue) side queue needed ≡ refuse_full (sizes_of plan side queue) InLedger (lane_of now side queue) side queue needed
+      → refuse_full (sizes_of plan side queue) InMemory (lane_of now side queue) side queue needed None ≡ refuse_full (sizes_of plan side queue) InLedger (lane_of now side queue) side queue needed None
   full_alike side queue needed alike joined =
       two_alike (λ free word. refuse_if (nat_lt free needed) (Again (head_in (sizes_of plan side queue) (lane_of now side queue)) word) None) (alike.free joined) (alike.index_word joined)
 

@@ -13,6 +13,7 @@ use Rattle.lane_model.specs.Tests.{is_empty_list, is_idle, is_copying, is_copied
 use Rattle.lane_model.specs.declared.Phase.TheVariants.{Idle, Copying, Copied, Cleared}
 use Rattle.plan_model.specs.Labels.{labels_of}
 use Rattle.plan_model.specs.Pieces.{pieces_of}
+use Rattle.plan_model.specs.Refusals.{Test, OfLength, OfBusy, OfRoom, OfPhase, in_begin_order, in_look_order}
 use Rattle.plan_model.specs.Sizes.{Sizes, sizes_of, pieces_in}
 use Rattle.byte_model.specs.Addresses.{own_header, own_index_word}
 use Rattle.byte_model.specs.Headers.{Found, NoEntry, ALinkDownEntry, AnotherVersion, TooManyBytes, AnEntry, found_in_memory, part_in_memory, index_word_in, free_in_memory, flags_offset}
@@ -51,18 +52,29 @@ abbrev pub refuses_answer : PortState → ℕ → Bool
 refuses_answer port len = nat_lt (sizes_seen port).most len || is_busy port.sending
 
 -- where so many entries are wanted
+abbrev pub unless_full : PortState → Bridge → ℕ → Begun → Begun
+unless_full port bridge needed later =
+    if nat_lt (free_seen port bridge) needed then NoRoom (head_seen port) (index_word_seen port bridge) else later
+
 abbrev pub room_answer : PortState → Bridge → ℕ → Begun
-room_answer port bridge needed =
-    if nat_lt (free_seen port bridge) needed then NoRoom (head_seen port) (index_word_seen port bridge) else BegunOk port.sending.told
+room_answer port bridge needed = unless_full port bridge needed (BegunOk port.sending.told)
+
+-- the port's tests of a beginning that takes so many entries
+abbrev pub entry_tests : PortState → Bridge → ℕ → Test → Begun → Begun
+entry_tests port bridge needed OfBusy later = if is_busy port.sending then Busy else later
+entry_tests port bridge needed OfRoom later = unless_full port bridge needed later
+entry_tests port bridge needed test later = later
+
+-- and those of a frame of so many bytes
+abbrev pub frame_tests : PortState → Bridge → ℕ → Test → Begun → Begun
+frame_tests port bridge len OfLength later = if nat_lt (sizes_seen port).most len then TooLong len (sizes_seen port).most else later
+frame_tests port bridge len test later = entry_tests port bridge (pieces_in (sizes_seen port).largest len) test later
 
 abbrev pub begin_answer : PortState → Bridge → ℕ → Begun
-begin_answer port bridge len =
-    if nat_lt (sizes_seen port).most len then TooLong len (sizes_seen port).most
-    else if is_busy port.sending then Busy
-    else room_answer port bridge (pieces_in (sizes_seen port).largest len)
+begin_answer port bridge len = in_begin_order (frame_tests port bridge len) (BegunOk port.sending.told)
 
 abbrev pub down_answer : PortState → Bridge → Begun
-down_answer port bridge = if is_busy port.sending then Busy else room_answer port bridge 1
+down_answer port bridge = in_begin_order (entry_tests port bridge 1) (BegunOk port.sending.told)
 
 -- a frame of so many bytes is begun, and not refused
 abbrev pub BeginsFrame : PortState → Bridge → ℕ → Type 0
@@ -130,8 +142,12 @@ look_found receiving (AnotherVersion seen own) = VerDiffers seen own
 look_found receiving (TooManyBytes len most) = Long len most
 look_found receiving (AnEntry len left) = Ready receiving.got len
 
+abbrev pub port_look_tests : PortState → Test → RingLook → RingLook
+port_look_tests port OfPhase later = if is_idle port.receiving.phase then later else OutOfTurn
+port_look_tests port test later = later
+
 abbrev pub look_answer : PortState → Bridge → RingLook
-look_answer port bridge = if is_idle port.receiving.phase then look_found port.receiving (found_seen port bridge) else OutOfTurn
+look_answer port bridge = in_look_order (port_look_tests port) (look_found port.receiving (found_seen port bridge))
 
 abbrev pub entry_found : Receiving → Found → Receiving
 entry_found receiving (AnEntry len left) = record receiving { phase = Copying; part = 0; len = len; left = left }

@@ -1,11 +1,11 @@
 -- Checking: a side compares the peer's offer, as it stands in the side's own scratchpads, with its own numbers.
-use Rattle.std.specs.Prelude.{◌≡◌, ℕ, ◌+◌, ◌*◌, ◌==◌, ◌&&◌, ◌||◌, ◌⊎◌, not, nat_lt, true, Option, Some, None, List, ◌++◌, find, slice_index, if◌then◌else◌}
-use Rattle.lane_model.specs.Lane.{count_from}
-use Rattle.plan_model.specs.Pads.{word}
+use Rattle.std.specs.Prelude.{◌≡◌, ℕ, ◌==◌, ◌⊎◌, not, true, Option, Some, None, List, ◌++◌, slice_index, if◌then◌else◌}
 use Rattle.plan_model.specs.Link.{is_up}
 use Rattle.byte_model.specs.FreshRings.{fresh_index_words, zeroed_headers}
-use Rattle.plan_model.specs.Pads.{version_pad, queues_pad, windows_pad, high_pad, low_pad}
+use Rattle.plan_model.specs.Pads.{version_pad, queues_pad, windows_pad, size_in, versions_differ, first_larger}
 use Rattle.plan_model.specs.Plans.{side_plan}
+use Rattle.plan_model.specs.Refusals.{Test, OfLink, OfCheck, OfOffer, OfVersion, OfQueues, OfWindows, OfSizes, in_check_order}
+use Rattle.step_kinds.specs.declared.plan.SidePlan.{SidePlan}
 use Rattle.step_kinds.specs.declared.names.Side.{Side}
 use Rattle.step_kinds.specs.declared.plan.PairPlan.{PairPlan}
 use Rattle.bridge_pair.specs.Bridge.{Bridge, book_of, bytes_of, pads_of, with_book, with_bytes}
@@ -15,35 +15,36 @@ use Rattle.hand_shake.specs.Headers.{TouchesHeader}
 use Rattle.hand_shake.specs.declared.CheckAnswer.{CheckAnswer}
 use Rattle.hand_shake.specs.declared.CheckAnswer.TheVariants.{Up, Already, LinkDown, NotYet, Version, Queues, Windows, Size}
 
--- a scratchpad of the side's own, and the size of a window that two of them say
+-- a scratchpad of the side's own
 abbrev pub pad_at : Bridge → Side → ℕ → ℕ
 pad_at bridge side i = slice_index (pads_of bridge side) i
 
-abbrev pub size_at : Bridge → Side → ℕ → ℕ
-size_at bridge side m = pad_at bridge side (high_pad m) * word + pad_at bridge side (low_pad m)
+-- where a number of the peer differs from the own
+abbrev pub unless_same : ℕ → ℕ → (ℕ → ℕ → CheckAnswer) → CheckAnswer → CheckAnswer
+unless_same seen own refusal later = if not (seen == own) then refusal seen own else later
 
--- the first window of the peer that is larger than the own memory gives
-abbrev pub first_larger : Bridge → Side → Option ℕ
-first_larger bridge side = find (λ m. nat_lt (side_plan bridge.plan side).cap (size_at bridge side m)) (count_from 0 (side_plan bridge.plan side).windows)
+-- where a window of the peer is larger than the own memory gives: the first such window
+abbrev pub unless_larger : SidePlan → List ℕ → Option ℕ → CheckAnswer → CheckAnswer
+unless_larger own pads None later = later
+unless_larger own pads (Some m) later = Size (size_in pads m) own.cap
 
-abbrev pub size_answer : Bridge → Side → Option ℕ → CheckAnswer
-size_answer bridge side None = Up
-size_answer bridge side (Some m) = Size (size_at bridge side m) (side_plan bridge.plan side).cap
-
--- versions that differ agree where both are 4 at least: the older one is spoken
-abbrev pub check_answer : Bridge → Side → CheckAnswer
-check_answer bridge side =
+abbrev pub check_tests : Bridge → Side → Test → CheckAnswer → CheckAnswer
+check_tests bridge side OfLink later = if not (is_up bridge.link.state) then LinkDown else later
+check_tests bridge side OfCheck later = if (book_of bridge side).up then Already else later
+check_tests bridge side OfOffer later = if pad_at bridge side version_pad == 0 then NotYet else later
+check_tests bridge side OfVersion later =
+    let own = (side_plan bridge.plan side).version in
+    let seen = pad_at bridge side version_pad in
+    if versions_differ seen own then Version seen own else later
+check_tests bridge side OfQueues later = unless_same (pad_at bridge side queues_pad) (side_plan bridge.plan side).queues Queues later
+check_tests bridge side OfWindows later = unless_same (pad_at bridge side windows_pad) (side_plan bridge.plan side).windows Windows later
+check_tests bridge side OfSizes later =
     let own = side_plan bridge.plan side in
-    let version = pad_at bridge side version_pad in
-    let queues = pad_at bridge side queues_pad in
-    let windows = pad_at bridge side windows_pad in
-    if not (is_up bridge.link.state) then LinkDown
-    else if (book_of bridge side).up then Already
-    else if version == 0 then NotYet
-    else if not (version == own.version) && (nat_lt version 4 || nat_lt own.version 4) then Version version own.version
-    else if not (queues == own.queues) then Queues queues own.queues
-    else if not (windows == own.windows) then Windows windows own.windows
-    else size_answer bridge side (first_larger bridge side)
+    unless_larger own (pads_of bridge side) (first_larger own (pads_of bridge side)) later
+check_tests bridge side test later = later
+
+abbrev pub check_answer : Bridge → Side → CheckAnswer
+check_answer bridge side = in_check_order (check_tests bridge side) Up
 
 -- all headers of the rings that the side receives in are zero, and its index words say that no entry is taken
 abbrev pub fresh_rings : Bridge → Side → List ℕ

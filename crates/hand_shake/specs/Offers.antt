@@ -6,6 +6,7 @@ use Rattle.step_kinds.specs.declared.steps.Label.TheVariants.{Pad}
 use Rattle.plan_model.specs.Pads.{offers, pad_index}
 use Rattle.plan_model.specs.Link.{is_up}
 use Rattle.plan_model.specs.Plans.{side_plan}
+use Rattle.plan_model.specs.Refusals.{Test, OfLink, OfOffer, in_offer_order}
 use Rattle.bridge_pair.specs.Bridge.{Bridge, book_of, flight_of, with_book, with_flight}
 use Rattle.bridge_pair.specs.Flights.{flying_of}
 use Rattle.bridge_pair.specs.Writes.{PostedWrite, pad_write}
@@ -25,11 +26,13 @@ pad_value label = 0
 abbrev pub next_offer : Bridge → Side → Label
 next_offer bridge side = slice_index_or (offers (side_plan bridge.plan side)) (book_of bridge side).offered (Pad 0 0)
 
+abbrev pub offer_tests : Bridge → Side → Test → OfferAnswer → OfferAnswer
+offer_tests bridge side OfLink later = if not (is_up bridge.link.state) then LinkDown else later
+offer_tests bridge side OfOffer later = if (book_of bridge side).offered == length (offers (side_plan bridge.plan side)) then Already else later
+offer_tests bridge side test later = later
+
 abbrev pub offer_answer : Bridge → Side → OfferAnswer
-offer_answer bridge side =
-    if not (is_up bridge.link.state) then LinkDown
-    else if (book_of bridge side).offered == length (offers (side_plan bridge.plan side)) then Already
-    else Offered (pad_index (next_offer bridge side))
+offer_answer bridge side = in_offer_order (offer_tests bridge side) (Offered (pad_index (next_offer bridge side)))
 
 abbrev pub offered : Bridge → Side → Bridge
 offered bridge side =

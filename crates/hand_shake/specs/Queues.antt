@@ -4,6 +4,7 @@ use Rattle.step_kinds.specs.Bits.{has_bit, with_bit}
 use Rattle.step_kinds.specs.declared.names.Side.{Side}
 use Rattle.plan_model.specs.Link.{is_up}
 use Rattle.plan_model.specs.Pads.{links_pad}
+use Rattle.plan_model.specs.Refusals.{Test, OfLink, OfCheck, OfReady, OfJoined, OfPeer, in_ready_order, in_join_order}
 use Rattle.bridge_pair.specs.Bridge.{Bridge, book_of, pads_of, with_book}
 use Rattle.bridge_pair.specs.Writes.{pad_write}
 use Rattle.hand_shake.specs.Offers.{with_posted}
@@ -12,12 +13,14 @@ use Rattle.hand_shake.specs.declared.ReadyAnswer.TheVariants.{Ok as IsReady, Alr
 use Rattle.hand_shake.specs.declared.JoinAnswer.{JoinAnswer}
 use Rattle.hand_shake.specs.declared.JoinAnswer.TheVariants.{Joined, Already as JoinedAlready, NotReady, NotYet, LinkDown as JoinLinkDown}
 
+abbrev pub ready_tests : Bridge → Side → ℕ → Test → ReadyAnswer → ReadyAnswer
+ready_tests bridge side queue OfLink later = if not (is_up bridge.link.state) then LinkDown else later
+ready_tests bridge side queue OfCheck later = if not (book_of bridge side).up then NotChecked else later
+ready_tests bridge side queue OfReady later = if has_bit (book_of bridge side).ready queue then Already else later
+ready_tests bridge side queue test later = later
+
 abbrev pub ready_answer : Bridge → Side → ℕ → ReadyAnswer
-ready_answer bridge side queue =
-    if not (is_up bridge.link.state) then LinkDown
-    else if not (book_of bridge side).up then NotChecked
-    else if has_bit (book_of bridge side).ready queue then Already
-    else IsReady
+ready_answer bridge side queue = in_ready_order (ready_tests bridge side queue) IsReady
 
 -- the queue is ready, and the peer is told of all that are
 abbrev pub made_ready : Bridge → Side → ℕ → Bridge
@@ -32,13 +35,15 @@ after_ready_answer bridge side queue answer = bridge
 abbrev pub after_ready : Bridge → Side → ℕ → Bridge
 after_ready bridge side queue = after_ready_answer bridge side queue (ready_answer bridge side queue)
 
+abbrev pub join_tests : Bridge → Side → ℕ → Test → JoinAnswer → JoinAnswer
+join_tests bridge side queue OfLink later = if not (is_up bridge.link.state) then JoinLinkDown else later
+join_tests bridge side queue OfReady later = if not (has_bit (book_of bridge side).ready queue) then NotReady else later
+join_tests bridge side queue OfJoined later = if has_bit (book_of bridge side).joined queue then JoinedAlready else later
+join_tests bridge side queue OfPeer later = if not (has_bit (slice_index (pads_of bridge side) links_pad) queue) then NotYet else later
+join_tests bridge side queue test later = later
+
 abbrev pub join_answer : Bridge → Side → ℕ → JoinAnswer
-join_answer bridge side queue =
-    if not (is_up bridge.link.state) then JoinLinkDown
-    else if not (has_bit (book_of bridge side).ready queue) then NotReady
-    else if has_bit (book_of bridge side).joined queue then JoinedAlready
-    else if not (has_bit (slice_index (pads_of bridge side) links_pad) queue) then NotYet
-    else Joined
+join_answer bridge side queue = in_join_order (join_tests bridge side queue) Joined
 
 abbrev pub after_join_answer : Bridge → Side → ℕ → JoinAnswer → Bridge
 after_join_answer bridge side queue Joined = with_book bridge side (record (book_of bridge side) { joined = with_bit (book_of bridge side).joined queue })

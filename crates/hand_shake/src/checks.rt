@@ -1,12 +1,13 @@
 //! Checking.
 
 ghost use Rattle.std.specs.Prelude.{◌≡◌, ◌≢◌, ◌≤◌, ◌<◌, IfOk, OnErr, OnOk, Option, Some, None, option_map};
-ghost use Rattle.bridge_pair.specs.Bridge.{bytes_of, pages_of, with_pages};
+ghost use Rattle.bridge_pair.specs.Bridge.{bytes_of, pads_of, pages_of, with_pages};
 ghost use Rattle.bridge_pair.specs.Pages.{PagesGrow};
 ghost use Rattle.plan_numbers.specs.Memories.{WindowsFit};
-ghost use Rattle.hand_shake.specs.Checks.{TouchesAnyRing, TouchesRings, after_check, came_up, check_answer as answer_by, first_larger as first_larger_by, size_answer as answer_by_sizes, size_at};
+ghost use Rattle.hand_shake.specs.Checks.{TouchesAnyRing, TouchesRings, after_check, came_up, check_answer as answer_by, unless_larger};
 ghost use Rattle.hand_shake.specs.Headers.{AreRingsReady};
 ghost use Rattle.hand_shake.specs.declared.CheckAnswer.TheVariants.{Up};
+ghost use Rattle.plan_model.specs.Pads.{first_larger, size_in};
 ghost use Rattle.plan_model.specs.Plans.{side_plan as side_plan_of};
 ghost use Rattle.step_kinds.specs.Limits.{IsWindows};
 
@@ -108,7 +109,7 @@ fn check_answer(pair: &Pair, side: Side) -> CheckAnswer
 fn size_answer(pair: &Pair, side: Side, own: &SidePlan) -> CheckAnswer
     requires own { own.now ≡ side_plan_of pair.now.plan side }
     requires windows { IsWindows own.now.windows }
-    ensures { result ≡ answer_by_sizes pair.now side (first_larger_by pair.now side) }
+    ensures { result ≡ unless_larger own.now (pads_of pair.now side) (first_larger own.now (pads_of pair.now side)) Up }
 {
     for m in 0..own.windows {
         let seen = offered_size(pair, side, m);
@@ -122,7 +123,7 @@ fn size_answer(pair: &Pair, side: Side, own: &SidePlan) -> CheckAnswer
 // The size of a window as the peer offered it.
 fn offered_size(pair: &Pair, side: Side, m: u32) -> u64
     requires { m < 4 }
-    ensures { result ≡ size_at pair.now side m }
+    ensures { result ≡ size_in (pads_of pair.now side) m }
 {
     let high = pair.pad(side, 4 + 2 * m);
     let low = pair.pad(side, 5 + 2 * m);

@@ -78,7 +78,7 @@ or_assoc false b c full = refl
 
 -- the ring's room is what this test says
 again_ring : (full : Bool) (sizes : Sizes) (reading : Reading) (pair : PairPart) (side : Side) (queue needed : ℕ) → nat_lt (reading.free side queue) needed ≡ full
-    → again_of (refuse_full sizes reading (lane_of pair side queue) side queue needed) ≡ full
+    → again_of (refuse_full sizes reading (lane_of pair side queue) side queue needed None) ≡ full
 again_ring full sizes reading pair side queue needed is =
     again_full (nat_lt (reading.free side queue) needed) (head_in sizes (lane_of pair side queue)) (reading.index_word side queue) ∙ is
 
@@ -112,7 +112,7 @@ module _ (plan : Plan) (lane : LaneName) (reading : Reading) (bytes : Bytes) (pa
       let same : record { pair = p; from = side; queue = queue } ≡ lane = same_Some _ _ e in
       let sizes = sizes_of Own side queue in
       let lanes = lane_of pair side queue in
-      again_decided pair (closing pair side queue) (refuse_sender pair side queue (refuse_busy lanes (refuse_full sizes reading lanes side queue 1))) lanes.told
+      again_decided pair (closing pair side queue) (refuse_sender pair side queue (refuse_busy lanes (refuse_full sizes reading lanes side queue 1 None))) lanes.told
       ∙ again_sender _ _ _ _ (is_busy lanes) full (λ up.
       again_busy (is_busy lanes) _ full
       (again_ring full sizes reading pair side queue 1 (ap (λ (l : LaneName). nat_lt (reading.free l.from l.queue) 1) same ∙ is (is_up_now (link_up pair) up))))

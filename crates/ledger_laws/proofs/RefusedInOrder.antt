@@ -225,9 +225,9 @@ module _ (devs : List DevPlan) (plan : PairPlan) (reading : Reading) (bytes : By
       ∙ ap (λ b. May side queue && (not (nat_lt (sizes_of plan side queue).most (length frame)) && b)) (busy_is side queue)
 
   pub down_is : (is : Answer → Bool) → ((n : ℕ) → is (OkNumber n) ≡ false) → (side : Side) (queue : ℕ)
-      → is (Next (QpDown 0 side queue)) ≡ first_is is (refuse_sender pair side queue (refuse_busy (lane_of pair side queue) (refuse_full (sizes_of plan side queue) reading (lane_of pair side queue) side queue 1)))
+      → is (Next (QpDown 0 side queue)) ≡ first_is is (refuse_sender pair side queue (refuse_busy (lane_of pair side queue) (refuse_full (sizes_of plan side queue) reading (lane_of pair side queue) side queue 1 None)))
   down_is is made side queue =
-      decided_is is pair (closing pair side queue) (refuse_sender pair side queue (refuse_busy (lane_of pair side queue) (refuse_full (sizes_of plan side queue) reading (lane_of pair side queue) side queue 1)))
+      decided_is is pair (closing pair side queue) (refuse_sender pair side queue (refuse_busy (lane_of pair side queue) (refuse_full (sizes_of plan side queue) reading (lane_of pair side queue) side queue 1 None)))
       (OkNumber (lane_of pair side queue).told) (made _)
 
   down_not_ready : (side : Side) (queue : ℕ) → is_not_ready (Next (QpDown 0 side queue)) ≡ (link_up pair && not (Has side queue).joined)
@@ -360,7 +360,7 @@ module _ (devs : List DevPlan) (plan : PairPlan) (reading : Reading) (bytes : By
   neither_if : (b : Bool) (refusal : Answer) (later : Option Answer) → Neither refusal → Each Neither later → Each Neither (refuse_if b refusal later)
   neither_if b refusal later none rest = each_if Neither b refusal later none rest
 
-  full_neither : (side : Side) (queue needed : ℕ) → Each Neither (refuse_full (sizes_of plan side queue) reading (lane_of pair side queue) side queue needed)
+  full_neither : (side : Side) (queue needed : ℕ) → Each Neither (refuse_full (sizes_of plan side queue) reading (lane_of pair side queue) side queue needed None)
   full_neither side queue needed =
       neither_if (nat_lt (reading.free side queue) needed) (Again (head_in (sizes_of plan side queue) (lane_of pair side queue)) (reading.index_word side queue)) None (refl, refl) Nothing
 
@@ -372,7 +372,7 @@ module _ (devs : List DevPlan) (plan : PairPlan) (reading : Reading) (bytes : By
   begin_neither : (side : Side) (queue : ℕ) (frame : List ℕ) → Neither (Next (Begin 0 side queue frame))
   begin_neither side queue frame =
       let needed = pieces_in (sizes_of plan side queue).largest (length frame) in
-      let full = refuse_full (sizes_of plan side queue) reading (lane_of pair side queue) side queue needed in
+      let full = refuse_full (sizes_of plan side queue) reading (lane_of pair side queue) side queue needed None in
       each_decided Neither pair (begin_refusal (sizes_of plan side queue) reading pair side queue (length frame)) (OkNumber (lane_of pair side queue).told) (begun (sizes_of plan side queue) pair side queue frame)
       (sender_neither side queue _
       (neither_if (nat_lt (sizes_of plan side queue).most (length frame)) (TooLong (length frame) (sizes_of plan side queue).most) (refuse_if (is_busy (lane_of pair side queue)) Busy full) (refl, refl)
@@ -380,7 +380,7 @@ module _ (devs : List DevPlan) (plan : PairPlan) (reading : Reading) (bytes : By
 
   down_neither : (side : Side) (queue : ℕ) → Neither (Next (QpDown 0 side queue))
   down_neither side queue =
-      let full = refuse_full (sizes_of plan side queue) reading (lane_of pair side queue) side queue 1 in
+      let full = refuse_full (sizes_of plan side queue) reading (lane_of pair side queue) side queue 1 None in
       each_decided Neither pair (refuse_sender pair side queue (refuse_busy (lane_of pair side queue) full)) (OkNumber (lane_of pair side queue).told) (closing pair side queue)
       (sender_neither side queue _ (neither_if (is_busy (lane_of pair side queue)) Busy full (refl, refl) (full_neither side queue 1))) (refl, refl)
 
@@ -388,7 +388,7 @@ module _ (devs : List DevPlan) (plan : PairPlan) (reading : Reading) (bytes : By
   device_neither side queue dev dst kind payload =
       let frame = Frame dev dst kind payload in
       let needed = pieces_in (sizes_of plan side queue).largest (length frame) in
-      let full = refuse_full (sizes_of plan side queue) reading (lane_of pair side queue) side queue needed in
+      let full = refuse_full (sizes_of plan side queue) reading (lane_of pair side queue) side queue needed None in
       each_decided Neither (counts_refused pair side queue) (xbegin_refusal (sizes_of plan side queue) reading pair (dev_of pair side queue) side queue (length frame)) (OkNumber (lane_of pair side queue).told)
       (sent_frame reading (sizes_of plan side queue) (dev_plan devs dev) pair side queue frame)
       (sender_neither side queue _

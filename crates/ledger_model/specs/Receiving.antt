@@ -20,6 +20,7 @@ use Rattle.byte_model.specs.Headers.{Found, NoEntry, ALinkDownEntry, AnotherVers
 use Rattle.ledger_model.specs.Reading.{Reading}
 use Rattle.ledger_model.specs.Sending.{posts_through}
 use Rattle.plan_model.specs.Orders.{order_of}
+use Rattle.plan_model.specs.Refusals.{Test, OfJoined, OfClosed, OfPhase, in_look_order}
 
 -- What a landed write changes at the peer of the side that posted it. Fields of entries and raw bytes change memory alone.
 abbrev pub lands_on : PairPart → Side → Label → PairPart
@@ -80,11 +81,14 @@ look_at pair side queue (AnEntry len left) =
       after = with_lane pair (other_side side) queue (record lane { phase = Copying; part = 0; len = len; left = left });
     }
 
+abbrev pub look_refuses : PairPart → Side → ℕ → Test → Option Answer → Option Answer
+look_refuses pair side queue OfJoined later = refuse_if (not (has_bit (side_of pair side).joined queue)) NotReady later
+look_refuses pair side queue OfClosed later = refuse_if (has_bit (side_of pair side).closed queue) Closed later
+look_refuses pair side queue OfPhase later = refuse_if (not (is_idle (lane_to pair side queue).phase)) OutOfTurn later
+look_refuses pair side queue test later = later
+
 abbrev pub look_refusal : PairPart → Side → ℕ → Option Answer
-look_refusal pair side queue =
-    refuse_if (not (has_bit (side_of pair side).joined queue)) NotReady
-    (refuse_if (has_bit (side_of pair side).closed queue) Closed
-    (refuse_if (not (is_idle (lane_to pair side queue).phase)) OutOfTurn None))
+look_refusal pair side queue = in_look_order (look_refuses pair side queue) None
 
 abbrev pub look_step : Reading → PairPart → Side → ℕ → Outcome
 look_step reading pair side queue =

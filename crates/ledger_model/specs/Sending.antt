@@ -9,6 +9,7 @@ use Rattle.step_kinds.specs.declared.steps.Answer.TheVariants.{OkNumber, LinkDow
 use Rattle.lane_model.specs.Lane.{Entry, GoesDown}
 pub use Rattle.lane_model.specs.Tests.{is_empty_list}
 use Rattle.plan_model.specs.Device.{Flow, stopped_after_send, stays_stopped, count_accepted, count_refused}
+use Rattle.plan_model.specs.Refusals.{Test, OfLink, OfJoined, OfClosed, OfLength, OfBusy, OfDevice, OfRoom, in_begin_order}
 use Rattle.ledger_model.specs.Labels.{labels_of}
 use Rattle.ledger_model.specs.Ledger.{LanePart, DevPart, PairPart, side_of, lane_of, dev_of, tally_of, with_side_part, with_lane, with_dev, with_tally, link_up, posts, head_in}
 use Rattle.ledger_model.specs.Pieces.{pieces_of}
@@ -17,12 +18,15 @@ use Rattle.ledger_model.specs.Outcome.{Outcome, refuse_if, decided}
 use Rattle.plan_model.specs.Ethernet.{ethernet_frame}
 use Rattle.plan_model.specs.Sizes.{Sizes, pieces_in}
 
--- the refusals of a side that is to send on a queue, as far as they don't depend on the entry
+-- the tests of a side that is to send on a queue, whatever it sends
+abbrev pub sender_refuses : PairPart → Side → ℕ → Test → Option Answer → Option Answer
+sender_refuses pair side queue OfLink later = refuse_if (not (link_up pair)) LinkDown later
+sender_refuses pair side queue OfJoined later = refuse_if (not (has_bit (side_of pair side).joined queue)) NotReady later
+sender_refuses pair side queue OfClosed later = refuse_if (has_bit (side_of pair side).closed queue) Closed later
+sender_refuses pair side queue test later = later
+
 abbrev pub refuse_sender : PairPart → Side → ℕ → Option Answer → Option Answer
-refuse_sender pair side queue later =
-    refuse_if (not (link_up pair)) LinkDown
-    (refuse_if (not (has_bit (side_of pair side).joined queue)) NotReady
-    (refuse_if (has_bit (side_of pair side).closed queue) Closed later))
+refuse_sender pair side queue later = in_begin_order (sender_refuses pair side queue) later
 
 abbrev pub refuse_long : ℕ → ℕ → Option Answer → Option Answer
 refuse_long len largest later = refuse_if (nat_lt largest len) (TooLong len largest) later
@@ -35,15 +39,26 @@ abbrev pub refuse_busy : LanePart → Option Answer → Option Answer
 refuse_busy lane later = refuse_if (is_busy lane) Busy later
 
 -- the ring has not so many entries free
-abbrev pub refuse_full : Sizes → Reading → LanePart → Side → ℕ → ℕ → Option Answer
-refuse_full sizes reading lane side queue needed =
-    refuse_if (nat_lt (reading.free side queue) needed) (Again (head_in sizes lane) (reading.index_word side queue)) None
+abbrev pub refuse_full : Sizes → Reading → LanePart → Side → ℕ → ℕ → Option Answer → Option Answer
+refuse_full sizes reading lane side queue needed later =
+    refuse_if (nat_lt (reading.free side queue) needed) (Again (head_in sizes lane) (reading.index_word side queue)) later
+
+-- the tests of a beginning that takes so many entries
+abbrev pub entries_refuse : Sizes → Reading → PairPart → Side → ℕ → ℕ → Test → Option Answer → Option Answer
+entries_refuse sizes reading pair side queue needed OfBusy later = refuse_busy (lane_of pair side queue) later
+entries_refuse sizes reading pair side queue needed OfRoom later = refuse_full sizes reading (lane_of pair side queue) side queue needed later
+entries_refuse sizes reading pair side queue needed test later = sender_refuses pair side queue test later
+
+-- the tests of a frame of so many bytes
+abbrev pub frame_refuses : Sizes → Reading → PairPart → Side → ℕ → ℕ → Test → Option Answer → Option Answer
+frame_refuses sizes reading pair side queue len OfLength later = refuse_long len sizes.most later
+frame_refuses sizes reading pair side queue len test later = entries_refuse sizes reading pair side queue (pieces_in sizes.largest len) test later
 
 abbrev pub begin_refusal : Sizes → Reading → PairPart → Side → ℕ → ℕ → Option Answer
-begin_refusal sizes reading pair side queue len =
-    let lane = lane_of pair side queue in
-    refuse_sender pair side queue
-    (refuse_long len sizes.most (refuse_busy lane (refuse_full sizes reading lane side queue (pieces_in sizes.largest len))))
+begin_refusal sizes reading pair side queue len = in_begin_order (frame_refuses sizes reading pair side queue len) None
+
+abbrev pub qpdown_refusal : Sizes → Reading → PairPart → Side → ℕ → Option Answer
+qpdown_refusal sizes reading pair side queue = in_begin_order (entries_refuse sizes reading pair side queue 1) None
 
 -- the lane with the first of these entries begun: all its writes are left to post, and the others wait
 abbrev pub begun_lane : ℕ → LanePart → List Entry → LanePart
@@ -75,19 +90,20 @@ abbrev pub qpdown_step : Sizes → Reading → PairPart → Side → ℕ → Out
 qpdown_step sizes reading pair side queue =
     let lane = lane_of pair side queue in
     let own = side_of pair side in
-    decided pair (refuse_sender pair side queue (refuse_busy lane (refuse_full sizes reading lane side queue 1))) (OkNumber lane.told)
+    decided pair (qpdown_refusal sizes reading pair side queue) (OkNumber lane.told)
     (with_side_part (with_lane pair side queue (begun_lane queue lane (GoesDown ∷ []))) side (record own { closed = with_bit own.closed queue }))
 
 -- a device's thresholds and its state
 abbrev pub flow_of : DevPlan → DevPart → Flow
 flow_of plan dev = record { stop = plan.stop; start = plan.start; stopped = dev.stopped }
 
+-- the tests of a device's frame
+abbrev pub xbegin_refuses : Sizes → Reading → PairPart → DevPart → Side → ℕ → ℕ → Test → Option Answer → Option Answer
+xbegin_refuses sizes reading pair dev side queue len OfDevice later = refuse_if dev.stopped Stopped later
+xbegin_refuses sizes reading pair dev side queue len test later = frame_refuses sizes reading pair side queue len test later
+
 abbrev pub xbegin_refusal : Sizes → Reading → PairPart → DevPart → Side → ℕ → ℕ → Option Answer
-xbegin_refusal sizes reading pair dev side queue len =
-    let lane = lane_of pair side queue in
-    refuse_sender pair side queue
-    (refuse_long len sizes.most
-    (refuse_busy lane (refuse_if dev.stopped Stopped (refuse_full sizes reading lane side queue (pieces_in sizes.largest len)))))
+xbegin_refusal sizes reading pair dev side queue len = in_begin_order (xbegin_refuses sizes reading pair dev side queue len) None
 
 -- a refused frame is counted, and nothing else changes
 abbrev pub counts_refused : PairPart → Side → ℕ → PairPart

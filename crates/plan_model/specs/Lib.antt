@@ -12,6 +12,7 @@ pub mod Pads
 pub mod Pieces
 pub mod PlanParts
 pub mod Plans
+pub mod Refusals
 pub mod Sizes
 pub mod Switches
 pub mod TrafficPlans

@@ -1,6 +1,6 @@
 -- The scratchpads of the handshake, as `ntb_transport` uses them: which number stands in which, what a side offers in its
 -- peer's, and what a side that is up has in its own.
-use Rattle.std.specs.Prelude.{ℕ, ◌+◌, ◌-◌, ◌*◌, ◌/◌, ◌%◌, ◌^◌, List, [], ◌∷◌, ◌++◌, replicate}
+use Rattle.std.specs.Prelude.{ℕ, ◌+◌, ◌-◌, ◌*◌, ◌/◌, ◌%◌, ◌^◌, ◌==◌, ◌&&◌, ◌||◌, Bool, not, nat_lt, Option, List, [], ◌∷◌, ◌++◌, find, replicate, slice_index}
 use Rattle.std.specs.List.{flat_map}
 use Rattle.step_kinds.specs.Bits.{all_below}
 use Rattle.step_kinds.specs.declared.plan.SidePlan.{SidePlan}
@@ -37,6 +37,20 @@ abbrev pub offers : SidePlan → List Label
 offers own =
     flat_map (λ m. Pad (high_pad m) (own.size / word) ∷ Pad (low_pad m) (own.size % word) ∷ []) (count_from 0 own.windows)
     ++ Pad windows_pad own.windows ∷ Pad queues_pad own.queues ∷ Pad version_pad own.version ∷ []
+
+-- What a side reads of its peer's offer in its own scratchpads
+
+-- the size of a window, which two of them say
+abbrev pub size_in : List ℕ → ℕ → ℕ
+size_in pads m = slice_index pads (high_pad m) * word + slice_index pads (low_pad m)
+
+-- versions that differ agree where both are 4 at least: the older one is spoken
+abbrev pub versions_differ : ℕ → ℕ → Bool
+versions_differ seen own = not (seen == own) && (nat_lt seen 4 || nat_lt own 4)
+
+-- the first window of the peer that is larger than the own memory gives
+abbrev pub first_larger : SidePlan → List ℕ → Option ℕ
+first_larger own pads = find (λ m. nat_lt own.cap (size_in pads m)) (count_from 0 own.windows)
 
 abbrev pub pad_index : Label → ℕ
 pad_index (Pad i value) = i

@@ -6,6 +6,7 @@ use Rattle.step_kinds.specs.declared.lanes.Begun.TheVariants.{Ok as BegunOk, Too
 use Rattle.step_kinds.specs.declared.names.Side.{Side}
 use Rattle.bridge_regs.specs.Doorbell.{with_pending}
 use Rattle.plan_model.specs.Link.{is_up}
+use Rattle.plan_model.specs.Refusals.{Test, OfLink, OfJoined, OfClosed, in_begin_order, in_look_order}
 use Rattle.bridge_pair.specs.Bridge.{Bridge, bells_of, book_of, with_bells}
 use Rattle.frame_ring.specs.Port.{PortState}
 use Rattle.frame_ring.specs.Calls.{begin_answer as port_begin_answer, after_begin as port_after_begin, down_answer, after_down, refuses_answer as port_refuses, look_answer as port_look_answer, after_look as port_after_look}
@@ -23,13 +24,15 @@ is_joined queue bridge = has_bit (book_of bridge queue.port.side).joined queue.p
 
 -- Sending
 
+abbrev pub gate_tests : QueueState → Bridge → Test → Option BeginAnswer → Option BeginAnswer
+gate_tests queue bridge OfLink later = if not (is_up bridge.link.state) then Some LinkDown else later
+gate_tests queue bridge OfJoined later = if not (is_joined queue bridge) then Some NotReady else later
+gate_tests queue bridge OfClosed later = if queue.closed then Some Closed else later
+gate_tests queue bridge test later = later
+
 -- why a side may not begin anything on the queue
 abbrev pub sender_refusal : QueueState → Bridge → Option BeginAnswer
-sender_refusal queue bridge =
-    if not (is_up bridge.link.state) then Some LinkDown
-    else if not (is_joined queue bridge) then Some NotReady
-    else if queue.closed then Some Closed
-    else None
+sender_refusal queue bridge = in_begin_order (gate_tests queue bridge) None
 
 abbrev pub answer_of_begun : Begun → BeginAnswer
 answer_of_begun (BegunOk number) = IsBegun number
@@ -81,11 +84,14 @@ answer_of_look (RingVerDiffers seen own) = VerDiffers seen own
 answer_of_look (RingLong len most) = Long len most
 answer_of_look RingOutOfTurn = OutOfTurn
 
+abbrev pub gate_look_tests : QueueState → Bridge → Test → LookAnswer → LookAnswer
+gate_look_tests queue bridge OfJoined later = if not (is_joined queue bridge) then NotJoined else later
+gate_look_tests queue bridge OfClosed later = if queue.closed then QueueClosed else later
+gate_look_tests queue bridge test later = later
+
+-- the first refusal, else what the port answers
 abbrev pub look_answer : QueueState → Bridge → LookAnswer
-look_answer queue bridge =
-    if not (is_joined queue bridge) then NotJoined
-    else if queue.closed then QueueClosed
-    else answer_of_look (port_look_answer queue.port bridge)
+look_answer queue bridge = in_look_order (gate_look_tests queue bridge) (answer_of_look (port_look_answer queue.port bridge))
 
 -- a look that finds an entry
 abbrev pub FindsEntry : QueueState → Bridge → Type 0

@@ -259,7 +259,7 @@ pub neither : (a b : Bool) → (a || b) ≡ false → (a ≡ false) × (b ≡ fa
 neither true b e = absurd (true≢false e)
 neither false b e = (refl, e)
 
-full_each : (sizes : Sizes) (reading : Reading) (lane : LanePart) (side : Side) (queue needed : ℕ) → Each (Refused false) (refuse_full sizes reading lane side queue needed)
+full_each : (sizes : Sizes) (reading : Reading) (lane : LanePart) (side : Side) (queue needed : ℕ) → Each (Refused false) (refuse_full sizes reading lane side queue needed None)
 full_each sizes reading lane side queue needed =
     no (nat_lt (reading.free side queue) needed) (Again (head_in sizes lane) (reading.index_word side queue)) refl refl Nothing
 
@@ -339,7 +339,7 @@ module _ (reading : Reading) where
       → P (qpdown_step sizes reading pair side queue)
   qpdown_cases P sizes pair side queue refused made =
       decided_cases P (Refused (not (link_up pair))) pair
-      (refuse_sender pair side queue (refuse_busy (lane_of pair side queue) (refuse_full sizes reading (lane_of pair side queue) side queue 1)))
+      (refuse_sender pair side queue (refuse_busy (lane_of pair side queue) (refuse_full sizes reading (lane_of pair side queue) side queue 1 None)))
       (OkNumber (lane_of pair side queue).told) (closing pair side queue)
       (sender_each pair side queue _ (busy_each (lane_of pair side queue) _ (full_each sizes reading (lane_of pair side queue) side queue 1)))
       refused
@@ -368,7 +368,7 @@ module _ (reading : Reading) where
       (no (dev_of pair side queue).stopped Stopped refl refl (full_each sizes reading (lane_of pair side queue) side queue (needs sizes len))))))
       refused
       (λ none.
-      let full = refuse_full sizes reading (lane_of pair side queue) side queue (needs sizes len) in
+      let full = refuse_full sizes reading (lane_of pair side queue) side queue (needs sizes len) None in
       let idle = refuse_if (dev_of pair side queue).stopped Stopped full in
       let a = sender_passed pair side queue (refuse_long len sizes.most (refuse_busy (lane_of pair side queue) idle)) none in
       let b = passed (nat_lt sizes.most len) (TooLong len sizes.most) (refuse_busy (lane_of pair side queue) idle) a.1 in
