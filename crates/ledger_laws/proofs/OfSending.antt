@@ -1,6 +1,6 @@
 -- No step but those that send is refused as too long, busy, stopped or for want of room.
-use Rattle.std.proofs.Common.{◌≡◌, ℕ, ◌==◌, ◌&&◌, ◌||◌, Bool, true, false, not, Option, Some, None, List, length, map, refl}
-use Rattle.std.specs.Prelude.{◌+◌, ◌++◌, if◌then◌else◌, find, nat_lt, slice_get}
+use Rattle.std.proofs.Common.{◌≡◌, ℕ, ◌==◌, Bool, true, false, not, Option, Some, None, List, length, map, refl}
+use Rattle.std.specs.Prelude.{◌+◌, ◌++◌, if◌then◌else◌, nat_lt, slice_get}
 use Rattle.std.proofs.lemmas.Bool.{cond_both, true≢false}
 use Rattle.step_kinds.specs.Bits.{has_bit}
 use Rattle.step_kinds.specs.declared.names.Side.{Side}
@@ -13,15 +13,15 @@ use Rattle.step_kinds.specs.declared.steps.Label.TheVariants.{Index}
 use Rattle.step_kinds.specs.declared.steps.Step.{Step}
 use Rattle.step_kinds.specs.declared.steps.Step.TheVariants.{Enable, Train, Break, DropDone, Clean, Offer, Check, Ready, Join, Begin, QpDown, Xbegin, Post, Land, Look, Copy, Clear, Ack, Wake}
 use Rattle.order_rules.specs.Order.{may_land}
-use Rattle.lane_model.specs.Lane.{chunks_in, count_from}
+use Rattle.lane_model.specs.Lane.{chunks_in}
 use Rattle.plan_model.specs.Link.{enable_refusal, enabled_link, train_refusal, cut_refusal, drop_refusal, clean_refusal}
 use Rattle.plan_model.specs.Orders.{order_of}
-use Rattle.plan_model.specs.Pads.{links_pad, offers, pad_index, queues_pad, version_pad, windows_pad}
+use Rattle.plan_model.specs.Pads.{links_pad, offers, pad_index, queues_pad, version_pad, windows_pad, first_larger, versions_differ}
 use Rattle.plan_model.specs.Plans.{side_plan}
 use Rattle.plan_model.specs.declared.LinkRefusal.{LinkRefusal}
 use Rattle.plan_model.specs.declared.LinkRefusal.TheVariants.{NotDown, Dirty, NotEnabled, NotUp, NotClosing, SessionsSpent}
 use Rattle.byte_model.specs.Headers.{Bytes}
-use Rattle.ledger_model.specs.Handshake.{check_refusal, pad_in, refuse_larger, size_in}
+use Rattle.ledger_model.specs.Handshake.{check_refusal, pad_in, refuse_larger}
 use Rattle.ledger_model.specs.Ledger.{PairPart, side_of, lane_to, link_up, posts, with_side_part}
 use Rattle.ledger_model.specs.LinkSteps.{answer_of_refusal, refusal_answer}
 use Rattle.ledger_model.specs.Next.{read_next}
@@ -84,13 +84,13 @@ module _ (devs : List DevPlan) (plan : PairPlan) (reading : Reading) (bytes : By
       (not_if (not (link_up pair)) LinkDown _ refl
       (not_if (side_of pair side).up Already _ refl
       (not_if (pad_in (side_of pair side) version_pad == 0) NotYet _ refl
-      (not_if (not (pad_in (side_of pair side) version_pad == (side_plan plan side).version) && (nat_lt (pad_in (side_of pair side) version_pad) 4 || nat_lt (side_plan plan side).version 4))
+      (not_if (versions_differ (pad_in (side_of pair side) version_pad) (side_plan plan side).version)
       (Version (pad_in (side_of pair side) version_pad) (side_plan plan side).version) _ refl
       (not_if (not (pad_in (side_of pair side) queues_pad == (side_plan plan side).queues)) (Queues (pad_in (side_of pair side) queues_pad) (side_plan plan side).queues) _ refl
       (not_if (not (pad_in (side_of pair side) windows_pad == (side_plan plan side).windows)) (Windows (pad_in (side_of pair side) windows_pad) (side_plan plan side).windows) _ refl
-      (larger (find (λ m. nat_lt (side_plan plan side).cap (size_in (side_of pair side) m)) (count_from 0 (side_plan plan side).windows))))))))) refl
+      (larger (first_larger (side_plan plan side) (side_of pair side).pads)))))))) refl
     where
-      larger : (found : Option ℕ) → Each Not (refuse_larger (side_of pair side) (side_plan plan side).cap found)
+      larger : (found : Option ℕ) → Each Not (refuse_larger (side_of pair side) (side_plan plan side).cap found None)
       larger None = Nothing
       larger (Some m) = Just refl
 

@@ -15,8 +15,8 @@ use Rattle.step_kinds.specs.declared.steps.Label.{Label}
 use Rattle.step_kinds.specs.declared.steps.Step.TheVariants.{Check}
 use Rattle.lane_model.specs.Lane.{count_from}
 use Rattle.plan_model.specs.Both.{both_of}
-use Rattle.ledger_model.specs.Handshake.{pad_in, size_in, refuse_larger, check_refusal, check_step}
-use Rattle.plan_model.specs.Pads.{word, offers}
+use Rattle.ledger_model.specs.Handshake.{pad_in, refuse_larger, check_refusal, check_step}
+use Rattle.plan_model.specs.Pads.{word, offers, first_larger, size_in, versions_differ}
 use Rattle.plan_model.specs.Pads.{high_pad, low_pad, queues_pad, version_pad, windows_pad}
 use Rattle.plan_model.specs.Plans.{pair_plan, side_plan}
 use Rattle.ledger_laws.specs.Laws.{UpMeansAgreement, Agrees, VersionsAgree, HasNumbersInRange, IsOrdinaryOn}
@@ -85,13 +85,13 @@ pub record HasFound (own : SidePlan) (part : SidePart) (up : Bool) : Type 0 wher
   version : VersionsAgree (pad_in part version_pad) own.version
   queues : pad_in part queues_pad ≡ own.queues
   windows : pad_in part windows_pad ≡ own.windows
-  none_larger : find (λ m. nat_lt own.cap (size_in part m)) (count_from 0 own.windows) ≡ None
+  none_larger : first_larger own part.pads ≡ None
 
-none_found : (part : SidePart) (cap : ℕ) (found : Option ℕ) → refuse_larger part cap found ≡ None → found ≡ None
+none_found : (part : SidePart) (cap : ℕ) (found : Option ℕ) → refuse_larger part cap found None ≡ None → found ≡ None
 none_found part cap None e = refl
 none_found part cap (Some m) e = absurd (cc)
 
-versions_passed : (seen own : ℕ) → (not (seen == own) && (nat_lt seen 4 || nat_lt own 4)) ≡ false → VersionsAgree seen own
+versions_passed : (seen own : ℕ) → versions_differ seen own ≡ false → VersionsAgree seen own
 versions_passed seen own e = elim (cases_Bool (seen == own)) [
   | inl same ↦ inl (eqb-true seen own same)
   | inr other ↦
@@ -106,7 +106,7 @@ has_found own part up none =
     let a = passed (not up) LinkDown _ none in
     let b = passed part.up Already _ a.1 in
     let c = passed (pad_in part version_pad == 0) NotYet _ b.1 in
-    let d = passed (not (pad_in part version_pad == own.version) && (nat_lt (pad_in part version_pad) 4 || nat_lt own.version 4)) (Version (pad_in part version_pad) own.version) _ c.1 in
+    let d = passed (versions_differ (pad_in part version_pad) own.version) (Version (pad_in part version_pad) own.version) _ c.1 in
     let e = passed (not (pad_in part queues_pad == own.queues)) (Queues (pad_in part queues_pad) own.queues) _ d.1 in
     let f = passed (not (pad_in part windows_pad == own.windows)) (Windows (pad_in part windows_pad) own.windows) _ e.1 in
     record {
@@ -116,7 +116,7 @@ has_found own part up none =
       version = versions_passed (pad_in part version_pad) own.version d.0;
       queues = eqb-true (pad_in part queues_pad) own.queues (not-false (pad_in part queues_pad == own.queues) e.0);
       windows = eqb-true (pad_in part windows_pad) own.windows (not-false (pad_in part windows_pad == own.windows) f.0);
-      none_larger = none_found part own.cap (find (λ m. nat_lt own.cap (size_in part m)) (count_from 0 own.windows)) f.1;
+      none_larger = none_found part own.cap (first_larger own part.pads) f.1;
     }
 
 up_found : (plan : PairPlan) (pair : PairPart) (side : Side) → Up ≡ (check_step plan pair side).answer → HasFound (side_plan plan side) (side_of pair side) (link_up pair)
@@ -126,13 +126,13 @@ up_found plan pair side =
     (λ none _. has_found (side_plan plan side) (side_of pair side) (link_up pair) none)
 
 -- the first window of the peer isn't larger than the own memory gives
-first_fits : (part : SidePart) (cap windows : ℕ) → 0 < windows → find (λ m. nat_lt cap (size_in part m)) (count_from 0 windows) ≡ None → size_in part 0 ≤ cap
+first_fits : (part : SidePart) (cap windows : ℕ) → 0 < windows → find (λ m. nat_lt cap (size_in part.pads m)) (count_from 0 windows) ≡ None → size_in part.pads 0 ≤ cap
 first_fits part cap zero some e = absurd (omega arith)
-first_fits part cap (suc more) some e = go (nat_lt cap (size_in part 0)) refl e
+first_fits part cap (suc more) some e = go (nat_lt cap (size_in part.pads 0)) refl e
   where
-    go : (b : Bool) → nat_lt cap (size_in part 0) ≡ b → (if b then Some 0 else find (λ m. nat_lt cap (size_in part m)) (count_from 1 more)) ≡ None → size_in part 0 ≤ cap
+    go : (b : Bool) → nat_lt cap (size_in part.pads 0) ≡ b → (if b then Some 0 else find (λ m. nat_lt cap (size_in part.pads m)) (count_from 1 more)) ≡ None → size_in part.pads 0 ≤ cap
     go true is e = absurd (cc)
-    go false is e = ltb-false cap (size_in part 0) is
+    go false is e = ltb-false cap (size_in part.pads 0) is
 
 -- a check that has found so in a session agrees
 pub agrees : (lane : LaneName) (own peer : SidePlan) (log : List Answered) (part : SidePart) (up : Bool) (offered : ℕ) (flight : List Label) → HasNumbersInRange own → HasNumbersInRange peer → HasFound own part up
@@ -177,7 +177,7 @@ agrees lane own peer log part up offered flight own_side peer_side found session
     same_windows_here : peer.windows ≡ own.windows
     same_windows_here = sym (pad_is windows_pad peer.windows (omega arith) windows_here) ∙ found.windows
 
-    first_size : size_in part 0 ≡ peer.size
+    first_size : size_in part.pads 0 ≡ peer.size
     first_size =
         let some : 0 < peer.windows = peer_side.a_window in
         ap (λ n. n * word + pad_in part (low_pad 0)) (pad_is (high_pad 0) (peer.size / word) (omega arith) (high_here 0 some))

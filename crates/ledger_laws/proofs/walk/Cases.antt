@@ -1,6 +1,6 @@
 -- Each step's cases: it is refused and changes nothing, or it passed its tests and has its effect.
-use Rattle.std.proofs.Common.{◌≡◌, ℕ, ◌+◌, ◌==◌, ◌≤◌, ◌&&◌, ◌||◌, arith, Bool, true, false, not, Option, Some, None, List, [], ◌∷◌, refl, sym, subst}
-use Rattle.std.specs.Prelude.{◌-◌, ◌++◌, if◌then◌else◌, nat_lt, length, map, slice_get, slice_index_or, find}
+use Rattle.std.proofs.Common.{◌≡◌, ℕ, ◌+◌, ◌==◌, ◌≤◌, ◌||◌, arith, Bool, true, false, not, Option, Some, None, List, [], ◌∷◌, refl, sym, subst}
+use Rattle.std.specs.Prelude.{◌-◌, ◌++◌, if◌then◌else◌, nat_lt, length, map, slice_get, slice_index_or}
 use Rattle.std.proofs.lemmas.Bool.{true≢false, not-false, cond_both, ltb-false}
 use Rattle.step_kinds.specs.Bits.{has_bit, with_bit}
 use Rattle.step_kinds.specs.Sides.{other_side}
@@ -12,11 +12,11 @@ use Rattle.step_kinds.specs.declared.steps.Label.{Label}
 use Rattle.step_kinds.specs.declared.steps.Label.TheVariants.{Index, Pad}
 use Rattle.step_kinds.specs.declared.steps.Answer.{Answer}
 use Rattle.step_kinds.specs.declared.steps.Answer.TheVariants.{Ok as Done, OkSession, OkNumber, LinkDown, Already, Offered, NotYet, Version, Queues, Windows, Up, NotChecked, NotReady, Joined, Closed, TooLong, Busy, Stopped, Again, Idle, Posted, Nothing as NothingThere, Blocked, Landed, OutOfTurn, Empty, PeerDown, ReadyFrame, Copied as CopiedPart, Delivered, Cleared as ClearedFrame, Acked, Awake, Irq, Mem, PadValue, QueueShown, VerDiffers, Long}
-use Rattle.lane_model.specs.Lane.{Entry, GoesDown, chunks_in, count_from}
+use Rattle.lane_model.specs.Lane.{Entry, GoesDown, chunks_in}
 use Rattle.lane_model.specs.declared.Phase.TheVariants.{Copying, Copied, Cleared, Idle as IsIdle}
 use Rattle.plan_model.specs.Both.{both_of, with_side, at_side}
-use Rattle.ledger_model.specs.Handshake.{pad_in, size_in, refuse_larger, refuse_differing, check_refusal, offer_step, check_step, ready_step, join_step}
-use Rattle.plan_model.specs.Pads.{offers, pad_index}
+use Rattle.ledger_model.specs.Handshake.{pad_in, refuse_larger, refuse_differing, check_refusal, offer_step, check_step, ready_step, join_step}
+use Rattle.plan_model.specs.Pads.{offers, pad_index, first_larger, versions_differ}
 use Rattle.plan_model.specs.Pads.{links_pad, queues_pad, version_pad, windows_pad}
 use Rattle.plan_model.specs.Plans.{side_plan}
 use Rattle.plan_model.specs.Sizes.{Sizes, pieces_in}
@@ -165,7 +165,7 @@ offer_cases P plan pair side refused made =
 differing_each : (seen own : ℕ) (refusal : ℕ → ℕ → Answer) (later : Option Answer) → Refused false (refusal seen own) → Each (Refused false) later → Each (Refused false) (refuse_differing seen own refusal later)
 differing_each seen own refusal later first rest = each_if (Refused false) (not (seen == own)) (refusal seen own) later first rest
 
-larger_each : (part : SidePart) (cap : ℕ) (found : Option ℕ) → Each (Refused false) (refuse_larger part cap found)
+larger_each : (part : SidePart) (cap : ℕ) (found : Option ℕ) → Each (Refused false) (refuse_larger part cap found None)
 larger_each part cap None = Nothing
 larger_each part cap (Some m) = Just (record { is = refl; link = refl })
 
@@ -174,10 +174,10 @@ check_each own part up =
     down_each up _
     (no part.up Already refl refl
     (no (pad_in part version_pad == 0) NotYet refl refl
-    (no (not (pad_in part version_pad == own.version) && (nat_lt (pad_in part version_pad) 4 || nat_lt own.version 4)) (Version (pad_in part version_pad) own.version) refl refl
+    (no (versions_differ (pad_in part version_pad) own.version) (Version (pad_in part version_pad) own.version) refl refl
     (differing_each (pad_in part queues_pad) own.queues Queues _ (record { is = refl; link = refl })
     (differing_each (pad_in part windows_pad) own.windows Windows _ (record { is = refl; link = refl })
-    (larger_each part own.cap (find (λ m. nat_lt own.cap (size_in part m)) (count_from 0 own.windows))))))))
+    (larger_each part own.cap (first_larger own part.pads)))))))
 
 -- A check is refused and leaves its pair as it was, or passes its tests and has its side up.
 pub check_cases : (P : Outcome → Type 0) (plan : PairPlan) (pair : PairPart) (side : Side)
