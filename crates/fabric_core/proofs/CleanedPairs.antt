@@ -7,11 +7,11 @@ use Rattle.bridge_pair.specs.Bridge.{Bridge, flight_of, pages_of}
 use Rattle.bridge_pair.specs.Flights.{Flying}
 use Rattle.bridge_pair.specs.Laws.{KeepsPromises}
 use Rattle.posted_queue.specs.Flight.{Flight}
-use Rattle.fabric_rule.specs.Moves.{forgotten_queue}
 use Rattle.fabric_rule.specs.Parts.{QueuePart}
 use Rattle.fabric_core.specs.Parts.{CanForget, HasOtherRoom, IsWhole}
 use Rattle.fabric_core.proofs.ForgottenQueues.{other_plan}
 use Rattle.fabric_core.proofs.Whole.{SideIsWhole, both_whole, side_forgotten, side_kept, side_whole}
+use Rattle.fabric_rule.specs.Moves.{forgotten_queue}
 
 kept_side : (old new : Bridge) (side : Side) (parts : List QueuePart) → KeepsPromises old new → SideIsWhole old side parts → SideIsWhole new side parts
 kept_side old new side parts keeps whole =

@@ -8,11 +8,11 @@ use Rattle.step_kinds.specs.declared.names.Side.TheVariants.{A, B}
 use Rattle.bridge_pair.specs.Bridge.{Bridge, flight_of, with_flight}
 use Rattle.bridge_pair.specs.Flights.{Flying}
 use Rattle.posted_queue.specs.Flight.{Flight, given_back}
-use Rattle.fabric_rule.specs.Moves.{forgotten_queue}
 use Rattle.fabric_rule.specs.Parts.{QueuePart, no_queue}
 use Rattle.frame_ring.specs.Calls.{reset_by}
 use Rattle.frame_ring.specs.Port.{PortState, unused_of}
 use Rattle.fabric_core.specs.Parts.{CanForget, HasOtherRoom, all_unused}
+use Rattle.fabric_rule.specs.Moves.{forgotten_queue}
 
 -- A bridge with other room at a side
 

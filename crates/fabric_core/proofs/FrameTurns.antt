@@ -18,12 +18,11 @@ use Rattle.queue_pair.specs.Queue.{QueueState}
 use Rattle.queue_pair.specs.declared.BeginAnswer.{BeginAnswer}
 use Rattle.queue_pair.specs.declared.BeginAnswer.TheVariants.{Ok as QueueBegun, LinkDown, NotReady, Closed, TooLong, Busy, NoRoom}
 use Rattle.fabric_rule.specs.Answers.{of_begin, of_xbegin}
-use Rattle.fabric_rule.specs.Moves.{accepted_where_begun, xbegun}
 use Rattle.fabric_rule.specs.Parts.{QueuePart, one_more, plain_bridge}
-use Rattle.fabric_core.specs.QueueCalls.{IsBegun, is_begun}
+use Rattle.fabric_core.specs.QueueCalls.{IsBegun, is_begun, counted_begun, refused_once}
 use Rattle.fabric_core.proofs.QueueParts.{not_begun}
-use Rattle.fabric_core.specs.Turns.{bare_pair, begin_turn, counted_begun, frame_answer, frame_turn, refused_once}
 use Rattle.plan_model.specs.Ethernet.{ethernet_frame}
+use Rattle.fabric_rule.specs.Turns.{accepted_where_begun, begin_turn, frame_answer, frame_turn, xbegun}
 
 -- Free entries depend on bytes alone
 
@@ -79,7 +78,7 @@ begun_counts answer session part begun = absurd (cc begun)
 -- and once a device's frame is begun, the device and its counters are as the move has them
 counted_by : (answer : Answer) (part : QueuePart) (bridge : Bridge) (frame : List ℕ) → IsBegun answer
     → (let begun = accepted_where_begun answer bridge.link.session (record part { queue = after_begin part.queue bridge frame }) in
-    counted_begun begun (free_answer begun.queue.port bridge) (length frame) ≡ xbegun answer (bare_pair bridge) part frame)
+    counted_begun begun (free_answer begun.queue.port bridge) (length frame) ≡ xbegun answer bridge part frame)
 counted_by (OkNumber number) part bridge frame begun = refl
 counted_by answer part bridge frame begun = absurd (cc begun)
 
@@ -112,7 +111,7 @@ frame_counted part begun new bridge after frame answer begins answered turned pl
           ∙ ap (λ (begun : QueuePart). counted_begun begun (free_answer begun.queue.port after) (length frame)) turned
           ∙ ap (λ (free : ℕ). counted_begun started free (length frame)) (free_same started.queue.port bridge after plain)
           ∙ counted_by (of_begin ended) part bridge frame (subst IsBegun same begins)
-          ∙ ap (λ (answer : Answer). xbegun answer (bare_pair bridge) part frame) (sym same);
+          ∙ ap (λ (answer : Answer). xbegun answer bridge part frame) (sym same);
     }
 
 -- an Ethernet frame has its header before its payload
@@ -154,7 +153,7 @@ refused_begin part bridge frame other =
     ∙ sym (not_begun answer bridge.link.session (record part { queue = after_begin part.queue bridge frame }) other)
 
 -- a device's begin that is refused is counted once
-refused_by : (answer : Answer) (bridge : Bridge) (part : QueuePart) (frame : List ℕ) → is_begun answer ≡ false → refused_once part ≡ xbegun answer (bare_pair bridge) part frame
+refused_by : (answer : Answer) (bridge : Bridge) (part : QueuePart) (frame : List ℕ) → is_begun answer ≡ false → refused_once part ≡ xbegun answer bridge part frame
 refused_by (OkNumber number) bridge part frame other = absurd (cc other)
 refused_by answer bridge part frame other = refl
 

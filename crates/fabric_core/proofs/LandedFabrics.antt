@@ -23,13 +23,13 @@ use Rattle.bridge_pair.specs.declared.flying_write.Arrival.{Arrival}
 use Rattle.bridge_pair.specs.declared.flying_write.Arrival.TheVariants.{AtAddress, AtBell, AtPad}
 use Rattle.fabric_rule.specs.Answers.{of_land}
 use Rattle.fabric_rule.specs.Parts.{PairState}
-use Rattle.fabric_rule.specs.Steps.{move_of}
 use Rattle.fabric_core.specs.Fabric.{FabricState, no_state, pair_of, plan_kept}
 use Rattle.fabric_core.specs.LogClauses.{HasMade, IsAnswered, log_after}
 use Rattle.fabric_core.specs.Same.{AreSameBut, AreSamePairs, IsSamePair, LandsAsPair, plan_at}
 use Rattle.fabric_core.proofs.SameFabrics.{merged, one_list_makes_same}
 use Rattle.fabric_core.proofs.SameParts.{plain_same, plans_there, same_by_plain, same_count}
 use Rattle.fabric_core.proofs.StepsOfFabrics.{MadeSome, among_pairs, permitted_by, same_plan, set_moved, step_answered, step_made, with_pair}
+use Rattle.fabric_rule.specs.Moves.{move_of}
 
 -- One pair
 

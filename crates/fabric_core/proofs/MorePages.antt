@@ -4,13 +4,13 @@ use Rattle.step_kinds.specs.declared.names.Side.{Side}
 use Rattle.step_kinds.specs.declared.names.Side.TheVariants.{A, B}
 use Rattle.bridge_pair.specs.Bridge.{Bridge, pages_of, with_pages}
 use Rattle.bridge_pair.specs.Writes.{PostedWrite}
-use Rattle.fabric_rule.specs.Moves.{posted_aside}
 use Rattle.hand_shake.specs.Checks.{after_answer, after_check, check_answer}
 use Rattle.hand_shake.specs.Offers.{with_posted}
 use Rattle.hand_shake.specs.declared.CheckAnswer.{CheckAnswer}
 use Rattle.hand_shake.specs.declared.CheckAnswer.TheVariants.{Up}
 use Rattle.plan_model.specs.Link.{is_up}
 use Rattle.fabric_core.specs.Promises.{HasMorePages, with_promised}
+use Rattle.fabric_rule.specs.Turns.{posted_aside}
 
 -- A fact that holds anyway holds where a result is an error.
 pub on_err : {X E : Type 0} {P : Type 0} (result : Result X E) → P → OnErr result P

@@ -7,7 +7,7 @@ use Rattle.frame_ring.specs.PortView.{HasPagesIn}
 use Rattle.fabric_rule.specs.Parts.{QueuePart, plain_bridge}
 use Rattle.fabric_core.specs.Parts.{KeepsPort}
 use Rattle.fabric_core.specs.QueueCalls.{HasTurned, HasTurnedUnlessWanting}
-use Rattle.fabric_core.specs.Turns.{QueueTurn}
+use Rattle.fabric_rule.specs.Turns.{QueueTurn}
 
 -- A queue has taken a turn where answer, part and bridge are the turn's and its port keeps what was promised.
 pub has_turned : (turn : QueueTurn) (answer : Answer) (old new : QueuePart) (before after : Bridge) → answer ≡ turn.answer → new ≡ turn.part → after ≡ turn.bridge

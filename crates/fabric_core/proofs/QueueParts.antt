@@ -14,13 +14,13 @@ use Rattle.queue_pair.specs.Queue.{QueueState}
 use Rattle.queue_pair.specs.declared.BeginAnswer.{BeginAnswer}
 use Rattle.queue_pair.specs.declared.BeginAnswer.TheVariants.{Ok as IsBegun}
 use Rattle.fabric_rule.specs.Answers.{of_begin}
-use Rattle.fabric_rule.specs.Moves.{accepted_where_begun, delivered_where_whole}
 use Rattle.fabric_rule.specs.Parts.{QueuePart, SessionCount}
 use Rattle.fabric_core.specs.Parts.{KeepsPort}
 use Rattle.fabric_core.specs.QueueBoxes.{IsQueueBox}
 use Rattle.fabric_core.specs.declared.queues.QueueBox.TheInside.{Inside}
 use Rattle.fabric_core.proofs.PromisesOfQueues.{keeps_exact}
 use Rattle.fabric_core.proofs.Phases.{copy_place}
+use Rattle.fabric_rule.specs.Turns.{accepted_where_begun, delivered_where_whole}
 
 abbrev pub part_with : QueueState → Flow → Counters → List SessionCount → List SessionCount → QueuePart
 part_with queue flow counters accepted delivered = record { queue = queue; flow = flow; counters = counters; accepted = accepted; delivered = delivered }

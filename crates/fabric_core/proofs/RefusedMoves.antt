@@ -55,12 +55,12 @@ use Rattle.queue_pair.specs.declared.BeginAnswer.TheVariants as begin
 use Rattle.queue_pair.specs.declared.LookAnswer.{LookAnswer}
 use Rattle.queue_pair.specs.declared.LookAnswer.TheVariants as look
 use Rattle.fabric_rule.specs.Answers.{of_ack, of_begin, of_check, of_clear, of_copy, of_join, of_land, of_link, of_look, of_offer, of_post, of_ready, of_xbegin}
-use Rattle.fabric_rule.specs.Moves.{accepted_where_begun, delivered_where_whole, forgotten, xbegun}
 use Rattle.fabric_rule.specs.Parts.{PairState, QueuePart, no_queue, plain_pair, queue_of, with_bridge, with_queue}
-use Rattle.fabric_rule.specs.Steps.{move_of}
 use Rattle.ledger_laws.specs.Laws.{is_made}
 use Rattle.fabric_core.specs.Fabric.{FabricState, no_state, pair_of, plain}
 use Rattle.fabric_core.specs.Refusals.{entry_let_go, queue_changed, refusal_counted, refused_in}
+use Rattle.fabric_rule.specs.Turns.{accepted_where_begun, delivered_where_whole, xbegun}
+use Rattle.fabric_rule.specs.Moves.{forgotten, move_of}
 
 -- The link
 
@@ -147,7 +147,7 @@ down_kept own new (Some begin.Busy) begun e = refl
 down_kept own new (Some (begin.NoRoom head tail)) begun e = refl
 
 xbegin_kept : (pair : PairState) (part : QueuePart) (frame : List ℕ) (answer : Answer)
-    → is_made answer ≡ false → xbegun answer pair part frame ≡ refusal_counted part
+    → is_made answer ≡ false → xbegun answer pair.bridge part frame ≡ refusal_counted part
 xbegin_kept pair part frame (OkNumber number) e = absurd (true≢false e)
 xbegin_kept pair part frame answer e = refl
 

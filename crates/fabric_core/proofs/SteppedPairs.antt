@@ -10,10 +10,11 @@ use Rattle.bridge_pair.specs.Bridge.{Bridge}
 use Rattle.fabric_rule.specs.Parts.{PairState, QueuePart, no_queue, plain_pair, with_bridge}
 use Rattle.fabric_core.specs.Parts.{IsWhole, KeepsPort}
 use Rattle.fabric_core.specs.Promises.{HasMorePages}
-use Rattle.fabric_core.specs.Turns.{bridge_turn, place_of}
-use Rattle.fabric_core.specs.declared.places.StepPlace.TheVariants.{OnBridge}
+use Rattle.step_kinds.specs.declared.steps.StepPlace.TheVariants.{OnBridge}
 use Rattle.fabric_core.proofs.TurnsOfPairs.{more_plain, more_promised, turn_promised}
 use Rattle.fabric_core.proofs.Whole.{SideIsWhole, both_whole, peer_kept, side_turned, side_whole, whole_kept}
+use Rattle.fabric_rule.specs.Turns.{bridge_turn}
+use Rattle.step_kinds.specs.Places.{step_place}
 
 abbrev pub state_of : Bridge → List QueuePart → List QueuePart → PairState
 state_of bridge a b = record { bridge = bridge; queues = record { a = a; b = b } }
@@ -21,7 +22,7 @@ state_of bridge a b = record { bridge = bridge; queues = record { a = a; b = b }
 -- On the bridge
 
 -- A pair stays whole where a step leaves the turn's bridge, or out of memory the old one, with further pages.
-pub stepped_whole : {E : Type 0} (state : PairState) (new : Bridge) (step : Step) (result : Result Answer E) → place_of step ≡ OnBridge → IsWhole state
+pub stepped_whole : {E : Type 0} (state : PairState) (new : Bridge) (step : Step) (result : Result Answer E) → step_place step ≡ OnBridge → IsWhole state
     → OnOk result (HasMorePages (bridge_turn state.bridge step).bridge new) → OnErr result (HasMorePages state.bridge new) → IsWhole (with_bridge state new)
 stepped_whole state new step (Ok answer) there whole after err = whole_kept state new whole (turn_promised state.bridge new step there after)
 stepped_whole state new step (Err e) there whole after err = whole_kept state new whole (more_promised state.bridge new err)

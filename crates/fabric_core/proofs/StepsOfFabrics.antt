@@ -34,7 +34,6 @@ use Rattle.hand_shake.specs.declared.CheckAnswer.TheVariants.{Up as ComesUp}
 use Rattle.fabric_rule.specs.Answers.{of_check}
 use Rattle.fabric_rule.specs.Parts.{PairState, QueuePart, plain_bridge, plain_pair}
 use Rattle.fabric_rule.specs.StandsFor.{PairStands, SideStandsIn, bridge_for}
-use Rattle.fabric_rule.specs.Steps.{move_of}
 use Rattle.fabric_rule.proofs.Facade.{each_step_stands}
 use Rattle.fabric_core.specs.Fabric.{FabricState, StandsFor, bare_plan, may_want_memory, no_state, pair_of, plain, plan_kept}
 use Rattle.fabric_core.specs.Fabrics.{IsFabric, fabric_seen}
@@ -45,6 +44,7 @@ use Rattle.fabric_core.specs.Lawful.{IsLawful}
 use Rattle.fabric_core.specs.FabricStep.{HasStepped}
 use Rattle.fabric_core.specs.Wants.{MayWant, counters_at}
 use Rattle.fabric_core.specs.LogClauses.{HasMade, IsAnswered, IsLikely, log_after}
+use Rattle.fabric_rule.specs.Moves.{move_of}
 
 -- A pair that differs in promises alone
 

@@ -5,14 +5,11 @@ use Rattle.step_kinds.specs.declared.names.Side.{Side}
 use Rattle.step_kinds.specs.declared.names.Side.TheVariants.{A, B}
 use Rattle.step_kinds.specs.declared.plan.DevPlan.{DevPlan}
 use Rattle.step_kinds.specs.declared.steps.Answer.{Answer}
-use Rattle.step_kinds.specs.declared.steps.Answer.TheVariants.{Ok as Done, OkNumber}
 use Rattle.step_kinds.specs.declared.steps.Label.TheVariants.{Raw}
 use Rattle.step_kinds.specs.declared.steps.Step.{Step}
-use Rattle.step_kinds.specs.declared.steps.Step.TheVariants.{Enable, Train, Break, DropDone, Clean, Offer, Check, Ready, Join, Begin, Xbegin, Post, Land, Clear, Ack, Irq, Mask, Unmask, Spad, Poke}
-use Rattle.plan_model.specs.Ethernet.{ethernet_frame}
+use Rattle.step_kinds.specs.declared.steps.Step.TheVariants.{Enable, Train, Break, DropDone, Clean, Offer, Check, Ready, Join, Post, Land, Clear, Ack, Irq, Mask, Unmask, Spad, Poke}
 use Rattle.plan_model.specs.Link.{is_up}
 use Rattle.plan_model.specs.Pads.{links_pad, pad_index}
-use Rattle.plan_model.specs.Plans.{dev_plan}
 use Rattle.bridge_pair.specs.Bridge.{Bridge, book_of, flight_of, with_book, with_bytes}
 use Rattle.bridge_pair.specs.Laws.{KeepsPromises}
 use Rattle.bridge_pair.specs.Writes.{PostedWrite, memory_write, pad_write}
@@ -29,45 +26,19 @@ use Rattle.hand_shake.specs.declared.OfferAnswer.{OfferAnswer}
 use Rattle.hand_shake.specs.declared.OfferAnswer.TheVariants.{Offered}
 use Rattle.hand_shake.specs.declared.ReadyAnswer.{ReadyAnswer}
 use Rattle.hand_shake.specs.declared.ReadyAnswer.TheVariants.{Ok as IsReady}
-use Rattle.fabric_rule.specs.Moves.{Move, bridge_move, clean_move, posted_aside, shows, xbegun}
-use Rattle.fabric_rule.specs.Parts.{PairState, QueuePart, plain_bridge, plain_pair, queue_of}
-use Rattle.fabric_rule.specs.Steps.{move_of}
+use Rattle.fabric_rule.specs.Parts.{PairState, plain_bridge, plain_pair}
 use Rattle.fabric_core.specs.Promises.{HasMorePages, KeepsPromised, with_promised}
-use Rattle.fabric_core.specs.Turns.{bare_pair, bridge_turn, place_of, queue_turn, turned}
-use Rattle.fabric_core.specs.declared.places.StepPlace.{StepPlace}
-use Rattle.fabric_core.specs.declared.places.StepPlace.TheVariants.{OnQueue, OnSide, OnBridge, OnSwitch}
+use Rattle.step_kinds.specs.declared.steps.StepPlace.{StepPlace}
+use Rattle.step_kinds.specs.declared.steps.StepPlace.TheVariants.{OnBridge}
+use Rattle.fabric_rule.specs.Moves.{Move, move_of}
+use Rattle.fabric_rule.specs.Turns.{bridge_turn, posted_aside}
+use Rattle.step_kinds.specs.Places.{step_place}
 
 -- Where a step is made
 
--- what a step is that is made there
-abbrev pub IsMadeAt : List DevPlan → PairState → Step → StepPlace → Type 0
-IsMadeAt devs pair step (OnQueue side queue) = move_of devs pair step ≡ turned pair side queue (queue_turn devs (queue_of pair side queue) pair.bridge step)
-IsMadeAt devs pair step (OnSide side) = move_of devs pair step ≡ clean_move pair side
-IsMadeAt devs pair step OnBridge = move_of devs pair step ≡ bridge_move pair (bridge_turn pair.bridge step).answer (bridge_turn pair.bridge step).bridge
-IsMadeAt devs pair step OnSwitch = move_of devs pair step ≡ shows pair Done
-
--- of a pair it is the bridge alone that a device's frame needs
-xbegun_bare : (answer : Answer) (pair : PairState) (part : QueuePart) (frame : List ℕ) → xbegun answer pair part frame ≡ xbegun answer (bare_pair pair.bridge) part frame
-xbegun_bare (OkNumber number) pair part frame = refl
-xbegun_bare answer pair part frame = refl
-
-with_part : PairState → Side → ℕ → Answer → QueuePart → Move
-with_part pair side queue answer part = turned pair side queue (record { answer = answer; part = part; bridge = pair.bridge })
-
-xbegin_made : (pair : PairState) (dev : DevPlan) (side : Side) (queue : ℕ) (frame : List ℕ) (answer : Answer)
-    → turned pair side queue (record { answer = answer; part = xbegun answer pair (queue_of pair side queue) frame; bridge = pair.bridge })
-    ≡ turned pair side queue (record { answer = answer; part = xbegun answer (bare_pair pair.bridge) (queue_of pair side queue) frame; bridge = pair.bridge })
-unfolding with_part
-xbegin_made pair dev side queue frame answer = ap (with_part pair side queue answer) (xbegun_bare answer pair (queue_of pair side queue) frame)
-
-made_at : (devs : List DevPlan) (pair : PairState) (step : Step) → IsMadeAt devs pair step (place_of step)
-made_at devs pair (Xbegin p side queue dev dst kind payload) = xbegin_made pair (dev_plan devs dev) side queue (ethernet_frame dst (dev_plan devs dev).address kind payload) _
-made_at devs pair (Begin p side queue frame) = refl
-made_at devs pair step = refl
-
 -- What a step makes of a pair is a turn at its place: of one queue, of a side that is cleaned, or of the bridge.
-pub made_there : (devs : List DevPlan) (pair : PairState) (step : Step) (place : StepPlace) → place ≡ place_of step → IsMadeAt devs pair step place
-made_there devs pair step place is = subst (IsMadeAt devs pair step) (sym is) (made_at devs pair step)
+pub made_there : (devs : List DevPlan) (pair : PairState) (step : Step) (place : StepPlace) → place ≡ step_place step → move_of devs pair step ≡ move_at devs pair step place
+made_there devs pair step place is = ap (move_at devs pair step) (sym is)
 
 -- what a move answers and what it leaves, if it is another that was made
 pub answered : {E : Type 0} (result : Result Answer E) (move made : Move) → move ≡ made → IfOk result (λ answer. answer ≡ made.answer) → IfOk result (λ answer. answer ≡ move.answer)
@@ -127,7 +98,7 @@ aside_keeps bridge side write = at_test (is_up bridge.link.state) where
   at_test true = posted_keeps bridge side write
   at_test false = keeps_all bridge
 
-turn_keeps : (bridge : Bridge) (step : Step) → place_of step ≡ OnBridge → KeepsPromises bridge (bridge_turn bridge step).bridge
+turn_keeps : (bridge : Bridge) (step : Step) → step_place step ≡ OnBridge → KeepsPromises bridge (bridge_turn bridge step).bridge
 turn_keeps bridge (Enable p side) there = link_steps_keep_promises.enable bridge side
 turn_keeps bridge (Train p) there = link_steps_keep_promises.train bridge
 turn_keeps bridge (Break p) there = link_steps_keep_promises.cut bridge
@@ -173,7 +144,7 @@ pub more_plain : (old new : Bridge) → HasMorePages old new → plain_bridge ne
 more_plain old new more = ap plain_bridge more.rest
 
 -- A step on the bridge, with further pages promised, keeps the plan, all promised pages and each side's room.
-pub turn_promised : (old new : Bridge) (step : Step) → place_of step ≡ OnBridge → HasMorePages (bridge_turn old step).bridge new → KeepsPromised old new
+pub turn_promised : (old new : Bridge) (step : Step) → step_place step ≡ OnBridge → HasMorePages (bridge_turn old step).bridge new → KeepsPromised old new
 turn_promised old new step there more =
     kept_twice old (bridge_turn old step).bridge new (still old (bridge_turn old step).bridge (turn_keeps old step there)) (more_keeps (bridge_turn old step).bridge new more)
 

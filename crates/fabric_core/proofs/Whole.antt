@@ -9,13 +9,13 @@ use Rattle.step_kinds.specs.declared.names.Side.TheVariants.{A, B}
 use Rattle.step_kinds.specs.declared.plan.PairPlan.{PairPlan}
 use Rattle.plan_model.specs.Plans.{side_plan}
 use Rattle.bridge_pair.specs.Bridge.{Bridge, flight_of, pages_of}
-use Rattle.fabric_rule.specs.Moves.{forgotten_queue}
 use Rattle.fabric_rule.specs.Parts.{PairState, QueuePart, no_queue, queue_of, queues_of, with_bridge}
 use Rattle.frame_ring.specs.Port.{PortState, fresh_port, unused_of}
 use Rattle.frame_ring.specs.PortView.{HasPagesIn}
 use Rattle.fabric_core.specs.Parts.{IsInPlace, IsWhole, KeepsPort, all_unused}
 use Rattle.fabric_core.specs.Promises.{KeepsPromised}
 use Rattle.fabric_core.proofs.PromisesOfQueues.{pages_stay}
+use Rattle.fabric_rule.specs.Moves.{forgotten_queue}
 
 -- Pages that were promised stay so
 

@@ -14,5 +14,4 @@ pub mod QueueCalls
 pub mod Refusals
 pub mod Same
 pub mod Sessions
-pub mod Turns
 pub mod Wants

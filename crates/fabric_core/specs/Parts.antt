@@ -22,9 +22,9 @@ use Rattle.fabric_rule.specs.Parts.{PairState, QueuePart, no_queue, queue_of, qu
 use Rattle.fabric_rule.specs.Laws.{IsFreshQueue}
 use Rattle.fabric_rule.specs.StandsFor.{IsOn}
 use Rattle.fabric_core.specs.Promises.{CanTurn}
-use Rattle.fabric_core.specs.Turns.{place_of}
-use Rattle.fabric_core.specs.declared.places.StepPlace.{StepPlace}
-use Rattle.fabric_core.specs.declared.places.StepPlace.TheVariants.{OnQueue}
+use Rattle.step_kinds.specs.declared.steps.StepPlace.{StepPlace}
+use Rattle.step_kinds.specs.declared.steps.StepPlace.TheVariants.{OnQueue}
+use Rattle.step_kinds.specs.Places.{step_place}
 
 -- a queue before any step, whose device has these limits
 abbrev pub fresh_part : PairPlan → Side → ℕ → ℕ → ℕ → QueuePart
@@ -83,7 +83,7 @@ HasPlace bridge (OnQueue side queue) = queue < (side_plan bridge.plan side).queu
 HasPlace bridge place = Unit {0}
 
 pub record CanMake (devs : List DevPlan) (before : Bridge) (step : Step) : Type 0 where
-  pub place : HasPlace before (place_of step)
+  pub place : HasPlace before (step_place step)
   pub queue : CanTurnQueue devs step
   pub bridge : CanTurn before step
 

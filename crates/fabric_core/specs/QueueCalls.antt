@@ -1,8 +1,9 @@
 -- What a call on a queue needs of the queue and of its pair, and what comes of it.
-use Rattle.std.specs.Prelude.{◌≡◌, ◌≤◌, ◌⊎◌, Bool, false, true, IfOk, OnErr, OnOk, Result}
+use Rattle.std.specs.Prelude.{ℕ, ◌≡◌, ◌≤◌, ◌⊎◌, Bool, false, true, IfOk, OnErr, OnOk, Result}
 use Rattle.step_kinds.specs.declared.plan.Counters.{Counters}
 use Rattle.step_kinds.specs.declared.steps.Answer.{Answer}
 use Rattle.step_kinds.specs.declared.steps.Answer.TheVariants.{OkNumber, ReadyFrame}
+use Rattle.plan_model.specs.Device.{count_accepted, count_refused, stopped_after_send}
 use Rattle.bridge_pair.specs.Bridge.{Bridge}
 use Rattle.frame_ring.specs.Port.{PortState}
 use Rattle.frame_ring.specs.PortView.{FitsRings, HasPagesIn, HasRoomIn}
@@ -11,7 +12,7 @@ use Rattle.queue_pair.specs.Queue.{QueueState}
 use Rattle.fabric_rule.specs.Parts.{QueuePart, plain_bridge}
 use Rattle.fabric_core.specs.Numbers.{most_count}
 use Rattle.fabric_core.specs.Parts.{KeepsPort}
-use Rattle.fabric_core.specs.Turns.{QueueTurn}
+use Rattle.fabric_rule.specs.Turns.{QueueTurn}
 
 -- before an entry is begun or looked for: the queue is one of this pair, its rings fit where it is joined, and the pages that its
 -- port was promised are there
@@ -63,3 +64,14 @@ pub record HasTurnedUnlessWanting {E : Type 0} (MayWant : Answer → Type 0) (tu
   pub wants : OnErr result (MayWant turn.answer)
   pub plain : plain_bridge new_bridge ≡ plain_bridge old_bridge
   pub keeps : KeepsPort old.queue.port new.queue.port old_bridge new_bridge
+
+-- A device's frame, as its calls count it
+
+-- a device's frame is counted, once it was begun, which left so many entries free
+abbrev pub counted_begun : QueuePart → ℕ → ℕ → QueuePart
+counted_begun part free len =
+    record part { flow = record part.flow { stopped = stopped_after_send part.flow free }; counters = count_accepted part.counters len }
+
+-- and counted where it was refused
+abbrev pub refused_once : QueuePart → QueuePart
+refused_once part = record part { counters = count_refused part.counters }

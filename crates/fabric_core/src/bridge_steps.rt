@@ -1,6 +1,6 @@
 //! The steps that touch the bridge of a pair alone: the link, the handshake, registers, landings and what is shown.
 
-ghost use Rattle.std.specs.Prelude.{IfOk, IsErr, OnErr, OnOk, bit_or, false, length, option_map, slice_get, ◌+◌, ◌<◌, ◌≡◌, ◌≤◌, true};
+ghost use Rattle.std.specs.Prelude.{IfOk, IsErr, OnErr, OnOk, bit_or, length, option_map, slice_get, ◌+◌, ◌<◌, ◌≡◌, ◌≤◌, true};
 ghost use Rattle.plan_numbers.specs.Memories.{memory_size};
 ghost use Rattle.bridge_pair.specs.Bridge.{bells_of, bytes_of, flight_of, pages_of, with_bells};
 ghost use Rattle.bridge_pair.specs.Calls.{HasPages};
@@ -10,10 +10,8 @@ ghost use Rattle.bridge_pair.specs.Writes.{memory_write, pad_write};
 ghost use Rattle.bridge_regs.specs.Doorbell.{with_masked};
 ghost use Rattle.fabric_core.specs.Fabric.{may_want_memory};
 ghost use Rattle.fabric_core.specs.Promises.{CanTurn, HasMorePages};
-ghost use Rattle.fabric_core.specs.Turns.{bridge_turn, place_of};
-ghost use Rattle.fabric_core.specs.declared.places.StepPlace.TheVariants.{OnBridge};
+ghost use Rattle.step_kinds.specs.declared.steps.StepPlace.TheVariants.{OnBridge};
 ghost use Rattle.fabric_rule.specs.Answers.{of_link};
-ghost use Rattle.fabric_rule.specs.Moves.{posted_aside};
 ghost use Rattle.hand_shake.specs.Offers.{with_posted};
 ghost use Rattle.ledger_laws.specs.Laws.{is_made};
 ghost use Rattle.host_memory.specs.Memory.{bytes_at};
@@ -23,6 +21,8 @@ ghost use Rattle.step_kinds.specs.Bits.{without_bits};
 ghost use Rattle.step_kinds.specs.Sides.{other_side};
 ghost use Rattle.step_kinds.specs.declared.steps.Answer.TheVariants as answer;
 ghost use Rattle.step_kinds.specs.declared.steps.Label.TheVariants.{Raw as RawLabel};
+ghost use Rattle.fabric_rule.specs.Turns.{bridge_turn, posted_aside};
+ghost use Rattle.step_kinds.specs.Places.{step_place};
 
 use crate::answers::{
     check_answer, join_answer, land_answer, link_answer, offer_answer, ready_answer, refusal_answer,
@@ -42,7 +42,7 @@ use step_kinds::{Answer, Frame, Label, Side, Step};
 /// [`AllocError`] from out of memory alone. Further pages may then be promised, and nothing else changes.
 #[inline(always)]
 pub fn bridge_step(pair: &mut Pair, alloc: Global, step: &Step) -> Result<Answer, AllocError>
-    requires place { place_of step.now ≡ OnBridge }
+    requires place { step_place step.now ≡ OnBridge }
     requires can { CanTurn pair.old step.now }
     ensures answer { IfOk result (λ answer. answer ≡ (bridge_turn pair.old step.now).answer) }
     ensures after { OnOk result (HasMorePages (bridge_turn pair.old step.now).bridge pair.new) }

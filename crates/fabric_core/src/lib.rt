@@ -8,7 +8,6 @@ mod counts;
 mod fabric;
 mod keys;
 mod pairs;
-mod places;
 mod queues;
 mod refusals;
 mod same;

@@ -7,24 +7,23 @@ ghost use Rattle.fabric_core.specs.InFlight.{pair_key, pair_key_without};
 ghost use Rattle.fabric_core.specs.Parts.{Agrees, AreAlone, AreFreshQueues, AreLimitsOn, CanForget, CanMake, CanTurnQueue, HasOtherRoom, KeepsPort};
 ghost use Rattle.fabric_core.specs.Promises.{CanTurn};
 ghost use Rattle.fabric_core.specs.Same.{AreOfOneSide, AreSameParts, HasSameQueues, IsSamePair, LandsAsPair};
-ghost use Rattle.fabric_core.specs.Turns.{bridge_turn, place_of as place_of_step, queue_turn, turned};
 ghost use Rattle.fabric_core.specs.Wants.{MayWant, counters_at};
-ghost use Rattle.fabric_core.specs.declared.places.StepPlace.TheVariants.{OnBridge};
+ghost use Rattle.step_kinds.specs.declared.steps.StepPlace.TheVariants.{OnBridge};
 ghost use Rattle.ledger_laws.specs.Laws.{is_made};
 ghost use Rattle.fabric_rule.specs.Laws.{IsFreshPair};
-ghost use Rattle.fabric_rule.specs.Moves.{bridge_move, clean_move, forgotten_queue};
 ghost use Rattle.fabric_rule.specs.Parts.{no_queue, plain_bridge, plain_pair, queue_of};
-ghost use Rattle.fabric_rule.specs.Steps.{move_of};
 ghost use Rattle.frame_ring.specs.PortView.{FitsRings, HasPagesIn, HasRoomIn};
 ghost use Rattle.plan_model.specs.DeclaredPlans.{IsPair};
 ghost use Rattle.plan_model.specs.Plans.{side_plan as side_plan_of};
 ghost use Rattle.queue_pair.specs.Gates.{is_joined};
 ghost use Rattle.step_kinds.specs.declared.names.Side.TheVariants.{A, B};
+ghost use Rattle.fabric_rule.specs.Turns.{bridge_turn, queue_turn};
+ghost use Rattle.step_kinds.specs.Places.{step_place};
+ghost use Rattle.fabric_rule.specs.Moves.{bridge_turned, clean_move, forgotten_queue, move_of, turned};
 
 use crate::answers::refusal_answer;
 use crate::bridge_steps::bridge_step;
 use crate::keys::{push_flight, push_flight_without};
-use crate::places::{StepPlace, place_of};
 use crate::queues::QueueBox;
 use bridge_pair::Pair;
 use plan_numbers::side_plan;
@@ -80,7 +79,7 @@ impl PairBox {
         ensures wants { IsErr result → may_want_memory step.now ≡ true }
         ensures border { OnErr result (MayWant (counters_at self.old step.now) step.now (move_of devs.now self.old step.now).answer) }
     {
-        match place_of(step) {
+        match step.place() {
             StepPlace::OnQueue { side, queue } => self.queue_step(side, queue, devs, step),
             StepPlace::OnSide { side } => Ok(self.clean(side)),
             StepPlace::OnBridge => self.step_aside(step),
@@ -91,10 +90,10 @@ impl PairBox {
     // Makes a step on the bridge alone.
     #[inline(always)]
     fn step_aside(&mut self, step: &Step) -> Result<Answer, AllocError>
-        requires place { place_of_step step.now ≡ OnBridge }
+        requires place { step_place step.now ≡ OnBridge }
         requires can { CanTurn self.old.bridge step.now }
         ensures answer { IfOk result (λ answer. answer ≡ (bridge_turn self.old.bridge step.now).answer) }
-        ensures after { OnOk result (plain_pair self.new ≡ plain_pair (bridge_move self.old (bridge_turn self.old.bridge step.now).answer (bridge_turn self.old.bridge step.now).bridge).after) }
+        ensures after { OnOk result (plain_pair self.new ≡ plain_pair (bridge_turned self.old (bridge_turn self.old.bridge step.now)).after) }
         ensures err { OnErr result (plain_pair self.new ≡ plain_pair self.old) }
         ensures wants { IsErr result → may_want_memory step.now ≡ true }
         ensures border { OnErr result (is_made (bridge_turn self.old.bridge step.now).answer ≡ true) }

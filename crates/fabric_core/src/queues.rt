@@ -4,12 +4,10 @@ ghost use Rattle.std.specs.Prelude.{IfOk, IsErr, IsTrue, OnErr, OnOk, length, tr
 ghost use Rattle.fabric_core.specs.Numbers.{HasRoomToSend, most_count};
 ghost use Rattle.fabric_core.specs.Fabric.{may_want_memory};
 ghost use Rattle.fabric_core.specs.Parts.{CanTurnQueue, KeepsPort, fresh_part};
-ghost use Rattle.fabric_core.specs.QueueCalls.{CanBegin, CanPost, HasTurned, HasTurnedUnlessWanting, IsBegun, IsBegunOrUncounted, IsFound};
+ghost use Rattle.fabric_core.specs.QueueCalls.{CanBegin, CanPost, HasTurned, HasTurnedUnlessWanting, IsBegun, IsBegunOrUncounted, IsFound, counted_begun, refused_once};
 ghost use Rattle.fabric_core.specs.Same.{AreOfOnePlace, IsSamePart};
 ghost use Rattle.fabric_core.specs.Wants.{MayWant};
 ghost use Rattle.plan_model.specs.Ethernet.{ethernet_frame};
-ghost use Rattle.fabric_core.specs.Turns.{ack_turn, begin_turn, clear_turn, copy_turn, counted_begun, frame_answer, frame_turn, look_turn, post_turn, qpdown_turn, queue_turn, refused_once, wake_turn};
-ghost use Rattle.fabric_rule.specs.Moves.{forgotten_queue};
 ghost use Rattle.fabric_rule.specs.Parts.{count_in, plain_bridge};
 ghost use Rattle.frame_ring.specs.Calls.{free_answer, reset_by};
 ghost use Rattle.frame_ring.specs.PortView.{FitsRings, HasPagesIn, HasRoomIn};
@@ -18,6 +16,8 @@ ghost use Rattle.plan_model.specs.Plans.{side_plan as side_plan_of};
 ghost use Rattle.queue_pair.specs.Gates.{is_joined, look_answer as queue_look_answer};
 ghost use Rattle.queue_pair.specs.declared.LookAnswer.TheVariants.{Ready as QueueReady};
 ghost use Rattle.step_kinds.specs.Limits.{most_frame_bytes};
+ghost use Rattle.fabric_rule.specs.Turns.{ack_turn, begin_turn, clear_turn, copy_turn, frame_answer, frame_turn, look_turn, post_turn, qpdown_turn, queue_turn, wake_turn};
+ghost use Rattle.fabric_rule.specs.Moves.{forgotten_queue};
 
 use crate::answers::{
     ack_answer, begin_answer, clear_answer, copy_answer, look_answer, post_answer, xbegin_answer,

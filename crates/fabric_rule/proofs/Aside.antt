@@ -24,7 +24,6 @@ use Rattle.bridge_pair.specs.Flights.{Flying, flying_of}
 use Rattle.bridge_pair.specs.Writes.{memory_write, pad_write}
 use Rattle.hand_shake.specs.Offers.{with_posted}
 use Rattle.fabric_rule.specs.InPlace.{LinkInPlace}
-use Rattle.fabric_rule.specs.Moves.{poke_move, show_mem_move, show_queue_move, spad_move}
 use Rattle.fabric_rule.specs.Parts.{PairState, QueuePart}
 use Rattle.fabric_rule.specs.StandsFor.{sent_of, writes_labelled}
 use Rattle.fabric_rule.proofs.Flights.{labels-writes, length-writes}
@@ -32,6 +31,7 @@ use Rattle.fabric_rule.proofs.Follows.{AllSides, Follows, state_for}
 use Rattle.fabric_rule.proofs.PostSteps.{posts_one, posts_with}
 use Rattle.fabric_rule.proofs.RingPlaces.{in_window}
 use Rattle.fabric_rule.proofs.StoredBytes.{read_inside}
+use Rattle.fabric_rule.specs.Moves.{move_of}
 
 module _ (devs : List DevPlan) (plan : PairPlan) (k : ℕ) (site : Site) (pages : Both (List ℕ)) (spare : Both ℕ) (queues : Both (List QueuePart))
     (link : LinkInPlace site.pair.link) (sides : AllSides devs plan k site.pair queues) where
@@ -47,7 +47,7 @@ module _ (devs : List DevPlan) (plan : PairPlan) (k : ℕ) (site : Site) (pages 
   spad_at side i value false is = (refl, record { bridge = refl; link = link; sides = sides })
   spad_at side i value true is = (refl, posts_one (record { bridge = refl; link = link; sides = sides }) is side (Pad i value) (flying_of plan side (pad_write i value)) _ refl tt tt tt)
 
-  pub spad_follows : (side : Side) (i value : ℕ) → Follows devs plan k site (Spad k side i value) (spad_step site.pair side i value) (spad_move state side i value)
+  pub spad_follows : (side : Side) (i value : ℕ) → Follows devs plan k site (Spad k side i value) (spad_step site.pair side i value) (move_of devs state (Spad k side i value))
   spad_follows side i value = spad_at side i value (is_up site.pair.link.state) refl
 
   -- Raw bytes
@@ -75,13 +75,13 @@ module _ (devs : List DevPlan) (plan : PairPlan) (k : ℕ) (site : Site) (pages 
   )
 
   pub poke_follows : (side : Side) (window offset : ℕ) (bytes : List ℕ) → IsPoke plan side window offset bytes
-      → Follows devs plan k site (Poke k side window offset bytes) (poke_step site.pair side window offset bytes) (poke_move state side window offset bytes)
+      → Follows devs plan k site (Poke k side window offset bytes) (poke_step site.pair side window offset bytes) (move_of devs state (Poke k side window offset bytes))
   poke_follows side window offset bytes fits = poke_at side window offset bytes (is_up site.pair.link.state) fits refl
 
   -- What is shown
 
   pub show_mem_follows : (side : Side) (at len : ℕ) → IsShown (side_plan plan side) at len
-      → Follows devs plan k site (ShowMem k side at len) (show_mem_step site.pair (bytes_of_site site side at len)) (show_mem_move state side at len)
+      → Follows devs plan k site (ShowMem k side at len) (show_mem_step site.pair (bytes_of_site site side at len)) (move_of devs state (ShowMem k side at len))
   show_mem_follows A at len shown = (ap Mem (read_inside site.stores.a (memory_size plan A) at len shown.within), record { bridge = refl; link = link; sides = sides })
   show_mem_follows B at len shown = (ap Mem (read_inside site.stores.b (memory_size plan B) at len shown.within), record { bridge = refl; link = link; sides = sides })
 
@@ -90,6 +90,6 @@ module _ (devs : List DevPlan) (plan : PairPlan) (k : ℕ) (site : Site) (pages 
       ap (λ n. QueueShown n (option_map (λ (flying : Flying). flying.label) (slice_get (writes_labelled plan side sent flight poked) place))) (length-writes plan side sent flight poked)
       ∙ ap (QueueShown (length flight)) (sym (slice_get-map (λ (flying : Flying). flying.label) (writes_labelled plan side sent flight poked) place) ∙ ap (λ labels. slice_get labels place) (labels-writes plan side sent flight poked))
 
-  pub show_queue_follows : (side : Side) (place : ℕ) → Follows devs plan k site (ShowQueue k side place) (show_queue_step site.pair side place) (show_queue_move state side place)
+  pub show_queue_follows : (side : Side) (place : ℕ) → Follows devs plan k site (ShowQueue k side place) (show_queue_step site.pair side place) (move_of devs state (ShowQueue k side place))
   show_queue_follows A place = (label_at A (sent_of site.pair.lanes.a) site.pair.sides.a.flight site.pair.sides.a.poked place, record { bridge = refl; link = link; sides = sides })
   show_queue_follows B place = (label_at B (sent_of site.pair.lanes.b) site.pair.sides.b.flight site.pair.sides.b.poked place, record { bridge = refl; link = link; sides = sides })

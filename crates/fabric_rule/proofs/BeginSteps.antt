@@ -40,7 +40,6 @@ use Rattle.queue_pair.specs.declared.BeginAnswer.TheVariants.{Ok as IsBegun, Lin
 use Rattle.step_kinds.specs.declared.lanes.Begun.{Begun}
 use Rattle.fabric_rule.specs.Answers.{of_begin, of_xbegin}
 use Rattle.fabric_rule.specs.InPlace.{FitsSlot, sender_of}
-use Rattle.fabric_rule.specs.Moves.{Move, accepted_where_begun, begin_move, qpdown_move, xbegin_move, xbegun}
 use Rattle.fabric_rule.specs.Parts.{QueuePart, SessionCount, count_in, one_more, with_queue}
 use Rattle.fabric_rule.specs.StandsFor.{IsOn, PairStands, QueueStands, has_forgotten, view_of}
 use Rattle.fabric_rule.proofs.NewEntries.{begun_in_place, free_less, last-begun, length-begun, length-pieces, pieces_fit, some_pieces}
@@ -51,6 +50,8 @@ use Rattle.fabric_rule.proofs.Links.{not_down_up}
 use Rattle.fabric_rule.proofs.OneQueue.{Standing, as_it_was, by_queue, device_changes, is_queue, joined_is, kept, part, part_with, port_queue, reads, seen_word, sender_changes, sent_stands, unchanged}
 use Rattle.fabric_rule.proofs.Changes.{changes, none_closes, one_closes, stays}
 use Rattle.fabric_rule.proofs.WhatIsRead.{own_fits, same_word, word_inside}
+use Rattle.fabric_rule.specs.Moves.{Move, move_of}
+use Rattle.fabric_rule.specs.Turns.{accepted_where_begun, xbegun}
 
 module _ {devs : List DevPlan} {plan : PairPlan} {k : ℕ} (now : Standing devs plan k) where
   -- a lane with its first entry begun, and the port's end of it
@@ -216,7 +217,7 @@ module _ {devs : List DevPlan} {plan : PairPlan} {k : ℕ} (now : Standing devs 
       (begin_fresh side queue frame (pieces_of (sizes_of plan side queue).largest frame) (has_bit (side_of now.site.pair side).joined queue) among fresh fits refl (pieces_fit (sizes_of plan side queue).largest frame)))
 
   pub begin_follows : (side : Side) (queue : ℕ) (frame : List ℕ) → queue < (side_plan plan side).queues → (has_bit (side_of now.site.pair side).joined queue ≡ true → SizesFit plan)
-      → Follows devs plan k now.site (Begin k side queue frame) (begin_step (sizes_of plan side queue) (reads now) now.site.pair side queue frame) (begin_move (kept now) side queue frame)
+      → Follows devs plan k now.site (Begin k side queue frame) (begin_step (sizes_of plan side queue) (reads now) now.site.pair side queue frame) (move_of devs (kept now) (Begin k side queue frame))
   begin_follows side queue frame among fits =
       by_queue now side queue (λ (q : QueueState). Follows devs plan k now.site (Begin k side queue frame) (begin_step (sizes_of plan side queue) (reads now) now.site.pair side queue frame) (begin_with side queue frame q)) among
       (λ forgotten forgot. begin_by side queue frame forgotten among forgot fits)
@@ -301,7 +302,7 @@ module _ {devs : List DevPlan} {plan : PairPlan} {k : ℕ} (now : Standing devs 
       (is_up now.site.pair.link.state) (has_bit (side_of now.site.pair side).joined queue) (has_bit (side_of now.site.pair side).closed queue) false (is_lane_busy (lane_of now.site.pair side queue)) false (is_full side queue 1 (seen_word now side queue)))))
 
   pub qpdown_follows : (side : Side) (queue : ℕ) → queue < (side_plan plan side).queues → (has_bit (side_of now.site.pair side).joined queue ≡ true → SizesFit plan)
-      → Follows devs plan k now.site (QpDown k side queue) (qpdown_step (sizes_of plan side queue) (reads now) now.site.pair side queue) (qpdown_move (kept now) side queue)
+      → Follows devs plan k now.site (QpDown k side queue) (qpdown_step (sizes_of plan side queue) (reads now) now.site.pair side queue) (move_of devs (kept now) (QpDown k side queue))
   qpdown_follows side queue among fits =
       by_queue now side queue (λ (q : QueueState). Follows devs plan k now.site (QpDown k side queue) (qpdown_step (sizes_of plan side queue) (reads now) now.site.pair side queue) (down_with side queue q)) among
       (λ forgotten forgot. down_by side queue forgotten among forgot fits)
@@ -320,7 +321,7 @@ module _ {devs : List DevPlan} {plan : PairPlan} {k : ℕ} (now : Standing devs 
       }
   device_part side queue frame said q after = record (part_with now side queue q) { counters = count_refused (part now side queue).counters }
 
-  device_part_is : (side : Side) (queue : ℕ) (frame : List ℕ) (said : Answer) (q : QueueState) → xbegun said (kept now) (part_with now side queue q) frame ≡ device_part side queue frame said q (after_begin q (kept now).bridge frame)
+  device_part_is : (side : Side) (queue : ℕ) (frame : List ℕ) (said : Answer) (q : QueueState) → xbegun said (kept now).bridge (part_with now side queue q) frame ≡ device_part side queue frame said q (after_begin q (kept now).bridge frame)
   device_part_is side queue frame (answer.OkNumber number) q = refl
   device_part_is side queue frame said q = refl
 
@@ -463,7 +464,7 @@ module _ {devs : List DevPlan} {plan : PairPlan} {k : ℕ} (now : Standing devs 
         (device_fresh side queue (pieces_of (sizes_of plan side queue).largest frame) (has_bit (side_of now.site.pair side).joined queue) among declared on fresh fits refl (pieces_fit (sizes_of plan side queue).largest frame)))
 
   pub xbegin_follows : (side : Side) (queue d : ℕ) (dst : List ℕ) (kind : ℕ) (payload : List ℕ) → queue < (side_plan plan side).queues → d < length devs → IsOn (dev_plan devs d) k side queue → (has_bit (side_of now.site.pair side).joined queue ≡ true → SizesFit plan)
-      → Follows devs plan k now.site (Xbegin k side queue d dst kind payload) (xbegin_step (sizes_of plan side queue) (reads now) (dev_plan devs d) now.site.pair side queue dst kind payload) (xbegin_move (kept now) (dev_plan devs d) side queue dst kind payload)
+      → Follows devs plan k now.site (Xbegin k side queue d dst kind payload) (xbegin_step (sizes_of plan side queue) (reads now) (dev_plan devs d) now.site.pair side queue dst kind payload) (move_of devs (kept now) (Xbegin k side queue d dst kind payload))
   xbegin_follows side queue d dst kind payload among declared on fits =
       subst (λ (new : QueuePart). Frames (record { answer = said; after = with_queue (kept now) side queue new })) (sym (device_part_is side queue frame said (part now side queue).queue))
       (by_queue now side queue (λ (q : QueueState). Frames (device_with d dst kind payload frame side queue (part now side queue).flow.stopped q)) among

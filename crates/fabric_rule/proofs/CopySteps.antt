@@ -25,7 +25,6 @@ use Rattle.frame_ring.specs.Calls.{after_copy, copy_answer, gathered_next}
 use Rattle.queue_pair.specs.Queue.{QueueState, with_port}
 use Rattle.fabric_rule.specs.Answers.{of_copy}
 use Rattle.fabric_rule.specs.InPlace.{CountsOfPhase, ReceivingInPlace, receiver_of}
-use Rattle.fabric_rule.specs.Moves.{Move, copy_move, delivered_where_whole}
 use Rattle.fabric_rule.specs.Parts.{one_more, with_queue}
 use Rattle.fabric_rule.specs.StandsFor.{has_forgotten}
 use Rattle.fabric_rule.proofs.Changes.{changes, peer_changes}
@@ -33,6 +32,8 @@ use Rattle.fabric_rule.proofs.Counts.{counts_one_more}
 use Rattle.fabric_rule.proofs.Follows.{Follows, updated_same}
 use Rattle.fabric_rule.proofs.OneQueue.{Standing, as_it_was, by_queue, received_stands, receiver_changes, kept, part, part_with, port_queue, reads, receives, stands_by}
 use Rattle.fabric_rule.proofs.WhatIsRead.{own_fits, same_part}
+use Rattle.fabric_rule.specs.Moves.{Move, move_of}
+use Rattle.fabric_rule.specs.Turns.{delivered_where_whole}
 
 -- of a receiver that copies
 pub copying_fits : (plan : PairPlan) (phase : Phase) → is_copying phase ≡ true → (phase ≡ Idle) ⊎ SizesFit plan → SizesFit plan
@@ -173,5 +174,5 @@ module _ {devs : List DevPlan} {plan : PairPlan} {k : ℕ} (now : Standing devs 
           (same_part plan now.site now.pages now.spare side queue now.declared among (own_fits plan (copying_fits plan (lane_to now.site.pair side queue).phase is stands.receiving.fits) side) (lane_to now.site.pair side queue).got (lane_to now.site.pair side queue).len (lane_to now.site.pair side queue).part (stands.receiving.len is))))
           (copies side queue true more_parts more_entries ((lane_to now.site.pair side queue).gathered ++ (reads now).part side queue) among fresh is)
 
-  pub copy_follows : (side : Side) (queue : ℕ) → queue < (side_plan plan side).queues → Follows devs plan k now.site (Copy k side queue) (copy_step (reads now) now.site.pair side queue) (copy_move (kept now) side queue)
+  pub copy_follows : (side : Side) (queue : ℕ) → queue < (side_plan plan side).queues → Follows devs plan k now.site (Copy k side queue) (copy_step (reads now) now.site.pair side queue) (move_of devs (kept now) (Copy k side queue))
   copy_follows side queue among = by_queue now side queue (λ (q : QueueState). Follows devs plan k now.site (Copy k side queue) (copy_step (reads now) now.site.pair side queue) (copied_with side queue q)) among (λ forgotten. copy_by side queue forgotten among)

@@ -26,7 +26,6 @@ use Rattle.ledger_model.specs.Reading.{by_bytes, by_ledger}
 use Rattle.memory_model.specs.Memory.{Site, bytes_of_site, memory_of, site_from, site_next, site_of, fresh_site}
 use Rattle.fabric_rule.specs.Laws.{EachStepStands}
 use Rattle.fabric_rule.specs.StandsFor.{PairStands}
-use Rattle.fabric_rule.specs.Steps.{move_of}
 use Rattle.fabric_rule.proofs.Aside.{poke_follows, show_mem_follows, show_queue_follows, spad_follows}
 use Rattle.fabric_rule.proofs.BeginSteps.{begin_follows, qpdown_follows, xbegin_follows}
 use Rattle.fabric_rule.proofs.BothReadings.{bytes_say_the_ledger, sites_are_the_ledger}
@@ -41,6 +40,7 @@ use Rattle.fabric_rule.proofs.LookSteps.{look_follows}
 use Rattle.fabric_rule.proofs.OneQueue.{Standing, kept}
 use Rattle.fabric_rule.proofs.PostingNext.{post_follows}
 use Rattle.fabric_rule.proofs.Registers.{irq_follows, mask_follows, show_pad_follows, unmask_follows}
+use Rattle.fabric_rule.specs.Moves.{move_of}
 
 -- what a log says of sizes: they fit where a queue is joined, and the peer's fits where a check comes up
 pub record SizesKnown (plan : PairPlan) (site : Site) : Type 0 where

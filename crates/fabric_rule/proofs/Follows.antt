@@ -15,10 +15,9 @@ use Rattle.ledger_model.specs.Outcome.{Outcome}
 use Rattle.ledger_model.specs.Reading.{by_bytes}
 use Rattle.memory_model.specs.Memory.{Site, bytes_of_site, stores_by}
 use Rattle.bridge_pair.specs.Bridge.{Bridge}
-use Rattle.fabric_rule.specs.Moves.{Move}
 use Rattle.fabric_rule.specs.Parts.{PairState, QueuePart}
 use Rattle.fabric_rule.specs.StandsFor.{PairStands, SideStandsIn, bridge_for}
-use Rattle.fabric_rule.specs.Steps.{move_of}
+use Rattle.fabric_rule.specs.Moves.{Move, move_of}
 
 -- Sides
 

@@ -13,8 +13,8 @@ use Rattle.queue_pair.specs.Queue.{QueueState, with_port}
 use Rattle.queue_pair.specs.declared.BeginAnswer.{BeginAnswer}
 use Rattle.queue_pair.specs.declared.BeginAnswer.TheVariants as begin
 use Rattle.fabric_rule.specs.Answers.{of_begin, of_xbegin}
-use Rattle.fabric_rule.specs.Moves.{accepted_where_begun}
 use Rattle.fabric_rule.specs.Parts.{QueuePart}
+use Rattle.fabric_rule.specs.Turns.{accepted_where_begun}
 
 abbrev pub side_says : Bool → Bool → Bool → Option BeginAnswer
 side_says up joined closed = if not up then Some begin.LinkDown else if not joined then Some begin.NotReady else if closed then Some begin.Closed else None

@@ -27,16 +27,15 @@ use Rattle.frame_ring.specs.PortView.{flags_cleared, index_posted}
 use Rattle.queue_pair.specs.Queue.{QueueState, with_port}
 use Rattle.fabric_rule.specs.Answers.{of_ack, of_clear}
 use Rattle.fabric_rule.specs.InPlace.{CountsOfPhase}
-use Rattle.fabric_rule.specs.Moves.{Move, ack_move, clear_move}
 use Rattle.fabric_rule.specs.Parts.{with_bridge, with_queue}
 use Rattle.fabric_rule.specs.StandsFor.{PairStands, has_forgotten}
 use Rattle.fabric_rule.proofs.Arrivals.{bytes_come}
 use Rattle.fabric_rule.proofs.Follows.{Follows}
 use Rattle.fabric_rule.proofs.OneQueue.{Standing, as_it_was, by_bridge, by_queue, received_part, then_standing, kept, part_with, port_queue, reads, receives, stands_by}
-use Rattle.fabric_rule.proofs.WhatIsRead.{own_fits}
+use Rattle.fabric_rule.proofs.WhatIsRead.{own_fits, header_inside}
 use Rattle.fabric_rule.proofs.RingPlaces.{fields_lie}
 use Rattle.fabric_rule.proofs.RingPosts.{index_posts}
-use Rattle.fabric_rule.proofs.WhatIsRead.{header_inside}
+use Rattle.fabric_rule.specs.Moves.{Move, move_of}
 
 -- of a receiver that took an entry, and of one that cleared its flags
 after_copied : (phase : Phase) (acked cleared got : ℕ) → is_copied phase ≡ true → CountsOfPhase phase acked cleared got → (acked + 1 ≡ cleared + 1) × (cleared + 1 ≡ got)
@@ -121,7 +120,7 @@ module _ {devs : List DevPlan} {plan : PairPlan} {k : ℕ} (now : Standing devs 
       by_turn (λ copied. Follows devs plan k now.site (Clear k side queue) (clear_made side queue copied) (clears side queue copied ((lane_to now.site.pair side queue).got - 1)))
       (is_copied (lane_to now.site.pair side queue).phase) (refl, as_it_was now side queue false among fresh) (clear_in_turn side queue among fresh)
 
-  pub clear_follows : (side : Side) (queue : ℕ) → queue < (side_plan plan side).queues → Follows devs plan k now.site (Clear k side queue) (clear_step now.site.pair side queue) (clear_move (kept now) side queue)
+  pub clear_follows : (side : Side) (queue : ℕ) → queue < (side_plan plan side).queues → Follows devs plan k now.site (Clear k side queue) (clear_step now.site.pair side queue) (move_of devs (kept now) (Clear k side queue))
   clear_follows side queue among = by_queue now side queue (λ (q : QueueState). Follows devs plan k now.site (Clear k side queue) (clear_step now.site.pair side queue) (cleared_with side queue q)) among (λ forgotten. clear_by side queue forgotten among)
 
   ack_in_turn : (side : Side) (queue : ℕ) → queue < (side_plan plan side).queues → has_forgotten now.site.pair.link side ≡ false → is_cleared (lane_to now.site.pair side queue).phase ≡ true
@@ -147,5 +146,5 @@ module _ {devs : List DevPlan} {plan : PairPlan} {k : ℕ} (now : Standing devs 
       by_turn (λ cleared. Follows devs plan k now.site (Ack k side queue) (ack_made side queue cleared) (acks side queue cleared ((lane_to now.site.pair side queue).got - 1)))
       (is_cleared (lane_to now.site.pair side queue).phase) (refl, as_it_was now side queue false among fresh) (ack_in_turn side queue among fresh)
 
-  pub ack_follows : (side : Side) (queue : ℕ) → queue < (side_plan plan side).queues → Follows devs plan k now.site (Ack k side queue) (ack_step (reads now) now.site.pair side queue) (ack_move (kept now) side queue)
+  pub ack_follows : (side : Side) (queue : ℕ) → queue < (side_plan plan side).queues → Follows devs plan k now.site (Ack k side queue) (ack_step (reads now) now.site.pair side queue) (move_of devs (kept now) (Ack k side queue))
   ack_follows side queue among = by_queue now side queue (λ (q : QueueState). Follows devs plan k now.site (Ack k side queue) (ack_step (reads now) now.site.pair side queue) (acked_with side queue q)) among (λ forgotten. ack_by side queue forgotten among)

@@ -19,12 +19,12 @@ use Rattle.ledger_model.specs.Sending.{flow_of, wake_step}
 use Rattle.plan_numbers.specs.Memories.{memory_size}
 use Rattle.frame_ring.specs.Calls.{free_answer}
 use Rattle.queue_pair.specs.Queue.{QueueState}
-use Rattle.fabric_rule.specs.Moves.{Move, wake_move}
 use Rattle.fabric_rule.specs.Parts.{QueuePart, with_queue}
 use Rattle.fabric_rule.specs.StandsFor.{IsOn, PairStands, has_forgotten}
 use Rattle.fabric_rule.proofs.Follows.{Follows, three_same}
 use Rattle.fabric_rule.proofs.OneQueue.{Standing, device_changes, is_queue, kept, part, reads, seen_word, unchanged}
 use Rattle.fabric_rule.proofs.WhatIsRead.{own_fits, same_word, word_inside}
+use Rattle.fabric_rule.specs.Moves.{Move, move_of}
 
 module _ {devs : List DevPlan} {plan : PairPlan} {k : ℕ} (now : Standing devs plan k) where
   -- A device that goes on
@@ -73,7 +73,7 @@ module _ {devs : List DevPlan} {plan : PairPlan} {k : ℕ} (now : Standing devs 
   stays_means false rest stays = absurd (false≢true stays)
 
   pub wake_follows : (side : Side) (queue d : ℕ) → queue < (side_plan plan side).queues → d < length devs → IsOn (dev_plan devs d) k side queue
-      → Follows devs plan k now.site (Wake k side queue d) (wake_step (reads now) (dev_plan devs d) now.site.pair side queue) (wake_move (kept now) side queue)
+      → Follows devs plan k now.site (Wake k side queue d) (wake_step (reads now) (dev_plan devs d) now.site.pair side queue) (move_of devs (kept now) (Wake k side queue d))
   wake_follows side queue d among declared on =
-      subst (λ stays. Follows devs plan k now.site (Wake k side queue d) (wake_made side queue stays) (wake_move (kept now) side queue)) (stays side queue d (dev_of now.site.pair side queue).stopped among declared on refl)
+      subst (λ stays. Follows devs plan k now.site (Wake k side queue d) (wake_made side queue stays) (move_of devs (kept now) (Wake k side queue d))) (stays side queue d (dev_of now.site.pair side queue).stopped among declared on refl)
       (wakes_or_stays side queue (stays_stopped (part now side queue).flow (free_answer (part now side queue).queue.port (kept now).bridge)) among (stays_means (part now side queue).flow.stopped _))

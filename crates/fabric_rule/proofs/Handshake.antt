@@ -1,6 +1,6 @@
 -- The steps of the handshake.
-use Rattle.std.proofs.Common.{◌≡◌, ℕ, zero, suc, ◌+◌, ◌/◌, ◌%◌, ◌≤◌, ◌==◌, ◌&&◌, ◌||◌, ◌⊎◌, Bool, true, false, Option, Some, None, List, [], ◌∷◌, ◌++◌, length, refl, sym, ap, ◌∙◌, subst, inl, inr}
-use Rattle.std.specs.Prelude.{if◌then◌else◌, not, nat_lt, find, slice_index_or}
+use Rattle.std.proofs.Common.{◌≡◌, ℕ, zero, suc, ◌+◌, ◌/◌, ◌%◌, ◌≤◌, ◌==◌, ◌&&◌, ◌⊎◌, Bool, true, false, Option, Some, None, List, [], ◌∷◌, ◌++◌, length, refl, sym, ap, ◌∙◌, subst, inl, inr}
+use Rattle.std.specs.Prelude.{if◌then◌else◌, not, slice_index_or}
 use Rattle.std.specs.List.{AllByRecursion, flat_map}
 use Rattle.std.proofs.lemmas.Bool.{true≢false}
 use Rattle.step_kinds.specs.Bits.{has_bit, with_bit}
@@ -19,16 +19,16 @@ use Rattle.lane_model.specs.Lane.{count_from}
 use Rattle.plan_model.specs.Both.{Both, at_side}
 use Rattle.plan_model.specs.DeclaredPlans.{IsPair}
 use Rattle.plan_model.specs.Link.{is_down, is_up}
-use Rattle.plan_model.specs.Pads.{high_pad, links_pad, low_pad, offers, pad_index, queues_pad, version_pad, windows_pad, word}
+use Rattle.plan_model.specs.Pads.{first_larger, high_pad, links_pad, low_pad, offers, pad_index, queues_pad, version_pad, versions_differ, windows_pad, word}
 use Rattle.plan_model.specs.Plans.{side_plan}
 use Rattle.byte_model.specs.FreshRings.{fresh_index_words, zeroed_headers}
-use Rattle.ledger_model.specs.Handshake.{check_refusal, check_step, join_step, offer_step, pad_in, ready_step, size_in}
-use Rattle.ledger_model.specs.Ledger.{link_up, side_of, with_side_part}
+use Rattle.ledger_model.specs.Handshake.{check_refusal, check_step, join_step, offer_step, pad_in, ready_step, refuse_larger}
+use Rattle.ledger_model.specs.Ledger.{SidePart, link_up, side_of, with_side_part}
 use Rattle.ledger_model.specs.Outcome.{decided, refuse_if}
 use Rattle.memory_model.specs.Memory.{Site}
 use Rattle.plan_numbers.specs.Memories.{memory_size}
 use Rattle.bridge_pair.specs.Bridge.{Bridge, with_book, with_memory}
-use Rattle.hand_shake.specs.Checks.{after_answer as after_check_answer, check_answer}
+use Rattle.hand_shake.specs.Checks.{after_answer as after_check_answer, check_answer, unless_larger}
 use Rattle.hand_shake.specs.Offers.{after_answer as after_offer_answer, pad_value, offered}
 use Rattle.hand_shake.specs.Queues.{after_join_answer, after_ready_answer}
 use Rattle.hand_shake.specs.declared.CheckAnswer.{CheckAnswer}
@@ -38,7 +38,6 @@ use Rattle.hand_shake.specs.declared.ReadyAnswer.TheVariants as ready
 use Rattle.hand_shake.specs.declared.JoinAnswer.TheVariants as join
 use Rattle.fabric_rule.specs.Answers.{of_check, of_join, of_offer, of_ready}
 use Rattle.fabric_rule.specs.InPlace.{LinkInPlace}
-use Rattle.fabric_rule.specs.Moves.{bridge_move, check_move, join_move, offer_move, ready_move}
 use Rattle.fabric_rule.specs.Parts.{PairState, QueuePart, with_bridge}
 use Rattle.fabric_rule.specs.StandsFor.{SideStands, book_for, bridge_for, has_forgotten, view_of, PairStands}
 use Rattle.bridge_pair.specs.declared.book.SideBook.{SideBook}
@@ -51,6 +50,7 @@ use Rattle.fabric_rule.proofs.Links.{not_down_up}
 use Rattle.fabric_rule.proofs.PostSteps.{posts_one}
 use Rattle.fabric_rule.proofs.RingPlaces.{rings_inside}
 use Rattle.fabric_rule.proofs.StoredBytes.{all_stored}
+use Rattle.fabric_rule.specs.Moves.{bridge_turned, move_of}
 
 -- What is offered
 
@@ -93,28 +93,20 @@ offer_is own n = pad_is _ (pad_among (offers own) (offers_are_pads own) n)
 abbrev ChecksAs : CheckAnswer → Option Answer → Type 0
 ChecksAs found refusal = ((found ≡ check.Up) × (refusal ≡ None)) ⊎ ((refusal ≡ Some (of_check found)) × (found ≡ check.Up → ⊥))
 
-abbrev larger_answer : (ℕ → ℕ) → ℕ → Option ℕ → CheckAnswer
-larger_answer size cap None = check.Up
-larger_answer size cap (Some m) = check.Size (size m) cap
-
-abbrev larger_refusal : (ℕ → ℕ) → ℕ → Option ℕ → Option Answer
-larger_refusal size cap None = None
-larger_refusal size cap (Some m) = Some (answer.Size (size m) cap)
-
 -- the tests in their order
-same_check : (down already none version queues windows : Bool) (larger : Option ℕ) (v ov q oq w ow cap : ℕ) (size : ℕ → ℕ)
+same_check : (down already none version queues windows : Bool) (larger : Option ℕ) (own : SidePlan) (part : SidePart) (v ov q oq w ow : ℕ)
     → ChecksAs
     (if down then check.LinkDown else if already then check.Already else if none then check.NotYet else if version then check.Version v ov else if queues then check.Queues q oq else if windows then check.Windows w ow
-    else larger_answer size cap larger)
-    (refuse_if down answer.LinkDown (refuse_if already answer.Already (refuse_if none answer.NotYet (refuse_if version (answer.Version v ov) (refuse_if queues (answer.Queues q oq) (refuse_if windows (answer.Windows w ow) (larger_refusal size cap larger)))))))
-same_check true already none version queues windows larger v ov q oq w ow cap size = inr (refl, λ e. cc)
-same_check false true none version queues windows larger v ov q oq w ow cap size = inr (refl, λ e. cc)
-same_check false false true version queues windows larger v ov q oq w ow cap size = inr (refl, λ e. cc)
-same_check false false false true queues windows larger v ov q oq w ow cap size = inr (refl, λ e. cc)
-same_check false false false false true windows larger v ov q oq w ow cap size = inr (refl, λ e. cc)
-same_check false false false false false true larger v ov q oq w ow cap size = inr (refl, λ e. cc)
-same_check false false false false false false None v ov q oq w ow cap size = inl (refl, refl)
-same_check false false false false false false (Some m) v ov q oq w ow cap size = inr (refl, λ e. cc)
+    else unless_larger own part.pads larger check.Up)
+    (refuse_if down answer.LinkDown (refuse_if already answer.Already (refuse_if none answer.NotYet (refuse_if version (answer.Version v ov) (refuse_if queues (answer.Queues q oq) (refuse_if windows (answer.Windows w ow) (refuse_larger part own.cap larger None)))))))
+same_check true already none version queues windows larger own part v ov q oq w ow = inr (refl, λ e. cc)
+same_check false true none version queues windows larger own part v ov q oq w ow = inr (refl, λ e. cc)
+same_check false false true version queues windows larger own part v ov q oq w ow = inr (refl, λ e. cc)
+same_check false false false true queues windows larger own part v ov q oq w ow = inr (refl, λ e. cc)
+same_check false false false false true windows larger own part v ov q oq w ow = inr (refl, λ e. cc)
+same_check false false false false false true larger own part v ov q oq w ow = inr (refl, λ e. cc)
+same_check false false false false false false None own part v ov q oq w ow = inl (refl, refl)
+same_check false false false false false false (Some m) own part v ov q oq w ow = inr (refl, λ e. cc)
 
 module _ (devs : List DevPlan) (plan : PairPlan) (k : ℕ) (site : Site) (pages : Both (List ℕ)) (spare : Both ℕ) (queues : Both (List QueuePart))
     (link : LinkInPlace site.pair.link) (sides : AllSides devs plan k site.pair queues) where
@@ -152,8 +144,7 @@ module _ (devs : List DevPlan) (plan : PairPlan) (k : ℕ) (site : Site) (pages 
       (decided site.pair (refuse_if (not up) answer.LinkDown (refuse_if spent answer.Already None)) (answer.Offered (pad_index (next side)))
       (if up then with_side_part site.pair side (record (side_of site.pair side) { offered = (side_of site.pair side).offered + 1; flight = (side_of site.pair side).flight ++ next side ∷ [] })
       else with_side_part site.pair side (record (side_of site.pair side) { offered = (side_of site.pair side).offered + 1 })))
-      (bridge_move state (of_offer (if not up then offer.LinkDown else if spent then offer.Already else offer.Offered (pad_index (next side))))
-      (after_offer_answer state.bridge side (if not up then offer.LinkDown else if spent then offer.Already else offer.Offered (pad_index (next side)))))
+      (bridge_turned state (record { answer = of_offer (if not up then offer.LinkDown else if spent then offer.Already else offer.Offered (pad_index (next side))); bridge = after_offer_answer state.bridge side (if not up then offer.LinkDown else if spent then offer.Already else offer.Offered (pad_index (next side))) }))
   offer_at side false spent is = (refl, stands)
   offer_at side true true is = (refl, stands)
   offer_at A true false is =
@@ -165,7 +156,7 @@ module _ (devs : List DevPlan) (plan : PairPlan) (k : ℕ) (site : Site) (pages 
       let posted = posts_one (book_changes B own.up own.ready (own.offered + 1)) is B (Pad (pad_index (next B)) (pad_value (next B))) (flying_of plan B (pad_write (pad_index (next B)) (pad_value (next B)))) spare.b refl tt tt tt in
       (refl, subst (OfferStands B) (sym (next_is B)) posted)
 
-  pub offer_follows : (side : Side) → Follows devs plan k site (Offer k side) (offer_step plan site.pair side) (offer_move state side)
+  pub offer_follows : (side : Side) → Follows devs plan k site (Offer k side) (offer_step plan site.pair side) (move_of devs state (Offer k side))
   offer_follows A = offer_at A (is_up site.pair.link.state) (site.pair.sides.a.offered == length (offers plan.a)) refl
   offer_follows B = offer_at B (is_up site.pair.link.state) (site.pair.sides.b.offered == length (offers plan.b)) refl
 
@@ -176,8 +167,7 @@ module _ (devs : List DevPlan) (plan : PairPlan) (k : ℕ) (site : Site) (pages 
       (decided site.pair (refuse_if (not up) answer.LinkDown (refuse_if (not checked) answer.NotChecked (refuse_if done answer.Already None))) answer.Ok
       (if up then with_side_part site.pair side (record (side_of site.pair side) { ready = with_bit (side_of site.pair side).ready queue; flight = (side_of site.pair side).flight ++ Pad links_pad (with_bit (side_of site.pair side).ready queue) ∷ [] })
       else with_side_part site.pair side (record (side_of site.pair side) { ready = with_bit (side_of site.pair side).ready queue })))
-      (bridge_move state (of_ready (if not up then ready.LinkDown else if not checked then ready.NotChecked else if done then ready.Already else ready.Ok))
-      (after_ready_answer state.bridge side queue (if not up then ready.LinkDown else if not checked then ready.NotChecked else if done then ready.Already else ready.Ok)))
+      (bridge_turned state (record { answer = of_ready (if not up then ready.LinkDown else if not checked then ready.NotChecked else if done then ready.Already else ready.Ok); bridge = after_ready_answer state.bridge side queue (if not up then ready.LinkDown else if not checked then ready.NotChecked else if done then ready.Already else ready.Ok) }))
   ready_at side queue false checked done is = (refl, stands)
   ready_at side queue true false done is = (refl, stands)
   ready_at side queue true true true is = (refl, stands)
@@ -190,7 +180,7 @@ module _ (devs : List DevPlan) (plan : PairPlan) (k : ℕ) (site : Site) (pages 
       let bits = with_bit own.ready queue in
       (refl, posts_one (book_changes B own.up bits own.offered) is B (Pad links_pad bits) (flying_of plan B (pad_write links_pad bits)) spare.b refl tt tt tt)
 
-  pub ready_follows : (side : Side) (queue : ℕ) → Follows devs plan k site (Ready k side queue) (ready_step site.pair side queue) (ready_move state side queue)
+  pub ready_follows : (side : Side) (queue : ℕ) → Follows devs plan k site (Ready k side queue) (ready_step site.pair side queue) (move_of devs state (Ready k side queue))
   ready_follows A queue = ready_at A queue (is_up site.pair.link.state) site.pair.sides.a.up (has_bit site.pair.sides.a.ready queue) refl
   ready_follows B queue = ready_at B queue (is_up site.pair.link.state) site.pair.sides.b.up (has_bit site.pair.sides.b.ready queue) refl
 
@@ -211,8 +201,7 @@ module _ (devs : List DevPlan) (plan : PairPlan) (k : ℕ) (site : Site) (pages 
       → Follows devs plan k site (Join k side queue)
       (decided site.pair (refuse_if (not up) answer.LinkDown (refuse_if (not is_ready) answer.NotReady (refuse_if done answer.Already (refuse_if (not agreed) answer.NotYet None)))) answer.Joined
       (with_side_part site.pair side (record (side_of site.pair side) { joined = with_bit (side_of site.pair side).joined queue })))
-      (bridge_move state (of_join (if not up then join.LinkDown else if not is_ready then join.NotReady else if done then join.Already else if not agreed then join.NotYet else join.Joined))
-      (after_join_answer state.bridge side queue (if not up then join.LinkDown else if not is_ready then join.NotReady else if done then join.Already else if not agreed then join.NotYet else join.Joined)))
+      (bridge_turned state (record { answer = of_join (if not up then join.LinkDown else if not is_ready then join.NotReady else if done then join.Already else if not agreed then join.NotYet else join.Joined); bridge = after_join_answer state.bridge side queue (if not up then join.LinkDown else if not is_ready then join.NotReady else if done then join.Already else if not agreed then join.NotYet else join.Joined) }))
   join_at side queue false is_ready done agreed is = (refl, stands)
   join_at side queue true false done agreed is = (refl, stands)
   join_at side queue true true true agreed is = (refl, stands)
@@ -220,7 +209,7 @@ module _ (devs : List DevPlan) (plan : PairPlan) (k : ℕ) (site : Site) (pages 
   join_at A queue true true false true is = (refl, record { bridge = refl; link = link; sides = by_side _ (joins A queue is) (sides B) })
   join_at B queue true true false true is = (refl, record { bridge = refl; link = link; sides = by_side _ (sides A) (joins B queue is) })
 
-  pub join_follows : (side : Side) (queue : ℕ) → Follows devs plan k site (Join k side queue) (join_step site.pair side queue) (join_move state side queue)
+  pub join_follows : (side : Side) (queue : ℕ) → Follows devs plan k site (Join k side queue) (join_step site.pair side queue) (move_of devs state (Join k side queue))
   join_follows A queue = join_at A queue (is_up site.pair.link.state) (has_bit site.pair.sides.a.ready queue) (has_bit site.pair.sides.a.joined queue) (has_bit (pad_in site.pair.sides.a links_pad) queue) refl
   join_follows B queue = join_at B queue (is_up site.pair.link.state) (has_bit site.pair.sides.b.ready queue) (has_bit site.pair.sides.b.joined queue) (has_bit (pad_in site.pair.sides.b links_pad) queue) refl
 
@@ -228,7 +217,7 @@ module _ (devs : List DevPlan) (plan : PairPlan) (k : ℕ) (site : Site) (pages 
 
   abbrev checks_as : Side → CheckAnswer → Option Answer → Type 0
   checks_as side found refusal =
-      Follows devs plan k site (Check k side) (decided site.pair refusal answer.Up (with_side_part site.pair side (record (side_of site.pair side) { up = true }))) (bridge_move state (of_check found) (after_check_answer state.bridge side found))
+      Follows devs plan k site (Check k side) (decided site.pair refusal answer.Up (with_side_part site.pair side (record (side_of site.pair side) { up = true }))) (bridge_turned state (record { answer = of_check found; bridge = after_check_answer state.bridge side found }))
 
   refused_check : (side : Side) (found : CheckAnswer) → (found ≡ check.Up → ⊥) → checks_as side found (Some (of_check found))
   refused_check side check.Up other = absurd (other refl)
@@ -258,6 +247,18 @@ module _ (devs : List DevPlan) (plan : PairPlan) (k : ℕ) (site : Site) (pages 
   check_as side found refusal declared fits (inr both) = subst (checks_as side found) (sym both.0) (refused_check side found both.1)
 
   pub check_follows : (side : Side) → IsPair plan → (check_refusal (side_plan plan side) (side_of site.pair side) (link_up site.pair) ≡ None → (side_plan plan (other_side side)).size ≤ (side_plan plan side).cap)
-      → Follows devs plan k site (Check k side) (check_step plan site.pair side) (check_move state side)
-  check_follows A declared fits = check_as A (check_answer state.bridge A) (check_refusal plan.a site.pair.sides.a (link_up site.pair)) declared fits (same_check (not (is_up site.pair.link.state)) site.pair.sides.a.up (pad_in site.pair.sides.a version_pad == 0) (not (pad_in site.pair.sides.a version_pad == plan.a.version) && (nat_lt (pad_in site.pair.sides.a version_pad) 4 || nat_lt plan.a.version 4)) (not (pad_in site.pair.sides.a queues_pad == plan.a.queues)) (not (pad_in site.pair.sides.a windows_pad == plan.a.windows)) (find (λ m. nat_lt plan.a.cap (size_in site.pair.sides.a m)) (count_from 0 plan.a.windows)) (pad_in site.pair.sides.a version_pad) plan.a.version (pad_in site.pair.sides.a queues_pad) plan.a.queues (pad_in site.pair.sides.a windows_pad) plan.a.windows plan.a.cap (size_in site.pair.sides.a))
-  check_follows B declared fits = check_as B (check_answer state.bridge B) (check_refusal plan.b site.pair.sides.b (link_up site.pair)) declared fits (same_check (not (is_up site.pair.link.state)) site.pair.sides.b.up (pad_in site.pair.sides.b version_pad == 0) (not (pad_in site.pair.sides.b version_pad == plan.b.version) && (nat_lt (pad_in site.pair.sides.b version_pad) 4 || nat_lt plan.b.version 4)) (not (pad_in site.pair.sides.b queues_pad == plan.b.queues)) (not (pad_in site.pair.sides.b windows_pad == plan.b.windows)) (find (λ m. nat_lt plan.b.cap (size_in site.pair.sides.b m)) (count_from 0 plan.b.windows)) (pad_in site.pair.sides.b version_pad) plan.b.version (pad_in site.pair.sides.b queues_pad) plan.b.queues (pad_in site.pair.sides.b windows_pad) plan.b.windows plan.b.cap (size_in site.pair.sides.b))
+      → Follows devs plan k site (Check k side) (check_step plan site.pair side) (move_of devs state (Check k side))
+  check_follows A declared fits =
+      let own = plan.a in
+      let part = site.pair.sides.a in
+      check_as A (check_answer state.bridge A) (check_refusal own part (link_up site.pair)) declared fits
+      (same_check (not (is_up site.pair.link.state)) part.up (pad_in part version_pad == 0) (versions_differ (pad_in part version_pad) own.version)
+      (not (pad_in part queues_pad == own.queues)) (not (pad_in part windows_pad == own.windows)) (first_larger own part.pads) own part
+      (pad_in part version_pad) own.version (pad_in part queues_pad) own.queues (pad_in part windows_pad) own.windows)
+  check_follows B declared fits =
+      let own = plan.b in
+      let part = site.pair.sides.b in
+      check_as B (check_answer state.bridge B) (check_refusal own part (link_up site.pair)) declared fits
+      (same_check (not (is_up site.pair.link.state)) part.up (pad_in part version_pad == 0) (versions_differ (pad_in part version_pad) own.version)
+      (not (pad_in part queues_pad == own.queues)) (not (pad_in part windows_pad == own.windows)) (first_larger own part.pads) own part
+      (pad_in part version_pad) own.version (pad_in part queues_pad) own.queues (pad_in part windows_pad) own.windows)

@@ -27,13 +27,13 @@ use Rattle.bridge_pair.specs.Ends.{label_landed}
 use Rattle.bridge_pair.specs.Flights.{Flying, flying_order}
 use Rattle.fabric_rule.specs.Answers.{of_land}
 use Rattle.fabric_rule.specs.InPlace.{IsBegun, LiesIn}
-use Rattle.fabric_rule.specs.Moves.{Move, land_move}
 use Rattle.fabric_rule.specs.StandsFor.{PairStands, SideStands, bridge_for, entry_among, flying_labelled, has_forgotten, sent_in, view_of, writes_labelled}
 use Rattle.fabric_rule.proofs.Arrivals.{bell_comes, bytes_come, pad_comes, unseen}
 use Rattle.fabric_rule.proofs.Flights.{all_get, all_remove, have-remove, label-write, labels-writes, orders-writes, poked_at, poked_left, writes-get, writes-remove}
 use Rattle.fabric_rule.proofs.Follows.{Follows, by_side, site_made}
 use Rattle.fabric_rule.proofs.OneQueue.{Standing, kept}
 use Rattle.fabric_rule.proofs.PostSteps.{with_writes}
+use Rattle.fabric_rule.specs.Moves.{Move, move_of}
 
 no_value : {X Y : Type 0} (f : X → Y) (found : Option X) → option_map f found ≡ None → found ≡ None
 no_value f None none = refl
@@ -149,6 +149,6 @@ module _ {devs : List DevPlan} {plan : PairPlan} {k : ℕ} (now : Standing devs 
       (sym (orders-writes plan side (sent_in (view_of now.site.pair side)) (side_of now.site.pair side).flight (side_of now.site.pair side).poked))
       (land_may side label (may_land (map (order_of plan side) (side_of now.site.pair side).flight) place) at))
 
-  pub land_follows : (side : Side) → Follows devs plan k now.site (Land k side place) (land_step plan now.site.pair side place) (land_move (kept now) side place)
+  pub land_follows : (side : Side) → Follows devs plan k now.site (Land k side place) (land_step plan now.site.pair side place) (move_of devs (kept now) (Land k side place))
   land_follows A = land_by A (slice_get now.site.pair.sides.a.flight place) refl
   land_follows B = land_by B (slice_get now.site.pair.sides.b.flight place) refl

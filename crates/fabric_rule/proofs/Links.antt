@@ -33,9 +33,9 @@ use Rattle.bridge_pair.specs.Links.{after_step, cleaned, dropped}
 use Rattle.fabric_rule.specs.Answers.{of_link, of_refusal}
 use Rattle.fabric_rule.specs.InPlace.{FlightInPlace, LinkInPlace, receiver_of, sender_of}
 use Rattle.fabric_rule.specs.StandsFor.{QueueStands, QueueView, SideStands, all_sent, bridge_with, sent_of, has_forgotten, port_for, sent_in, view_of, writes_labelled}
-use Rattle.fabric_rule.specs.Moves.{Move, forgotten, forgotten_queue, enable_move, train_move, break_move, drop_move, clean_move}
 use Rattle.fabric_rule.specs.Parts.{QueuePart, PairState, no_queue, with_bridge}
 use Rattle.fabric_rule.proofs.Follows.{AllSides, Follows, by_side, state_for}
+use Rattle.fabric_rule.specs.Moves.{Move, forgotten, forgotten_queue, move_of}
 
 -- a refusal has its own answer
 pub same_refusal : (refusal : LinkRefusal) → of_refusal refusal ≡ refusal_answer refusal
@@ -190,7 +190,7 @@ module _ (devs : List DevPlan) (plan : PairPlan) (k : ℕ) (site : Site) (pages 
   enabled B None passed = (refl, record { bridge = refl; link = enabled_in_place B (passed_enable (is_down site.pair.link.state) site.pair.link.clean.b passed); sides = by_side _ (sides A) (sides B) })
   enabled side (Some refusal) passed = (same_refusal refusal, record { bridge = refl; link = link; sides = sides })
 
-  pub enable_follows : (side : Side) → Follows devs plan k site (Enable k side) (enable_step site.pair side) (enable_move state side)
+  pub enable_follows : (side : Side) → Follows devs plan k site (Enable k side) (enable_step site.pair side) (move_of devs state (Enable k side))
   enable_follows side = enabled side (enable_refusal site.pair.link side) refl
 
   -- Train
@@ -237,7 +237,7 @@ module _ (devs : List DevPlan) (plan : PairPlan) (k : ℕ) (site : Site) (pages 
           (no_writes plan A (sent_of site.pair.lanes.a) (λ queue. []) site.pair.sides.a.flight site.pair.sides.a.poked (none A).0 (none A).1) (no_writes plan B (sent_of site.pair.lanes.b) (λ queue. []) site.pair.sides.b.flight site.pair.sides.b.poked (none B).0 (none B).1)
   trained (Some refusal) passed = (same_refusal refusal, record { bridge = refl; link = link; sides = sides })
 
-  pub train_follows : Follows devs plan k site (Train k) (train_step site.pair) (train_move state)
+  pub train_follows : Follows devs plan k site (Train k) (train_step site.pair) (move_of devs state (Train k))
   train_follows = trained (train_refusal site.pair.link) refl
 
   -- Break
@@ -256,7 +256,7 @@ module _ (devs : List DevPlan) (plan : PairPlan) (k : ℕ) (site : Site) (pages 
       (refl, record { bridge = refl; link = λ side down. absurd (false≢true down); sides = by_side _ (not_forgetting A up) (not_forgetting B up) })
   broken (Some refusal) passed = (same_refusal refusal, record { bridge = refl; link = link; sides = sides })
 
-  pub break_follows : Follows devs plan k site (Break k) (break_step site.pair) (break_move state)
+  pub break_follows : Follows devs plan k site (Break k) (break_step site.pair) (move_of devs state (Break k))
   break_follows = broken (cut_refusal site.pair.link) refl
 
   -- Drop
@@ -274,7 +274,7 @@ module _ (devs : List DevPlan) (plan : PairPlan) (k : ℕ) (site : Site) (pages 
       (refl, record { bridge = refl; link = by_side _ (λ down no. absurd (false≢true no)) (λ down no. absurd (false≢true no)); sides = by_side _ (emptied A (view_of site.pair A) (not_forgetting A closing)) (emptied B (view_of site.pair B) (not_forgetting B closing)) })
   all_dropped (Some refusal) passed = (same_refusal refusal, record { bridge = refl; link = link; sides = sides })
 
-  pub drop_follows : Follows devs plan k site (DropDone k) (drop_step site.pair) (drop_move state)
+  pub drop_follows : Follows devs plan k site (DropDone k) (drop_step site.pair) (move_of devs state (DropDone k))
   drop_follows = all_dropped (drop_refusal site.pair.link) refl
 
   -- Clean
@@ -307,5 +307,5 @@ module _ (devs : List DevPlan) (plan : PairPlan) (k : ℕ) (site : Site) (pages 
   cleans B None passed = (refl, record { bridge = refl; link = cleaned_in_place B; sides = by_side _ (sides A) (cleaned_end B (passed_where (is_down site.pair.link.state) NotDown passed)) })
   cleans side (Some refusal) passed = (same_refusal refusal, record { bridge = refl; link = link; sides = sides })
 
-  pub clean_follows : (side : Side) → Follows devs plan k site (Clean k side) (clean_step site.pair side) (clean_move state side)
+  pub clean_follows : (side : Side) → Follows devs plan k site (Clean k side) (clean_step site.pair side) (move_of devs state (Clean k side))
   clean_follows side = cleans side (clean_refusal site.pair.link) refl

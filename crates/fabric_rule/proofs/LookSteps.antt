@@ -1,5 +1,5 @@
 -- Looking for the next entry.
-use Rattle.std.proofs.Common.{◌≡◌, ℕ, ◌<◌, ◌≤◌, Bool, true, false, None, List, length, refl, sym, subst, inr}
+use Rattle.std.proofs.Common.{◌≡◌, ℕ, ◌<◌, ◌≤◌, Bool, true, false, None, List, length, refl, sym, subst, inr, []}
 use Rattle.std.specs.Prelude.{if◌then◌else◌, not}
 use Rattle.std.proofs.lemmas.Bool.{false≢true}
 use Rattle.step_kinds.specs.Bits.{has_bit}
@@ -29,16 +29,15 @@ use Rattle.queue_pair.specs.declared.LookAnswer.{LookAnswer}
 use Rattle.queue_pair.specs.declared.LookAnswer.TheVariants.{NotReady as NotJoined, Closed as QueueClosed}
 use Rattle.fabric_rule.specs.Answers.{of_look}
 use Rattle.fabric_rule.specs.InPlace.{CountsOfPhase}
-use Rattle.fabric_rule.specs.Moves.{Move, look_move}
 use Rattle.fabric_rule.specs.Parts.{with_queue}
 use Rattle.fabric_rule.specs.StandsFor.{has_forgotten}
-use Rattle.std.proofs.Common.{[]}
 use Rattle.std.proofs.lemmas.List.{append-nil}
 use Rattle.step_kinds.specs.Sides.{other_side}
 use Rattle.fabric_rule.proofs.Changes.{one_closes, stays}
 use Rattle.fabric_rule.proofs.Follows.{Follows}
 use Rattle.fabric_rule.proofs.OneQueue.{Standing, as_it_was, by_queue, is_queue, joined_is, kept, no_joined, part, part_with, port_queue, reads, receives, sender_changes, sent_part, sent_stands, stands_by, unchanged}
 use Rattle.fabric_rule.proofs.WhatIsRead.{found_fits, own_fits, same_found}
+use Rattle.fabric_rule.specs.Moves.{Move, move_of}
 
 -- an idle receiver has given back all that it took
 idle_counts : (phase : Phase) (acked cleared got : ℕ) → is_idle phase ≡ true → CountsOfPhase phase acked cleared got → (acked ≡ cleared) × (cleared ≡ got)
@@ -128,6 +127,6 @@ module _ {devs : List DevPlan} {plan : PairPlan} {k : ℕ} (now : Standing devs 
       (λ fit. same_found plan now.site now.pages now.spare side queue now.declared among (own_fits plan fit side) (lane_to now.site.pair side queue).got (length (lane_to now.site.pair side queue).gathered)))
 
   pub look_follows : (side : Side) (queue : ℕ) → queue < (side_plan plan side).queues → (has_bit (side_of now.site.pair side).joined queue ≡ true → SizesFit plan)
-      → Follows devs plan k now.site (Look k side queue) (look_step (reads now) now.site.pair side queue) (look_move (kept now) side queue)
+      → Follows devs plan k now.site (Look k side queue) (look_step (reads now) now.site.pair side queue) (move_of devs (kept now) (Look k side queue))
   look_follows side queue among fits =
       by_queue now side queue (λ (q : QueueState). Follows devs plan k now.site (Look k side queue) (look_step (reads now) now.site.pair side queue) (looked_with side queue q)) among (λ forgotten forgot. look_by side queue forgotten among forgot fits)

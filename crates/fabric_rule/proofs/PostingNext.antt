@@ -27,7 +27,6 @@ use Rattle.frame_ring.specs.PortView.{ring_posted}
 use Rattle.queue_pair.specs.Queue.{QueueState, with_port}
 use Rattle.fabric_rule.specs.Answers.{of_post}
 use Rattle.fabric_rule.specs.InPlace.{FitsSlot, IsWriteOf, SendingInPlace, last_entry, sender_of}
-use Rattle.fabric_rule.specs.Moves.{Move, post_move}
 use Rattle.fabric_rule.specs.Parts.{QueuePart, with_bridge, with_queue}
 use Rattle.fabric_rule.specs.StandsFor.{PairStands, QueueStands, has_forgotten, is_left, sent_of, view_of}
 use Rattle.fabric_rule.proofs.NewEntries.{begun_in_place, last-begun, length-begun}
@@ -37,6 +36,7 @@ use Rattle.fabric_rule.proofs.Changes.{changes, none_closes, stays}
 use Rattle.fabric_rule.proofs.Follows.{Follows, two_same}
 use Rattle.fabric_rule.proofs.OneQueue.{Standing, as_it_was, by_bridge, by_queue, kept, part, part_with, port_queue, reads, sender_changes, sent_part, sent_stands, stands_by, then_standing}
 use Rattle.fabric_rule.proofs.RingPosts.{label_posts}
+use Rattle.fabric_rule.specs.Moves.{Move, move_of}
 
 -- an entry has labels to post
 some_labels : (queue n : ℕ) (entry : Entry) → (label : Label) × (rest : List Label) × (labels_of queue n entry ≡ label ∷ rest)
@@ -211,5 +211,5 @@ module _ {devs : List DevPlan} {plan : PairPlan} {k : ℕ} (now : Standing devs 
       let h = stands_by now side queue false among fresh in
       posts_left side queue (part now side queue).queue.port.sending.entry among fresh h.sending (h.entry refl) (lane_of now.site.pair side queue).waiting (lane_of now.site.pair side queue).todo refl refl
 
-  pub post_follows : (side : Side) (queue : ℕ) → queue < (side_plan plan side).queues → Follows devs plan k now.site (Post k side queue) (post_step (reads now) now.site.pair side queue) (post_move (kept now) side queue)
+  pub post_follows : (side : Side) (queue : ℕ) → queue < (side_plan plan side).queues → Follows devs plan k now.site (Post k side queue) (post_step (reads now) now.site.pair side queue) (move_of devs (kept now) (Post k side queue))
   post_follows side queue among = by_queue now side queue (λ (q : QueueState). Follows devs plan k now.site (Post k side queue) (post_step (reads now) now.site.pair side queue) (post_with side queue q)) among (λ forgotten. post_by side queue forgotten among)

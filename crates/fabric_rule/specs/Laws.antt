@@ -16,8 +16,8 @@ use Rattle.bridge_pair.specs.Fresh.{fresh_bridge}
 use Rattle.queue_pair.specs.Queue.{fresh_queue}
 use Rattle.plan_model.specs.Device.{no_counts}
 use Rattle.fabric_rule.specs.Parts.{PairState, QueuePart, queue_of, queues_of}
-use Rattle.fabric_rule.specs.Steps.{move_of}
 use Rattle.fabric_rule.specs.StandsFor.{IsOn, PairStands}
+use Rattle.fabric_rule.specs.Moves.{move_of}
 
 -- a queue before any step
 pub record IsFreshQueue (devs : List DevPlan) (plan : PairPlan) (k : ℕ) (side : Side) (queue : ℕ) (part : QueuePart) : Type 0 where

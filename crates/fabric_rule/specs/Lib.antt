@@ -4,4 +4,4 @@ pub mod Laws
 pub mod Moves
 pub mod Parts
 pub mod StandsFor
-pub mod Steps
+pub mod Turns

@@ -26,4 +26,4 @@ pub use plan::{
     Counters, DevPlan, Line, LineAnswer, PairPlan, Plan, SidePlan, SwitchPlan, Traffic,
 };
 pub use runs::{LaneRun, RunRecord, SessionRun};
-pub use steps::{Answer, Label, Step};
+pub use steps::{Answer, Label, Step, StepPlace};

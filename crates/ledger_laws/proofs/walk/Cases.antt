@@ -16,8 +16,7 @@ use Rattle.lane_model.specs.Lane.{Entry, GoesDown, chunks_in}
 use Rattle.lane_model.specs.declared.Phase.TheVariants.{Copying, Copied, Cleared, Idle as IsIdle}
 use Rattle.plan_model.specs.Both.{both_of, with_side, at_side}
 use Rattle.ledger_model.specs.Handshake.{pad_in, refuse_larger, refuse_differing, check_refusal, offer_step, check_step, ready_step, join_step}
-use Rattle.plan_model.specs.Pads.{offers, pad_index, first_larger, versions_differ}
-use Rattle.plan_model.specs.Pads.{links_pad, queues_pad, version_pad, windows_pad}
+use Rattle.plan_model.specs.Pads.{offers, pad_index, first_larger, versions_differ, links_pad, queues_pad, version_pad, windows_pad}
 use Rattle.plan_model.specs.Plans.{side_plan}
 use Rattle.plan_model.specs.Sizes.{Sizes, pieces_in}
 use Rattle.plan_model.specs.Ethernet.{ethernet_frame}

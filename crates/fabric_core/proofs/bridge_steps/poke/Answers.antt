@@ -11,10 +11,10 @@ use Rattle.byte_model.specs.Addresses.{peer_address}
 use Rattle.host_memory.specs.Memory.{ArePromised}
 use Rattle.plan_model.specs.Link.{is_up}
 use Rattle.plan_model.specs.Plans.{side_plan}
-use Rattle.fabric_rule.specs.Moves.{posted_aside}
 use Rattle.fabric_core.specs.Promises.{HasMorePages}
 use Rattle.fabric_core.proofs.MorePages.{more_pages, on_err, posted_more}
 use Rattle.fabric_core.proofs.bridge_steps.poke.Goals as goal
+use Rattle.fabric_rule.specs.Turns.{posted_aside}
 
 promised_there : (plan seen : PairPlan) (side peer : Side) (window offset at len : ℕ) (bytes : List ℕ) (pages : List ℕ) → plan ≡ seen → peer ≡ other_side side
     → at ≡ window * (side_plan seen peer).cap + offset → len ≡ length bytes → ArePromised at len pages → ArePromised (peer_address plan side window offset) (length bytes) pages

@@ -1,8 +1,8 @@
 use Rattle.std.proofs.Common.{◌≡◌, ◌++◌, drop, map, take}
 use Rattle.bridge_pair.specs.Bridge.{flight_of}
-use Rattle.fabric_rule.specs.Moves.{forgotten_queue}
 use Rattle.fabric_core.specs.Parts.{HasOtherRoom, all_unused}
 use Rattle.fabric_core.proofs.pairs.forget_all.Given as goal
+use Rattle.fabric_rule.specs.Moves.{forgotten_queue}
 
 abbrev pub invariant-loop-number : goal.invariant-loop-number
 invariant-loop-number l = record {

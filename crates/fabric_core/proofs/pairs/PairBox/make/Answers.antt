@@ -1,10 +1,10 @@
 use Rattle.std.proofs.Common.{ap, sym}
-use Rattle.fabric_rule.specs.Moves.{Move}
 use Rattle.fabric_rule.specs.Parts.{plain_pair}
-use Rattle.fabric_core.specs.declared.places.StepPlace.TheVariants.{OnSwitch}
+use Rattle.step_kinds.specs.declared.steps.StepPlace.TheVariants.{OnSwitch}
 use Rattle.fabric_core.proofs.TurnsOfPairs.{answered, left, made_there}
 use Rattle.fabric_core.proofs.Wants.{bridge_wants, queue_wants}
 use Rattle.fabric_core.proofs.pairs.PairBox.make.Goals as goal
+use Rattle.fabric_rule.specs.Moves.{Move}
 
 pub returns-in-OnSwitch-clause-answer : goal.returns-in-OnSwitch-clause-answer
 returns-in-OnSwitch-clause-answer c = ap (λ (move : Move). move.answer) (sym (made_there c.args.devs.now c.args.self.now c.args.step.now OnSwitch c.in-OnSwitch.ensures))

@@ -3,10 +3,10 @@ use Rattle.plan_model.specs.Plans.{side_plan}
 use Rattle.step_kinds.specs.declared.names.Side.{Side}
 use Rattle.step_kinds.specs.declared.names.Side.TheVariants.{A, B}
 use Rattle.fabric_rule.specs.Parts.{PairState, queue_of}
-use Rattle.fabric_core.specs.Turns.{queue_turn}
 use Rattle.fabric_core.specs.Wants.{MayWant}
 use Rattle.fabric_core.proofs.SteppedPairs.{called}
 use Rattle.fabric_core.proofs.pairs.PairBox.queue_step.Goals as goal
+use Rattle.fabric_rule.specs.Turns.{queue_turn}
 
 pub invariant_of-self : goal.invariant_of-self
 invariant_of-self c =

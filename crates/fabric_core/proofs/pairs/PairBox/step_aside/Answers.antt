@@ -1,10 +1,10 @@
 use Rattle.std.proofs.Common.{◌≡◌, IfOk, OnErr, OnOk, subst, true}
 use Rattle.ledger_laws.specs.Laws.{is_made}
 use Rattle.fabric_core.specs.PairBoxes.{pair_seen}
-use Rattle.fabric_core.specs.Turns.{bridge_turn}
 use Rattle.fabric_rule.specs.Parts.{PairState, plain_pair, with_bridge}
 use Rattle.fabric_core.proofs.SteppedPairs.{stepped_after, stepped_whole}
 use Rattle.fabric_core.proofs.pairs.PairBox.step_aside.Goals as goal
+use Rattle.fabric_rule.specs.Turns.{bridge_turn}
 
 pub invariant_of-self : goal.invariant_of-self
 invariant_of-self c =

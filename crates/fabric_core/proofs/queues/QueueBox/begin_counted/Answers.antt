@@ -6,8 +6,7 @@ use Rattle.queue_pair.specs.Queue.{QueueState}
 use Rattle.fabric_rule.specs.Parts.{QueuePart}
 use Rattle.fabric_core.specs.Numbers.{HasRoomToSend}
 use Rattle.fabric_core.specs.Parts.{KeepsPort}
-use Rattle.fabric_core.specs.QueueCalls.{IsBegun}
-use Rattle.fabric_core.specs.Turns.{counted_begun}
+use Rattle.fabric_core.specs.QueueCalls.{IsBegun, counted_begun}
 use Rattle.fabric_core.proofs.FrameTurns.{FrameTurned, begin_counters, begun_same, frame_counted}
 use Rattle.fabric_core.proofs.QueueCalls.{turn_taken}
 use Rattle.fabric_core.proofs.queues.QueueBox.begin_counted.Goals as goal

@@ -2,11 +2,11 @@ use Rattle.std.proofs.Common.{◌≡◌, ◌∙◌, ap, refl, rules, subst, sym,
 use Rattle.std.proofs.lemmas.Grind.{common_steps}
 use Rattle.plan_model.specs.Ethernet.{ethernet_frame}
 use Rattle.fabric_core.specs.QueueCalls.{HasTurnedUnlessWanting, IsBegun}
-use Rattle.fabric_core.specs.Turns.{frame_turn}
 use Rattle.fabric_core.proofs.MorePages.{on_err}
 use Rattle.fabric_core.proofs.QueueCalls.{keeps_same}
 use Rattle.fabric_core.proofs.queues.QueueBox.begin_encoded.Goals as goal
 use Rattle.fabric_core.proofs.queues.QueueBox.begin_encoded.Goals.{After-begin_counted}
+use Rattle.fabric_rule.specs.Turns.{frame_turn}
 
 frame_is : (c : After-begin_counted) → c.in_ok-frame.frame ≡ ethernet_frame c.args.header.dst c.args.header.src c.args.header.kind c.args.payload.now
 frame_is c = c.in_ok-frame.ensures ∙ ap (ethernet_frame c.args.header.dst c.args.header.src c.args.header.kind) c.bytes.ensures.value

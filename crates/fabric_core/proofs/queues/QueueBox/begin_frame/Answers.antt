@@ -10,7 +10,6 @@ use Rattle.fabric_rule.specs.Answers.{of_begin}
 use Rattle.fabric_rule.specs.Parts.{QueuePart, one_more}
 use Rattle.fabric_core.specs.QueueCalls.{IsBegun}
 use Rattle.fabric_core.specs.Sessions.{Tallied}
-use Rattle.fabric_core.specs.Turns.{begin_turn}
 use Rattle.fabric_core.proofs.FrameTurns.{begins_where, begun_counts}
 use Rattle.fabric_core.proofs.UnusedPromises.{begin_more}
 use Rattle.fabric_core.proofs.PromisesOfQueues.{begin_place, begin_receives, begun_keeps, plain_grown, wanted_keeps}
@@ -18,6 +17,7 @@ use Rattle.fabric_core.proofs.MorePages.{on_err}
 use Rattle.fabric_core.proofs.QueueParts.{part_with, same_part}
 use Rattle.fabric_core.proofs.QueueCalls.{turn_taken}
 use Rattle.fabric_core.proofs.queues.QueueBox.begin_frame.Goals as goal
+use Rattle.fabric_rule.specs.Turns.{begin_turn}
 
 pub begin_unrefused-requires-clause-begins : goal.begin_unrefused-requires-clause-begins
 begin_unrefused-requires-clause-begins c =

@@ -6,14 +6,13 @@ use Rattle.plan_model.specs.Link.{Link}
 use Rattle.frame_ring.specs.Calls.{after_copy}
 use Rattle.frame_ring.specs.PortView.{HasPagesIn}
 use Rattle.queue_pair.specs.Queue.{QueueState, with_port}
-use Rattle.fabric_rule.specs.Moves.{delivered_where_whole}
 use Rattle.fabric_rule.specs.Parts.{QueuePart, one_more}
 use Rattle.fabric_core.specs.Parts.{KeepsPort}
-use Rattle.fabric_core.specs.Turns.{copy_turn}
 use Rattle.fabric_core.proofs.Phases.{copy_goes_on, whole_copied, whole_copying}
 use Rattle.fabric_core.proofs.QueueParts.{box_kept, keeps_copy, not_whole, part_with, same_part}
 use Rattle.fabric_core.proofs.queues.QueueBox.copy.Goals as goal
 use Rattle.fabric_core.proofs.queues.QueueBox.copy.Goals.{in-Whole, in_default}
+use Rattle.fabric_rule.specs.Turns.{copy_turn, delivered_where_whole}
 
 pub one_more-requires : goal.one_more-requires
 one_more-requires c =

@@ -6,11 +6,11 @@ use Rattle.plan_model.specs.Ethernet.{ethernet_frame}
 use Rattle.plan_model.specs.Plans.{no_dev}
 use Rattle.fabric_core.specs.Parts.{CanTurnQueue}
 use Rattle.fabric_core.specs.QueueCalls.{HasTurnedUnlessWanting, IsBegunOrUncounted}
-use Rattle.fabric_core.specs.Turns.{begin_turn, frame_turn, look_turn, qpdown_turn, queue_turn}
 use Rattle.fabric_core.specs.Wants.{MayWant}
 use Rattle.fabric_core.proofs.Wants.{begin_made, err_map, look_made}
 use Rattle.fabric_core.proofs.queues.QueueBox.make.Goals as goal
 use Rattle.fabric_core.proofs.queues.QueueBox.make.Goals.{After-xbegin}
+use Rattle.fabric_rule.specs.Turns.{begin_turn, frame_turn, look_turn, qpdown_turn, queue_turn}
 
 -- a device's frame took its turn
 turned : (c : After-xbegin)

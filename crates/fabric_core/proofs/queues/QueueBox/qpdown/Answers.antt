@@ -5,13 +5,13 @@ use Rattle.frame_ring.specs.Port.{Receiving}
 use Rattle.fabric_rule.specs.Answers.{of_begin}
 use Rattle.fabric_rule.specs.Parts.{QueuePart}
 use Rattle.fabric_core.specs.QueueCalls.{IsBegun, is_begun}
-use Rattle.fabric_core.specs.Turns.{qpdown_turn}
 use Rattle.fabric_core.proofs.MorePages.{on_err}
 use Rattle.fabric_core.proofs.UnusedPromises.{down_more}
 use Rattle.fabric_core.proofs.PromisesOfQueues.{begun_keeps, down_place, down_receives, plain_grown, wanted_keeps}
 use Rattle.fabric_core.proofs.QueueParts.{box_kept}
 use Rattle.fabric_core.proofs.QueueCalls.{turn_taken}
 use Rattle.fabric_core.proofs.queues.QueueBox.qpdown.Goals as goal
+use Rattle.fabric_rule.specs.Turns.{qpdown_turn}
 
 pub returns-in_err-begun : goal.returns-in_err-begun
 returns-in_err-begun c = record { answer = first_of (search rules, grind (arith, common_steps)); after = first_of (search rules, grind (arith, common_steps)); err = first_of (search rules, grind (arith, common_steps)); wants = on_err _ (subst (λ (part : QueuePart). IsBegun (qpdown_turn part c.args.pair.now).answer) c.self.view_is (ap (λ answer. is_begun (of_begin answer)) c.in_err-begun.ensures.wants)); plain = (plain_grown c.self.inside.queue.port c.qpdown.new.self.port c.args.pair.now c.qpdown.new.pair c.qpdown.ensures.rest); keeps = (wanted_keeps _ _ c.qpdown.new.self c.args.pair.now c.qpdown.new.pair _ c.self.view_is c.in_err-begun.ensures.err c.qpdown.ensures.rest c.qpdown.ensures.pages c.requires.pages) }

@@ -6,11 +6,11 @@ use Rattle.plan_model.specs.Ethernet.{ethernet_frame}
 use Rattle.fabric_rule.specs.Parts.{QueuePart}
 use Rattle.fabric_core.specs.Numbers.{most_count}
 use Rattle.fabric_core.specs.Parts.{KeepsPort}
-use Rattle.fabric_core.specs.QueueCalls.{HasTurnedUnlessWanting, IsBegunOrUncounted}
-use Rattle.fabric_core.specs.Turns.{QueueTurn, frame_turn, refused_once}
+use Rattle.fabric_core.specs.QueueCalls.{HasTurnedUnlessWanting, IsBegunOrUncounted, refused_once}
 use Rattle.fabric_core.proofs.FrameTurns.{answered_by_length, begins_by, refused_by_answer, refused_frame}
 use Rattle.fabric_core.proofs.QueueCalls.{keeps_same, turn_taken, unmade_turn, wants_more}
 use Rattle.fabric_core.proofs.queues.QueueBox.xbegin.Goals as goal
+use Rattle.fabric_rule.specs.Turns.{QueueTurn, frame_turn}
 
 -- a refusal that is counted, or can't be
 refused_where : {E : Type 0} (turn : QueueTurn) (part new : QueuePart) (bridge : Bridge) (given : Answer) (result : Result Answer E) → given ≡ turn.answer → refused_once part ≡ turn.part
