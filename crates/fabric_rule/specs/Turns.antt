@@ -40,8 +40,8 @@ pub record BridgeTurn : Type 0 where
   pub bridge : Bridge
 
 -- an answer that changes nothing
-abbrev pub shown : Bridge → Answer → BridgeTurn
-shown bridge answer = record { answer = answer; bridge = bridge }
+abbrev pub bridge_shown : Bridge → Answer → BridgeTurn
+bridge_shown bridge answer = record { answer = answer; bridge = bridge }
 
 -- a write beside the rings: in flight where the link is up, and else lost
 abbrev pub posted_aside : Bridge → Side → PostedWrite → Bridge
@@ -65,12 +65,12 @@ bridge_turn bridge (Unmask p side bits) =
 bridge_turn bridge (Spad p side i value) = record { answer = Done; bridge = posted_aside bridge side (pad_write i value) }
 bridge_turn bridge (Poke p side window offset bytes) =
     record { answer = Done; bridge = posted_aside bridge side (memory_write (Raw window offset (length bytes)) window offset bytes) }
-bridge_turn bridge (ShowMem p side at len) = shown bridge (Mem (bytes_at at len (bytes_of bridge side)))
-bridge_turn bridge (ShowPad p side i) = shown bridge (PadValue (slice_index (pads_of bridge side) i))
+bridge_turn bridge (ShowMem p side at len) = bridge_shown bridge (Mem (bytes_at at len (bytes_of bridge side)))
+bridge_turn bridge (ShowPad p side i) = bridge_shown bridge (PadValue (slice_index (pads_of bridge side) i))
 bridge_turn bridge (ShowQueue p side place) =
     let writes = (flight_of bridge side).writes in
-    shown bridge (QueueShown (length writes) (option_map (λ (flying : Flying). flying.label) (slice_get writes place)))
-bridge_turn bridge step = shown bridge Done
+    bridge_shown bridge (QueueShown (length writes) (option_map (λ (flying : Flying). flying.label) (slice_get writes place)))
+bridge_turn bridge step = bridge_shown bridge Done
 
 -- On one queue
 
