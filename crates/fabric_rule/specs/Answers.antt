@@ -1,5 +1,5 @@
 -- The answers of a pair's parts in the words of a script.
-use Rattle.std.specs.Prelude.{ℕ, Bool, Option, Some, None, if◌then◌else◌}
+use Rattle.std.specs.Prelude.{ℕ, Bool, true, Option, Some, None}
 use Rattle.step_kinds.specs.declared.lanes.LaneCopy.{LaneCopy}
 use Rattle.step_kinds.specs.declared.lanes.LaneCopy.TheVariants.{Part, Whole, OutOfTurn as NotCopying}
 use Rattle.step_kinds.specs.declared.steps.Answer.{Answer}
@@ -7,7 +7,6 @@ use Rattle.step_kinds.specs.declared.steps.Answer.TheVariants as answer
 use Rattle.step_kinds.specs.declared.steps.Label.{Label}
 use Rattle.plan_model.specs.declared.LinkRefusal.{LinkRefusal}
 use Rattle.plan_model.specs.declared.LinkRefusal.TheVariants.{NotDown, Dirty, NotEnabled, NotUp, NotClosing, SessionsSpent}
-use Rattle.plan_model.specs.Refusals.{Test, OfLink, OfJoined, OfClosed, OfLength, OfBusy, OfDevice, OfRoom, in_begin_order}
 use Rattle.posted_queue.specs.declared.LandAnswer.{LandAnswer}
 use Rattle.posted_queue.specs.declared.LandAnswer.TheVariants.{Landed, Blocked, Nothing}
 use Rattle.hand_shake.specs.declared.OfferAnswer.{OfferAnswer}
@@ -75,19 +74,11 @@ of_begin (begin.TooLong len most) = answer.TooLong len most
 of_begin begin.Busy = answer.Busy
 of_begin (begin.NoRoom head tail) = answer.Again head tail
 
--- the tests of a device's frame, by what its queue answers and whether the device is stopped
-abbrev pub xbegin_tests : Bool → BeginAnswer → Test → Answer → Answer
-xbegin_tests stopped begun OfDevice later = if stopped then answer.Stopped else later
-xbegin_tests stopped begin.LinkDown OfLink later = answer.LinkDown
-xbegin_tests stopped begin.NotReady OfJoined later = answer.NotReady
-xbegin_tests stopped begin.Closed OfClosed later = answer.Closed
-xbegin_tests stopped (begin.TooLong len most) OfLength later = answer.TooLong len most
-xbegin_tests stopped begin.Busy OfBusy later = answer.Busy
-xbegin_tests stopped (begin.NoRoom head tail) OfRoom later = answer.Again head tail
-xbegin_tests stopped begun test later = later
-
+-- of a device's frame: a stopped device refuses before the ring's room is tested (`in_begin_order`)
 abbrev pub of_xbegin : Bool → BeginAnswer → Answer
-of_xbegin stopped begun = in_begin_order (xbegin_tests stopped begun) (of_begin begun)
+of_xbegin true (begin.Ok number) = answer.Stopped
+of_xbegin true (begin.NoRoom head tail) = answer.Stopped
+of_xbegin stopped begun = of_begin begun
 
 abbrev pub of_post : Option Label → Answer
 of_post None = answer.Idle
