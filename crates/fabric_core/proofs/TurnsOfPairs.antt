@@ -30,7 +30,7 @@ use Rattle.fabric_rule.specs.Parts.{PairState, plain_bridge, plain_pair}
 use Rattle.fabric_core.specs.Promises.{HasMorePages, KeepsPromised, with_promised}
 use Rattle.step_kinds.specs.declared.steps.StepPlace.{StepPlace}
 use Rattle.step_kinds.specs.declared.steps.StepPlace.TheVariants.{OnBridge}
-use Rattle.fabric_rule.specs.Moves.{Move, move_of}
+use Rattle.fabric_rule.specs.Moves.{Move, move_at, move_of}
 use Rattle.fabric_rule.specs.Turns.{bridge_turn, posted_aside}
 use Rattle.step_kinds.specs.Places.{step_place}
 

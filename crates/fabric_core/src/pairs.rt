@@ -29,7 +29,7 @@ use bridge_pair::Pair;
 use plan_numbers::side_plan;
 use std::alloc::{AllocError, Global};
 use std::marker::Model;
-use step_kinds::{Answer, DevPlan, PairPlan, Side, Step};
+use step_kinds::{Answer, DevPlan, PairPlan, Side, Step, StepPlace};
 
 /// A pair in bytes with the queues of its two sides. Contracts see both.
 #[derive(Drop)]
