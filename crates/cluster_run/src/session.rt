@@ -47,10 +47,14 @@ const SPARE_ROOM: usize = 1_024;
 /// At most so many turns a pass has where one thread makes those of all workers in turn.
 const MOST_TURNS: usize = 1_024;
 
-// The frames of a list, moved into a list of their own length.
-fn trimmed(alloc: Global, mut list: FrameList) -> Result<FrameList, AllocError>
+// The frames of a list with room for so many in all. Where they are fewer than half of these, they are moved into a list of
+// their own length.
+fn trimmed(alloc: Global, mut list: FrameList, room: usize) -> Result<FrameList, AllocError>
     ensures { IfOk result (λ r. r.frames ≡ list.frames) }
 {
+    if list.len() >= room / 2 {
+        return Ok(list);
+    }
     let mut own = FrameList::new(alloc);
     own.promise(list.len())?;
     while let Some(frame) = list.take_first() {
@@ -173,7 +177,8 @@ impl Session {
             moving,
             receiving,
             cutting,
-            ..
+            entries,
+            total,
         } = self;
         let Sending {
             end: send,
@@ -184,8 +189,8 @@ impl Session {
         let (recv, got) = receiving.into_parts();
         let LaneEnd { left, proof } = finish(send, mover, recv, back, cutting.into_end());
         let run = SessionRun {
-            delivered: trimmed(alloc, got)?,
-            left: trimmed(alloc, left)?,
+            delivered: trimmed(alloc, got, total + SPARE_ROOM)?,
+            left: trimmed(alloc, left, entries as usize)?,
         };
         Ok(SessionEnd {
             run,
