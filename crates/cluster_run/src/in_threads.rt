@@ -12,7 +12,7 @@ use std::thread::{Threads, join_mut};
 /// At most so many passes a worker makes in a round.
 const PASSES: u32 = 16_777_216;
 
-/// So many turns has a pass, at most.
+/// So many turns has a pass of the mover or the receiver, at most.
 const TURNS: u32 = 4_096;
 
 /// So many turns has a pass of the receiver, at most, where a cut waits for frames.
@@ -22,11 +22,12 @@ const FEW_TURNS: usize = 64;
 fn send_in_thread<G: Gate>(sending: &mut Sending, gate: &G, progress: &Progress)
     ensures { sending.new ≡ sending.old }
 {
+    let turns = progress.sender_turns();
     let mut idle: u32 = 0;
     for _ in 0..PASSES {
         let told = progress.told(Role::Sender);
         let before = sending.left();
-        let made = sending.pass(gate, TURNS);
+        let made = sending.pass(gate, turns);
         let left = sending.left();
         if left < before {
             progress.tell(Role::Sender);
@@ -37,7 +38,7 @@ fn send_in_thread<G: Gate>(sending: &mut Sending, gate: &G, progress: &Progress)
         if left == 0 || progress.is_stuck(idle) || progress.is_over() {
             break;
         }
-        if made < TURNS {
+        if made < turns {
             progress.pause(Role::Sender, told, idle);
         }
     }

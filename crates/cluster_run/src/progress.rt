@@ -1,5 +1,7 @@
 //! What the workers of one session tell one another during a round in threads of their own.
 
+ghost use Rattle.std.specs.Prelude.{◌≤◌};
+
 use std::sync::atomic::{AtomicBool, AtomicU64, Ordering};
 use std::{hint, thread};
 
@@ -54,6 +56,12 @@ const SMALL_RING: u32 = 16;
 /// There it lets other threads run after so many idle passes in a row.
 const PASSES_TO_YIELD: u32 = 4;
 
+/// So many turns has a pass of the sender there, at most.
+const SMALL_SENDER_TURNS: u32 = 4_096;
+
+/// In a larger ring it has fewer: it tells of its frames then, and the mover moves them while it sends others.
+const SENDER_TURNS: u32 = 64;
+
 /// In a larger ring a worker looks at most so often for news before its next pass.
 const LOOKS: u32 = 1_024;
 
@@ -77,6 +85,17 @@ impl Progress {
             sender_left: AtomicBool::new(false),
             mover_left: AtomicBool::new(false),
             is_small: entries < SMALL_RING,
+        }
+    }
+
+    /// How many turns a pass of the sender has, at most.
+    pub(crate) fn sender_turns(&self) -> u32
+        ensures { 1 ≤ result }
+    {
+        if self.is_small {
+            SMALL_SENDER_TURNS
+        } else {
+            SENDER_TURNS
         }
     }
 
