@@ -1,5 +1,5 @@
 -- The fields of a lane at work: what it shows, and what is true of it between two rounds.
-use Rattle.std.specs.Prelude.{◌≡◌, ◌+◌, ◌≤◌, ◌<◌, ◌==◌, ◌&&◌, not, List, ◌++◌, length, map}
+use Rattle.std.specs.Prelude.{◌≡◌, ◌+◌, ◌*◌, ◌≤◌, ◌<◌, ◌==◌, ◌&&◌, not, List, ◌++◌, length, map}
 use Rattle.step_kinds.specs.Limits.{most_breaks, most_traffic_frames, most_traffic_entries}
 use Rattle.step_kinds.specs.Runs.{SessionShown, session_shown}
 use Rattle.table_rule.specs.ShownLane.{most_lane_frames}
@@ -15,7 +15,7 @@ abbrev pub key_of_task : task.Inside → LaneKey
 key_of_task t = record { name = t.name; entries = t.entries; losses = t.losses; traffic = t.frames.frames }
 
 pub record IsTask (t : task.Inside) : Type 0 where
-  pub number : t.number ≤ most_lanes
+  pub number : t.number < most_lanes
   pub ring : (2 ≤ t.entries) × (t.entries ≤ most_traffic_entries)
   pub bytes : HaveBytes t.frames.frames
   pub few : length t.frames.frames ≤ most_traffic_frames
@@ -35,7 +35,7 @@ state_of w = record {
 
 -- there is a proof for each session that ended, each of which was cut
 pub record IsWork (w : work.Inside) : Type 0 where
-  pub number : w.number ≤ most_lanes
+  pub number : (w.number < most_lanes) × (w.session.worker ≡ 4 * w.number)
   pub ring : (w.entries ≡ w.session.entries) × (2 ≤ w.entries) × (w.entries ≤ most_traffic_entries)
   pub few : length w.session.frames < most_lane_frames
   pub shown : w.proofs.items ≡ cut_proofs w.entries (ended_of w)

@@ -1,5 +1,5 @@
 -- The lanes that a plan's traffic uses, and what a run needs of the plan.
-use Rattle.std.specs.Prelude.{ℕ, ◌<◌, ◌≤◌, Bool, List, ◌++◌, length, map, filter, sum, count_by, nat_lt}
+use Rattle.std.specs.Prelude.{ℕ, ◌*◌, ◌<◌, ◌≤◌, Bool, List, ◌++◌, length, map, filter, sum, count_by, nat_lt}
 use Rattle.std.specs.List.{All, flat_map, range_with_len}
 use Rattle.step_kinds.specs.Limits.{most_pairs, most_queues, most_traffic_frames, most_traffic_bytes, most_breaks}
 use Rattle.step_kinds.specs.declared.names.Side.TheVariants.{A, B}
@@ -24,6 +24,10 @@ pub record CanRun (plan : Plan) : Type 0 where
 -- the lanes with traffic, which are numbered from 0: a plan has fewer
 abbrev pub most_lanes : ℕ
 most_lanes = 65535
+
+-- the workers of a run, which are numbered from 0, four for each lane: it has fewer
+abbrev pub most_workers : ℕ
+most_workers = 4 * most_lanes
 
 -- the lanes of a pair: by queue those from side A, then those from side B
 abbrev pub lanes_of : ℕ → List LaneName

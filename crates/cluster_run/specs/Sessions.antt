@@ -8,9 +8,9 @@ use Rattle.table_lane.specs.EndOfLane.{Shown}
 use Rattle.cluster_run.specs.Runs.{session_proof}
 use Rattle.cluster_run.specs.Workers.{SessionState}
 
--- a session that begins: nothing was received, and the link isn't cut
-abbrev pub new_session : ℕ → List (List ℕ) → SessionState
-new_session entries frames = record { entries = entries; frames = frames; got = []; cut = false }
+-- a session that begins, by the number of its first worker: nothing was received, and the link isn't cut
+abbrev pub new_session : ℕ → ℕ → List (List ℕ) → SessionState
+new_session worker entries frames = record { worker = worker; entries = entries; frames = frames; got = []; cut = false }
 
 -- A session ends with this record and this proof, and these frames weren't accepted.
 pub record EndsWith (session : SessionState) (run : SessionRun) (proof : Shown) (rest : Frames) : Type 0 where

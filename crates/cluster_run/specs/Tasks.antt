@@ -26,7 +26,7 @@ pub record AreParts (key : LaneKey) (parts : TaskParts) : Type 0 where
   pub entries : parts.entries ≡ key.entries
   pub losses : parts.losses ≡ key.losses
   pub traffic : parts.frames.frames ≡ key.traffic
-  pub number : parts.number ≤ most_lanes
+  pub number : parts.number < most_lanes
   pub ring : (2 ≤ parts.entries) × (parts.entries ≤ most_traffic_entries)
   pub bytes : HaveBytes parts.frames.frames
   pub few : length parts.frames.frames ≤ most_traffic_frames

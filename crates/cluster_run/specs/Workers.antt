@@ -6,30 +6,47 @@ use Rattle.atomic_table.specs.Seated.{TableId}
 abbrev pub most_pass_turns : ℕ
 most_pass_turns = 65535
 
--- the sending worker: the table of its lane, the entries of the ring, and the frames of the session, those that were
--- sent before those that are to be sent
-pub record SendingShown : Type 0 where
+-- what no pass of a worker changes: its number, by which it passes the gate, and the table of its lane
+pub record WorkerKey : Type 0 where
+  pub worker : ℕ
+  pub lane : TableId
+
+-- of the sending worker also the entries of the ring, and the frames of the session, those that were sent before those
+-- that are to be sent
+pub record SendingKey : Type 0 where
+  pub worker : ℕ
   pub lane : TableId
   pub entries : ℕ
   pub frames : List (List ℕ)
 
--- the moving worker
-pub record MovingShown : Type 0 where
-  pub lane : TableId
+-- the sending worker, the number of the frames that are left to send, and its loads of the link word
+pub record SendingShown : Type 0 where
+  pub key : SendingKey
+  pub left : ℕ
+  pub loads : ℕ
 
--- the receiving worker, and the frames that were received
+-- the moving worker, its tries to move, and the loads of index out on the way back
+pub record MovingShown : Type 0 where
+  pub key : WorkerKey
+  pub tries : ℕ
+  pub loads : ℕ
+
+-- the receiving worker, the frames that were received, for how many more there is room, and its loads of flags
 pub record ReceivingShown : Type 0 where
-  pub lane : TableId
+  pub key : WorkerKey
   pub got : List (List ℕ)
+  pub spare : ℕ
+  pub loads : ℕ
 
 -- the cutting worker, and whether the link was cut
 pub record CuttingShown : Type 0 where
-  pub lane : TableId
+  pub key : WorkerKey
   pub cut : Bool
 
--- a session of a lane: the entries of its ring, the frames that it may accept, those that were received, and whether
--- its link was cut
+-- a session of a lane: the number of its first worker, the entries of its ring, the frames that it may accept, those
+-- that were received, and whether its link was cut
 pub record SessionState : Type 0 where
+  pub worker : ℕ
   pub entries : ℕ
   pub frames : List (List ℕ)
   pub got : List (List ℕ)

@@ -1,6 +1,7 @@
 //! A round of a session in which each worker has a thread of its own.
 
 ghost use Rattle.std.specs.Prelude.{◌≡◌};
+ghost use Rattle.io_edges.specs.Gates.{LetsWorker};
 
 use crate::aim::Aim;
 use crate::progress::{Progress, Role};
@@ -20,7 +21,8 @@ const FEW_TURNS: usize = 64;
 
 // The sender's part of a round. It leaves once nothing is left to send, or where it sent nothing for a while.
 fn send_in_thread<G: Gate>(sending: &mut Sending, gate: &G, progress: &Progress)
-    ensures { sending.new ≡ sending.old }
+    requires { LetsWorker (G.lets gate.now) sending.old.key.worker }
+    ensures { sending.new.key ≡ sending.old.key }
 {
     let turns = progress.sender_turns();
     let mut idle: u32 = 0;
@@ -47,7 +49,8 @@ fn send_in_thread<G: Gate>(sending: &mut Sending, gate: &G, progress: &Progress)
 
 // The mover's part of a round. Once the sender has left it makes passes until one ends with idle turns, and leaves too.
 fn move_in_thread<G: Gate>(moving: &mut Moving, gate: &G, progress: &Progress)
-    ensures { moving.new ≡ moving.old }
+    requires { LetsWorker (G.lets gate.now) moving.old.key.worker }
+    ensures { moving.new.key ≡ moving.old.key }
 {
     let mut idle: u32 = 0;
     for _ in 0..PASSES {
@@ -79,7 +82,8 @@ fn receive_in_thread<G: Gate>(
     turns: u32,
     aim: Aim,
 )
-    ensures { receiving.new.lane ≡ receiving.old.lane }
+    requires { LetsWorker (G.lets gate.now) receiving.old.key.worker }
+    ensures { receiving.new.key ≡ receiving.old.key }
 {
     let mut idle: u32 = 0;
     for _ in 0..PASSES {
@@ -109,7 +113,8 @@ fn receive_in_thread<G: Gate>(
 
 // The cutting worker's part: the link is cut once so many frames were received, or after a while.
 fn cut_in_thread<G: Gate>(cutting: &mut Cutting, gate: &G, progress: &Progress, cut_after: usize)
-    ensures { cutting.new.lane ≡ cutting.old.lane }
+    requires { LetsWorker (G.lets gate.now) cutting.old.key.worker }
+    ensures { cutting.new.key ≡ cutting.old.key }
 {
     progress.await_received(cut_after);
     cutting.pass(gate);
@@ -128,18 +133,29 @@ fn carry_in_threads<R: Threads + Sync, G: Gate>(
     turns: u32,
     aim: Aim,
 )
-    ensures sending { sending.new ≡ sending.old }
-    ensures moving { moving.new ≡ moving.old }
-    ensures receiving { receiving.new.lane ≡ receiving.old.lane }
+    requires gate_sending { LetsWorker (G.lets gate.now) sending.old.key.worker }
+    requires gate_moving { LetsWorker (G.lets gate.now) moving.old.key.worker }
+    requires gate_receiving { LetsWorker (G.lets gate.now) receiving.old.key.worker }
+    ensures sending { sending.new.key ≡ sending.old.key }
+    ensures moving { moving.new.key ≡ moving.old.key }
+    ensures receiving { receiving.new.key ≡ receiving.old.key }
 {
     join_mut(
         rt,
-        &mut || receive_in_thread(receiving, gate, progress, turns, aim),
-        &mut || {
+        &mut ||
+            requires { LetsWorker (G.lets gate.now) receiving.now.key.worker }
+        { receive_in_thread(receiving, gate, progress, turns, aim) },
+        &mut ||
+            requires { LetsWorker (G.lets gate.now) moving.now.key.worker × LetsWorker (G.lets gate.now) sending.now.key.worker }
+        {
             join_mut(
                 rt,
-                &mut || move_in_thread(moving, gate, progress),
-                &mut || send_in_thread(sending, gate, progress),
+                &mut ||
+                    requires { LetsWorker (G.lets gate.now) moving.now.key.worker }
+                { move_in_thread(moving, gate, progress) },
+                &mut ||
+                    requires { LetsWorker (G.lets gate.now) sending.now.key.worker }
+                { send_in_thread(sending, gate, progress) },
             );
         },
     );
@@ -157,10 +173,14 @@ pub(crate) fn pass_in_threads<R: Threads + Sync, G: Gate>(
     cutting: &mut Cutting,
     aim: Aim,
 )
-    ensures sending { sending.new ≡ sending.old }
-    ensures moving { moving.new ≡ moving.old }
-    ensures receiving { receiving.new.lane ≡ receiving.old.lane }
-    ensures cutting { cutting.new.lane ≡ cutting.old.lane }
+    requires gate_sending { LetsWorker (G.lets gate.now) sending.old.key.worker }
+    requires gate_moving { LetsWorker (G.lets gate.now) moving.old.key.worker }
+    requires gate_receiving { LetsWorker (G.lets gate.now) receiving.old.key.worker }
+    requires gate_cutting { LetsWorker (G.lets gate.now) cutting.old.key.worker }
+    ensures sending { sending.new.key ≡ sending.old.key }
+    ensures moving { moving.new.key ≡ moving.old.key }
+    ensures receiving { receiving.new.key ≡ receiving.old.key }
+    ensures cutting { cutting.new.key ≡ cutting.old.key }
 {
     let progress = Progress::new(aim.entries);
     let told = &progress;
@@ -171,7 +191,11 @@ pub(crate) fn pass_in_threads<R: Threads + Sync, G: Gate>(
     let turns = share.clamp(1, FEW_TURNS) as u32;
     join_mut(
         rt,
-        &mut || cut_in_thread(cutting, gate, told, share),
-        &mut || carry_in_threads(rt, gate, sending, moving, receiving, told, turns, aim),
+        &mut ||
+            requires { LetsWorker (G.lets gate.now) cutting.now.key.worker }
+        { cut_in_thread(cutting, gate, told, share) },
+        &mut ||
+            requires { LetsWorker (G.lets gate.now) sending.now.key.worker × LetsWorker (G.lets gate.now) moving.now.key.worker × LetsWorker (G.lets gate.now) receiving.now.key.worker }
+        { carry_in_threads(rt, gate, sending, moving, receiving, told, turns, aim) },
     );
 }

@@ -1,6 +1,7 @@
 //! A round of a session in which one thread makes the passes of all its workers in turn.
 
 ghost use Rattle.std.specs.Prelude.{◌≡◌, ◌≤◌};
+ghost use Rattle.io_edges.specs.Gates.{LetsWorker};
 ghost use Rattle.cluster_run.specs.Workers.{most_pass_turns};
 
 use crate::aim::Aim;
@@ -19,10 +20,13 @@ fn carry_in_turn<G: Gate>(
     receiving: &mut Receiving,
     turns: u32,
 )
-    requires { (1 ≤ turns) × (turns ≤ most_pass_turns) }
-    ensures sending { sending.new ≡ sending.old }
-    ensures moving { moving.new ≡ moving.old }
-    ensures receiving { receiving.new.lane ≡ receiving.old.lane }
+    requires turns { (1 ≤ turns) × (turns ≤ most_pass_turns) }
+    requires gate_sending { LetsWorker (G.lets gate.now) sending.old.key.worker }
+    requires gate_moving { LetsWorker (G.lets gate.now) moving.old.key.worker }
+    requires gate_receiving { LetsWorker (G.lets gate.now) receiving.old.key.worker }
+    ensures sending { sending.new.key ≡ sending.old.key }
+    ensures moving { moving.new.key ≡ moving.old.key }
+    ensures receiving { receiving.new.key ≡ receiving.old.key }
 {
     sending.pass(gate, turns);
     moving.pass(gate, 3 * turns);
@@ -39,11 +43,15 @@ fn cut_in_turn<G: Gate>(
     cutting: &mut Cutting,
     turns: u32,
 )
-    requires { (1 ≤ turns) × (turns ≤ most_pass_turns) }
-    ensures sending { sending.new ≡ sending.old }
-    ensures moving { moving.new ≡ moving.old }
-    ensures receiving { receiving.new.lane ≡ receiving.old.lane }
-    ensures cutting { cutting.new.lane ≡ cutting.old.lane }
+    requires turns { (1 ≤ turns) × (turns ≤ most_pass_turns) }
+    requires gate_sending { LetsWorker (G.lets gate.now) sending.old.key.worker }
+    requires gate_moving { LetsWorker (G.lets gate.now) moving.old.key.worker }
+    requires gate_receiving { LetsWorker (G.lets gate.now) receiving.old.key.worker }
+    requires gate_cutting { LetsWorker (G.lets gate.now) cutting.old.key.worker }
+    ensures sending { sending.new.key ≡ sending.old.key }
+    ensures moving { moving.new.key ≡ moving.old.key }
+    ensures receiving { receiving.new.key ≡ receiving.old.key }
+    ensures cutting { cutting.new.key ≡ cutting.old.key }
 {
     sending.pass(gate, turns);
     cutting.pass(gate);
@@ -63,11 +71,15 @@ pub(crate) fn pass_in_turn<G: Gate>(
     aim: Aim,
     turns: u32,
 )
-    requires { (1 ≤ turns) × (turns ≤ most_pass_turns) }
-    ensures sending { sending.new ≡ sending.old }
-    ensures moving { moving.new ≡ moving.old }
-    ensures receiving { receiving.new.lane ≡ receiving.old.lane }
-    ensures cutting { cutting.new.lane ≡ cutting.old.lane }
+    requires turns { (1 ≤ turns) × (turns ≤ most_pass_turns) }
+    requires gate_sending { LetsWorker (G.lets gate.now) sending.old.key.worker }
+    requires gate_moving { LetsWorker (G.lets gate.now) moving.old.key.worker }
+    requires gate_receiving { LetsWorker (G.lets gate.now) receiving.old.key.worker }
+    requires gate_cutting { LetsWorker (G.lets gate.now) cutting.old.key.worker }
+    ensures sending { sending.new.key ≡ sending.old.key }
+    ensures moving { moving.new.key ≡ moving.old.key }
+    ensures receiving { receiving.new.key ≡ receiving.old.key }
+    ensures cutting { cutting.new.key ≡ cutting.old.key }
 {
     for _ in 0..TIMES {
         if aim.is_cut_due(receiving.count()) {

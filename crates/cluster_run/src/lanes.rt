@@ -3,10 +3,11 @@
 ghost use Rattle.std.specs.Prelude.{◌≡◌, ◌≤◌, ◌<◌, true, length, IfOk};
 ghost use Rattle.step_kinds.specs.Runs.{lane_shown};
 ghost use Rattle.step_kinds.specs.Limits.{most_traffic_entries};
+ghost use Rattle.io_edges.specs.Gates.{LetsWorkers};
 ghost use Rattle.table_rule.specs.ShownLane.{most_lane_frames};
 ghost use Rattle.lane_workers.specs.Passes.{HaveBytes};
 ghost use Rattle.cluster_run.specs.LaneKeys.{ComesTo};
-ghost use Rattle.cluster_run.specs.Lanes.{most_lanes};
+ghost use Rattle.cluster_run.specs.Lanes.{most_lanes, most_workers};
 
 use crate::session::{Session, SessionEnd};
 use io_edges::Gate;
@@ -42,7 +43,7 @@ impl LaneWork {
         losses: u32,
         frames: FrameList,
     ) -> Result<LaneWork, AllocError>
-        requires number { number ≤ most_lanes }
+        requires number { number < most_lanes }
         requires ring { (2 ≤ entries) × (entries ≤ most_traffic_entries) }
         requires bytes { HaveBytes frames.frames }
         requires few { length frames.frames < most_lane_frames }
@@ -81,6 +82,7 @@ impl LaneWork {
 
     /// A round in which each of its workers has a thread of its own. A lane that is over does nothing.
     pub(crate) fn pass_in_threads<R: Threads + Sync, G: Gate>(&mut self, rt: &R, gate: &G)
+        requires { LetsWorkers (G.lets gate.now) most_workers }
         ensures { self.new.key ≡ self.old.key }
     {
         if self.is_over() {
@@ -92,6 +94,7 @@ impl LaneWork {
 
     /// A round in which this thread makes the passes of its workers in turn. A lane that is over does nothing.
     pub(crate) fn pass_in_turn<G: Gate>(&mut self, gate: &G)
+        requires { LetsWorkers (G.lets gate.now) most_workers }
         ensures { self.new.key ≡ self.old.key }
     {
         if self.is_over() {

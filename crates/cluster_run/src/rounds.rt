@@ -1,7 +1,9 @@
 //! Rounds of the workers of lanes that are open together.
 
 ghost use Rattle.std.specs.Prelude.{◌≡◌, ◌≤◌, true, All, IfOk, IsTrue};
+ghost use Rattle.io_edges.specs.Gates.{LetsWorkers};
 ghost use Rattle.cluster_run.specs.LaneKeys.{KeepKeys, keys_of};
+ghost use Rattle.cluster_run.specs.Lanes.{most_workers};
 
 use crate::lanes::LaneWork;
 use io_edges::Gate;
@@ -28,13 +30,16 @@ fn thread_count<R: Threads>(rt: &R) -> usize
 
 // A round in which each worker has a thread of its own.
 fn round_in_threads<R: Threads + Sync, G: Gate>(rt: &R, gate: &G, works: &mut [LaneWork])
+    requires { LetsWorkers (G.lets gate.now) most_workers }
     ensures { KeepKeys works.old works.new }
 {
     thread::for_each_mut(
         rt,
         works,
         FEW_LANES,
-        &|_, work: &mut LaneWork| { work.pass_in_threads(rt, gate) },
+        &|_, work: &mut LaneWork|
+            requires { LetsWorkers (G.lets gate.now) most_workers }
+        { work.pass_in_threads(rt, gate) },
     );
 }
 
@@ -45,20 +50,24 @@ fn round_in_turn<R: Threads + Sync, G: Gate>(
     threads: usize,
     works: &mut [LaneWork],
 )
-    requires { 1 ≤ threads }
+    requires some { 1 ≤ threads }
+    requires gate { LetsWorkers (G.lets gate.now) most_workers }
     ensures { KeepKeys works.old works.new }
 {
     thread::for_each_mut(
         rt,
         works,
         threads,
-        &|_, work: &mut LaneWork| { work.pass_in_turn(gate) },
+        &|_, work: &mut LaneWork|
+            requires { LetsWorkers (G.lets gate.now) most_workers }
+        { work.pass_in_turn(gate) },
     );
 }
 
 // A round of the lanes that are not over.
 fn round<R: Threads + Sync, G: Gate>(rt: &R, gate: &G, threads: usize, works: &mut [LaneWork])
-    requires { 1 ≤ threads }
+    requires some { 1 ≤ threads }
+    requires gate { LetsWorkers (G.lets gate.now) most_workers }
     ensures { keys_of works.new ≡ keys_of works.old }
 {
     if works.len() <= FEW_LANES {
@@ -96,6 +105,7 @@ pub(crate) fn finished<R: Threads + Wait + Sync, G: Gate>(
     gate: &G,
     mut works: Vec<LaneWork>,
 ) -> Result<Vec<LaneWork>, AllocError>
+    requires { LetsWorkers (G.lets gate.now) most_workers }
     ensures keys { IfOk result (λ done. keys_of done.items ≡ keys_of works.items) }
     ensures over { IfOk result (λ done. All (λ work. work.over ≡ true) done.items) }
 {

@@ -1,8 +1,9 @@
 //! A run of a plan's traffic.
 
 ghost use Rattle.std.specs.Prelude.{◌≡◌, IfOk};
+ghost use Rattle.io_edges.specs.Gates.{LetsWorkers};
 ghost use Rattle.step_kinds.specs.Runs.{run_shown};
-ghost use Rattle.cluster_run.specs.Lanes.{CanRun};
+ghost use Rattle.cluster_run.specs.Lanes.{CanRun, most_workers};
 ghost use Rattle.cluster_run.specs.Runs.{IsFit, IsShown};
 
 use crate::group::next_group;
@@ -25,9 +26,11 @@ use table_lane::LaneProof;
 /// the next session; a frame that was accepted before a cut and not delivered stays lost.
 ///
 /// Before each turn a worker passes the gate with its number: 4n where lane n sends, 4n + 1 where it moves frames, 4n + 2
-/// where it receives and 4n + 3 where it is cut. Turns count from 0 in each session. Up to four lanes have a thread for
-/// each worker; of more lanes a thread makes the turns of several, those of one lane in turn. Where no thread can be
-/// made the caller makes them.
+/// where it receives and 4n + 3 where it is cut. Turns count from 0 in each session. The gate has to let all workers with
+/// numbers below 262,140 pass, before each turn with a number below 2^64.
+///
+/// Up to four lanes have a thread for each worker; of more lanes a thread makes the turns of several, those of one lane
+/// in turn. Where no thread can be made the caller makes them.
 ///
 /// # Errors
 ///
@@ -38,7 +41,8 @@ pub fn run_plan<R: Threads + Wait + Sync, G: Gate>(
     plan: &Plan,
     gate: &G,
 ) -> Result<(RunRecord, Vec<LaneProof>), AllocError>
-    requires { CanRun plan.now }
+    requires plan { CanRun plan.now }
+    requires gate { LetsWorkers (G.lets gate.now) most_workers }
     ensures fits { IfOk result (λ run. IsFit plan.now (run_shown run.0)) }
     ensures shown { IfOk result (λ run. IsShown plan.now (run_shown run.0) run.1.items) }
 {

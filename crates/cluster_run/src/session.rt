@@ -1,7 +1,8 @@
 //! A session of a lane: the life of one table lane, from `make` to `finish`.
 
-ghost use Rattle.std.specs.Prelude.{◌≡◌, ◌≤◌, ◌<◌, ◌++◌, ◌==◌, [], length, IfOk};
+ghost use Rattle.std.specs.Prelude.{◌≡◌, ◌+◌, ◌*◌, ◌≤◌, ◌<◌, ◌++◌, ◌==◌, [], length, IfOk};
 ghost use Rattle.step_kinds.specs.Limits.{most_traffic_entries};
+ghost use Rattle.io_edges.specs.Gates.{LetsWorkers};
 ghost use Rattle.table_rule.specs.ShownLane.{most_lane_frames};
 ghost use Rattle.lane_workers.specs.Passes.{HaveBytes};
 ghost use Rattle.cluster_run.specs.Sessions.{new_session, EndsWith};
@@ -72,11 +73,11 @@ impl Session {
         entries: u32,
         todo: FrameList,
     ) -> Result<Session, AllocError>
-        requires number { number ≤ most_lanes }
+        requires number { number < most_lanes }
         requires ring { (2 ≤ entries) × (entries ≤ most_traffic_entries) }
         requires bytes { HaveBytes todo.frames }
         requires few { length todo.frames < most_lane_frames }
-        ensures { IfOk result (λ s. s ≡ new_session entries todo.frames) }
+        ensures { IfOk result (λ s. s ≡ new_session (4 * number) entries todo.frames) }
     {
         let total = todo.len();
         let room = total + SPARE_ROOM;
@@ -105,6 +106,8 @@ impl Session {
         gate: &G,
         cut_after: Option<usize>,
     )
+        requires { LetsWorkers (G.lets gate.now) (self.old.worker + 4) }
+        ensures worker { self.new.worker ≡ self.old.worker }
         ensures entries { self.new.entries ≡ self.old.entries }
         ensures frames { self.new.frames ≡ self.old.frames }
     {
@@ -122,6 +125,8 @@ impl Session {
 
     /// A round of the session in which this thread makes the passes of all workers in turn.
     pub(crate) fn pass_in_turn<G: Gate>(&mut self, gate: &G, cut_after: Option<usize>)
+        requires { LetsWorkers (G.lets gate.now) (self.old.worker + 4) }
+        ensures worker { self.new.worker ≡ self.old.worker }
         ensures entries { self.new.entries ≡ self.old.entries }
         ensures frames { self.new.frames ≡ self.old.frames }
     {

@@ -54,7 +54,7 @@ fn losses_of(plan: &Plan, losses: &[u32], pair: u32) -> u32
 fn task_of(plan: &Plan, losses: &[u32], number: u32, lane: LaneTraffic) -> LaneTask
     requires plan { CanRun plan.now }
     requires losses { losses.now ≡ losses_by_pair plan.now }
-    requires number { number ≤ most_lanes }
+    requires number { number < most_lanes }
     requires lane { CanBeRun plan.now lane }
     ensures { result ≡ key_with plan.now (lane_frames lane) }
 {
@@ -79,7 +79,7 @@ fn push_task(
 ) -> Result<(), AllocError>
     requires plan { CanRun plan.now }
     requires losses { losses.now ≡ losses_by_pair plan.now }
-    requires few { length tasks.old.items ≤ most_lanes }
+    requires few { length tasks.old.items < most_lanes }
     requires lane { lane.frames.frames ≡ frames_on lane.name plan.now.traffic }
     ensures { OnOk result (tasks.new.items ≡ tasks.old.items ++ keys_with_frames plan.now (lane_frames lane ∷ [])) }
 {

@@ -31,7 +31,7 @@ pub struct LaneTask {
 pub struct TaskParts {
     /// The lane.
     pub name: LaneName,
-    /// Its number among the lanes with traffic, at most 65,535.
+    /// Its number among the lanes with traffic, below 65,535.
     pub number: u32,
     /// The entries of its ring, 2 to 65,535.
     pub entries: u32,

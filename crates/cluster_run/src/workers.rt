@@ -1,6 +1,8 @@
 //! The four workers of a lane in a session, each with the end or the ends that it makes its turns with.
 
-ghost use Rattle.std.specs.Prelude.{◌≡◌, ◌≤◌, [], true, false, length, IfOk};
+ghost use Rattle.std.specs.Prelude.{◌≡◌, ◌≢◌, ◌+◌, ◌≤◌, [], true, false, length, take, IfOk};
+ghost use Rattle.io_edges.specs.Gates.{LetsWorker};
+ghost use Rattle.table_lane.specs.Tries.{tries};
 
 use crate::clock::Clock;
 use io_edges::Gate;
@@ -24,10 +26,16 @@ pub(crate) struct Sending {
 }
 
 impl Sending {
-    /// Makes at least 1 and at most so many turns, and answers how many. What it was given to send stays, sent or not.
+    /// Makes at least 1 and at most so many turns, and answers how many. What it was given to send stays, sent or not. A
+    /// turn with a frame left loads the link word once.
     pub(crate) fn pass<G: Gate>(&mut self, gate: &G, turns: u32) -> u32
-        requires { 1 ≤ turns }
-        ensures { self.new ≡ self.old }
+        requires some { 1 ≤ turns }
+        requires gate { LetsWorker (G.lets gate.now) self.old.key.worker }
+        ensures key { self.new.key ≡ self.old.key }
+        ensures some { 1 ≤ result }
+        ensures at_most { result ≤ turns }
+        ensures one_each { self.new.loads ≤ self.old.loads + result }
+        ensures tries { self.new.left ≢ 0 → self.new.loads ≡ self.old.loads + result }
     {
         let first = self.clock.first(turns);
         let worker = self.clock.worker();
@@ -37,7 +45,9 @@ impl Sending {
     }
 
     /// How many frames are left to send.
-    pub(crate) fn left(&self) -> usize {
+    pub(crate) fn left(&self) -> usize
+        ensures { result ≡ self.now.left }
+    {
         self.todo.len()
     }
 }
@@ -54,7 +64,8 @@ impl Model for Sending {
     ghost invariant = { IsSending };
 }
 
-/// The worker that moves frames and brings indices back. Contracts see the lane that its ends stand at.
+/// The worker that moves frames and brings indices back. Contracts see its number, the lane that its ends stand at, how
+/// often it tried to move, and the loads on the way back.
 #[derive(Drop)]
 pub struct Moving {
     mover: MoveEnd,
@@ -67,7 +78,7 @@ impl Moving {
     /// The worker with this number, before its first turn in a session. Both ends are those of one lane.
     pub fn new(mover: MoveEnd, back: BackEnd, worker: u32) -> Moving
         requires { back.lane ≡ mover.lane }
-        ensures { result.lane ≡ mover.lane }
+        ensures { result ≡ record { key = record { worker = worker; lane = mover.lane }; tries = tries mover.part; loads = back.part.loads } }
     {
         Moving {
             mover,
@@ -77,12 +88,16 @@ impl Moving {
         }
     }
 
-    /// Makes at least 1 and at most so many turns, and answers how many. The worker's number is the seed of its choices.
+    /// Makes at least 1 and at most so many turns, and answers how many. In each it tries to move, and loads once on the
+    /// way back. The worker's number is the seed of its choices. The gate has to let it pass before each turn.
     pub fn pass<G: Gate>(&mut self, gate: &G, turns: u32) -> u32
-        requires { 1 ≤ turns }
-        ensures kept { self.new ≡ self.old }
+        requires some { 1 ≤ turns }
+        requires gate { LetsWorker (G.lets gate.now) self.old.key.worker }
+        ensures key { self.new.key ≡ self.old.key }
         ensures some { 1 ≤ result }
         ensures at_most { result ≤ turns }
+        ensures tries { self.old.tries + result ≤ self.new.tries }
+        ensures back_tries { self.new.loads ≡ self.old.loads + result }
     {
         let first = self.clock.first(turns);
         let worker = self.clock.worker();
@@ -101,8 +116,8 @@ impl Moving {
 
     /// Its two ends, at the end of a session.
     pub fn into_ends(self) -> (MoveEnd, BackEnd)
-        ensures mover { result.0.lane ≡ self.lane }
-        ensures back { result.1.lane ≡ self.lane }
+        ensures mover { result.0.lane ≡ self.key.lane }
+        ensures back { result.1.lane ≡ self.key.lane }
     {
         (self.mover, self.back)
     }
@@ -129,8 +144,8 @@ pub fn room_for(alloc: Global, frames: usize) -> Result<FrameList, AllocError>
     Ok(list)
 }
 
-/// The worker that receives frames into a list with room for `room` of them. Contracts see the lane that its end stands
-/// at, and the frames that were received.
+/// The worker that receives frames into a list with room for `room` of them. Contracts see its number, the lane that its
+/// end stands at, the frames that were received, for how many more there is room, and its loads of flags.
 #[derive(Drop)]
 pub struct Receiving {
     end: RecvEnd,
@@ -147,7 +162,7 @@ impl Receiving {
         requires received { end.part.got ≡ [] }
         requires none { got.frames ≡ [] }
         requires room { got.spare ≡ room }
-        ensures { result ≡ record { lane = end.lane; got = [] } }
+        ensures { result ≡ record { key = record { worker = worker; lane = end.lane }; got = []; spare = room; loads = end.part.loads } }
     {
         Receiving {
             end,
@@ -158,10 +173,16 @@ impl Receiving {
         }
     }
 
-    /// Makes at most so many turns, and no more than the list has room for. It answers how many.
+    /// Makes at most so many turns, and no more than the list has room for. It answers how many: at least one, where
+    /// there is room. Each turn loads a flag once. The gate has to let the worker pass before each turn.
     pub fn pass<G: Gate>(&mut self, gate: &G, turns: u32) -> u32
-        ensures lane { self.new.lane ≡ self.old.lane }
+        requires gate { LetsWorker (G.lets gate.now) self.old.key.worker }
+        ensures key { self.new.key ≡ self.old.key }
+        ensures kept { take (length self.old.got) self.new.got ≡ self.old.got }
+        ensures room { self.new.spare + length self.new.got ≡ self.old.spare + length self.old.got }
+        ensures some { 1 ≤ turns → 1 ≤ self.old.spare → 1 ≤ result }
         ensures at_most { result ≤ turns }
+        ensures tries { self.new.loads ≡ self.old.loads + result }
     {
         let spare = self.room - self.got.len();
         let turns = turns.min(u32::try_from(spare).unwrap_or(u32::MAX));
@@ -184,7 +205,7 @@ impl Receiving {
 
     /// Its end, and the frames that were received, in order.
     pub fn into_parts(self) -> (RecvEnd, FrameList)
-        ensures lane { result.0.lane ≡ self.lane }
+        ensures lane { result.0.lane ≡ self.key.lane }
         ensures received { result.0.part.got ≡ self.got }
         ensures got { result.1.frames ≡ self.got }
     {
@@ -204,7 +225,7 @@ impl Model for Receiving {
     ghost invariant = { IsReceiving };
 }
 
-/// The worker that cuts the link. Contracts see the lane that its end stands at, and whether the link was cut.
+/// The worker that cuts the link. Contracts see its number, the lane that its end stands at, and whether the link was cut.
 #[derive(Drop)]
 pub struct Cutting {
     end: CutEnd,
@@ -216,7 +237,7 @@ impl Cutting {
     /// The worker with this number, before its turn in a session. The link isn't cut.
     pub fn new(end: CutEnd, worker: u32) -> Cutting
         requires { end.part.cut ≡ false }
-        ensures { result ≡ record { lane = end.lane; cut = false } }
+        ensures { result ≡ record { key = record { worker = worker; lane = end.lane }; cut = false } }
     {
         Cutting {
             end,
@@ -225,9 +246,10 @@ impl Cutting {
         }
     }
 
-    /// Makes its one turn: the link is cut.
+    /// Makes its one turn: the link is cut. The gate has to let the worker pass before its turns.
     pub fn pass<G: Gate>(&mut self, gate: &G)
-        ensures lane { self.new.lane ≡ self.old.lane }
+        requires gate { LetsWorker (G.lets gate.now) self.old.key.worker }
+        ensures key { self.new.key ≡ self.old.key }
         ensures cut { self.new.cut ≡ true }
     {
         let first = self.clock.first(1);
@@ -245,7 +267,7 @@ impl Cutting {
 
     /// Its end, at the end of a session.
     pub fn into_end(self) -> CutEnd
-        ensures lane { result.lane ≡ self.lane }
+        ensures lane { result.lane ≡ self.key.lane }
         ensures cut { result.part.cut ≡ self.cut }
     {
         self.end

@@ -273,10 +273,11 @@ key_is {name = name} {name' = name'} {entries = entries} {entries' = entries'} {
     ap (λ (n : LaneName). key_with n entries losses traffic) a ∙ (ap (λ (n : ℕ). key_with name' n losses traffic) b ∙ (ap (λ (n : ℕ). key_with name' entries' n traffic) c ∙ ap (λ (t : List (List ℕ)). key_with name' entries' losses' t) d))
 
 -- after a round
-pub work_on : (w : Inside) (session : SessionState) → IsWork w → session.key ≡ w.session.key → w.session.ever ≤ session.ever → IsWork (record w { session = session })
-work_on w session holds key ever = record {
+pub work_on : (w : Inside) (session : SessionState) → IsWork w → session.first ≡ w.session.first → session.key ≡ w.session.key → w.session.ever ≤ session.ever → IsWork (record w { session = session })
+work_on w session holds first key ever = record {
   sessions = holds.sessions;
   numbers = holds.numbers;
+  numbered = first ∙ holds.numbered;
   ring = (holds.ring.0 ∙ ap (λ (k : SessionKey). k.entries) (sym key), holds.ring.1, holds.ring.2);
   losses = holds.losses;
   few = holds.few;
@@ -303,7 +304,7 @@ next_items w end sender ends sender_is = ap (λ (s : Sender). s.items) sender_is
 
 -- After a cut session, with its two proofs added, the stream's work is sound with the next session begun.
 pub next_work : StreamLaws → (w : Inside) (end : SessionEnd) (sender : Sender) (receiver : Receiver) (session : SessionState) (first : List Shown) (proofs : Vec Shown Global) (ahead : ℕ) (holds : IsWork w) → ahead + 1 ≡ w.ahead → w.session.cut ≡ true → EndsWith w.session end
-    → sender ≡ sender_renewed (fold ack_taken end.sender end.acks.frames) → receiver ≡ receiver_renewed end.receiver → session ≡ new_session w.entries sender receiver
+    → sender ≡ sender_renewed (fold ack_taken end.sender end.acks.frames) → receiver ≡ receiver_renewed end.receiver → session ≡ new_session w.numbers w.entries sender receiver
     → first ≡ w.proofs.items ++ end.item_proof ∷ [] → proofs.items ≡ first ++ end.ack_proof ∷ [] → IsWork (record w { ahead = ahead; session = session; proofs = proofs })
 next_work laws w end sender receiver session first proofs ahead holds less cut ends sender_is receiver_is session_is first_is proofs_are =
     let x = ends.exchange in
@@ -316,6 +317,7 @@ next_work laws w end sender receiver session first proofs ahead holds less cut e
     record {
       sessions = holds.sessions ++ x ∷ [];
       numbers = holds.numbers;
+      numbered = ap (λ (s : SessionState). s.first) session_is;
       ring = (ap (λ (s : SessionState). s.key.entries) (sym session_is), holds.ring.1, holds.ring.2);
       losses = omega arith;
       few = holds.few;

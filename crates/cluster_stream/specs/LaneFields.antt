@@ -1,5 +1,5 @@
 -- The fields of a stream at work: what it shows, and what is true of it between two rounds.
-use Rattle.std.specs.Prelude.{◌≡◌, ℕ, ◌+◌, ◌≤◌, ◌<◌, ◌^◌, ◌==◌, ◌&&◌, not, true, List, length, fold}
+use Rattle.std.specs.Prelude.{◌≡◌, ℕ, ◌+◌, ◌*◌, ◌≤◌, ◌<◌, ◌^◌, ◌==◌, ◌&&◌, not, true, List, length, fold}
 use Rattle.std.specs.List.{All, flat_map}
 use Rattle.step_kinds.specs.Limits.{most_traffic_entries}
 use Rattle.stream_model.specs.Receiver.{new_receiver}
@@ -9,7 +9,8 @@ use Rattle.table_lane.specs.EndOfLane.{Shown}
 use Rattle.cluster_run.specs.Lanes.{most_lanes}
 use Rattle.cluster_stream.specs.Keys.{StreamState}
 use Rattle.cluster_stream.specs.Streams.{exchange_proofs}
-use Rattle.cluster_stream.specs.Workers.{SessionKey}
+use Rattle.cluster_stream.specs.Workers.{SessionKey, first_workers}
+use Rattle.cluster_stream.specs.declared.numbers.LaneNumbers.{LaneNumbers}
 use Rattle.cluster_stream.specs.declared.lanes.StreamWork.TheInside as work
 
 abbrev pub state_of : work.Inside → StreamState
@@ -30,10 +31,15 @@ pub record GoesFrom (sessions : List Exchange) (key : SessionKey) (given : ℕ) 
   pub acked : key.start ≡ acked_by sessions
   pub ever : length key.before ≤ given
 
+-- the lanes of a stream are numbered below twice the lanes that a plan may have
+abbrev pub HaveNumbers : LaneNumbers → Type 0
+HaveNumbers numbers = (numbers.items < most_lanes) × (numbers.acks < 2 * most_lanes)
+
 -- there are two proofs for each session that ended, each of which was cut
 pub record IsWork (w : work.Inside) : Type 0 where
   pub sessions : List Exchange
-  pub numbers : (w.numbers.items ≤ most_lanes) × (w.numbers.acks ≤ 131071)
+  pub numbers : HaveNumbers w.numbers
+  pub numbered : w.session.first ≡ first_workers w.numbers
   pub ring : (w.entries ≡ w.session.key.entries) × (2 ≤ w.entries) × (w.entries ≤ most_traffic_entries)
   pub losses : length sessions + w.ahead ≡ w.losses
   pub few : w.losses + 1 < 2 ^ 32

@@ -9,7 +9,8 @@ use Rattle.stream_model.specs.Receiver.{Receiver, taken}
 use Rattle.stream_model.specs.Resumed.{Exchange, IsInOrder}
 use Rattle.stream_model.specs.Sender.{Sender, session_frames}
 use Rattle.stream_model.specs.declared.Session.TheVariants.{Fresh}
-use Rattle.cluster_stream.specs.Workers.{SessionState}
+use Rattle.cluster_stream.specs.Workers.{SessionState, first_workers}
+use Rattle.cluster_stream.specs.declared.numbers.LaneNumbers.{LaneNumbers}
 use Rattle.cluster_stream.specs.declared.session.SessionEnd.{SessionEnd}
 
 -- both ends stand at the start of a session: nothing was given in it, and it starts at what was acknowledged
@@ -23,9 +24,10 @@ pub record CanBegin (sender : Sender) (receiver : Receiver) : Type 0 where
   pub fresh : receiver.session ≡ Fresh
   pub kept : length receiver.items < 2 ^ 32
 
--- a session that begins: the link isn't cut
-abbrev pub new_session : ℕ → Sender → Receiver → SessionState
-new_session entries sender receiver = record {
+-- a session that begins, by the numbers of its lanes: the link isn't cut
+abbrev pub new_session : LaneNumbers → ℕ → Sender → Receiver → SessionState
+new_session numbers entries sender receiver = record {
+  first = first_workers numbers;
   key = record { entries = entries; items = sender.items; start = sender.start; before = receiver.items };
   ever = sender.place.ever;
   kept = length receiver.items;

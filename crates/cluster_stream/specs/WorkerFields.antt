@@ -4,8 +4,9 @@ use Rattle.std.specs.List.{All}
 use Rattle.stream_model.specs.Numbers.{SaysAtMost}
 use Rattle.stream_model.specs.Receiver.{taken}
 use Rattle.stream_model.specs.declared.Session.TheVariants.{Fresh}
+use Rattle.cluster_run.specs.Workers.{WorkerKey}
 use Rattle.cluster_stream.specs.Ends.{HasOffered}
-use Rattle.cluster_stream.specs.Workers.{SourceShown, SinkShown, MovingShown, CuttingShown}
+use Rattle.cluster_stream.specs.Workers.{SourceShown, SinkShown, MovingShown, CuttingShown, PairKey}
 use Rattle.cluster_stream.specs.declared.source.Source.TheInside as source
 use Rattle.cluster_stream.specs.declared.sink.Sink.TheInside as sink
 use Rattle.cluster_stream.specs.declared.pair.PairMoving.TheInside as moving
@@ -13,7 +14,14 @@ use Rattle.cluster_stream.specs.declared.pair.PairCutting.TheInside as cutting
 
 abbrev pub source_of : source.Inside → SourceShown
 source_of w = record {
-  key = record { lane = w.end.lane; ack_lane = w.acks.lane; entries = w.end.part.entries; items = w.sender.items; start = w.sender.start };
+  key = record {
+    workers = record { items = w.clock.worker; acks = w.acks.key.worker };
+    lane = w.end.lane;
+    ack_lane = w.acks.key.lane;
+    entries = w.end.part.entries;
+    items = w.sender.items;
+    start = w.sender.start;
+  };
   ever = w.sender.place.ever;
 }
 
@@ -24,7 +32,13 @@ pub record IsSource (w : source.Inside) : Type 0 where
 
 abbrev pub sink_of : sink.Inside → SinkShown
 sink_of w = record {
-  key = record { lane = w.end.lane; ack_lane = w.acks.lane; entries = w.acks.part.entries; before = take w.begun w.receiver.items };
+  key = record {
+    workers = record { items = w.clock.worker; acks = w.ack_clock.worker };
+    lane = w.end.lane;
+    ack_lane = w.acks.lane;
+    entries = w.acks.part.entries;
+    before = take w.begun w.receiver.items;
+  };
   kept = length w.receiver.items;
 }
 
@@ -37,11 +51,15 @@ pub record IsSink (w : sink.Inside) : Type 0 where
   pub acks : All (SaysAtMost (length w.receiver.items)) w.acks.part.sent
   pub told : (length w.acks.part.sent ≤ w.told) × (w.told ≤ length w.receiver.items)
 
+-- of the workers on the lane of items and on that of acknowledgements
+abbrev pub pair_key : WorkerKey → WorkerKey → PairKey
+pair_key items acks = record { workers = record { items = items.worker; acks = acks.worker }; lane = items.lane; ack_lane = acks.lane }
+
 abbrev pub moving_of : moving.Inside → MovingShown
-moving_of w = record { lane = w.items.lane; ack_lane = w.acks.lane }
+moving_of w = record { key = pair_key w.items.key w.acks.key; tries = w.items.tries; loads = w.items.loads }
 
 abbrev pub cutting_of : cutting.Inside → CuttingShown
-cutting_of w = record { key = record { lane = w.items.lane; ack_lane = w.acks.lane }; cut = w.items.cut }
+cutting_of w = record { key = pair_key w.items.key w.acks.key; cut = w.items.cut }
 
 -- both lanes are cut, or none
 abbrev pub IsCutting : cutting.Inside → Type 0

@@ -1,6 +1,7 @@
 //! A round of a stream's session in which its workers have threads of their own.
 
 ghost use Rattle.std.specs.Prelude.{◌≡◌, ◌≤◌};
+ghost use Rattle.cluster_stream.specs.Workers.{LetsBoth};
 
 use crate::offering::Turn;
 use crate::pair::{PairCutting, PairMoving};
@@ -33,6 +34,7 @@ const IDLE_PASSES: u32 = 16;
 
 // The source's part of a round. It leaves once nothing is left to send, or where it sent nothing for a while.
 fn give_in_thread<G: Gate>(source: &mut Source, gate: &G, round: &Round)
+    requires { LetsBoth (G.lets gate.now) source.old.key.workers }
     ensures key { source.new.key ≡ source.old.key }
     ensures ever { source.old.ever ≤ source.new.ever }
 {
@@ -53,7 +55,8 @@ fn give_in_thread<G: Gate>(source: &mut Source, gate: &G, round: &Round)
 
 // The movers' part of a round. They leave with the pass after the one in which the source left.
 fn move_in_thread<G: Gate>(moving: &mut PairMoving, gate: &G, round: &Round)
-    ensures { moving.new ≡ moving.old }
+    requires { LetsBoth (G.lets gate.now) moving.old.key.workers }
+    ensures { moving.new.key ≡ moving.old.key }
 {
     for _ in 0..MOVER_PASSES {
         let is_last = round.has_source_left();
@@ -71,6 +74,7 @@ fn move_in_thread<G: Gate>(moving: &mut PairMoving, gate: &G, round: &Round)
 // The sink's part of a round. It is over once all items are kept, where no cut is ahead; else the sink leaves with the
 // pass after the one in which the movers left.
 fn keep_in_thread<G: Gate>(sink: &mut Sink, gate: &G, round: &Round, turns: u32, aim: Aim)
+    requires { LetsBoth (G.lets gate.now) sink.old.key.workers }
     ensures { sink.new.key ≡ sink.old.key }
 {
     for _ in 0..PASSES {
@@ -89,6 +93,7 @@ fn keep_in_thread<G: Gate>(sink: &mut Sink, gate: &G, round: &Round, turns: u32,
 
 // The cutting worker's part: the link is cut once so many items are kept, or after a while.
 fn cut_in_thread<G: Gate>(cutting: &mut PairCutting, gate: &G, round: &Round, cut_after: usize)
+    requires { LetsBoth (G.lets gate.now) cutting.old.key.workers }
     ensures { cutting.new.key ≡ cutting.old.key }
 {
     round.await_kept(cut_after);
@@ -108,9 +113,12 @@ fn carry_in_threads<R: Threads + Sync, G: Gate>(
     turns: u32,
     aim: Aim,
 )
+    requires gate_source { LetsBoth (G.lets gate.now) source.old.key.workers }
+    requires gate_moving { LetsBoth (G.lets gate.now) moving.old.key.workers }
+    requires gate_sink { LetsBoth (G.lets gate.now) sink.old.key.workers }
     ensures source { source.new.key ≡ source.old.key }
     ensures ever { source.old.ever ≤ source.new.ever }
-    ensures moving { moving.new ≡ moving.old }
+    ensures moving { moving.new.key ≡ moving.old.key }
     ensures sink { sink.new.key ≡ sink.old.key }
 {
     join_mut(
@@ -138,9 +146,13 @@ pub(crate) fn pass_in_threads<R: Threads + Sync, G: Gate>(
     cutting: &mut PairCutting,
     aim: Aim,
 )
+    requires gate_source { LetsBoth (G.lets gate.now) source.old.key.workers }
+    requires gate_moving { LetsBoth (G.lets gate.now) moving.old.key.workers }
+    requires gate_sink { LetsBoth (G.lets gate.now) sink.old.key.workers }
+    requires gate_cutting { LetsBoth (G.lets gate.now) cutting.old.key.workers }
     ensures source { source.new.key ≡ source.old.key }
     ensures ever { source.old.ever ≤ source.new.ever }
-    ensures moving { moving.new ≡ moving.old }
+    ensures moving { moving.new.key ≡ moving.old.key }
     ensures sink { sink.new.key ≡ sink.old.key }
     ensures cutting { cutting.new.key ≡ cutting.old.key }
 {

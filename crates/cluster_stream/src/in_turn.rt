@@ -2,6 +2,7 @@
 
 ghost use Rattle.std.specs.Prelude.{◌≡◌, ◌≤◌};
 ghost use Rattle.cluster_run.specs.Workers.{most_pass_turns};
+ghost use Rattle.cluster_stream.specs.Workers.{LetsBoth};
 
 use crate::in_threads::Aim;
 use crate::pair::{PairCutting, PairMoving};
@@ -33,10 +34,13 @@ fn carry_in_turn<G: Gate>(
     sink: &mut Sink,
     turns: u32,
 )
-    requires { (1 ≤ turns) × (turns ≤ most_pass_turns) }
+    requires turns { (1 ≤ turns) × (turns ≤ most_pass_turns) }
+    requires gate_source { LetsBoth (G.lets gate.now) source.old.key.workers }
+    requires gate_moving { LetsBoth (G.lets gate.now) moving.old.key.workers }
+    requires gate_sink { LetsBoth (G.lets gate.now) sink.old.key.workers }
     ensures source { source.new.key ≡ source.old.key }
     ensures ever { source.old.ever ≤ source.new.ever }
-    ensures moving { moving.new ≡ moving.old }
+    ensures moving { moving.new.key ≡ moving.old.key }
     ensures sink { sink.new.key ≡ sink.old.key }
 {
     source.pass(gate, turns);
@@ -54,10 +58,14 @@ fn cut_in_turn<G: Gate>(
     cutting: &mut PairCutting,
     turns: u32,
 )
-    requires { (1 ≤ turns) × (turns ≤ most_pass_turns) }
+    requires turns { (1 ≤ turns) × (turns ≤ most_pass_turns) }
+    requires gate_source { LetsBoth (G.lets gate.now) source.old.key.workers }
+    requires gate_moving { LetsBoth (G.lets gate.now) moving.old.key.workers }
+    requires gate_sink { LetsBoth (G.lets gate.now) sink.old.key.workers }
+    requires gate_cutting { LetsBoth (G.lets gate.now) cutting.old.key.workers }
     ensures source { source.new.key ≡ source.old.key }
     ensures ever { source.old.ever ≤ source.new.ever }
-    ensures moving { moving.new ≡ moving.old }
+    ensures moving { moving.new.key ≡ moving.old.key }
     ensures sink { sink.new.key ≡ sink.old.key }
     ensures cutting { cutting.new.key ≡ cutting.old.key }
 {
@@ -79,10 +87,14 @@ pub(crate) fn pass_in_turn<G: Gate>(
     aim: Aim,
     turns: u32,
 )
-    requires { (1 ≤ turns) × (turns ≤ most_pass_turns) }
+    requires turns { (1 ≤ turns) × (turns ≤ most_pass_turns) }
+    requires gate_source { LetsBoth (G.lets gate.now) source.old.key.workers }
+    requires gate_moving { LetsBoth (G.lets gate.now) moving.old.key.workers }
+    requires gate_sink { LetsBoth (G.lets gate.now) sink.old.key.workers }
+    requires gate_cutting { LetsBoth (G.lets gate.now) cutting.old.key.workers }
     ensures source { source.new.key ≡ source.old.key }
     ensures ever { source.old.ever ≤ source.new.ever }
-    ensures moving { moving.new ≡ moving.old }
+    ensures moving { moving.new.key ≡ moving.old.key }
     ensures sink { sink.new.key ≡ sink.old.key }
     ensures cutting { cutting.new.key ≡ cutting.old.key }
 {

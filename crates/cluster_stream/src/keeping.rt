@@ -3,6 +3,7 @@
 ghost use Rattle.std.specs.Prelude.{◌≡◌, ◌+◌, ◌-◌, ◌≤◌, ◌<◌, ◌^◌, ◌++◌, ◌∷◌, [], if◌then◌else◌, length, fold, IfOk, OnOk, OnErr};
 ghost use Rattle.stream_model.specs.Receiver.{Receiver, ack_frame, taken};
 ghost use Rattle.table_rule.specs.ShownLane.{most_lane_frames};
+ghost use Rattle.lane_workers.specs.Passes.{LetsTurns};
 ghost use Rattle.cluster_stream.specs.Ends.{Grows};
 
 use io_edges::Gate;
@@ -57,6 +58,7 @@ pub(crate) fn keep_pass<G: Gate>(
 ) -> Result<u32, AllocError>
     requires few { length receiver.old.items + turns < 2 ^ 32 }
     requires fits { first + turns < 2 ^ 64 }
+    requires gate { LetsTurns (G.lets gate.now) worker first turns }
     ensures taken { OnOk result ((start : Receiver) → receiver.old ≡ fold taken start end.old.part.got → receiver.new ≡ fold taken start end.new.part.got) }
     ensures items { Grows turns receiver.old.items receiver.new.items }
     ensures lane { end.new.lane ≡ end.old.lane }

@@ -1,9 +1,11 @@
 //! A stream at work: its sessions, one after another.
 
 ghost use Rattle.std.specs.Prelude.{◌≡◌, ◌≤◌, true, IfOk};
+ghost use Rattle.io_edges.specs.Gates.{LetsWorkers};
 ghost use Rattle.cluster_run.specs.Lanes.{most_lanes};
 ghost use Rattle.cluster_stream.specs.Keys.{ComesTo};
 ghost use Rattle.cluster_stream.specs.Streams.{stream_shown};
+ghost use Rattle.cluster_stream.specs.Workers.{most_stream_workers};
 
 use crate::exchange::{StreamEnds, laws_of_sessions, next_ends};
 use crate::numbers::LaneNumbers;
@@ -96,6 +98,7 @@ impl StreamWork {
 
     /// A round in which its workers have threads of their own. A stream that is over does nothing.
     pub(crate) fn pass_in_threads<R: Threads + Sync, G: Gate>(&mut self, rt: &R, gate: &G)
+        requires { LetsWorkers (G.lets gate.now) most_stream_workers }
         ensures { self.new.key ≡ self.old.key }
     {
         if self.is_over() {
@@ -107,6 +110,7 @@ impl StreamWork {
 
     /// A round in which this thread makes the passes of its workers in turn. A stream that is over does nothing.
     pub(crate) fn pass_in_turn<G: Gate>(&mut self, gate: &G)
+        requires { LetsWorkers (G.lets gate.now) most_stream_workers }
         ensures { self.new.key ≡ self.old.key }
     {
         if self.is_over() {

@@ -1,6 +1,7 @@
 //! The passes of the worker that gives a stream's frames to its lane.
 
 ghost use Rattle.std.specs.Prelude.{◌≡◌, ◌+◌, ◌-◌, ◌≤◌, ◌<◌, ◌^◌};
+ghost use Rattle.lane_workers.specs.Passes.{LetsTurns};
 ghost use Rattle.cluster_stream.specs.Ends.{GoesOn, HasOffered};
 
 use io_edges::Gate;
@@ -87,6 +88,7 @@ pub(crate) fn offer_pass<G: Gate>(
 ) -> Result<Pass, AllocError>
     requires offered { HasOffered sender.old end.old.part.sent }
     requires fits { first + turns < 2 ^ 64 }
+    requires gate { LetsTurns (G.lets gate.now) worker first turns }
     ensures offered { HasOffered sender.new end.new.part.sent }
     ensures stream { GoesOn sender.old sender.new }
     ensures lane { end.new.lane ≡ end.old.lane }

@@ -1,6 +1,8 @@
 //! The workers that move frames on both lanes of a stream, and those that cut both.
 
-ghost use Rattle.std.specs.Prelude.{◌≡◌, ◌≤◌, true, false};
+ghost use Rattle.std.specs.Prelude.{◌≡◌, ◌+◌, ◌≤◌, true, false};
+ghost use Rattle.cluster_stream.specs.WorkerFields.{pair_key};
+ghost use Rattle.cluster_stream.specs.Workers.{LetsBoth};
 
 use cluster_run::workers::{Cutting, Moving};
 use io_edges::Gate;
@@ -20,15 +22,20 @@ const ACK_TURNS: u32 = 16;
 impl PairMoving {
     /// The workers of a new session.
     pub(crate) fn new(items: Moving, acks: Moving) -> PairMoving
-        ensures { result ≡ record { lane = items.lane; ack_lane = acks.lane } }
+        ensures { result ≡ record { key = pair_key items.key acks.key; tries = items.tries; loads = items.loads } }
     {
         PairMoving { items, acks }
     }
 
     /// Makes at most so many turns on the lane of items, and answers how many, and makes a few on the other.
     pub(crate) fn pass<G: Gate>(&mut self, gate: &G, turns: u32) -> u32
-        requires { 1 ≤ turns }
-        ensures { self.new ≡ self.old }
+        requires some { 1 ≤ turns }
+        requires gate { LetsBoth (G.lets gate.now) self.old.key.workers }
+        ensures key { self.new.key ≡ self.old.key }
+        ensures some { 1 ≤ result }
+        ensures at_most { result ≤ turns }
+        ensures tries { self.old.tries + result ≤ self.new.tries }
+        ensures back_tries { self.new.loads ≡ self.old.loads + result }
     {
         let made = self.items.pass(gate, turns);
         self.acks.pass(gate, ACK_TURNS);
@@ -39,8 +46,8 @@ impl PairMoving {
 impl PairMoving {
     /// Its ends, at the end of a session: those of the lane of items first.
     pub(crate) fn into_ends(self) -> (MoveEnd, BackEnd, MoveEnd, BackEnd)
-        ensures items { (result.0.lane ≡ self.lane) × (result.1.lane ≡ self.lane) }
-        ensures acks { (result.2.lane ≡ self.ack_lane) × (result.3.lane ≡ self.ack_lane) }
+        ensures items { (result.0.lane ≡ self.key.lane) × (result.1.lane ≡ self.key.lane) }
+        ensures acks { (result.2.lane ≡ self.key.ack_lane) × (result.3.lane ≡ self.key.ack_lane) }
     {
         let PairMoving { items, acks } = self;
         let (item_mover, item_back) = items.into_ends();
@@ -70,13 +77,14 @@ impl PairCutting {
     /// The workers of a new session, in which the link isn't cut.
     pub(crate) fn new(items: Cutting, acks: Cutting) -> PairCutting
         requires { (items.cut ≡ false) × (acks.cut ≡ false) }
-        ensures { result ≡ record { key = record { lane = items.lane; ack_lane = acks.lane }; cut = false } }
+        ensures { result ≡ record { key = pair_key items.key acks.key; cut = false } }
     {
         PairCutting { items, acks }
     }
 
     /// Makes the one turn of both: the link is cut.
     pub(crate) fn pass<G: Gate>(&mut self, gate: &G)
+        requires gate { LetsBoth (G.lets gate.now) self.old.key.workers }
         ensures key { self.new.key ≡ self.old.key }
         ensures cut { self.new.cut ≡ true }
     {

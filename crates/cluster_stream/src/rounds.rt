@@ -1,7 +1,9 @@
 //! Rounds of the workers of streams that are open together.
 
 ghost use Rattle.std.specs.Prelude.{◌≡◌, ◌≤◌, true, All, IfOk, IsTrue};
+ghost use Rattle.io_edges.specs.Gates.{LetsWorkers};
 ghost use Rattle.cluster_stream.specs.Keys.{KeepKeys, keys_of};
+ghost use Rattle.cluster_stream.specs.Workers.{most_stream_workers};
 
 use crate::lanes::StreamWork;
 use io_edges::Gate;
@@ -28,6 +30,7 @@ fn thread_count<R: Threads>(rt: &R) -> usize
 
 // A round in which workers have threads of their own.
 fn round_in_threads<R: Threads + Sync, G: Gate>(rt: &R, gate: &G, works: &mut [StreamWork])
+    requires { LetsWorkers (G.lets gate.now) most_stream_workers }
     ensures { KeepKeys works.old works.new }
 {
     thread::for_each_mut(
@@ -45,7 +48,8 @@ fn round_in_turn<R: Threads + Sync, G: Gate>(
     threads: usize,
     works: &mut [StreamWork],
 )
-    requires { 1 ≤ threads }
+    requires some { 1 ≤ threads }
+    requires gate { LetsWorkers (G.lets gate.now) most_stream_workers }
     ensures { KeepKeys works.old works.new }
 {
     thread::for_each_mut(
@@ -58,7 +62,8 @@ fn round_in_turn<R: Threads + Sync, G: Gate>(
 
 // A round of the streams that are not over.
 fn round<R: Threads + Sync, G: Gate>(rt: &R, gate: &G, threads: usize, works: &mut [StreamWork])
-    requires { 1 ≤ threads }
+    requires some { 1 ≤ threads }
+    requires gate { LetsWorkers (G.lets gate.now) most_stream_workers }
     ensures { keys_of works.new ≡ keys_of works.old }
 {
     if works.len() <= FEW_LANES {
@@ -101,6 +106,7 @@ pub(crate) fn finished<R: Threads + Wait + Sync, G: Gate>(
     gate: &G,
     mut works: Vec<StreamWork>,
 ) -> Result<Vec<StreamWork>, AllocError>
+    requires { LetsWorkers (G.lets gate.now) most_stream_workers }
     ensures keys { IfOk result (λ done. keys_of done.items ≡ keys_of works.items) }
     ensures over { IfOk result (λ done. All (λ work. work.over ≡ true) done.items) }
 {

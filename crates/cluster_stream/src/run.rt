@@ -1,8 +1,10 @@
 //! A run of a plan's traffic as resumable streams.
 
 ghost use Rattle.std.specs.Prelude.{IfOk};
+ghost use Rattle.io_edges.specs.Gates.{LetsWorkers};
 ghost use Rattle.cluster_run.specs.Lanes.{CanRun};
 ghost use Rattle.cluster_stream.specs.Streams.{AreResumed, streams_shown};
+ghost use Rattle.cluster_stream.specs.Workers.{most_stream_workers};
 
 use crate::group::next_group;
 use crate::parts::StreamParts;
@@ -28,7 +30,8 @@ use table_lane::LaneProof;
 ///
 /// Before each turn a worker passes the gate with its number: 4n where lane n sends, 4n + 1 where it moves frames,
 /// 4n + 2 where it receives and 4n + 3 where it is cut. Where k lanes have traffic, the acknowledgements of lane n are
-/// lane k + n. Turns count from 0 in each session. Of up to four lanes the two ends of each, its movers and what cuts
+/// lane k + n. Turns count from 0 in each session. The gate has to let each of these workers pass before each turn: their
+/// numbers are below 524,280, and those of turns below 2^64. Of up to four lanes the two ends of each, its movers and what cuts
 /// it have threads of their own; of more lanes a thread makes the turns of several, those of one lane in turn. Where no
 /// thread can be made the caller makes them.
 ///
@@ -41,7 +44,8 @@ pub fn run_stream<R: Threads + Wait + Sync, G: Gate>(
     plan: &Plan,
     gate: &G,
 ) -> Result<(StreamRecord, Vec<LaneProof>), AllocError>
-    requires { CanRun plan.now }
+    requires plan { CanRun plan.now }
+    requires gate { LetsWorkers (G.lets gate.now) most_stream_workers }
     ensures { IfOk result (λ run. AreResumed plan.now (streams_shown run.0) run.1.items) }
 {
     let mut waiting = lanes_to_run(alloc, plan)?;

@@ -4,8 +4,9 @@ ghost use Rattle.std.specs.Prelude.{◌≡◌, ◌≤◌, ◌<◌, ◌==◌, [],
 ghost use Rattle.step_kinds.specs.Limits.{most_traffic_entries};
 ghost use Rattle.lane_workers.specs.Passes.{HaveBytes};
 ghost use Rattle.table_lane.specs.NewEnds.{AreNew};
-ghost use Rattle.cluster_run.specs.Lanes.{most_lanes};
+ghost use Rattle.cluster_stream.specs.LaneFields.{HaveNumbers};
 ghost use Rattle.cluster_stream.specs.Sessions.{CanBegin, EndsWith, new_session};
+ghost use Rattle.cluster_stream.specs.Workers.{LetsSession};
 
 use crate::in_threads::{Aim, pass_in_threads};
 use crate::in_turn::pass_in_turn;
@@ -77,11 +78,11 @@ impl Session {
         receiver: StreamReceiver,
         total: usize,
     ) -> Result<Session, AllocError>
-        requires numbers { (numbers.items ≤ most_lanes) × (numbers.acks ≤ 131071) }
+        requires numbers { HaveNumbers numbers }
         requires ring { (2 ≤ entries) × (entries ≤ most_traffic_entries) }
         requires ends { CanBegin sender receiver }
         requires total { total ≡ length sender.items }
-        ensures { IfOk result (λ s. s ≡ new_session entries sender receiver) }
+        ensures { IfOk result (λ s. s ≡ new_session numbers entries sender receiver) }
     {
         let (got, items, acks) = new_lanes(alloc, entries)?;
         let (item_send, item_mover, item_recv, item_back, item_cut) = items;
@@ -115,6 +116,8 @@ impl Session {
         gate: &G,
         cut_after: Option<usize>,
     )
+        requires { LetsSession (G.lets gate.now) self.old.first }
+        ensures first { self.new.first ≡ self.old.first }
         ensures key { self.new.key ≡ self.old.key }
         ensures ever { self.old.ever ≤ self.new.ever }
     {
@@ -132,6 +135,8 @@ impl Session {
 
     /// A round of the session in which this thread makes the passes of all workers in turn.
     pub(crate) fn pass_in_turn<G: Gate>(&mut self, gate: &G, cut_after: Option<usize>)
+        requires { LetsSession (G.lets gate.now) self.old.first }
+        ensures first { self.new.first ≡ self.old.first }
         ensures key { self.new.key ≡ self.old.key }
         ensures ever { self.old.ever ≤ self.new.ever }
     {

@@ -2,8 +2,10 @@
 
 ghost use Rattle.std.specs.Prelude.{◌≡◌, ◌+◌, ◌≤◌, ◌<◌, ◌^◌, [], length, IfOk};
 ghost use Rattle.stream_model.specs.declared.Session.TheVariants.{Fresh};
-ghost use Rattle.cluster_run.specs.Lanes.{most_lanes};
+ghost use Rattle.io_edges.specs.Gates.{LetsWorker};
+ghost use Rattle.cluster_stream.specs.LaneFields.{HaveNumbers};
 ghost use Rattle.cluster_stream.specs.Leaving.{LeavesSink};
+ghost use Rattle.cluster_stream.specs.Workers.{LetsBoth, after_first, first_workers};
 
 use crate::keeping::{acknowledge, keep_pass};
 use crate::numbers::LaneNumbers;
@@ -65,12 +67,12 @@ impl Sink {
         numbers: LaneNumbers,
         total: usize,
     ) -> Sink
-        requires numbers { (numbers.items ≤ most_lanes) × (numbers.acks ≤ 131071) }
+        requires numbers { HaveNumbers numbers }
         requires fresh { receiver.session ≡ Fresh }
         requires few { length receiver.items < 2 ^ 32 }
         requires got { recv.part.got ≡ [] }
         requires sent { send.part.sent ≡ [] }
-        ensures { result ≡ record { key = record { lane = recv.lane; ack_lane = send.lane; entries = send.part.entries; before = receiver.items }; kept = length receiver.items } }
+        ensures { result ≡ record { key = record { workers = after_first (first_workers numbers) 2 0; lane = recv.lane; ack_lane = send.lane; entries = send.part.entries; before = receiver.items }; kept = length receiver.items } }
     {
         let begun = receiver.items().len();
         Sink {
@@ -88,6 +90,7 @@ impl Sink {
 
     /// Makes at most so many turns that keep, and one that acknowledges.
     pub(crate) fn pass<G: Gate>(&mut self, gate: &G, turns: u32)
+        requires { LetsBoth (G.lets gate.now) self.old.key.workers }
         ensures { self.new.key ≡ self.old.key }
     {
         self.keep(gate, turns);
@@ -96,6 +99,7 @@ impl Sink {
 
     // The turns that keep. After running out of memory there are none.
     fn keep<G: Gate>(&mut self, gate: &G, turns: u32)
+        requires { LetsWorker (G.lets gate.now) self.old.key.workers.items }
         ensures { self.new.key ≡ self.old.key }
     {
         let kept = self.receiver.items().len();
@@ -120,6 +124,7 @@ impl Sink {
 
     // The turn that acknowledges, where so many items more are kept.
     fn acknowledge<G: Gate>(&mut self, gate: &G)
+        requires { LetsWorker (G.lets gate.now) self.old.key.workers.acks }
         ensures { self.new.key ≡ self.old.key }
     {
         let first = self.ack_clock.first(1);

@@ -1,9 +1,11 @@
 //! The worker that gives the items of a stream, and receives their acknowledgements.
 
 ghost use Rattle.std.specs.Prelude.{◌≡◌, ◌≤◌, []};
-ghost use Rattle.cluster_run.specs.Lanes.{most_lanes};
+ghost use Rattle.io_edges.specs.Gates.{LetsWorker};
 ghost use Rattle.cluster_stream.specs.Ends.{HasOffered};
+ghost use Rattle.cluster_stream.specs.LaneFields.{HaveNumbers};
 ghost use Rattle.cluster_stream.specs.Leaving.{LeavesSource};
+ghost use Rattle.cluster_stream.specs.Workers.{LetsBoth, after_first, first_workers};
 
 use crate::numbers::LaneNumbers;
 use crate::offering::{Pass, Turn, offer_pass};
@@ -56,13 +58,13 @@ impl Source {
         got: FrameList,
         numbers: LaneNumbers,
     ) -> Source
-        requires numbers { (numbers.items ≤ most_lanes) × (numbers.acks ≤ 131071) }
+        requires numbers { HaveNumbers numbers }
         requires offered { HasOffered sender send.part.sent }
         requires acked { sender.acked ≡ sender.start }
         requires received { recv.part.got ≡ [] }
         requires none { got.frames ≡ [] }
         requires room { got.spare ≡ ACK_ROOM }
-        ensures { result ≡ record { key = record { lane = send.lane; ack_lane = recv.lane; entries = send.part.entries; items = sender.items; start = sender.start }; ever = sender.place.ever } }
+        ensures { result ≡ record { key = record { workers = after_first (first_workers numbers) 0 2; lane = send.lane; ack_lane = recv.lane; entries = send.part.entries; items = sender.items; start = sender.start }; ever = sender.place.ever } }
     {
         Source {
             sender,
@@ -75,7 +77,8 @@ impl Source {
 
     /// Makes at most so many turns that give, and a few that receive. It answers how far the first came.
     pub(crate) fn pass<G: Gate>(&mut self, gate: &G, turns: u32) -> Pass
-        requires { 1 ≤ turns }
+        requires some { 1 ≤ turns }
+        requires gate { LetsBoth (G.lets gate.now) self.old.key.workers }
         ensures key { self.new.key ≡ self.old.key }
         ensures ever { self.old.ever ≤ self.new.ever }
     {
@@ -86,7 +89,8 @@ impl Source {
 
     // The turns that give.
     fn give<G: Gate>(&mut self, gate: &G, turns: u32) -> Pass
-        requires { 1 ≤ turns }
+        requires some { 1 ≤ turns }
+        requires gate { LetsWorker (G.lets gate.now) self.old.key.workers.items }
         ensures key { self.new.key ≡ self.old.key }
         ensures ever { self.old.ever ≤ self.new.ever }
     {

@@ -5,3 +5,4 @@ pub mod Plan
 pub mod Std
 pub mod Streams
 pub mod Whole
+pub mod Gates

@@ -1,8 +1,11 @@
 //! Which moves the mover makes, so that headers overtake one another.
+ghost use Rattle.std.specs.Prelude.{◌≡◌};
+ghost use Rattle.lane_workers.specs.Choices.{first_choices, choice_of, chosen, noted};
 
 use rand_xoshiro::SplitMix64;
 use rand_xoshiro::rand_core::SeedableRng;
 use rand_xoshiro::rand_core::utils::NextWord;
+use std::marker::Model;
 use table_lane::MoveAnswer;
 
 /// At most so many entries the mover holds before it stores their headers.
@@ -19,7 +22,8 @@ enum Stage {
     StoringFlags,
 }
 
-/// The choices of a pass: some entries are taken, then their headers are stored in any order, then their flags.
+/// The choices of a pass: some entries are taken, then their headers are stored in any order, then their flags. Contracts
+/// see the state of the generator, the stage, and the two counts.
 #[derive(Drop)]
 pub(crate) struct Choices {
     words: SplitMix64,
@@ -30,7 +34,9 @@ pub(crate) struct Choices {
 
 impl Choices {
     /// The choices by the words of the generator SplitMix64 with this seed.
-    pub(crate) fn new(seed: u64) -> Choices {
+    pub(crate) fn new(seed: u64) -> Choices
+        ensures { result ≡ first_choices seed }
+    {
         Choices {
             words: SplitMix64::seed_from_u64(seed),
             stage: Stage::StoringFlags,
@@ -41,7 +47,10 @@ impl Choices {
 
     /// The choice of the next turn. While entries are taken, each that is held is an open move, and the number after
     /// these is the look for the next entry.
-    pub(crate) fn choice(&mut self) -> u64 {
+    pub(crate) fn choice(&mut self) -> u64
+        ensures choice { result ≡ choice_of self.old }
+        ensures goes_on { self.new ≡ chosen self.old }
+    {
         match self.stage {
             Stage::Taking => u64::from(self.held),
             Stage::StoringHeaders => {
@@ -54,16 +63,18 @@ impl Choices {
     }
 
     /// Goes on by what came of the turn.
-    pub(crate) fn note(&mut self, answer: MoveAnswer) {
+    pub(crate) fn note(&mut self, answer: MoveAnswer)
+        ensures { self.new ≡ noted self.old answer }
+    {
         match answer {
             MoveAnswer::Took { .. } => {
-                self.held = self.held.saturating_add(1);
-                self.waiting = self.waiting.saturating_add(1);
-                self.stage = if self.held < MOST_HELD {
+                self.stage = if self.held + 1 < MOST_HELD {
                     Stage::Taking
                 } else {
                     Stage::StoringHeaders
                 };
+                self.held = (self.held + 1).min(MOST_HELD);
+                self.waiting = (self.waiting + 1).min(MOST_HELD);
             }
             MoveAnswer::Header { .. } => {
                 self.waiting = self.waiting.saturating_sub(1);
@@ -88,4 +99,15 @@ impl Choices {
             }
         }
     }
+}
+
+impl Model for Choices {
+    ghost use Rattle.std.specs.Prelude.{◌≤◌};
+    ghost use Rattle.lane_workers.specs.Choices.{Choosing, most_held};
+
+    ghost Value = { Choosing };
+
+    ghost view = { λ c. record { state = c.words; stage = c.stage; held = c.held; waiting = c.waiting } };
+
+    ghost invariant = { λ c. (c.held ≤ most_held) × (c.waiting ≤ most_held) };
 }

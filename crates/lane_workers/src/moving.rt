@@ -1,6 +1,10 @@
 //! The passes of the worker that moves frames and brings indices back.
-ghost use Rattle.std.specs.Prelude.{◌≡◌, ◌+◌, ◌≤◌, ◌<◌, ◌^◌};
+ghost use Rattle.std.specs.Prelude.{◌≡◌, ◌+◌, ◌%◌, ◌≤◌, ◌<◌, ◌^◌};
+ghost use Rattle.table_lane.specs.MoveChoice.{Moves};
 ghost use Rattle.table_lane.specs.Tries.{tries};
+ghost use Rattle.table_lane.specs.declared.mover.MoveAnswer.{MoveAnswer};
+ghost use Rattle.lane_workers.specs.Choices.{choice_of, chosen, noted, ChosenMoves};
+ghost use Rattle.lane_workers.specs.Passes.{LetsTurns};
 
 use crate::choices::Choices;
 use crate::idling::{Idling, Turn};
@@ -16,6 +20,7 @@ fn move_turn(mover: &mut MoveEnd, back: &mut BackEnd, choices: &mut Choices) -> 
     ensures back_entries { back.new.part.entries ≡ back.old.part.entries }
     ensures tries { tries mover.old.part + 1 ≤ tries mover.new.part }
     ensures back_tries { back.new.part.loads ≡ back.old.part.loads + 1 }
+    ensures chosen { (answer : MoveAnswer) × Moves mover.old.part (choice_of choices.old) answer mover.new.part × (choices.new ≡ noted (chosen choices.old) answer) }
 {
     // Each of both steps is a try.
     each_move_is_a_try();
@@ -32,13 +37,13 @@ fn move_turn(mover: &mut MoveEnd, back: &mut BackEnd, choices: &mut Choices) -> 
 /// Makes at least 1 and at most `turns` turns of the worker that moves frames and brings indices back, and answers how
 /// many. Before each it passes the gate with the turn's number, counted from `first`. A turn is one [`MoveEnd::step`]
 /// and one [`BackEnd::step`]. The mover takes up to eight entries, stores their headers, and then their flags. In which
-/// order it stores headers is chosen by words of the generator SplitMix64, seeded by `choices` and `first`, so that they
-/// overtake one another.
+/// order it stores headers is chosen by words of the generator SplitMix64, seeded by the sum of `choices` and `first`, so
+/// that they overtake one another.
 ///
 /// The pass may end early, where its turns did nothing for a while. It takes no memory and never waits for another
 /// worker.
 ///
-/// `turns` has to be at least 1, and `first + turns` fits a `u64`.
+/// `turns` has to be at least 1, and `first + turns` fits a `u64`. The gate has to let the worker pass before each turn.
 pub fn move_pass<G: Gate>(
     mover: &mut MoveEnd,
     back: &mut BackEnd,
@@ -50,6 +55,7 @@ pub fn move_pass<G: Gate>(
 ) -> u32
     requires some { 1 ≤ turns }
     requires fits { first + turns < 2 ^ 64 }
+    requires gate { LetsTurns (G.lets gate.now) worker first turns }
     ensures lane { mover.new.lane ≡ mover.old.lane }
     ensures back_lane { back.new.lane ≡ back.old.lane }
     ensures entries { mover.new.part.entries ≡ mover.old.part.entries }
@@ -58,6 +64,7 @@ pub fn move_pass<G: Gate>(
     ensures at_most { result ≤ turns }
     ensures tries { tries mover.old.part + result ≤ tries mover.new.part }
     ensures back_tries { back.new.part.loads ≡ back.old.part.loads + result }
+    ensures chosen { ChosenMoves ((choices + first) % 2 ^ 64) result mover.old.part mover.new.part }
 {
     let mut choices = Choices::new(choices.wrapping_add(first));
     let mut idling = Idling::new();

@@ -1,6 +1,7 @@
 //! The passes of the worker that receives.
 ghost use Rattle.std.specs.Prelude.{◌≡◌, ◌+◌, ◌≤◌, ◌<◌, ◌^◌, ◌++◌, length, take, drop};
 ghost use Rattle.table_rule.specs.LaneNames.{Idle};
+ghost use Rattle.lane_workers.specs.Passes.{LetsTurns};
 
 use crate::idling::{Idling, Turn};
 use io_edges::Gate;
@@ -36,7 +37,8 @@ fn recv_turn(end: &mut RecvEnd, got: &mut FrameList) -> Turn
 /// The pass may end early, where its turns did nothing for a while. It takes no memory and never waits for another
 /// worker.
 ///
-/// `got` has to have room for `turns` frames. `turns` is at least 1, and `first + turns` fits a `u64`.
+/// `got` has to have room for `turns` frames. `turns` is at least 1, and `first + turns` fits a `u64`. The gate has to let
+/// the worker pass before each turn.
 pub fn recv_pass<G: Gate>(
     end: &mut RecvEnd,
     got: &mut FrameList,
@@ -48,6 +50,7 @@ pub fn recv_pass<G: Gate>(
     requires promised { turns ≤ got.old.spare }
     requires some { 1 ≤ turns }
     requires fits { first + turns < 2 ^ 64 }
+    requires gate { LetsTurns (G.lets gate.now) worker first turns }
     ensures lane { end.new.lane ≡ end.old.lane }
     ensures entries { end.new.part.entries ≡ end.old.part.entries }
     ensures kept { take (length end.old.part.got) end.new.part.got ≡ end.old.part.got }

@@ -1,7 +1,7 @@
 //! The passes of the worker that sends.
 ghost use Rattle.std.specs.Prelude.{◌≡◌, ◌≢◌, ◌+◌, ◌≤◌, ◌<◌, ◌^◌, ◌++◌, [], length};
 ghost use Rattle.table_rule.specs.ShownLane.{most_lane_frames};
-ghost use Rattle.lane_workers.specs.Passes.{HaveBytes};
+ghost use Rattle.lane_workers.specs.Passes.{HaveBytes, LetsTurns};
 
 use crate::idling::{Idling, Turn};
 use io_edges::Gate;
@@ -47,7 +47,7 @@ fn send_turn(end: &mut SendEnd, todo: &mut FrameList) -> Turn
 /// It takes no memory and never waits for another worker.
 ///
 /// Each frame in `todo` has to have a byte. What was sent and what is to be sent are fewer than 2^62 frames. `turns` is
-/// at least 1, and `first + turns` fits a `u64`.
+/// at least 1, and `first + turns` fits a `u64`. The gate has to let the worker pass before each turn.
 pub fn send_pass<G: Gate>(
     end: &mut SendEnd,
     todo: &mut FrameList,
@@ -60,6 +60,7 @@ pub fn send_pass<G: Gate>(
     requires counted { length end.old.part.sent + length todo.old.frames < most_lane_frames }
     requires some { 1 ≤ turns }
     requires fits { first + turns < 2 ^ 64 }
+    requires gate { LetsTurns (G.lets gate.now) worker first turns }
     ensures lane { end.new.lane ≡ end.old.lane }
     ensures entries { end.new.part.entries ≡ end.old.part.entries }
     ensures order { end.new.part.sent ++ todo.new.frames ≡ end.old.part.sent ++ todo.old.frames }

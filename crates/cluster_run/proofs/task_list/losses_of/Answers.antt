@@ -1,4 +1,4 @@
-use Rattle.std.proofs.Common.{◌∙◌, arith}
+use Rattle.std.proofs.Common.{arith}
 use Rattle.cluster_run.proofs.TrafficLanes.{losses_found}
 use Rattle.cluster_run.proofs.task_list.losses_of.Goals as goal
 

@@ -1,5 +1,6 @@
-use Rattle.std.proofs.Common.{◌≡◌, ◌+◌, ◌-◌, ◌≤◌}
+use Rattle.std.proofs.Common.{◌≡◌, ◌+◌, ◌-◌, ◌%◌, ◌^◌, ◌≤◌}
 use Rattle.table_lane.specs.Tries.{tries}
+use Rattle.lane_workers.specs.Choices.{Chosen}
 use Rattle.lane_workers.proofs.moving.move_pass.Given as goal
 
 abbrev pub invariant-loop-made : goal.invariant-loop-made
@@ -11,6 +12,7 @@ invariant-loop-made g l = record {
   back_entries : l.back.part.entries ≡ l.initial.back.part.entries;
   tries : tries l.initial.mover.part + l.made ≤ tries l.mover.part;
   back_tries : l.back.part.loads ≡ l.initial.back.part.loads + l.made;
+  chosen : Chosen ((l.fn.choices + l.fn.first) % 2 ^ 64) l.initial.mover.part l.made l.choices l.mover.part;
 }
 
 abbrev pub decreases-loop-made : goal.decreases-loop-made

@@ -15,6 +15,7 @@ invariant_of-result c =
     record {
       sessions = [];
       numbers = (parts.number, omega arith);
+      numbered = ap (λ (s : SessionState). s.first) session;
       ring = (ap (λ (s : SessionState). s.key.entries) (sym session), parts.ring.0, parts.ring.1);
       losses = omega arith;
       few = omega arith;
