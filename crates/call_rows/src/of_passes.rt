@@ -1,6 +1,7 @@
 //! A row of the workers' passes over one lane.
 
 ghost use Rattle.std.specs.Prelude.{◌≡◌, ◌+◌, ◌≤◌, ◌∷◌, [], length, IfOk};
+ghost use Rattle.io_edges.specs.Gates.{LetsWorkers};
 ghost use Rattle.lane_workers.specs.Passes.{HaveBytes};
 
 use io_edges::{Gate, NoGate};
@@ -68,6 +69,7 @@ fn go_round<G: Gate>(lane: &mut Lane, gate: &G) -> [u32; 4]
     requires bytes { HaveBytes lane.old.todo.frames }
     requires few { length lane.old.send.part.sent + length lane.old.todo.frames ≡ 2 }
     requires room { 2 ≤ lane.old.got.spare }
+    requires gate { LetsWorkers (G.lets gate.now) 4 }
     ensures bytes { HaveBytes lane.new.todo.frames }
     ensures few { length lane.new.send.part.sent + length lane.new.todo.frames ≡ 2 }
     ensures room { lane.new.got.spare + length lane.new.got.frames ≡ lane.old.got.spare + length lane.old.got.frames }
@@ -79,18 +81,39 @@ fn go_round<G: Gate>(lane: &mut Lane, gate: &G) -> [u32; 4]
     [sent, moved, received, cut]
 }
 
-// A gate that adds up the numbers that pass it, a worker's as thousands.
+// A gate for four workers. It adds up the numbers of the turns of each, counted from 1.
 #[derive(Drop)]
-struct Sum {
-    sum: AtomicU64,
+struct Sums {
+    of: [AtomicU64; 4],
 }
 
-impl Gate for Sum {
+impl Sums {
+    // Before any turn.
+    fn new() -> Sums {
+        Sums {
+            of: [AtomicU64::new(0), AtomicU64::new(0), AtomicU64::new(0), AtomicU64::new(0)],
+        }
+    }
+
+    // The sums by worker.
+    fn all(&self) -> [u64; 4] {
+        let [sender, mover, receiver, cutter] = &self.of;
+        [
+            sender.load(Ordering::SeqCst),
+            mover.load(Ordering::SeqCst),
+            receiver.load(Ordering::SeqCst),
+            cutter.load(Ordering::SeqCst),
+        ]
+    }
+}
+
+impl Gate for Sums {
+    ghost use Rattle.std.specs.Prelude.{◌<◌};
+
+    ghost lets = { λ _ worker _. worker < 4 };
+
     fn at(&self, worker: u32, turn: u64) {
-        self.sum.fetch_add(
-            turn.wrapping_add(u64::from(worker) * 1000),
-            Ordering::SeqCst,
-        );
+        self.of[worker as usize].fetch_add(turn.wrapping_add(1), Ordering::SeqCst);
     }
 }
 
@@ -110,11 +133,9 @@ fn goes_round(lane: &mut Lane) -> bool
     ensures few { length lane.new.send.part.sent + length lane.new.todo.frames ≡ 2 }
     ensures room { 5 ≤ lane.new.got.spare + length lane.new.got.frames }
 {
-    let gate = Sum {
-        sum: AtomicU64::new(0),
-    };
+    let gate = Sums::new();
     let turns = go_round(lane, &gate);
-    turns == [2, 3, 2, 1] && gate.sum.load(Ordering::SeqCst) == 10010
+    turns == [2, 3, 2, 1] && gate.all() == [3, 6, 3, 6]
 }
 
 // Whether the second frame stays, since the link is cut.

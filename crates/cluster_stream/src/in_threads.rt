@@ -123,12 +123,20 @@ fn carry_in_threads<R: Threads + Sync, G: Gate>(
 {
     join_mut(
         rt,
-        &mut || keep_in_thread(sink, gate, round, turns, aim),
-        &mut || {
+        &mut ||
+            requires { LetsBoth (G.lets gate.now) sink.now.key.workers }
+        { keep_in_thread(sink, gate, round, turns, aim) },
+        &mut ||
+            requires { LetsBoth (G.lets gate.now) moving.now.key.workers × LetsBoth (G.lets gate.now) source.now.key.workers }
+        {
             join_mut(
                 rt,
-                &mut || move_in_thread(moving, gate, round),
-                &mut || give_in_thread(source, gate, round),
+                &mut ||
+                    requires { LetsBoth (G.lets gate.now) moving.now.key.workers }
+                { move_in_thread(moving, gate, round) },
+                &mut ||
+                    requires { LetsBoth (G.lets gate.now) source.now.key.workers }
+                { give_in_thread(source, gate, round) },
             );
         },
     );
@@ -166,7 +174,11 @@ pub(crate) fn pass_in_threads<R: Threads + Sync, G: Gate>(
     let turns = share.clamp(1, TURNS as usize) as u32;
     join_mut(
         rt,
-        &mut || cut_in_thread(cutting, gate, told, cut_after),
-        &mut || carry_in_threads(rt, gate, source, moving, sink, told, turns, aim),
+        &mut ||
+            requires { LetsBoth (G.lets gate.now) cutting.now.key.workers }
+        { cut_in_thread(cutting, gate, told, cut_after) },
+        &mut ||
+            requires { LetsBoth (G.lets gate.now) source.now.key.workers × LetsBoth (G.lets gate.now) moving.now.key.workers × LetsBoth (G.lets gate.now) sink.now.key.workers }
+        { carry_in_threads(rt, gate, source, moving, sink, told, turns, aim) },
     );
 }

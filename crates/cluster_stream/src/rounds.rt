@@ -37,7 +37,9 @@ fn round_in_threads<R: Threads + Sync, G: Gate>(rt: &R, gate: &G, works: &mut [S
         rt,
         works,
         FEW_LANES,
-        &|_, work: &mut StreamWork| { work.pass_in_threads(rt, gate) },
+        &|_, work: &mut StreamWork|
+            requires { LetsWorkers (G.lets gate.now) most_stream_workers }
+        { work.pass_in_threads(rt, gate) },
     );
 }
 
@@ -56,7 +58,9 @@ fn round_in_turn<R: Threads + Sync, G: Gate>(
         rt,
         works,
         threads,
-        &|_, work: &mut StreamWork| { work.pass_in_turn(gate) },
+        &|_, work: &mut StreamWork|
+            requires { LetsWorkers (G.lets gate.now) most_stream_workers }
+        { work.pass_in_turn(gate) },
     );
 }
 

@@ -30,10 +30,11 @@ use table_lane::LaneProof;
 ///
 /// Before each turn a worker passes the gate with its number: 4n where lane n sends, 4n + 1 where it moves frames,
 /// 4n + 2 where it receives and 4n + 3 where it is cut. Where k lanes have traffic, the acknowledgements of lane n are
-/// lane k + n. Turns count from 0 in each session. The gate has to let each of these workers pass before each turn: their
-/// numbers are below 524,280, and those of turns below 2^64. Of up to four lanes the two ends of each, its movers and what cuts
-/// it have threads of their own; of more lanes a thread makes the turns of several, those of one lane in turn. Where no
-/// thread can be made the caller makes them.
+/// lane k + n. Turns count from 0 in each session. The gate has to let all workers with numbers below 524,280 pass,
+/// before each turn with a number below 2^64.
+///
+/// Of up to four lanes the two ends of each, its movers and what cuts it have threads of their own; of more lanes a
+/// thread makes the turns of several, those of one lane in turn. Where no thread can be made the caller makes them.
 ///
 /// # Errors
 ///

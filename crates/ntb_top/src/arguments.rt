@@ -3,6 +3,8 @@
 ghost use Rattle.std.specs.Prelude.{◌≡◌, IfOk, IsErr, drop, map};
 ghost use Rattle.std.specs.String.{string_bytes};
 ghost use Rattle.std.specs.Vec.Iter.{into_iter_items};
+ghost use Rattle.io_edges.specs.Gates.{LetsWorkers};
+ghost use Rattle.cluster_stream.specs.Workers.{most_stream_workers};
 ghost use Rattle.command_reply.specs.Statuses.{number_of};
 ghost use Rattle.command_reply.specs.declared.status.Status.TheVariants.{OutOfMemory};
 ghost use Rattle.ntb_top.specs.Arguments.{AreWanting, words_of};
@@ -22,6 +24,8 @@ use std::thread::Threads;
 /// Does all that the program does as a process: [`run_program`] on its arguments but the first, which is its name, and
 /// answers its end. Arguments that aren't all text are no command, as no words are. Where there is no memory for
 /// the arguments it answers status 6, and neither reads nor writes.
+///
+/// The gate has to let all workers with numbers below 524,280 pass, before each turn with a number below 2^64.
 pub fn run_arguments<R: Threads + Wait + Sync, S: Source, K: Sink, G: Gate>(
     rt: &R,
     alloc: Global,
@@ -30,6 +34,7 @@ pub fn run_arguments<R: Threads + Wait + Sync, S: Source, K: Sink, G: Gate>(
     sink: &mut K,
     gate: &G,
 ) -> Ended
+    requires { LetsWorkers (G.lets gate.now) most_stream_workers }
     ensures run { HasEnded (command_of (words_of arguments))
         (record { left = S.left source.old; read_faults = S.faults source.old; held = K.held sink.old; write_faults = K.faults sink.old })
         (record { left = S.left source.new; read_faults = S.faults source.new; held = K.held sink.new; write_faults = K.faults sink.new })

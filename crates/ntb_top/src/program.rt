@@ -2,6 +2,8 @@
 
 ghost use Rattle.std.specs.Prelude.{◌≡◌, Some, map, true};
 ghost use Rattle.std.specs.String.{string_bytes};
+ghost use Rattle.io_edges.specs.Gates.{LetsWorkers};
+ghost use Rattle.cluster_stream.specs.Workers.{most_stream_workers};
 ghost use Rattle.command_reply.specs.Statuses.{number_of};
 ghost use Rattle.command_reply.specs.declared.status.Status.TheVariants.{Done};
 ghost use Rattle.run_command.specs.Replies.{carried_by};
@@ -28,6 +30,8 @@ use std::thread::Threads;
 /// [`plain_program`]. On these two each worker passes the gate before each of its turns, and the end has the record
 /// whose text was written, with the proofs of its sessions.
 ///
+/// The gate has to let all workers with numbers below 524,280 pass, before each turn with a number below 2^64.
+///
 /// | status | cause | text |
 /// |---|---|---|
 /// | 0 | none of the others | what the command writes, as [`Command`] says |
@@ -48,6 +52,7 @@ pub fn run_program<R: Threads + Wait + Sync, S: Source, K: Sink, G: Gate>(
     sink: &mut K,
     gate: &G,
 ) -> Ended
+    requires { LetsWorkers (G.lets gate.now) most_stream_workers }
     ensures { HasEnded (command_by_words (map string_bytes words.now))
         (record { left = S.left source.old; read_faults = S.faults source.old; held = K.held sink.old; write_faults = K.faults sink.old })
         (record { left = S.left source.new; read_faults = S.faults source.new; held = K.held sink.new; write_faults = K.faults sink.new })
@@ -68,6 +73,7 @@ fn run_traffic<R: Threads + Wait + Sync, S: Source, K: Sink, G: Gate>(
     sink: &mut K,
     gate: &G,
 ) -> Ended
+    requires { LetsWorkers (G.lets gate.now) most_stream_workers }
     ensures { HasEnded (Some Run)
         (record { left = S.left source.old; read_faults = S.faults source.old; held = K.held sink.old; write_faults = K.faults sink.old })
         (record { left = S.left source.new; read_faults = S.faults source.new; held = K.held sink.new; write_faults = K.faults sink.new })
@@ -87,6 +93,7 @@ fn run_of_input<R: Threads + Wait + Sync, S: Source, G: Gate>(
     source: &mut S,
     gate: &G,
 ) -> Result<RunReply, Stop>
+    requires { LetsWorkers (G.lets gate.now) most_stream_workers }
     ensures { HasReplied true (λ bytes run. IsRunAnswerTo bytes run.reply (carried_by run))
         (record { left = S.left source.old; faults = S.faults source.old })
         (record { left = S.left source.new; faults = S.faults source.new }) result }

@@ -1,6 +1,8 @@
 //! The program on the word `stream`.
 
 ghost use Rattle.std.specs.Prelude.{◌≡◌, Some, true};
+ghost use Rattle.io_edges.specs.Gates.{LetsWorkers};
+ghost use Rattle.cluster_stream.specs.Workers.{most_stream_workers};
 ghost use Rattle.command_reply.specs.Statuses.{number_of};
 ghost use Rattle.command_reply.specs.declared.status.Status.TheVariants.{Done};
 ghost use Rattle.stream_command.specs.Replies.{streamed_by};
@@ -27,6 +29,7 @@ pub(crate) fn stream_traffic<R: Threads + Wait + Sync, S: Source, K: Sink, G: Ga
     sink: &mut K,
     gate: &G,
 ) -> Ended
+    requires { LetsWorkers (G.lets gate.now) most_stream_workers }
     ensures { HasEnded (Some Stream)
         (record { left = S.left source.old; read_faults = S.faults source.old; held = K.held sink.old; write_faults = K.faults sink.old })
         (record { left = S.left source.new; read_faults = S.faults source.new; held = K.held sink.new; write_faults = K.faults sink.new })
@@ -46,6 +49,7 @@ fn streams_of_input<R: Threads + Wait + Sync, S: Source, G: Gate>(
     source: &mut S,
     gate: &G,
 ) -> Result<StreamReply, Stop>
+    requires { LetsWorkers (G.lets gate.now) most_stream_workers }
     ensures { HasReplied true (λ bytes streams. IsStreamAnswerTo bytes streams.reply (streamed_by streams))
         (record { left = S.left source.old; faults = S.faults source.old })
         (record { left = S.left source.new; faults = S.faults source.new }) result }

@@ -5,7 +5,8 @@ ghost use Rattle.step_kinds.specs.Limits.{most_script_bytes};
 ghost use Rattle.step_kinds.specs.Runs.{run_shown};
 ghost use Rattle.plan_model.specs.TrafficPlans.{IsWhole};
 ghost use Rattle.script_plan.specs.Scripts.{plan_in};
-ghost use Rattle.cluster_run.specs.Lanes.{CanRun};
+ghost use Rattle.io_edges.specs.Gates.{LetsWorkers};
+ghost use Rattle.cluster_run.specs.Lanes.{CanRun, most_workers};
 ghost use Rattle.run_command.specs.Answers.{IsRefusal, IsRunOf, IsRunOfPlan};
 ghost use Rattle.run_command.specs.Replies.{carried_by};
 
@@ -37,14 +38,16 @@ pub struct RunReply {
 /// the reply is the text of the record of that, with status 0, beside the record and its proofs; else it is the first line
 /// with a fault, with status 3. The only error is running out of memory.
 ///
-/// Each worker of the run passes the gate before each of its turns.
+/// Each worker of the run passes the gate before each of its turns. The gate has to let all workers with numbers below
+/// 262,140 pass, before each turn with a number below 2^64.
 pub fn run_reply<R: Threads + Wait + Sync, G: Gate>(
     rt: &R,
     alloc: Global,
     bytes: &[u8],
     gate: &G,
 ) -> Result<RunReply, AllocError>
-    requires { length bytes.now ≤ most_script_bytes }
+    requires short { length bytes.now ≤ most_script_bytes }
+    requires gate { LetsWorkers (G.lets gate.now) most_workers }
     ensures { IfOk result (λ run. IsRunOf bytes.now run.reply (carried_by run)) }
 {
     match read_script(alloc, bytes) {
@@ -61,7 +64,8 @@ fn run_script<R: Threads + Wait + Sync, G: Gate>(
     script: &Script,
     gate: &G,
 ) -> Result<RunReply, AllocError>
-    requires { IsWhole (plan_in script.now) }
+    requires whole { IsWhole (plan_in script.now) }
+    requires gate { LetsWorkers (G.lets gate.now) most_workers }
     ensures { IfOk result (λ run. IsRunOfPlan (plan_in script.now) run.reply (carried_by run)) }
 {
     let (run, proofs) = run_plan(rt, alloc, &script.declared, gate)?;

@@ -2,8 +2,10 @@
 
 ghost use Rattle.std.specs.Prelude.{◌≡◌, ◌≤◌, IfOk, length};
 ghost use Rattle.step_kinds.specs.Limits.{most_script_bytes};
+ghost use Rattle.io_edges.specs.Gates.{LetsWorkers};
 ghost use Rattle.plan_model.specs.TrafficPlans.{IsWhole};
 ghost use Rattle.script_plan.specs.Scripts.{plan_in};
+ghost use Rattle.cluster_stream.specs.Workers.{most_stream_workers};
 ghost use Rattle.stream_command.specs.Answers.{IsRefusal, IsStreamOf, IsStreamOfPlan};
 ghost use Rattle.stream_command.specs.Replies.{streamed_by};
 
@@ -34,14 +36,16 @@ pub struct StreamReply {
 /// traffic as resumable streams. The reply is then the text of the record of that, with status 0, beside the record and
 /// its proofs; else it is the first line with a fault, with status 3. The only error is running out of memory.
 ///
-/// Each worker passes the gate before each of its turns.
+/// Each worker passes the gate before each of its turns. The gate has to let all workers with numbers below 524,280 pass,
+/// before each turn with a number below 2^64.
 pub fn stream_reply<R: Threads + Wait + Sync, G: Gate>(
     rt: &R,
     alloc: Global,
     bytes: &[u8],
     gate: &G,
 ) -> Result<StreamReply, AllocError>
-    requires { length bytes.now ≤ most_script_bytes }
+    requires short { length bytes.now ≤ most_script_bytes }
+    requires gate { LetsWorkers (G.lets gate.now) most_stream_workers }
     ensures { IfOk result (λ streams. IsStreamOf bytes.now streams.reply (streamed_by streams)) }
 {
     match read_script(alloc, bytes) {
@@ -58,7 +62,8 @@ fn stream_script<R: Threads + Wait + Sync, G: Gate>(
     script: &Script,
     gate: &G,
 ) -> Result<StreamReply, AllocError>
-    requires { IsWhole (plan_in script.now) }
+    requires whole { IsWhole (plan_in script.now) }
+    requires gate { LetsWorkers (G.lets gate.now) most_stream_workers }
     ensures { IfOk result (λ streams. IsStreamOfPlan (plan_in script.now) streams.reply (streamed_by streams)) }
 {
     let (streams, proofs) = run_stream(rt, alloc, &script.declared, gate)?;

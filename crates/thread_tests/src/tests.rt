@@ -41,11 +41,11 @@ fn words_of(alloc: Global, texts: &[&str]) -> Result<Vec<String>, AllocError> {
 }
 
 // What the program answers to a command over the script of two frames, and what it wrote.
-fn answer_to<R: Threads + Wait + Sync, G: Gate>(
+fn answer_to<R: Threads + Wait + Sync>(
     rt: &R,
     alloc: Global,
     command: &str,
-    gate: &G,
+    gate: &Meeting,
 ) -> Result<(Ended, MemorySink), AllocError> {
     let words = words_of(alloc, &[command])?;
     let mut source = PlainSource::new(String::from_str(alloc, TWO_FRAMES)?.into_bytes());
