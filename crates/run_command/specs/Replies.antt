@@ -1,5 +1,5 @@
 -- What comes with the text of a reply.
-use Rattle.std.specs.Prelude.{Option, option_map}
+use Rattle.std.specs.Prelude.{option_map}
 use Rattle.step_kinds.specs.Runs.{run_shown}
 use Rattle.run_command.specs.Answers.{Carried}
 use Rattle.run_command.specs.declared.command.RunReply.{RunReply}
