@@ -61,6 +61,10 @@ most_frame_bytes = 65536
 abbrev pub most_write_bytes : ℕ
 most_write_bytes = 128
 
+-- a threshold of a device
+abbrev pub most_threshold : ℕ
+most_threshold = 65535
+
 -- the bytes that a step writes past the transport
 abbrev pub most_poke_bytes : ℕ
 most_poke_bytes = 128

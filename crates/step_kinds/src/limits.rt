@@ -27,10 +27,12 @@ ghost use Rattle.step_kinds.specs.Limits.{
   most_size,
   most_steps,
   most_switches,
+  most_threshold,
   most_traffic_bytes,
   most_traffic_entries,
   most_traffic_frames,
   most_windows,
+  most_write_bytes,
   size_step,
   traffic_classes,
 };
@@ -67,6 +69,10 @@ pub const MOST_SCRIPT_BYTES: usize = 16_777_216;
 pub const MOST_STEPS: usize = 1_000_000;
 /// The most bytes of a frame.
 pub const MOST_FRAME_BYTES: u32 = 65_536;
+/// The most bytes of one write in flight.
+pub const MOST_WRITE_BYTES: usize = 128;
+/// The largest threshold of a device.
+pub const MOST_THRESHOLD: u32 = 65_535;
 /// The most bytes that a step writes past the transport.
 pub const MOST_POKE_BYTES: usize = 128;
 /// The most link sessions of a pair.
@@ -135,6 +141,8 @@ pub fn constants_are_limits()
     ensures script { MOST_SCRIPT_BYTES ≡ most_script_bytes }
     ensures steps { MOST_STEPS ≡ most_steps }
     ensures frame { MOST_FRAME_BYTES ≡ most_frame_bytes }
+    ensures write { MOST_WRITE_BYTES ≡ most_write_bytes }
+    ensures threshold { MOST_THRESHOLD ≡ most_threshold }
     ensures poke { MOST_POKE_BYTES ≡ most_poke_bytes }
     ensures sessions { MOST_SESSIONS ≡ most_sessions }
     ensures traffic_frames { MOST_TRAFFIC_FRAMES ≡ most_traffic_frames }
