@@ -10,7 +10,8 @@ ghost use Rattle.bridge_pair.specs.declared.flying_write.Arrival.TheVariants.{At
 ghost use Rattle.bridge_pair.specs.Pages.{PagesGrow};
 ghost use Rattle.bridge_pair.specs.Same.{HasSameParts, IsSameEnd, LandsAsEnd};
 ghost use Rattle.bridge_regs.specs.Doorbell.{with_pending};
-ghost use Rattle.host_memory.specs.Memory.{AreAbsent, ArePromised, AreZero, Touches, bytes_at, word_at, word_bytes};
+ghost use Rattle.byte_model.specs.Headers.{word_bytes};
+ghost use Rattle.host_memory.specs.Memory.{AreAbsent, ArePromised, AreZero, Touches, bytes_at, word_at};
 ghost use Rattle.posted_queue.specs.Flight.{discarded, given_back, nothing_in_flight, posted, promised};
 ghost use Rattle.posted_queue.specs.Landing.{after_landing, land_answer};
 
@@ -24,6 +25,7 @@ use host_memory::Memory;
 use posted_queue::{LandAnswer, Queue};
 use std::alloc::{AllocError, Global};
 use std::marker::Model;
+use step_kinds::limits::MOST_WRITE_BYTES;
 use step_kinds::{Label, PairPlan, Side};
 
 /// What lies at one side of a pair, its scratchpads, doorbell and memory, and what is in flight towards it. For each write that
@@ -367,7 +369,7 @@ fn make_buffers(alloc: Global, buffers: &mut Vec<Buffer>, count: usize) -> Resul
 {
     buffers.reserve(count.saturating_sub(buffers.len()))?;
     while buffers.len() < count {
-        let buffer = Box::new(alloc, [0u8; 128])?;
+        let buffer = Box::new(alloc, [0u8; MOST_WRITE_BYTES])?;
         buffers.push_reserved(buffer);
     }
     Ok(())

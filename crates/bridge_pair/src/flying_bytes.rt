@@ -6,12 +6,13 @@ ghost use Rattle.bridge_pair.specs.FlyingBytes.{most_few_bytes};
 
 use std::alloc::{AllocError, Global};
 use std::marker::Model;
+use step_kinds::limits::MOST_WRITE_BYTES;
 
 /// The most bytes of a write that need no buffer.
 pub const FEW: usize = 8;
 
 /// Room for the bytes of one write.
-pub type Buffer = Box<[u8; 128]>;
+pub type Buffer = Box<[u8; MOST_WRITE_BYTES]>;
 
 // Where the bytes stand.
 #[derive(Drop)]
@@ -110,7 +111,7 @@ impl Model for FlyingBytes {
 
 // Puts bytes into the front of a buffer.
 #[inline]
-fn fill(room: &mut [u8; 128], bytes: &[u8])
+fn fill(room: &mut [u8; MOST_WRITE_BYTES], bytes: &[u8])
     requires { length bytes.now ≤ most_write_bytes }
     ensures { take (length bytes.now) room.new ≡ bytes.now }
 {

@@ -10,6 +10,7 @@ use crate::flying_write::FlyingWrite;
 use host_memory::Memory;
 use order_rules::posted_table;
 use posted_queue::{Ordered, Queue};
+use step_kinds::limits::MOST_WRITE_BYTES;
 
 /// Whether two queues have the same writes in flight, in one order.
 pub fn have_same_writes(one: &Queue<FlyingWrite>, other: &Queue<FlyingWrite>) -> bool
@@ -115,7 +116,7 @@ fn has_bytes(memory: &Memory, at: u64, bytes: &[u8]) -> bool
     requires few { length bytes.now ≤ most_write_bytes }
     ensures { IsTrue result ↔ (bytes_at at (length bytes.now) memory.now.bytes ≡ bytes.now) }
 {
-    let mut room = [0u8; 128];
+    let mut room = [0u8; MOST_WRITE_BYTES];
     let read = &mut room[..bytes.len()];
     memory.read(at, read);
     &*read == bytes

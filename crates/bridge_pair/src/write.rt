@@ -5,10 +5,11 @@ ghost use Rattle.step_kinds.specs.Limits.{most_write_bytes};
 ghost use Rattle.bridge_pair.specs.Writes.{bell_write, memory_write, pad_write};
 
 use std::marker::Model;
+use step_kinds::limits::MOST_WRITE_BYTES;
 use step_kinds::{InPlace, Label};
 
 /// The bytes of one write to memory, 1 to 128 of them, kept in place. Contracts see their list.
-pub type WriteBytes = InPlace<128>;
+pub type WriteBytes = InPlace<{ MOST_WRITE_BYTES }>;
 
 /// Where a posted write goes, by the numbers of the side that posts it.
 #[derive(Drop)]

@@ -1,7 +1,7 @@
 -- A host's memory: its bytes as a list, in which a byte's address is its place from 0, and the pages that were
 -- promised.
 use Rattle.std.specs.Prelude.{◌≡◌, ◌≢◌, ℕ, ◌+◌, ◌<◌, ◌≤◌, ◌/◌, List, ◌++◌, Contains, length, take, drop, slice_index, slice_index_or}
-use Rattle.byteorder.specs.Endian.{little_bytes, little_number}
+use Rattle.byteorder.specs.Endian.{little_number}
 
 -- the bytes, and the numbers of the pages that were promised: these may be written
 pub record Contents : Type 0 where
@@ -19,10 +19,6 @@ bytes_at at len mem = take len (drop at mem)
 -- the word of four bytes from an address on, the lowest byte first
 abbrev pub word_at : ℕ → List ℕ → ℕ
 word_at at mem = little_number 4 (drop at mem)
-
--- the four bytes of a word, the lowest first
-abbrev pub word_bytes : ℕ → List ℕ
-word_bytes value = little_bytes 4 value
 
 -- the number of the page that an address lies on
 abbrev pub page_of : ℕ → ℕ

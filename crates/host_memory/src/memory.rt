@@ -1,7 +1,8 @@
 //! The memory of a host, kept in pages.
 
 ghost use Rattle.std.specs.Prelude.{◌≡◌, ◌↔◌, ℕ, ◌+◌, ◌-◌, ◌%◌, ◌<◌, ◌≤◌, ◌^◌, ◌⊎◌, [], length, replicate, Contains, IfOk, IsOk, IsTrue, OnOk, OnErr};
-ghost use Rattle.host_memory.specs.Memory.{AreAbsent, AreNotAmong, ArePromised, AreSameBetween, AreSameOnPage, AreZero, NoRepeats, Touches, bytes_at, page_of, word_at, word_bytes, written};
+ghost use Rattle.byteorder.specs.Endian.{little_bytes};
+ghost use Rattle.host_memory.specs.Memory.{AreAbsent, AreNotAmong, ArePromised, AreSameBetween, AreSameOnPage, AreZero, NoRepeats, Touches, bytes_at, page_of, word_at, written};
 
 use crate::pages::Pages;
 use byteorder::{ByteOrder, LittleEndian};
@@ -172,7 +173,7 @@ impl Memory {
     pub fn set_u32(&mut self, at: u64, value: u32)
         requires within { at + 4 ≤ length self.old.bytes }
         requires promised { ArePromised at 4 self.old.promised }
-        ensures bytes { self.new.bytes ≡ written at (word_bytes value) self.old.bytes }
+        ensures bytes { self.new.bytes ≡ written at (little_bytes 4 value) self.old.bytes }
         ensures size { length self.new.bytes ≡ length self.old.bytes }
         ensures promised { self.new.promised ≡ self.old.promised }
     {
