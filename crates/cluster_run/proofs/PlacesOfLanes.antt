@@ -3,11 +3,10 @@ use Rattle.std.proofs.Common.{◌≡◌, ◌≢◌, ℕ, zero, suc, ◌+◌, ◌
 use Rattle.std.proofs.lemmas.Bool.{and_left, and_right, and_from}
 use Rattle.std.proofs.lemmas.Bool.Decides.{eqb_tells}
 use Rattle.std.specs.List.{flat_map, range_with_len}
-use Rattle.step_kinds.specs.Sides.{same_side}
+use Rattle.step_kinds.specs.Sides.{same_lane, same_side}
 use Rattle.step_kinds.specs.declared.names.Side.{Side}
 use Rattle.step_kinds.specs.declared.names.Side.TheVariants.{A, B}
 use Rattle.step_kinds.specs.declared.names.LaneName.{LaneName}
-use Rattle.traffic_plan.specs.Lanes.{same_lane}
 use Rattle.cluster_run.specs.Lanes.{lanes_of, lanes_in}
 use Rattle.cluster_run.specs.ByLane.{side_place, place_of}
 
@@ -49,13 +48,13 @@ equal : (a b : ℕ) → a ≡ b → (a == b) ≡ true
 equal a b same = elim (eqb_tells a b) [ inl tells ↦ tells.0 | inr other ↦ absurd (other.1 same) ]
 
 other_pair : (one other : LaneName) → one.pair ≢ other.pair → same_lane one other ≡ false
-other_pair one other differ = and_left _ _ (and_left _ _ (unequal one.pair other.pair differ))
+other_pair one other differ = and_left _ _ (unequal one.pair other.pair differ)
 
 other_side : (one other : LaneName) → same_side one.from other.from ≡ false → same_lane one other ≡ false
-other_side one other differ = and_left _ _ (and_right _ _ differ)
+other_side one other differ = and_right _ _ (and_left _ _ differ)
 
 other_queue : (one other : LaneName) → one.queue ≢ other.queue → same_lane one other ≡ false
-other_queue one other differ = and_right _ _ (unequal one.queue other.queue differ)
+other_queue one other differ = and_right _ _ (and_right _ _ (unequal one.queue other.queue differ))
 
 abbrev lane_with : ℕ → Side → ℕ → LaneName
 lane_with pair from queue = record { pair = pair; from = from; queue = queue }
@@ -75,7 +74,7 @@ only_in_side : (pair : ℕ) (from : Side) (queue a n k : ℕ) → queue ≡ a + 
 only_in_side pair from queue a zero k is within = absurd (omega (arith, within))
 only_in_side pair from queue a (suc n) zero is within =
     let lane : LaneName = record { pair = pair; from = from; queue = queue } in (
-      and_from _ _ (and_from _ _ (equal pair pair refl) (same_as_itself from)) (equal queue a (omega arith)),
+      and_from _ _ (equal pair pair refl) (and_from _ _ (same_as_itself from) (equal queue a (omega arith))),
       none_in_side lane pair from (a + 1) n (λ other from_a. other_queue lane (record { pair = pair; from = from; queue = other }) (omega arith)),
     )
 only_in_side pair from queue a (suc n) (suc k) is within =

@@ -4,6 +4,7 @@ use Rattle.std.proofs.lemmas.List.{get_or-map, length-map, map-append, map-set, 
 use Rattle.std.proofs.lemmas.List.FromFn.{map-range_with_len_more}
 use Rattle.std.proofs.lemmas.List.Elements.{filter_map-append}
 use Rattle.std.specs.List.{cons_option, flat_map, range_with_len}
+use Rattle.step_kinds.specs.Sides.{same_lane}
 use Rattle.step_kinds.specs.declared.names.Side.{Side}
 use Rattle.step_kinds.specs.declared.names.Side.TheVariants.{A, B}
 use Rattle.step_kinds.specs.declared.names.LaneName.{LaneName}
@@ -11,7 +12,7 @@ use Rattle.step_kinds.specs.declared.plan.Plan.{Plan}
 use Rattle.step_kinds.specs.declared.plan.Traffic.{Traffic}
 use Rattle.step_kinds.specs.declared.plan.Traffic.TheVariants.{Send, Break}
 use Rattle.plan_model.specs.TrafficPlans.{IsTraffic}
-use Rattle.traffic_plan.specs.Lanes.{same_lane, frame_on, frames_on}
+use Rattle.traffic_plan.specs.Lanes.{frame_on, frames_on}
 use Rattle.cluster_run.specs.Lanes.{CanRun, lanes_in, lanes_of}
 use Rattle.cluster_run.specs.ByLane.{LaneFrames, lane_frames, frames_of, by_lane, place_of, with_frame, no_lane, lanes_with, HasPlace}
 use Rattle.cluster_run.specs.declared.by_lane.LaneTraffic.{LaneTraffic}

@@ -5,7 +5,7 @@ use Rattle.std.proofs.lemmas.List.Elements.{All-cons, All-nil}
 use Rattle.std.proofs.lemmas.List.FromFn.{get_or-map-range_with_len, length-map-range_with_len}
 use Rattle.std.proofs.lemmas.List.Sums.{sum_by-cons}
 use Rattle.std.specs.List.{All, cons_option}
-use Rattle.step_kinds.specs.Sides.{same_side}
+use Rattle.step_kinds.specs.Sides.{same_lane, same_side}
 use Rattle.step_kinds.specs.declared.names.Side.{Side}
 use Rattle.step_kinds.specs.declared.names.Side.TheVariants.{A, B}
 use Rattle.step_kinds.specs.declared.names.LaneName.{LaneName}
@@ -18,7 +18,7 @@ use Rattle.plan_model.specs.Plans.{pair_plan, side_plan}
 use Rattle.plan_model.specs.Sizes.{layout_of}
 use Rattle.plan_model.specs.TrafficPlans.{IsTraffic, IsTrafficLane, frames_in, is_break_of}
 use Rattle.lane_workers.specs.Passes.{HaveBytes}
-use Rattle.traffic_plan.specs.Lanes.{same_lane, frames_on}
+use Rattle.traffic_plan.specs.Lanes.{frames_on}
 use Rattle.cluster_run.specs.Lanes.{CanRun, entries_on, losses_on}
 use Rattle.cluster_run.specs.ByLane.{LaneFrames, lane_frames, key_with, keys_with_frames}
 use Rattle.cluster_run.specs.Tasks.{CanBeRun, losses_by_pair}
@@ -33,11 +33,11 @@ sides_same B B same = refl
 
 lanes_same : (one other : LaneName) → same_lane one other ≡ true → one ≡ other
 lanes_same one other same =
-    let outer = and_parts ((one.pair == other.pair) && same_side one.from other.from) (one.queue == other.queue) same in
-    let inner = and_parts (one.pair == other.pair) (same_side one.from other.from) outer.0 in
-    ap (λ (pair : ℕ). record { pair = pair; from = one.from; queue = one.queue }) (eqb-true one.pair other.pair inner.0)
-    ∙ (ap (λ (from : Side). record { pair = other.pair; from = from; queue = one.queue }) (sides_same one.from other.from inner.1)
-    ∙ ap (λ (queue : ℕ). record { pair = other.pair; from = other.from; queue = queue }) (eqb-true one.queue other.queue outer.1))
+    let outer = and_parts (one.pair == other.pair) (same_side one.from other.from && (one.queue == other.queue)) same in
+    let inner = and_parts (same_side one.from other.from) (one.queue == other.queue) outer.1 in
+    ap (λ (pair : ℕ). record { pair = pair; from = one.from; queue = one.queue }) (eqb-true one.pair other.pair outer.0)
+    ∙ (ap (λ (from : Side). record { pair = other.pair; from = from; queue = one.queue }) (sides_same one.from other.from inner.0)
+    ∙ ap (λ (queue : ℕ). record { pair = other.pair; from = other.from; queue = queue }) (eqb-true one.queue other.queue inner.1))
 
 others : (plan : Plan) (item : Traffic) (items : List Traffic) → All (IsTraffic plan) (item ∷ items) → All (IsTraffic plan) items
 others plan item items all k d below = all (suc k) d (omega arith)

@@ -5,6 +5,7 @@ use Rattle.std.specs.List.{AllByRecursion, filter}
 use Rattle.std.proofs.lemmas.Bool.{and_parts}
 use Rattle.std.proofs.lemmas.List.{append-nil, map-append}
 use Rattle.std.proofs.lemmas.List.Elements.{filter-append}
+use Rattle.step_kinds.specs.Sides.{same_lane}
 use Rattle.step_kinds.specs.declared.names.LaneName.{LaneName}
 use Rattle.step_kinds.specs.declared.plan.Plan.{Plan}
 use Rattle.step_kinds.specs.declared.steps.Answer.{Answer}
@@ -13,7 +14,7 @@ use Rattle.ledger_model.specs.Log.{accepts}
 use Rattle.switch_model.specs.Switch.{Switch, after, arrived, frame_answer, sent}
 use Rattle.switch_log.specs.Network.{arrived_at, begin_on, passed, switches_sent}
 use Rattle.switch_log.specs.Origins.{Carried, Origin, Passage}
-use Rattle.switch_log.specs.Paths.{placed, same_lane}
+use Rattle.switch_log.specs.Paths.{placed}
 use Rattle.switch_log.specs.Ports.{Port, port_on, receiver_of, switch_of, with_switch}
 use Rattle.switch_laws.proofs.Places.{same_lane-true}
 use Rattle.switch_laws.proofs.PortLists.{MayJoin, first_first, list-kept, list-set, list-there, waiting-forwarded}

@@ -3,6 +3,7 @@ use Rattle.std.proofs.Common.{◌≡◌, Bool, true, false, List, [], ◌∷◌,
 use Rattle.std.specs.Prelude.{◌&&◌, if◌then◌else◌, option_map}
 use Rattle.std.specs.List.{AllByRecursion, IsDistinct, filter, find}
 use Rattle.std.proofs.lemmas.Bool.{and_from, and_parts}
+use Rattle.step_kinds.specs.Sides.{same_lane}
 use Rattle.step_kinds.specs.declared.names.LaneName.{LaneName}
 use Rattle.step_kinds.specs.declared.plan.Plan.{Plan}
 use Rattle.step_kinds.specs.declared.steps.Step.{Step}
@@ -11,7 +12,7 @@ use Rattle.ledger_laws.specs.Laws.{Begins, IsOrdinaryPair}
 use Rattle.ledger_laws.proofs.Facade.{every_log_is_in_order}
 use Rattle.switch_log.specs.Log.{traced_network}
 use Rattle.switch_log.specs.Origins.{Carried, Origin, Passage}
-use Rattle.switch_log.specs.Paths.{deliveries, gone_back, leads, path_back, same_lane, same_origin}
+use Rattle.switch_log.specs.Paths.{deliveries, gone_back, leads, path_back, same_origin}
 use Rattle.switch_laws.specs.Paths.{AreOrdinary, IsBefore, IsFrom, KeepsOrder, Rises, StandsIn, numbered}
 use Rattle.switch_laws.proofs.PassageRuns.{passages_kept}
 use Rattle.switch_laws.proofs.PlacedFrames.{all_on_lane, number_tells, placed_rise, placed_stands}

@@ -2,13 +2,13 @@
 use Rattle.std.proofs.Common.{◌≡◌, ℕ, ◌==◌, Bool, true, false, refl, ap, ◌∙◌, inl, inr, arith}
 use Rattle.std.specs.Prelude.{◌&&◌}
 use Rattle.std.proofs.lemmas.Bool.{and_from, and_parts, eq-eqb, eqb-true, false≢true}
-use Rattle.step_kinds.specs.Sides.{other_side, same_side}
+use Rattle.step_kinds.specs.Sides.{other_side, same_lane, same_side}
 use Rattle.step_kinds.specs.declared.names.LaneName.{LaneName}
 use Rattle.step_kinds.specs.declared.names.Side.{Side}
 use Rattle.step_kinds.specs.declared.names.Side.TheVariants.{A, B}
 use Rattle.ledger_model.specs.Log.{is_on}
 use Rattle.switch_log.specs.Origins.{Origin}
-use Rattle.switch_log.specs.Paths.{same_lane, same_origin}
+use Rattle.switch_log.specs.Paths.{same_origin}
 use Rattle.switch_log.specs.Ports.{receiver_of}
 use Rattle.switch_laws.specs.Paths.{IsBefore}
 

@@ -5,12 +5,13 @@ use Rattle.std.specs.Prelude.{◌&&◌, if◌then◌else◌}
 use Rattle.std.specs.List.{filter}
 use Rattle.std.proofs.lemmas.List.{append-nil}
 use Rattle.std.proofs.lemmas.List.Elements.{filter-append}
+use Rattle.step_kinds.specs.Sides.{same_lane}
 use Rattle.step_kinds.specs.declared.names.LaneName.{LaneName}
 use Rattle.step_kinds.specs.declared.plan.Plan.{Plan}
 use Rattle.ledger_model.specs.Log.{Answered, accepts, first_session}
 use Rattle.switch_model.specs.Switch.{Switch}
 use Rattle.switch_log.specs.Origins.{Carried, Passage}
-use Rattle.switch_log.specs.Paths.{placed_from, same_lane}
+use Rattle.switch_log.specs.Paths.{placed_from}
 use Rattle.switch_log.specs.Ports.{Port}
 use Rattle.switch_laws.proofs.PortLists.{MayJoin, lists_at}
 use Rattle.switch_laws.proofs.Subsequences.{IsPartOf, Ends, Drops, Takes, part-append, part-filter, part-none, part-whole}

@@ -1,10 +1,11 @@
 -- The paths of frames over lanes that are joined by switches.
 use Rattle.std.specs.Prelude.{ℕ, ◌+◌, ◌==◌, Bool, ◌&&◌, List, [], ◌∷◌, ◌++◌, Option, map, option_map, if◌then◌else◌}
 use Rattle.std.specs.List.{filter_map, find}
+use Rattle.step_kinds.specs.Sides.{same_lane}
 use Rattle.step_kinds.specs.declared.names.LaneName.{LaneName}
 use Rattle.step_kinds.specs.declared.plan.Plan.{Plan}
 use Rattle.step_kinds.specs.declared.steps.Step.{Step}
-use Rattle.ledger_model.specs.Log.{Answered, Memories, Numbered, delivers, first_session, is_on, trains}
+use Rattle.ledger_model.specs.Log.{Answered, Memories, Numbered, delivers, first_session, trains}
 use Rattle.switch_log.specs.Log.{switch_log, traced_network}
 use Rattle.switch_log.specs.Origins.{Carried, Origin, Passage}
 
@@ -20,9 +21,6 @@ placed_from read lane now (made ∷ log) = map (placed lane now) (read made) ++ 
 -- the frames that were delivered on a lane, in all sessions
 abbrev pub deliveries : Plan → List Answered → LaneName → List Carried
 deliveries plan log lane = placed_from (delivers lane) lane (first_session plan lane.pair) log
-
-abbrev pub same_lane : LaneName → LaneName → Bool
-same_lane one other = is_on other one.pair one.from one.queue
 
 abbrev pub same_origin : Origin → Origin → Bool
 same_origin one other = same_lane one.lane other.lane && (one.session == other.session && (one.number == other.number))

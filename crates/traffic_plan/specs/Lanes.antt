@@ -1,15 +1,11 @@
 -- The frames of a plan's traffic on one lane.
-use Rattle.std.specs.Prelude.{ℕ, ◌==◌, ◌&&◌, Bool, true, false, Option, Some, None, List, ◌++◌, if◌then◌else◌}
+use Rattle.std.specs.Prelude.{ℕ, Option, Some, None, List, ◌++◌, if◌then◌else◌}
 use Rattle.std.specs.List.{filter_map}
-use Rattle.step_kinds.specs.Sides.{same_side}
+use Rattle.step_kinds.specs.Sides.{same_lane}
 use Rattle.step_kinds.specs.FrameLists.{Frames}
-use Rattle.step_kinds.specs.declared.names.Side.{Side}
 use Rattle.step_kinds.specs.declared.names.LaneName.{LaneName}
 use Rattle.step_kinds.specs.declared.plan.Traffic.{Traffic}
 use Rattle.step_kinds.specs.declared.plan.Traffic.TheVariants.{Send}
-
-abbrev pub same_lane : LaneName → LaneName → Bool
-same_lane one other = (one.pair == other.pair) && same_side one.from other.from && (one.queue == other.queue)
 
 -- the frame of an item that is sent on the lane
 abbrev pub frame_on : LaneName → Traffic → Option (List ℕ)

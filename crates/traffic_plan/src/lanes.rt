@@ -1,10 +1,10 @@
 //! The traffic of a plan, by lanes and by pairs.
 
 ghost use Rattle.std.specs.Prelude.{◌≡◌, ◌∷◌, [], ◌<◌, ◌^◌, length, count_by, IfOk, OnOk};
-ghost use Rattle.step_kinds.specs.Sides.{same_side};
+ghost use Rattle.step_kinds.specs.Sides.{same_lane, same_side};
 ghost use Rattle.plan_model.specs.TrafficPlans.{is_break_of};
 ghost use Rattle.step_kinds.specs.FrameLists.{no_frames};
-ghost use Rattle.traffic_plan.specs.Lanes.{same_lane, frames_on, with_frames};
+ghost use Rattle.traffic_plan.specs.Lanes.{frames_on, with_frames};
 
 use std::alloc::{AllocError, Global};
 use step_kinds::{FrameList, LaneName, Plan, Side, Traffic};
